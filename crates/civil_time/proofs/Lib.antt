@@ -1,0 +1,5 @@
+pub mod DateOf
+pub mod Dates
+pub mod DayTexts
+pub mod Spelling
+pub mod Years

@@ -1,0 +1,49 @@
+//! What the tests and the ends of specs/ say, with nothing to run.
+ghost use Rattle.std.specs.Prelude.{◌≡◌, ◌↔◌, ℕ, ◌+◌, ◌*◌, ◌≤◌, max, true};
+ghost use Rattle.court_days.specs.Civil.{IsDayNumber, IsEnteredDay};
+ghost use Rattle.court_days.specs.Calendar.{Entered, no_days, with_day, IsWithinLimits};
+ghost use Rattle.court_days.specs.Holiday.{IsStatutory, is_statutory};
+ghost use Rattle.court_days.specs.Legal.{IsLegalHoliday, is_legal_holiday, IsBusinessDay, is_business_day, IsOpen, is_open, IsOpenBusinessDay, is_open_business_day};
+ghost use Rattle.court_days.specs.Period.{IsEndOfDays, IsEndOfMonths, IsTrigger};
+ghost use Rattle.court_days.specs.Ends.{end_of_days, end_of_months};
+ghost use Rattle.court_days.specs.declared.calendar.Direction.{Direction};
+ghost use Rattle.court_days.specs.declared.calendar.DayKind.{DayKind};
+
+/// Each test says what the fact beside it says.
+pub fn tests_tell()
+    ensures statutory { (day : ℕ) → day ≤ 1_000_000 → (is_statutory day ≡ true) ↔ IsStatutory day }
+    ensures legal_holiday { (entered : Entered) (direction : Direction) (day : ℕ) → day ≤ 1_000_000
+        → (is_legal_holiday entered direction day ≡ true) ↔ IsLegalHoliday entered direction day }
+    ensures business { (entered : Entered) (direction : Direction) (day : ℕ) → day ≤ 1_000_000
+        → (is_business_day entered direction day ≡ true) ↔ IsBusinessDay entered direction day }
+    ensures opens { (entered : Entered) (day : ℕ) → (is_open entered day ≡ true) ↔ IsOpen entered day }
+    ensures open_business { (entered : Entered) (direction : Direction) (day : ℕ) → day ≤ 1_000_000
+        → (is_open_business_day entered direction day ≡ true) ↔ IsOpenBusinessDay entered direction day }
+{}
+
+/// A period of days has one end, the function's value, and it lies near.
+pub fn ends_are_found()
+    ensures one { (entered : Entered) (direction : Direction) (trigger count day : ℕ)
+        → IsWithinLimits entered → IsTrigger direction trigger → count ≤ 3650
+        → IsEndOfDays entered direction trigger count day ↔ (day ≡ end_of_days entered direction trigger count) }
+    ensures near { (entered : Entered) (direction : Direction) (trigger count : ℕ)
+        → IsWithinLimits entered → IsTrigger direction trigger → count ≤ 3650
+        → end_of_days entered direction trigger count ≤ max (trigger + count) 47_482 + 7 }
+{}
+
+/// So has a period of months.
+pub fn ends_of_months_are_found()
+    ensures one { (entered : Entered) (direction : Direction) (trigger months day : ℕ)
+        → IsWithinLimits entered → IsDayNumber trigger → IsTrigger direction trigger → months ≤ 120
+        → IsEndOfMonths entered direction trigger months day ↔ (day ≡ end_of_months entered direction trigger months) }
+    ensures near { (entered : Entered) (direction : Direction) (trigger months : ℕ)
+        → IsWithinLimits entered → IsDayNumber trigger → IsTrigger direction trigger → months ≤ 120
+        → end_of_months entered direction trigger months ≤ max (trigger + 31 * months) 47_482 + 7 }
+{}
+
+/// Days that a court may enter keep a calendar within its limits.
+pub fn limits_are_kept()
+    ensures none { IsWithinLimits no_days }
+    ensures with_day { (entered : Entered) (kind : DayKind) (day : ℕ)
+        → IsWithinLimits entered → IsEnteredDay day → IsWithinLimits (with_day entered kind day) }
+{}

@@ -1,0 +1,127 @@
+//! The ends of periods.
+ghost use Rattle.std.specs.Prelude.{◌≡◌, ℕ, ◌+◌, ◌-◌, ◌*◌, ◌≤◌, max, IsTrue};
+ghost use Rattle.court_days.specs.Calendar.{IsWithinLimits};
+ghost use Rattle.court_days.specs.Legal.{IsBusinessDay, IsOpenBusinessDay};
+ghost use Rattle.court_days.specs.Period.{IsFirstFrom, IsLastUpTo, IsEndFrom, IsEndOfDays, IsEndOfMonths, IsTrigger, IsInReach, days_away, shift};
+ghost use Rattle.court_days.specs.Months.{IsMonthsAfter};
+ghost use Rattle.court_days.specs.Ends.{months_away, end_from, end_of_days, end_of_months, service_end};
+
+use crate::calendar::{Calendar, DayKind, Direction};
+use crate::legal::{business, is_open_business};
+use crate::months::{months_earlier, months_later};
+use civil_time::Day;
+
+/// The first open business day from `start` on.
+fn first_open(calendar: &Calendar, direction: Direction, start: Day) -> Day
+    requires limits { IsWithinLimits calendar.now }
+    requires start { start ≤ 720_000 }
+    ensures { IsFirstFrom (IsOpenBusinessDay calendar.now direction) start result }
+{
+    let mut day = start;
+    while !is_open_business(calendar, direction, day) {
+        day = day.plus(1);
+    }
+    day
+}
+
+/// The last business day up to `start`, for a period that is counted backward.
+fn last_business(calendar: &Calendar, start: Day) -> Day
+    requires limits { IsWithinLimits calendar.now }
+    requires start { 7_000 ≤ start }
+    ensures { IsLastUpTo (IsBusinessDay calendar.now Direction.Backward) start result }
+{
+    let mut day = start;
+    while !business(calendar, Direction::Backward, day) {
+        day = day.minus(1);
+    }
+    day
+}
+
+/// The end of a period that runs to that day, or back to it.
+fn settle(calendar: &Calendar, direction: Direction, from: Day) -> Day
+    requires limits { IsWithinLimits calendar.now }
+    requires from { IsInReach direction from }
+    ensures { IsEndFrom calendar.now direction from result }
+{
+    match direction {
+        Direction::Forward => first_open(calendar, Direction::Forward, from),
+        Direction::Backward => {
+            let last = last_business(calendar, from);
+            if calendar.holds_day(DayKind::Closed, last) {
+                first_open(calendar, Direction::Backward, last.plus(1))
+            } else {
+                last
+            }
+        }
+    }
+}
+
+/// The end of a period that runs to that day, or back to it.
+fn end_from(calendar: &Calendar, direction: Direction, from: Day) -> Day
+    requires from { IsInReach direction from }
+    ensures value { result ≡ end_from calendar.now direction from }
+    ensures means { IsEndFrom calendar.now direction from result }
+    ensures near { result ≤ max from 47_482 + 7 }
+{
+    calendar.keep_limits();
+    settle(calendar, direction, from)
+}
+
+/// The day that many days later, or earlier.
+fn days_away(direction: Direction, day: Day, count: u32) -> Day
+    requires day { IsTrigger direction day }
+    requires count { count ≤ 3650 }
+    ensures { result ≡ days_away direction day count }
+{
+    match direction {
+        Direction::Forward => day.plus(count),
+        Direction::Backward => day.minus(count),
+    }
+}
+
+/// The day that many months later, or earlier.
+fn months_away(direction: Direction, day: Day, months: u32) -> Day
+    requires day { IsTrigger direction day }
+    requires months { months ≤ 120 }
+    ensures value { result ≡ months_away direction day months }
+    ensures means { IsMonthsAfter day (shift direction months) result }
+    ensures reach { IsInReach direction result }
+    ensures near { result ≤ day + 31 * months }
+{
+    match direction {
+        Direction::Forward => months_later(day, months),
+        Direction::Backward => months_earlier(day, months),
+    }
+}
+
+/// The end of a period of `count` days from the trigger.
+pub fn count_days(calendar: &Calendar, direction: Direction, trigger: Day, count: u32) -> Day
+    requires trigger { IsTrigger direction trigger }
+    requires count { count ≤ 3650 }
+    ensures value { result ≡ end_of_days calendar.now direction trigger count }
+    ensures means { IsEndOfDays calendar.now direction trigger count result }
+    ensures near { result ≤ max (trigger + count) 47_482 + 7 }
+{
+    end_from(calendar, direction, days_away(direction, trigger, count))
+}
+
+/// The end of a period to which service adds three days.
+pub fn add_three(calendar: &Calendar, end: Day) -> Day
+    requires end { end ≤ 705_282 }
+    ensures value { result ≡ service_end calendar.now end }
+    ensures means { IsEndOfDays calendar.now Direction.Forward end 3 result }
+    ensures near { result ≤ max (end + 3) 47_482 + 7 }
+{
+    count_days(calendar, Direction::Forward, end, 3)
+}
+
+/// The end of a period of that many months from the trigger.
+pub fn count_months(calendar: &Calendar, direction: Direction, trigger: Day, months: u32) -> Day
+    requires trigger { IsTrigger direction trigger }
+    requires months { months ≤ 120 }
+    ensures value { result ≡ end_of_months calendar.now direction trigger months }
+    ensures means { IsEndOfMonths calendar.now direction trigger months result }
+    ensures near { result ≤ max (trigger + 31 * months) 47_482 + 7 }
+{
+    end_from(calendar, direction, months_away(direction, trigger, months))
+}

@@ -1,0 +1,80 @@
+-- The lines of `count`: what each asks for.
+use Rattle.std.specs.Prelude.{ℕ, ◌≤◌, ◌==◌, nat_le, Bool, not, ◌&&◌, List, [], ◌∷◌, ◌++◌, Option, None, Some, length, get_or, codes, if◌then◌else◌}
+use Rattle.std.specs.Str.{bytes_eq}
+use Rattle.std.specs.Char.{is_ascii_digit}
+use Rattle.std.specs.List.{list_all}
+use Rattle.std.specs.Str.Parse.{digits_value}
+use Rattle.civil_time.specs.DayText.{day_of_text}
+use Rattle.court_days.specs.Civil.{IsEnteredDay}
+use Rattle.court_days.specs.declared.calendar.DayKind.{DayKind}
+use Rattle.court_days.specs.declared.calendar.DayKind.TheVariants.{Federal, State, Closed}
+use Rattle.court_days.specs.declared.calendar.Direction.{Direction}
+use Rattle.court_days.specs.declared.calendar.Direction.TheVariants.{Forward, Backward}
+use Rattle.docketctl.specs.declared.count.request.Request.{Request}
+use Rattle.docketctl.specs.declared.count.request.Request.TheVariants.{Enter, Count}
+
+infixl 10 ◌>>=◌
+abbrev pub ◌>>=◌ : {A B : Type 0} → Option A → (A → Option B) → Option B
+None >>= next = None
+(Some value) >>= next = next value
+
+-- the value, if the test holds
+abbrev pub value_if : {A : Type 0} → Bool → A → Option A
+value_if test value = if test then Some value else None
+
+-- the first word of a line, and what stands behind the space after it
+abbrev pub cut_word : List ℕ → List ℕ → Option (List ℕ × List ℕ)
+cut_word word [] = None
+cut_word word (byte ∷ rest) = if byte == 32 then Some (word, rest) else cut_word (word ++ byte ∷ []) rest
+
+abbrev pub words_of : List ℕ → Option (List ℕ × List ℕ)
+words_of line = cut_word [] line
+
+-- a day that a court may enter: one from 2000-01-01 to 2099-12-31
+abbrev pub entered_day_of : List ℕ → Option ℕ
+entered_day_of text = do
+  day ← day_of_text text
+  value_if (nat_le 10_957 day && nat_le day 47_481) day
+
+-- a number of 1 to 4 digits, the first of them not 0: no period has a longer one
+abbrev pub is_number : List ℕ → Bool
+is_number text =
+    nat_le 1 (length text) && nat_le (length text) 4 && not (get_or text 0 0 == 48) && list_all is_ascii_digit text
+
+abbrev pub number_of : List ℕ → Option ℕ
+number_of text = value_if (is_number text) (digits_value 10 text)
+
+-- DAY, after `federal`, `state` or `closed`
+abbrev pub enter_of : DayKind → List ℕ → Option Request
+enter_of kind text = do
+  day ← entered_day_of text
+  Some (Enter kind day)
+
+-- DAY N, after `forward` or `backward`: a period of 1 to 3650 days
+abbrev pub count_of : Direction → List ℕ → Option Request
+count_of direction text = do
+  words ← words_of text
+  day ← entered_day_of words.0
+  count ← number_of words.1
+  value_if (nat_le 1 count && nat_le count 3650) (Count direction day count)
+
+-- what the rest of a line asks for, by its first word
+abbrev pub asked_by : List ℕ → List ℕ → Option Request
+asked_by word text =
+    if bytes_eq word (codes "forward") then count_of Forward text
+    else (if bytes_eq word (codes "backward") then count_of Backward text
+    else (if bytes_eq word (codes "federal") then enter_of Federal text
+    else (if bytes_eq word (codes "state") then enter_of State text
+    else (if bytes_eq word (codes "closed") then enter_of Closed text
+    else None))))
+
+-- what a line asks for, if it is of one of these forms and its values lie in their limits
+abbrev pub request_of : List ℕ → Option Request
+request_of line = do
+  words ← words_of line
+  asked_by words.0 words.1
+
+-- the days may be entered, and the count is within its limits
+abbrev pub IsAsked : Request → Type 0
+IsAsked (Enter kind day) = IsEnteredDay day
+IsAsked (Count direction day count) = IsEnteredDay day × (1 ≤ count) × (count ≤ 3650)

@@ -1,0 +1,53 @@
+//! The answer to a line of `count`.
+ghost use Rattle.std.specs.Prelude.{◌≡◌, ◌++◌, ◌∷◌, [], OnOk, OnErr};
+ghost use Rattle.civil_time.specs.DayText.{day_text};
+ghost use Rattle.docketctl.specs.Answers.{answer_text, counts_as_bad};
+
+use court_days::{Day, day_bytes};
+use std::alloc::AllocError;
+
+/// The answer to a line.
+#[derive(Clone, Copy, Debug, PartialEq, Eq)]
+pub enum Answer {
+    /// To an empty line: an empty line.
+    Empty,
+    /// `ok`: the day stands.
+    Done,
+    /// `full`: the day is new, and as many days stand as may.
+    Full,
+    /// `bad`: the line has none of the forms, or a value is out of its limits.
+    Bad,
+    /// The last day of a period.
+    LastDay(Day),
+}
+
+/// Writes the answer and a line feed behind `out`.
+pub(crate) fn write_answer(answer: &Answer, out: &mut Vec<u8>) -> Result<(), AllocError>
+    ensures ok { OnOk result (out.new.items ≡ out.old.items ++ (answer_text answer.now ++ 10 ∷ [])) }
+    ensures err { OnErr result (out.new.items ≡ out.old.items) }
+{
+    match *answer {
+        Answer::Empty => out.extend_from_slice(b"\n"),
+        Answer::Done => out.extend_from_slice(b"ok\n"),
+        Answer::Full => out.extend_from_slice(b"full\n"),
+        Answer::Bad => out.extend_from_slice(b"bad\n"),
+        Answer::LastDay(day) => write_day(day, out),
+    }
+}
+
+/// Writes the day and a line feed behind `out`.
+fn write_day(day: Day, out: &mut Vec<u8>) -> Result<(), AllocError>
+    ensures ok { OnOk result (out.new.items ≡ out.old.items ++ (day_text day ++ 10 ∷ [])) }
+    ensures err { OnErr result (out.new.items ≡ out.old.items) }
+{
+    let mut line = [b'\n'; 11];
+    line[..10].copy_from_slice(&day_bytes(day));
+    out.extend_from_slice(&line)
+}
+
+/// Whether the answer counts as bad.
+pub(crate) fn counts_as_bad(answer: &Answer) -> bool
+    ensures { result ≡ counts_as_bad answer.now }
+{
+    matches!(answer, Answer::Bad | Answer::Full)
+}

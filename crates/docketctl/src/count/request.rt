@@ -1,0 +1,101 @@
+//! What a line of `count` asks for.
+ghost use Rattle.std.specs.Prelude.{◌≡◌, ◌≤◌, ℕ, [], option_map, IfSome};
+ghost use Rattle.docketctl.specs.Requests.{words_of, entered_day_of, number_of, enter_of, count_of, asked_by, request_of, IsAsked};
+
+use court_days::{Day, DayKind, Direction, is_entered, read_day};
+use memchr::memchr;
+
+/// What a line asks for.
+#[derive(Clone, Copy, Debug, PartialEq, Eq)]
+pub enum Request {
+    /// `federal DAY`, `state DAY` or `closed DAY`: enter the day under its kind.
+    Enter(DayKind, Day),
+    /// `forward DAY N` or `backward DAY N`: the end of a period of that many days.
+    Count(Direction, Day, u32),
+}
+
+/// The first word, and what stands behind the space after it.
+fn split_word(line: &[u8]) -> Option<(&[u8], &[u8])>
+    ensures { option_map (λ words. (words.0.now, words.1.now)) result ≡ words_of line.now }
+{
+    let at = memchr(b' ', line)?;
+    Some((&line[..at], &line[at + 1..]))
+}
+
+/// The day that the text spells, if a court may enter it.
+fn read_entered_day(text: &[u8]) -> Option<Day>
+    ensures { result ≡ entered_day_of text.now }
+{
+    let day = read_day(text)?;
+    if is_entered(day) { Some(day) } else { None }
+}
+
+/// The number that 1 to 4 digits spell, the first of them not 0.
+fn read_number(text: &[u8]) -> Option<u32>
+    ensures { result ≡ number_of text.now }
+{
+    if text.is_empty() || text.len() > 4 || text[0] == b'0' {
+        return None;
+    }
+    let mut value: u32 = 0;
+    for byte in text {
+        if !byte.is_ascii_digit() {
+            return None;
+        }
+        value = value * 10 + u32::from(byte - b'0');
+    }
+    Some(value)
+}
+
+fn read_enter(kind: DayKind, text: &[u8]) -> Option<Request>
+    ensures value { result ≡ enter_of kind text.now }
+    ensures asked { IfSome result IsAsked }
+{
+    let day = read_entered_day(text)?;
+    Some(Request::Enter(kind, day))
+}
+
+fn read_count(direction: Direction, text: &[u8]) -> Option<Request>
+    ensures value { result ≡ count_of direction text.now }
+    ensures asked { IfSome result IsAsked }
+{
+    let (day, count) = split_word(text)?;
+    let day = read_entered_day(day)?;
+    let count = read_number(count)?;
+    if count < 1 || count > 3650 {
+        return None;
+    }
+    Some(Request::Count(direction, day, count))
+}
+
+/// What the rest of a line asks for, by its first word.
+fn read_by_word(word: &[u8], text: &[u8]) -> Option<Request>
+    ensures value { result ≡ asked_by word.now text.now }
+    ensures asked { IfSome result IsAsked }
+{
+    if word == b"forward".as_slice() {
+        return read_count(Direction::Forward, text);
+    }
+    if word == b"backward".as_slice() {
+        return read_count(Direction::Backward, text);
+    }
+    if word == b"federal".as_slice() {
+        return read_enter(DayKind::Federal, text);
+    }
+    if word == b"state".as_slice() {
+        return read_enter(DayKind::State, text);
+    }
+    if word == b"closed".as_slice() {
+        return read_enter(DayKind::Closed, text);
+    }
+    None
+}
+
+/// What the line asks for, if it has the form of a request and its values lie in their limits.
+pub(crate) fn read_request(line: &[u8]) -> Option<Request>
+    ensures value { result ≡ request_of line.now }
+    ensures asked { IfSome result IsAsked }
+{
+    let (word, text) = split_word(line)?;
+    read_by_word(word, text)
+}

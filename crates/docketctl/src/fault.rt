@@ -1,0 +1,24 @@
+//! Why a run ended early.
+
+use line_io::LineFault;
+use std::alloc::AllocError;
+
+/// Why a run ended before its input did. What went out is a front of its answers.
+#[derive(Clone, Copy, Debug, PartialEq, Eq)]
+pub enum RunFault {
+    /// A read failed, or 4,294,967,295 reads came to no end.
+    ReadFailed,
+    /// A write failed or took nothing.
+    WriteFailed,
+    NoMemory,
+}
+
+impl From<LineFault<AllocError>> for RunFault {
+    fn from(fault: LineFault<AllocError>) -> RunFault {
+        match fault {
+            LineFault::ReadFailed => RunFault::ReadFailed,
+            LineFault::WriteFailed => RunFault::WriteFailed,
+            LineFault::NoMemory | LineFault::Step(_) => RunFault::NoMemory,
+        }
+    }
+}
