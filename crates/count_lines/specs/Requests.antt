@@ -10,8 +10,8 @@ use Rattle.court_days.specs.declared.calendar.DayKind.{DayKind}
 use Rattle.court_days.specs.declared.calendar.DayKind.TheVariants.{Federal, State, Closed}
 use Rattle.court_days.specs.declared.calendar.Direction.{Direction}
 use Rattle.court_days.specs.declared.calendar.Direction.TheVariants.{Forward, Backward}
-use Rattle.docketctl.specs.declared.count.request.Request.{Request}
-use Rattle.docketctl.specs.declared.count.request.Request.TheVariants.{Enter, Count}
+use Rattle.count_lines.specs.declared.request.Request.{Request}
+use Rattle.count_lines.specs.declared.request.Request.TheVariants.{Enter, Count}
 
 infixl 10 ◌>>=◌
 abbrev pub ◌>>=◌ : {A B : Type 0} → Option A → (A → Option B) → Option B

@@ -1,6 +1,6 @@
 //! What a line of `count` asks for.
 ghost use Rattle.std.specs.Prelude.{◌≡◌, ◌≤◌, ℕ, [], option_map, IfSome};
-ghost use Rattle.docketctl.specs.Requests.{words_of, entered_day_of, number_of, enter_of, count_of, asked_by, request_of, IsAsked};
+ghost use Rattle.count_lines.specs.Requests.{words_of, entered_day_of, number_of, enter_of, count_of, asked_by, request_of, IsAsked};
 
 use court_days::{Day, DayKind, Direction, is_entered, read_day};
 use memchr::memchr;

@@ -1,5 +1,5 @@
 use Rattle.std.proofs.Common.{rules}
-use Rattle.docketctl.proofs.count.answer.write_day.Goals as goal
+use Rattle.count_lines.proofs.answer.write_day.Goals as goal
 
 pub returns-clause-ok : goal.returns-clause-ok
 returns-clause-ok c = rw (← c.day_bytes.ensures.value, ← c.copy_from_slice.ensures.after) (search rules)

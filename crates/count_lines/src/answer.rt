@@ -1,7 +1,7 @@
 //! The answer to a line of `count`.
 ghost use Rattle.std.specs.Prelude.{◌≡◌, ◌++◌, ◌∷◌, [], OnOk, OnErr};
 ghost use Rattle.civil_time.specs.DayText.{day_text};
-ghost use Rattle.docketctl.specs.Answers.{answer_text, counts_as_bad};
+ghost use Rattle.count_lines.specs.Answers.{answer_text, counts_as_bad};
 
 use court_days::{Day, day_bytes};
 use std::alloc::AllocError;

@@ -6,11 +6,11 @@ use Rattle.court_days.specs.Calendar.{Entered, days_of, with_day, rows_of}
 use Rattle.court_days.specs.Ends.{end_of_days}
 use Rattle.court_days.specs.declared.calendar.DayKind.{DayKind}
 use Rattle.line_io.specs.Report.{Judged}
-use Rattle.docketctl.specs.Requests.{request_of}
-use Rattle.docketctl.specs.declared.count.request.Request.{Request}
-use Rattle.docketctl.specs.declared.count.request.Request.TheVariants.{Enter, Count}
-use Rattle.docketctl.specs.declared.count.answer.Answer.{Answer}
-use Rattle.docketctl.specs.declared.count.answer.Answer.TheVariants.{Empty, Done, Full, Bad, LastDay}
+use Rattle.count_lines.specs.Requests.{request_of}
+use Rattle.count_lines.specs.declared.request.Request.{Request}
+use Rattle.count_lines.specs.declared.request.Request.TheVariants.{Enter, Count}
+use Rattle.count_lines.specs.declared.answer.Answer.{Answer}
+use Rattle.count_lines.specs.declared.answer.Answer.TheVariants.{Empty, Done, Full, Bad, LastDay}
 
 -- an answer and the calendar that the next line finds
 abbrev pub Outcome : Type 0

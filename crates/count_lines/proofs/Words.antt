@@ -5,7 +5,7 @@ use Rattle.std.proofs.Math.Seq.{take-suc}
 use Rattle.line_io.proofs.Sending.{slice_from}
 use Rattle.std.proofs.lemmas.Bool.{eqb-true, eq-eqb, ne_eqb}
 use Rattle.memchr.specs.Find.{Nowhere, NoneBefore, Passes, is_byte}
-use Rattle.docketctl.specs.Requests.{cut_word}
+use Rattle.count_lines.specs.Requests.{cut_word}
 
 -- bytes without a space belong to the word
 pub word-on : (word xs rest : List ℕ) → ((k : ℕ) → k < length xs → ¬ (slice_index xs k ≡ 32)) → cut_word word (xs ++ rest) ≡ cut_word (word ++ xs) rest

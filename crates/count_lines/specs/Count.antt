@@ -3,7 +3,7 @@ use Rattle.std.specs.Prelude.{ℕ, List}
 use Rattle.court_days.specs.Calendar.{no_days}
 use Rattle.line_io.specs.Lines.{lines_of}
 use Rattle.line_io.specs.Report.{within, text_of, bad_of}
-use Rattle.docketctl.specs.Answers.{judged, judged_long}
+use Rattle.count_lines.specs.Answers.{judged, judged_long}
 
 -- the answers to the lines in order, each judged by the days that the lines before it entered
 abbrev pub count_text : List ℕ → List ℕ

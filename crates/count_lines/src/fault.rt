@@ -2,6 +2,7 @@
 
 use line_io::LineFault;
 use std::alloc::AllocError;
+use std::fmt;
 
 /// Why a run ended before its input did. What went out is a front of its answers.
 #[derive(Clone, Copy, Debug, PartialEq, Eq)]
@@ -20,5 +21,15 @@ impl From<LineFault<AllocError>> for RunFault {
             LineFault::WriteFailed => RunFault::WriteFailed,
             LineFault::NoMemory | LineFault::Step(_) => RunFault::NoMemory,
         }
+    }
+}
+
+impl fmt::Display for RunFault {
+    fn fmt<W: fmt::Write>(&self, f: &mut fmt::Formatter<W>) -> fmt::Result {
+        f.write_str(match self {
+            RunFault::ReadFailed => "the input could not be read",
+            RunFault::WriteFailed => "the output could not be written",
+            RunFault::NoMemory => "there is not enough memory",
+        })
     }
 }

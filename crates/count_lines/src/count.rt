@@ -3,18 +3,15 @@ ghost use Rattle.std.specs.Prelude.{◌≡◌, length, IfOk, OnErr, IfSome};
 ghost use Rattle.std.specs.Io.KnownBytes.{Appends};
 ghost use Rattle.line_io.specs.Lines.{lines_of};
 ghost use Rattle.line_io.specs.Output.{HasFront};
-ghost use Rattle.docketctl.specs.Answers.{outcome, outcome_of, entering};
-ghost use Rattle.docketctl.specs.Requests.{IsAsked};
-ghost use Rattle.docketctl.specs.Count.{count_text, bad_answers};
+ghost use Rattle.count_lines.specs.Answers.{outcome, outcome_of, entering};
+ghost use Rattle.count_lines.specs.Requests.{IsAsked};
+ghost use Rattle.count_lines.specs.Count.{count_text, bad_answers};
 
-mod answer;
-mod request;
-
+use crate::answer::{Answer, counts_as_bad, write_answer};
 use crate::fault::RunFault;
-use answer::{Answer, counts_as_bad, write_answer};
+use crate::request::{Request, read_request};
 use court_days::{Calendar, CalendarFault, Day, DayKind, count_days};
 use line_io::{CountEnd, Steps, run_lines};
-use request::{Request, read_request};
 use std::alloc::{AllocError, Global};
 use std::io::{Read, Write};
 
@@ -27,7 +24,7 @@ struct Counter {
 impl Steps for Counter {
     ghost use Rattle.std.specs.Prelude.{◌≡◌};
     ghost use Rattle.court_days.specs.Calendar.{Entered};
-    ghost use Rattle.docketctl.specs.Answers.{judged, judged_long};
+    ghost use Rattle.count_lines.specs.Answers.{judged, judged_long};
 
     type Fault = AllocError;
 

@@ -2,8 +2,8 @@ use Rattle.std.proofs.Common.{◌≡◌, length}
 use Rattle.std.specs.Io.KnownBytes.{Appends}
 use Rattle.std.proofs.lemmas.Option.{IfSome_then}
 use Rattle.line_io.specs.Lines.{lines_of}
-use Rattle.docketctl.specs.Count.{count_text, bad_answers}
-use Rattle.docketctl.proofs.count.count_run.Goals as goal
+use Rattle.count_lines.specs.Count.{count_text, bad_answers}
+use Rattle.count_lines.proofs.count.count_run.Goals as goal
 
 pub returns-in-Ok-clause-whole : goal.returns-in-Ok-clause-whole
 returns-in-Ok-clause-whole g c =

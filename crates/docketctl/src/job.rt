@@ -1,0 +1,44 @@
+//! What a command line asks for.
+
+use clap::{Command, Error};
+use std::alloc::{AllocError, Global};
+
+/// What the program is to do.
+#[derive(Clone, Copy, Debug, PartialEq, Eq)]
+pub enum Job {
+    /// `count`, or no word at all: answer lines of days from standard input.
+    Count,
+}
+
+/// The program's command line.
+fn command<'a>(alloc: Global) -> Result<Command<'a>, AllocError> {
+    let count = Command::new(alloc, "count")
+        .about("Enter days and count periods, one line of standard input after the other")
+        .after_help(COUNT_HELP);
+    Command::new(alloc, "docketctl")
+        .bin_name("docketctl")?
+        .about("The civil docket of a United States district court, with computed filing deadlines")
+        .after_help("With no command, docketctl counts.")
+        .version("0.1.0")
+        .subcommand(count)
+}
+
+const COUNT_HELP: &str = "\
+Each line is answered by one line:
+  federal DAY     enter a legal holiday declared by the President or Congress
+  state DAY       enter a holiday declared by the state, for periods counted forward
+  closed DAY      enter a day on which the clerk's office is inaccessible
+  forward DAY N   the last day of a period of N days after DAY
+  backward DAY N  the last day of a period of N days before DAY
+DAY is YYYY-MM-DD from 2000-01-01 to 2099-12-31, and N is 1 to 3650. A day that is entered
+answers `ok`, or `full` where 4,000 stand already; any other line answers `bad`.
+
+Exit status: 0 all lines were answered, 1 one of them with `bad` or `full`, 2 bad command
+line, 3 reading, writing or memory failed.";
+
+/// What the words ask for, the first of which is the program's name. The error is what to print: a
+/// bad command line, a help text or the version.
+pub fn read_job<'a>(alloc: Global, words: &'a [String]) -> Result<Job, Error> {
+    command(alloc)?.try_get_matches_from(words)?;
+    Ok(Job::Count)
+}
