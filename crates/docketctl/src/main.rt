@@ -3,6 +3,8 @@
 #![tactic(auto)]
 
 mod job;
+#[cfg(test)]
+mod tests;
 
 use count_lines::{RunFault, count_run};
 use job::{Job, read_job};

@@ -1,0 +1,5 @@
+//! The program's engines on worked examples, whole and in pieces, and over ends that fail.
+
+mod count;
+mod ends;
+mod words;

@@ -1,0 +1,49 @@
+//! Readers and writers that work piece by piece, and fail.
+
+use std::io;
+use std::io::{ErrorKind, Read, Write};
+
+/// Gives its bytes in pieces of at most `size` bytes, and fails after so many reads.
+#[derive(Drop)]
+pub struct Pieces<'a> {
+    pub rest: &'a [u8],
+    pub size: usize,
+    pub good_reads: u32,
+}
+
+impl Read for Pieces<'_> {
+    fn read(&mut self, buf: &mut [u8]) -> io::Result<usize> {
+        if self.good_reads == 0 {
+            return Err(ErrorKind::Other.into());
+        }
+        self.good_reads -= 1;
+        let count = self.size.min(self.rest.len()).min(buf.len());
+        buf[..count].copy_from_slice(&self.rest[..count]);
+        self.rest = &self.rest[count..];
+        Ok(count)
+    }
+}
+
+/// Takes at most `size` bytes a write, and after so many writes none.
+#[derive(Drop)]
+pub struct Taker {
+    pub taken: Vec<u8>,
+    pub size: usize,
+    pub good_writes: u32,
+}
+
+impl Write for Taker {
+    fn write(&mut self, buf: &[u8]) -> io::Result<usize> {
+        if self.good_writes == 0 {
+            return Ok(0);
+        }
+        self.good_writes -= 1;
+        let count = self.size.min(buf.len());
+        self.taken.extend_from_slice(&buf[..count])?;
+        Ok(count)
+    }
+
+    fn flush(&mut self) -> io::Result<()> {
+        Ok(())
+    }
+}

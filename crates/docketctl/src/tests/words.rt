@@ -1,0 +1,46 @@
+//! The words of the command line.
+
+use crate::job::{Job, read_job};
+use std::test::Fail;
+
+fn words_of(rt: &HostRuntime, line: &str) -> Result<Vec<String>, Fail> {
+    let mut words = Vec::new(rt.alloc());
+    for word in line.split(' ') {
+        words.push(word.to_string(rt.alloc())?)?;
+    }
+    Ok(words)
+}
+
+#[test]
+fn jobs(rt: HostRuntime) -> Result<(), Fail> {
+    for line in ["docketctl", "docketctl count"] {
+        let words = words_of(&rt, line)?;
+        let job = read_job(rt.alloc(), words.as_slice());
+        assert!(rt; matches!(job, Ok(Job::Count)), "{line}");
+    }
+    Ok(())
+}
+
+/// What is printed where the words ask for no job, and whether that is a mistake.
+const TEXTS: [(&str, &str, bool); 6] = [
+    ("docketctl --help", "Usage: docketctl [COMMAND]", false),
+    ("docketctl --version", "docketctl 0.1.0", false),
+    ("docketctl count --help", "forward DAY N", false),
+    ("docketctl dance", "error: unrecognized subcommand 'dance'", true),
+    ("docketctl count 3", "error: unexpected argument '3' found", true),
+    ("docketctl --db", "error: unexpected argument '--db' found", true),
+];
+
+#[test]
+fn texts(rt: HostRuntime) -> Result<(), Fail> {
+    for (line, part, is_mistake) in TEXTS {
+        let words = words_of(&rt, line)?;
+        let Err(error) = read_job(rt.alloc(), words.as_slice()) else {
+            return Err(Fail::new(line));
+        };
+        let text = format!(in rt.alloc(); "{error}")?;
+        assert!(rt; text.contains(part), "{line}: {text}");
+        assert_eq!(rt; error.use_stderr(), is_mistake, "{line}");
+    }
+    Ok(())
+}
