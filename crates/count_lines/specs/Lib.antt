@@ -1,3 +1,4 @@
 pub mod Answers
 pub mod Count
 pub mod Requests
+pub mod Spelling

@@ -12,14 +12,29 @@ const MANY: u32 = 1_000_000;
 const ROWS: [(&str, &str); 17] = [
     ("forward 2007-08-02 30\n", "2007-09-04\n"),
     ("backward 2007-09-22 21\n", "2007-08-31\n"),
-    ("closed 2007-08-31\nbackward 2007-09-22 21\n", "ok\n2007-09-04\n"),
+    (
+        "closed 2007-08-31\nbackward 2007-09-22 21\n",
+        "ok\n2007-09-04\n",
+    ),
     ("forward 2025-06-13 21\n", "2025-07-07\n"),
     ("forward 2027-12-10 21\n", "2028-01-03\n"),
-    ("federal 2025-12-26\nbackward 2026-01-02 7\n", "ok\n2025-12-24\n"),
-    ("state 2025-12-26\nbackward 2026-01-02 7\n", "ok\n2025-12-26\n"),
-    ("forward 2099-12-31 3650\nbackward 2000-01-01 3650\n", "2109-12-30\n1990-01-03\n"),
+    (
+        "federal 2025-12-26\nbackward 2026-01-02 7\n",
+        "ok\n2025-12-24\n",
+    ),
+    (
+        "state 2025-12-26\nbackward 2026-01-02 7\n",
+        "ok\n2025-12-26\n",
+    ),
+    (
+        "forward 2099-12-31 3650\nbackward 2000-01-01 3650\n",
+        "2109-12-30\n1990-01-03\n",
+    ),
     ("forward 2100-01-01 1\nforward 2025-01-01 0\n", "bad\nbad\n"),
-    ("forward 2025-01-01 3651\nforward 2025-02-29 1\n", "bad\nbad\n"),
+    (
+        "forward 2025-01-01 3651\nforward 2025-02-29 1\n",
+        "bad\nbad\n",
+    ),
     ("forward 2025-01-01\nforward 2025-01-01 01\n", "bad\nbad\n"),
     (
         "closed 2025-12-05\nclosed 2025-12-08\nclosed 2025-12-09\nclosed 2025-12-10\nclosed 2025-12-11\nclosed 2025-12-12\nbackward 2025-12-12 7\n",
@@ -28,7 +43,10 @@ const ROWS: [(&str, &str); 17] = [
     ("closed 2007-08-31\nclosed 2007-08-31\n", "ok\nok\n"),
     ("\n\r\n", "\n\n"),
     ("", ""),
-    ("forward 2007-08-02 30\r\nforward 2007-08-02 30", "2007-09-04\n2007-09-04\n"),
+    (
+        "forward 2007-08-02 30\r\nforward 2007-08-02 30",
+        "2007-09-04\n2007-09-04\n",
+    ),
     ("forward 2007-08-02 30\r", "bad\n"),
 ];
 
@@ -43,32 +61,36 @@ fn rows(rt: HostRuntime) -> Result<(), Fail> {
             };
             let mut writer = Vec::new(rt.alloc());
             let end = count_run(rt.alloc(), &mut reader, &mut writer)?;
-            assert_eq!(rt; writer.as_slice(), answers.as_bytes(), "{lines:?} in pieces of {size}");
+            assert_eq!(rt;
+                writer.as_slice(),
+                answers.as_bytes(),
+                "{lines:?} in pieces of {size}"
+            );
             assert_eq!(rt; end.lines, answers.lines().count() as u64, "{lines:?}");
         }
     }
     Ok(())
 }
 
-/// A line of as many bytes as a request may have, if its period did not have so many digits.
 #[test]
 fn long_lines(rt: HostRuntime) -> Result<(), Fail> {
-    for (length, answer) in [(256, b"bad\n"), (257, b"bad\n"), (70_000, b"bad\n")] {
-        let mut line = vec![in rt.alloc(); b'1'; length]?;
-        line[..20].copy_from_slice(b"forward 2007-08-02 3");
+    for length in [256, 257, 70_000] {
+        let mut line = Vec::new(rt.alloc());
+        line.extend_from_slice(b"forward 2007-08-02 3")?;
+        line.resize(length, b'0')?;
         let mut writer = Vec::new(rt.alloc());
         let end = count_run(rt.alloc(), &mut line.as_slice(), &mut writer)?;
-        assert_eq!(rt; writer.as_slice(), answer.as_slice(), "{length} bytes");
+        assert_eq!(rt; writer.as_slice(), b"bad\n".as_slice(), "{length} bytes");
         assert_eq!(rt; end, CountEnd { lines: 1, bad: 1 });
     }
     Ok(())
 }
 
 /// The days from 2000-01-01 on, each as a line that enters it.
-fn closed_days(rt: &HostRuntime, count: i32) -> Result<Vec<u8>, Fail> {
+fn closed_days(rt: &HostRuntime, count: u16) -> Result<Vec<u8>, Fail> {
     let mut lines = Vec::new(rt.alloc());
-    for number in 10_957..10_957 + count {
-        let day = Day::new(number).ok_or("no day")?;
+    for number in 0..i32::from(count) {
+        let day = Day::new(10_957 + number).ok_or("no day")?;
         lines.extend_from_slice(b"closed ")?;
         lines.extend_from_slice(&day_bytes(day))?;
         lines.push(b'\n')?;
@@ -82,7 +104,13 @@ fn full_calendar(rt: HostRuntime) -> Result<(), Fail> {
     lines.extend_from_slice(b"closed 2000-01-01\nfederal 2000-01-01\n")?;
     let mut writer = Vec::new(rt.alloc());
     let end = count_run(rt.alloc(), &mut lines.as_slice(), &mut writer)?;
-    assert_eq!(rt; end, CountEnd { lines: 4_003, bad: 2 });
+    assert_eq!(rt;
+        end,
+        CountEnd {
+            lines: 4_003,
+            bad: 2
+        }
+    );
     assert!(rt; writer.ends_with(b"ok\nok\nfull\nok\nfull\n"));
     Ok(())
 }
@@ -103,7 +131,11 @@ fn failing_reads(rt: HostRuntime) -> Result<(), Fail> {
         let mut writer = Vec::new(rt.alloc());
         let end = count_run(rt.alloc(), &mut reader, &mut writer);
         let failed = matches!(end, Err(RunFault::ReadFailed));
-        assert_eq!(rt; failed, (good_reads as usize) < reads, "after {good_reads} reads");
+        assert_eq!(rt;
+            failed,
+            (good_reads as usize) < reads,
+            "after {good_reads} reads"
+        );
         assert!(rt; ANSWERS.starts_with(&writer), "after {good_reads} reads");
     }
     Ok(())
@@ -122,7 +154,11 @@ fn failing_writes(rt: HostRuntime) -> Result<(), Fail> {
         let failed = matches!(end, Err(RunFault::WriteFailed));
         let taken = ANSWERS.len().min(2 * good_writes as usize);
         assert_eq!(rt; failed, taken < ANSWERS.len(), "after {good_writes} writes");
-        assert_eq!(rt; writer.taken.as_slice(), &ANSWERS[..taken], "after {good_writes} writes");
+        assert_eq!(rt;
+            writer.taken.as_slice(),
+            &ANSWERS[..taken],
+            "after {good_writes} writes"
+        );
     }
     Ok(())
 }

@@ -26,9 +26,21 @@ const TEXTS: [(&str, &str, bool); 6] = [
     ("docketctl --help", "Usage: docketctl [COMMAND]", false),
     ("docketctl --version", "docketctl 0.1.0", false),
     ("docketctl count --help", "forward DAY N", false),
-    ("docketctl dance", "error: unrecognized subcommand 'dance'", true),
-    ("docketctl count 3", "error: unexpected argument '3' found", true),
-    ("docketctl --db", "error: unexpected argument '--db' found", true),
+    (
+        "docketctl dance",
+        "error: unrecognized subcommand 'dance'",
+        true,
+    ),
+    (
+        "docketctl count 3",
+        "error: unexpected argument '3' found",
+        true,
+    ),
+    (
+        "docketctl --db",
+        "error: unexpected argument '--db' found",
+        true,
+    ),
 ];
 
 #[test]

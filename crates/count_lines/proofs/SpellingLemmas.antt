@@ -1,0 +1,170 @@
+-- Lines are read as they are spelled.
+use Rattle.std.proofs.Common.{◌≡◌, ◌⊎◌, inl, inr, ℕ, ◌+◌, ◌%◌, ◌/◌, ◌<◌, ◌≤◌, ◌^◌, ◌==◌, nat_le, not, ◌&&◌, List, [], ◌∷◌, ◌++◌, length, get_or, if◌then◌else◌, Bool, true, false, Option, Some, None, codes, refl, sym, ◌∙◌, ap, subst, append_assoc, arith, rules}
+use Rattle.std.proofs.lemmas.Bool.{cases_Bool, eqb-true, eqb-false, ne_eqb}
+use Rattle.std.proofs.lemmas.Bool.Decides.{nat_tests}
+use Rattle.std.proofs.lemmas.Slice.Eq.{bytes_eq-Decides}
+use Rattle.std.proofs.lemmas.Str.Parse.{IsNumeralModel, numerals_by_value, digits_value_short}
+use Rattle.std.proofs.lemmas.Fmt.{digits_decimal, digits_value-decimal, decimal-digits_value, decimal_nonempty, length-decimal-le, first_decimal}
+use Rattle.std.specs.Char.{is_ascii_digit}
+use Rattle.std.specs.Fmt.{decimal}
+use Rattle.std.specs.List.{list_all}
+use Rattle.std.specs.Str.{bytes_eq}
+use Rattle.std.specs.Str.Parse.{digits_value}
+use Rattle.civil_time.specs.Civil.{IsDayNumber, year_of, month_of, day_of_month}
+use Rattle.civil_time.specs.DayText.{day_text, day_of_text}
+use Rattle.civil_time.proofs.DayTexts as texts
+use Rattle.court_days.specs.Civil.{IsEnteredDay}
+use Rattle.court_days.specs.declared.calendar.DayKind.{DayKind}
+use Rattle.court_days.specs.declared.calendar.DayKind.TheVariants.{Federal, State, Closed}
+use Rattle.court_days.specs.declared.calendar.Direction.{Direction}
+use Rattle.court_days.specs.declared.calendar.Direction.TheVariants.{Forward, Backward}
+use Rattle.count_lines.specs.declared.request.Request.{Request}
+use Rattle.count_lines.specs.declared.request.Request.TheVariants.{Enter, Count}
+use Rattle.count_lines.specs.Requests.{◌>>=◌, value_if, cut_word, words_of, entered_day_of, is_number, number_of, enter_of, count_of, asked_by, request_of, IsAsked}
+use Rattle.count_lines.specs.Spelling.{spaced, kind_word, direction_word, Spells}
+
+-- what a chain that succeeds went through
+bound : {A B : Type 0} (first : Option A) (next : A → Option B) (b : B) → (first >>= next) ≡ Some b
+    → (a : A) × (first ≡ Some a) × (next a ≡ Some b)
+bound None next b h = cc
+bound (Some a) next b h = (a, refl, h)
+
+tested : {A : Type 0} (test : Bool) (a b : A) → value_if test a ≡ Some b → (test ≡ true) × (a ≡ b)
+tested true a b h = (refl, cc)
+tested false a b h = cc
+
+both : (a b c d : List ℕ) → ◌≡◌ {A = Option (List ℕ × List ℕ)} (Some (a, b)) (Some (c, d)) → (a ≡ c) × (b ≡ d)
+both a b c d h =
+    let pair : ◌≡◌ {A = List ℕ × List ℕ} (a, b) (c, d) = cc in (ap (λ p. p.0) pair, ap (λ p. p.1) pair)
+
+-- what a cut leaves, joined again
+cut-joined : (word line first rest : List ℕ) → cut_word word line ≡ Some (first, rest) → word ++ line ≡ spaced first rest
+cut-joined word [] first rest h = cc
+cut-joined word (byte ∷ line) first rest h =
+    elim (cases_Bool (byte == 32)) [
+      | inl is ↦
+          let parts = both word line first rest (rw is at h) in
+          rw (eqb-true byte 32 is, parts.0, parts.1) refl
+      | inr other ↦
+          let on : cut_word (word ++ byte ∷ []) line ≡ Some (first, rest) = rw other at h in
+          sym (append_assoc word (byte ∷ []) line) ∙ cut-joined (word ++ byte ∷ []) line first rest on
+    ]
+
+-- the text of a day has no space
+digit-no_space : (n : ℕ) → ((48 + n % 10) == 32) ≡ false
+digit-no_space n = ne_eqb (48 + n % 10) 32 (omega arith)
+
+cut-day : (day : ℕ) (rest : List ℕ) → cut_word [] (spaced (day_text day) rest) ≡ Some (day_text day, rest)
+unfolding day_text
+cut-day day rest =
+    rw (digit-no_space (year_of day / 1000), digit-no_space (year_of day / 100), digit-no_space (year_of day / 10), digit-no_space (year_of day), digit-no_space (month_of day / 10), digit-no_space (month_of day), digit-no_space (day_of_month day / 10), digit-no_space (day_of_month day)) refl
+
+-- numbers
+own : IsNumeralModel (λ ds. list_all is_ascii_digit ds ≡ true) (digits_value 10)
+own = numerals_by_value _ (search rules)
+
+number-read : (text : List ℕ) (n : ℕ) → number_of text ≡ Some n → text ≡ decimal n
+number-read text n h =
+    let test = tested (is_number text) (digits_value 10 text) n h in
+    let some : nat_le 1 (length text) ≡ true = grind (arith, nat_tests, test.0) in
+    let short : nat_le (length text) 4 ≡ true = grind (arith, nat_tests, test.0) in
+    let first : (get_or text 0 0 == 48) ≡ false = grind (arith, nat_tests, test.0) in
+    let digits : list_all is_ascii_digit text ≡ true = grind (arith, nat_tests, test.0) in
+    let low : 1 ≤ length text = grind (arith, nat_tests) in
+    let high : length text ≤ 4 = grind (arith, nat_tests) in
+    sym (decimal-digits_value own text digits (omega arith) (λ zero. absurd (eqb-false _ _ first zero)) (omega (arith, digits_value_short own text 4 digits high)))
+    ∙ ap decimal test.1
+
+number-spelled : (n : ℕ) → 1 ≤ n → n ≤ 9999 → number_of (decimal n) ≡ Some n
+number-spelled n low high =
+    let fits : n < 2 ^ 64 = omega arith in
+    let some : 0 < length (decimal n) = decimal_nonempty n fits in
+    let short : length (decimal n) ≤ 4 = length-decimal-le 4 n (omega arith) (omega arith) fits in
+    let first : 48 < get_or (decimal n) 0 0 = first_decimal n (omega arith) fits in
+    let digits : list_all is_ascii_digit (decimal n) ≡ true = digits_decimal own n fits in
+    let is : is_number (decimal n) ≡ true = grind (arith, nat_tests) in
+    rw is (ap Some (digits_value-decimal own n fits))
+
+-- days
+day-read : (text : List ℕ) (day : ℕ) → entered_day_of text ≡ Some day → IsEnteredDay day × (text ≡ day_text day)
+day-read text day h =
+    let read = bound (day_of_text text) (λ day. value_if (nat_le 10_957 day && nat_le day 47_481) day) day h in
+    let test = tested (nat_le 10_957 read.0 && nat_le read.0 47_481) read.0 day read.2 in
+    let low : nat_le 10_957 read.0 ≡ true = grind (arith, nat_tests, test.0) in
+    let high : nat_le read.0 47_481 ≡ true = grind (arith, nat_tests, test.0) in
+    let entered : IsEnteredDay read.0 = (grind (arith, nat_tests), grind (arith, nat_tests)) in
+    let spells = (texts.day_of_text-means text read.0).0 read.1 in
+    subst (λ d. IsEnteredDay d × (text ≡ day_text d)) test.1 (entered, texts.spelled-is text read.0 spells.1)
+
+day-spelled : (day : ℕ) → IsEnteredDay day → entered_day_of (day_text day) ≡ Some day
+day-spelled day entered =
+    let low : nat_le 10_957 day ≡ true = grind (arith, nat_tests) in
+    let high : nat_le day 47_481 ≡ true = grind (arith, nat_tests) in
+    rw (texts.day_of_text-spelled (day_text day) day (omega (arith, entered), omega (arith, entered)) (texts.spells-text day (omega (arith, entered))), low, high) refl
+
+-- requests
+enter-read : (kind : DayKind) (text : List ℕ) (request : Request) → enter_of kind text ≡ Some request
+    → IsAsked request × Spells request (spaced (kind_word kind) text)
+enter-read kind text request h =
+    let day = bound (entered_day_of text) (λ day. Some (Enter kind day)) request h in
+    let read = day-read text day.0 day.1 in
+    let is : Enter kind day.0 ≡ request = cc in
+    subst (λ r. IsAsked r × Spells r (spaced (kind_word kind) text)) is (read.0, ap (spaced (kind_word kind)) read.1)
+
+count-read : (direction : Direction) (text : List ℕ) (request : Request) → count_of direction text ≡ Some request
+    → IsAsked request × Spells request (spaced (direction_word direction) text)
+count-read direction text request h =
+    let words = bound (words_of text) (λ words. entered_day_of words.0 >>= λ day. number_of words.1 >>= λ count. value_if (nat_le 1 count && nat_le count 3650) (Count direction day count)) request h in
+    let day = bound (entered_day_of words.0.0) (λ day. number_of words.0.1 >>= λ count. value_if (nat_le 1 count && nat_le count 3650) (Count direction day count)) request words.2 in
+    let count = bound (number_of words.0.1) (λ count. value_if (nat_le 1 count && nat_le count 3650) (Count direction day.0 count)) request day.2 in
+    let test = tested (nat_le 1 count.0 && nat_le count.0 3650) (Count direction day.0 count.0) request count.2 in
+    let low : nat_le 1 count.0 ≡ true = grind (arith, nat_tests, test.0) in
+    let high : nat_le count.0 3650 ≡ true = grind (arith, nat_tests, test.0) in
+    let read = day-read words.0.0 day.0 day.1 in
+    let joined : text ≡ spaced (day_text day.0) (decimal count.0) =
+    cut-joined [] text words.0.0 words.0.1 words.1
+    ∙ ap (λ word. spaced word words.0.1) read.1 ∙ ap (spaced (day_text day.0)) (number-read words.0.1 count.0 count.1) in
+    subst (λ r. IsAsked r × Spells r (spaced (direction_word direction) text)) test.1
+    ((read.0, grind (arith, nat_tests), grind (arith, nat_tests)), ap (spaced (direction_word direction)) joined)
+
+word-is : (word text : List ℕ) → bytes_eq word text ≡ true → word ≡ text
+word-is word text same = (bytes_eq-Decides word text).0 same
+
+-- one step of a choice by the first word
+either : {C : Type 0} (word keyword : List ℕ) (here others : Option Request) (request : Request)
+    → (if bytes_eq word keyword then here else others) ≡ Some request
+    → (word ≡ keyword → here ≡ Some request → C) → (others ≡ Some request → C) → C
+either word keyword here others request h is_here is_other =
+    elim (cases_Bool (bytes_eq word keyword)) [
+      | inl is ↦ is_here (word-is word keyword is) (rw is at h)
+      | inr other ↦ is_other (rw other at h)
+    ]
+
+by_word-read : (word text : List ℕ) (request : Request) → asked_by word text ≡ Some request
+    → IsAsked request × Spells request (spaced word text)
+by_word-read word text request h =
+    either word (codes "forward") _ _ request h (λ is read. rw is (count-read Forward text request read)) (λ h.
+    either word (codes "backward") _ _ request h (λ is read. rw is (count-read Backward text request read)) (λ h.
+    either word (codes "federal") _ _ request h (λ is read. rw is (enter-read Federal text request read)) (λ h.
+    either word (codes "state") _ _ request h (λ is read. rw is (enter-read State text request read)) (λ h.
+    either word (codes "closed") (enter_of Closed text) None request h (λ is read. rw is (enter-read Closed text request read)) (λ h. cc)))))
+
+pub read-spelled : (line : List ℕ) (request : Request) → request_of line ≡ Some request → IsAsked request × Spells request line
+read-spelled line request h =
+    let words = bound (words_of line) (λ words. asked_by words.0 words.1) request h in
+    subst (λ l. IsAsked request × Spells request l) (sym (cut-joined [] line words.0.0 words.0.1 words.1))
+    (by_word-read words.0.0 words.0.1 request words.2)
+
+count-spelled : (direction : Direction) (day count : ℕ) → IsAsked (Count direction day count)
+    → count_of direction (spaced (day_text day) (decimal count)) ≡ Some (Count direction day count)
+count-spelled direction day count asked =
+    let low : nat_le 1 count ≡ true = grind (arith, nat_tests) in
+    let high : nat_le count 3650 ≡ true = grind (arith, nat_tests) in
+    rw (cut-day day (decimal count), day-spelled day asked.0, number-spelled count asked.1 (omega (arith, asked.2)), low, high) refl
+
+pub spelled-read : (line : List ℕ) (request : Request) → IsAsked request → Spells request line → request_of line ≡ Some request
+spelled-read line (Enter Federal day) asked spells = rw (spells, day-spelled day asked) refl
+spelled-read line (Enter State day) asked spells = rw (spells, day-spelled day asked) refl
+spelled-read line (Enter Closed day) asked spells = rw (spells, day-spelled day asked) refl
+spelled-read line (Count Forward day count) asked spells = rw spells (count-spelled Forward day count asked)
+spelled-read line (Count Backward day count) asked spells = rw spells (count-spelled Backward day count asked)

@@ -1,0 +1,28 @@
+-- How the lines of `count` are spelled: words parted by one space, numbers without leading zeros.
+use Rattle.std.specs.Prelude.{◌≡◌, ℕ, List, ◌∷◌, ◌++◌, codes}
+use Rattle.std.specs.Fmt.{decimal}
+use Rattle.civil_time.specs.DayText.{day_text}
+use Rattle.court_days.specs.declared.calendar.DayKind.{DayKind}
+use Rattle.court_days.specs.declared.calendar.DayKind.TheVariants.{Federal, State, Closed}
+use Rattle.court_days.specs.declared.calendar.Direction.{Direction}
+use Rattle.court_days.specs.declared.calendar.Direction.TheVariants.{Forward, Backward}
+use Rattle.count_lines.specs.declared.request.Request.{Request}
+use Rattle.count_lines.specs.declared.request.Request.TheVariants.{Enter, Count}
+
+-- two texts with a space between them
+abbrev pub spaced : List ℕ → List ℕ → List ℕ
+spaced word text = word ++ 32 ∷ text
+
+abbrev pub kind_word : DayKind → List ℕ
+kind_word Federal = codes "federal"
+kind_word State = codes "state"
+kind_word Closed = codes "closed"
+
+abbrev pub direction_word : Direction → List ℕ
+direction_word Forward = codes "forward"
+direction_word Backward = codes "backward"
+
+-- `federal DAY`, `forward DAY N` and the like
+abbrev pub Spells : Request → List ℕ → Type 0
+Spells (Enter kind day) line = line ≡ spaced (kind_word kind) (day_text day)
+Spells (Count direction day count) line = line ≡ spaced (direction_word direction) (spaced (day_text day) (decimal count))
