@@ -1,4 +1,4 @@
-use Rattle.std.proofs.Common.{arith, take, drop}
+use Rattle.std.proofs.Common.{arith}
 use Rattle.line_io.proofs.Sending.{Appends-on}
 use Rattle.line_io.proofs.output.write_bytes.Goals as goal
 

@@ -1,0 +1,4 @@
+pub mod Ends
+pub mod Methods
+pub mod Rows
+pub mod Rules

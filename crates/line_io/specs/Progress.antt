@@ -1,0 +1,64 @@
+-- What a part of a run did, for the functions that the run is made of.
+use Rattle.std.specs.Prelude.{◌≡◌, ℕ, ◌+◌, ◌≤◌, List, ◌++◌, length, take, Option}
+use Rattle.std.specs.Io.KnownBytes.{Appends}
+use Rattle.line_io.specs.Lines.{lines_from}
+use Rattle.line_io.specs.Report.{Judged, text_of, bad_of, after_of}
+
+-- This holds from each state that is shown, and for each part of a line of which this is kept.
+abbrev pub FromEach : {S : Type 0} → (S → Type 0) → ℕ → List ℕ → (S → List ℕ → Type 0) → Type 0
+FromEach {S} Shows most kept Holds = (s : S) (part : List ℕ) → Shows s → kept ≡ take most part → Holds s part
+
+-- What was pending, and then the text, went out, but for what is pending now.
+pub record Sends (before now : Option (List ℕ)) (pending text left : List ℕ) : Type 0 where
+  pub out : List ℕ
+  pub appends : Appends before now out
+  pub same : pending ++ text ≡ out ++ left
+
+-- A piece was taken: its lines are answered, and of what stands behind them at most so many bytes are kept.
+pub record Takes {S : Type 0} (judge : S → List ℕ → Judged S) (Shows : S → Type 0) (most : ℕ) (s : S) (part piece kept : List ℕ)
+    (before now : Option (List ℕ)) (pending left : List ℕ) (lines bad new_lines new_bad : ℕ) : Type 0 where
+  pub ended : List (List ℕ)
+  pub open_part : List ℕ
+  pub goes : (rest : List ℕ) → lines_from part (piece ++ rest) ≡ ended ++ lines_from open_part rest
+  pub shows : Shows (after_of judge s ended)
+  pub keeps : kept ≡ take most open_part
+  pub sends : Sends before now pending (text_of judge s ended) left
+  pub lines_more : new_lines ≡ lines + length ended
+  pub bad_more : new_bad ≡ bad + bad_of judge s ended
+
+-- A fault came: some lines were answered, and perhaps one more. What went out, and then what is pending now, is
+-- a front of what was pending and then of their answers, in which at most so many bytes are missing before the one more.
+pub record Stops {S : Type 0} (judge : S → List ℕ → Judged S) (Left : S → S → Type 0) (most : ℕ) (s : S)
+    (lines : List (List ℕ)) (before now : Option (List ℕ)) (pending left : List ℕ) : Type 0 where
+  pub answered : List (List ℕ)
+  pub more : List (List ℕ)
+  pub rest : List (List ℕ)
+  pub whole : lines ≡ answered ++ (more ++ rest)
+  pub one_more : length more ≤ 1
+  pub known : Left (after_of judge s answered) (after_of judge (after_of judge s answered) more)
+  pub out : List ℕ
+  pub lost : List ℕ
+  pub appends : Appends before now out
+  pub front : pending ++ (text_of judge s answered ++ text_of judge (after_of judge s answered) more) ≡ (out ++ left) ++ lost
+  pub missing : length (pending ++ text_of judge s answered) ≤ length out + most
+
+-- The last lines were answered, and the answers joined what is pending.
+pub record Ends {S : Type 0} (judge : S → List ℕ → Judged S) (Shows : S → Type 0) (s : S) (ended : List (List ℕ))
+    (pending left : List ℕ) (lines bad new_lines new_bad : ℕ) : Type 0 where
+  pub sends : left ≡ pending ++ text_of judge s ended
+  pub lines_more : new_lines ≡ lines + length ended
+  pub bad_more : new_bad ≡ bad + bad_of judge s ended
+  pub shows : Shows (after_of judge s ended)
+
+-- All lines are answered, and the answers have gone out, but for the last one, which is pending.
+pub record Tells {S : Type 0} (judge : S → List ℕ → Judged S) (Shows : S → Type 0) (s : S) (lines : List (List ℕ))
+    (before now : Option (List ℕ)) (pending : List ℕ) (count bad : ℕ) : Type 0 where
+  pub sent : List (List ℕ)
+  pub last : List (List ℕ)
+  pub whole : lines ≡ sent ++ last
+  pub one_more : length last ≤ 1
+  pub appends : Appends before now (text_of judge s sent)
+  pub waits : pending ≡ text_of judge (after_of judge s sent) last
+  pub lines_are : count ≡ length lines
+  pub bad_are : bad ≡ bad_of judge s lines
+  pub shows : Shows (after_of judge s lines)

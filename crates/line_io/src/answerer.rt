@@ -1,0 +1,56 @@
+//! What answers lines.
+ghost use Rattle.std.specs.Prelude.{◌≡◌, ℕ, List, IfOk, IfErr, OnErr};
+ghost use Rattle.line_io.specs.Report.{Answers, Judged};
+
+/// Answers lines one after the other, each by what the lines before it left.
+pub trait Answerer {
+    /// Why a line could not be answered.
+    type Fault: Drop;
+
+    /// The most bytes of a line, without its end. A longer line is answered without being seen.
+    const LIMIT: u32;
+
+    /// The most bytes of answers that may wait while further lines are answered. With 0 each answer
+    /// is written before the next line is answered, which suits answers that acknowledge a durable
+    /// change: at most one line more was done than was answered.
+    const MAX_PENDING: u32;
+
+    // The constant `LIMIT`, for clauses.
+    ghost LIMIT: { ℕ };
+
+    // The constant `MAX_PENDING`, for clauses.
+    ghost MAX_PENDING: { ℕ };
+
+    // What the lines so far left, as contracts see it.
+    ghost State: { Type 0 };
+
+    // The answerer stands for this state.
+    ghost Shows: { Self → State → Type 0 };
+
+    // What is known after a fault at a line: the first state is that before the line, and the second
+    // is that which an answer would have left.
+    ghost Fails: { Self → Self.Fault → State → State → Type 0 };
+
+    // What a line within the limit comes to: its answer, whether that is bad, and the state it leaves.
+    ghost judge: { State → List ℕ → Judged State };
+
+    // The same for a line past the limit.
+    ghost judge_long: { State → Judged State };
+
+    /// Appends the answer to a line of at most `LIMIT` bytes, and says whether it counts as bad.
+    /// Where it fails it appends nothing.
+    fn answer(&mut self, line: &[u8], out: &mut Vec<u8>) -> Result<bool, Self::Fault>
+        ensures ok { IfOk result (λ bad. (s : State) → Shows self.old s
+            → Answers (Shows self.new) out.old.items out.new.items bad (judge s line.now)) }
+        ensures err { OnErr result (out.new.items ≡ out.old.items) }
+        ensures fails { IfErr result (λ fault. (s : State) → Shows self.old s
+            → Fails self.new fault s (judge s line.now).after) };
+
+    /// Does the same for a line of more than `LIMIT` bytes.
+    fn answer_long(&mut self, out: &mut Vec<u8>) -> Result<bool, Self::Fault>
+        ensures ok { IfOk result (λ bad. (s : State) → Shows self.old s
+            → Answers (Shows self.new) out.old.items out.new.items bad (judge_long s)) }
+        ensures err { OnErr result (out.new.items ≡ out.old.items) }
+        ensures fails { IfErr result (λ fault. (s : State) → Shows self.old s
+            → Fails self.new fault s (judge_long s).after) };
+}
