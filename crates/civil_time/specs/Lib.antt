@@ -1,2 +1,3 @@
 pub mod Civil
 pub mod DayText
+pub mod Months

@@ -1,3 +1,4 @@
+//! Days by their numbers, and their dates.
 ghost use Rattle.std.specs.Prelude.{◌≡◌, ℕ, ◌+◌, ◌-◌, ◌≤◌, ◌<◌, ◌↔◌, pos, IsTrue, IsSome, IfSome, IfNone};
 ghost use Rattle.civil_time.specs.Civil.{IsDayNumber, HasYmd, weekday};
 ghost use Rattle.jiff.specs.Words.{epoch_day, IsBetween};
@@ -5,6 +6,15 @@ ghost use Rattle.jiff.specs.Words.{epoch_day, IsBetween};
 use jiff::ToSpan;
 use jiff::civil::Date;
 use std::marker::Model;
+
+/// 1980-01-01, the first `Day`.
+const FIRST_DAY: i32 = 3652;
+
+/// 3999-12-31, the last `Day`.
+const LAST_DAY: i32 = 741_441;
+
+/// How many days lie between -9999-01-01, the first date of jiff, and 1970-01-01.
+const DAYS_BEFORE_1970: i64 = 4_371_587;
 
 /// A day from 1980-01-01 to 3999-12-31, seen as its number: the days since 1970-01-01.
 #[derive(Clone, Copy, Debug, PartialEq, Eq, PartialOrd, Ord, Hash)]
@@ -22,15 +32,16 @@ impl Model for Day {
     ghost inverse = { λ n. record { number = n } };
 }
 
-/// The date with that day number.
+/// The date of the day with that number, which need not be a `Day`.
 fn date_of(number: u32) -> Date
     requires { number ≤ 1_000_000 }
     ensures { epoch_day result ≡ pos number }
 {
-    Date::constant(-9999, 1, 1) + (number as i64 + 4_371_587).days()
+    Date::constant(-9999, 1, 1) + (number as i64 + DAYS_BEFORE_1970).days()
 }
 
-/// The year, the month and the day of the month of the day with that number.
+/// The year, the month (1 to 12) and the day of the month (1 to 31) of the day with that number,
+/// also of one just beyond the limits of `Day`.
 pub fn ymd_of(number: u32) -> (i32, u32, u32)
     requires { number ≤ 1_000_000 }
     ensures { HasYmd number result.0 result.1 result.2 }
@@ -44,12 +55,13 @@ pub fn ymd_of(number: u32) -> (i32, u32, u32)
 }
 
 impl Day {
-    /// The day with that number, if it is one.
+    /// The day with that number, the days since 1970-01-01. `None`: it does not lie from 1980-01-01
+    /// (3652) to 3999-12-31 (741,441).
     pub fn new(number: i32) -> Option<Day>
         ensures valid { IsSome result ↔ IsBetween (pos 3652) (pos 741_441) number }
         ensures value { IfSome result (λ d. pos d ≡ number) }
     {
-        if number >= 3652 && number <= 741_441 {
+        if (FIRST_DAY..=LAST_DAY).contains(&number) {
             Some(Day {
                 number: number as u32,
             })
@@ -58,13 +70,14 @@ impl Day {
         }
     }
 
+    /// The days since 1970-01-01.
     pub fn number(self) -> i32
         ensures { result ≡ pos self }
     {
         self.number as i32
     }
 
-    /// The number, without its sign.
+    /// The days since 1970-01-01, without a sign: 3652 to 741,441.
     pub fn epoch_day(self) -> u32
         ensures value { result ≡ self }
         ensures limits { IsDayNumber self }
@@ -72,7 +85,7 @@ impl Day {
         self.number
     }
 
-    /// That many days later.
+    /// The day that many days later, which is to be one up to 3999-12-31.
     pub fn plus(self, days: u32) -> Day
         requires { self + days ≤ 741_441 }
         ensures { result ≡ self + days }
@@ -82,7 +95,7 @@ impl Day {
         }
     }
 
-    /// That many days earlier.
+    /// The day that many days earlier, which is to be one from 1980-01-01 on.
     pub fn minus(self, days: u32) -> Day
         requires { 3652 + days ≤ self }
         ensures { result ≡ self - days }
@@ -92,7 +105,7 @@ impl Day {
         }
     }
 
-    /// The day of that date, if it is one.
+    /// The day of that date. `None`: there is no such date, or its day lies outside the limits.
     pub fn from_ymd(year: i32, month: u32, day: u32) -> Option<Day>
         ensures value { IfSome result (λ d. HasYmd d year month day) }
         ensures limits { IfSome result (λ d. IsDayNumber d) }
@@ -107,7 +120,7 @@ impl Day {
         }
     }
 
-    /// The year, the month and the day of the month.
+    /// The year (1980 to 3999), the month (1 to 12) and the day of the month (1 to 31).
     pub fn ymd(self) -> (i32, u32, u32)
         ensures date { HasYmd self result.0 result.1 result.2 }
         ensures years { IsBetween (pos 1980) (pos 3999) result.0 }
@@ -115,11 +128,12 @@ impl Day {
         ymd_of(self.number)
     }
 
-    /// How many days after Sunday.
+    /// How many days after Sunday: 0 for a Sunday, 6 for a Saturday.
     pub fn weekday(self) -> u32
         ensures value { result ≡ weekday self }
         ensures limits { IsDayNumber self }
     {
+        // 1970-01-01 was a Thursday.
         (self.number + 4) % 7
     }
 }

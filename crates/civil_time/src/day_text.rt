@@ -1,17 +1,18 @@
-//! Days as text.
+//! Days as text: ten bytes, as `2025-12-31` (ISO 8601).
 ghost use Rattle.std.specs.Prelude.{◌≡◌, ◌≤◌, ◌<◌, ◌-◌, ℕ, IfSome, IfNone};
 ghost use Rattle.civil_time.specs.Civil.{IsDayNumber};
 ghost use Rattle.civil_time.specs.DayText.{digit, SpellsDay, day_text, day_of_text};
 
 use crate::day::Day;
 
+/// The last decimal digit of the number.
 fn digit(n: u32) -> u8
     ensures { result ≡ digit n }
 {
     b'0' + (n % 10) as u8
 }
 
-/// The day's date, as `2025-12-31`.
+/// The day's date, as `2025-12-31`: four digits, two and two, with dashes between them.
 pub fn day_bytes(day: Day) -> [u8; 10]
     ensures value { result ≡ day_text day }
     ensures means { SpellsDay result day }
@@ -40,7 +41,8 @@ fn digit_value(byte: u8) -> u32
     u32::from(byte.saturating_sub(b'0'))
 }
 
-/// The day that the text spells, if it spells one.
+/// The day whose text this is, in the form of `day_bytes`. `None`: the text is not exactly such a
+/// date of 1980-01-01 to 3999-12-31.
 pub fn read_day(text: &[u8]) -> Option<Day>
     ensures value { result ≡ day_of_text text.now }
     ensures means { IfSome result (λ day. SpellsDay text.now day) }
@@ -57,6 +59,7 @@ pub fn read_day(text: &[u8]) -> Option<Day>
         + digit_value(text[3]);
     let month = 10 * digit_value(text[5]) + digit_value(text[6]);
     let day = 10 * digit_value(text[8]) + digit_value(text[9]);
+    // Other bytes than digits may have been read as digits: only the day's own text is taken.
     let day = Day::from_ymd(year as i32, month, day)?;
     if text == day_bytes(day).as_slice() {
         Some(day)

@@ -1,7 +1,8 @@
-//! What the texts of days say, with nothing to run.
-ghost use Rattle.std.specs.Prelude.{◌≡◌, ◌↔◌, ℕ, List, length, Some};
+//! What the functions of specs/ say, with nothing to run.
+ghost use Rattle.std.specs.Prelude.{◌≡◌, ◌↔◌, ◌≤◌, ℕ, List, length, Some, pos, neg_ℤ};
 ghost use Rattle.civil_time.specs.Civil.{IsDayNumber};
 ghost use Rattle.civil_time.specs.DayText.{SpellsDay, day_text, day_of_text};
+ghost use Rattle.civil_time.specs.Months.{IsMonthsAfter, months_later, months_earlier};
 
 /// Each day's text is read as that day, and has ten bytes.
 pub fn texts_are_read_back()
@@ -9,4 +10,12 @@ pub fn texts_are_read_back()
     ensures ten_bytes { (day : ℕ) → length (day_text day) ≡ 10 }
     ensures means { (text : List ℕ) (day : ℕ)
         → (day_of_text text ≡ Some day) ↔ (IsDayNumber day × SpellsDay text day) }
+{}
+
+/// One day lies a number of months away, and it is the function's value.
+pub fn months_are_found()
+    ensures later { (day months later : ℕ) → IsDayNumber day → day ≤ 705_282 → months ≤ 120
+        → IsMonthsAfter day (pos months) later ↔ (later ≡ months_later day months) }
+    ensures earlier { (day months earlier : ℕ) → IsDayNumber day → 10_957 ≤ day → months ≤ 120
+        → IsMonthsAfter day (neg_ℤ (pos months)) earlier ↔ (earlier ≡ months_earlier day months) }
 {}

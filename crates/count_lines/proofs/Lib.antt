@@ -1,2 +1,3 @@
 pub mod SpellingLemmas
+pub mod TextNames
 pub mod Words

@@ -18,10 +18,16 @@ use Rattle.court_days.specs.declared.calendar.DayKind.{DayKind}
 use Rattle.court_days.specs.declared.calendar.DayKind.TheVariants.{Federal, State, Closed}
 use Rattle.court_days.specs.declared.calendar.Direction.{Direction}
 use Rattle.court_days.specs.declared.calendar.Direction.TheVariants.{Forward, Backward}
+use Rattle.court_rules.specs.declared.method.Method.{Method}
+use Rattle.court_rules.specs.declared.rule.Rule.{Rule}
+use Rattle.court_rules.specs.declared.rule.Rule.TheVariants.{AnswerToSummons}
+use Rattle.court_rules.specs.Methods.{method_name, method_named}
+use Rattle.court_rules.specs.Rules.{line_of, name_of, rule_named}
+use Rattle.court_rules.proofs.Names as names
 use Rattle.count_lines.specs.declared.request.Request.{Request}
-use Rattle.count_lines.specs.declared.request.Request.TheVariants.{Enter, Count}
-use Rattle.count_lines.specs.Requests.{◌>>=◌, value_if, cut_word, words_of, entered_day_of, is_number, number_of, enter_of, count_of, asked_by, request_of, IsAsked}
-use Rattle.count_lines.specs.Spelling.{spaced, kind_word, direction_word, Spells}
+use Rattle.count_lines.specs.declared.request.Request.TheVariants.{Enter, CountDays, CountMonths, ByRule}
+use Rattle.count_lines.specs.Requests.{◌>>=◌, value_if, cut_word, words_of, entered_day_of, is_number, number_of, enter_of, count_of, direction_named, months_of, rule_of, asked_by, request_of, IsAsked}
+use Rattle.count_lines.specs.Spelling.{spaced, kind_word, direction_word, day_and_count, Spells}
 
 -- what a chain that succeeds went through
 bound : {A B : Type 0} (first : Option A) (next : A → Option B) (b : B) → (first >>= next) ≡ Some b
@@ -114,10 +120,10 @@ enter-read kind text request h =
 count-read : (direction : Direction) (text : List ℕ) (request : Request) → count_of direction text ≡ Some request
     → IsAsked request × Spells request (spaced (direction_word direction) text)
 count-read direction text request h =
-    let words = bound (words_of text) (λ words. entered_day_of words.0 >>= λ day. number_of words.1 >>= λ count. value_if (nat_le 1 count && nat_le count 3650) (Count direction day count)) request h in
-    let day = bound (entered_day_of words.0.0) (λ day. number_of words.0.1 >>= λ count. value_if (nat_le 1 count && nat_le count 3650) (Count direction day count)) request words.2 in
-    let count = bound (number_of words.0.1) (λ count. value_if (nat_le 1 count && nat_le count 3650) (Count direction day.0 count)) request day.2 in
-    let test = tested (nat_le 1 count.0 && nat_le count.0 3650) (Count direction day.0 count.0) request count.2 in
+    let words = bound (words_of text) (λ words. entered_day_of words.0 >>= λ day. number_of words.1 >>= λ count. value_if (nat_le 1 count && nat_le count 3650) (CountDays direction day count)) request h in
+    let day = bound (entered_day_of words.0.0) (λ day. number_of words.0.1 >>= λ count. value_if (nat_le 1 count && nat_le count 3650) (CountDays direction day count)) request words.2 in
+    let count = bound (number_of words.0.1) (λ count. value_if (nat_le 1 count && nat_le count 3650) (CountDays direction day.0 count)) request day.2 in
+    let test = tested (nat_le 1 count.0 && nat_le count.0 3650) (CountDays direction day.0 count.0) request count.2 in
     let low : nat_le 1 count.0 ≡ true = grind (arith, nat_tests, test.0) in
     let high : nat_le count.0 3650 ≡ true = grind (arith, nat_tests, test.0) in
     let read = day-read words.0.0 day.0 day.1 in
@@ -129,6 +135,75 @@ count-read direction text request h =
 
 word-is : (word text : List ℕ) → bytes_eq word text ≡ true → word ≡ text
 word-is word text same = (bytes_eq-Decides word text).0 same
+
+some_same : {A : Type 0} {a b : A} → Some a ≡ Some b → a ≡ b
+some_same h = cc
+
+direction-read : (word : List ℕ) (direction : Direction) → direction_named word ≡ Some direction → word ≡ direction_word direction
+direction-read word direction h =
+    elim (cases_Bool (bytes_eq word (codes "forward"))) [
+      | inl is ↦
+          let named : Forward ≡ direction = some_same (rw is at h) in
+          subst (λ d. word ≡ direction_word d) named (word-is word (codes "forward") is)
+      | inr other ↦
+          elim (cases_Bool (bytes_eq word (codes "backward"))) [
+            | inl is ↦
+                let named : Backward ≡ direction = some_same (rw (other, is) at h) in
+                subst (λ d. word ≡ direction_word d) named (word-is word (codes "backward") is)
+            | inr neither ↦ let nothing : ◌≡◌ {A = Option Direction} None (Some direction) = rw (other, neither) at h in cc
+          ]
+    ]
+
+-- DAY N
+day_and_count-read : (text : List ℕ) (words : List ℕ × List ℕ) (day count : ℕ) → words_of text ≡ Some words
+    → entered_day_of words.0 ≡ Some day → number_of words.1 ≡ Some count → IsEnteredDay day × (text ≡ day_and_count day count)
+day_and_count-read text words day count cut is_day is_count =
+    let read = day-read words.0 day is_day in (
+      read.0,
+      cut-joined [] text words.0 words.1 cut ∙ ap (λ word. spaced word words.1) read.1
+          ∙ ap (spaced (day_text day)) (number-read words.1 count is_count),
+    )
+
+limits-read : (most count : ℕ) → (nat_le 1 count && nat_le count most) ≡ true → (1 ≤ count) × (count ≤ most)
+limits-read most count h =
+    let low : nat_le 1 count ≡ true = grind (arith, nat_tests, h) in
+    let high : nat_le count most ≡ true = grind (arith, nat_tests, h) in
+    (grind (arith, nat_tests), grind (arith, nat_tests))
+
+months-read : (text : List ℕ) (request : Request) → months_of text ≡ Some request
+    → IsAsked request × Spells request (spaced (codes "months") text)
+months-read text request h =
+    let words = bound (words_of text) (λ words. direction_named words.0 >>= λ direction. words_of words.1 >>= λ words. entered_day_of words.0 >>= λ day. number_of words.1 >>= λ count. value_if (nat_le 1 count && nat_le count 120) (CountMonths direction day count)) request h in
+    let direction = bound (direction_named words.0.0) (λ direction. words_of words.0.1 >>= λ words. entered_day_of words.0 >>= λ day. number_of words.1 >>= λ count. value_if (nat_le 1 count && nat_le count 120) (CountMonths direction day count)) request words.2 in
+    let rest = bound (words_of words.0.1) (λ words. entered_day_of words.0 >>= λ day. number_of words.1 >>= λ count. value_if (nat_le 1 count && nat_le count 120) (CountMonths direction.0 day count)) request direction.2 in
+    let day = bound (entered_day_of rest.0.0) (λ day. number_of rest.0.1 >>= λ count. value_if (nat_le 1 count && nat_le count 120) (CountMonths direction.0 day count)) request rest.2 in
+    let count = bound (number_of rest.0.1) (λ count. value_if (nat_le 1 count && nat_le count 120) (CountMonths direction.0 day.0 count)) request day.2 in
+    let test = tested (nat_le 1 count.0 && nat_le count.0 120) (CountMonths direction.0 day.0 count.0) request count.2 in
+    let limits = limits-read 120 count.0 test.0 in
+    let read = day_and_count-read words.0.1 rest.0 day.0 count.0 rest.1 day.1 count.1 in
+    let joined : text ≡ spaced (direction_word direction.0) (day_and_count day.0 count.0) =
+    cut-joined [] text words.0.0 words.0.1 words.1
+    ∙ ap (λ word. spaced word words.0.1) (direction-read words.0.0 direction.0 direction.1)
+    ∙ ap (spaced (direction_word direction.0)) read.1 in
+    subst (λ r. IsAsked r × Spells r (spaced (codes "months") text)) test.1
+    ((read.0, limits.0, limits.1), ap (spaced (codes "months")) joined)
+
+rule-read : (text : List ℕ) (request : Request) → rule_of text ≡ Some request
+    → IsAsked request × Spells request (spaced (codes "rule") text)
+rule-read text request h =
+    let words = bound (words_of text) (λ words. rule_named words.0 >>= λ rule. words_of words.1 >>= λ words. entered_day_of words.0 >>= λ day. method_named words.1 >>= λ method. Some (ByRule rule day method)) request h in
+    let rule = bound (rule_named words.0.0) (λ rule. words_of words.0.1 >>= λ words. entered_day_of words.0 >>= λ day. method_named words.1 >>= λ method. Some (ByRule rule day method)) request words.2 in
+    let rest = bound (words_of words.0.1) (λ words. entered_day_of words.0 >>= λ day. method_named words.1 >>= λ method. Some (ByRule rule.0 day method)) request rule.2 in
+    let day = bound (entered_day_of rest.0.0) (λ day. method_named rest.0.1 >>= λ method. Some (ByRule rule.0 day method)) request rest.2 in
+    let method = bound (method_named rest.0.1) (λ method. Some (ByRule rule.0 day.0 method)) request day.2 in
+    let read = day-read rest.0.0 day.0 day.1 in
+    let joined : text ≡ spaced (name_of rule.0) (spaced (day_text day.0) (method_name method.0)) =
+    cut-joined [] text words.0.0 words.0.1 words.1
+    ∙ ap (λ word. spaced word words.0.1) (sym (names.name_of-named words.0.0 rule.0 rule.1))
+    ∙ ap (spaced (name_of rule.0)) (cut-joined [] words.0.1 rest.0.0 rest.0.1 rest.1 ∙ ap (λ word. spaced word rest.0.1) read.1
+    ∙ ap (spaced (day_text day.0)) (sym (names.method_name-named rest.0.1 method.0 method.1))) in
+    subst (λ r. IsAsked r × Spells r (spaced (codes "rule") text)) (some_same method.2)
+    (read.0, ap (spaced (codes "rule")) joined)
 
 -- one step of a choice by the first word
 either : {C : Type 0} (word keyword : List ℕ) (here others : Option Request) (request : Request)
@@ -147,7 +222,9 @@ by_word-read word text request h =
     either word (codes "backward") _ _ request h (λ is read. rw is (count-read Backward text request read)) (λ h.
     either word (codes "federal") _ _ request h (λ is read. rw is (enter-read Federal text request read)) (λ h.
     either word (codes "state") _ _ request h (λ is read. rw is (enter-read State text request read)) (λ h.
-    either word (codes "closed") (enter_of Closed text) None request h (λ is read. rw is (enter-read Closed text request read)) (λ h. cc)))))
+    either word (codes "closed") _ _ request h (λ is read. rw is (enter-read Closed text request read)) (λ h.
+    either word (codes "months") _ _ request h (λ is read. rw is (months-read text request read)) (λ h.
+    either word (codes "rule") (rule_of text) None request h (λ is read. rw is (rule-read text request read)) (λ h. cc)))))))
 
 pub read-spelled : (line : List ℕ) (request : Request) → request_of line ≡ Some request → IsAsked request × Spells request line
 read-spelled line request h =
@@ -155,16 +232,38 @@ read-spelled line request h =
     subst (λ l. IsAsked request × Spells request l) (sym (cut-joined [] line words.0.0 words.0.1 words.1))
     (by_word-read words.0.0 words.0.1 request words.2)
 
-count-spelled : (direction : Direction) (day count : ℕ) → IsAsked (Count direction day count)
-    → count_of direction (spaced (day_text day) (decimal count)) ≡ Some (Count direction day count)
+count-spelled : (direction : Direction) (day count : ℕ) → IsAsked (CountDays direction day count)
+    → count_of direction (spaced (day_text day) (decimal count)) ≡ Some (CountDays direction day count)
 count-spelled direction day count asked =
     let low : nat_le 1 count ≡ true = grind (arith, nat_tests) in
     let high : nat_le count 3650 ≡ true = grind (arith, nat_tests) in
     rw (cut-day day (decimal count), day-spelled day asked.0, number-spelled count asked.1 (omega (arith, asked.2)), low, high) refl
 
+months-spelled : (direction : Direction) (day count : ℕ) → IsAsked (CountMonths direction day count)
+    → (entered_day_of (day_text day) >>= λ day. number_of (decimal count) >>= λ count. value_if (nat_le 1 count && nat_le count 120) (CountMonths direction day count))
+    ≡ Some (CountMonths direction day count)
+months-spelled direction day count asked =
+    let low : nat_le 1 count ≡ true = grind (arith, nat_tests) in
+    let high : nat_le count 120 ≡ true = grind (arith, nat_tests) in
+    rw (day-spelled day asked.0, number-spelled count asked.1 (omega (arith, asked.2)), low, high) refl
+
+-- no name of a rule has a space
+cut-rule : (rule : Rule) (rest : List ℕ) → cut_word [] (spaced (name_of rule) rest) ≡ Some (name_of rule, rest)
+unfolding line_of
+cut-rule AnswerToSummons rest = refl
+cut-rule _ rest = refl
+
+rule-spelled : (rule : Rule) (day : ℕ) (method : Method) → IsEnteredDay day
+    → rule_of (spaced (name_of rule) (spaced (day_text day) (method_name method))) ≡ Some (ByRule rule day method)
+rule-spelled rule day method entered =
+    rw (cut-rule rule (spaced (day_text day) (method_name method)), names.rule_named-name_of rule, cut-day day (method_name method), day-spelled day entered, names.method_named-method_name method) refl
+
 pub spelled-read : (line : List ℕ) (request : Request) → IsAsked request → Spells request line → request_of line ≡ Some request
 spelled-read line (Enter Federal day) asked spells = rw (spells, day-spelled day asked) refl
 spelled-read line (Enter State day) asked spells = rw (spells, day-spelled day asked) refl
 spelled-read line (Enter Closed day) asked spells = rw (spells, day-spelled day asked) refl
-spelled-read line (Count Forward day count) asked spells = rw spells (count-spelled Forward day count asked)
-spelled-read line (Count Backward day count) asked spells = rw spells (count-spelled Backward day count asked)
+spelled-read line (CountDays Forward day count) asked spells = rw spells (count-spelled Forward day count asked)
+spelled-read line (CountDays Backward day count) asked spells = rw spells (count-spelled Backward day count asked)
+spelled-read line (CountMonths Forward day count) asked spells = rw (spells, cut-day day (decimal count)) (months-spelled Forward day count asked)
+spelled-read line (CountMonths Backward day count) asked spells = rw (spells, cut-day day (decimal count)) (months-spelled Backward day count asked)
+spelled-read line (ByRule rule day method) asked spells = rw spells (rule-spelled rule day method asked)

@@ -3,12 +3,13 @@ use Rattle.std.specs.Prelude.{ℕ, ◌==◌, Bool, true, false, not, ◌&&◌, L
 use Rattle.std.specs.FinSet.{contains}
 use Rattle.civil_time.specs.DayText.{day_text}
 use Rattle.court_days.specs.Calendar.{Entered, days_of, with_day, rows_of}
-use Rattle.court_days.specs.Ends.{end_of_days}
+use Rattle.court_days.specs.Ends.{end_of_days, end_of_months}
+use Rattle.court_rules.specs.Ends.{end_by_rule}
 use Rattle.court_days.specs.declared.calendar.DayKind.{DayKind}
 use Rattle.line_io.specs.Report.{Judged}
 use Rattle.count_lines.specs.Requests.{request_of}
 use Rattle.count_lines.specs.declared.request.Request.{Request}
-use Rattle.count_lines.specs.declared.request.Request.TheVariants.{Enter, Count}
+use Rattle.count_lines.specs.declared.request.Request.TheVariants.{Enter, CountDays, CountMonths, ByRule}
 use Rattle.count_lines.specs.declared.answer.Answer.{Answer}
 use Rattle.count_lines.specs.declared.answer.Answer.TheVariants.{Empty, Done, Full, Bad, LastDay}
 
@@ -22,10 +23,17 @@ entering entered kind day =
     if contains (days_of entered kind) day then (Done, entered)
     else (if rows_of entered == 4000 then (Full, entered) else (Done, with_day entered kind day))
 
+-- a time that the court ordered has no period of its own: `rule order ..` is bad
+abbrev pub last_day : Option ℕ → Answer
+last_day (Some day) = LastDay day
+last_day None = Bad
+
 abbrev pub outcome_of : Entered → Option Request → Outcome
 outcome_of entered None = (Bad, entered)
 outcome_of entered (Some (Enter kind day)) = entering entered kind day
-outcome_of entered (Some (Count direction day count)) = (LastDay (end_of_days entered direction day count), entered)
+outcome_of entered (Some (CountDays direction day count)) = (LastDay (end_of_days entered direction day count), entered)
+outcome_of entered (Some (CountMonths direction day count)) = (LastDay (end_of_months entered direction day count), entered)
+outcome_of entered (Some (ByRule rule day method)) = (last_day (end_by_rule entered rule day method), entered)
 
 -- what a line comes to
 abbrev pub outcome : Entered → List ℕ → Outcome

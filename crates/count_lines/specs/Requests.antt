@@ -10,8 +10,10 @@ use Rattle.court_days.specs.declared.calendar.DayKind.{DayKind}
 use Rattle.court_days.specs.declared.calendar.DayKind.TheVariants.{Federal, State, Closed}
 use Rattle.court_days.specs.declared.calendar.Direction.{Direction}
 use Rattle.court_days.specs.declared.calendar.Direction.TheVariants.{Forward, Backward}
+use Rattle.court_rules.specs.Methods.{method_named}
+use Rattle.court_rules.specs.Rules.{rule_named}
 use Rattle.count_lines.specs.declared.request.Request.{Request}
-use Rattle.count_lines.specs.declared.request.Request.TheVariants.{Enter, Count}
+use Rattle.count_lines.specs.declared.request.Request.TheVariants.{Enter, CountDays, CountMonths, ByRule}
 
 infixl 10 ◌>>=◌
 abbrev pub ◌>>=◌ : {A B : Type 0} → Option A → (A → Option B) → Option B
@@ -56,7 +58,33 @@ count_of direction text = do
   words ← words_of text
   day ← entered_day_of words.0
   count ← number_of words.1
-  value_if (nat_le 1 count && nat_le count 3650) (Count direction day count)
+  value_if (nat_le 1 count && nat_le count 3650) (CountDays direction day count)
+
+-- the direction that the word names
+abbrev pub direction_named : List ℕ → Option Direction
+direction_named word =
+    if bytes_eq word (codes "forward") then Some Forward
+    else (if bytes_eq word (codes "backward") then Some Backward else None)
+
+-- `forward DAY N` or `backward DAY N`, after `months`: a period of 1 to 120 months
+abbrev pub months_of : List ℕ → Option Request
+months_of text = do
+  words ← words_of text
+  direction ← direction_named words.0
+  words ← words_of words.1
+  day ← entered_day_of words.0
+  count ← number_of words.1
+  value_if (nat_le 1 count && nat_le count 120) (CountMonths direction day count)
+
+-- NAME DAY METHOD, after `rule`: the time that a rule sets, from a day, for a party that was served so
+abbrev pub rule_of : List ℕ → Option Request
+rule_of text = do
+  words ← words_of text
+  rule ← rule_named words.0
+  words ← words_of words.1
+  day ← entered_day_of words.0
+  method ← method_named words.1
+  Some (ByRule rule day method)
 
 -- what the rest of a line asks for, by its first word
 abbrev pub asked_by : List ℕ → List ℕ → Option Request
@@ -66,7 +94,9 @@ asked_by word text =
     else (if bytes_eq word (codes "federal") then enter_of Federal text
     else (if bytes_eq word (codes "state") then enter_of State text
     else (if bytes_eq word (codes "closed") then enter_of Closed text
-    else None))))
+    else (if bytes_eq word (codes "months") then months_of text
+    else (if bytes_eq word (codes "rule") then rule_of text
+    else None))))))
 
 -- what a line asks for, if it is of one of these forms and its values lie in their limits
 abbrev pub request_of : List ℕ → Option Request
@@ -74,7 +104,9 @@ request_of line = do
   words ← words_of line
   asked_by words.0 words.1
 
--- the days may be entered, and the count is within its limits
+-- the days may be entered, and the counts are within their limits
 abbrev pub IsAsked : Request → Type 0
 IsAsked (Enter kind day) = IsEnteredDay day
-IsAsked (Count direction day count) = IsEnteredDay day × (1 ≤ count) × (count ≤ 3650)
+IsAsked (CountDays direction day count) = IsEnteredDay day × (1 ≤ count) × (count ≤ 3650)
+IsAsked (CountMonths direction day count) = IsEnteredDay day × (1 ≤ count) × (count ≤ 120)
+IsAsked (ByRule rule day method) = IsEnteredDay day

@@ -6,8 +6,10 @@ use Rattle.court_days.specs.declared.calendar.DayKind.{DayKind}
 use Rattle.court_days.specs.declared.calendar.DayKind.TheVariants.{Federal, State, Closed}
 use Rattle.court_days.specs.declared.calendar.Direction.{Direction}
 use Rattle.court_days.specs.declared.calendar.Direction.TheVariants.{Forward, Backward}
+use Rattle.court_rules.specs.Methods.{method_name}
+use Rattle.court_rules.specs.Rules.{name_of}
 use Rattle.count_lines.specs.declared.request.Request.{Request}
-use Rattle.count_lines.specs.declared.request.Request.TheVariants.{Enter, Count}
+use Rattle.count_lines.specs.declared.request.Request.TheVariants.{Enter, CountDays, CountMonths, ByRule}
 
 -- two texts with a space between them
 abbrev pub spaced : List ℕ → List ℕ → List ℕ
@@ -22,7 +24,15 @@ abbrev pub direction_word : Direction → List ℕ
 direction_word Forward = codes "forward"
 direction_word Backward = codes "backward"
 
--- `federal DAY`, `forward DAY N` and the like
+-- DAY N
+abbrev pub day_and_count : ℕ → ℕ → List ℕ
+day_and_count day count = spaced (day_text day) (decimal count)
+
+-- `federal DAY`, `forward DAY N`, `months forward DAY N`, `rule NAME DAY METHOD`
 abbrev pub Spells : Request → List ℕ → Type 0
 Spells (Enter kind day) line = line ≡ spaced (kind_word kind) (day_text day)
-Spells (Count direction day count) line = line ≡ spaced (direction_word direction) (spaced (day_text day) (decimal count))
+Spells (CountDays direction day count) line = line ≡ spaced (direction_word direction) (day_and_count day count)
+Spells (CountMonths direction day count) line =
+    line ≡ spaced (codes "months") (spaced (direction_word direction) (day_and_count day count))
+Spells (ByRule rule day method) line =
+    line ≡ spaced (codes "rule") (spaced (name_of rule) (spaced (day_text day) (method_name method)))

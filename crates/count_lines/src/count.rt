@@ -3,15 +3,15 @@ ghost use Rattle.std.specs.Prelude.{◌≡◌, length, IfOk, OnErr, IfSome};
 ghost use Rattle.std.specs.Io.KnownBytes.{Appends};
 ghost use Rattle.line_io.specs.Lines.{lines_of};
 ghost use Rattle.line_io.specs.Output.{HasFront};
-ghost use Rattle.count_lines.specs.Answers.{outcome, outcome_of, entering};
+ghost use Rattle.count_lines.specs.Answers.{outcome, outcome_of, entering, last_day};
 ghost use Rattle.count_lines.specs.Requests.{IsAsked};
 ghost use Rattle.count_lines.specs.Count.{count_text, bad_answers};
 
 use crate::answer::{Answer, counts_as_bad, write_answer};
 use crate::fault::RunFault;
 use crate::request::{Request, read_request};
-use court_days::{Calendar, CalendarFault, Day, DayKind, count_days};
-use line_io::{CountEnd, Steps, run_lines};
+use court_days::{Calendar, CalendarFault, Day, DayKind, count_days, count_months};
+use line_io::{Answerer, CountEnd, run_lines};
 use std::alloc::{AllocError, Global};
 use std::io::{Read, Write};
 
@@ -21,8 +21,8 @@ struct Counter {
     calendar: Calendar,
 }
 
-impl Steps for Counter {
-    ghost use Rattle.std.specs.Prelude.{◌≡◌};
+impl Answerer for Counter {
+    ghost use Rattle.std.specs.Prelude.{◌≡◌, ⊤};
     ghost use Rattle.court_days.specs.Calendar.{Entered};
     ghost use Rattle.count_lines.specs.Answers.{judged, judged_long};
 
@@ -30,11 +30,18 @@ impl Steps for Counter {
 
     const LIMIT: u32 = 256;
 
+    const MAX_PENDING: u32 = 65_536;
+
     ghost LIMIT = { 256 };
+
+    ghost MAX_PENDING = { 65_536 };
 
     ghost State = { Entered };
 
     ghost Shows = { λ counter entered. counter.calendar ≡ entered };
+
+    // The calendar is let go after a fault.
+    ghost Fails = { λ _ _ _ _. ⊤ };
 
     ghost judge = { judged };
 
@@ -65,6 +72,16 @@ fn enter(calendar: &mut Calendar, kind: DayKind, day: Day) -> Result<Answer, All
     }
 }
 
+/// The end of a time, and bad where the time has none.
+fn last_day(end: Option<Day>) -> Answer
+    ensures { result ≡ last_day end }
+{
+    match end {
+        Some(day) => Answer::LastDay(day),
+        None => Answer::Bad,
+    }
+}
+
 /// Does what is asked for.
 fn answer_request(calendar: &mut Calendar, request: Request) -> Result<Answer, AllocError>
     requires { IsAsked request }
@@ -72,8 +89,14 @@ fn answer_request(calendar: &mut Calendar, request: Request) -> Result<Answer, A
 {
     match request {
         Request::Enter(kind, day) => enter(calendar, kind, day),
-        Request::Count(direction, trigger, count) => {
+        Request::CountDays(direction, trigger, count) => {
             Ok(Answer::LastDay(count_days(calendar, direction, trigger, count)))
+        }
+        Request::CountMonths(direction, trigger, count) => {
+            Ok(Answer::LastDay(count_months(calendar, direction, trigger, count)))
+        }
+        Request::ByRule(rule, trigger, method) => {
+            Ok(last_day(rule.end(calendar, trigger, method)))
         }
     }
 }

@@ -19,7 +19,7 @@ impl From<LineFault<AllocError>> for RunFault {
         match fault {
             LineFault::ReadFailed => RunFault::ReadFailed,
             LineFault::WriteFailed => RunFault::WriteFailed,
-            LineFault::NoMemory | LineFault::Step(_) => RunFault::NoMemory,
+            LineFault::NoMemory | LineFault::Unanswered(_) => RunFault::NoMemory,
         }
     }
 }

@@ -1,9 +1,13 @@
 //! What a line of `count` asks for.
 ghost use Rattle.std.specs.Prelude.{◌≡◌, ◌≤◌, ℕ, [], option_map, IfSome};
-ghost use Rattle.count_lines.specs.Requests.{words_of, entered_day_of, number_of, enter_of, count_of, asked_by, request_of, IsAsked};
+ghost use Rattle.court_rules.specs.Methods.{method_named};
+ghost use Rattle.court_rules.specs.Rules.{rule_named};
+ghost use Rattle.count_lines.specs.Requests.{words_of, entered_day_of, number_of, enter_of, count_of, direction_named, months_of, rule_of, asked_by, request_of, IsAsked};
 
 use court_days::{Day, DayKind, Direction, is_entered, read_day};
+use court_rules::{Method, Rule};
 use memchr::memchr;
+use std::str;
 
 /// What a line asks for.
 #[derive(Clone, Copy, Debug, PartialEq, Eq)]
@@ -11,7 +15,12 @@ pub enum Request {
     /// `federal DAY`, `state DAY` or `closed DAY`: enter the day under its kind.
     Enter(DayKind, Day),
     /// `forward DAY N` or `backward DAY N`: the end of a period of that many days.
-    Count(Direction, Day, u32),
+    CountDays(Direction, Day, u32),
+    /// `months forward DAY N` or `months backward DAY N`: the end of a period of that many months.
+    CountMonths(Direction, Day, u32),
+    /// `rule NAME DAY METHOD`: the end of the time that the rule sets, from that day, for a party
+    /// that was served by the method.
+    ByRule(Rule, Day, Method),
 }
 
 /// The first word, and what stands behind the space after it.
@@ -65,7 +74,64 @@ fn read_count(direction: Direction, text: &[u8]) -> Option<Request>
     if count < 1 || count > 3650 {
         return None;
     }
-    Some(Request::Count(direction, day, count))
+    Some(Request::CountDays(direction, day, count))
+}
+
+fn read_direction(word: &[u8]) -> Option<Direction>
+    ensures { result ≡ direction_named word.now }
+{
+    if word == b"forward".as_slice() {
+        return Some(Direction::Forward);
+    }
+    if word == b"backward".as_slice() {
+        return Some(Direction::Backward);
+    }
+    None
+}
+
+fn read_months(text: &[u8]) -> Option<Request>
+    ensures value { result ≡ months_of text.now }
+    ensures asked { IfSome result IsAsked }
+{
+    let (direction, text) = split_word(text)?;
+    let direction = read_direction(direction)?;
+    let (day, count) = split_word(text)?;
+    let day = read_entered_day(day)?;
+    let count = read_number(count)?;
+    if count < 1 || count > 120 {
+        return None;
+    }
+    Some(Request::CountMonths(direction, day, count))
+}
+
+fn read_rule_name(text: &[u8]) -> Option<Rule>
+    ensures { result ≡ rule_named text.now }
+{
+    match str::from_utf8(text) {
+        Ok(name) => Rule::read(name),
+        Err(_) => None,
+    }
+}
+
+fn read_method(text: &[u8]) -> Option<Method>
+    ensures { result ≡ method_named text.now }
+{
+    match str::from_utf8(text) {
+        Ok(name) => Method::read(name),
+        Err(_) => None,
+    }
+}
+
+fn read_rule(text: &[u8]) -> Option<Request>
+    ensures value { result ≡ rule_of text.now }
+    ensures asked { IfSome result IsAsked }
+{
+    let (name, text) = split_word(text)?;
+    let rule = read_rule_name(name)?;
+    let (day, method) = split_word(text)?;
+    let day = read_entered_day(day)?;
+    let method = read_method(method)?;
+    Some(Request::ByRule(rule, day, method))
 }
 
 /// What the rest of a line asks for, by its first word.
@@ -87,6 +153,12 @@ fn read_by_word(word: &[u8], text: &[u8]) -> Option<Request>
     }
     if word == b"closed".as_slice() {
         return read_enter(DayKind::Closed, text);
+    }
+    if word == b"months".as_slice() {
+        return read_months(text);
+    }
+    if word == b"rule".as_slice() {
+        return read_rule(text);
     }
     None
 }

@@ -1,15 +1,14 @@
 -- The functions of specs/ give the ends that the relations say.
-use Rattle.std.proofs.Common.{◌≡◌, ℕ, ◌+◌, ◌-◌, ◌<◌, ◌≤◌, max, min, ◌↔◌, true, false, inl, inr, refl, sym, ap, ◌∙◌, arith, subst}
+use Rattle.std.proofs.Common.{◌≡◌, ℕ, ◌+◌, ◌≤◌, max, min, ◌↔◌, true, false, inl, inr, refl, sym, arith, subst}
 use Rattle.std.proofs.lemmas.Bool.{cases_Bool, both_ways, false_from_ne_true}
-use Rattle.court_days.specs.Civil.{IsEnteredDay, weekday}
 use Rattle.court_days.specs.Calendar.{Entered, IsWithinLimits}
-use Rattle.court_days.specs.Legal.{IsBusinessDay, is_business_day, IsOpen, is_open, IsOpenBusinessDay, is_open_business_day}
+use Rattle.court_days.specs.Legal.{IsBusinessDay, is_business_day, is_open, IsOpenBusinessDay, is_open_business_day}
 use Rattle.court_days.specs.Period.{IsFirstFrom, IsLastUpTo, MovesIfClosed, IsEndFrom, IsEndOfDays, IsTrigger, IsInReach, days_away}
 use Rattle.court_days.specs.Ends.{first_open, last_business, open_from, end_from, end_of_days}
 use Rattle.court_days.specs.declared.calendar.Direction.{Direction}
 use Rattle.court_days.specs.declared.calendar.Direction.TheVariants.{Forward, Backward}
 use Rattle.court_days.proofs.Gaps.{tuesday_from, tuesday_from_is, tuesday_before, tuesday_before_is, midweek_open, midweek_business}
-use Rattle.court_days.proofs.Search.{Finds, FindsLast, first_day-finds, last_day-finds, finds-first, finds-last, first_once, last_once}
+use Rattle.court_days.proofs.Search.{first_day-finds, last_day-finds, finds-first, finds-last, first_once, last_once}
 use Rattle.court_days.proofs.TestLaws.{is_business_day-means, is_open-means, is_open_business_day-means}
 
 module _ (entered : Entered) (limits : IsWithinLimits entered) where

@@ -1,25 +1,16 @@
 -- Sets of days.
-use Rattle.std.proofs.Common.{◌≡◌, ℕ, ◌+◌, ◌≤◌, ◌<◌, List, [], ◌∷◌, ◌++◌, ◌⊎◌, inl, inr, length, Bool, true, false, cond, ◌||◌, refl, sym, ap, ◌∙◌, arith, length-append, subst}
+use Rattle.std.proofs.Common.{◌≡◌, ℕ, ◌+◌, ◌<◌, inl, inr, true, false, refl, sym, ap, ◌∙◌, arith, subst}
 use Rattle.std.proofs.lemmas.Bool.{or_cases}
 use Rattle.std.proofs.lemmas.Map.Lookups.{exact_unsigned}
-use Rattle.std.specs.Ordering.{nat_cmp, eq_by_cmp}
+use Rattle.std.specs.Ordering.{nat_cmp}
 use Rattle.std.specs.Cmp.{nat_cmp_total, Equal-is}
-use Rattle.std.specs.FinSet.{FinSet, contains, insert, len, empty, from_list, from_list_push, nat_cmp-IsAntisymmetric, contains-insert, contains-empty, len-insert, len-empty}
+use Rattle.std.specs.FinSet.{FinSet, contains, insert, len, empty, contains-insert, contains-empty, len-insert, len-empty}
 use Rattle.std.proofs.lemmas.Bool.{true≢false}
 use Rattle.court_days.specs.Civil.{IsEnteredDay}
 use Rattle.court_days.specs.Calendar.{Entered, days_of, Holds, with_day, no_days, IsWithinLimits}
 use Rattle.court_days.specs.declared.calendar.DayKind.{DayKind}
 use Rattle.court_days.specs.Kept.{IsKept}
 use Rattle.court_days.specs.declared.calendar.DayKind.TheVariants.{Federal, State, Closed}
-
--- a list with one more number at its end, as a set
-pub from_list-push : (days : List ℕ) (day : ℕ) → from_list {R = nat_cmp} (days ++ day ∷ []) ≡ insert (from_list days) day
-from_list-push days day = from_list_push nat_cmp_total nat_cmp-IsAntisymmetric days day
-
--- a new one keeps each number once
-pub len-push : (days : List ℕ) (day : ℕ) → contains (from_list {R = nat_cmp} days) day ≡ false → len (from_list {R = nat_cmp} days) ≡ length days → len (from_list {R = nat_cmp} (days ++ day ∷ [])) ≡ length (days ++ day ∷ [])
-len-push days day new e =
-    ap len (from_list-push days day) ∙ len-insert nat_cmp_total (from_list days) day ∙ rw new (omega (arith, e, length-append days (day ∷ [])))
 
 -- what holds of the members and of a new one holds of the members with it
 pub insert_keeps : (P : ℕ → Type 0) (s : FinSet nat_cmp) (day : ℕ) → ((q : ℕ) → contains s q ≡ true → P q) → P day → (q : ℕ) → contains (insert s day) q ≡ true → P q
@@ -31,9 +22,6 @@ insert_keeps P s day each here q h =
 
 pub len_inserted : (s : FinSet nat_cmp) (day : ℕ) → contains s day ≡ false → len (insert s day) ≡ len s + 1
 len_inserted s day new = len-insert nat_cmp_total s day ∙ rw new refl
-
-pub none_kept_twice : (days : List ℕ) → days ≡ [] → len (from_list {R = nat_cmp} days) ≡ length days
-none_kept_twice days e = rw e (len-empty nat_cmp)
 
 -- a calendar is kept as it should be where one of its sets has one more day
 module _ (f s c : FinSet nat_cmp) (day : ℕ) (kept : IsKept (record { federal = f; state = s; closed = c })) (here : IsEnteredDay day) (room : len f + len s + len c < 4000) where

@@ -1,15 +1,12 @@
 -- No two days in the middle of a week are both holidays, where no day is entered.
-use Rattle.std.proofs.Common.{◌≡◌, ◌≢◌, ◌↔◌, ℕ, ◌+◌, ◌-◌, ◌≤◌, ◌<◌, ◌%◌, ◌⊎◌, inl, inr, max, min, ℤ, pos, ◌+ℤ◌, Bool, true, false, refl, sym, ap, ◌∙◌, IsTrue, arith}
-use Rattle.std.proofs.lemmas.Bool.{both_ways}
+use Rattle.std.proofs.Common.{◌≡◌, ◌≢◌, ℕ, ◌+◌, ◌-◌, ◌≤◌, ◌<◌, ◌%◌, inl, inr, true, arith}
 use Rattle.std.proofs.lemmas.Bool.Decides.{nat_tests}
-use Rattle.jiff.specs.Types.{Date}
-use Rattle.jiff.specs.Words.{epoch_day, days_in_month}
-use Rattle.jiff.proofs.Family.{epoch_day_injective, days_from_civil-day}
-use Rattle.jiff.proofs.SpanFacts.{signed_arith}
-use Rattle.court_days.specs.Civil.{HasDate, FallsOn, weekday, IsEnteredDay}
+use Rattle.civil_time.proofs.Dates.{falls_on_next}
+use Rattle.civil_time.specs.Civil.{weekday}
+use Rattle.court_days.specs.Civil.{IsEnteredDay}
 use Rattle.court_days.specs.Holiday.{is_fixed_date, IsFixedHoliday, IsStatutory, fixed, monday, thursday, before_saturday, after_sunday}
-use Rattle.court_days.specs.Calendar.{Entered, Holds, IsWithinLimits}
-use Rattle.court_days.specs.Legal.{IsWeekend, IsStateHoliday, IsLegalHoliday, IsBusinessDay, IsOpen, IsOpenBusinessDay}
+use Rattle.court_days.specs.Calendar.{Entered, IsWithinLimits}
+use Rattle.court_days.specs.Legal.{IsWeekend, IsStateHoliday, IsBusinessDay, IsOpenBusinessDay}
 use Rattle.court_days.specs.declared.calendar.Direction.{Direction}
 use Rattle.court_days.specs.declared.calendar.Direction.TheVariants.{Forward, Backward}
 use Rattle.court_days.specs.declared.calendar.DayKind.TheVariants.{Federal, State, Closed}
@@ -20,25 +17,11 @@ fixed_bound month day h = grind (arith, nat_tests)
 fixed_next : (month day : ℕ) → is_fixed_date month day ≡ true → is_fixed_date month (day + 1) ≡ true → ⊥
 fixed_next month day h k = grind (arith, nat_tests)
 
-long : (year : ℤ) (month : ℕ) → 28 ≤ days_in_month year month
-long year month = grind arith
-
 -- two days in a row are not both holidays of a fixed date
 fixed_apart : (day : ℕ) → IsFixedHoliday day → IsFixedHoliday (day + 1) → ⊥
-fixed_apart day (d, e, f) (n, g, h) =
-    let bound = fixed_bound d.month d.day f in
-    let after : Date = record {
-      year = d.year;
-      month = d.month;
-      day = d.day + 1;
-      year_in = d.year_in;
-      month_in = d.month_in;
-      day_in = (omega arith, omega (arith, long d.year d.month));
-    } in
-    let later : epoch_day after ≡ epoch_day n =
-    omega (arith, signed_arith, days_from_civil-day d.year d.month d.day (d.day + 1) d.day_in.0 (omega arith)) in
-    let same = epoch_day_injective after n later in
-    fixed_next d.month d.day f (rw (same.1, same.2) h)
+fixed_apart day (date, e, f) next =
+    let bound = fixed_bound date.month date.day f in
+    fixed_next date.month date.day f (falls_on_next is_fixed_date day date e (omega arith) next)
 
 -- a statutory holiday on a Tuesday or a Wednesday is one of a fixed date
 by_date : (day : ℕ) → weekday day ≢ 1 → weekday day ≢ 4 → weekday day ≢ 5 → IsStatutory day → IsFixedHoliday day

@@ -1,7 +1,7 @@
 -- What a statutory holiday is, where the date is known.
 use Rattle.std.proofs.Common.{◌≡◌, ◌≢◌, ◌↔◌, ℕ, ◌+◌, ◌-◌, ◌⊎◌, inl, inr, ℤ, Bool, true, false, refl, sym, ◌∙◌, IsTrue, arith}
 use Rattle.std.proofs.lemmas.Bool.{both_ways}
-use Rattle.court_days.specs.Civil.{HasYmd, FallsOn, weekday}
+use Rattle.civil_time.specs.Civil.{HasYmd, weekday}
 use Rattle.court_days.specs.Holiday.{is_fixed_date, is_monday_date, is_thursday_date, IsFixedHoliday, IsStatutory, fixed, monday, thursday, before_saturday, after_sunday}
 use Rattle.civil_time.proofs.Dates.{falls_on, falls_on_from}
 

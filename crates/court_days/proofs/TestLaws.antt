@@ -1,9 +1,9 @@
 -- The tests of specs/ say what the relations say.
-use Rattle.std.proofs.Common.{◌≡◌, ℕ, ◌+◌, ◌-◌, ◌≤◌, ◌<◌, ◌==◌, ◌⊎◌, inl, inr, Bool, true, false, not, ◌&&◌, ◌||◌, refl, sym, ◌∙◌, IsTrue, ◌↔◌, arith}
-use Rattle.std.proofs.lemmas.Bool.{both_ways, or_cases, or_left, or_right, and_parts, and_from, cases_Bool, not-true, not_from_false, false_from_ne_true, eqb-true, eq-eqb, true_from_ne_false}
-use Rattle.court_days.specs.Civil.{weekday, FallsOn, falls_on}
+use Rattle.std.proofs.Common.{◌≡◌, ℕ, ◌+◌, ◌-◌, ◌≤◌, ◌==◌, ◌⊎◌, inl, inr, Bool, true, false, not, ◌&&◌, ◌||◌, refl, sym, ◌∙◌, IsTrue, ◌↔◌, arith}
+use Rattle.std.proofs.lemmas.Bool.{both_ways, or_cases, or_left, or_right, and_parts, and_from, cases_Bool, not-true, not_from_false, false_from_ne_true, eqb-true, eq-eqb}
+use Rattle.civil_time.specs.Civil.{weekday, FallsOn}
 use Rattle.court_days.specs.Holiday.{is_fixed_date, is_monday_date, is_thursday_date, IsFixedHoliday, is_fixed_holiday, IsStatutory, is_statutory, fixed, monday, thursday, before_saturday, after_sunday}
-use Rattle.court_days.specs.Calendar.{Entered, Holds}
+use Rattle.court_days.specs.Calendar.{Entered}
 use Rattle.court_days.specs.Legal.{IsWeekend, is_weekend, IsStateHoliday, is_state_holiday, IsLegalHoliday, is_legal_holiday, IsBusinessDay, is_business_day, IsOpen, is_open, IsOpenBusinessDay, is_open_business_day}
 use Rattle.court_days.specs.declared.calendar.Direction.{Direction}
 use Rattle.court_days.specs.declared.calendar.Direction.TheVariants.{Forward, Backward}

@@ -1,6 +1,7 @@
 //! What the tests and the ends of specs/ say, with nothing to run.
 ghost use Rattle.std.specs.Prelude.{◌≡◌, ◌↔◌, ℕ, ◌+◌, ◌*◌, ◌≤◌, max, true};
-ghost use Rattle.court_days.specs.Civil.{IsDayNumber, IsEnteredDay};
+ghost use Rattle.civil_time.specs.Civil.{IsDayNumber};
+ghost use Rattle.court_days.specs.Civil.{IsEnteredDay};
 ghost use Rattle.court_days.specs.Calendar.{Entered, no_days, with_day, IsWithinLimits};
 ghost use Rattle.court_days.specs.Holiday.{IsStatutory, is_statutory};
 ghost use Rattle.court_days.specs.Legal.{IsLegalHoliday, is_legal_holiday, IsBusinessDay, is_business_day, IsOpen, is_open, IsOpenBusinessDay, is_open_business_day};

@@ -1,127 +1,192 @@
+use crate::Direction::{Backward, Forward};
 use crate::*;
+use std::alloc::Global;
 use std::test::Fail;
 
-fn day(text: &str) -> Result<Day, Fail> {
-    Ok(read_day(text.as_bytes()).ok_or("no day")?)
+/// A day that is entered under a kind, by its text.
+type Entry = (DayKind, &'static [u8]);
+
+/// A period of days: what the court has entered, the direction, the trigger, the days and the end.
+type Row = (
+    &'static [Entry],
+    Direction,
+    &'static [u8],
+    u32,
+    &'static [u8],
+);
+
+const CLOSED_FRIDAY: [Entry; 1] = [(DayKind::Closed, b"2007-08-31")];
+
+const CLOSED_AFTER_CHRISTMAS: [Entry; 1] = [(DayKind::Closed, b"2025-12-26")];
+
+const STATE_HOLIDAY: [Entry; 1] = [(DayKind::State, b"2025-12-26")];
+
+const FEDERAL_HOLIDAY: [Entry; 1] = [(DayKind::Federal, b"2025-12-26")];
+
+/// The days of December 2025 from the 5th to the 12th that are no weekend.
+const CLOSED_WEEK: [Entry; 6] = [
+    (DayKind::Closed, b"2025-12-05"),
+    (DayKind::Closed, b"2025-12-08"),
+    (DayKind::Closed, b"2025-12-09"),
+    (DayKind::Closed, b"2025-12-10"),
+    (DayKind::Closed, b"2025-12-11"),
+    (DayKind::Closed, b"2025-12-12"),
+];
+
+const ROWS: [Row; 12] = [
+    (&[], Forward, b"2007-08-02", 30, b"2007-09-04"),
+    (&[], Backward, b"2007-09-22", 21, b"2007-08-31"),
+    (&[], Forward, b"2025-06-13", 21, b"2025-07-07"),
+    (&[], Forward, b"2027-12-10", 21, b"2028-01-03"),
+    (&[], Forward, b"2099-12-31", 3650, b"2109-12-30"),
+    (&[], Backward, b"2000-01-01", 3650, b"1990-01-03"),
+    (&CLOSED_FRIDAY, Backward, b"2007-09-22", 21, b"2007-09-04"),
+    (&STATE_HOLIDAY, Backward, b"2026-01-02", 7, b"2025-12-26"),
+    (&STATE_HOLIDAY, Forward, b"2025-12-19", 7, b"2025-12-29"),
+    (&FEDERAL_HOLIDAY, Backward, b"2026-01-02", 7, b"2025-12-24"),
+    (
+        &CLOSED_AFTER_CHRISTMAS,
+        Forward,
+        b"2025-12-19",
+        7,
+        b"2025-12-29",
+    ),
+    (&CLOSED_WEEK, Backward, b"2025-12-12", 7, b"2025-12-15"),
+];
+
+/// A calendar in which these days are entered.
+fn calendar_of(alloc: Global, rows: &[(DayKind, &[u8])]) -> Result<Calendar, Fail> {
+    let mut calendar = Calendar::new(alloc);
+    for (kind, text) in rows {
+        calendar.add_day(*kind, read_day(text).ok_or("no day")?)?;
+    }
+    Ok(calendar)
 }
 
-fn ends(
+/// The end of a period of days, where the trigger and the count are within the limits.
+fn end_of_days(
     calendar: &Calendar,
     direction: Direction,
-    trigger: &str,
+    trigger: &[u8],
     count: u32,
-    end: &str,
-) -> Result<bool, Fail> {
-    let trigger = day(trigger)?;
-    if !is_entered(trigger) || count > 3650 {
-        return Ok(false);
+) -> Option<Day> {
+    let trigger = read_day(trigger)?;
+    if is_entered(trigger) && count <= 3650 {
+        Some(count_days(calendar, direction, trigger, count))
+    } else {
+        None
     }
-    Ok(count_days(calendar, direction, trigger, count) == day(end)?)
-}
-
-fn month_ends(
-    direction: Direction,
-    trigger: &str,
-    months: u32,
-    end: &str,
-    calendar: &Calendar,
-) -> Result<bool, Fail> {
-    let trigger = day(trigger)?;
-    if !is_entered(trigger) || months > 120 {
-        return Ok(false);
-    }
-    Ok(count_months(calendar, direction, trigger, months) == day(end)?)
 }
 
 #[test]
-fn months(rt: HostRuntime) -> Result<(), Fail> {
-    let none = Calendar::new(rt.alloc());
-    assert!(rt; month_ends(Direction::Forward, "2025-01-31", 1, "2025-02-28", &none)?);
-    assert!(rt; month_ends(Direction::Forward, "2023-08-31", 6, "2024-02-29", &none)?);
-    assert!(rt; month_ends(Direction::Forward, "2025-11-25", 1, "2025-12-26", &none)?);
-    assert!(rt; month_ends(Direction::Backward, "2025-03-31", 1, "2025-02-28", &none)?);
-    assert!(rt; month_ends(Direction::Backward, "2000-01-01", 120, "1989-12-29", &none)?);
-    let end = day("2025-12-22")?;
-    if is_entered(end) {
-        assert_eq!(rt; add_three(&none, end), day("2025-12-26")?);
+fn periods_of_days(rt: HostRuntime) -> Result<(), Fail> {
+    for (entered, direction, trigger, count, end) in ROWS {
+        let calendar = calendar_of(rt.alloc(), entered)?;
+        assert!(rt; end_of_days(&calendar, direction, trigger, count) == read_day(end));
+    }
+    Ok(())
+}
+
+/// The end of a period of months, where the trigger and the number of months are within the limits.
+fn end_of_months(
+    calendar: &Calendar,
+    direction: Direction,
+    trigger: &[u8],
+    months: u32,
+) -> Option<Day> {
+    let trigger = read_day(trigger)?;
+    if is_entered(trigger) && months <= 120 {
+        Some(count_months(calendar, direction, trigger, months))
+    } else {
+        None
+    }
+}
+
+#[test]
+fn periods_of_months(rt: HostRuntime) -> Result<(), Fail> {
+    let calendar = Calendar::new(rt.alloc());
+    let rows: [(Direction, &[u8], u32, &[u8]); 5] = [
+        (Forward, b"2025-01-31", 1, b"2025-02-28"),
+        (Forward, b"2023-08-31", 6, b"2024-02-29"),
+        (Forward, b"2025-11-25", 1, b"2025-12-26"),
+        (Backward, b"2025-03-31", 1, b"2025-02-28"),
+        (Backward, b"2000-01-01", 120, b"1989-12-29"),
+    ];
+    for (direction, trigger, months, end) in rows {
+        assert!(rt; end_of_months(&calendar, direction, trigger, months) == read_day(end));
     }
     Ok(())
 }
 
 #[test]
-fn worked_rows(rt: HostRuntime) -> Result<(), Fail> {
-    let mut calendar = Calendar::new(rt.alloc());
-    let none = Calendar::new(rt.alloc());
-    assert!(rt; ends(&none, Direction::Forward, "2007-08-02", 30, "2007-09-04")?);
-    assert!(rt; ends(&none, Direction::Backward, "2007-09-22", 21, "2007-08-31")?);
-    assert!(rt; ends(&none, Direction::Forward, "2025-06-13", 21, "2025-07-07")?);
-    assert!(rt; ends(&none, Direction::Forward, "2027-12-10", 21, "2028-01-03")?);
-    assert!(rt; ends(&none, Direction::Forward, "2099-12-31", 3650, "2109-12-30")?);
-    assert!(rt; ends(&none, Direction::Backward, "2000-01-01", 3650, "1990-01-03")?);
-    assert_eq!(rt;
-        calendar.add_day(DayKind::Closed, day("2007-08-31")?)?,
-        true
-    );
-    assert_eq!(rt;
-        calendar.add_day(DayKind::Closed, day("2007-08-31")?)?,
-        false
-    );
-    assert_eq!(rt; calendar.len(), 1);
-    assert!(rt;
-        ends(
-            &calendar,
-            Direction::Backward,
-            "2007-09-22",
-            21,
-            "2007-09-04"
-        )?
-    );
-    assert_eq!(rt; calendar.add_day(DayKind::State, day("2025-12-26")?)?, true);
-    assert!(rt;
-        ends(
-            &calendar,
-            Direction::Backward,
-            "2026-01-02",
-            7,
-            "2025-12-26"
-        )?
-    );
-    assert_eq!(rt;
-        calendar.add_day(DayKind::Federal, day("2025-12-26")?)?,
-        true
-    );
-    assert!(rt;
-        ends(
-            &calendar,
-            Direction::Backward,
-            "2026-01-02",
-            7,
-            "2025-12-24"
-        )?
-    );
-    for closed in [
-        "2025-12-05",
-        "2025-12-08",
-        "2025-12-09",
-        "2025-12-10",
-        "2025-12-11",
-        "2025-12-12",
-    ] {
-        assert_eq!(rt; calendar.add_day(DayKind::Closed, day(closed)?)?, true);
+fn three_days_for_service(rt: HostRuntime) -> Result<(), Fail> {
+    let calendar = Calendar::new(rt.alloc());
+    let rows: [(&[u8], &[u8]); 3] = [
+        (b"2025-12-22", b"2025-12-26"),
+        (b"2025-07-07", b"2025-07-10"),
+        (b"2025-11-25", b"2025-11-28"),
+    ];
+    for (end, served) in rows {
+        let end = read_day(end).ok_or("no day")?;
+        assert!(rt; is_entered(end) && Some(add_three(&calendar, end)) == read_day(served));
     }
-    assert!(rt;
-        ends(
-            &calendar,
-            Direction::Backward,
-            "2025-12-12",
-            7,
-            "2025-12-15"
-        )?
-    );
-    assert!(rt; read_day(b"2025-02-29").is_none());
-    assert_eq!(rt;
-        day_bytes(day("2025-02-28")?).as_slice(),
-        b"2025-02-28".as_slice()
-    );
+    Ok(())
+}
+
+#[test]
+fn holidays(rt: HostRuntime) -> Result<(), Fail> {
+    let rows: [(&[u8], bool); 16] = [
+        (b"2010-12-31", true),
+        (b"2011-12-26", true),
+        (b"2018-11-12", true),
+        (b"2020-07-03", true),
+        (b"2021-06-18", true),
+        (b"2025-01-20", true),
+        (b"2025-02-17", true),
+        (b"2025-05-26", true),
+        (b"2025-09-01", true),
+        (b"2025-10-13", true),
+        (b"2025-11-27", true),
+        (b"2025-01-13", false),
+        (b"2025-05-19", false),
+        (b"2025-11-20", false),
+        (b"2025-11-28", false),
+        (b"2025-12-24", false),
+    ];
+    let calendar = Calendar::new(rt.alloc());
+    for (text, is_holiday) in rows {
+        let day = read_day(text).ok_or("no day")?;
+        assert!(rt; statutory(day) == is_holiday);
+        assert!(rt; legal_holiday(&calendar, Forward, day) != business(&calendar, Forward, day));
+    }
+    Ok(())
+}
+
+#[test]
+fn entered_days(rt: HostRuntime) -> Result<(), Fail> {
+    let mut calendar = Calendar::new(rt.alloc());
+    assert!(rt; calendar.is_empty());
+    let rows: [(DayKind, &[u8], Result<bool, CalendarFault>); 6] = [
+        (DayKind::Closed, b"2007-08-31", Ok(true)),
+        (DayKind::Closed, b"2007-08-31", Ok(false)),
+        (DayKind::State, b"2007-08-31", Ok(true)),
+        (DayKind::Federal, b"2099-12-31", Ok(true)),
+        (
+            DayKind::Closed,
+            b"1999-12-31",
+            Err(CalendarFault::OutOfRange),
+        ),
+        (
+            DayKind::Closed,
+            b"2100-01-01",
+            Err(CalendarFault::OutOfRange),
+        ),
+    ];
+    for (kind, text, entered) in rows {
+        let day = read_day(text).ok_or("no day")?;
+        assert!(rt; calendar.add_day(kind, day) == entered);
+        assert!(rt; calendar.holds_day(kind, day) == entered.is_ok());
+    }
+    assert!(rt; calendar.len() == 3 && !calendar.is_empty());
     Ok(())
 }

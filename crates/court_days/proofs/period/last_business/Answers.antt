@@ -1,4 +1,4 @@
-use Rattle.std.proofs.Common.{◌≡◌, ◌+◌, ◌≤◌, ◌<◌, min, inl, inr, subst, arith, ℕ, sym}
+use Rattle.std.proofs.Common.{◌≡◌, ◌+◌, ◌<◌, min, inl, inr, subst, arith, ℕ}
 use Rattle.std.proofs.lemmas.Bool.{cases_lt, both_ways}
 use Rattle.court_days.specs.Legal.{IsBusinessDay}
 use Rattle.court_days.specs.declared.calendar.Direction.TheVariants.{Backward}
@@ -16,7 +16,7 @@ loop-day-preserved c =
     elim (cases_lt tuesday day) [
       | inl lt ↦ lt
       | inr le ↦ let e : day ≡ tuesday = omega arith in
-          absurd (midweek_business c.args.calendar.now c.requires.limits Backward tuesday is.2 (λ h. omega arith) (λ h. omega arith)
+          absurd (midweek_business c.args.calendar.now c.business.ensures.limits Backward tuesday is.2 (λ h. omega arith) (λ h. omega arith)
           (subst P e here) (c.loop-day.invariant.none (tuesday + 1) (omega arith) (omega arith)))
     ] in
     record {

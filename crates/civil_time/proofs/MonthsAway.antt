@@ -1,16 +1,12 @@
 -- Days that lie whole months apart.
-use Rattle.std.proofs.Common.{◌≡◌, ℕ, zero, suc, ◌+◌, ◌-◌, ◌*◌, ◌/◌, ◌%◌, ◌<◌, ◌≤◌, min, ◌⊎◌, inl, inr, ℤ, pos, neg_ℤ, ◌+ℤ◌, ◌-ℤ◌, ◌*ℤ◌, ◌≤ℤ◌, ◌<ℤ◌, unsigned_abs, refl, sym, ap, ◌∙◌, arith}
-use Rattle.std.proofs.lemmas.Bool.{cases_order, cases_lt}
+use Rattle.std.proofs.Common.{◌≡◌, ◌↔◌, subst, ℕ, zero, suc, ◌+◌, ◌-◌, ◌*◌, ◌/◌, ◌%◌, ◌≤◌, min, inl, inr, ℤ, pos, neg_ℤ, ◌+ℤ◌, ◌*ℤ◌, ◌≤ℤ◌, unsigned_abs, refl, sym, ap, ◌∙◌, arith}
+use Rattle.std.proofs.lemmas.Bool.{cases_lt}
 use Rattle.jiff_core.specs.Calendar.{days_from_civil, days_in_month}
-use Rattle.jiff_core.proofs.SignedLemmas.{signed_arith, one_part}
+use Rattle.jiff_core.proofs.SignedLemmas.{signed_arith}
 use Rattle.jiff_core.proofs.DateLemmas.{days_from_civil-day, days_from_civil-next_month, days_from_civil-next_year}
 use Rattle.civil_time.specs.Civil.{HasYmd, IsDayNumber, year_of, month_of, day_of_month, day_at}
-use Rattle.court_days.specs.Months.{IsMonthsAfter}
-use Rattle.court_days.specs.Ends.{day_in_month, month_number, months_away}
-use Rattle.court_days.specs.Period.{shift}
-use Rattle.court_days.specs.declared.calendar.Direction.{Direction}
-use Rattle.court_days.specs.declared.calendar.Direction.TheVariants.{Forward, Backward}
-use Rattle.civil_time.proofs.Years.{day_of_ymd}
+use Rattle.civil_time.specs.Months.{IsMonthsAfter, day_in_month, month_number, months_later, months_earlier}
+use Rattle.civil_time.proofs.Years.{day_of_ymd, year_bounds, year_to_3900, year_from_2000}
 use Rattle.civil_time.proofs.DateOf.{date_of_day, year_of-is, month_of-is, day_of_month-is, year_from}
 
 -- the parts of a day, as the functions compute them
@@ -149,11 +145,14 @@ enough : (day months : ℕ) → 1970 ≤ year_of day → months ≤ 120 → mont
 unfolding month_number
 enough day months h k = omega arith
 
-pub months_away-is : (direction : Direction) (day months later : ℕ) → months ≤ 120 → IsMonthsAfter day (shift direction months) later → later ≡ months_away direction day months
-months_away-is Forward day months later h is = days_from-parts day later (month_number day + months) months (pos months) is (omega (arith, signed_arith))
-months_away-is Backward day months later h is =
+-- the day is the function's value
+pub months_later-is : (day months later : ℕ) → IsMonthsAfter day (pos months) later → later ≡ months_later day months
+months_later-is day months later is = days_from-parts day later (month_number day + months) months (pos months) is (omega (arith, signed_arith))
+
+pub months_earlier-is : (day months earlier : ℕ) → months ≤ 120 → IsMonthsAfter day (neg_ℤ (pos months)) earlier → earlier ≡ months_earlier day months
+months_earlier-is day months earlier h is =
     let some = enough day months (low day is.0 is.1 is.2 is.3) h in
-    days_from-parts day later (month_number day - months) months (neg_ℤ (pos months)) is (omega (arith, signed_arith))
+    days_from-parts day earlier (month_number day - months) months (neg_ℤ (pos months)) is (omega (arith, signed_arith))
 
 -- months that lie in the years of days have such a day
 pub day_away : (day n k : ℕ) (z : ℤ) → IsDayNumber day → pos n ≡ pos (month_number day) +ℤ z → 23_760 ≤ n → n ≤ 47_999 → (later : ℕ) × (dom : ℕ) × (dom₂ : ℕ) × IsMonthsAfter day z later × HasYmd day (pos (month_number day / 12)) (month_number day % 12 + 1) dom × HasYmd later (pos (n / 12)) (n % 12 + 1) dom₂ × (dom₂ ≤ dom) × (dom ≤ dom₂ + 3)
@@ -180,3 +179,62 @@ day_away day n k z limits e low high =
       cut.1,
       cut.2,
     )
+
+-- the months of days
+number_bounds : (day : ℕ) → IsDayNumber day → (23_760 ≤ month_number day) × (day ≤ 705_282 → month_number day ≤ 46_811) × (month_number day ≤ 47_999) × (10_957 ≤ day → 24_000 ≤ month_number day)
+unfolding month_number
+number_bounds day limits =
+    let date = date_of_day day (omega (arith, limits)) in
+    let years = year_bounds day date.0 date.1 limits in
+    let is_year = year_of-is date.0 day date.1 in
+    let is_month = month_of-is date.0 day date.1 in
+    let months = date.0.month_in in (
+      omega (arith, signed_arith, years, is_year),
+      (λ h. omega (arith, signed_arith, year_to_3900 day date.0 date.1 h, is_year, is_month, months)),
+      omega (arith, signed_arith, years, is_year, is_month, months),
+      (λ h. omega (arith, signed_arith, year_from_2000 day date.0 date.1 h, is_year)),
+    )
+
+abbrev IsLater : ℕ → ℕ → ℕ → Type 0
+IsLater day months later = IsMonthsAfter day (pos months) later × (later ≤ day + 31 * months) × (day ≤ later + 3)
+
+abbrev IsEarlier : ℕ → ℕ → ℕ → Type 0
+IsEarlier day months earlier =
+    IsMonthsAfter day (neg_ℤ (pos months)) earlier × (earlier ≤ day) × (day ≤ earlier + 31 * months + 3)
+
+by_function : (day months later : ℕ) → IsLater day months later → IsLater day months (months_later day months)
+by_function day months later is = subst (IsLater day months) (months_later-is day months later is.0) is
+
+by_function_earlier : (day months earlier : ℕ) → months ≤ 120 → IsEarlier day months earlier → IsEarlier day months (months_earlier day months)
+by_function_earlier day months earlier h is = subst (IsEarlier day months) (months_earlier-is day months earlier h is.0) is
+
+-- so the function gives such a day, near the one that is as many months away
+pub months_later-finds : (day months : ℕ) → IsDayNumber day → day ≤ 705_282 → months ≤ 120 → IsMonthsAfter day (pos months) (months_later day months) × (months_later day months ≤ day + 31 * months) × (day ≤ months_later day months + 3)
+months_later-finds day months limits h k =
+    let bounds = number_bounds day limits in
+    let high = bounds.1 h in
+    let found = day_away day (month_number day + months) months (pos months) limits (omega (arith, signed_arith)) (omega (arith, bounds.0)) (omega (arith, high)) in
+    let near = later_near day found.0 (month_number day) months found.1 found.2 found.4 found.5 found.6 found.7 in
+    by_function day months found.0 (found.3, near.0, near.1)
+
+pub months_earlier-finds : (day months : ℕ) → IsDayNumber day → 10_957 ≤ day → months ≤ 120 → IsMonthsAfter day (neg_ℤ (pos months)) (months_earlier day months) × (months_earlier day months ≤ day) × (day ≤ months_earlier day months + 31 * months + 3)
+months_earlier-finds day months limits h k =
+    let bounds = number_bounds day limits in
+    let low = bounds.3 h in
+    let back : month_number day - months + months ≡ month_number day = omega (arith, low) in
+    let found = day_away day (month_number day - months) months (neg_ℤ (pos months)) limits (omega (arith, signed_arith, low)) (omega (arith, low)) (omega (arith, bounds.2)) in
+    let near = earlier_near day found.0 (month_number day - months) months found.1 found.2 (subst (λ n. HasYmd day (pos (n / 12)) (n % 12 + 1) found.1) (sym back) found.4) found.5 found.6 found.7 in
+    by_function_earlier day months found.0 k (found.3, near.0, near.1)
+
+-- and there is no other
+pub months_later-only : (day months later : ℕ) → IsDayNumber day → day ≤ 705_282 → months ≤ 120 → IsMonthsAfter day (pos months) later ↔ (later ≡ months_later day months)
+months_later-only day months later limits h k = (
+  λ is. months_later-is day months later is,
+  λ e. subst (IsMonthsAfter day (pos months)) (sym e) (months_later-finds day months limits h k).0,
+)
+
+pub months_earlier-only : (day months earlier : ℕ) → IsDayNumber day → 10_957 ≤ day → months ≤ 120 → IsMonthsAfter day (neg_ℤ (pos months)) earlier ↔ (earlier ≡ months_earlier day months)
+months_earlier-only day months earlier limits h k = (
+  λ is. months_earlier-is day months earlier k is,
+  λ e. subst (IsMonthsAfter day (neg_ℤ (pos months))) (sym e) (months_earlier-finds day months limits h k).0,
+)
