@@ -30,8 +30,14 @@ Each line is answered by one line:
   closed DAY      enter a day on which the clerk's office is inaccessible
   forward DAY N   the last day of a period of N days after DAY
   backward DAY N  the last day of a period of N days before DAY
-DAY is YYYY-MM-DD from 2000-01-01 to 2099-12-31, and N is 1 to 3650. A day that is entered
-answers `ok`, or `full` where 4,000 stand already; any other line answers `bad`.
+  months forward DAY N, months backward DAY N
+                  the last day of a period of N months after or before DAY
+  rule NAME DAY METHOD
+                  the last day of the time that a rule sets, as 12(a)(1)(B), from DAY, for a
+                  party served by METHOD: A to F of Rule 5(b)(2), rule4 or none
+DAY is YYYY-MM-DD from 2000-01-01 to 2099-12-31, N is 1 to 3650 days or 1 to 120 months. A
+day that is entered answers `ok`, or `full` where 4,000 stand already; an empty line answers
+an empty line, and any other line `bad`.
 
 Exit status: 0 all lines were answered, 1 one of them with `bad` or `full`, 2 bad command
 line, 3 reading, writing or memory failed.";

@@ -9,7 +9,7 @@ use std::test::Fail;
 const MANY: u32 = 1_000_000;
 
 /// Lines and their answers, each from an empty calendar.
-const ROWS: [(&str, &str); 17] = [
+const ROWS: [(&str, &str); 24] = [
     ("forward 2007-08-02 30\n", "2007-09-04\n"),
     ("backward 2007-09-22 21\n", "2007-08-31\n"),
     (
@@ -39,6 +39,28 @@ const ROWS: [(&str, &str); 17] = [
     (
         "closed 2025-12-05\nclosed 2025-12-08\nclosed 2025-12-09\nclosed 2025-12-10\nclosed 2025-12-11\nclosed 2025-12-12\nbackward 2025-12-12 7\n",
         "ok\nok\nok\nok\nok\nok\n2025-12-15\n",
+    ),
+    (
+        "rule 12(a)(1)(B) 2025-11-01 C\nrule 12(a)(1)(B) 2025-11-01 E\n",
+        "2025-11-28\n2025-11-24\n",
+    ),
+    ("rule 12(a)(1)(A)(ii) 2025-03-31 none\n", "2025-05-30\n"),
+    ("rule 12(a)(1)(A)(ii)* 2025-03-31 none\n", "2025-06-30\n"),
+    (
+        "rule 60(b) 2024-02-29 none\nrule 59(e) 2024-02-29 none\n",
+        "2025-02-28\n2024-03-28\n",
+    ),
+    (
+        "months forward 2024-01-31 1\nmonths backward 2024-03-31 1\n",
+        "2024-02-29\n2024-02-29\n",
+    ),
+    (
+        "rule 6(c)(1) 2025-12-12 none\nrule 6(c)(2) 2025-12-12 C\n",
+        "2025-11-28\n2025-12-05\n",
+    ),
+    (
+        "rule order 2025-12-12 none\nrule 59(e) 2025-12-12 G\nmonths forward 2025-12-12 121\n",
+        "bad\nbad\nbad\n",
     ),
     ("closed 2007-08-31\nclosed 2007-08-31\n", "ok\nok\n"),
     ("\n\r\n", "\n\n"),
