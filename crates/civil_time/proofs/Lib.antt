@@ -1,6 +1,16 @@
+pub mod Changes
 pub mod DateOf
 pub mod Dates
 pub mod DayTexts
+pub mod HourDays
+pub mod LocalTimeLemmas
+pub mod MomentGrammarLemmas
+pub mod MonthDays
 pub mod MonthsAway
+pub mod NewYears
+pub mod ReadingLemmas
 pub mod Spelling
+pub mod Written
 pub mod Years
+pub mod ZoneGrammarLemmas
+pub mod ZoneGrammarSound

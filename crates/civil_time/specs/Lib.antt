@@ -1,3 +1,10 @@
 pub mod Civil
 pub mod DayText
+pub mod LocalTime
+pub mod MomentGrammar
+pub mod MomentText
 pub mod Months
+pub mod Reading
+pub mod Zone
+pub mod ZoneGrammar
+pub mod ZoneText

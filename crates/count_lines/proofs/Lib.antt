@@ -1,3 +1,4 @@
-pub mod SpellingLemmas
+pub mod CourtTexts
 pub mod TextNames
 pub mod Words
+pub mod SpellingLemmas

@@ -1,5 +1,5 @@
 -- Lines are read as they are spelled.
-use Rattle.std.proofs.Common.{◌≡◌, ◌⊎◌, inl, inr, ℕ, ◌+◌, ◌%◌, ◌/◌, ◌<◌, ◌≤◌, ◌^◌, ◌==◌, nat_le, not, ◌&&◌, List, [], ◌∷◌, ◌++◌, length, get_or, if◌then◌else◌, Bool, true, false, Option, Some, None, codes, refl, sym, ◌∙◌, ap, subst, append_assoc, arith, rules}
+use Rattle.std.proofs.Common.{ℤ, ◌≡◌, ◌⊎◌, inl, inr, ℕ, ◌+◌, ◌%◌, ◌/◌, ◌<◌, ◌≤◌, ◌^◌, ◌==◌, nat_le, not, ◌&&◌, List, [], ◌∷◌, ◌++◌, length, get_or, if◌then◌else◌, Bool, true, false, Option, Some, None, codes, refl, sym, ◌∙◌, ap, subst, append_assoc, append-nil, arith, rules}
 use Rattle.std.proofs.lemmas.Bool.{cases_Bool, eqb-true, eqb-false, ne_eqb}
 use Rattle.std.proofs.lemmas.Bool.Decides.{nat_tests}
 use Rattle.std.proofs.lemmas.Slice.Eq.{bytes_eq-Decides}
@@ -24,10 +24,23 @@ use Rattle.court_rules.specs.declared.rule.Rule.TheVariants.{AnswerToSummons}
 use Rattle.court_rules.specs.Methods.{method_name, method_named}
 use Rattle.court_rules.specs.Rules.{line_of, name_of, rule_named}
 use Rattle.court_rules.proofs.Names as names
+use Rattle.civil_time.specs.MomentText.{moment_at, clock_text}
+use Rattle.civil_time.specs.Reading.{clock_at, time_of_day_at}
+use Rattle.civil_time.specs.Zone.{ZoneRules}
+use Rattle.civil_time.specs.ZoneText.{zone_at}
+use Rattle.civil_time.specs.MomentGrammar.{SpellsMoment, SpellsTimeOfDay}
+use Rattle.civil_time.specs.ZoneGrammar.{SpellsZone}
+use Rattle.civil_time.proofs.MomentGrammarLemmas.{moment_at-spelled, moment_sound}
+use Rattle.civil_time.proofs.ReadingLemmas as reading
+use Rattle.civil_time.proofs.ZoneGrammarSound.{zone_sound, read_as_spelled}
+use Rattle.court_days.specs.Court.{CourtSettings, zone_of}
+use Rattle.court_days.proofs.CourtLemmas.{zone_of-within}
+use Rattle.count_lines.proofs.CourtTexts.{moment_word, zone_text}
+use Rattle.count_lines.proofs.TextNames.{is_word_byte, is_word}
 use Rattle.count_lines.specs.declared.request.Request.{Request}
-use Rattle.count_lines.specs.declared.request.Request.TheVariants.{Enter, CountDays, CountMonths, ByRule}
-use Rattle.count_lines.specs.Requests.{◌>>=◌, value_if, cut_word, words_of, entered_day_of, is_number, number_of, enter_of, count_of, direction_named, months_of, rule_of, asked_by, request_of, IsAsked}
-use Rattle.count_lines.specs.Spelling.{spaced, kind_word, direction_word, day_and_count, Spells}
+use Rattle.count_lines.specs.declared.request.Request.TheVariants.{Enter, Span, Zone, CountDays, CountMonths, CountHours, ByRule}
+use Rattle.count_lines.specs.Requests.{◌>>=◌, value_if, cut_word, words_of, entered_day_of, is_number, number_of, enter_of, count_of, direction_named, months_of, hours_of, rule_of, span_of, court_named, zone_of_line, asked_by, request_of, IsAsked}
+use Rattle.count_lines.specs.Spelling.{spaced, kind_word, direction_word, day_and_count, SpellsSpan, SpellsHours, SpellsCourt, Spells}
 
 -- what a chain that succeeds went through
 bound : {A B : Type 0} (first : Option A) (next : A → Option B) (b : B) → (first >>= next) ≡ Some b
@@ -64,6 +77,17 @@ cut-day : (day : ℕ) (rest : List ℕ) → cut_word [] (spaced (day_text day) r
 unfolding day_text
 cut-day day rest =
     rw (digit-no_space (year_of day / 1000), digit-no_space (year_of day / 100), digit-no_space (year_of day / 10), digit-no_space (year_of day), digit-no_space (month_of day / 10), digit-no_space (month_of day), digit-no_space (day_of_month day / 10), digit-no_space (day_of_month day)) refl
+
+space_no_word : (byte : ℕ) → byte ≡ 32 → is_word_byte byte ≡ true → ⊥
+space_no_word byte is h = let space : is_word_byte 32 ≡ true = subst (λ b. is_word_byte b ≡ true) is h in cc
+
+-- nor has any word
+cut-words : (word text rest : List ℕ) → is_word text ≡ true → cut_word word (text ++ 32 ∷ rest) ≡ Some (word ++ text, rest)
+cut-words word [] rest h = ap (λ w. Some (w, rest)) (sym (append-nil word))
+cut-words word (byte ∷ text) rest h =
+    let other : (byte == 32) ≡ false = ne_eqb byte 32 (λ is. space_no_word byte is (grind (arith, nat_tests, h))) in
+    let step : cut_word word (byte ∷ (text ++ 32 ∷ rest)) ≡ cut_word (word ++ byte ∷ []) (text ++ 32 ∷ rest) = rw other refl in
+    step ∙ cut-words (word ++ byte ∷ []) text rest (grind (arith, nat_tests, h)) ∙ ap (λ w. Some (w, rest)) (append_assoc word (byte ∷ []) text)
 
 -- numbers
 own : IsNumeralModel (λ ds. list_all is_ascii_digit ds ≡ true) (digits_value 10)
@@ -205,6 +229,54 @@ rule-read text request h =
     subst (λ r. IsAsked r × Spells r (spaced (codes "rule") text)) (some_same method.2)
     (read.0, ap (spaced (codes "rule")) joined)
 
+span-read : (text : List ℕ) (request : Request) → span_of text ≡ Some request
+    → IsAsked request × Spells request (spaced (codes "span") text)
+span-read text request h =
+    let words = bound (words_of text) (λ words. moment_at words.0 >>= λ start. moment_at words.1 >>= λ end. Some (Span start end)) request h in
+    let start = bound (moment_at words.0.0) (λ start. moment_at words.0.1 >>= λ end. Some (Span start end)) request words.2 in
+    let end = bound (moment_at words.0.1) (λ end. Some (Span start.0 end)) request start.2 in
+    let first = moment_sound words.0.0 start.0 start.1 in
+    let second = moment_sound words.0.1 end.0 end.1 in
+    subst (λ r. IsAsked r × Spells r (spaced (codes "span") text)) (some_same end.2)
+    ((first.limits, second.limits), (text, (words.0.0, words.0.1, first, second, cut-joined [] text words.0.0 words.0.1 words.1), refl))
+
+hours-read : (text : List ℕ) (request : Request) → hours_of text ≡ Some request
+    → IsAsked request × Spells request (spaced (codes "hours") text)
+hours-read text request h =
+    let words = bound (words_of text) (λ words. direction_named words.0 >>= λ direction. words_of words.1 >>= λ words. moment_at words.0 >>= λ at. number_of words.1 >>= λ count. value_if (nat_le 1 count && nat_le count 8760) (CountHours direction at count)) request h in
+    let direction = bound (direction_named words.0.0) (λ direction. words_of words.0.1 >>= λ words. moment_at words.0 >>= λ at. number_of words.1 >>= λ count. value_if (nat_le 1 count && nat_le count 8760) (CountHours direction at count)) request words.2 in
+    let rest = bound (words_of words.0.1) (λ words. moment_at words.0 >>= λ at. number_of words.1 >>= λ count. value_if (nat_le 1 count && nat_le count 8760) (CountHours direction.0 at count)) request direction.2 in
+    let at = bound (moment_at rest.0.0) (λ at. number_of rest.0.1 >>= λ count. value_if (nat_le 1 count && nat_le count 8760) (CountHours direction.0 at count)) request rest.2 in
+    let count = bound (number_of rest.0.1) (λ count. value_if (nat_le 1 count && nat_le count 8760) (CountHours direction.0 at.0 count)) request at.2 in
+    let test = tested (nat_le 1 count.0 && nat_le count.0 8760) (CountHours direction.0 at.0 count.0) request count.2 in
+    let limits = limits-read 8760 count.0 test.0 in
+    let moment = moment_sound rest.0.0 at.0 at.1 in
+    let behind : words.0.1 ≡ spaced rest.0.0 (decimal count.0) =
+    cut-joined [] words.0.1 rest.0.0 rest.0.1 rest.1 ∙ ap (spaced rest.0.0) (number-read rest.0.1 count.0 count.1) in
+    let whole : text ≡ spaced (direction_word direction.0) words.0.1 =
+    cut-joined [] text words.0.0 words.0.1 words.1 ∙ ap (λ word. spaced word words.0.1) (direction-read words.0.0 direction.0 direction.1) in
+    subst (λ r. IsAsked r × Spells r (spaced (codes "hours") text)) test.1
+    ((moment.limits, limits.0, limits.1), (words.0.1, (rest.0.0, moment, behind), ap (spaced (codes "hours")) whole))
+
+zone-read : (text : List ℕ) (request : Request) → zone_of_line text ≡ Some request
+    → IsAsked request × Spells request (spaced (codes "zone") text)
+zone-read text request h =
+    let words = bound (words_of text) (λ words. court_named words.0 words.1 >>= λ court. Some (Zone court)) request h in
+    let court = bound (court_named words.0.0 words.0.1) (λ court. Some (Zone court)) request words.2 in
+    let zone = bound (zone_at words.0.0) (λ rules. time_of_day_at words.0.1 >>= λ minute. Some (record { zone_text = words.0.0; close_minute = minute })) court.0 court.1 in
+    let close = bound (time_of_day_at words.0.1) (λ minute. Some (record { zone_text = words.0.0; close_minute = minute })) court.0 zone.2 in
+    let clock = bound (clock_at words.0.1) (λ clock. if length clock.1 == 0 then Some clock.0 else None) close.0 close.1 in
+    let ended = reading.tested (length clock.0.1 == 0) clock.0.0 close.0 clock.2 in
+    let spelled = reading.clock_sound words.0.1 clock.0 clock.1 in
+    let time : SpellsTimeOfDay clock.0.0 words.0.1 =
+    (spelled.0, spelled.1 ∙ ap (λ t. clock_text clock.0.0 ++ t) (reading.empty clock.0.1 ended.0) ∙ append-nil (clock_text clock.0.0)) in
+    let own : CourtSettings = record { zone_text = words.0.0; close_minute = close.0 } in
+    let within = zone_of-within own zone.0 zone.1 in
+    let is_zone : SpellsZone (zone_of own) words.0.0 = subst (λ z. SpellsZone z words.0.0) (sym within.0) (zone_sound words.0.0 zone.0 zone.1) in
+    let is_time : SpellsTimeOfDay close.0 words.0.1 = subst (λ m. SpellsTimeOfDay m words.0.1) ended.1 time in
+    subst (λ r. IsAsked r × Spells r (spaced (codes "zone") text)) (ap Zone (some_same close.2) ∙ some_same court.2)
+    (tt, (text, (words.0.1, is_zone, is_time, cut-joined [] text words.0.0 words.0.1 words.1), refl))
+
 -- one step of a choice by the first word
 either : {C : Type 0} (word keyword : List ℕ) (here others : Option Request) (request : Request)
     → (if bytes_eq word keyword then here else others) ≡ Some request
@@ -224,13 +296,16 @@ by_word-read word text request h =
     either word (codes "state") _ _ request h (λ is read. rw is (enter-read State text request read)) (λ h.
     either word (codes "closed") _ _ request h (λ is read. rw is (enter-read Closed text request read)) (λ h.
     either word (codes "months") _ _ request h (λ is read. rw is (months-read text request read)) (λ h.
-    either word (codes "rule") (rule_of text) None request h (λ is read. rw is (rule-read text request read)) (λ h. cc)))))))
+    either word (codes "rule") _ _ request h (λ is read. rw is (rule-read text request read)) (λ h.
+    either word (codes "span") _ _ request h (λ is read. rw is (span-read text request read)) (λ h.
+    either word (codes "hours") (hours_of text) None request h (λ is read. rw is (hours-read text request read)) (λ h. cc)))))))))
 
 pub read-spelled : (line : List ℕ) (request : Request) → request_of line ≡ Some request → IsAsked request × Spells request line
 read-spelled line request h =
-    let words = bound (words_of line) (λ words. asked_by words.0 words.1) request h in
+    let words = bound (words_of line) (λ words. if bytes_eq words.0 (codes "zone") then zone_of_line words.1 else asked_by words.0 words.1) request h in
     subst (λ l. IsAsked request × Spells request l) (sym (cut-joined [] line words.0.0 words.0.1 words.1))
-    (by_word-read words.0.0 words.0.1 request words.2)
+    (either words.0.0 (codes "zone") (zone_of_line words.0.1) (asked_by words.0.0 words.0.1) request words.2
+    (λ is read. rw is (zone-read words.0.1 request read)) (λ read. by_word-read words.0.0 words.0.1 request read))
 
 count-spelled : (direction : Direction) (day count : ℕ) → IsAsked (CountDays direction day count)
     → count_of direction (spaced (day_text day) (decimal count)) ≡ Some (CountDays direction day count)
@@ -258,6 +333,27 @@ rule-spelled : (rule : Rule) (day : ℕ) (method : Method) → IsEnteredDay day
 rule-spelled rule day method entered =
     rw (cut-rule rule (spaced (day_text day) (method_name method)), names.rule_named-name_of rule, cut-day day (method_name method), day-spelled day entered, names.method_named-method_name method) refl
 
+span-spelled : (start end : ℤ) (text : List ℕ) → SpellsSpan start end text → span_of text ≡ Some (Span start end)
+span-spelled start end text (first, second, is_first, is_second, is) =
+    rw (is, cut-words [] first second (moment_word start first is_first), moment_at-spelled start first is_first, moment_at-spelled end second is_second) refl
+
+hours-spelled : (direction : Direction) (at : ℤ) (count : ℕ) (text : List ℕ) → IsAsked (CountHours direction at count) → SpellsHours at count text
+    → (words_of text >>= λ words. moment_at words.0 >>= λ at. number_of words.1 >>= λ count. value_if (nat_le 1 count && nat_le count 8760) (CountHours direction at count))
+    ≡ Some (CountHours direction at count)
+hours-spelled direction at count text asked (moment, is_moment, is) =
+    let low : nat_le 1 count ≡ true = grind (arith, nat_tests) in
+    let high : nat_le count 8760 ≡ true = grind (arith, nat_tests) in
+    rw (is, cut-words [] moment (decimal count) (moment_word at moment is_moment), moment_at-spelled at moment is_moment, number-spelled count asked.1 (omega (arith, asked.2)), low, high) refl
+
+time-spelled : (minute : ℕ) (text : List ℕ) → SpellsTimeOfDay minute text → time_of_day_at text ≡ Some minute
+time-spelled minute text (low, is) =
+    ap time_of_day_at (is ∙ sym (append-nil (clock_text minute)))
+    ∙ ap (λ (clock : Option (ℕ × List ℕ)). clock >>= λ c. if length c.1 == 0 then Some c.0 else None) (reading.clock_at-clock_text minute [] low)
+
+zone-spelled : (court : CourtSettings) (text : List ℕ) → SpellsCourt court text → zone_of_line text ≡ Some (Zone court)
+zone-spelled court text (close, is_zone, is_close, is) =
+    rw (is, cut-words [] court.zone_text close (zone_text (zone_of court) court.zone_text is_zone), (read_as_spelled court.zone_text (zone_at court.zone_text) refl (zone_of court)).1 is_zone, time-spelled court.close_minute close is_close) refl
+
 pub spelled-read : (line : List ℕ) (request : Request) → IsAsked request → Spells request line → request_of line ≡ Some request
 spelled-read line (Enter Federal day) asked spells = rw (spells, day-spelled day asked) refl
 spelled-read line (Enter State day) asked spells = rw (spells, day-spelled day asked) refl
@@ -267,3 +363,7 @@ spelled-read line (CountDays Backward day count) asked spells = rw spells (count
 spelled-read line (CountMonths Forward day count) asked spells = rw (spells, cut-day day (decimal count)) (months-spelled Forward day count asked)
 spelled-read line (CountMonths Backward day count) asked spells = rw (spells, cut-day day (decimal count)) (months-spelled Backward day count asked)
 spelled-read line (ByRule rule day method) asked spells = rw spells (rule-spelled rule day method asked)
+spelled-read line (Span start end) asked (text, spelled, is) = rw is (span-spelled start end text spelled)
+spelled-read line (Zone court) asked (text, spelled, is) = rw is (zone-spelled court text spelled)
+spelled-read line (CountHours Forward at count) asked (text, spelled, is) = rw is (hours-spelled Forward at count text asked spelled)
+spelled-read line (CountHours Backward at count) asked (text, spelled, is) = rw is (hours-spelled Backward at count text asked spelled)

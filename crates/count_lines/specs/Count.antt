@@ -1,14 +1,13 @@
 -- What `count` writes, as one text of its input.
 use Rattle.std.specs.Prelude.{ℕ, List}
-use Rattle.court_days.specs.Calendar.{no_days}
 use Rattle.line_io.specs.Lines.{lines_of}
 use Rattle.line_io.specs.Report.{within, text_of, bad_of}
-use Rattle.count_lines.specs.Answers.{judged, judged_long}
+use Rattle.count_lines.specs.Answers.{first_state, judged, judged_long}
 
--- the answers to the lines in order, each judged by the days that the lines before it entered
+-- the answers to the lines in order, each judged by what the lines before it entered
 abbrev pub count_text : List ℕ → List ℕ
-count_text input = text_of (within 256 judged judged_long) no_days (lines_of input)
+count_text input = text_of (within 256 judged judged_long) first_state (lines_of input)
 
 -- how many of the answers are `bad` or `full`
 abbrev pub bad_answers : List ℕ → ℕ
-bad_answers input = bad_of (within 256 judged judged_long) no_days (lines_of input)
+bad_answers input = bad_of (within 256 judged judged_long) first_state (lines_of input)

@@ -1,11 +1,16 @@
 -- The lines of `count`: what each asks for.
-use Rattle.std.specs.Prelude.{ℕ, ◌≤◌, ◌==◌, nat_le, Bool, not, ◌&&◌, List, [], ◌∷◌, ◌++◌, Option, None, Some, length, get_or, codes, if◌then◌else◌}
+use Rattle.std.specs.Prelude.{⊤, ℕ, ◌≤◌, ◌==◌, nat_le, Bool, not, ◌&&◌, List, [], ◌∷◌, ◌++◌, Option, None, Some, length, get_or, codes, if◌then◌else◌}
 use Rattle.std.specs.Str.{bytes_eq}
 use Rattle.std.specs.Char.{is_ascii_digit}
 use Rattle.std.specs.List.{list_all}
 use Rattle.std.specs.Str.Parse.{digits_value}
 use Rattle.civil_time.specs.DayText.{day_of_text}
+use Rattle.civil_time.specs.LocalTime.{IsMoment}
+use Rattle.civil_time.specs.MomentText.{moment_at}
+use Rattle.civil_time.specs.Reading.{time_of_day_at}
+use Rattle.civil_time.specs.ZoneText.{zone_at}
 use Rattle.court_days.specs.Civil.{IsEnteredDay}
+use Rattle.court_days.specs.Court.{CourtSettings}
 use Rattle.court_days.specs.declared.calendar.DayKind.{DayKind}
 use Rattle.court_days.specs.declared.calendar.DayKind.TheVariants.{Federal, State, Closed}
 use Rattle.court_days.specs.declared.calendar.Direction.{Direction}
@@ -13,7 +18,7 @@ use Rattle.court_days.specs.declared.calendar.Direction.TheVariants.{Forward, Ba
 use Rattle.court_rules.specs.Methods.{method_named}
 use Rattle.court_rules.specs.Rules.{rule_named}
 use Rattle.count_lines.specs.declared.request.Request.{Request}
-use Rattle.count_lines.specs.declared.request.Request.TheVariants.{Enter, CountDays, CountMonths, ByRule}
+use Rattle.count_lines.specs.declared.request.Request.TheVariants.{Enter, Span, Zone, CountDays, CountMonths, CountHours, ByRule}
 
 infixl 10 ◌>>=◌
 abbrev pub ◌>>=◌ : {A B : Type 0} → Option A → (A → Option B) → Option B
@@ -76,6 +81,16 @@ months_of text = do
   count ← number_of words.1
   value_if (nat_le 1 count && nat_le count 120) (CountMonths direction day count)
 
+-- `forward MOMENT N` or `backward MOMENT N`, after `hours`: a period of 1 to 8760 hours
+abbrev pub hours_of : List ℕ → Option Request
+hours_of text = do
+  words ← words_of text
+  direction ← direction_named words.0
+  words ← words_of words.1
+  at ← moment_at words.0
+  count ← number_of words.1
+  value_if (nat_le 1 count && nat_le count 8760) (CountHours direction at count)
+
 -- NAME DAY METHOD, after `rule`: the time that a rule sets, from a day, for a party that was served so
 abbrev pub rule_of : List ℕ → Option Request
 rule_of text = do
@@ -85,6 +100,28 @@ rule_of text = do
   day ← entered_day_of words.0
   method ← method_named words.1
   Some (ByRule rule day method)
+
+-- MOMENT MOMENT, after `span`
+abbrev pub span_of : List ℕ → Option Request
+span_of text = do
+  words ← words_of text
+  start ← moment_at words.0
+  end ← moment_at words.1
+  Some (Span start end)
+
+-- the court whose zone and closing time the texts spell
+abbrev pub court_named : List ℕ → List ℕ → Option CourtSettings
+court_named zone close = do
+  rules ← zone_at zone
+  minute ← time_of_day_at close
+  Some (record { zone_text = zone; close_minute = minute })
+
+-- ZONE HH:MM, after `zone`
+abbrev pub zone_of_line : List ℕ → Option Request
+zone_of_line text = do
+  words ← words_of text
+  court ← court_named words.0 words.1
+  Some (Zone court)
 
 -- what the rest of a line asks for, by its first word
 abbrev pub asked_by : List ℕ → List ℕ → Option Request
@@ -96,17 +133,22 @@ asked_by word text =
     else (if bytes_eq word (codes "closed") then enter_of Closed text
     else (if bytes_eq word (codes "months") then months_of text
     else (if bytes_eq word (codes "rule") then rule_of text
-    else None))))))
+    else (if bytes_eq word (codes "span") then span_of text
+    else (if bytes_eq word (codes "hours") then hours_of text
+    else None))))))))
 
 -- what a line asks for, if it is of one of these forms and its values lie in their limits
 abbrev pub request_of : List ℕ → Option Request
 request_of line = do
   words ← words_of line
-  asked_by words.0 words.1
+  if bytes_eq words.0 (codes "zone") then zone_of_line words.1 else asked_by words.0 words.1
 
--- the days may be entered, and the counts are within their limits
+-- the days may be entered, the moments are in their range, and the counts within their limits
 abbrev pub IsAsked : Request → Type 0
 IsAsked (Enter kind day) = IsEnteredDay day
 IsAsked (CountDays direction day count) = IsEnteredDay day × (1 ≤ count) × (count ≤ 3650)
 IsAsked (CountMonths direction day count) = IsEnteredDay day × (1 ≤ count) × (count ≤ 120)
+IsAsked (CountHours direction at count) = IsMoment at × (1 ≤ count) × (count ≤ 8760)
 IsAsked (ByRule rule day method) = IsEnteredDay day
+IsAsked (Span start end) = IsMoment start × IsMoment end
+IsAsked (Zone court) = ⊤

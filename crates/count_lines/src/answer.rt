@@ -19,6 +19,8 @@ pub enum Answer {
     Bad,
     /// The last day of a period.
     LastDay(Day),
+    /// The end of a period of hours, as the text of a moment.
+    Moment([u8; 22]),
 }
 
 /// Writes the answer and a line feed behind `out`.
@@ -32,6 +34,7 @@ pub(crate) fn write_answer(answer: &Answer, out: &mut Vec<u8>) -> Result<(), All
         Answer::Full => out.extend_from_slice(b"full\n"),
         Answer::Bad => out.extend_from_slice(b"bad\n"),
         Answer::LastDay(day) => write_day(day, out),
+        Answer::Moment(text) => write_moment(text, out),
     }
 }
 
@@ -42,6 +45,16 @@ fn write_day(day: Day, out: &mut Vec<u8>) -> Result<(), AllocError>
 {
     let mut line = [b'\n'; 11];
     line[..10].copy_from_slice(&day_bytes(day));
+    out.extend_from_slice(&line)
+}
+
+/// Writes the text of a moment and a line feed behind `out`.
+fn write_moment(text: [u8; 22], out: &mut Vec<u8>) -> Result<(), AllocError>
+    ensures ok { OnOk result (out.new.items ≡ out.old.items ++ (text ++ 10 ∷ [])) }
+    ensures err { OnErr result (out.new.items ≡ out.old.items) }
+{
+    let mut line = [b'\n'; 23];
+    line[..22].copy_from_slice(&text);
     out.extend_from_slice(&line)
 }
 

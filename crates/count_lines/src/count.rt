@@ -1,30 +1,35 @@
 //! The engine of `count`: lines of days in, one answer each out.
-ghost use Rattle.std.specs.Prelude.{◌≡◌, length, IfOk, OnErr, IfSome};
+ghost use Rattle.std.specs.Prelude.{◌≡◌, ◌≤◌, length, IfOk, OnErr, IfSome};
 ghost use Rattle.std.specs.Io.KnownBytes.{Appends};
 ghost use Rattle.line_io.specs.Lines.{lines_of};
 ghost use Rattle.line_io.specs.Output.{HasFront};
-ghost use Rattle.count_lines.specs.Answers.{outcome, outcome_of, entering, last_day};
+ghost use Rattle.civil_time.specs.LocalTime.{IsMoment, seconds};
+ghost use Rattle.count_lines.specs.Answers.{outcome, outcome_of, entering, spanning, after_hours, last_day, state_of};
 ghost use Rattle.count_lines.specs.Requests.{IsAsked};
 ghost use Rattle.count_lines.specs.Count.{count_text, bad_answers};
 
 use crate::answer::{Answer, counts_as_bad, write_answer};
 use crate::fault::RunFault;
 use crate::request::{Request, read_request};
-use court_days::{Calendar, CalendarFault, Day, DayKind, count_days, count_months};
+use court_days::{
+    Calendar, CalendarFault, Court, Day, DayKind, Direction, count_days, count_hours, count_months,
+    is_entered,
+};
 use line_io::{Answerer, CountEnd, run_lines};
 use std::alloc::{AllocError, Global};
 use std::io::{Read, Write};
 
-/// Answers lines by the days that the lines before them entered.
+/// Answers lines by what the lines before them entered.
 #[derive(Debug, Drop)]
-struct Counter {
+pub(crate) struct Counter {
+    alloc: Global,
+    court: Court,
     calendar: Calendar,
 }
 
 impl Answerer for Counter {
     ghost use Rattle.std.specs.Prelude.{◌≡◌, ⊤};
-    ghost use Rattle.court_days.specs.Calendar.{Entered};
-    ghost use Rattle.count_lines.specs.Answers.{judged, judged_long};
+    ghost use Rattle.count_lines.specs.Answers.{CourtState, state_of, judged, judged_long};
 
     type Fault = AllocError;
 
@@ -36,9 +41,9 @@ impl Answerer for Counter {
 
     ghost MAX_PENDING = { 65_536 };
 
-    ghost State = { Entered };
+    ghost State = { CourtState };
 
-    ghost Shows = { λ counter entered. counter.calendar ≡ entered };
+    ghost Shows = { λ counter state. state_of counter ≡ state };
 
     // The calendar is let go after a fault.
     ghost Fails = { λ _ _ _ _. ⊤ };
@@ -48,7 +53,7 @@ impl Answerer for Counter {
     ghost judge_long = { judged_long };
 
     fn answer(&mut self, line: &[u8], out: &mut Vec<u8>) -> Result<bool, AllocError> {
-        let answer = answer_to(&mut self.calendar, line)?;
+        let answer = self.answer_to(line)?;
         write_answer(&answer, out)?;
         Ok(counts_as_bad(&answer))
     }
@@ -56,19 +61,6 @@ impl Answerer for Counter {
     fn answer_long(&mut self, out: &mut Vec<u8>) -> Result<bool, AllocError> {
         write_answer(&Answer::Bad, out)?;
         Ok(true)
-    }
-}
-
-/// Enters a day.
-fn enter(calendar: &mut Calendar, kind: DayKind, day: Day) -> Result<Answer, AllocError>
-    requires { IsAsked (Request.Enter kind day) }
-    ensures { IfOk result (λ answer. (answer, calendar.new) ≡ entering calendar.old kind day) }
-{
-    match calendar.add_day(kind, day) {
-        Ok(_) => Ok(Answer::Done),
-        Err(CalendarFault::Full) => Ok(Answer::Full),
-        Err(CalendarFault::OutOfRange) => Ok(Answer::Bad),
-        Err(CalendarFault::NoMemory) => Err(AllocError),
     }
 }
 
@@ -82,39 +74,85 @@ fn last_day(end: Option<Day>) -> Answer
     }
 }
 
-/// Does what is asked for.
-fn answer_request(calendar: &mut Calendar, request: Request) -> Result<Answer, AllocError>
-    requires { IsAsked request }
-    ensures { IfOk result (λ answer. (answer, calendar.new) ≡ outcome_of calendar.old (Some request)) }
-{
-    match request {
-        Request::Enter(kind, day) => enter(calendar, kind, day),
-        Request::CountDays(direction, trigger, count) => {
-            Ok(Answer::LastDay(count_days(calendar, direction, trigger, count)))
+impl Counter {
+    fn enter(&mut self, kind: DayKind, day: Day) -> Result<Answer, AllocError>
+        requires { IsAsked (Request.Enter kind day) }
+        ensures { IfOk result (λ answer. (answer, state_of self.new) ≡ entering (state_of self.old) kind day) }
+    {
+        match self.calendar.add_day(kind, day) {
+            Ok(_) => Ok(Answer::Done),
+            Err(CalendarFault::Full) => Ok(Answer::Full),
+            Err(CalendarFault::OutOfRange) => Ok(Answer::Bad),
+            Err(CalendarFault::NoMemory) => Err(AllocError),
         }
-        Request::CountMonths(direction, trigger, count) => {
-            Ok(Answer::LastDay(count_months(calendar, direction, trigger, count)))
+    }
+
+    fn span(&mut self, start: i64, end: i64) -> Result<Answer, AllocError>
+        ensures { IfOk result (λ answer. (answer, state_of self.new)
+            ≡ spanning (state_of self.old) (seconds start) (seconds end)) }
+    {
+        match self.calendar.add_span(start, end) {
+            Ok(_) => Ok(Answer::Done),
+            Err(CalendarFault::Full) => Ok(Answer::Full),
+            Err(CalendarFault::OutOfRange) => Ok(Answer::Bad),
+            Err(CalendarFault::NoMemory) => Err(AllocError),
         }
-        Request::ByRule(rule, trigger, method) => {
-            Ok(last_day(rule.end(calendar, trigger, method)))
+    }
+
+    /// The end of a period of hours, where its moment has a local day that a court may enter.
+    fn after_hours(&self, direction: Direction, at: i64, count: u32) -> Answer
+        requires moment { IsMoment at }
+        requires count { count ≤ 8760 }
+        ensures { result ≡ after_hours (state_of self.now) direction (seconds at) count }
+    {
+        let (day, _) = self.court.local(at);
+        if !is_entered(day) {
+            return Answer::Bad;
+        }
+        let end = count_hours(&self.court, &self.calendar, direction, at, count);
+        Answer::Moment(self.court.moment_bytes(end))
+    }
+
+    /// Does what is asked for.
+    fn answer_request(&mut self, request: Request) -> Result<Answer, AllocError>
+        requires { IsAsked request }
+        ensures { IfOk result (λ answer. (answer, state_of self.new) ≡ outcome_of (state_of self.old) (Some request)) }
+    {
+        match request {
+            Request::Enter(kind, day) => self.enter(kind, day),
+            Request::Span(start, end) => self.span(start, end),
+            Request::Zone(court) => {
+                self.court = court;
+                Ok(Answer::Done)
+            }
+            Request::CountDays(direction, trigger, count) => {
+                Ok(Answer::LastDay(count_days(&self.calendar, direction, trigger, count)))
+            }
+            Request::CountMonths(direction, trigger, count) => {
+                Ok(Answer::LastDay(count_months(&self.calendar, direction, trigger, count)))
+            }
+            Request::CountHours(direction, at, count) => Ok(self.after_hours(direction, at, count)),
+            Request::ByRule(rule, trigger, method) => {
+                Ok(last_day(rule.end(&self.calendar, trigger, method)))
+            }
+        }
+    }
+
+    /// Answers a line.
+    fn answer_to(&mut self, line: &[u8]) -> Result<Answer, AllocError>
+        ensures { IfOk result (λ answer. (answer, state_of self.new) ≡ outcome (state_of self.old) line.now) }
+    {
+        if line.is_empty() {
+            return Ok(Answer::Empty);
+        }
+        match read_request(self.alloc, line)? {
+            Some(request) => self.answer_request(request),
+            None => Ok(Answer::Bad),
         }
     }
 }
 
-/// Answers a line.
-fn answer_to(calendar: &mut Calendar, line: &[u8]) -> Result<Answer, AllocError>
-    ensures { IfOk result (λ answer. (answer, calendar.new) ≡ outcome calendar.old line.now) }
-{
-    if line.is_empty() {
-        return Ok(Answer::Empty);
-    }
-    match read_request(line) {
-        Some(request) => answer_request(calendar, request),
-        None => Ok(Answer::Bad),
-    }
-}
-
-/// Answers each line of the reader, by the days that the lines before it entered, and counts the
+/// Answers each line of the reader, by what the lines before it entered, and counts the
 /// lines and those answered `bad` or `full`. On a fault a front of the answers went out.
 pub fn count_run<R: Read, W: Write>(
     alloc: Global,
@@ -128,7 +166,12 @@ pub fn count_run<R: Read, W: Write>(
     ensures front { OnErr result (IfSome (R.remaining reader.old) (λ input.
         HasFront (W.contents writer.old) (W.contents writer.new) (count_text input))) }
 {
+    let Ok(court) = Court::read(alloc, "UTC0", "17:00") else {
+        return Err(RunFault::NoMemory);
+    };
     let mut counter = Counter {
+        alloc,
+        court,
         calendar: Calendar::new(alloc),
     };
     match run_lines(alloc, reader, writer, &mut counter) {

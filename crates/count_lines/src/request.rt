@@ -1,23 +1,30 @@
 //! What a line of `count` asks for.
-ghost use Rattle.std.specs.Prelude.{◌≡◌, ◌≤◌, ℕ, [], option_map, IfSome};
+ghost use Rattle.std.specs.Prelude.{◌≡◌, ◌≤◌, ℕ, [], option_map, IfOk, IfSome};
 ghost use Rattle.court_rules.specs.Methods.{method_named};
 ghost use Rattle.court_rules.specs.Rules.{rule_named};
-ghost use Rattle.count_lines.specs.Requests.{words_of, entered_day_of, number_of, enter_of, count_of, direction_named, months_of, rule_of, asked_by, request_of, IsAsked};
+ghost use Rattle.count_lines.specs.Requests.{words_of, entered_day_of, number_of, enter_of, count_of, direction_named, months_of, hours_of, rule_of, span_of, court_named, zone_of_line, asked_by, request_of, IsAsked};
 
-use court_days::{Day, DayKind, Direction, is_entered, read_day};
+use court_days::{Court, CourtFault, Day, DayKind, Direction, is_entered, read_day, read_moment};
 use court_rules::{Method, Rule};
 use memchr::memchr;
+use std::alloc::{AllocError, Global};
 use std::str;
 
 /// What a line asks for.
-#[derive(Clone, Copy, Debug, PartialEq, Eq)]
+#[derive(Debug, Drop)]
 pub enum Request {
     /// `federal DAY`, `state DAY` or `closed DAY`: enter the day under its kind.
     Enter(DayKind, Day),
+    /// `span MOMENT MOMENT`: enter a span of time, from its start up to but not with its end.
+    Span(i64, i64),
+    /// `zone ZONE HH:MM`: the court for the lines that follow.
+    Zone(Court),
     /// `forward DAY N` or `backward DAY N`: the end of a period of that many days.
     CountDays(Direction, Day, u32),
     /// `months forward DAY N` or `months backward DAY N`: the end of a period of that many months.
     CountMonths(Direction, Day, u32),
+    /// `hours forward MOMENT N` or `hours backward MOMENT N`: the end of a period of that many hours.
+    CountHours(Direction, i64, u32),
     /// `rule NAME DAY METHOD`: the end of the time that the rule sets, from that day, for a party
     /// that was served by the method.
     ByRule(Rule, Day, Method),
@@ -104,6 +111,21 @@ fn read_months(text: &[u8]) -> Option<Request>
     Some(Request::CountMonths(direction, day, count))
 }
 
+fn read_hours(text: &[u8]) -> Option<Request>
+    ensures value { result ≡ hours_of text.now }
+    ensures asked { IfSome result IsAsked }
+{
+    let (direction, text) = split_word(text)?;
+    let direction = read_direction(direction)?;
+    let (moment, count) = split_word(text)?;
+    let at = read_moment(moment)?;
+    let count = read_number(count)?;
+    if count < 1 || count > 8760 {
+        return None;
+    }
+    Some(Request::CountHours(direction, at, count))
+}
+
 fn read_rule_name(text: &[u8]) -> Option<Rule>
     ensures { result ≡ rule_named text.now }
 {
@@ -134,6 +156,47 @@ fn read_rule(text: &[u8]) -> Option<Request>
     Some(Request::ByRule(rule, day, method))
 }
 
+fn read_span(text: &[u8]) -> Option<Request>
+    ensures value { result ≡ span_of text.now }
+    ensures asked { IfSome result IsAsked }
+{
+    let (start, end) = split_word(text)?;
+    let start = read_moment(start)?;
+    let end = read_moment(end)?;
+    Some(Request::Span(start, end))
+}
+
+/// The court whose zone and closing time the texts spell.
+fn read_court(alloc: Global, zone: &[u8], close: &[u8]) -> Result<Option<Court>, AllocError>
+    ensures { IfOk result (λ court. court ≡ court_named zone.now close.now) }
+{
+    let Ok(zone) = str::from_utf8(zone) else {
+        return Ok(None);
+    };
+    let Ok(close) = str::from_utf8(close) else {
+        return Ok(None);
+    };
+    match Court::read(alloc, zone, close) {
+        Ok(court) => Ok(Some(court)),
+        Err(CourtFault::BadZone) => Ok(None),
+        Err(CourtFault::BadClose) => Ok(None),
+        Err(CourtFault::NoMemory) => Err(AllocError),
+    }
+}
+
+fn read_zone_line(alloc: Global, text: &[u8]) -> Result<Option<Request>, AllocError>
+    ensures value { IfOk result (λ request. request ≡ zone_of_line text.now) }
+    ensures asked { IfOk result (λ request. IfSome request IsAsked) }
+{
+    let Some((zone, close)) = split_word(text) else {
+        return Ok(None);
+    };
+    match read_court(alloc, zone, close)? {
+        Some(court) => Ok(Some(Request::Zone(court))),
+        None => Ok(None),
+    }
+}
+
 /// What the rest of a line asks for, by its first word.
 fn read_by_word(word: &[u8], text: &[u8]) -> Option<Request>
     ensures value { result ≡ asked_by word.now text.now }
@@ -160,14 +223,25 @@ fn read_by_word(word: &[u8], text: &[u8]) -> Option<Request>
     if word == b"rule".as_slice() {
         return read_rule(text);
     }
+    if word == b"span".as_slice() {
+        return read_span(text);
+    }
+    if word == b"hours".as_slice() {
+        return read_hours(text);
+    }
     None
 }
 
 /// What the line asks for, if it has the form of a request and its values lie in their limits.
-pub(crate) fn read_request(line: &[u8]) -> Option<Request>
-    ensures value { result ≡ request_of line.now }
-    ensures asked { IfSome result IsAsked }
+pub(crate) fn read_request(alloc: Global, line: &[u8]) -> Result<Option<Request>, AllocError>
+    ensures value { IfOk result (λ request. request ≡ request_of line.now) }
+    ensures asked { IfOk result (λ request. IfSome request IsAsked) }
 {
-    let (word, text) = split_word(line)?;
-    read_by_word(word, text)
+    let Some((word, text)) = split_word(line) else {
+        return Ok(None);
+    };
+    if word == b"zone".as_slice() {
+        return read_zone_line(alloc, text);
+    }
+    Ok(read_by_word(word, text))
 }

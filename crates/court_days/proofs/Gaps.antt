@@ -44,13 +44,13 @@ module _ (entered : Entered) (limits : IsWithinLimits entered) where
     weekend,
     λ l. elim l [
       | inl s ↦ no_statute s
-      | inr (inl f) ↦ out (limits Federal day f)
+      | inr (inl f) ↦ out (limits.days Federal day f)
       | inr (inr s) ↦ state direction s
     ],
   )
     where
       state : (direction : Direction) → IsStateHoliday entered direction day → ⊥
-      state Forward s = out (limits State day s)
+      state Forward s = out (limits.days State day s)
       state Backward s = s
 
   -- so of a Tuesday and the day after it, beyond the days that may be entered, one is a business day
@@ -64,8 +64,8 @@ module _ (entered : Entered) (limits : IsWithinLimits entered) where
   pub midweek_open : (direction : Direction) (day : ℕ) → weekday day ≡ 2 → ¬ (IsEnteredDay day) → ¬ (IsEnteredDay (day + 1)) → ¬ (IsOpenBusinessDay entered direction day) → ¬ (IsOpenBusinessDay entered direction (day + 1)) → ⊥
   midweek_open direction day w out out_next no_first no_second =
       midweek_business direction day w out out_next
-      (λ b. no_first (b, λ c. out (limits Closed day c)))
-      (λ b. no_second (b, λ c. out_next (limits Closed (day + 1) c)))
+      (λ b. no_first (b, λ c. out (limits.days Closed day c)))
+      (λ b. no_second (b, λ c. out_next (limits.days Closed (day + 1) c)))
 
 -- the first Tuesday from a day on
 abbrev pub tuesday_from : ℕ → ℕ

@@ -76,17 +76,21 @@ module _ (test : ℕ → Bool) where
         | inr (inr gt) ↦ omega arith
       ]
 
--- with a test that says what qualifies, up to a limit
+-- with a test that says what qualifies, from the start up to the limit
+pub finds-first_within : (Qualifies : ℕ → Type 0) (test : ℕ → Bool) (start limit day : ℕ) → ((day : ℕ) → start ≤ day → day ≤ limit → (test day ≡ true) ↔ Qualifies day) → Finds test start limit day → IsFirstFrom Qualifies start day
+finds-first_within Qualifies test start limit day means f = record {
+  reached = f.reached;
+  qualifies = (means day f.reached f.within).0 f.passes;
+  least = λ other a q. elim (cases_lt other day) [
+    | inr le ↦ le
+    | inl lt ↦ absurd (both_ways _ (f.least other a lt) ((means other a (omega (arith, f.within))).1 q))
+  ];
+}
+
+-- and with one that says so up to a million
 module _ (Qualifies : ℕ → Type 0) (test : ℕ → Bool) (means : (day : ℕ) → day ≤ 1_000_000 → (test day ≡ true) ↔ Qualifies day) where
   pub finds-first : (start limit day : ℕ) → limit ≤ 1_000_000 → Finds test start limit day → IsFirstFrom Qualifies start day
-  finds-first start limit day h f = record {
-    reached = f.reached;
-    qualifies = (means day (omega (arith, f.within))).0 f.passes;
-    least = λ other a q. elim (cases_lt other day) [
-      | inr le ↦ le
-      | inl lt ↦ absurd (both_ways _ (f.least other a lt) ((means other (omega (arith, f.within))).1 q))
-    ];
-  }
+  finds-first start limit day h f = finds-first_within Qualifies test start limit day (λ other a b. means other (omega arith)) f
 
   pub finds-last : (start limit day : ℕ) → start ≤ 1_000_000 → FindsLast test start limit day → IsLastUpTo Qualifies start day
   finds-last start limit day h f = record {
@@ -104,3 +108,34 @@ first_once P start day other h k = omega (arith, h.least other k.reached k.quali
 
 pub last_once : (P : ℕ → Type 0) (start day other : ℕ) → IsLastUpTo P start day → IsLastUpTo P start other → day ≡ other
 last_once P start day other h k = omega (arith, h.greatest other k.reached k.qualifies, k.greatest day h.reached h.qualifies)
+
+-- none of the days from `start` up to but not with `day` qualifies
+abbrev pub NoneFrom : (ℕ → Type 0) → ℕ → ℕ → Type 0
+NoneFrom P start day = (other : ℕ) → start ≤ other → other < day → ¬ (P other)
+
+pub none_next : (P : ℕ → Type 0) (start day : ℕ) → NoneFrom P start day → ¬ (P day) → NoneFrom P start (day + 1)
+none_next P start day none fails other a b =
+    elim (cases_order other day) [
+      | inl e ↦ λ p. fails (rw e at p)
+      | inr (inl lt) ↦ none other a lt
+      | inr (inr gt) ↦ absurd (omega arith)
+    ]
+
+pub next_within : (P : ℕ → Type 0) (start day limit : ℕ) → NoneFrom P start day → ¬ (P day) → (x : ℕ) × (start ≤ x) × (x ≤ limit) × P x → day + 1 ≤ limit
+next_within P start day limit none fails h =
+    elim (cases_order day h.0) [
+      | inl e ↦ absurd (fails (rw e h.3))
+      | inr (inl lt) ↦ omega (arith, h.2)
+      | inr (inr gt) ↦ absurd (none h.0 h.1 gt h.3)
+    ]
+
+pub first_is : (P : ℕ → Type 0) (start day : ℕ) → start ≤ day → P day → NoneFrom P start day → IsFirstFrom P start day
+first_is P start day a p none = record {
+  reached = a;
+  qualifies = p;
+  least = λ other b q. elim (cases_order other day) [
+    | inl e ↦ omega arith
+    | inr (inl lt) ↦ absurd (none other b lt q)
+    | inr (inr gt) ↦ omega arith
+  ];
+}

@@ -1,9 +1,11 @@
-//! The days that a court has entered: declared holidays, and days on which the clerk's office was
-//! closed.
-ghost use Rattle.std.specs.Prelude.{◌≡◌, ℕ, ◌+◌, ◌-◌, ◌≤◌, ◌<◌, ◌↔◌, ◌≢◌, true, false, IsTrue, IfOk, OnOk, OnErr};
-ghost use Rattle.court_days.specs.Civil.{IsEnteredDay};
+//! What a court has entered: declared holidays, and the days and the spans of time in which the
+//! clerk's office was closed.
+ghost use Rattle.std.specs.Prelude.{◌≡◌, ℕ, ◌+◌, ◌-◌, ◌≤◌, ◌<◌, ◌↔◌, ◌≢◌, true, false, IsTrue, IfSome, IfNone, IfOk, OnOk, OnErr};
+ghost use Rattle.civil_time.specs.LocalTime.{seconds};
+ghost use Rattle.court_days.specs.Civil.{IsEnteredDay, IsEnteredSpan};
 
 use crate::day_set::DaySet;
+use crate::span_set::{Span, SpanSet};
 use civil_time::Day;
 use std::alloc::{AllocFailed, Global};
 use std::marker::Model;
@@ -13,6 +15,12 @@ const FIRST_ENTERED_DAY: u32 = 10_957;
 
 /// 2099-12-31, the last day that a court may enter.
 const LAST_ENTERED_DAY: u32 = 47_481;
+
+/// 1999-12-31T00:00Z, the first instant at which an entered span may start.
+const FIRST_ENTERED_INSTANT: i64 = 946_598_400;
+
+/// 2100-01-02T00:00Z, the last instant at which an entered span may end.
+const LAST_ENTERED_INSTANT: i64 = 4_102_531_200;
 
 /// How many rows a calendar holds at most.
 const MAX_ROWS: usize = 4000;
@@ -35,8 +43,9 @@ pub enum DayKind {
     Closed,
 }
 
-/// Why a day was not entered: it is not one of 2000-01-01 to 2099-12-31, the calendar holds 4,000
-/// rows already, or memory ran out.
+/// Why a day or a span was not entered: the day is not one of 2000-01-01 to 2099-12-31, or the span
+/// is empty or not within 1999-12-31T00:00Z to 2100-01-02T00:00Z; the calendar holds 4,000 rows
+/// already; or memory ran out.
 #[derive(Clone, Copy, Debug, PartialEq, Eq, Hash)]
 pub enum CalendarFault {
     OutOfRange,
@@ -44,13 +53,14 @@ pub enum CalendarFault {
     NoMemory,
 }
 
-/// The days that a court has entered, each once under a kind: at most 4,000 rows of 2000-01-01 to
-/// 2099-12-31.
+/// What a court has entered: days of 2000-01-01 to 2099-12-31, each once under a kind, and spans of
+/// time in which the clerk's office was closed, each once. Together they are at most 4,000 rows.
 #[derive(Debug, Drop)]
 pub struct Calendar {
     federal: DaySet,
     state: DaySet,
     closed: DaySet,
+    spans: SpanSet,
 }
 
 impl Model for Calendar {
@@ -85,11 +95,26 @@ pub fn is_entered(day: Day) -> bool
     (FIRST_ENTERED_DAY..=LAST_ENTERED_DAY).contains(&day.epoch_day())
 }
 
-impl Calendar {
-    ghost use Rattle.court_days.specs.Civil.{IsEnteredDay};
-    ghost use Rattle.court_days.specs.Calendar.{Holds, no_days, with_day, rows_of, IsWithinLimits};
+/// The span from `start` up to but not with `end`, if a court may enter it.
+fn entered_span(start: i64, end: i64) -> Option<Span>
+    ensures some { IfSome result (λ span. IsEnteredSpan (seconds start) (seconds end)
+        × (span ≡ record { start = seconds start; end = seconds end })) }
+    ensures none { IfNone result (¬ (IsEnteredSpan (seconds start) (seconds end))) }
+{
+    if start < FIRST_ENTERED_INSTANT || end > LAST_ENTERED_INSTANT || start >= end {
+        return None;
+    }
+    Some(Span {
+        start: start as u64,
+        end: end as u64,
+    })
+}
 
-    /// A calendar with no day entered. It takes no memory yet.
+impl Calendar {
+    ghost use Rattle.court_days.specs.Calendar.{Holds, HoldsSpan, no_days, with_day, with_span, rows_of, IsWithinLimits};
+    ghost use Rattle.court_days.specs.Spans.{Meets};
+
+    /// A calendar in which nothing is entered. It takes no memory yet.
     pub fn new(alloc: Global) -> Self
         ensures { result ≡ no_days }
     {
@@ -97,16 +122,17 @@ impl Calendar {
             federal: DaySet::new(alloc),
             state: DaySet::new(alloc),
             closed: DaySet::new(alloc),
+            spans: SpanSet::new(alloc),
         }
     }
 
-    /// How many rows stand: at most 4,000.
+    /// How many rows stand, days and spans: at most 4,000.
     pub fn len(&self) -> usize
         ensures value { result ≡ rows_of self.now }
         ensures limits { IsWithinLimits self.now }
         ensures room { rows_of self.now ≤ 4000 }
     {
-        self.federal.len() + self.state.len() + self.closed.len()
+        self.federal.len() + self.state.len() + self.closed.len() + self.spans.len()
     }
 
     /// Whether no row stands.
@@ -163,5 +189,62 @@ impl Calendar {
             DayKind::Closed => self.closed.insert(day)?,
         }
         Ok(true)
+    }
+    /// Whether the span from `start` up to but not with `end` stands, both in seconds since
+    /// 1970-01-01T00:00Z.
+    pub fn holds_span(&self, start: i64, end: i64) -> bool
+        ensures means { IsTrue result ↔ HoldsSpan self.now (seconds start) (seconds end) }
+        ensures limits { IsWithinLimits self.now }
+    {
+        let spans = &self.spans;
+        match entered_span(start, end) {
+            Some(span) => spans.contains(span),
+            None => false,
+        }
+    }
+
+    /// Enters a span of time in which the clerk's office was closed, from `start` up to but not with
+    /// `end`, both in seconds since 1970-01-01T00:00Z. It counts for periods of hours alone. `true`:
+    /// it is new; `false`: it stood already, and nothing changed. After an error the calendar is as
+    /// it was.
+    pub fn add_span(&mut self, start: i64, end: i64) -> Result<bool, CalendarFault>
+        // The faults, in the order in which they are looked for.
+        ensures out_of_range { (result ≡ Err CalendarFault.OutOfRange)
+            ↔ ¬ (IsEnteredSpan (seconds start) (seconds end)) }
+        ensures full { (result ≡ Err CalendarFault.Full)
+            ↔ (IsEnteredSpan (seconds start) (seconds end)
+            × ¬ (HoldsSpan self.old (seconds start) (seconds end)) × (rows_of self.old ≡ 4000)) }
+        ensures err { OnErr result (self.new ≡ self.old) }
+
+        // What stands already stays, and what is new is entered.
+        ensures stood { (result ≡ Ok false)
+            ↔ (IsEnteredSpan (seconds start) (seconds end) × HoldsSpan self.old (seconds start) (seconds end)) }
+        ensures kept { result ≡ Ok false → self.new ≡ self.old }
+        ensures entered { result ≡ Ok true → self.new ≡ with_span self.old (seconds start) (seconds end) }
+
+        // The calendar is within its limits, before and after.
+        ensures limits { IsWithinLimits self.old × IsWithinLimits self.new }
+        ensures room { (rows_of self.old ≤ 4000) × (rows_of self.new ≤ 4000) }
+    {
+        let rows = self.len();
+        let Some(span) = entered_span(start, end) else {
+            return Err(CalendarFault::OutOfRange);
+        };
+        if self.spans.contains(span) {
+            return Ok(false);
+        }
+        if rows >= MAX_ROWS {
+            return Err(CalendarFault::Full);
+        }
+        self.spans.insert(span)?;
+        Ok(true)
+    }
+
+    /// Whether an entered span has an instant from `start` up to but not with `end`.
+    pub(crate) fn is_closed_between(&self, start: u64, end: u64) -> bool
+        ensures means { IsTrue result ↔ Meets self.now.spans start end }
+        ensures limits { IsWithinLimits self.now }
+    {
+        self.spans.meets(start, end)
     }
 }

@@ -1,12 +1,17 @@
 //! What the tests and the ends of specs/ say, with nothing to run.
-ghost use Rattle.std.specs.Prelude.{◌≡◌, ◌↔◌, ℕ, ◌+◌, ◌*◌, ◌≤◌, max, true};
+ghost use Rattle.std.specs.Prelude.{◌≡◌, ◌↔◌, ℕ, ◌+◌, ◌-◌, ◌*◌, ◌≤◌, max, true};
 ghost use Rattle.civil_time.specs.Civil.{IsDayNumber};
-ghost use Rattle.court_days.specs.Civil.{IsEnteredDay};
-ghost use Rattle.court_days.specs.Calendar.{Entered, no_days, with_day, IsWithinLimits};
+ghost use Rattle.civil_time.specs.LocalTime.{local_day, IsInstant};
+ghost use Rattle.civil_time.specs.Zone.{ZoneRules, IsZone};
+ghost use Rattle.court_days.specs.Civil.{IsEnteredDay, IsEnteredSpan};
+ghost use Rattle.court_days.specs.Calendar.{Entered, no_days, with_day, with_span, IsWithinLimits};
+ghost use Rattle.court_days.specs.Court.{CourtSettings, zone_of};
 ghost use Rattle.court_days.specs.Holiday.{IsStatutory, is_statutory};
 ghost use Rattle.court_days.specs.Legal.{IsLegalHoliday, is_legal_holiday, IsBusinessDay, is_business_day, IsOpen, is_open, IsOpenBusinessDay, is_open_business_day};
 ghost use Rattle.court_days.specs.Period.{IsEndOfDays, IsEndOfMonths, IsTrigger};
 ghost use Rattle.court_days.specs.Ends.{end_of_days, end_of_months};
+ghost use Rattle.court_days.specs.Hours.{IsAccessible, IsEndOfHours, IsNearEntered};
+ghost use Rattle.court_days.specs.HourEnds.{is_accessible, end_of_hours};
 ghost use Rattle.court_days.specs.declared.calendar.Direction.{Direction};
 ghost use Rattle.court_days.specs.declared.calendar.DayKind.{DayKind};
 
@@ -42,9 +47,33 @@ pub fn ends_of_months_are_found()
         → end_of_months entered direction trigger months ≤ max (trigger + 31 * months) 47_482 + 7 }
 {}
 
-/// Days that a court may enter keep a calendar within its limits.
+/// So has a period of hours; the test of an hour says whether the clerk's office was accessible; and
+/// the local days of the ends lie near.
+pub fn ends_of_hours_are_found()
+    ensures one { (entered : Entered) (zone : ZoneRules) (direction : Direction) (start hours end : ℕ)
+        → IsWithinLimits entered → IsZone zone → IsEnteredDay (local_day zone start) → hours ≤ 8760
+        → IsEndOfHours entered zone direction start hours end
+        ↔ (end ≡ end_of_hours entered zone direction start hours) }
+    ensures near { (entered : Entered) (zone : ZoneRules) (direction : Direction) (start hours : ℕ)
+        → IsWithinLimits entered → IsZone zone → IsEnteredDay (local_day zone start) → hours ≤ 8760
+        → IsNearEntered (end_of_hours entered zone direction start hours) }
+    ensures accessible { (entered : Entered) (zone : ZoneRules) (end : ℕ)
+        → IsWithinLimits entered → IsZone zone → IsInstant (end - 3600) → IsInstant end
+        → (is_accessible entered zone end ≡ true) ↔ IsAccessible entered zone end }
+    ensures day { (zone : ZoneRules) (instant : ℕ) → IsZone zone → IsNearEntered instant
+        → (10_578 ≤ local_day zone instant) × (local_day zone instant ≤ 47_871) }
+{}
+
+/// The zone of each court is within its limits.
+pub fn courts_have_zones()
+    ensures { (court : CourtSettings) → IsZone (zone_of court) }
+{}
+
+/// Days and spans that a court may enter keep a calendar within its limits.
 pub fn limits_are_kept()
     ensures none { IsWithinLimits no_days }
     ensures with_day { (entered : Entered) (kind : DayKind) (day : ℕ)
         → IsWithinLimits entered → IsEnteredDay day → IsWithinLimits (with_day entered kind day) }
+    ensures with_span { (entered : Entered) (start end : ℕ)
+        → IsWithinLimits entered → IsEnteredSpan start end → IsWithinLimits (with_span entered start end) }
 {}

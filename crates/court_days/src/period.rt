@@ -1,5 +1,5 @@
 //! The ends of periods (Fed. R. Civ. P. 6(a), 6(d)).
-ghost use Rattle.std.specs.Prelude.{◌≡◌, ℕ, ◌+◌, ◌-◌, ◌*◌, ◌≤◌, max, IsTrue};
+ghost use Rattle.std.specs.Prelude.{◌≡◌, ℕ, ◌+◌, ◌-◌, ◌*◌, ◌≤◌, max, min, IsTrue};
 ghost use Rattle.civil_time.specs.Months.{IsMonthsAfter};
 ghost use Rattle.court_days.specs.Calendar.{IsWithinLimits};
 ghost use Rattle.court_days.specs.Legal.{IsBusinessDay, IsOpenBusinessDay};
@@ -27,9 +27,10 @@ fn first_open(calendar: &Calendar, direction: Direction, start: Day) -> Day
 }
 
 /// The last business day up to `start`, for a period that is counted backward.
-fn last_business(calendar: &Calendar, start: Day) -> Day
+pub(crate) fn last_business(calendar: &Calendar, start: Day) -> Day
     requires { 7_000 ≤ start }
     ensures last { IsLastUpTo (IsBusinessDay calendar.now Direction.Backward) start result }
+    ensures near { min start 10_956 ≤ result + 7 }
     ensures limits { IsWithinLimits calendar.now }
 {
     let mut day = start;

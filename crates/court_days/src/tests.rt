@@ -190,3 +190,25 @@ fn entered_days(rt: HostRuntime) -> Result<(), Fail> {
     assert!(rt; calendar.len() == 3 && !calendar.is_empty());
     Ok(())
 }
+
+#[test]
+fn entered_spans(rt: HostRuntime) -> Result<(), Fail> {
+    let mut calendar = Calendar::new(rt.alloc());
+    let out_of_range = Err(CalendarFault::OutOfRange);
+    let rows: [(i64, i64, Result<bool, CalendarFault>); 8] = [
+        (1_750_705_200, 1_750_708_800, Ok(true)),
+        (1_750_705_200, 1_750_708_800, Ok(false)),
+        (1_750_705_200, 1_750_708_801, Ok(true)),
+        (946_598_400, 4_102_531_200, Ok(true)),
+        (946_598_399, 4_102_531_200, out_of_range),
+        (946_598_400, 4_102_531_201, out_of_range),
+        (1_750_705_200, 1_750_705_200, out_of_range),
+        (-1, 1_750_705_200, out_of_range),
+    ];
+    for (start, end, entered) in rows {
+        assert!(rt; calendar.add_span(start, end) == entered);
+        assert!(rt; calendar.holds_span(start, end) == entered.is_ok());
+    }
+    assert!(rt; calendar.len() == 3);
+    Ok(())
+}

@@ -24,20 +24,27 @@ fn command<'a>(alloc: Global) -> Result<Command<'a>, AllocError> {
 }
 
 const COUNT_HELP: &str = "\
-Each line is answered by one line:
-  federal DAY     enter a legal holiday declared by the President or Congress
-  state DAY       enter a holiday declared by the state, for periods counted forward
-  closed DAY      enter a day on which the clerk's office is inaccessible
-  forward DAY N   the last day of a period of N days after DAY
-  backward DAY N  the last day of a period of N days before DAY
+Each line is answered by one line. Lines that enter something answer `ok`:
+  federal DAY     a legal holiday declared by the President or Congress
+  state DAY       a holiday declared by the state, for periods counted forward
+  closed DAY      a day on which the clerk's office is inaccessible
+  span MOMENT MOMENT
+                  a time in which it is, for periods of hours
+  zone ZONE HH:MM the court's zone and closing time; UTC0 17:00 before
+Lines that ask answer the end of a period:
+  forward DAY N, backward DAY N
+                  of N days after or before DAY
   months forward DAY N, months backward DAY N
-                  the last day of a period of N months after or before DAY
+                  of N months
+  hours forward MOMENT N, hours backward MOMENT N
+                  of N hours, as a moment in the court's zone
   rule NAME DAY METHOD
-                  the last day of the time that a rule sets, as 12(a)(1)(B), from DAY, for a
-                  party served by METHOD: A to F of Rule 5(b)(2), rule4 or none
-DAY is YYYY-MM-DD from 2000-01-01 to 2099-12-31, N is 1 to 3650 days or 1 to 120 months. A
-day that is entered answers `ok`, or `full` where 4,000 stand already; an empty line answers
-an empty line, and any other line `bad`.
+                  of the time that a rule sets, as 12(a)(1)(B), from DAY, for a party served
+                  by METHOD: A to F of Rule 5(b)(2), rule4 or none
+DAY is YYYY-MM-DD from 2000-01-01 to 2099-12-31, MOMENT is YYYY-MM-DDTHH:MM+HH:00, ZONE is as
+EST5EDT,M3.2.0,M11.1.0, and N is 1 to 3650 days, 120 months or 8760 hours. What would be new
+where 4,000 days and spans stand answers `full`, an empty line an empty line, and any other
+line `bad`.
 
 Exit status: 0 all lines were answered, 1 one of them with `bad` or `full`, 2 bad command
 line, 3 reading, writing or memory failed.";

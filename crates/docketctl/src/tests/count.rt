@@ -9,7 +9,7 @@ use std::test::Fail;
 const MANY: u32 = 1_000_000;
 
 /// Lines and their answers, each from an empty calendar.
-const ROWS: [(&str, &str); 24] = [
+const ROWS: [(&str, &str); 35] = [
     ("forward 2007-08-02 30\n", "2007-09-04\n"),
     ("backward 2007-09-22 21\n", "2007-08-31\n"),
     (
@@ -61,6 +61,47 @@ const ROWS: [(&str, &str); 24] = [
     (
         "rule order 2025-12-12 none\nrule 59(e) 2025-12-12 G\nmonths forward 2025-12-12 121\n",
         "bad\nbad\nbad\n",
+    ),
+    (
+        "zone EST5EDT,M3.2.0,M11.1.0 17:00\nhours forward 2007-11-02T10:23-04:00 72\n",
+        "ok\n2007-11-05T09:23-05:00\n",
+    ),
+    (
+        "zone EST5EDT,M3.2.0,M11.1.0 17:00\nhours forward 2025-06-20T15:30-04:00 48\n",
+        "ok\n2025-06-23T15:30-04:00\n",
+    ),
+    (
+        "zone EST5EDT,M3.2.0,M11.1.0 17:00\nspan 2025-06-23T15:00-04:00 2025-06-23T16:00-04:00\nhours forward 2025-06-20T15:30-04:00 48\n",
+        "ok\nok\n2025-06-24T15:30-04:00\n",
+    ),
+    (
+        "zone EST5EDT,M3.2.0,M11.1.0 17:00\nhours forward 2025-03-08T09:00-05:00 24\n",
+        "ok\n2025-03-10T10:00-04:00\n",
+    ),
+    (
+        "zone AST5ADT,M3.2.3,M11.1.3 17:00\nclosed 2025-03-11\nhours forward 2025-03-10T02:30-05:00 24\n",
+        "ok\nok\n2025-03-12T03:30-04:00\n",
+    ),
+    ("zone EST5EDT 17:00\nzone UTC0 24:00\n", "bad\nbad\n"),
+    (
+        "zone EST5EDT,M3.2.0,M11.1.0 17:00\nhours forward 2025-06-20T00:00-04:00 24\n",
+        "ok\n2025-06-23T00:00-04:00\n",
+    ),
+    (
+        "zone EST5EDT,M3.2.0,M11.1.0 17:00\nhours backward 2025-07-07T10:00-04:00 24\nclosed 2025-07-03\nhours backward 2025-07-07T10:00-04:00 24\n",
+        "ok\n2025-07-03T10:00-04:00\nok\n2025-07-07T10:00-04:00\n",
+    ),
+    (
+        "zone AST5ADT,M3.2.3,M11.1.3 17:00\nclosed 2025-11-04\nhours forward 2025-11-03T01:30-04:00 24\n",
+        "ok\nok\n2025-11-05T01:30-04:00\n",
+    ),
+    (
+        "hours forward 1999-12-31T23:59+00:00 1\nhours forward 2000-01-01T00:00+00:00 8761\n",
+        "bad\nbad\n",
+    ),
+    (
+        "span 2025-06-23T16:00+00:00 2025-06-23T16:00+00:00\nhours forward 2025-06-23T16:00+00:00 0\n",
+        "bad\nbad\n",
     ),
     ("closed 2007-08-31\nclosed 2007-08-31\n", "ok\nok\n"),
     ("\n\r\n", "\n\n"),

@@ -27,3 +27,6 @@ loop-day-preserved c =
         | inr le ↦ let e : day ≡ other = omega arith in subst P e here
       ];
     }
+
+pub returns-clause-near : goal.returns-clause-near
+returns-clause-near c = omega (arith, c.loop-day.invariant.near, tuesday_before_is (min c.args.start 10_956) (omega arith))
