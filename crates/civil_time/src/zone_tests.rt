@@ -1,4 +1,6 @@
 use crate::*;
+use jiff::Timestamp;
+use jiff::tz::TimeZone;
 use std::test::Fail;
 
 const EASTERN: &[u8] = b"EST5EDT,M3.2.0,M11.1.0";
@@ -29,6 +31,81 @@ fn clock_changes(rt: HostRuntime) -> Result<(), Fail> {
         assert_eq!(rt; read_moment(text.as_bytes()), Some(at - at % 60));
     }
     Ok(())
+}
+
+/// The clock changes of 2000, 2025, 2099 and 3998, in three zones.
+const CHANGES: [(&str, [u64; 8]); 3] = [
+    (
+        "EST5EDT,M3.2.0,M11.1.0",
+        [
+            952_844_400,
+            973_404_000,
+            1_741_503_600,
+            1_762_063_200,
+            4_076_636_400,
+            4_097_196_000,
+            64_003_244_400,
+            64_023_804_000,
+        ],
+    ),
+    (
+        "AST5ADT,M3.2.3,M11.1.3",
+        [
+            952_498_800,
+            973_058_400,
+            1_741_762_800,
+            1_762_322_400,
+            4_076_895_600,
+            4_097_455_200,
+            64_003_503_600,
+            64_024_063_200,
+        ],
+    ),
+    (
+        "NZST-12NZDT,M9.5.0,M4.1.0",
+        [
+            969_717_600,
+            954_594_000,
+            1_758_981_600,
+            1_743_858_000,
+            4_094_114_400,
+            4_078_990_800,
+            64_020_722_400,
+            64_005_598_800,
+        ],
+    ),
+];
+
+/// Our zones beside jiff's own, a second before each clock change and at it.
+#[test]
+fn zones_agree(rt: HostRuntime) -> Result<(), Fail> {
+    for (text, changes) in CHANGES {
+        let ours = read_zone(text.as_bytes()).ok_or("no zone")?;
+        let theirs = TimeZone::posix(text)?;
+        for change in changes {
+            assert!(rt; change > 315_705_600 && change <= 64_060_329_600);
+            let before = ours.offset_in_force(change - 1);
+            let after = ours.offset_in_force(change);
+            assert_eq!(rt;
+                jiff_hours(&theirs, change - 1)?,
+                before,
+                "before {change} in {text}"
+            );
+            assert_eq!(rt;
+                jiff_hours(&theirs, change)?,
+                after,
+                "at {change} in {text}"
+            );
+            assert!(rt; before != after, "at {change} in {text}");
+        }
+    }
+    Ok(())
+}
+
+/// The hours that jiff's clock is ahead of Greenwich at the instant.
+fn jiff_hours(zone: &TimeZone, at: u64) -> Result<i64, Fail> {
+    let instant = Timestamp::from_second(i64::try_from(at)?)?;
+    Ok(i64::from(zone.to_offset(instant).seconds() / 3600))
 }
 
 /// Local times of one day, in a gap, in a fold and beside them, and their instants.
