@@ -1,4 +1,6 @@
+pub mod Acts
 pub mod Ends
 pub mod Methods
 pub mod Rows
 pub mod Rules
+pub mod Standings

@@ -1,5 +1,5 @@
 //! The last day of the time that a rule sets.
-ghost use Rattle.std.specs.Prelude.{◌≡◌, ◌≤◌, ◌↔◌, IfSome, IsNone};
+ghost use Rattle.std.specs.Prelude.{◌≡◌, ◌+◌, ◌≤◌, max, ◌↔◌, IfSome, IsNone};
 ghost use Rattle.court_days.specs.Civil.{IsEnteredDay};
 ghost use Rattle.court_rules.specs.Rules.{IsPeriod};
 ghost use Rattle.court_rules.specs.Ends.{IsEndOfPeriod, IsEndAfterService, IsEndByRule, end_of_period, end_after_service, end_by_rule};
@@ -10,12 +10,12 @@ use crate::table::Period;
 use court_days::{Calendar, Day, Direction, add_three, count_days, count_months};
 
 /// The end of a period from the trigger (Fed. R. Civ. P. 6(a)).
-fn end_of_period(calendar: &Calendar, direction: Direction, trigger: Day, period: Period) -> Day
+pub(crate) fn end_of_period(calendar: &Calendar, direction: Direction, trigger: Day, period: Period) -> Day
     requires trigger { IsEnteredDay trigger }
     requires period { IsPeriod period }
     ensures value { result ≡ end_of_period calendar.now direction trigger period }
     ensures means { IsEndOfPeriod calendar.now direction trigger period result }
-    ensures near { result ≤ 705_282 }
+    ensures near { result ≤ 51_208 }
 {
     match period {
         Period::Days(count) => count_days(calendar, direction, trigger, count),
@@ -25,10 +25,11 @@ fn end_of_period(calendar: &Calendar, direction: Direction, trigger: Day, period
 
 /// The end of a period, with the three days that service adds, if it does
 /// (Fed. R. Civ. P. 6(d)).
-fn end_after_service(calendar: &Calendar, three: bool, end: Day) -> Day
+pub(crate) fn end_after_service(calendar: &Calendar, three: bool, end: Day) -> Day
     requires end { end ≤ 705_282 }
     ensures value { result ≡ end_after_service calendar.now three end }
     ensures means { IsEndAfterService calendar.now three end result }
+    ensures near { result ≤ max (end + 3) 47_482 + 7 }
 {
     if three { add_three(calendar, end) } else { end }
 }
