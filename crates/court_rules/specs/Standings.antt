@@ -1,5 +1,5 @@
 -- Where a deadline stands, and until when.
-use Rattle.std.specs.Prelude.{◌≡◌, ℕ, ◌+◌, ◌*◌, ◌≤◌, Bool, true, List, [], ◌∷◌, ℤ, pos}
+use Rattle.std.specs.Prelude.{◌≡◌, ℕ, ◌+◌, ◌*◌, ◌≤◌, Bool, true, is_some, List, [], ◌∷◌, pos}
 use Rattle.std.specs.List.{list_all}
 use Rattle.civil_time.specs.LocalTime.{local_day, seconds}
 use Rattle.civil_time.specs.Zone.{ZoneRules}
@@ -16,7 +16,9 @@ use Rattle.court_rules.specs.declared.act.Start.{Start}
 use Rattle.court_rules.specs.declared.act.Start.TheVariants as start
 use Rattle.court_rules.specs.declared.act.Standing.{Standing}
 use Rattle.court_rules.specs.declared.act.Standing.TheVariants.{Running, Suspended, Awaiting, Done, Vacated}
-use Rattle.court_rules.specs.Acts.{is_entered_day, acts_ok}
+use Rattle.court_rules.specs.declared.order.Phase.{Phase}
+use Rattle.court_rules.specs.declared.order.Phase.TheVariants as phase
+use Rattle.court_rules.specs.Acts.{is_entered_day, phase_after, acts_ok}
 use Rattle.court_rules.specs.Ends.{end_of_period, end_after_service}
 
 -- the end of a period (Fed. R. Civ. P. 6(a)(1), (2)), with the three days that service adds, if it does (6(d))
@@ -82,3 +84,19 @@ IsEndAfter count (Moment at) = IsNearEntered (seconds at)
 abbrev pub StandsAfter : ℕ → Standing → Type 0
 StandsAfter count (Running end) = IsEndAfter count end
 StandsAfter count _ = Unit {0}
+
+-- the phase of a standing, in the table of lawful orders
+abbrev pub phase_of : Standing → Phase
+phase_of (Running end) = phase.Running
+phase_of Suspended = phase.Suspended
+phase_of Awaiting = phase.Awaiting
+phase_of Done = phase.Ended
+phase_of Vacated = phase.Ended
+
+-- the act may come where the deadline stands so
+abbrev pub may_come : Standing → Act → Bool
+may_come standing act = is_some (phase_after (phase_of standing) act)
+
+-- the act may be the first of a deadline
+abbrev pub may_begin : Act → Bool
+may_begin act = is_some (phase_after phase.Unmade act)

@@ -10,7 +10,12 @@ use crate::table::Period;
 use court_days::{Calendar, Day, Direction, add_three, count_days, count_months};
 
 /// The end of a period from the trigger (Fed. R. Civ. P. 6(a)).
-pub(crate) fn end_of_period(calendar: &Calendar, direction: Direction, trigger: Day, period: Period) -> Day
+pub(crate) fn end_of_period(
+    calendar: &Calendar,
+    direction: Direction,
+    trigger: Day,
+    period: Period,
+) -> Day
     requires trigger { IsEnteredDay trigger }
     requires period { IsPeriod period }
     ensures value { result ≡ end_of_period calendar.now direction trigger period }

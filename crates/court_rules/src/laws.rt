@@ -1,9 +1,16 @@
-//! What the names of specs/ say, with nothing to run.
-ghost use Rattle.std.specs.Prelude.{◌≡◌, List, ℕ, Some};
+//! What the names and the chains of acts of specs/ say, with nothing to run.
+ghost use Rattle.std.specs.Prelude.{◌≡◌, ◌<◌, List, [], ◌∷◌, ◌++◌, length, ℕ, true, Some};
 ghost use Rattle.court_rules.specs.Methods.{method_name, method_named};
+ghost use Rattle.civil_time.specs.Zone.{ZoneRules};
+ghost use Rattle.court_days.specs.Calendar.{Entered};
+ghost use Rattle.court_rules.specs.Acts.{is_within, phase_through, acts_ok};
+ghost use Rattle.court_rules.specs.Standings.{begins_on_entered_day, AreActs, standing, standing_after, phase_of, may_come, may_begin};
 ghost use Rattle.court_rules.specs.Rules.{name_of, rule_named};
+ghost use Rattle.court_rules.specs.declared.act.Act.{Act};
 ghost use Rattle.court_rules.specs.declared.method.Method.{Method};
 ghost use Rattle.court_rules.specs.declared.rule.Rule.{Rule};
+
+use crate::order::Phase;
 
 /// The name of a rule names it and no other rule.
 pub fn rule_names_read_back()
@@ -18,4 +25,21 @@ pub fn method_names_read_back()
     ensures name { (text : List ℕ) (method : Method)
         → method_named text ≡ Some method → method_name method ≡ text }
     ensures distinct { (method other : Method) → method_name method ≡ method_name other → method ≡ other }
+{}
+
+/// Where a deadline stands is a matter of its last act and of where it stood before it; the table of
+/// lawful orders tells where; and an act that may come there makes of lawful acts lawful acts.
+pub fn acts_go_on()
+    ensures step { (zone : ZoneRules) (entered : Entered) (acts : List Act) (act : Act)
+        → standing zone entered (acts ++ act ∷ []) ≡ standing_after zone entered (standing zone entered acts) act }
+    ensures table { (zone : ZoneRules) (entered : Entered) (acts : List Act) → acts_ok acts ≡ true
+        → phase_through Phase.Unmade acts ≡ Some (phase_of (standing zone entered acts)) }
+    ensures first { (zone : ZoneRules) (act : Act)
+        → is_within act ≡ true → begins_on_entered_day zone act ≡ true → may_begin act ≡ true
+        → AreActs zone (act ∷ []) }
+    ensures next { (zone : ZoneRules) (entered : Entered) (acts : List Act) (act : Act)
+        → AreActs zone acts → length acts < 100
+        → is_within act ≡ true → begins_on_entered_day zone act ≡ true
+        → may_come (standing zone entered acts) act ≡ true
+        → AreActs zone (acts ++ act ∷ []) }
 {}

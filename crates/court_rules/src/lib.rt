@@ -2,6 +2,8 @@
 #![tactic(auto)]
 
 mod act;
+#[cfg(test)]
+mod chain_tests;
 mod end;
 mod laws;
 mod method;
@@ -13,7 +15,7 @@ mod table;
 mod tests;
 
 pub use act::{Act, DayPeriod, HourPeriod, MotionKind, Standing, Start};
-pub use laws::{method_names_read_back, rule_names_read_back};
+pub use laws::{acts_go_on, method_names_read_back, rule_names_read_back};
 pub use method::Method;
 pub use order::acts_ok;
 pub use rule::Rule;

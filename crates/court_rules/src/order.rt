@@ -1,5 +1,6 @@
 //! The order in which the acts of a deadline may come.
 ghost use Rattle.std.specs.Prelude.{◌≡◌};
+ghost use Rattle.std.specs.List.{list_all};
 ghost use Rattle.court_rules.specs.Acts.{is_entered_day, is_instant, is_period, is_forward, is_start, is_within, phase_after, phase_through, acts_ok};
 
 use crate::act::{Act, Start};
@@ -81,6 +82,13 @@ fn is_within(act: Act) -> bool
     }
 }
 
+/// Whether what each act holds is within its limits.
+fn are_within(acts: &[Act]) -> bool
+    ensures { result ≡ list_all is_within acts.now }
+{
+    acts.iter().all(|act| is_within(*act))
+}
+
 /// Where a deadline stands after the act; None where the act may not come.
 fn phase_after(phase: Phase, act: Act) -> Option<Phase>
     ensures { result ≡ phase_after phase act }
@@ -92,10 +100,8 @@ fn phase_after(phase: Phase, act: Act) -> Option<Phase>
         (Phase::Suspended, Act::Fixed(_) | Act::Resume(_, _)) => Some(Phase::Running),
         (Phase::Suspended, Act::AwaitStatement(_)) => Some(Phase::Awaiting),
         (Phase::Awaiting, Act::Resume(_, _)) => Some(Phase::Running),
-        (
-            Phase::Running | Phase::Suspended | Phase::Awaiting,
-            Act::Done(_, _) | Act::Vacated,
-        ) => Some(Phase::Ended),
+        (Phase::Running | Phase::Suspended | Phase::Awaiting, Act::Done(_, _) | Act::Vacated) =>
+            Some(Phase::Ended),
         _ => None,
     }
 }
@@ -116,7 +122,5 @@ fn phase_through(acts: &[Act]) -> Option<Phase>
 pub fn acts_ok(acts: &[Act]) -> bool
     ensures { result ≡ acts_ok acts.now }
 {
-    (1..=MOST_ACTS).contains(&acts.len())
-        && acts.iter().all(|act| is_within(*act))
-        && phase_through(acts).is_some()
+    (1..=MOST_ACTS).contains(&acts.len()) && are_within(acts) && phase_through(acts).is_some()
 }

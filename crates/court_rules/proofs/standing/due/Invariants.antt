@@ -7,5 +7,5 @@ use Rattle.court_rules.proofs.standing.due.Given as goal
 abbrev pub invariant-loop-act : goal.invariant-loop-act
 invariant-loop-act l =
     (standing_through (zone_of l.court) l.calendar l.standing (drop l.act-index l.acts)
-     ≡ standing (zone_of l.court) l.calendar l.acts)
+    ≡ standing (zone_of l.court) l.calendar l.acts)
     × StandsAfter l.act-index l.standing

@@ -1,0 +1,171 @@
+//! Chains of acts, in a court of Eastern time; their ends are counted by hand from the rules.
+ghost use Rattle.std.specs.Prelude.{◌≡◌, true, IsTrue};
+ghost use Rattle.std.specs.List.{list_all};
+ghost use Rattle.court_days.specs.Court.{zone_of};
+ghost use Rattle.court_rules.specs.Standings.{begins_on_entered_day, standing};
+
+use crate::*;
+use court_days::{
+    Calendar, Court, Day, DayKind, Direction, End, Way, is_entered, read_day, read_moment,
+};
+use std::alloc::Global;
+use std::test::Fail;
+
+const EASTERN: &str = "EST5EDT,M3.2.0,M11.1.0";
+
+fn day(text: &[u8]) -> Result<Day, Fail> {
+    let day = read_day(text).ok_or("no day")?;
+    Ok(day)
+}
+
+fn moment(text: &[u8]) -> Result<i64, Fail> {
+    let at = read_moment(text).ok_or("no moment")?;
+    Ok(at)
+}
+
+/// A period of days without three days for service.
+fn start(trigger: &[u8], count: u32, direction: Direction) -> Result<Act, Fail> {
+    Ok(Act::Start(Start::Days(DayPeriod {
+        trigger: day(trigger)?,
+        period: Period::Days(count),
+        direction,
+        three_days: false,
+    })))
+}
+
+/// Whether a period of hours begins on a local day that a court may enter.
+fn begins_on_entered_day(court: &Court, act: Act) -> bool
+    ensures { IsTrue result → begins_on_entered_day (zone_of court.now) act ≡ true }
+{
+    match act {
+        Act::Start(Start::Hours(hours)) => {
+            (946_598_400..=4_102_531_200).contains(&hours.at) && is_entered(court.local(hours.at).0)
+        }
+        _ => true,
+    }
+}
+
+fn begin_on_entered_days(court: &Court, acts: &[Act]) -> bool
+    ensures { IsTrue result → list_all (begins_on_entered_day (zone_of court.now)) acts.now ≡ true }
+{
+    for act in acts {
+        if !begins_on_entered_day(court, *act) {
+            return false;
+        }
+    }
+    true
+}
+
+/// Where a deadline stands, if these may be its acts.
+fn standing(court: &Court, calendar: &Calendar, acts: &[Act]) -> Option<Standing> {
+    if acts_ok(acts) && begin_on_entered_days(court, acts) {
+        Some(due(court, calendar, acts))
+    } else {
+        None
+    }
+}
+
+fn runs_to(text: &[u8]) -> Result<Option<Standing>, Fail> {
+    Ok(Some(Standing::Running(End::LastDay(day(text)?))))
+}
+
+#[test]
+fn a_motion_for_a_more_definite_statement(rt: HostRuntime) -> Result<(), Fail> {
+    let court = Court::read(rt.alloc(), EASTERN, "17:00")?;
+    let calendar = Calendar::new(rt.alloc());
+    let acts = [
+        start(b"2025-06-13", 21, Direction::Forward)?,
+        Act::Motion(day(b"2025-07-01")?, MotionKind::E),
+        Act::AwaitStatement(day(b"2025-08-01")?),
+        Act::Resume(day(b"2025-08-15")?, true),
+    ];
+    assert!(rt; standing(&court, &calendar, &acts[..1]) == runs_to(b"2025-07-07")?);
+    assert!(rt; standing(&court, &calendar, &acts[..2]) == Some(Standing::Suspended));
+    assert!(rt; standing(&court, &calendar, &acts[..3]) == Some(Standing::Awaiting));
+    assert!(rt; standing(&court, &calendar, &acts) == runs_to(b"2025-09-02")?);
+    Ok(())
+}
+
+#[test]
+fn extensions(rt: HostRuntime) -> Result<(), Fail> {
+    let court = Court::read(rt.alloc(), EASTERN, "17:00")?;
+    let mut calendar = Calendar::new(rt.alloc());
+    let hours = Act::Start(Start::Hours(HourPeriod {
+        at: moment(b"2025-06-20T15:30-04:00")?,
+        hours: 48,
+        direction: Direction::Forward,
+    }));
+    let end = Standing::Running(End::Moment(moment(b"2025-06-23T15:30-04:00")?));
+    assert!(rt; standing(&court, &calendar, &[hours]) == Some(end));
+    assert!(rt; standing(&court, &calendar, &[hours, Act::ExtendBy(2)]) == runs_to(b"2025-06-25")?);
+
+    // A Saturday on which the office is closed.
+    calendar.add_day(DayKind::Closed, day(b"2025-08-30")?)?;
+    let fixed = Act::Fixed(day(b"2025-08-30")?);
+    assert!(rt; standing(&court, &calendar, &[fixed]) == runs_to(b"2025-08-30")?);
+    assert!(rt; standing(&court, &calendar, &[fixed, Act::ExtendBy(1)]) == runs_to(b"2025-09-02")?);
+    let extended = [
+        start(b"2025-06-13", 21, Direction::Forward)?,
+        Act::ExtendTo(day(b"2025-08-30")?),
+    ];
+    assert!(rt; standing(&court, &calendar, &extended) == runs_to(b"2025-08-30")?);
+
+    let back = start(b"2000-01-01", 3650, Direction::Backward)?;
+    assert!(rt; standing(&court, &calendar, &[back, Act::ExtendBy(10)]) == runs_to(b"1990-01-16")?);
+    Ok(())
+}
+
+#[test]
+fn ends_of_deadlines(rt: HostRuntime) -> Result<(), Fail> {
+    let court = Court::read(rt.alloc(), EASTERN, "17:00")?;
+    let calendar = Calendar::new(rt.alloc());
+    let first = start(b"2025-06-13", 21, Direction::Forward)?;
+    let done = Act::Done(moment(b"2025-07-07T23:59-04:00")?, Way::Electronic);
+    assert!(rt; standing(&court, &calendar, &[first, done]) == Some(Standing::Done));
+    assert!(rt; standing(&court, &calendar, &[first, Act::Vacated]) == Some(Standing::Vacated));
+    assert!(rt; !acts_ok(&[first, done, Act::Vacated]));
+    assert!(rt; !acts_ok(&[first, first]));
+    assert!(rt; !acts_ok(&[done]));
+    assert!(rt; !acts_ok(&[]));
+    Ok(())
+}
+
+#[test]
+fn motions(rt: HostRuntime) -> Result<(), Fail> {
+    let first = start(b"2025-06-13", 21, Direction::Forward)?;
+    let motion = Act::Motion(day(b"2025-07-01")?, MotionKind::B);
+    let fixed = Act::Fixed(day(b"2025-09-01")?);
+    let resume = Act::Resume(day(b"2025-08-15")?, false);
+    assert!(rt; !acts_ok(&[first, motion, motion]));
+    assert!(rt; acts_ok(&[first, motion, fixed]));
+    assert!(rt; acts_ok(&[first, motion, resume, motion]));
+    assert!(rt; !acts_ok(&[first, fixed]));
+    assert!(rt; !acts_ok(&[first, resume]));
+    assert!(rt; !acts_ok(&[first, motion, Act::ExtendBy(1)]));
+    Ok(())
+}
+
+#[test]
+fn limits(rt: HostRuntime) -> Result<(), Fail> {
+    let first = start(b"2025-06-13", 21, Direction::Forward)?;
+    let mut acts = [Act::ExtendBy(1); 101];
+    acts[0] = first;
+    acts[100] = Act::Vacated;
+    assert!(rt; !acts_ok(&acts));
+    acts[99] = Act::Vacated;
+    assert!(rt; acts_ok(&acts[..100]));
+
+    assert!(rt; !acts_ok(&[first, Act::ExtendBy(0)]));
+    assert!(rt; !acts_ok(&[first, Act::ExtendBy(3651)]));
+    assert!(rt; !acts_ok(&[Act::Fixed(day(b"1999-12-31")?)]));
+    assert!(rt; !acts_ok(&[start(b"2100-01-01", 1, Direction::Forward)?]));
+    assert!(rt; !acts_ok(&[first, Act::Done(946_598_399, Way::Office)]));
+    let served_backward = Act::Start(Start::Days(DayPeriod {
+        trigger: day(b"2025-12-12")?,
+        period: Period::Months(120),
+        direction: Direction::Backward,
+        three_days: true,
+    }));
+    assert!(rt; !acts_ok(&[served_backward]));
+    Ok(())
+}
