@@ -13,7 +13,7 @@ use Rattle.court_rules.specs.declared.act.Standing.TheVariants.{Running, Vacated
 use Rattle.court_rules.specs.declared.order.Phase.{Phase}
 use Rattle.court_rules.specs.declared.order.Phase.TheVariants as phase
 use Rattle.court_rules.specs.Acts.{is_within, phase_after, phase_through, acts_ok}
-use Rattle.court_rules.specs.Standings.{begins_on_entered_day, AreActs, standing_after, standing_through, standing, phase_of, may_come}
+use Rattle.court_rules.specs.Standings.{begins_on_entered_day, AreActs, standing_after, standing_through, standing, phase_of, may_come, may_begin}
 
 pub standing_through-append : (zone : ZoneRules) (entered : Entered) (before : Standing) (acts more : List Act) → standing_through zone entered before (acts ++ more) ≡ standing_through zone entered (standing_through zone entered before acts) more
 standing_through-append zone entered before [] more = refl
@@ -105,3 +105,9 @@ next zone entered acts act are short within begins may = (
   grind (arith, nat_tests, are.0, short, within, length-append acts (act ∷ []), list_all-append is_within acts (act ∷ []), leads zone entered acts act are.0 may),
   grind (arith, list_all-append (begins_on_entered_day zone) acts (act ∷ []), are.1, begins),
 )
+
+-- an act that may be the first
+pub first : (zone : ZoneRules) (act : Act) → is_within act ≡ true → begins_on_entered_day zone act ≡ true → may_begin act ≡ true → AreActs zone (act ∷ [])
+first zone act within begins may =
+    let leads : is_some (phase_through phase.Unmade (act ∷ [])) ≡ true = one_more phase.Unmade act ∙ may in
+    (grind (arith, nat_tests, within, leads), grind (arith, begins))

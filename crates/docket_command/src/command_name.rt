@@ -1,0 +1,126 @@
+//! The names of the kinds of commands.
+ghost use Rattle.std.specs.Prelude.{◌≡◌};
+ghost use Rattle.docket_command.specs.Names.{name_of};
+
+use crate::command::Action;
+use crate::word::Word;
+
+/// A kind of command.
+#[derive(Clone, Copy, Debug, PartialEq, Eq)]
+pub enum CommandName {
+    DeclareDay,
+    CloseDay,
+    CloseSpan,
+    WithdrawCalendar,
+    ImportCalendar,
+    OpenCase,
+    AddParty,
+    FileEntry,
+    ServeSummons,
+    FileWaiver,
+    ServePleading,
+    OrderReply,
+    RuleMotion,
+    Dispose,
+    StatementServed,
+    NoticeHearing,
+    OrderPeriod,
+    EnterJudgment,
+    Extend,
+    Satisfy,
+    Vacate,
+}
+
+/// All of them.
+const NAMES: [CommandName; 21] = [
+    CommandName::DeclareDay,
+    CommandName::CloseDay,
+    CommandName::CloseSpan,
+    CommandName::WithdrawCalendar,
+    CommandName::ImportCalendar,
+    CommandName::OpenCase,
+    CommandName::AddParty,
+    CommandName::FileEntry,
+    CommandName::ServeSummons,
+    CommandName::FileWaiver,
+    CommandName::ServePleading,
+    CommandName::OrderReply,
+    CommandName::RuleMotion,
+    CommandName::Dispose,
+    CommandName::StatementServed,
+    CommandName::NoticeHearing,
+    CommandName::OrderPeriod,
+    CommandName::EnterJudgment,
+    CommandName::Extend,
+    CommandName::Satisfy,
+    CommandName::Vacate,
+];
+
+impl Word for CommandName {
+    ghost use Rattle.docket_command.specs.Names.{command_word, command_named};
+
+    ghost word_of = { command_word };
+
+    ghost named = { command_named };
+
+    fn word(self) -> &'static str {
+        match self {
+            CommandName::DeclareDay => "declare_day",
+            CommandName::CloseDay => "close_day",
+            CommandName::CloseSpan => "close_span",
+            CommandName::WithdrawCalendar => "withdraw_calendar",
+            CommandName::ImportCalendar => "import_calendar",
+            CommandName::OpenCase => "open_case",
+            CommandName::AddParty => "add_party",
+            CommandName::FileEntry => "file_entry",
+            CommandName::ServeSummons => "serve_summons",
+            CommandName::FileWaiver => "file_waiver",
+            CommandName::ServePleading => "serve_pleading",
+            CommandName::OrderReply => "order_reply",
+            CommandName::RuleMotion => "rule_motion",
+            CommandName::Dispose => "dispose",
+            CommandName::StatementServed => "statement_served",
+            CommandName::NoticeHearing => "notice_hearing",
+            CommandName::OrderPeriod => "order_period",
+            CommandName::EnterJudgment => "enter_judgment",
+            CommandName::Extend => "extend",
+            CommandName::Satisfy => "satisfy",
+            CommandName::Vacate => "vacate",
+        }
+    }
+
+    fn from_word(text: &str) -> Option<CommandName> {
+        NAMES.iter().copied().find(|name| name.word() == text)
+    }
+}
+
+impl Action {
+    /// Which kind of command it is.
+    pub fn name(&self) -> CommandName
+        ensures { result ≡ name_of self.now }
+    {
+        match self {
+            Action::DeclareDay(_) => CommandName::DeclareDay,
+            Action::CloseDay(_) => CommandName::CloseDay,
+            Action::CloseSpan(_) => CommandName::CloseSpan,
+            Action::WithdrawCalendar(_) => CommandName::WithdrawCalendar,
+            Action::ImportCalendar(_) => CommandName::ImportCalendar,
+            Action::OpenCase(_) => CommandName::OpenCase,
+            Action::AddParty(_) => CommandName::AddParty,
+            Action::FileEntry(_) => CommandName::FileEntry,
+            Action::ServeSummons(_) => CommandName::ServeSummons,
+            Action::FileWaiver(_) => CommandName::FileWaiver,
+            Action::ServePleading(_) => CommandName::ServePleading,
+            Action::OrderReply(_) => CommandName::OrderReply,
+            Action::RuleMotion(_) => CommandName::RuleMotion,
+            Action::Dispose(_) => CommandName::Dispose,
+            Action::StatementServed(_) => CommandName::StatementServed,
+            Action::NoticeHearing(_) => CommandName::NoticeHearing,
+            Action::OrderPeriod(_) => CommandName::OrderPeriod,
+            Action::EnterJudgment(_) => CommandName::EnterJudgment,
+            Action::Extend(_) => CommandName::Extend,
+            Action::Satisfy(_) => CommandName::Satisfy,
+            Action::Vacate(_) => CommandName::Vacate,
+        }
+    }
+}

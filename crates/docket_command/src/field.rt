@@ -1,0 +1,101 @@
+//! The fields of commands.
+ghost use Rattle.std.specs.Prelude.{◌≡◌};
+ghost use Rattle.docket_command.specs.Fields.{field_name};
+
+/// A field of a command.
+#[derive(Clone, Copy, Debug, PartialEq, Eq)]
+pub enum Field {
+    /// The kind of the command.
+    Do,
+    Key,
+    Day,
+    Kind,
+    Name,
+    Start,
+    End,
+    Row,
+    Rows,
+    Label,
+    Caption,
+    Filed,
+    Case,
+    Role,
+    Text,
+    Party,
+    Basis,
+    Served,
+    Attorney,
+    Sent,
+    Allowed,
+    Returned,
+    Abroad,
+    Method,
+    AttorneyMethod,
+    Due,
+    Deadline,
+    Outcome,
+    Notice,
+    Opponent,
+    Hearing,
+    Unit,
+    At,
+    Count,
+    Direction,
+    Until,
+    Entered,
+    Discharged,
+    Neglect,
+    Days,
+    Way,
+}
+
+impl Field {
+    /// The field's name.
+    pub fn name(self) -> &'static str
+        ensures { result.now ≡ field_name self }
+    {
+        match self {
+            Field::Do => "do",
+            Field::Key => "key",
+            Field::Day => "day",
+            Field::Kind => "kind",
+            Field::Name => "name",
+            Field::Start => "start",
+            Field::End => "end",
+            Field::Row => "row",
+            Field::Rows => "rows",
+            Field::Label => "label",
+            Field::Caption => "caption",
+            Field::Filed => "filed",
+            Field::Case => "case",
+            Field::Role => "role",
+            Field::Text => "text",
+            Field::Party => "party",
+            Field::Basis => "basis",
+            Field::Served => "served",
+            Field::Attorney => "attorney",
+            Field::Sent => "sent",
+            Field::Allowed => "allowed",
+            Field::Returned => "returned",
+            Field::Abroad => "abroad",
+            Field::Method => "method",
+            Field::AttorneyMethod => "attorney_method",
+            Field::Due => "due",
+            Field::Deadline => "deadline",
+            Field::Outcome => "outcome",
+            Field::Notice => "notice",
+            Field::Opponent => "opponent",
+            Field::Hearing => "hearing",
+            Field::Unit => "unit",
+            Field::At => "at",
+            Field::Count => "count",
+            Field::Direction => "direction",
+            Field::Until => "until",
+            Field::Entered => "entered",
+            Field::Discharged => "discharged",
+            Field::Neglect => "neglect",
+            Field::Days => "days",
+            Field::Way => "way",
+        }
+    }
+}

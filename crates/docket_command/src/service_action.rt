@@ -1,0 +1,114 @@
+//! Commands on what is served on a party, each of which makes the deadline of its answer.
+ghost use Rattle.std.specs.Prelude.{◌≡◌};
+ghost use Rattle.docket_command.specs.Sameness.{is_same_serve_summons, is_same_file_waiver, is_same_serve_pleading, is_same_order_reply};
+
+use crate::choice::{Basis, PleadingKind, ServiceMethod};
+use crate::same::{is_same_choice, is_same_day, is_same_flag, is_same_word};
+use civil_time::Day;
+
+/// The summons and the complaint are served (Fed. R. Civ. P. 12(a)(1)(A)(i), 12(a)(2), 12(a)(3)).
+#[derive(Clone, Copy)]
+pub struct ServeSummons {
+    pub case: u32,
+    pub party: u32,
+    pub basis: Basis,
+    /// The day of service, for the United States that on the United States attorney.
+    pub served: Day,
+    /// The day of service on the United States attorney, where an officer is served too.
+    pub attorney: Option<Day>,
+}
+
+impl ServeSummons {
+    pub(crate) fn same(&self, other: &ServeSummons) -> bool
+        ensures { result ≡ is_same_serve_summons self.now other.now }
+    {
+        self.case == other.case
+            && self.party == other.party
+            && is_same_word(self.basis, other.basis)
+            && self.served.epoch_day() == other.served.epoch_day()
+            && is_same_day(self.attorney, other.attorney)
+    }
+}
+
+/// A party waives service (Fed. R. Civ. P. 4(d), 12(a)(1)(A)(ii)).
+#[derive(Clone, Copy)]
+pub struct FileWaiver {
+    pub case: u32,
+    pub party: u32,
+    /// The day on which the request was sent.
+    pub sent: Day,
+    /// How many days the request allows for the waiver to come back.
+    pub allowed: u32,
+    /// The day on which the waiver came back.
+    pub returned: Day,
+    /// Whether the request was sent outside any judicial district of the United States.
+    pub abroad: bool,
+}
+
+impl FileWaiver {
+    pub(crate) fn same(&self, other: &FileWaiver) -> bool
+        ensures { result ≡ is_same_file_waiver self.now other.now }
+    {
+        self.case == other.case
+            && self.party == other.party
+            && self.sent.epoch_day() == other.sent.epoch_day()
+            && self.allowed == other.allowed
+            && self.returned.epoch_day() == other.returned.epoch_day()
+            && is_same_flag(self.abroad, other.abroad)
+    }
+}
+
+/// A counterclaim, a crossclaim or a pleading to which no response is allowed is served (Fed. R. Civ.
+/// P. 12(a)(1)(B), 12(a)(2), 12(a)(3), 12(f)(2)).
+#[derive(Clone, Copy)]
+pub struct ServePleading {
+    pub case: u32,
+    pub party: u32,
+    pub kind: PleadingKind,
+    pub basis: Basis,
+    /// The day of service, for the United States that on the United States attorney.
+    pub served: Day,
+    pub method: ServiceMethod,
+    /// The day of service on the United States attorney, where an officer is served too.
+    pub attorney: Option<Day>,
+    /// How the United States attorney was served.
+    pub attorney_method: Option<ServiceMethod>,
+}
+
+impl ServePleading {
+    pub(crate) fn same(&self, other: &ServePleading) -> bool
+        ensures { result ≡ is_same_serve_pleading self.now other.now }
+    {
+        self.case == other.case
+            && self.party == other.party
+            && is_same_word(self.kind, other.kind)
+            && is_same_word(self.basis, other.basis)
+            && self.served.epoch_day() == other.served.epoch_day()
+            && is_same_word(self.method, other.method)
+            && is_same_day(self.attorney, other.attorney)
+            && is_same_choice(self.attorney_method, other.attorney_method)
+    }
+}
+
+/// An order to reply to an answer is served (Fed. R. Civ. P. 12(a)(1)(C)).
+#[derive(Clone, Copy)]
+pub struct OrderReply {
+    pub case: u32,
+    pub party: u32,
+    pub served: Day,
+    pub method: ServiceMethod,
+    /// The day that the order sets.
+    pub due: Option<Day>,
+}
+
+impl OrderReply {
+    pub(crate) fn same(&self, other: &OrderReply) -> bool
+        ensures { result ≡ is_same_order_reply self.now other.now }
+    {
+        self.case == other.case
+            && self.party == other.party
+            && self.served.epoch_day() == other.served.epoch_day()
+            && is_same_word(self.method, other.method)
+            && is_same_day(self.due, other.due)
+    }
+}

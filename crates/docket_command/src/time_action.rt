@@ -1,0 +1,148 @@
+//! Commands that set times, extend them and end them.
+ghost use Rattle.std.specs.Prelude.{◌≡◌};
+ghost use Rattle.docket_command.specs.Sameness.{is_same_notice_hearing, is_same_order_period, is_same_enter_judgment, is_same_extend, is_same_satisfy, is_same_vacate};
+
+use crate::choice::{PeriodUnit, ServiceMethod};
+use crate::moment::Moment;
+use crate::same::{
+    is_same_choice, is_same_day, is_same_flag, is_same_moment, is_same_number, is_same_word,
+};
+use civil_time::Day;
+use court_days::{Direction, Way};
+
+/// A hearing is noticed (Fed. R. Civ. P. 6(c)).
+#[derive(Clone, Copy)]
+pub struct NoticeHearing {
+    pub case: u32,
+    /// Who moves.
+    pub party: u32,
+    /// Who opposes the motion.
+    pub opponent: u32,
+    pub hearing: Day,
+}
+
+impl NoticeHearing {
+    pub(crate) fn same(&self, other: &NoticeHearing) -> bool
+        ensures { result ≡ is_same_notice_hearing self.now other.now }
+    {
+        self.case == other.case
+            && self.party == other.party
+            && self.opponent == other.opponent
+            && self.hearing.epoch_day() == other.hearing.epoch_day()
+    }
+}
+
+/// The court orders a period or sets a day (Fed. R. Civ. P. 6(a)).
+#[derive(Clone, Copy)]
+pub struct OrderPeriod {
+    pub case: u32,
+    /// Whose time it is, 0 for every party's.
+    pub party: u32,
+    pub unit: PeriodUnit,
+    /// The day of the event, for days and months.
+    pub start: Option<Day>,
+    /// The moment of the event, for hours.
+    pub at: Option<Moment>,
+    pub count: Option<u32>,
+    pub direction: Option<Direction>,
+    /// How the paper was served from which the period runs.
+    pub method: Option<ServiceMethod>,
+    /// The fixed day.
+    pub until: Option<Day>,
+}
+
+impl OrderPeriod {
+    pub(crate) fn same(&self, other: &OrderPeriod) -> bool
+        ensures { result ≡ is_same_order_period self.now other.now }
+    {
+        self.case == other.case
+            && self.party == other.party
+            && is_same_word(self.unit, other.unit)
+            && is_same_day(self.start, other.start)
+            && is_same_moment(self.at, other.at)
+            && is_same_number(self.count, other.count)
+            && is_same_choice(self.direction, other.direction)
+            && is_same_choice(self.method, other.method)
+            && is_same_day(self.until, other.until)
+    }
+}
+
+/// Judgment is entered (Fed. R. Civ. P. 50, 52, 59 and 60).
+#[derive(Clone, Copy)]
+pub struct EnterJudgment {
+    pub case: u32,
+    pub entered: Day,
+    /// The day of the jury's discharge, for a jury issue that no verdict decided (Fed. R. Civ. P. 50(b)).
+    pub discharged: Option<Day>,
+}
+
+impl EnterJudgment {
+    pub(crate) fn same(&self, other: &EnterJudgment) -> bool
+        ensures { result ≡ is_same_enter_judgment self.now other.now }
+    {
+        self.case == other.case
+            && self.entered.epoch_day() == other.entered.epoch_day()
+            && is_same_day(self.discharged, other.discharged)
+    }
+}
+
+/// The court extends a time, by days or until a day (Fed. R. Civ. P. 6(b)).
+#[derive(Clone, Copy)]
+pub struct Extend {
+    pub case: u32,
+    pub deadline: u32,
+    /// The moment of the court's act, or of an earlier request.
+    pub at: Moment,
+    /// Whether the party failed to act because of excusable neglect.
+    pub neglect: bool,
+    pub days: Option<u32>,
+    pub until: Option<Day>,
+}
+
+impl Extend {
+    pub(crate) fn same(&self, other: &Extend) -> bool
+        ensures { result ≡ is_same_extend self.now other.now }
+    {
+        self.case == other.case
+            && self.deadline == other.deadline
+            && self.at.instant() == other.at.instant()
+            && is_same_flag(self.neglect, other.neglect)
+            && is_same_number(self.days, other.days)
+            && is_same_day(self.until, other.until)
+    }
+}
+
+/// What a deadline asks for is filed.
+#[derive(Clone, Copy)]
+pub struct Satisfy {
+    pub case: u32,
+    pub deadline: u32,
+    pub at: Moment,
+    pub way: Way,
+}
+
+impl Satisfy {
+    pub(crate) fn same(&self, other: &Satisfy) -> bool
+        ensures { result ≡ is_same_satisfy self.now other.now }
+    {
+        self.case == other.case
+            && self.deadline == other.deadline
+            && self.at.instant() == other.at.instant()
+            && is_same_word(self.way, other.way)
+    }
+}
+
+/// A deadline is vacated.
+#[derive(Clone, Copy)]
+pub struct Vacate {
+    pub case: u32,
+    pub deadline: u32,
+}
+
+impl Vacate {
+    pub(crate) fn same(&self, other: &Vacate) -> bool
+        ensures { result ≡ is_same_vacate self.now other.now }
+    {
+        self.case == other.case && self.deadline == other.deadline
+    }
+}
