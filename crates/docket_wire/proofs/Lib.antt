@@ -1,0 +1,9 @@
+pub mod CanonicalLemmas
+pub mod CompactLemmas
+pub mod DayLemmas
+pub mod FaultLemmas
+pub mod MemberLemmas
+pub mod ReadingLemmas
+pub mod SpelledLemmas
+pub mod SpellsLemmas
+pub mod WritingLemmas

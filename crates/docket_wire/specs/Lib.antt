@@ -1,0 +1,9 @@
+pub mod Faults
+pub mod FirstFaults
+pub mod Members
+pub mod Reading
+pub mod Spells
+pub mod Tables
+pub mod Texts
+pub mod Valid
+pub mod Writing

@@ -1,0 +1,147 @@
+//! Commands from JSON texts.
+ghost use Rattle.std.specs.Prelude.{◌≡◌, ◌≢◌, IfOk, IfErr};
+ghost use Rattle.docket_command.specs.declared.command.Command.{Command};
+ghost use Rattle.serde_json.specs.View.{view, members_view};
+ghost use Rattle.docket_wire.specs.declared.fault.WireFault.TheVariants.{NoMemory};
+ghost use Rattle.docket_wire.specs.FirstFaults.{HasFault};
+ghost use Rattle.docket_wire.specs.Members.{Gives};
+ghost use Rattle.docket_wire.specs.Spells.{Spells};
+ghost use Rattle.docket_wire.specs.Reading.{first_missing, only_known, all_known, is_known, action_at, name_of_object, command_of, command_in};
+
+use crate::calendar_fields::{
+    read_close_day, read_close_span, read_declare_day, read_import_calendar, read_withdraw_calendar,
+};
+use crate::case_fields::{read_add_party, read_file_entry, read_open_case};
+use crate::fault::WireFault;
+use crate::member::{present, required_text};
+use crate::motion_fields::{read_dispose, read_rule_motion, read_statement_served};
+use crate::service_fields::{
+    read_file_waiver, read_order_reply, read_serve_pleading, read_serve_summons,
+};
+use crate::table::{known_fields, required_fields};
+use crate::time_fields::{
+    read_enter_judgment, read_extend, read_notice_hearing, read_order_period, read_satisfy,
+    read_vacate,
+};
+use docket_command::{Action, Command, CommandName, Field, Word};
+use serde_json::{Map, Value};
+use std::alloc::Global;
+
+/// The command that the text spells: it is a JSON object with the members `do` and `key` and the
+/// fields of the command, each of its type, and no other. Of a member that is given twice the last
+/// counts; a field that may be absent may be null. Otherwise the first fault of the text, or
+/// `NoMemory`, which may come at any point.
+pub fn read_command(alloc: Global, bytes: &[u8]) -> Result<Command, WireFault>
+    ensures value { Gives result (command_in bytes.now) }
+    ensures spelled { IfOk result (λ command. Spells bytes.now command) }
+    ensures none { IfErr result (λ fault. fault ≢ NoMemory
+        → (command : Command) → ¬ (Spells bytes.now command)) }
+    ensures fault { IfErr result (λ fault. fault ≢ NoMemory → HasFault bytes.now fault) }
+{
+    parsed(alloc, bytes)
+}
+
+#[tactic(auto, unfolding(crate::specs::Reading::command_in))]
+fn parsed(alloc: Global, bytes: &[u8]) -> Result<Command, WireFault>
+    ensures { Gives result (command_in bytes.now) }
+{
+    match Value::from_slice(alloc, bytes) {
+        Ok(value) => command(alloc, &value),
+        Err(e) => {
+            if e.is_memory() {
+                Err(WireFault::NoMemory)
+            } else {
+                Err(WireFault::NotJson)
+            }
+        }
+    }
+}
+
+#[tactic(auto, unfolding(crate::specs::Reading::command_of))]
+fn command(alloc: Global, object: &Value) -> Result<Command, WireFault>
+    ensures { Gives result (command_of (view object.now)) }
+{
+    if !object.is_object() {
+        return Err(WireFault::NotAnObject);
+    }
+    let name = command_name(object).ok_or(WireFault::UnknownCommand)?;
+    if let Some(field) = first_missing(object, required_fields(name)) {
+        return Err(WireFault::MissingField(field));
+    }
+    let key = required_text(alloc, object, Field::Key)?;
+    let action = action(alloc, name, object)?;
+    if !has_only(object, known_fields(name)) {
+        return Err(WireFault::UnknownField);
+    }
+    Ok(Command { key, action })
+}
+
+fn command_name(object: &Value) -> Option<CommandName>
+    ensures { result ≡ name_of_object (view object.now) }
+{
+    CommandName::from_word(object.get("do")?.as_str()?)
+}
+
+fn first_missing(object: &Value, fields: &[Field]) -> Option<Field>
+    ensures { result ≡ first_missing fields.now (view object.now) }
+{
+    fields
+        .iter()
+        .copied()
+        .find(|f| present(object, *f).is_none())
+}
+
+pub(crate) fn has_only(object: &Value, fields: &[Field]) -> bool
+    ensures { result ≡ only_known fields.now (view object.now) }
+{
+    match object.as_object() {
+        None => true,
+        Some(members) => all_known(members, fields),
+    }
+}
+
+fn all_known(members: &Map<String, Value>, fields: &[Field]) -> bool
+    ensures { result ≡ all_known fields.now (members_view members.now.entries) }
+{
+    for name in members.keys() {
+        if !is_known(name.as_str(), fields) {
+            return false;
+        }
+    }
+    true
+}
+
+#[tactic(auto, unfolding(crate::specs::Reading::is_known))]
+fn is_known(name: &str, fields: &[Field]) -> bool
+    ensures { result ≡ is_known fields.now name.now }
+{
+    fields.iter().any(|f| name == f.name())
+}
+
+fn action(alloc: Global, name: CommandName, object: &Value) -> Result<Action, WireFault>
+    ensures { Gives result (action_at name (view object.now)) }
+{
+    match name {
+        CommandName::DeclareDay => read_declare_day(alloc, object),
+        CommandName::CloseDay => read_close_day(alloc, object),
+        CommandName::CloseSpan => read_close_span(object),
+        CommandName::WithdrawCalendar => read_withdraw_calendar(object),
+        CommandName::ImportCalendar => read_import_calendar(alloc, object),
+        CommandName::OpenCase => read_open_case(alloc, object),
+        CommandName::AddParty => read_add_party(alloc, object),
+        CommandName::FileEntry => read_file_entry(alloc, object),
+        CommandName::ServeSummons => read_serve_summons(object),
+        CommandName::FileWaiver => read_file_waiver(object),
+        CommandName::ServePleading => read_serve_pleading(object),
+        CommandName::OrderReply => read_order_reply(object),
+        CommandName::RuleMotion => read_rule_motion(object),
+        CommandName::Dispose => read_dispose(object),
+        CommandName::StatementServed => read_statement_served(object),
+        CommandName::NoticeHearing => read_notice_hearing(object),
+        CommandName::OrderPeriod => read_order_period(object),
+        CommandName::EnterJudgment => read_enter_judgment(object),
+        CommandName::Extend => read_extend(object),
+        CommandName::Satisfy => read_satisfy(object),
+        CommandName::Vacate => read_vacate(object),
+    }
+}

@@ -1,0 +1,5 @@
+//! Spellings of commands, and texts of answers.
+
+mod answers;
+mod refused;
+mod spelled;
