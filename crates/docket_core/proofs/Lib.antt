@@ -1,0 +1,10 @@
+pub mod ActsInOrder
+pub mod ActsKept
+pub mod CalendarLemmas
+pub mod FirstActs
+pub mod GoodValues
+pub mod InOrderLemmas
+pub mod LaterActs
+pub mod Leading
+pub mod LimitsKept
+pub mod Passed

@@ -1,0 +1,14 @@
+pub mod Actions
+pub mod CalendarItems
+pub mod Decisions
+pub mod Histories
+pub mod Outcomes
+pub mod Records
+pub mod Refusals
+pub mod Tables
+pub mod Times
+pub mod Values
+pub mod Views
+pub mod Worked
+pub mod InOrder
+pub mod Limits

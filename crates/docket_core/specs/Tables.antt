@@ -1,0 +1,125 @@
+-- The tables of a history, and changes of their rows.
+use Rattle.std.specs.Prelude.{ℕ, ◌+◌, ◌==◌, not, ◌&&◌, if◌then◌else◌, nat_le, List, [], ◌∷◌, ◌++◌, length, filter, map, Option, Some, None}
+use Rattle.std.specs.Option.{option_and_then}
+use Rattle.court_days.specs.Court.{CourtSettings}
+use Rattle.docket_command.specs.declared.command.Command.{Command}
+use Rattle.docket_command.specs.declared.command.Action.{Action}
+use Rattle.docket_command.specs.declared.refusal.Reply.{Reply}
+use Rattle.docket_core.specs.Actions.{case_named, row_withdrawn, asks_calendar}
+use Rattle.docket_core.specs.Histories.{History, standing_rows, next_row, items_of, numbered, rows_added, case_rows, party_rows, entry_rows, deadline_rows, act_rows, new_case, new_party, new_entry, new_deadlines, first_acts, later_acts, parties_of_case, entries_of_case, deadlines_of_case, deadlines_from}
+use Rattle.docket_core.specs.Outcomes.{receipts, kept, is_label_taken, is_row_standing}
+use Rattle.docket_core.specs.Views.{parties_in, entries_in, deadlines_in, deadline_shown, acts_in}
+use Rattle.docket_core.specs.declared.row.Change.{Change}
+use Rattle.docket_core.specs.declared.row.Change.TheVariants.{AddCalendar, RemoveCalendar, AddCase, AddParty, AddEntry, AddDeadline, AddAct}
+use Rattle.docket_core.specs.declared.row.CalendarRow.{CalendarRow}
+use Rattle.docket_core.specs.declared.row.CaseRow.{CaseRow}
+use Rattle.docket_core.specs.declared.row.PartyRow.{PartyRow}
+use Rattle.docket_core.specs.declared.row.EntryRow.{EntryRow}
+use Rattle.docket_core.specs.declared.row.DeadlineRow.{DeadlineRow}
+use Rattle.docket_core.specs.declared.row.ActRow.{ActRow}
+use Rattle.docket_core.specs.declared.row.Receipt.{Receipt}
+use Rattle.docket_core.specs.declared.view.CaseView.{CaseView}
+use Rattle.docket_core.specs.declared.view.View.{View}
+
+pub record Tables : Type 0 where
+  pub next_row : ℕ
+  pub calendar : List CalendarRow
+  pub cases : List CaseRow
+  pub parties : List PartyRow
+  pub entries : List EntryRow
+  pub deadlines : List DeadlineRow
+  pub acts : List ActRow
+  pub receipts : List Receipt
+
+-- the tables of a history
+abbrev pub rows_of : CourtSettings → History → Tables
+rows_of court h = record {
+  next_row = next_row h;
+  calendar = standing_rows h;
+  cases = case_rows h;
+  parties = party_rows h;
+  entries = entry_rows h;
+  deadlines = deadline_rows h;
+  acts = act_rows h;
+  receipts = receipts court h;
+}
+
+-- a change of one row
+abbrev pub changed : Change → Tables → Tables
+changed (AddCalendar row) t = record t { calendar = t.calendar ++ row ∷ []; next_row = t.next_row + 1 }
+changed (RemoveCalendar number) t = record t { calendar = filter (λ row. not (row.number == number)) t.calendar }
+changed (AddCase row) t = record t { cases = t.cases ++ row ∷ [] }
+changed (AddParty row) t = record t { parties = t.parties ++ row ∷ [] }
+changed (AddEntry row) t = record t { entries = t.entries ++ row ∷ [] }
+changed (AddDeadline row) t = record t { deadlines = t.deadlines ++ row ∷ [] }
+changed (AddAct row) t = record t { acts = t.acts ++ row ∷ [] }
+
+-- the changes, one after another
+abbrev pub all_changed : List Change → Tables → Tables
+all_changed [] t = t
+all_changed (x ∷ xs) t = all_changed xs (changed x t)
+
+-- with a receipt for a command
+abbrev pub with_receipt : Command → Reply → Tables → Tables
+with_receipt c reply t = record t { receipts = t.receipts ++ record { command = c; reply = reply } ∷ [] }
+
+abbrev pub withdrawal : Option ℕ → List Change
+withdrawal None = []
+withdrawal (Some number) = RemoveCalendar number ∷ []
+
+abbrev pub calendar_changes : View → Action → List Change
+calendar_changes v a = map AddCalendar (numbered v.next_row (rows_added v.calendar a))
+
+abbrev pub case_changes : View → Action → List Change
+case_changes v a = map AddCase (new_case v.cases a)
+
+abbrev pub party_changes : View → Action → List Change
+party_changes v a = map AddParty (new_party (parties_in v.case) a)
+
+abbrev pub entry_changes : View → Action → List Change
+entry_changes v a = map AddEntry (new_entry (entries_in v.case) a)
+
+abbrev pub deadline_changes : View → Action → List Change
+deadline_changes v a = map AddDeadline (new_deadlines (length (deadlines_in v.case)) a)
+
+abbrev pub first_act_changes : View → Action → List Change
+first_act_changes v a = map AddAct (first_acts (length (deadlines_in v.case)) a)
+
+abbrev pub act_changes : View → Action → List Change
+act_changes v a = map AddAct (later_acts (length (acts_in (deadline_shown v a))) a)
+
+-- the changes of an action, but for the receipt
+abbrev pub action_changes : View → Action → List Change
+action_changes v a =
+    withdrawal (row_withdrawn a)
+    ++ calendar_changes v a
+    ++ case_changes v a
+    ++ party_changes v a
+    ++ entry_changes v a
+    ++ deadline_changes v a
+    ++ first_act_changes v a
+    ++ act_changes v a
+
+-- what tables show
+
+abbrev pub case_in : Tables → ℕ → Option CaseView
+case_in t k =
+    if nat_le 1 k && nat_le k (length t.cases)
+    then Some (record {
+      number = k;
+      parties = length (parties_of_case k t.parties);
+      entries = length (entries_of_case k t.entries);
+      deadlines = deadlines_from k 1 t.acts (deadlines_of_case k t.deadlines);
+    })
+    else None
+
+abbrev pub view_in : Tables → Command → View
+view_in t c = record {
+  kept = kept t.receipts c;
+  cases = length t.cases;
+  label_taken = is_label_taken c.action t.cases;
+  case = option_and_then (case_in t) (case_named c.action);
+  row_stands = is_row_standing c.action t.calendar;
+  calendar = if asks_calendar c.action then items_of t.calendar else [];
+  next_row = t.next_row;
+}

@@ -1,0 +1,35 @@
+//! The docket: histories of commands, the refusals in their order, and the rows that an accepted
+//! command changes.
+#![tactic(auto)]
+
+mod calendar;
+mod changes;
+mod deadline;
+mod decision;
+mod item;
+mod laws;
+mod named;
+mod record;
+mod refusals;
+mod row;
+mod value;
+mod view;
+
+pub use calendar::calendar_of;
+pub use decision::{Changes, DecideFault, Decision, decide};
+pub use docket_command::{
+    Action, AddParty, Basis, CloseDay, CloseSpan, Command, DeclareDay, Dispose, EnterJudgment,
+    Extend, Field, FileEntry, FileWaiver, ImportCalendar, Moment, NewDay, NewDays, NoticeHearing,
+    OpenCase, OrderPeriod, OrderReply, PeriodUnit, PleadingKind, Refusal, Reply, Role, RuleMotion,
+    Ruling, Satisfy, ServePleading, ServeSummons, ServiceMethod, Sovereign, StatementServed, Text,
+    Vacate, WithdrawCalendar,
+};
+pub use item::CalendarItem;
+pub use laws::{
+    acts_are_in_order, limits_are_kept, rows_are_numbered_in_order, rows_stand_until_withdrawn,
+    worked_dockets,
+};
+pub use named::{asks_calendar, case_named};
+pub use record::{CaseRecord, DeadlineLine, DueRow, EntryRows, PartyRows, deadline_lines};
+pub use row::{ActRow, CalendarRow, CaseRow, Change, DeadlineRow, EntryRow, PartyRow, Receipt};
+pub use view::{Acts, CalendarItems, CaseView, DeadlineView, Deadlines, Kept, View};

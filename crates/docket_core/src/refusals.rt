@@ -1,0 +1,414 @@
+//! When each refusal applies, and in which order they are looked for.
+ghost use Rattle.std.specs.Prelude.{◌≡◌, ◌==◌, ◌&&◌, None, length, map, not};
+ghost use Rattle.std.specs.List.{list_any};
+ghost use Rattle.court_days.specs.Court.{CourtSettings, zone_of};
+ghost use Rattle.court_rules.specs.Standings.{IsEndAfter, StandsAfter, last_day};
+ghost use Rattle.docket_core.specs.Actions.{deadlines_made};
+ghost use Rattle.docket_core.specs.CalendarItems.{calendar_of};
+ghost use Rattle.docket_core.specs.Decisions.{IsMatter};
+ghost use Rattle.docket_core.specs.Times.{standing_shown, is_in_time};
+ghost use Rattle.docket_core.specs.Values.{first_bad, bad_values};
+ghost use Rattle.docket_core.specs.Refusals.{on, first_some, is_reused, lacks_case, is_no_party, lacks_party, lacks_deadline, lacks_row, is_there, is_running, is_suspended, is_awaiting, is_over, is_not_open, is_not_awaiting, rule_shown, is_not_responsive, last_act, is_by_e, wants_statement, is_wrong_motion, is_past, is_after, is_vacated, has_initial, is_served, is_short_waiver, is_late_waiver, may_not_extend, is_expired, is_not_later, has_too_many_acts, count_added, is_calendar_full, is_full, state_refusals, refusal_of};
+ghost use Rattle.docket_core.specs.Views.{ViewOf, deadline_shown};
+
+use crate::item::{CalendarItem, stands_among};
+use crate::named::{case_named, deadline_named};
+use crate::value::{bad_field, is_word};
+use crate::view::{DeadlineView, Kept, View};
+use court_days::{Calendar, Court, Day, DayKind, Direction, End, Way, count_days, timely};
+use court_rules::{Act, MotionKind, Rule, Standing};
+use docket_command::{Action, Command, Moment, Refusal, Ruling};
+
+fn is_reused(kept: Kept) -> bool
+    ensures { result ≡ is_reused kept }
+{
+    matches!(kept, Kept::Other)
+}
+
+fn lacks_case(view: &View, action: &Action) -> bool
+    ensures { result ≡ lacks_case view.now action.now }
+{
+    case_named(action).is_some() && view.case.is_none()
+}
+
+/// Whether the case that is named has no party of that number.
+fn is_no_party(view: &View, party: u32) -> bool
+    ensures { result ≡ is_no_party view.now party }
+{
+    party < 1 || view.parties() < party
+}
+
+fn lacks_party(view: &View, action: &Action) -> bool
+    ensures { result ≡ lacks_party view.now action.now }
+{
+    match action {
+        Action::ServeSummons(a) => is_no_party(view, a.party),
+        Action::FileWaiver(a) => is_no_party(view, a.party),
+        Action::ServePleading(a) => is_no_party(view, a.party),
+        Action::OrderReply(a) => is_no_party(view, a.party),
+        Action::Dispose(a) => match a.party {
+            Some(party) => is_no_party(view, party),
+            None => false,
+        },
+        Action::NoticeHearing(a) => is_no_party(view, a.party) || is_no_party(view, a.opponent),
+        Action::OrderPeriod(a) => a.party != 0 && is_no_party(view, a.party),
+        _ => false,
+    }
+}
+
+fn lacks_deadline(view: &View, action: &Action) -> bool
+    ensures { result ≡ lacks_deadline view.now action.now }
+{
+    deadline_named(action).is_some() && view.deadline_named(action).is_none()
+}
+
+fn lacks_row(view: &View, action: &Action) -> bool
+    ensures { result ≡ lacks_row view.now action.now }
+{
+    match action {
+        Action::WithdrawCalendar(_) => !view.row_stands,
+        _ => false,
+    }
+}
+
+fn is_there(view: &View, action: &Action) -> bool
+    ensures { result ≡ is_there view.now action.now }
+{
+    let standing = view.calendar.as_slice();
+    match action {
+        Action::DeclareDay(a) => stands_among(
+            standing,
+            CalendarItem::Day(DayKind::from(a.kind), a.day),
+        ),
+        Action::CloseDay(a) => stands_among(standing, CalendarItem::Day(DayKind::Closed, a.day)),
+        Action::CloseSpan(a) => stands_among(standing, CalendarItem::Span(a.start, a.end)),
+        Action::OpenCase(_) => view.label_taken,
+        _ => false,
+    }
+}
+
+/// Whether it is done or vacated.
+fn is_over(standing: Standing) -> bool
+    ensures { result ≡ is_over standing }
+{
+    matches!(standing, Standing::Done | Standing::Vacated)
+}
+
+fn is_running(standing: Standing) -> bool
+    ensures { result ≡ is_running standing }
+{
+    matches!(standing, Standing::Running(_))
+}
+
+fn is_suspended(standing: Standing) -> bool
+    ensures { result ≡ is_suspended standing }
+{
+    matches!(standing, Standing::Suspended)
+}
+
+fn is_awaiting(standing: Standing) -> bool
+    ensures { result ≡ is_awaiting standing }
+{
+    matches!(standing, Standing::Awaiting)
+}
+
+fn is_not_open(action: &Action, standing: Standing) -> bool
+    ensures { (court : CourtSettings) (v : ViewOf) → standing ≡ standing_shown court v action.now
+        → result ≡ is_not_open court v action.now }
+{
+    match action {
+        Action::RuleMotion(_) | Action::Extend(_) => !is_running(standing),
+        Action::Satisfy(_) | Action::Vacate(_) => is_over(standing),
+        _ => false,
+    }
+}
+
+fn is_not_awaiting(action: &Action, standing: Standing) -> bool
+    ensures { (court : CourtSettings) (v : ViewOf) → standing ≡ standing_shown court v action.now
+        → result ≡ is_not_awaiting court v action.now }
+{
+    match action {
+        Action::Dispose(_) => !is_suspended(standing),
+        Action::StatementServed(_) => !is_awaiting(standing),
+        _ => false,
+    }
+}
+
+/// The rule of the deadline that an action names.
+fn rule_named(view: &View, action: &Action) -> Rule
+    ensures { result ≡ rule_shown (deadline_shown view.now action.now) }
+{
+    match view.deadline_named(action) {
+        Some(deadline) => deadline.rule,
+        None => Rule::Ordered,
+    }
+}
+
+fn is_not_responsive(view: &View, action: &Action) -> bool
+    ensures { result ≡ is_not_responsive view.now action.now }
+{
+    match action {
+        Action::RuleMotion(_) => !rule_named(view, action).responsive(),
+        _ => false,
+    }
+}
+
+/// Whether the last act is a motion for a more definite statement.
+fn is_by_e(acts: &[Act]) -> bool
+    ensures { result ≡ is_by_e (last_act acts.now) }
+{
+    match acts.last() {
+        Some(Act::Motion(_, MotionKind::E)) => true,
+        _ => false,
+    }
+}
+
+fn wants_statement(outcome: Ruling) -> bool
+    ensures { result ≡ wants_statement outcome }
+{
+    matches!(outcome, Ruling::Statement)
+}
+
+fn is_wrong_motion(view: &View, action: &Action) -> bool
+    ensures { result ≡ is_wrong_motion view.now action.now }
+{
+    match action {
+        Action::Dispose(a) => wants_statement(a.outcome) && !is_by_e(view.acts_named(action)),
+        _ => false,
+    }
+}
+
+/// The last day of a time: that of an instant is its local day.
+fn last_day(court: &Court, end: End) -> Day
+    requires { IsEndAfter 100 end }
+    ensures { result ≡ last_day (zone_of court.now) end }
+{
+    match end {
+        End::LastDay(day) => day,
+        End::Moment(at) => court.local(at).0,
+    }
+}
+
+/// Whether the day is after the last day of a time that runs.
+fn is_past(court: &Court, standing: Standing, day: Day) -> bool
+    requires { StandsAfter 100 standing }
+    ensures { result ≡ is_past court.now standing day }
+{
+    match standing {
+        Standing::Running(end) => last_day(court, end).epoch_day() < day.epoch_day(),
+        _ => false,
+    }
+}
+
+fn is_after(court: &Court, action: &Action, standing: Standing) -> bool
+    requires { StandsAfter 100 standing }
+    ensures { (v : ViewOf) → standing ≡ standing_shown court.now v action.now → result ≡ is_after court.now v action.now }
+{
+    match action {
+        Action::RuleMotion(a) => is_past(court, standing, a.served),
+        _ => false,
+    }
+}
+
+/// Whether a deadline with these acts is vacated.
+fn is_vacated(acts: &[Act]) -> bool
+    ensures { result ≡ is_vacated acts.now }
+{
+    match acts.last() {
+        Some(Act::Vacated) => true,
+        _ => false,
+    }
+}
+
+fn has_initial(deadlines: &[DeadlineView], party: u32) -> bool
+    ensures { result ≡ has_initial deadlines.now party }
+{
+    deadlines.iter().any(|d| d.party == party && (d.initial && !is_vacated(d.acts.as_slice())))
+}
+
+fn is_served(view: &View, action: &Action) -> bool
+    ensures { result ≡ is_served view.now action.now }
+{
+    match action {
+        Action::ServeSummons(a) => has_initial(view.deadlines(), a.party),
+        Action::FileWaiver(a) => has_initial(view.deadlines(), a.party),
+        _ => false,
+    }
+}
+
+fn is_short_waiver(action: &Action) -> bool
+    ensures { result ≡ is_short_waiver action.now }
+{
+    match action {
+        Action::FileWaiver(a) => a.allowed < if a.abroad { 60 } else { 30 },
+        _ => false,
+    }
+}
+
+/// Whether a waiver came back late. Its days and counts are good.
+fn is_late_waiver(calendar: &Calendar, action: &Action) -> bool
+    requires { (court : CourtSettings) × (first_bad (bad_values court action.now) ≡ None) }
+    ensures { (v : ViewOf) → calendar.now ≡ calendar_of v.calendar → result ≡ is_late_waiver v action.now }
+{
+    match action {
+        Action::FileWaiver(a) => {
+            let last = count_days(calendar, Direction::Forward, a.sent, a.allowed);
+            last.epoch_day() < a.returned.epoch_day()
+        }
+        _ => false,
+    }
+}
+
+fn may_not_extend(view: &View, action: &Action) -> bool
+    ensures { result ≡ may_not_extend view.now action.now }
+{
+    match action {
+        Action::Extend(_) => !rule_named(view, action).extendable(),
+        _ => false,
+    }
+}
+
+/// Whether a filing at the moment is in time, or no time was running.
+pub(crate) fn is_in_time(court: &Court, standing: Standing, at: Moment, way: Way) -> bool
+    ensures { result ≡ is_in_time court.now standing at way }
+{
+    match standing {
+        Standing::Running(end) => timely(court, end, at.seconds(), way),
+        _ => true,
+    }
+}
+
+fn is_expired(court: &Court, action: &Action, standing: Standing) -> bool
+    ensures { (v : ViewOf) → standing ≡ standing_shown court.now v action.now → result ≡ is_expired court.now v action.now }
+{
+    match action {
+        Action::Extend(a) => !a.neglect && !is_in_time(court, standing, a.at, Way::Electronic),
+        _ => false,
+    }
+}
+
+fn is_not_later(court: &Court, action: &Action, standing: Standing) -> bool
+    requires { StandsAfter 100 standing }
+    ensures { (v : ViewOf) → standing ≡ standing_shown court.now v action.now → result ≡ is_not_later court.now v action.now }
+{
+    match action {
+        Action::Extend(a) => match a.until {
+            Some(day) => !is_past(court, standing, day),
+            None => false,
+        },
+        _ => false,
+    }
+}
+
+/// Whether more than 4,000 calendar rows would stand, or the number of one would pass 4,294,967,295.
+fn is_calendar_full(view: &View, added: usize) -> bool
+    ensures { result ≡ is_calendar_full view.now added }
+{
+    view.calendar.as_slice().len().saturating_add(added) > 4000
+        || view.next_row.saturating_add(added as u64) > 4_294_967_296
+}
+
+/// Whether a deadline has as many acts as it may have before the one that ends it.
+fn has_too_many_acts(view: &View, action: &Action) -> bool
+    ensures { result ≡ has_too_many_acts view.now action.now }
+{
+    deadline_named(action).is_some() && view.acts_named(action).len() >= 99
+}
+
+fn is_full(view: &View, added: usize, made: usize, action: &Action) -> bool
+    requires added { added ≡ count_added view.now action.now }
+    requires made { made ≡ length (deadlines_made action.now) }
+    ensures { result ≡ is_full view.now action.now }
+{
+    match action {
+        Action::DeclareDay(_) | Action::CloseDay(_) => is_calendar_full(view, added),
+        Action::CloseSpan(_) | Action::ImportCalendar(_) => is_calendar_full(view, added),
+        Action::OpenCase(_) => view.cases >= 100_000,
+        Action::AddParty(_) => view.parties() >= 1000,
+        Action::FileEntry(_) => view.entries() >= 10_000,
+        Action::WithdrawCalendar(_) | Action::Satisfy(_) | Action::Vacate(_) => false,
+        _ => {
+            has_too_many_acts(view, action) || view.deadlines().len().saturating_add(made) > 1000
+        }
+    }
+}
+
+/// The refusal of the first check that is met.
+fn first_met(checks: &[(bool, Refusal)]) -> Option<Refusal>
+    ensures { result ≡ first_some (map (λ check. on check.0 check.1) checks.now) }
+{
+    for check in checks {
+        if check.0 {
+            return Some(check.1);
+        }
+    }
+    None
+}
+
+/// What a command is judged by beside its view: the court and the calendar that is shown, where the
+/// deadline that it names stands, and how many calendar rows and deadlines it would make.
+#[derive(Drop)]
+pub(crate) struct Matter<'a> {
+    pub(crate) court: &'a Court,
+    pub(crate) calendar: &'a Calendar,
+    pub(crate) standing: Standing,
+    pub(crate) added: usize,
+    pub(crate) made: usize,
+}
+
+/// The first refusal that applies of those that look at the docket, in their order.
+fn state_refusal(matter: &Matter<'_>, view: &View, action: &Action) -> Option<Refusal>
+    requires matter { IsMatter matter.now view.now action.now }
+    requires good { first_bad (bad_values matter.now.court.now action.now) ≡ None }
+    ensures { result ≡ first_some (state_refusals matter.now.court.now view.now action.now) }
+{
+    let court = matter.court;
+    first_met(&[
+        (lacks_case(view, action), Refusal::NoSuchCase),
+        (lacks_party(view, action), Refusal::NoSuchParty),
+        (lacks_deadline(view, action), Refusal::NoSuchDeadline),
+        (lacks_row(view, action), Refusal::NoSuchCalendarRow),
+        (is_there(view, action), Refusal::Exists),
+        (is_not_open(action, matter.standing), Refusal::NotOpen),
+        (
+            is_not_awaiting(action, matter.standing),
+            Refusal::NotAwaiting,
+        ),
+        (is_not_responsive(view, action), Refusal::NotResponsive),
+        (is_wrong_motion(view, action), Refusal::WrongMotion),
+        (
+            is_after(court, action, matter.standing),
+            Refusal::AfterDeadline,
+        ),
+        (is_served(view, action), Refusal::AlreadyServed),
+        (is_short_waiver(action), Refusal::ShortWaiver),
+        (is_late_waiver(matter.calendar, action), Refusal::LateWaiver),
+        (may_not_extend(view, action), Refusal::MayNotExtend),
+        (is_expired(court, action, matter.standing), Refusal::Expired),
+        (
+            is_not_later(court, action, matter.standing),
+            Refusal::NotLater,
+        ),
+        (
+            is_full(view, matter.added, matter.made, action),
+            Refusal::Full,
+        ),
+    ])
+}
+
+/// The first refusal that applies.
+pub(crate) fn refusal(matter: &Matter<'_>, view: &View, command: &Command) -> Option<Refusal>
+    requires { IsMatter matter.now view.now command.now.action }
+    ensures { result ≡ refusal_of matter.now.court.now view.now command.now }
+{
+    if !is_word(64, &command.key) {
+        return Some(Refusal::BadKey);
+    }
+    if is_reused(view.kept) {
+        return Some(Refusal::KeyReused);
+    }
+    match bad_field(matter.court, &command.action) {
+        Some(field) => Some(Refusal::BadValue(field)),
+        None => state_refusal(matter, view, &command.action),
+    }
+}

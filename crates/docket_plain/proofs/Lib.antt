@@ -1,0 +1,3 @@
+pub mod Firsts
+pub mod PlainSteps
+pub mod Runs

@@ -1,0 +1,2 @@
+pub mod Dockets
+pub mod Vectors

@@ -1,0 +1,11 @@
+//! The docket in memory: its tables in vectors, which stand for a history of commands.
+#![tactic(auto)]
+
+mod plain;
+mod reading;
+#[cfg(test)]
+mod tests;
+mod vectors;
+mod viewing;
+
+pub use plain::{Plain, apply_all};

@@ -1,0 +1,3 @@
+//! The docket in vectors, worked through.
+mod steps;
+mod worked;

@@ -1,0 +1,197 @@
+//! What the tables show about a command.
+ghost use Rattle.std.specs.Prelude.{◌≡◌, ◌==◌, ◌&&◌, ◌+◌, ◌<◌, ◌≤◌, ◌^◌, length, map, IfOk, if◌then◌else◌, []};
+ghost use Rattle.std.specs.List.{list_any};
+ghost use Rattle.std.specs.Option.{option_and_then};
+ghost use Rattle.std.specs.Str.{bytes_eq};
+ghost use Rattle.docket_core.specs.Actions.{case_named, asks_calendar};
+ghost use Rattle.docket_core.specs.Histories.{acts_of_deadline, deadlines_of_case, deadlines_from, parties_of_case, entries_of_case, items_of};
+ghost use Rattle.docket_core.specs.Outcomes.{kept, is_label_taken, is_row_standing};
+ghost use Rattle.docket_core.specs.Tables.{case_in, view_in};
+ghost use Rattle.docket_plain.specs.Vectors.{lists_of, AreSmall};
+
+use crate::vectors::Vectors;
+use court_rules::Act;
+use docket_command::{Action, Command, Text};
+use docket_core::{
+    ActRow, Acts, CalendarItem, CalendarItems, CalendarRow, CaseRow, CaseView, DeadlineRow,
+    DeadlineView, Deadlines, EntryRow, Kept, PartyRow, Receipt, View, asks_calendar, case_named,
+};
+use std::alloc::{AllocError, Global};
+
+fn kept(receipts: &[Receipt], command: &Command) -> Kept
+    ensures { result ≡ kept receipts.now command.now }
+{
+    for receipt in receipts {
+        if receipt.command.key.same(&command.key) {
+            if receipt.command.same(command) {
+                return Kept::Same(receipt.reply);
+            }
+            return Kept::Other;
+        }
+    }
+    Kept::Fresh
+}
+
+fn has_label(cases: &[CaseRow], label: &Text) -> bool
+    ensures { result ≡ list_any (λ row. bytes_eq row.label label.now) cases.now }
+{
+    cases.iter().any(|row| row.label.same(label))
+}
+
+fn is_label_taken(cases: &[CaseRow], action: &Action) -> bool
+    ensures { result ≡ is_label_taken action.now cases.now }
+{
+    match action {
+        Action::OpenCase(a) => has_label(cases, &a.label),
+        _ => false,
+    }
+}
+
+fn has_row(rows: &[CalendarRow], number: u32) -> bool
+    ensures { result ≡ list_any (λ row. row.number == number) rows.now }
+{
+    rows.iter().any(|row| row.number == number)
+}
+
+fn is_row_standing(rows: &[CalendarRow], action: &Action) -> bool
+    ensures { result ≡ is_row_standing action.now rows.now }
+{
+    match action {
+        Action::WithdrawCalendar(a) => has_row(rows, a.row),
+        _ => false,
+    }
+}
+
+fn count_parties(parties: &[PartyRow], case: u32) -> usize
+    ensures { result ≡ length (parties_of_case case parties.now) }
+{
+    parties.iter().filter(|row| row.case == case).count()
+}
+
+fn count_entries(entries: &[EntryRow], case: u32) -> usize
+    ensures { result ≡ length (entries_of_case case entries.now) }
+{
+    entries.iter().filter(|row| row.case == case).count()
+}
+
+fn acts_of(alloc: Global, acts: &[ActRow], case: u32, deadline: u64) -> Result<Vec<Act>, AllocError>
+    ensures { IfOk result (λ found. found.items ≡ acts_of_deadline case deadline acts.now) }
+{
+    let mut found = Vec::new(alloc);
+    for row in acts {
+        if row.case == case && u64::from(row.deadline) == deadline {
+            found.push(row.act)?;
+        }
+    }
+    Ok(found)
+}
+
+/// The deadlines of a case, each with its acts.
+pub(crate) fn deadlines_of(
+    alloc: Global,
+    rows: &[DeadlineRow],
+    acts: &[ActRow],
+    case: u32,
+) -> Result<Vec<DeadlineView>, AllocError>
+    ensures { IfOk result (λ found. found.items ≡ deadlines_from case 1 acts.now (deadlines_of_case case rows.now)) }
+{
+    let mut found = Vec::new(alloc);
+    let mut number = 1u64;
+    for row in rows {
+        if row.case == case {
+            let acts = Acts::new(acts_of(alloc, acts, case, number)?);
+            found.push(DeadlineView {
+                party: row.party,
+                rule: row.rule,
+                initial: row.initial,
+                acts,
+            })?;
+            number += 1;
+        }
+    }
+    Ok(found)
+}
+
+/// What the rows of the calendar enter.
+pub(crate) fn items_of(alloc: Global, rows: &[CalendarRow]) -> Result<Vec<CalendarItem>, AllocError>
+    ensures { IfOk result (λ items. items.items ≡ items_of rows.now) }
+{
+    let mut items = Vec::new(alloc);
+    for row in rows {
+        items.push(row.item)?;
+    }
+    Ok(items)
+}
+
+fn items_for(
+    alloc: Global,
+    rows: &[CalendarRow],
+    action: &Action,
+) -> Result<CalendarItems, AllocError>
+    ensures { IfOk result (λ items. items ≡ (if asks_calendar action.now then items_of rows.now else [])) }
+{
+    if asks_calendar(action) {
+        Ok(CalendarItems::new(items_of(alloc, rows)?))
+    } else {
+        Ok(CalendarItems::new(Vec::new(alloc)))
+    }
+}
+
+/// The case of a number.
+fn case_of(alloc: Global, tables: &Vectors, number: u32) -> Result<Option<CaseView>, AllocError>
+    requires { AreSmall tables.now }
+    ensures { IfOk result (λ case. case ≡ case_in (lists_of tables.now) number) }
+{
+    if number < 1 || tables.cases.len() < number as usize {
+        return Ok(None);
+    }
+    let deadlines = deadlines_of(
+        alloc,
+        tables.deadlines.as_slice(),
+        tables.acts.as_slice(),
+        number,
+    )?;
+    let parties = count_parties(tables.parties.as_slice(), number);
+    let entries = count_entries(tables.entries.as_slice(), number);
+    Ok(Some(CaseView {
+        number,
+        parties: parties as u32,
+        entries: entries as u32,
+        deadlines: Deadlines::new(deadlines),
+    }))
+}
+
+fn case_for(
+    alloc: Global,
+    tables: &Vectors,
+    action: &Action,
+) -> Result<Option<CaseView>, AllocError>
+    requires { AreSmall tables.now }
+    ensures { IfOk result (λ case. case ≡ option_and_then (case_in (lists_of tables.now)) (case_named action.now)) }
+{
+    match case_named(action) {
+        Some(number) => case_of(alloc, tables, number),
+        None => Ok(None),
+    }
+}
+
+/// What the tables show about a command.
+pub(crate) fn view_of(
+    alloc: Global,
+    tables: &Vectors,
+    command: &Command,
+) -> Result<View, AllocError>
+    requires { AreSmall tables.now }
+    ensures { IfOk result (λ view. view ≡ view_in (lists_of tables.now) command.now) }
+{
+    let action = &command.action;
+    Ok(View {
+        kept: kept(tables.receipts.as_slice(), command),
+        cases: tables.cases.len() as u32,
+        label_taken: is_label_taken(tables.cases.as_slice(), action),
+        case: case_for(alloc, tables, action)?,
+        row_stands: is_row_standing(tables.calendar.as_slice(), action),
+        calendar: items_for(alloc, tables.calendar.as_slice(), action)?,
+        next_row: tables.next_row,
+    })
+}
