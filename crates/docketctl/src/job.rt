@@ -8,6 +8,8 @@ use std::alloc::{AllocError, Global};
 pub enum Job {
     /// `count`, or no word at all: answer lines of days from standard input.
     Count,
+    /// `run`: answer commands of the docket from standard input.
+    Run,
 }
 
 /// The program's command line.
@@ -15,12 +17,16 @@ fn command<'a>(alloc: Global) -> Result<Command<'a>, AllocError> {
     let count = Command::new(alloc, "count")
         .about("Enter days and count periods, one line of standard input after the other")
         .after_help(COUNT_HELP);
+    let run = Command::new(alloc, "run")
+        .about("Keep a docket in memory, and answer one command a line of standard input")
+        .after_help(RUN_HELP);
     Command::new(alloc, "docketctl")
         .bin_name("docketctl")?
         .about("The civil docket of a United States district court, with computed filing deadlines")
         .after_help("With no command, docketctl counts.")
         .version("0.1.0")
-        .subcommand(count)
+        .subcommand(count)?
+        .subcommand(run)
 }
 
 const COUNT_HELP: &str = "\
@@ -49,9 +55,27 @@ line `bad`.
 Exit status: 0 all lines were answered, 1 one of them with `bad` or `full`, 2 bad command
 line, 3 reading, writing or memory failed.";
 
+const RUN_HELP: &str = "\
+Each line is a command, a JSON object with its name `do`, a key of the caller's own and its
+fields, and is answered by one line before the next command is applied:
+  {\"caption\":\"Roe v. Doe\",\"do\":\"open_case\",\"filed\":\"2025-06-02\",\"key\":\"k1\",\"label\":\"1:25-cv-00001\"}
+  {\"number\":1}
+A command that is sent again under its key has the reply that it had, and acts once. One that is
+refused, or a line that is no command, changes nothing:
+  {\"name\":\"Exists\",\"refused\":8}
+  {\"fault\":4,\"field\":\"case\",\"name\":\"MissingField\"}
+The docket is kept in memory and ends with the program. Its court has the zone UTC0 and closes at
+17:00.
+
+Exit status: 0 all commands were accepted, 1 a line was refused or no command, 2 bad command
+line, 3 reading, writing or memory failed.";
+
 /// What the words ask for, the first of which is the program's name. The error is what to print: a
 /// bad command line, a help text or the version.
 pub fn read_job<'a>(alloc: Global, words: &'a [String]) -> Result<Job, Error> {
-    command(alloc)?.try_get_matches_from(words)?;
-    Ok(Job::Count)
+    let matches = command(alloc)?.try_get_matches_from(words)?;
+    Ok(match matches.subcommand_name() {
+        Some("run") => Job::Run,
+        _ => Job::Count,
+    })
 }

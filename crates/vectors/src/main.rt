@@ -1,13 +1,26 @@
-//! Runs `count` on stored inputs, and compares what it writes with outputs that an independent model
-//! of the rules computed. It prints a line for each input, and exits with 1 where one differs.
+//! Runs `count` and `run` on stored inputs, and compares what they write with outputs that an
+//! independent model of the rules and of the docket computed. It prints a line for each input, and
+//! exits with 1 where one differs.
 #![tactic(auto)]
 
+use command_lines::{Clerk, command_run};
 use count_lines::count_run;
+use court_days::Court;
+use docket_plain::Plain;
 use std::process::ExitCode;
 use std::{fs, io};
 
-/// The inputs are data/NAME.in, and what is to be written is data/NAME.out.
-const NAMES: [&str; 4] = ["count-days", "count-1", "count-2", "count-3"];
+/// Inputs of `count`: data/NAME.in, and what is to be written is data/NAME.out.
+const COUNTS: [&str; 4] = ["count-days", "count-1", "count-2", "count-3"];
+
+/// Inputs of `run`, in the same way.
+const RUNS: [&str; 5] = [
+    "run-calendar",
+    "run-chain",
+    "run-general",
+    "run-hours",
+    "run-wire",
+];
 
 /// How many lines two texts begin with alike.
 fn lines_alike(left: &[u8], right: &[u8]) -> usize {
@@ -17,17 +30,11 @@ fn lines_alike(left: &[u8], right: &[u8]) -> usize {
         .count()
 }
 
-/// Whether `count` writes on the input what the model wrote.
-fn agrees(rt: &HostRuntime, name: &str) -> io::Result<bool> {
-    let input = fs::read(rt, format!(in rt.alloc(); "{name}.in")?.as_str())?;
+/// Whether what was written on the input of that name is what the model wrote.
+fn agrees(rt: &HostRuntime, name: &str, written: &[u8]) -> io::Result<bool> {
     let wanted = fs::read(rt, format!(in rt.alloc(); "{name}.out")?.as_str())?;
-    let mut written = Vec::new(rt.alloc());
-    if let Err(fault) = count_run(rt.alloc(), &mut input.as_slice(), &mut written) {
-        println!(rt; "{name}: {fault}")?;
-        return Ok(false);
-    }
-    if written.as_slice() != wanted.as_slice() {
-        let alike = lines_alike(&written, &wanted);
+    if written != wanted.as_slice() {
+        let alike = lines_alike(written, &wanted);
         println!(rt; "{name}: alike for {alike} lines, and then different")?;
         return Ok(false);
     }
@@ -35,10 +42,40 @@ fn agrees(rt: &HostRuntime, name: &str) -> io::Result<bool> {
     Ok(true)
 }
 
+fn input(rt: &HostRuntime, name: &str) -> io::Result<Vec<u8>> {
+    fs::read(rt, format!(in rt.alloc(); "{name}.in")?.as_str())
+}
+
+fn count_agrees(rt: &HostRuntime, name: &str) -> io::Result<bool> {
+    let mut written = Vec::new(rt.alloc());
+    if let Err(fault) = count_run(rt.alloc(), &mut input(rt, name)?.as_slice(), &mut written) {
+        println!(rt; "{name}: {fault}")?;
+        return Ok(false);
+    }
+    agrees(rt, name, &written)
+}
+
+fn run_agrees(rt: &HostRuntime, name: &str) -> io::Result<bool> {
+    let Ok(court) = Court::read(rt.alloc(), "UTC0", "17:00") else {
+        return Ok(false);
+    };
+    let mut clerk = Clerk::new(rt.alloc(), Plain::new(rt.alloc(), court));
+    let mut written = Vec::new(rt.alloc());
+    let lines = input(rt, name)?;
+    if let Err(fault) = command_run(rt.alloc(), &mut lines.as_slice(), &mut written, &mut clerk) {
+        println!(rt; "{name}: {fault}")?;
+        return Ok(false);
+    }
+    agrees(rt, name, &written)
+}
+
 fn main(rt: HostRuntime) -> io::Result<ExitCode> {
     let mut all = true;
-    for name in NAMES {
-        all &= agrees(&rt, name)?;
+    for name in COUNTS {
+        all &= count_agrees(&rt, name)?;
+    }
+    for name in RUNS {
+        all &= run_agrees(&rt, name)?;
     }
     Ok(if all {
         ExitCode::SUCCESS

@@ -9,7 +9,9 @@ use std::test::Fail;
 const MANY: u32 = 1_000_000;
 
 /// Lines and their answers, each from an empty calendar.
-const ROWS: [(&str, &str); 35] = [
+type Row = (&'static str, &'static str);
+
+const FORWARD_AND_BACKWARD: [Row; 8] = [
     ("forward 2007-08-02 30\n", "2007-09-04\n"),
     ("backward 2007-09-22 21\n", "2007-08-31\n"),
     (
@@ -30,6 +32,9 @@ const ROWS: [(&str, &str); 35] = [
         "forward 2099-12-31 3650\nbackward 2000-01-01 3650\n",
         "2109-12-30\n1990-01-03\n",
     ),
+];
+
+const BAD_AND_CLOSED: [Row; 4] = [
     ("forward 2100-01-01 1\nforward 2025-01-01 0\n", "bad\nbad\n"),
     (
         "forward 2025-01-01 3651\nforward 2025-02-29 1\n",
@@ -40,6 +45,9 @@ const ROWS: [(&str, &str); 35] = [
         "closed 2025-12-05\nclosed 2025-12-08\nclosed 2025-12-09\nclosed 2025-12-10\nclosed 2025-12-11\nclosed 2025-12-12\nbackward 2025-12-12 7\n",
         "ok\nok\nok\nok\nok\nok\n2025-12-15\n",
     ),
+];
+
+const RULES_AND_MONTHS: [Row; 7] = [
     (
         "rule 12(a)(1)(B) 2025-11-01 C\nrule 12(a)(1)(B) 2025-11-01 E\n",
         "2025-11-28\n2025-11-24\n",
@@ -62,6 +70,9 @@ const ROWS: [(&str, &str); 35] = [
         "rule order 2025-12-12 none\nrule 59(e) 2025-12-12 G\nmonths forward 2025-12-12 121\n",
         "bad\nbad\nbad\n",
     ),
+];
+
+const HOURS: [Row; 6] = [
     (
         "zone EST5EDT,M3.2.0,M11.1.0 17:00\nhours forward 2007-11-02T10:23-04:00 72\n",
         "ok\n2007-11-05T09:23-05:00\n",
@@ -83,6 +94,9 @@ const ROWS: [(&str, &str); 35] = [
         "ok\nok\n2025-03-12T03:30-04:00\n",
     ),
     ("zone EST5EDT 17:00\nzone UTC0 24:00\n", "bad\nbad\n"),
+];
+
+const MORE_HOURS: [Row; 5] = [
     (
         "zone EST5EDT,M3.2.0,M11.1.0 17:00\nhours forward 2025-06-20T00:00-04:00 24\n",
         "ok\n2025-06-23T00:00-04:00\n",
@@ -103,6 +117,9 @@ const ROWS: [(&str, &str); 35] = [
         "span 2025-06-23T16:00+00:00 2025-06-23T16:00+00:00\nhours forward 2025-06-23T16:00+00:00 0\n",
         "bad\nbad\n",
     ),
+];
+
+const ENDS_OF_LINES: [Row; 5] = [
     ("closed 2007-08-31\nclosed 2007-08-31\n", "ok\nok\n"),
     ("\n\r\n", "\n\n"),
     ("", ""),
@@ -113,9 +130,9 @@ const ROWS: [(&str, &str); 35] = [
     ("forward 2007-08-02 30\r", "bad\n"),
 ];
 
-#[test]
-fn rows(rt: HostRuntime) -> Result<(), Fail> {
-    for (lines, answers) in ROWS {
+/// Compares the answers to each row, with the lines in whatever pieces.
+fn check(rt: &HostRuntime, rows: &[Row]) -> Result<(), Fail> {
+    for (lines, answers) in rows {
         for size in [1, 7, 4096] {
             let mut reader = Pieces {
                 rest: lines.as_bytes(),
@@ -124,15 +141,35 @@ fn rows(rt: HostRuntime) -> Result<(), Fail> {
             };
             let mut writer = Vec::new(rt.alloc());
             let end = count_run(rt.alloc(), &mut reader, &mut writer)?;
-            assert_eq!(rt;
-                writer.as_slice(),
-                answers.as_bytes(),
-                "{lines:?} in pieces of {size}"
-            );
-            assert_eq!(rt; end.lines, answers.lines().count() as u64, "{lines:?}");
+            let is_counted = end.lines == answers.lines().count() as u64;
+            if writer.as_slice() != answers.as_bytes() || !is_counted {
+                return Err(Fail::new(lines));
+            }
         }
     }
     Ok(())
+}
+
+#[test]
+fn days(rt: HostRuntime) -> Result<(), Fail> {
+    check(&rt, &FORWARD_AND_BACKWARD)?;
+    check(&rt, &BAD_AND_CLOSED)
+}
+
+#[test]
+fn rules_and_months(rt: HostRuntime) -> Result<(), Fail> {
+    check(&rt, &RULES_AND_MONTHS)
+}
+
+#[test]
+fn hours(rt: HostRuntime) -> Result<(), Fail> {
+    check(&rt, &HOURS)?;
+    check(&rt, &MORE_HOURS)
+}
+
+#[test]
+fn ends_of_lines(rt: HostRuntime) -> Result<(), Fail> {
+    check(&rt, &ENDS_OF_LINES)
 }
 
 #[test]

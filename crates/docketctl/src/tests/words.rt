@@ -13,19 +13,24 @@ fn words_of(rt: &HostRuntime, line: &str) -> Result<Vec<String>, Fail> {
 
 #[test]
 fn jobs(rt: HostRuntime) -> Result<(), Fail> {
-    for line in ["docketctl", "docketctl count"] {
+    for (line, wanted) in [
+        ("docketctl", Job::Count),
+        ("docketctl count", Job::Count),
+        ("docketctl run", Job::Run),
+    ] {
         let words = words_of(&rt, line)?;
         let job = read_job(rt.alloc(), words.as_slice());
-        assert!(rt; matches!(job, Ok(Job::Count)), "{line}");
+        assert!(rt; job.is_ok_and(|job| job == wanted), "{line}");
     }
     Ok(())
 }
 
 /// What is printed where the words ask for no job, and whether that is a mistake.
-const TEXTS: [(&str, &str, bool); 6] = [
+const TEXTS: [(&str, &str, bool); 7] = [
     ("docketctl --help", "Usage: docketctl [COMMAND]", false),
     ("docketctl --version", "docketctl 0.1.0", false),
     ("docketctl count --help", "forward DAY N", false),
+    ("docketctl run --help", "answer one command a line", false),
     (
         "docketctl dance",
         "error: unrecognized subcommand 'dance'",

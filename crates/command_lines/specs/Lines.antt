@@ -1,0 +1,68 @@
+-- What each line of `run` comes to.
+use Rattle.std.specs.Prelude.{◌≡◌, ◌⊎◌, ℕ, Bool, true, false, List, [], ◌∷◌, ◌++◌, Result, Ok, Err}
+use Rattle.docket_command.specs.declared.command.Command.{Command}
+use Rattle.docket_command.specs.declared.refusal.Refusal.{Refusal}
+use Rattle.docket_command.specs.declared.refusal.Reply.{Reply}
+use Rattle.docket_core.specs.Outcomes.{Answer, repeated, refused, accepted, outcome, after_answer}
+use Rattle.docket_plain.specs.Dockets.{Docket}
+use Rattle.docket_wire.specs.Reading.{command_in}
+use Rattle.docket_wire.specs.Texts.{reply_text, fault_text}
+use Rattle.docket_wire.specs.declared.fault.WireFault.{WireFault}
+use Rattle.docket_wire.specs.declared.fault.WireFault.TheVariants.{NotJson}
+use Rattle.line_io.specs.Report.{Judged, within, text_of, bad_of, after_of}
+use Rattle.line_io.specs.Lines.{lines_of}
+
+-- the reply to a repeat is the one that it had
+abbrev pub answer_text : Answer → List ℕ
+answer_text (repeated reply) = reply_text (Ok reply)
+answer_text (accepted reply) = reply_text (Ok reply)
+answer_text (refused r) = reply_text (Err r)
+
+abbrev pub is_refused : Answer → Bool
+is_refused (refused r) = true
+is_refused _ = false
+
+-- what is said is this answer
+abbrev pub IsSaid : Result Reply Refusal → Answer → Type 0
+IsSaid (Ok reply) answer = (answer ≡ repeated reply) ⊎ (answer ≡ accepted reply)
+IsSaid (Err r) answer = answer ≡ refused r
+
+-- a line that spells no command is answered by its fault, and changes nothing
+abbrev pub judged_fault : Docket → WireFault → Judged Docket
+judged_fault docket fault = record { text = fault_text fault ++ 10 ∷ []; bad = true; after = docket }
+
+-- an answer to a command: only one that is accepted changes the docket
+abbrev pub judged_answer : Docket → Command → Answer → Judged Docket
+judged_answer docket c answer = record {
+  text = answer_text answer ++ 10 ∷ [];
+  bad = is_refused answer;
+  after = record { court = docket.court; history = after_answer answer docket.history c };
+}
+
+abbrev pub judged_read : Docket → Result Command WireFault → Judged Docket
+judged_read docket (Ok c) = judged_answer docket c (outcome docket.court docket.history c)
+judged_read docket (Err fault) = judged_fault docket fault
+
+-- a line, by the docket that the lines before it left
+abbrev pub judged : Docket → List ℕ → Judged Docket
+judged docket line = judged_read docket (command_in line)
+
+-- a line over 1,048,576 bytes is no command either
+abbrev pub judged_long : Docket → Judged Docket
+judged_long docket = judged_fault docket NotJson
+
+-- the answers to the lines in order
+abbrev pub run_text : Docket → List ℕ → List ℕ
+run_text docket input = text_of (within 1_048_576 judged judged_long) docket (lines_of input)
+
+-- how many of them are refusals and faults
+abbrev pub bad_answers : Docket → List ℕ → ℕ
+bad_answers docket input = bad_of (within 1_048_576 judged judged_long) docket (lines_of input)
+
+-- the docket that the lines leave
+abbrev pub docket_after : Docket → List ℕ → Docket
+docket_after docket input = after_of (within 1_048_576 judged judged_long) docket (lines_of input)
+
+-- after a fault the docket stands as before the line, or as after it
+abbrev pub IsEither : Docket → Docket → Docket → Type 0
+IsEither docket before next = (docket ≡ before) ⊎ (docket ≡ next)
