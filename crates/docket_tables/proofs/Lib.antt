@@ -1,0 +1,6 @@
+mod CellLemmas
+mod CommitLemmas
+mod InsertLemmas
+mod LayoutLemmas
+mod ProbeLemmas
+mod StandsLemmas

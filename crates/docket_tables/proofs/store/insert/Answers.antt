@@ -1,0 +1,12 @@
+use Rattle.std.proofs.Common.{ap, subst}
+use Rattle.std.proofs.lemmas.Result.{IfOk-weaker}
+use Rattle.sqlite.specs.Held.{state}
+use Rattle.sqlite.specs.Values.{bound}
+use Rattle.docket_tables.proofs.LayoutLemmas.{inserted}
+use Rattle.docket_tables.proofs.store.insert.Goals as goal
+
+pub returns-clause-ok : goal.returns-clause-ok
+returns-clause-ok g c clean fits rows sees =
+    let old = state g.S.Store c.args.tx.now.conn.now in
+    let new = state g.S.Store c.change.new.tx.conn.now in
+    IfOk-weaker c.change.result _ _ (λ _ h. inserted c.args.table (bound c.args.values.now) rows old new h.0 fits sees (rw c.insert_text.ensures at h.1) h.2) (c.change.ensures.runs clean)

@@ -1,0 +1,5 @@
+pub mod Holds
+pub mod Layouts
+pub mod Schema
+pub mod Stands
+pub mod Statements

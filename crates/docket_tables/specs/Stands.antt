@@ -1,0 +1,61 @@
+-- What it is for a connection to hold rows, and what a power failure leaves of them.
+use Rattle.std.specs.Prelude.{◌≡◌, ◌⊎◌, false, IsTrue}
+use Rattle.sqlite.specs.Tree.{Trees}
+use Rattle.sqlite.specs.Store.{Ghosts}
+use Rattle.sqlite.specs.Effect.{IsDatabase}
+use Rattle.sqlite.specs.State.{State, HasCleanDisk, KeepsCommit, Survives}
+use Rattle.sqlite.specs.Held.{Held, state}
+use Rattle.sqlite_catalog.specs.Listing.{IsSound}
+use Rattle.docket_tables.specs.Schema.{docket_schema}
+use Rattle.docket_tables.specs.Layouts.{Rows, AreRows}
+
+-- a database that a power failure leaves has the docket's tables, and in them the rows
+pub record IsImage (rows : Rows) (db : Trees) : Type 0 where
+  pub sound : ∥ IsSound docket_schema db ∥₁
+  pub holds : AreRows rows db
+
+-- the connection is open, and sees the rows
+pub record Shows (s : State) (rows : Rows) : Type 0 where
+  pub is_open : IsTrue s.is_open
+  pub schema : s.now.schema ≡ docket_schema
+  pub live : IsDatabase s.now
+  pub holds : AreRows rows s.now.trees
+
+-- the same inside a transaction
+pub record Sees (s : State) (rows : Rows) : Type 0 where
+  pub begun : IsTrue s.in_transaction
+  pub shows : Shows s rows
+
+-- no transaction is open, the connection sees the rows, and so does each database that a power failure may leave
+pub record IsSettled (s : State) (rows : Rows) : Type 0 where
+  pub idle : s.in_transaction ≡ false
+  pub shows : Shows s rows
+  pub committed : s.committed ≡ s.now
+  pub images : (db : Trees) → s.may_leave db → IsImage rows db
+
+-- the same, but that the connection may be shut
+pub record IsLasting (s : State) (rows : Rows) : Type 0 where
+  pub images : (db : Trees) → s.may_leave db → IsImage rows db
+  pub settled : IsTrue s.is_open → IsSettled s rows
+
+-- a power failure leaves the rows as they were or as they were to become; the connection is as it was, or shut
+pub record IsEither (s : State) (rows next : Rows) : Type 0 where
+  pub images : (db : Trees) → s.may_leave db → IsImage rows db ⊎ IsImage next db
+  pub settled : IsTrue s.is_open → IsSettled s rows
+
+-- a power failure inside the transaction leaves what it could leave before
+abbrev pub CommitsNothing : State → State → Type 0
+CommitsNothing old new = Survives old new (λ _. ⊥)
+
+module _ {S : Type 0} (g : Ghosts S) where
+  -- the connection holds the rows
+  abbrev pub HoldsRows : Held S → Rows → Type 0
+  HoldsRows c rows = (c.in_transaction ≡ false) × (HasCleanDisk (state g c) → IsSettled (state g c) rows)
+
+  -- the same, but that the connection may be shut
+  abbrev pub Lasts : Held S → Rows → Type 0
+  Lasts c rows = (c.in_transaction ≡ false) × (HasCleanDisk (state g c) → IsLasting (state g c) rows)
+
+  -- a write that did not end well
+  abbrev pub LastsAsEither : Held S → Rows → Rows → Type 0
+  LastsAsEither c rows next = (c.in_transaction ≡ false) × (HasCleanDisk (state g c) → IsEither (state g c) rows next)

@@ -1,0 +1,8 @@
+//! The tables of the docket in one SQLite database: their schema, the statements, and rows in them.
+#![tactic(auto)]
+
+mod statement;
+mod store;
+mod table;
+
+pub use table::Table;

@@ -1,0 +1,37 @@
+//! The texts of the statements.
+ghost use Rattle.std.specs.Prelude.{◌≡◌};
+ghost use Rattle.docket_tables.specs.Statements.{insert_text};
+
+use crate::table::Table;
+
+/// Adds a row to the table.
+pub(crate) fn insert_text(table: Table) -> &'static str
+    ensures { result.now ≡ insert_text table }
+{
+    match table {
+        Table::Court => {
+            "INSERT INTO court (id, word, version, zone, close, next_row) VALUES (?1, ?2, ?3, ?4, ?5, ?6)"
+        }
+        Table::Calendar => {
+            "INSERT INTO calendar (row_no, kind, a, b, name) VALUES (?1, ?2, ?3, ?4, ?5)"
+        }
+        Table::Cases => {
+            "INSERT INTO cases (number, label, caption, filed) VALUES (?1, ?2, ?3, ?4)"
+        }
+        Table::Parties => {
+            "INSERT INTO party (case_no, number, name, role) VALUES (?1, ?2, ?3, ?4)"
+        }
+        Table::Entries => {
+            "INSERT INTO entry (case_no, number, day, body) VALUES (?1, ?2, ?3, ?4)"
+        }
+        Table::Deadlines => {
+            "INSERT INTO deadline (case_no, number, party, rule, initial) VALUES (?1, ?2, ?3, ?4, ?5)"
+        }
+        Table::Acts => {
+            "INSERT INTO act (case_no, deadline_no, number, kind, p1, p2, p3, p4, p5) VALUES (?1, ?2, ?3, ?4, ?5, ?6, ?7, ?8, ?9)"
+        }
+        Table::Receipts => {
+            "INSERT INTO receipt (command_key, body, reply) VALUES (?1, ?2, ?3)"
+        }
+    }
+}

@@ -1,0 +1,76 @@
+//! Calls of the database.
+ghost use Rattle.std.specs.Prelude.{◌≡◌, ◌≤◌, ◌⊎◌, ℕ, Ok, OnOk, OnErr, IfOk, IsTrue, false, true};
+ghost use Rattle.sqlite.specs.Given.{IsPlain};
+ghost use Rattle.sqlite.specs.Held.{state};
+ghost use Rattle.sqlite.specs.Listing.{understood};
+ghost use Rattle.sqlite.specs.State.{HasCleanDisk, Shown, Executes, KeepsCommit, Shows as Turns};
+ghost use Rattle.sqlite.specs.Values.{bound};
+ghost use Rattle.sqlite.specs.View.{doubt};
+ghost use Rattle.docket_tables.specs.Layouts.{Rows, Fits, with_row};
+ghost use Rattle.docket_tables.specs.Schema.{docket_schema};
+ghost use Rattle.docket_tables.specs.Stands.{HoldsRows, Lasts, LastsAsEither, Sees, CommitsNothing};
+
+use crate::statement::insert_text;
+use crate::table::Table;
+use sqlite::types::ValueRef;
+use sqlite::{Alter, Connection, Error, Row, Transaction};
+
+/// All rows of a query that writes nothing.
+pub(crate) fn read<S: Alter>(
+    conn: &mut Connection<S>,
+    sql: &str,
+    params: &[ValueRef<'_>],
+) -> Result<Vec<Row>, Error>
+    ensures ok { (rows : Rows) → HoldsRows S.Store conn.old rows → IsPlain (understood docket_schema sql.now) → IfOk result (λ found. HoldsRows S.Store conn.new rows
+        × (HasCleanDisk (state S.Store conn.new) → Shown sql.now (bound params.now) (state S.Store conn.old) (state S.Store conn.new) found.items)) }
+    ensures err { (rows : Rows) → HoldsRows S.Store conn.old rows → IsPlain (understood docket_schema sql.now) → OnErr result (Lasts S.Store conn.new rows) }
+    ensures clean { doubt (state S.Store conn.old).is_clean ≤ doubt (state S.Store conn.new).is_clean }
+    ensures mode { conn.old.in_transaction ≡ false → conn.new.in_transaction ≡ false }
+{
+    conn.query_all(sql, params)
+}
+
+/// One statement of a transaction. Only the commit commits it.
+pub(crate) fn change<S: Alter>(
+    tx: &mut Transaction<'_, S>,
+    sql: &str,
+    params: &[ValueRef<'_>],
+) -> Result<(), Error>
+    ensures same_reference { tx.new.conn.ghost_name ≡ tx.old.conn.ghost_name }
+    ensures kept { HasCleanDisk (state S.Store tx.new.conn.now) → KeepsCommit (state S.Store tx.old.conn.now) (state S.Store tx.new.conn.now) }
+    ensures survives { CommitsNothing (state S.Store tx.old.conn.now) (state S.Store tx.new.conn.now) }
+    ensures runs { HasCleanDisk (state S.Store tx.new.conn.now) → OnOk result ((count : ℕ) × Executes sql.now (bound params.now) (state S.Store tx.old.conn.now) (state S.Store tx.new.conn.now) (Ok count)
+        × Turns (state S.Store tx.old.conn.now) (state S.Store tx.new.conn.now) (state S.Store tx.new.conn.now).now (state S.Store tx.old.conn.now).committed true) }
+{
+    tx.execute(sql, params)?;
+    Ok(())
+}
+
+/// Adds a row to the table.
+pub(crate) fn insert<S: Alter>(
+    tx: &mut Transaction<'_, S>,
+    table: Table,
+    values: &[ValueRef<'_>],
+) -> Result<(), Error>
+    ensures same_reference { tx.new.conn.ghost_name ≡ tx.old.conn.ghost_name }
+    ensures kept { HasCleanDisk (state S.Store tx.new.conn.now) → KeepsCommit (state S.Store tx.old.conn.now) (state S.Store tx.new.conn.now) }
+    ensures survives { CommitsNothing (state S.Store tx.old.conn.now) (state S.Store tx.new.conn.now) }
+    ensures ok { HasCleanDisk (state S.Store tx.new.conn.now) → Fits table (bound values.now) → (rows : Rows) → Sees (state S.Store tx.old.conn.now) rows
+        → OnOk result (Sees (state S.Store tx.new.conn.now) (with_row table (bound values.now) rows)) }
+{
+    change(tx, insert_text(table), values)
+}
+
+/// Whether the store still answers. An empty statement and its commit write nothing.
+pub(crate) fn is_alive<S: Alter>(conn: &mut Connection<S>) -> bool
+    requires { conn.old.in_transaction ≡ false }
+    ensures idle { conn.new.in_transaction ≡ false }
+    ensures either { (rows next : Rows) → LastsAsEither S.Store conn.old rows next → LastsAsEither S.Store conn.new rows next }
+    ensures alive { (rows next : Rows) → LastsAsEither S.Store conn.old rows next → IsTrue result → HoldsRows S.Store conn.new rows }
+{
+    let mut tx = conn.transaction();
+    if change(&mut tx, "", &[]).is_err() {
+        return false;
+    }
+    tx.commit().is_ok()
+}
