@@ -3,4 +3,6 @@ mod CommitLemmas
 mod InsertLemmas
 mod LayoutLemmas
 mod ProbeLemmas
+mod QueryLemmas
+mod SelectLemmas
 mod StandsLemmas

@@ -1,5 +1,6 @@
 pub mod Holds
 pub mod Layouts
+pub mod Queries
 pub mod Schema
 pub mod Stands
 pub mod Statements

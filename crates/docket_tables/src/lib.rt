@@ -1,8 +1,10 @@
 //! The tables of the docket in one SQLite database: their schema, the statements, and rows in them.
 #![tactic(auto)]
 
+mod query;
 mod statement;
 mod store;
 mod table;
 
+pub use query::Query;
 pub use table::Table;

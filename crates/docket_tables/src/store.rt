@@ -7,9 +7,11 @@ ghost use Rattle.sqlite.specs.State.{HasCleanDisk, Shown, Executes, KeepsCommit,
 ghost use Rattle.sqlite.specs.Values.{bound};
 ghost use Rattle.sqlite.specs.View.{doubt};
 ghost use Rattle.docket_tables.specs.Layouts.{Rows, Fits, with_row};
+ghost use Rattle.docket_tables.specs.Queries.{IsAnswer, table_of};
 ghost use Rattle.docket_tables.specs.Schema.{docket_schema};
 ghost use Rattle.docket_tables.specs.Stands.{HoldsRows, Lasts, LastsAsEither, Sees, CommitsNothing};
 
+use crate::query::{Query, select_text};
 use crate::statement::insert_text;
 use crate::table::Table;
 use sqlite::types::ValueRef;
@@ -28,6 +30,21 @@ pub(crate) fn read<S: Alter>(
     ensures mode { conn.old.in_transaction ≡ false → conn.new.in_transaction ≡ false }
 {
     conn.query_all(sql, params)
+}
+
+/// The rows that answer a question about these values.
+pub(crate) fn ask<S: Alter>(
+    conn: &mut Connection<S>,
+    query: Query,
+    values: &[ValueRef<'_>],
+) -> Result<Vec<Row>, Error>
+    ensures ok { (rows : Rows) → HoldsRows S.Store conn.old rows → IfOk result (λ found. HoldsRows S.Store conn.new rows
+        × (HasCleanDisk (state S.Store conn.new) → IsAnswer query (bound values.now) (rows (table_of query)) found.items)) }
+    ensures err { (rows : Rows) → HoldsRows S.Store conn.old rows → OnErr result (Lasts S.Store conn.new rows) }
+    ensures clean { doubt (state S.Store conn.old).is_clean ≤ doubt (state S.Store conn.new).is_clean }
+    ensures mode { conn.old.in_transaction ≡ false → conn.new.in_transaction ≡ false }
+{
+    read(conn, select_text(query), values)
 }
 
 /// One statement of a transaction. Only the commit commits it.

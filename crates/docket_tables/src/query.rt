@@ -1,0 +1,81 @@
+//! The questions to the tables.
+ghost use Rattle.std.specs.Prelude.{◌≡◌};
+ghost use Rattle.docket_tables.specs.Queries.{select_text};
+
+/// A question to a table.
+#[derive(Clone, Copy, Debug, PartialEq, Eq)]
+pub enum Query {
+    /// The row of the court.
+    Court,
+    /// The rows of the calendar, in the order of their numbers.
+    Calendar,
+    /// The calendar row of a number.
+    CalendarRow,
+    /// The case with the highest number.
+    LastCase,
+    /// The case of a label.
+    CaseLabelled,
+    /// The case of a number.
+    CaseNumbered,
+    /// The party with the highest number in a case.
+    LastParty,
+    /// The parties of a case, in the order of their numbers.
+    Parties,
+    /// The entry with the highest number in a case.
+    LastEntry,
+    /// The entries of a case, in the order of their numbers.
+    Entries,
+    /// The deadlines of a case, in the order of their numbers.
+    Deadlines,
+    /// The acts of a deadline of a case, in the order of their numbers.
+    Acts,
+    /// The receipt under a key.
+    Receipt,
+}
+
+/// The text of the statement that asks it.
+pub(crate) fn select_text(query: Query) -> &'static str
+    ensures { result.now ≡ select_text query }
+{
+    match query {
+        Query::Court => {
+            "SELECT id, word, version, zone, close, next_row FROM court"
+        }
+        Query::Calendar => {
+            "SELECT row_no, kind, a, b, name FROM calendar ORDER BY row_no"
+        }
+        Query::CalendarRow => {
+            "SELECT row_no, kind, a, b, name FROM calendar WHERE row_no = ?1"
+        }
+        Query::LastCase => {
+            "SELECT number, label, caption, filed FROM cases ORDER BY number DESC LIMIT 1"
+        }
+        Query::CaseLabelled => {
+            "SELECT number, label, caption, filed FROM cases WHERE label = ?1"
+        }
+        Query::CaseNumbered => {
+            "SELECT number, label, caption, filed FROM cases WHERE number = ?1"
+        }
+        Query::LastParty => {
+            "SELECT case_no, number, name, role FROM party WHERE case_no = ?1 ORDER BY number DESC LIMIT 1"
+        }
+        Query::Parties => {
+            "SELECT case_no, number, name, role FROM party WHERE case_no = ?1 ORDER BY number"
+        }
+        Query::LastEntry => {
+            "SELECT case_no, number, day, body FROM entry WHERE case_no = ?1 ORDER BY number DESC LIMIT 1"
+        }
+        Query::Entries => {
+            "SELECT case_no, number, day, body FROM entry WHERE case_no = ?1 ORDER BY number"
+        }
+        Query::Deadlines => {
+            "SELECT case_no, number, party, rule, initial FROM deadline WHERE case_no = ?1 ORDER BY number"
+        }
+        Query::Acts => {
+            "SELECT case_no, deadline_no, number, kind, p1, p2, p3, p4, p5 FROM act WHERE case_no = ?1 AND deadline_no = ?2 ORDER BY number"
+        }
+        Query::Receipt => {
+            "SELECT command_key, body, reply FROM receipt WHERE command_key = ?1"
+        }
+    }
+}
