@@ -1,0 +1,56 @@
+-- The rows of the docket's tables in SQL: the values of the columns, in order.
+use Rattle.std.specs.Prelude.{ℕ, pos, List, [], ◌∷◌, codes}
+use Rattle.sqlite_value.specs.declared.value.Value.TheVariants.{Int, Text}
+use Rattle.sqlite_value.specs.Order.{Row}
+use Rattle.court_days.specs.Court.{CourtSettings}
+use Rattle.court_rules.specs.Rules.{name_of}
+use Rattle.docket_core.specs.declared.row.CalendarRow.{CalendarRow}
+use Rattle.docket_core.specs.declared.row.CaseRow.{CaseRow}
+use Rattle.docket_core.specs.declared.row.PartyRow.{PartyRow}
+use Rattle.docket_core.specs.declared.row.EntryRow.{EntryRow}
+use Rattle.docket_core.specs.declared.row.DeadlineRow.{DeadlineRow}
+use Rattle.docket_core.specs.declared.row.ActRow.{ActRow}
+use Rattle.docket_core.specs.declared.row.Receipt.{Receipt}
+use Rattle.docket_wire.specs.Writing.{canonical}
+use Rattle.docket_columns.specs.Codes.{flag_number, role_number, item_code, act_code}
+
+-- court: id, word, version, zone, close, next_row
+abbrev pub court_cells : CourtSettings → ℕ → Row
+court_cells c next =
+    Int (pos 1) ∷ Text (codes "civil docket") ∷ Int (pos 0) ∷ Text c.zone_text ∷ Int (pos c.close_minute) ∷ Int (pos next) ∷ []
+
+-- calendar: row_no, kind, a, b, name
+abbrev pub calendar_cells : CalendarRow → Row
+calendar_cells r =
+    Int (pos r.number) ∷ Int (pos (item_code r.item).kind) ∷ Int (pos (item_code r.item).a) ∷ Int (pos (item_code r.item).b) ∷ Text r.name ∷ []
+
+-- cases: number, label, caption, filed
+abbrev pub case_cells : CaseRow → Row
+case_cells r = Int (pos r.number) ∷ Text r.label ∷ Text r.caption ∷ Int (pos r.filed) ∷ []
+
+-- party: case_no, number, name, role
+abbrev pub party_cells : PartyRow → Row
+party_cells r = Int (pos r.case) ∷ Int (pos r.number) ∷ Text r.name ∷ Int (pos (role_number r.role)) ∷ []
+
+-- entry: case_no, number, day, body
+abbrev pub entry_cells : EntryRow → Row
+entry_cells r = Int (pos r.case) ∷ Int (pos r.number) ∷ Int (pos r.day) ∷ Text r.text ∷ []
+
+-- deadline: case_no, number, party, rule, initial
+abbrev pub deadline_cells : DeadlineRow → Row
+deadline_cells r =
+    Int (pos r.case) ∷ Int (pos r.number) ∷ Int (pos r.party) ∷ Text (name_of r.rule) ∷ Int (pos (flag_number r.initial)) ∷ []
+
+-- act: case_no, deadline_no, number, kind, p1, p2, p3, p4, p5
+abbrev pub act_cells : ActRow → Row
+act_cells r =
+    Int (pos r.case) ∷ Int (pos r.deadline) ∷ Int (pos r.number)
+    ∷ Int (pos (act_code r.act).kind) ∷ Int (act_code r.act).p1 ∷ Int (pos (act_code r.act).p2)
+    ∷ Int (pos (act_code r.act).p3) ∷ Int (pos (act_code r.act).p4) ∷ Int (pos (act_code r.act).p5) ∷ []
+
+-- receipt: command_key, body, reply
+abbrev pub stored_cells : List ℕ → List ℕ → ℕ → Row
+stored_cells key body reply = Text key ∷ Text body ∷ Int (pos reply) ∷ []
+
+abbrev pub receipt_cells : Receipt → Row
+receipt_cells r = stored_cells r.command.key (canonical r.command) r.reply.number

@@ -1,0 +1,73 @@
+-- The rows that the types hold: a definition of specs/ knows of a field that it is a number or a list of bytes, and no more.
+use Rattle.std.specs.Prelude.{◌≡◌, ℕ, ◌<◌, ◌≤◌, ◌^◌, ℤ, List, [], FitsSigned}
+use Rattle.std.specs.Int.{w64}
+use Rattle.std.specs.Str.{IsUtf8}
+use Rattle.civil_time.specs.Civil.{IsDayNumber}
+use Rattle.court_days.specs.Court.{CourtSettings}
+use Rattle.court_rules.specs.declared.act.Act.{Act}
+use Rattle.court_rules.specs.declared.act.Act.TheVariants as act
+use Rattle.court_rules.specs.declared.act.Start.{Start}
+use Rattle.court_rules.specs.declared.act.Start.TheVariants as start
+use Rattle.docket_command.specs.Moments.{IsWholeMinute}
+use Rattle.docket_core.specs.declared.item.CalendarItem.{CalendarItem}
+use Rattle.docket_core.specs.declared.item.CalendarItem.TheVariants as item
+use Rattle.docket_core.specs.declared.row.CalendarRow.{CalendarRow}
+use Rattle.docket_core.specs.declared.row.CaseRow.{CaseRow}
+use Rattle.docket_core.specs.declared.row.PartyRow.{PartyRow}
+use Rattle.docket_core.specs.declared.row.EntryRow.{EntryRow}
+use Rattle.docket_core.specs.declared.row.DeadlineRow.{DeadlineRow}
+use Rattle.docket_core.specs.declared.row.ActRow.{ActRow}
+use Rattle.docket_core.specs.declared.row.Receipt.{Receipt}
+use Rattle.docket_columns.specs.Codes.{unit_count}
+
+-- a number of a row, a party, a count
+abbrev pub IsCount : ℕ → Type 0
+IsCount n = n < 2 ^ 32
+
+-- an instant, in seconds
+abbrev pub IsSeconds : ℤ → Type 0
+IsSeconds at = FitsSigned w64 at
+
+abbrev pub IsCourtRow : CourtSettings → ℕ → Type 0
+IsCourtRow c next = IsUtf8 c.zone_text × (c.close_minute < 1440) × (next ≤ 2 ^ 32)
+
+abbrev pub IsItem : CalendarItem → List ℕ → Type 0
+IsItem (item.Day kind day) name = IsDayNumber day
+-- the name of a span is empty
+IsItem (item.Span start end) name = IsWholeMinute start × IsWholeMinute end × (name ≡ [])
+
+abbrev pub IsCalendarRow : CalendarRow → Type 0
+IsCalendarRow r = IsCount r.number × IsItem r.item r.name × IsUtf8 r.name
+
+abbrev pub IsCaseRow : CaseRow → Type 0
+IsCaseRow r = IsCount r.number × IsUtf8 r.label × IsUtf8 r.caption × IsDayNumber r.filed
+
+abbrev pub IsPartyRow : PartyRow → Type 0
+IsPartyRow r = IsCount r.case × IsCount r.number × IsUtf8 r.name
+
+abbrev pub IsEntryRow : EntryRow → Type 0
+IsEntryRow r = IsCount r.case × IsCount r.number × IsDayNumber r.day × IsUtf8 r.text
+
+abbrev pub IsDeadlineRow : DeadlineRow → Type 0
+IsDeadlineRow r = IsCount r.case × IsCount r.number × IsCount r.party
+
+abbrev pub IsStart : Start → Type 0
+IsStart (start.Days s) = IsDayNumber s.trigger × IsCount (unit_count s.period)
+IsStart (start.Hours s) = IsSeconds s.at × IsCount s.hours
+
+abbrev pub IsAct : Act → Type 0
+IsAct (act.Start s) = IsStart s
+IsAct (act.Fixed day) = IsDayNumber day
+IsAct (act.ExtendBy days) = IsCount days
+IsAct (act.ExtendTo day) = IsDayNumber day
+IsAct (act.Motion served kind) = IsDayNumber served
+IsAct (act.Resume day three) = IsDayNumber day
+IsAct (act.AwaitStatement notice) = IsDayNumber notice
+IsAct (act.Done at way) = IsSeconds at
+IsAct act.Vacated = Unit {0}
+
+abbrev pub IsActRow : ActRow → Type 0
+IsActRow r = IsCount r.case × IsCount r.deadline × IsCount r.number × IsAct r.act
+
+abbrev pub IsReceipt : Receipt → Type 0
+IsReceipt r = IsCount r.reply.number

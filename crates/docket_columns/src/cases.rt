@@ -1,0 +1,48 @@
+//! Rows of the table of cases.
+ghost use Rattle.std.specs.Prelude.{◌≡◌, Some, IfOk, IfSome};
+ghost use Rattle.sqlite.specs.Values.{bound};
+ghost use Rattle.docket_core.specs.declared.row.CaseRow.{CaseRow as Case};
+ghost use Rattle.docket_columns.specs.Cells.{case_cells};
+ghost use Rattle.docket_columns.specs.Fits.{IsCaseRow};
+
+use crate::cell::{count_at, day_at, text_at};
+use docket_core::{CaseRow, Text};
+use sqlite::Row;
+use sqlite::types::{ToSql, ValueRef};
+use std::alloc::{AllocError, Global};
+
+/// The columns of a case: number, label, caption, filed.
+pub fn case_values(row: &CaseRow) -> [ValueRef<'_>; 4]
+    ensures { bound result ≡ case_cells row.now }
+{
+    [
+        row.number.to_sql(),
+        row.label.as_str().to_sql(),
+        row.caption.as_str().to_sql(),
+        row.filed.epoch_day().to_sql(),
+    ]
+}
+
+/// The case of a row. `None`: it is no row of a case.
+pub fn case_of(alloc: Global, row: &Row) -> Result<Option<CaseRow>, AllocError>
+    ensures reads { (c : Case) → IsCaseRow c → row.now ≡ case_cells c → IfOk result (λ found. found ≡ Some c) }
+{
+    let Some(number) = count_at(row, 0) else {
+        return Ok(None);
+    };
+    let Some(label) = text_at(row, 1) else {
+        return Ok(None);
+    };
+    let Some(caption) = text_at(row, 2) else {
+        return Ok(None);
+    };
+    let Some(filed) = day_at(row, 3) else {
+        return Ok(None);
+    };
+    Ok(Some(CaseRow {
+        number,
+        label: Text::from_str(alloc, label)?,
+        caption: Text::from_str(alloc, caption)?,
+        filed,
+    }))
+}

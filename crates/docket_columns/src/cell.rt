@@ -1,0 +1,57 @@
+//! The values of a row of SQL.
+ghost use Rattle.std.specs.Prelude.{◌≡◌, ℕ, ℤ, pos, List, Some, option_copied};
+ghost use Rattle.std.specs.Str.{IsUtf8};
+ghost use Rattle.sqlite_value.specs.Order.{column};
+ghost use Rattle.sqlite_value.specs.declared.value.Value.TheVariants.{Int, Text};
+ghost use Rattle.civil_time.specs.Civil.{IsDayNumber};
+ghost use Rattle.docket_columns.specs.Fits.{IsCount};
+
+use court_days::Day;
+use sqlite::Row;
+use sqlite::types::ValueRef;
+
+/// The whole number in a column.
+pub(crate) fn number_at(row: &Row, at: usize) -> Option<i64>
+    ensures { (n : ℤ) → column row.now at ≡ Int n → result ≡ Some n }
+{
+    match row.get_ref(at) {
+        Ok(ValueRef::Int(number)) => Some(number),
+        _ => None,
+    }
+}
+
+/// The same where it is from 0 to 2^32 - 1.
+pub(crate) fn count_at(row: &Row, at: usize) -> Option<u32>
+    ensures { (n : ℕ) → IsCount n → column row.now at ≡ Int (pos n) → result ≡ Some n }
+{
+    u32::try_from(number_at(row, at)?).ok()
+}
+
+/// The text in a column.
+pub(crate) fn text_at(row: &Row, at: usize) -> Option<&str>
+    ensures { (t : List ℕ) → IsUtf8 t → column row.now at ≡ Text t → option_copied result ≡ Some t }
+{
+    match row.get_ref(at) {
+        Ok(ValueRef::Text(text)) => str::from_utf8(text).ok(),
+        _ => None,
+    }
+}
+
+/// The day of that number.
+pub(crate) fn day_numbered(number: i64) -> Option<Day>
+    ensures { (d : ℕ) → IsDayNumber d → number ≡ pos d → result ≡ Some d }
+{
+    Day::new(i32::try_from(number).ok()?)
+}
+
+/// The day in a column.
+pub(crate) fn day_at(row: &Row, at: usize) -> Option<Day>
+    ensures { (d : ℕ) → IsDayNumber d → column row.now at ≡ Int (pos d) → result ≡ Some d }
+{
+    day_numbered(number_at(row, at)?)
+}
+
+/// A day as a value.
+pub(crate) fn day_value(day: Day) -> ValueRef<'static> {
+    ValueRef::Int(i64::from(day.epoch_day()))
+}
