@@ -18,7 +18,7 @@ use Rattle.sqlite_tied.specs.Compute.{everything}
 use Rattle.docket_tables.specs.declared.table.Table.{Table}
 use Rattle.docket_tables.specs.declared.table.Table.TheVariants.{Court, Calendar, Cases, Parties, Entries, Deadlines, Acts, Receipts}
 use Rattle.docket_tables.specs.Holds.{Holds, KeepsOthers, cells}
-use Rattle.docket_tables.specs.Layouts.{Rows, AreRows, Fits, tree_of, places_of, shape_of, kinds_of, row_with, Contents, with_row}
+use Rattle.docket_tables.specs.Layouts.{Rows, AreRows, Fits, tree_of, places_of, shape_of, kinds_of, row_with, Contents, with_rows, with_row}
 use Rattle.docket_tables.specs.Schema.{docket_schema}
 use Rattle.docket_tables.specs.Stands.{Sees}
 use Rattle.docket_tables.specs.Statements.{insert_text}
@@ -108,18 +108,15 @@ apart m n other e = grind (arith, nat_tests, other, e)
 together : (m n : ℕ) → (m == n) ≡ true → m ≡ n
 together m n same = grind (arith, nat_tests, same)
 
--- one row more in a table, and the others as they were
-module _ (table : Table) (row given : Row) (rows : Rows) (old new : Trees) (are : AreRows rows old) (fresh : is_taken (old (tree_of table)) row ≡ false)
-    (put : new (tree_of table) ≡ put_row row (old (tree_of table))) (shows : cells (places_of table) row ≡ given) (others : KeepsOthers docket_schema (tree_of table) old new) where
-  added_here : (other : Table) → other ≡ table → Holds (tree_of other) (places_of other) (rows other ++ given ∷ []) new
-  added_here other e = subst (λ t. Holds (tree_of t) (places_of t) (rows t ++ given ∷ []) new) (sym e) (holds_more (tree_of table) (places_of table) (rows table) row given old new (are table) fresh put shows)
+-- other rows in a table, and the other tables as they were
+module _ (table : Table) (list : List Row) (rows : Rows) (old new : Trees) (are : AreRows rows old)
+    (here : Holds (tree_of table) (places_of table) list new) (others : KeepsOthers docket_schema (tree_of table) old new) where
+  changed_at : (other : Table) (b : Bool) → (tree_of other == tree_of table) ≡ b → Holds (tree_of other) (places_of other) (cond b list (rows other)) new
+  changed_at other true e = subst (λ t. Holds (tree_of t) (places_of t) list new) (sym (same_table other table (together _ _ e))) here
+  changed_at other false e = holds_same (tree_of other) (places_of other) (rows other) old new (others_same (tree_of table) old new others other (apart _ _ e)) (are other)
 
-  added_at : (other : Table) (b : Bool) → (tree_of other == tree_of table) ≡ b → Holds (tree_of other) (places_of other) (cond b (rows other ++ given ∷ []) (rows other)) new
-  added_at other true e = added_here other (same_table other table (together _ _ e))
-  added_at other false e = holds_same (tree_of other) (places_of other) (rows other) old new (others_same (tree_of table) old new others other (apart _ _ e)) (are other)
-
-  pub row_added : AreRows (with_row table given rows) new
-  row_added other = added_at other (tree_of other == tree_of table) refl
+  pub rows_changed : AreRows (with_rows table list rows) new
+  rows_changed other = changed_at other (tree_of other == tree_of table) refl
 
 -- an INSERT inside a transaction
 pub inserted : (table : Table) (given : Row) (rows : Rows) (old new : State) (count : ℕ) → Fits table given → Sees old rows
@@ -138,6 +135,7 @@ inserted table given rows old new count fits sees ran turns =
         is_open = turns.is_open;
         schema = put.0;
         live = put.1;
-        holds = row_added table p.row given rows old.now.trees new.now.trees sees.shows.holds p.fresh p.rows shows p.others;
+        holds = rows_changed table (rows table ++ given ∷ []) rows old.now.trees new.now.trees sees.shows.holds
+            (holds_more (tree_of table) (places_of table) (rows table) p.row given old.now.trees new.now.trees (sees.shows.holds table) p.fresh p.rows shows) p.others;
       };
     }

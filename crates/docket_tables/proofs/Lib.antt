@@ -1,8 +1,13 @@
+mod CalendarLemmas
 mod CellLemmas
 mod CommitLemmas
+mod CourtLemmas
+mod DeleteLemmas
+mod HoldsLemmas
 mod InsertLemmas
 mod LayoutLemmas
 mod ProbeLemmas
 mod QueryLemmas
 mod SelectLemmas
 mod StandsLemmas
+mod UpdateLemmas

@@ -1,5 +1,5 @@
 -- Where the columns of each table stand, and the rows that all tables hold.
-use Rattle.std.specs.Prelude.{◌≡◌, ℕ, ℤ, ◌==◌, not, if◌then◌else◌, List, [], ◌∷◌, ◌++◌, filter}
+use Rattle.std.specs.Prelude.{◌≡◌, ℕ, ℤ, ◌==◌, if◌then◌else◌, List, [], ◌∷◌, ◌++◌}
 use Rattle.sqlite.specs.declared.types.Value.TheVariants as value
 use Rattle.sqlite.specs.Kind.{Kind}
 use Rattle.sqlite.specs.Kind.TheVariants.{Integer, Text, Real, Blob, Any}
@@ -86,6 +86,10 @@ Rows = Table → List Row
 abbrev pub AreRows : Rows → Trees → Type 0
 AreRows rows db = (table : Table) → Holds (tree_of table) (places_of table) (rows table) db
 
--- a row more in a table
+-- with these rows in a table
+abbrev pub with_rows : Table → List Row → Rows → Rows
+with_rows table list rows other = if tree_of other == tree_of table then list else rows other
+
+-- with a row more in a table
 abbrev pub with_row : Table → Row → Rows → Rows
-with_row table row rows other = if tree_of other == tree_of table then rows other ++ row ∷ [] else rows other
+with_row table row rows = with_rows table (rows table ++ row ∷ []) rows

@@ -1,3 +1,4 @@
+pub mod Contents
 pub mod Holds
 pub mod Layouts
 pub mod Queries

@@ -13,3 +13,11 @@ insert_text Entries = codes "INSERT INTO entry (case_no, number, day, body) VALU
 insert_text Deadlines = codes "INSERT INTO deadline (case_no, number, party, rule, initial) VALUES (?1, ?2, ?3, ?4, ?5)"
 insert_text Acts = codes "INSERT INTO act (case_no, deadline_no, number, kind, p1, p2, p3, p4, p5) VALUES (?1, ?2, ?3, ?4, ?5, ?6, ?7, ?8, ?9)"
 insert_text Receipts = codes "INSERT INTO receipt (command_key, body, reply) VALUES (?1, ?2, ?3)"
+
+-- the calendar loses a row
+abbrev pub delete_text : List ℕ
+delete_text = codes "DELETE FROM calendar WHERE row_no = ?1"
+
+-- a number of a calendar row is used
+abbrev pub count_text : List ℕ
+count_text = codes "UPDATE court SET next_row = next_row + 1 WHERE id = 1"

@@ -1,6 +1,6 @@
 //! The texts of the statements.
 ghost use Rattle.std.specs.Prelude.{◌≡◌};
-ghost use Rattle.docket_tables.specs.Statements.{insert_text};
+ghost use Rattle.docket_tables.specs.Statements.{insert_text, delete_text, count_text};
 
 use crate::table::Table;
 
@@ -34,4 +34,18 @@ pub(crate) fn insert_text(table: Table) -> &'static str
             "INSERT INTO receipt (command_key, body, reply) VALUES (?1, ?2, ?3)"
         }
     }
+}
+
+/// Removes the calendar row of a number.
+pub(crate) fn delete_text() -> &'static str
+    ensures { result.now ≡ delete_text }
+{
+    "DELETE FROM calendar WHERE row_no = ?1"
+}
+
+/// Adds one to the number of the next calendar row.
+pub(crate) fn count_text() -> &'static str
+    ensures { result.now ≡ count_text }
+{
+    "UPDATE court SET next_row = next_row + 1 WHERE id = 1"
 }

@@ -1,21 +1,26 @@
 //! Calls of the database.
-ghost use Rattle.std.specs.Prelude.{◌≡◌, ◌≤◌, ◌⊎◌, ℕ, Ok, OnOk, OnErr, IfOk, IsTrue, false, true};
+ghost use Rattle.std.specs.Prelude.{◌≡◌, ◌≤◌, ◌<◌, ◌^◌, ◌+◌, [], ◌∷◌, ℕ, Ok, OnOk, OnErr, IfOk, IsTrue, false, true};
 ghost use Rattle.sqlite.specs.Given.{IsPlain};
 ghost use Rattle.sqlite.specs.Held.{state};
 ghost use Rattle.sqlite.specs.Listing.{understood};
 ghost use Rattle.sqlite.specs.State.{HasCleanDisk, Shown, Executes, KeepsCommit, Shows as Turns};
 ghost use Rattle.sqlite.specs.Values.{bound};
 ghost use Rattle.sqlite.specs.View.{doubt};
-ghost use Rattle.docket_tables.specs.Layouts.{Rows, Fits, with_row};
+ghost use Rattle.court_days.specs.Court.{CourtSettings};
+ghost use Rattle.docket_columns.specs.Cells.{court_cells};
+ghost use Rattle.docket_tables.specs.Holds.{IsKeyed, without_number};
+ghost use Rattle.docket_tables.specs.Layouts.{Rows, Fits, with_row, with_rows};
+ghost use Rattle.docket_tables.specs.declared.table.Table.TheVariants as table;
+ghost use Rattle.std.specs.List.{AllByRecursion};
 ghost use Rattle.docket_tables.specs.Queries.{IsAnswer, table_of};
 ghost use Rattle.docket_tables.specs.Schema.{docket_schema};
 ghost use Rattle.docket_tables.specs.Stands.{HoldsRows, Lasts, LastsAsEither, Sees, CommitsNothing};
 
 use crate::query::{Query, select_text};
-use crate::statement::insert_text;
+use crate::statement::{count_text, delete_text, insert_text};
 use crate::table::Table;
 use sqlite::types::ValueRef;
-use sqlite::{Alter, Connection, Error, Row, Transaction};
+use sqlite::{Alter, Connection, Error, Row, Transaction, params};
 
 /// All rows of a query that writes nothing.
 pub(crate) fn read<S: Alter>(
@@ -76,6 +81,31 @@ pub(crate) fn insert<S: Alter>(
         → OnOk result (Sees (state S.Store tx.new.conn.now) (with_row table (bound values.now) rows)) }
 {
     change(tx, insert_text(table), values)
+}
+
+/// Removes the calendar row of a number.
+pub(crate) fn remove_calendar_row<S: Alter>(
+    tx: &mut Transaction<'_, S>,
+    number: u32,
+) -> Result<(), Error>
+    ensures same_reference { tx.new.conn.ghost_name ≡ tx.old.conn.ghost_name }
+    ensures kept { HasCleanDisk (state S.Store tx.new.conn.now) → KeepsCommit (state S.Store tx.old.conn.now) (state S.Store tx.new.conn.now) }
+    ensures survives { CommitsNothing (state S.Store tx.old.conn.now) (state S.Store tx.new.conn.now) }
+    ensures ok { HasCleanDisk (state S.Store tx.new.conn.now) → (rows : Rows) → AllByRecursion IsKeyed (rows table.Calendar) → Sees (state S.Store tx.old.conn.now) rows
+        → OnOk result (Sees (state S.Store tx.new.conn.now) (with_rows table.Calendar (without_number number (rows table.Calendar)) rows)) }
+{
+    change(tx, delete_text(), params![number])
+}
+
+/// Adds one to the number of the next calendar row.
+pub(crate) fn count_calendar_row<S: Alter>(tx: &mut Transaction<'_, S>) -> Result<(), Error>
+    ensures same_reference { tx.new.conn.ghost_name ≡ tx.old.conn.ghost_name }
+    ensures kept { HasCleanDisk (state S.Store tx.new.conn.now) → KeepsCommit (state S.Store tx.old.conn.now) (state S.Store tx.new.conn.now) }
+    ensures survives { CommitsNothing (state S.Store tx.old.conn.now) (state S.Store tx.new.conn.now) }
+    ensures ok { HasCleanDisk (state S.Store tx.new.conn.now) → (court : CourtSettings) (n : ℕ) (rows : Rows) → n + 1 < 2 ^ 63 → rows table.Court ≡ court_cells court n ∷ [] → Sees (state S.Store tx.old.conn.now) rows
+        → OnOk result (Sees (state S.Store tx.new.conn.now) (with_rows table.Court (court_cells court (n + 1) ∷ []) rows)) }
+{
+    change(tx, count_text(), &[])
 }
 
 /// Whether the store still answers. An empty statement and its commit write nothing.
