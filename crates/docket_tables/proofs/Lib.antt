@@ -1,7 +1,9 @@
 mod CalendarLemmas
 mod CellLemmas
 mod CommitLemmas
+mod ContentsLemmas
 mod CourtLemmas
+mod CreateLemmas
 mod DeleteLemmas
 mod HoldsLemmas
 mod InsertLemmas

@@ -1,4 +1,5 @@
 pub mod Contents
+pub mod Creation
 pub mod Holds
 pub mod Layouts
 pub mod Queries

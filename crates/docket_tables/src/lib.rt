@@ -1,6 +1,7 @@
 //! The tables of the docket in one SQLite database: their schema, the statements, and rows in them.
 #![tactic(auto)]
 
+mod creation;
 mod query;
 mod statement;
 mod store;
