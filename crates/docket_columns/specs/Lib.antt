@@ -1,3 +1,4 @@
 pub mod Cells
 pub mod Codes
 pub mod Fits
+pub mod Plain

@@ -5,7 +5,7 @@ ghost use Rattle.docket_core.specs.declared.row.CaseRow.{CaseRow as Case};
 ghost use Rattle.docket_columns.specs.Cells.{case_cells};
 ghost use Rattle.docket_columns.specs.Fits.{IsCaseRow};
 
-use crate::cell::{count_at, day_at, text_at};
+use crate::cell::{count_at, day_at, has_values, text_at};
 use docket_core::{CaseRow, Text};
 use sqlite::Row;
 use sqlite::types::{ToSql, ValueRef};
@@ -26,6 +26,8 @@ pub fn case_values(row: &CaseRow) -> [ValueRef<'_>; 4]
 /// The case of a row. `None`: it is no row of a case.
 pub fn case_of(alloc: Global, row: &Row) -> Result<Option<CaseRow>, AllocError>
     ensures reads { (c : Case) → IsCaseRow c → row.now ≡ case_cells c → IfOk result (λ found. found ≡ Some c) }
+    ensures sound { IfOk result (λ found. IfSome found (λ c. row.now ≡ case_cells c)) }
+    ensures fits { IfOk result (λ found. IfSome found IsCaseRow) }
 {
     let Some(number) = count_at(row, 0) else {
         return Ok(None);
@@ -39,10 +41,15 @@ pub fn case_of(alloc: Global, row: &Row) -> Result<Option<CaseRow>, AllocError>
     let Some(filed) = day_at(row, 3) else {
         return Ok(None);
     };
-    Ok(Some(CaseRow {
+    let found = CaseRow {
         number,
         label: Text::from_str(alloc, label)?,
         caption: Text::from_str(alloc, caption)?,
         filed,
-    }))
+    };
+    if has_values(row, &case_values(&found)) {
+        Ok(Some(found))
+    } else {
+        Ok(None)
+    }
 }

@@ -1,14 +1,18 @@
 //! The values of a row of SQL.
-ghost use Rattle.std.specs.Prelude.{◌≡◌, ℕ, ℤ, pos, List, Some, option_copied};
+ghost use Rattle.std.specs.Prelude.{◌≡◌, ◌↔◌, ℕ, ℤ, pos, List, Some, option_copied, IfSome, IsTrue, length, map};
 ghost use Rattle.std.specs.Str.{IsUtf8};
-ghost use Rattle.sqlite_value.specs.Order.{column};
+ghost use Rattle.sqlite.specs.Values.{bound};
+ghost use Rattle.sqlite_value.specs.Value.{owned};
+ghost use Rattle.sqlite_value.specs.Order.{Row as Cells, column};
 ghost use Rattle.sqlite_value.specs.declared.value.Value.TheVariants.{Int, Text};
 ghost use Rattle.civil_time.specs.Civil.{IsDayNumber};
 ghost use Rattle.docket_columns.specs.Fits.{IsCount};
+ghost use Rattle.docket_columns.specs.Plain.{are_plain};
 
 use court_days::Day;
 use sqlite::Row;
 use sqlite::types::ValueRef;
+use sqlite_value::order::is_same;
 
 /// The whole number in a column.
 pub(crate) fn number_at(row: &Row, at: usize) -> Option<i64>
@@ -29,7 +33,8 @@ pub(crate) fn count_at(row: &Row, at: usize) -> Option<u32>
 
 /// The text in a column.
 pub(crate) fn text_at(row: &Row, at: usize) -> Option<&str>
-    ensures { (t : List ℕ) → IsUtf8 t → column row.now at ≡ Text t → option_copied result ≡ Some t }
+    ensures reads { (t : List ℕ) → IsUtf8 t → column row.now at ≡ Text t → option_copied result ≡ Some t }
+    ensures utf8 { IfSome result (λ text. IsUtf8 text.now) }
 {
     match row.get_ref(at) {
         Ok(ValueRef::Text(text)) => str::from_utf8(text).ok(),
@@ -51,7 +56,23 @@ pub(crate) fn day_at(row: &Row, at: usize) -> Option<Day>
     day_numbered(number_at(row, at)?)
 }
 
-/// A day as a value.
-pub(crate) fn day_value(day: Day) -> ValueRef<'static> {
-    ValueRef::Int(i64::from(day.epoch_day()))
+/// Whether the row, which is as long, has these values.
+fn are_values(row: &Row, values: &[ValueRef<'_>]) -> bool
+    requires { length row.now ≡ length values.now }
+    ensures { IsTrue result ↔ (row.now ≡ map owned values.now) }
+{
+    for at in 0..values.len() {
+        match row.get_ref(at) {
+            Ok(found) if is_same(found, values[at]) => {}
+            _ => return false,
+        }
+    }
+    true
+}
+
+/// Whether the row has these values, which are numbers and texts, and no more.
+pub(crate) fn has_values(row: &Row, values: &[ValueRef<'_>]) -> bool
+    ensures { (cells : Cells) → IsTrue (are_plain cells) → bound values.now ≡ cells → IsTrue result ↔ (row.now ≡ cells) }
+{
+    row.column_count() == values.len() && are_values(row, values)
 }

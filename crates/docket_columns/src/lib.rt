@@ -4,5 +4,11 @@
 mod cases;
 mod cell;
 mod codes;
+mod deadline;
+mod entry;
+mod party;
 
 pub use cases::{case_of, case_values};
+pub use deadline::{deadline_of, deadline_values};
+pub use entry::{entry_of, entry_values};
+pub use party::{party_of, party_values};
