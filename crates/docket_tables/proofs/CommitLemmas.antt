@@ -5,11 +5,12 @@ use Rattle.sqlite.specs.Tree.{Trees}
 use Rattle.sqlite.specs.Effect.{Database, IsDatabase}
 use Rattle.sqlite.specs.declared.error.Error.{Error}
 use Rattle.sqlite.specs.State.{State, HasCleanDisk, Survives, IsRolledBack, KeepsCommit, Shows as Turns}
+use Rattle.sqlite.proofs.StateLemmas.{survives_then}
 use Rattle.sqlite.specs.Steps.{FailsToCommit}
 use Rattle.sqlite_catalog.specs.Listing.{IsSound}
 use Rattle.docket_tables.specs.Schema.{docket_schema}
 use Rattle.docket_tables.specs.Layouts.{Rows, AreRows}
-use Rattle.docket_tables.specs.Stands.{IsImage, Shows, Sees, IsSettled, IsEither}
+use Rattle.docket_tables.specs.Stands.{IsImage, Shows, Sees, IsSettled, IsEither, StaysInside}
 
 -- while the connection is open, a power failure leaves the last commit and nothing else
 abbrev pub LeavesCommit : State → Type 0
@@ -35,8 +36,20 @@ settles s rows idle shows committed leaves = record {
   images = λ db may. subst (IsImage rows) (sym (leaves db shows.is_open may ∙ ap (λ (b : Database). b.trees) committed)) (image_of s rows shows);
 }
 
-pub keeps_then : (a b c : State) → KeepsCommit a b → KeepsCommit b c → KeepsCommit a c
+keeps_then : (a b c : State) → KeepsCommit a b → KeepsCommit b c → KeepsCommit a c
 keeps_then a b c p q = record { was_open = λ h. p.was_open (q.was_open h); committed = λ h. q.committed h ∙ p.committed (q.was_open h) }
+
+pub inside_then : (a b c : State) → StaysInside a b → StaysInside b c → StaysInside a c
+inside_then a b c p q = record {
+  kept = λ clean. keeps_then a b c (p.kept (omega (arith, q.survives.clean))) (q.kept clean);
+  survives = survives_then a b c _ _ (λ _. ⊥) (λ _ db none. none) (λ _ db none. none) p.survives q.survives;
+}
+
+pub inside_still : (s : State) → StaysInside s s
+inside_still s = record {
+  kept = λ clean. record { was_open = λ h. h; committed = λ h. refl };
+  survives = record { clean = omega arith; shield = λ h. h; counts = omega arith; limit = refl; closes = λ _ h. inl h; crash = λ _ db may. inl may };
+}
 
 module _ (start begun last end : State) (rows next : Rows) (was : IsSettled start rows) (begins : begun ≡ record start { in_transaction = true })
     (kept : KeepsCommit begun last) (inside : Survives begun last (λ _. ⊥)) (leaves : LeavesCommit end) where

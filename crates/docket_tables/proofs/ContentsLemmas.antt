@@ -138,27 +138,27 @@ calendar_keyed (row ∷ rows) = ((pos row.number, refl), calendar_keyed rows)
 
 -- each row has in each column what the column holds
 pub court_fits : (court : CourtSettings) (next : ℕ) → Fits Court (court_cells court next)
-court_fits court next = ((pos 1, _, pos 0, court.zone_text, pos court.close_minute, pos next, tt), refl)
+court_fits court next = ((pos 1, (_, (pos 0, (court.zone_text, (pos court.close_minute, (pos next, tt)))))), refl)
 
 pub calendar_fits : (row : CalendarRow) → Fits Calendar (calendar_cells row)
-calendar_fits row = ((pos row.number, pos (item_code row.item).kind, pos (item_code row.item).a, pos (item_code row.item).b, row.name, tt), refl)
+calendar_fits row = ((pos row.number, (pos (item_code row.item).kind, (pos (item_code row.item).a, (pos (item_code row.item).b, (row.name, tt))))), refl)
 
 pub case_fits : (row : CaseRow) → Fits Cases (case_cells row)
-case_fits row = ((pos row.number, row.label, row.caption, pos row.filed, tt), refl)
+case_fits row = ((pos row.number, (row.label, (row.caption, (pos row.filed, tt)))), refl)
 
 pub party_fits : (row : PartyRow) → Fits Parties (party_cells row)
-party_fits row = ((pos row.case, pos row.number, row.name, pos (role_number row.role), tt), refl)
+party_fits row = ((pos row.case, (pos row.number, (row.name, (pos (role_number row.role), tt)))), refl)
 
 pub entry_fits : (row : EntryRow) → Fits Entries (entry_cells row)
-entry_fits row = ((pos row.case, pos row.number, pos row.day, row.text, tt), refl)
+entry_fits row = ((pos row.case, (pos row.number, (pos row.day, (row.text, tt)))), refl)
 
 pub deadline_fits : (row : DeadlineRow) → Fits Deadlines (deadline_cells row)
-deadline_fits row = ((pos row.case, pos row.number, pos row.party, name_of row.rule, pos (flag_number row.initial), tt), refl)
+deadline_fits row = ((pos row.case, (pos row.number, (pos row.party, (name_of row.rule, (pos (flag_number row.initial), tt))))), refl)
 
 pub act_fits : (row : ActRow) → Fits Acts (act_cells row)
 act_fits row =
     let code = act_code row.act in
-    ((pos row.case, pos row.deadline, pos row.number, pos code.kind, code.p1, pos code.p2, pos code.p3, pos code.p4, pos code.p5, tt), refl)
+    ((pos row.case, (pos row.deadline, (pos row.number, (pos code.kind, (code.p1, (pos code.p2, (pos code.p3, (pos code.p4, (pos code.p5, tt))))))))), refl)
 
 pub receipt_fits : (row : Receipt) → Fits Receipts (receipt_cells row)
-receipt_fits row = ((row.command.key, canonical row.command, pos row.reply.number, tt), refl)
+receipt_fits row = ((row.command.key, (canonical row.command, (pos row.reply.number, tt))), refl)

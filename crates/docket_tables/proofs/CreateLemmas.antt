@@ -112,12 +112,6 @@ one_more n sql old new count is was ran turns =
       empty = subst (λ (s : Schema). AllByRecursion (λ t. new.now.trees t.tree ≡ []) s.tables) (sym text.next) added;
     }
 
-pub keeps_still : (s : State) → KeepsCommit s s
-keeps_still s = record { was_open = λ h. h; committed = λ h. refl }
-
-pub survives_still : (s : State) → Survives s s (λ _. ⊥)
-survives_still s = record { clean = omega arith; shield = λ h. h; counts = omega arith; limit = refl; closes = λ _ h. inl h; crash = λ _ db may. inl may }
-
 pub nothing_yet : (s : State) → s.now.schema ≡ no_schema → IsMade s 0
 nothing_yet s is = record { schema = is; serves = λ low. absurd (omega (arith, low)); empty = tt }
 

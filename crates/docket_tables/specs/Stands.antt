@@ -43,9 +43,10 @@ pub record IsEither (s : State) (rows next : Rows) : Type 0 where
   pub images : (db : Trees) → s.may_leave db → IsImage rows db ⊎ IsImage next db
   pub settled : IsTrue s.is_open → IsSettled s rows
 
--- a power failure inside the transaction leaves what it could leave before
-abbrev pub CommitsNothing : State → State → Type 0
-CommitsNothing old new = Survives old new (λ _. ⊥)
+-- a part of a transaction commits nothing: a power failure leaves what it could leave before
+pub record StaysInside (old new : State) : Type 0 where
+  pub kept : HasCleanDisk new → KeepsCommit old new
+  pub survives : Survives old new (λ _. ⊥)
 
 module _ {S : Type 0} (g : Ghosts S) where
   -- the connection holds the rows

@@ -1,10 +1,10 @@
 //! The making of the tables.
 ghost use Rattle.std.specs.Prelude.{◌≡◌, ◌<◌, ℕ, suc, slice_get, Some, OnOk};
 ghost use Rattle.sqlite.specs.Held.{state};
-ghost use Rattle.sqlite.specs.State.{HasCleanDisk, KeepsCommit};
+ghost use Rattle.sqlite.specs.State.{HasCleanDisk};
 ghost use Rattle.docket_tables.specs.Creation.{texts, IsMade, no_rows};
 ghost use Rattle.docket_tables.specs.Schema.{no_schema};
-ghost use Rattle.docket_tables.specs.Stands.{Sees, CommitsNothing};
+ghost use Rattle.docket_tables.specs.Stands.{Sees, StaysInside};
 
 use crate::store::change;
 use sqlite::{Alter, Error, Transaction};
@@ -31,8 +31,7 @@ fn create_text(number: usize) -> &'static str
 /// Makes one more table.
 fn define<S: Alter>(tx: &mut Transaction<'_, S>, sql: &str) -> Result<(), Error>
     ensures same_reference { tx.new.conn.ghost_name ≡ tx.old.conn.ghost_name }
-    ensures kept { HasCleanDisk (state S.Store tx.new.conn.now) → KeepsCommit (state S.Store tx.old.conn.now) (state S.Store tx.new.conn.now) }
-    ensures survives { CommitsNothing (state S.Store tx.old.conn.now) (state S.Store tx.new.conn.now) }
+    ensures inside { StaysInside (state S.Store tx.old.conn.now) (state S.Store tx.new.conn.now) }
     ensures ok { HasCleanDisk (state S.Store tx.new.conn.now) → (n : ℕ) → slice_get texts n ≡ Some sql.now → IsMade (state S.Store tx.old.conn.now) n
         → OnOk result (IsMade (state S.Store tx.new.conn.now) (suc n)) }
 {
@@ -42,8 +41,7 @@ fn define<S: Alter>(tx: &mut Transaction<'_, S>, sql: &str) -> Result<(), Error>
 /// Makes all tables.
 pub(crate) fn define_all<S: Alter>(tx: &mut Transaction<'_, S>) -> Result<(), Error>
     ensures same_reference { tx.new.conn.ghost_name ≡ tx.old.conn.ghost_name }
-    ensures kept { HasCleanDisk (state S.Store tx.new.conn.now) → KeepsCommit (state S.Store tx.old.conn.now) (state S.Store tx.new.conn.now) }
-    ensures survives { CommitsNothing (state S.Store tx.old.conn.now) (state S.Store tx.new.conn.now) }
+    ensures inside { StaysInside (state S.Store tx.old.conn.now) (state S.Store tx.new.conn.now) }
     ensures ok { HasCleanDisk (state S.Store tx.new.conn.now) → (state S.Store tx.old.conn.now).now.schema ≡ no_schema → OnOk result (Sees (state S.Store tx.new.conn.now) no_rows) }
 {
     'tables: for number in 0..TABLES {

@@ -3,7 +3,7 @@ ghost use Rattle.std.specs.Prelude.{◌≡◌, ◌≤◌, ◌<◌, ◌^◌, ◌+
 ghost use Rattle.sqlite.specs.Given.{IsPlain};
 ghost use Rattle.sqlite.specs.Held.{state};
 ghost use Rattle.sqlite.specs.Listing.{understood};
-ghost use Rattle.sqlite.specs.State.{HasCleanDisk, Shown, Executes, KeepsCommit, Shows as Turns};
+ghost use Rattle.sqlite.specs.State.{HasCleanDisk, Shown, Executes, Shows as Turns};
 ghost use Rattle.sqlite.specs.Values.{bound};
 ghost use Rattle.sqlite.specs.View.{doubt};
 ghost use Rattle.court_days.specs.Court.{CourtSettings};
@@ -14,7 +14,7 @@ ghost use Rattle.docket_tables.specs.declared.table.Table.TheVariants as table;
 ghost use Rattle.std.specs.List.{AllByRecursion};
 ghost use Rattle.docket_tables.specs.Queries.{IsAnswer, table_of};
 ghost use Rattle.docket_tables.specs.Schema.{docket_schema};
-ghost use Rattle.docket_tables.specs.Stands.{HoldsRows, Lasts, LastsAsEither, Sees, CommitsNothing};
+ghost use Rattle.docket_tables.specs.Stands.{HoldsRows, Lasts, LastsAsEither, Sees, StaysInside};
 
 use crate::query::{Query, select_text};
 use crate::statement::{count_text, delete_text, insert_text};
@@ -59,8 +59,7 @@ pub(crate) fn change<S: Alter>(
     params: &[ValueRef<'_>],
 ) -> Result<(), Error>
     ensures same_reference { tx.new.conn.ghost_name ≡ tx.old.conn.ghost_name }
-    ensures kept { HasCleanDisk (state S.Store tx.new.conn.now) → KeepsCommit (state S.Store tx.old.conn.now) (state S.Store tx.new.conn.now) }
-    ensures survives { CommitsNothing (state S.Store tx.old.conn.now) (state S.Store tx.new.conn.now) }
+    ensures inside { StaysInside (state S.Store tx.old.conn.now) (state S.Store tx.new.conn.now) }
     ensures runs { HasCleanDisk (state S.Store tx.new.conn.now) → OnOk result ((count : ℕ) × Executes sql.now (bound params.now) (state S.Store tx.old.conn.now) (state S.Store tx.new.conn.now) (Ok count)
         × Turns (state S.Store tx.old.conn.now) (state S.Store tx.new.conn.now) (state S.Store tx.new.conn.now).now (state S.Store tx.old.conn.now).committed true) }
 {
@@ -75,8 +74,7 @@ pub(crate) fn insert<S: Alter>(
     values: &[ValueRef<'_>],
 ) -> Result<(), Error>
     ensures same_reference { tx.new.conn.ghost_name ≡ tx.old.conn.ghost_name }
-    ensures kept { HasCleanDisk (state S.Store tx.new.conn.now) → KeepsCommit (state S.Store tx.old.conn.now) (state S.Store tx.new.conn.now) }
-    ensures survives { CommitsNothing (state S.Store tx.old.conn.now) (state S.Store tx.new.conn.now) }
+    ensures inside { StaysInside (state S.Store tx.old.conn.now) (state S.Store tx.new.conn.now) }
     ensures ok { HasCleanDisk (state S.Store tx.new.conn.now) → Fits table (bound values.now) → (rows : Rows) → Sees (state S.Store tx.old.conn.now) rows
         → OnOk result (Sees (state S.Store tx.new.conn.now) (with_row table (bound values.now) rows)) }
 {
@@ -89,8 +87,7 @@ pub(crate) fn remove_calendar_row<S: Alter>(
     number: u32,
 ) -> Result<(), Error>
     ensures same_reference { tx.new.conn.ghost_name ≡ tx.old.conn.ghost_name }
-    ensures kept { HasCleanDisk (state S.Store tx.new.conn.now) → KeepsCommit (state S.Store tx.old.conn.now) (state S.Store tx.new.conn.now) }
-    ensures survives { CommitsNothing (state S.Store tx.old.conn.now) (state S.Store tx.new.conn.now) }
+    ensures inside { StaysInside (state S.Store tx.old.conn.now) (state S.Store tx.new.conn.now) }
     ensures ok { HasCleanDisk (state S.Store tx.new.conn.now) → (rows : Rows) → AllByRecursion IsKeyed (rows table.Calendar) → Sees (state S.Store tx.old.conn.now) rows
         → OnOk result (Sees (state S.Store tx.new.conn.now) (with_rows table.Calendar (without_number number (rows table.Calendar)) rows)) }
 {
@@ -100,8 +97,7 @@ pub(crate) fn remove_calendar_row<S: Alter>(
 /// Adds one to the number of the next calendar row.
 pub(crate) fn count_calendar_row<S: Alter>(tx: &mut Transaction<'_, S>) -> Result<(), Error>
     ensures same_reference { tx.new.conn.ghost_name ≡ tx.old.conn.ghost_name }
-    ensures kept { HasCleanDisk (state S.Store tx.new.conn.now) → KeepsCommit (state S.Store tx.old.conn.now) (state S.Store tx.new.conn.now) }
-    ensures survives { CommitsNothing (state S.Store tx.old.conn.now) (state S.Store tx.new.conn.now) }
+    ensures inside { StaysInside (state S.Store tx.old.conn.now) (state S.Store tx.new.conn.now) }
     ensures ok { HasCleanDisk (state S.Store tx.new.conn.now) → (court : CourtSettings) (n : ℕ) (rows : Rows) → n + 1 < 2 ^ 63 → rows table.Court ≡ court_cells court n ∷ [] → Sees (state S.Store tx.old.conn.now) rows
         → OnOk result (Sees (state S.Store tx.new.conn.now) (with_rows table.Court (court_cells court (n + 1) ∷ []) rows)) }
 {

@@ -14,14 +14,14 @@ returns-clause-either g c rows next lasts =
     let last = state g.S.Store c.change.new.tx.conn.now in
     let end = c.commit.new.self.0 in
     let begins = ap (state g.S.Store) c.transaction-tx.ensures.begun in
-    let inside = c.change.ensures.survives in
+    let inside = c.change.ensures.inside.survives in
     let early : Survives (record start { in_transaction = true }) last (λ _. ⊥) = subst (λ s. Survives s last (λ _. ⊥)) begins inside in
     let law : LeavesCommit (state g.S.Store end) = λ db is_open may. g.met.S.Store.settled end.store db is_open may in
     let went = sym c.is_err.ensures.value ∙ c.if-is_err.false in
     let either : HasCleanDisk (state g.S.Store end) → IsEither (state g.S.Store end) rows next = λ clean.
         let before : HasCleanDisk last = omega (arith, c.commit.ensures.survives.clean) in
         let was = lasts.1 (omega (arith, early.clean)) in
-        let kept = c.change.ensures.kept before in
+        let kept = c.change.ensures.inside.kept before in
         let ran = past_err c.change.result _ went (c.change.ensures.runs before) in
         let same = nothing_done begun last ran.0 ran.1 in
         elim c.commit.result as (λ r. OnOk r (IsTrue last.in_transaction × Turns last (state g.S.Store end) last.now last.now false × KeepsCounts last (state g.S.Store end) × ((state g.S.Store end).marks ≡ [])) → IfErr r (FailsToCommit last (state g.S.Store end)) → IsEither (state g.S.Store end) rows next) [
@@ -38,14 +38,14 @@ returns-clause-alive g c rows next lasts alive =
     let last = state g.S.Store c.change.new.tx.conn.now in
     let end = c.commit.new.self.0 in
     let begins = ap (state g.S.Store) c.transaction-tx.ensures.begun in
-    let inside = c.change.ensures.survives in
+    let inside = c.change.ensures.inside.survives in
     let early : Survives (record start { in_transaction = true }) last (λ _. ⊥) = subst (λ s. Survives s last (λ _. ⊥)) begins inside in
     let law : LeavesCommit (state g.S.Store end) = λ db is_open may. g.met.S.Store.settled end.store db is_open may in
     let went = sym c.is_err.ensures.value ∙ c.if-is_err.false in
     let settled : HasCleanDisk (state g.S.Store end) → IsSettled (state g.S.Store end) rows = λ clean.
         let before : HasCleanDisk last = omega (arith, c.commit.ensures.survives.clean) in
         let was = lasts.1 (omega (arith, early.clean)) in
-        let kept = c.change.ensures.kept before in
+        let kept = c.change.ensures.inside.kept before in
         let ran = past_err c.change.result _ went (c.change.ensures.runs before) in
         let same = nothing_done begun last ran.0 ran.1 in
         probe_committed start begun last (state g.S.Store end) rows next was begins kept inside law same (past_ok c.commit.result _ (sym c.is_ok.ensures.value ∙ alive) (c.commit.ensures.ok clean)).1 in
