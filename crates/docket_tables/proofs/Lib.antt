@@ -1,5 +1,6 @@
 mod CalendarLemmas
 mod CellLemmas
+mod ChangesLemmas
 mod CommitLemmas
 mod ContentsLemmas
 mod CourtLemmas

@@ -6,6 +6,8 @@ mod query;
 mod statement;
 mod store;
 mod table;
+mod write;
 
 pub use query::Query;
 pub use table::Table;
+pub use write::write;

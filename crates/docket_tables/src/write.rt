@@ -1,0 +1,110 @@
+//! Changes of rows, in one transaction.
+ghost use Rattle.std.specs.Prelude.{◌≡◌, ◌<◌, ◌≤◌, ◌+◌, ◌^◌, length, false, OnOk, MatchResult};
+ghost use Rattle.court_days.specs.Court.{CourtSettings};
+ghost use Rattle.docket_core.specs.Tables.{Tables, changed, all_changed, with_receipt};
+ghost use Rattle.docket_core.specs.declared.row.Change.TheVariants as change;
+ghost use Rattle.docket_wire.specs.Writing.{canonical};
+ghost use Rattle.sqlite.specs.Held.{state};
+ghost use Rattle.sqlite.specs.State.{HasCleanDisk};
+ghost use Rattle.sqlite.specs.View.{doubt};
+ghost use Rattle.docket_tables.specs.Contents.{rows_in};
+ghost use Rattle.docket_tables.specs.Stands.{HoldsRows, LastsAsEither, Sees, StaysInside};
+
+use crate::store::{count_calendar_row, insert, remove_calendar_row};
+use crate::table::Table;
+use docket_columns::{
+    act_values, calendar_values, case_values, deadline_values, entry_values, party_values,
+    receipt_values,
+};
+use docket_command::Command;
+use docket_core::{CalendarRow, Change, Changes};
+use sqlite::{Alter, Connection, Error, Transaction};
+
+/// Adds a row of the calendar, and counts its number.
+fn add_calendar_row<S: Alter>(
+    tx: &mut Transaction<'_, S>,
+    row: &CalendarRow,
+) -> Result<(), Error>
+    ensures same_reference { tx.new.conn.ghost_name ≡ tx.old.conn.ghost_name }
+    ensures inside { StaysInside (state S.Store tx.old.conn.now) (state S.Store tx.new.conn.now) }
+    ensures ok { HasCleanDisk (state S.Store tx.new.conn.now) → (court : CourtSettings) (t : Tables) → t.next_row + 1 < 2 ^ 63
+        → Sees (state S.Store tx.old.conn.now) (rows_in court t) → OnOk result (Sees (state S.Store tx.new.conn.now) (rows_in court (changed (change.AddCalendar row.now) t))) }
+{
+    insert(tx, Table::Calendar, &calendar_values(row))?;
+    count_calendar_row(tx)
+}
+
+/// Makes a change.
+fn change_row<S: Alter>(tx: &mut Transaction<'_, S>, change: &Change) -> Result<(), Error>
+    ensures same_reference { tx.new.conn.ghost_name ≡ tx.old.conn.ghost_name }
+    ensures inside { StaysInside (state S.Store tx.old.conn.now) (state S.Store tx.new.conn.now) }
+    ensures ok { HasCleanDisk (state S.Store tx.new.conn.now) → (court : CourtSettings) (t : Tables) → t.next_row + 1 < 2 ^ 63
+        → Sees (state S.Store tx.old.conn.now) (rows_in court t) → OnOk result (Sees (state S.Store tx.new.conn.now) (rows_in court (changed change.now t))) }
+{
+    match change {
+        Change::AddCalendar(row) => add_calendar_row(tx, row),
+        Change::RemoveCalendar(number) => remove_calendar_row(tx, *number),
+        Change::AddCase(row) => insert(tx, Table::Cases, &case_values(row)),
+        Change::AddParty(row) => insert(tx, Table::Parties, &party_values(row)),
+        Change::AddEntry(row) => insert(tx, Table::Entries, &entry_values(row)),
+        Change::AddDeadline(row) => insert(tx, Table::Deadlines, &deadline_values(row)),
+        Change::AddAct(row) => insert(tx, Table::Acts, &act_values(row)),
+    }
+}
+
+/// Makes the changes, one after another.
+fn change_all<S: Alter>(tx: &mut Transaction<'_, S>, changes: &[Change]) -> Result<(), Error>
+    ensures same_reference { tx.new.conn.ghost_name ≡ tx.old.conn.ghost_name }
+    ensures inside { StaysInside (state S.Store tx.old.conn.now) (state S.Store tx.new.conn.now) }
+    ensures ok { HasCleanDisk (state S.Store tx.new.conn.now) → (court : CourtSettings) (t : Tables) → t.next_row + length changes.now < 2 ^ 63
+        → Sees (state S.Store tx.old.conn.now) (rows_in court t) → OnOk result (Sees (state S.Store tx.new.conn.now) (rows_in court (all_changed changes.now t))) }
+{
+    'changes: for change in changes {
+        change_row(tx, change)?;
+    }
+    Ok(())
+}
+
+/// Makes the changes of a command, and adds its receipt.
+fn record<S: Alter>(
+    tx: &mut Transaction<'_, S>,
+    command: &Command,
+    body: &str,
+    changes: &Changes,
+) -> Result<(), Error>
+    requires { body.now ≡ canonical command.now }
+    ensures same_reference { tx.new.conn.ghost_name ≡ tx.old.conn.ghost_name }
+    ensures inside { StaysInside (state S.Store tx.old.conn.now) (state S.Store tx.new.conn.now) }
+    ensures ok { HasCleanDisk (state S.Store tx.new.conn.now) → (court : CourtSettings) (t : Tables) → t.next_row + length changes.now.rows.items < 2 ^ 63
+        → Sees (state S.Store tx.old.conn.now) (rows_in court t)
+        → OnOk result (Sees (state S.Store tx.new.conn.now) (rows_in court (with_receipt command.now changes.now.reply (all_changed changes.now.rows.items t)))) }
+{
+    change_all(tx, changes.rows.as_slice())?;
+    insert(
+        tx,
+        Table::Receipts,
+        &receipt_values(command, body, changes.reply),
+    )
+}
+
+/// Makes the changes of an accepted command and adds its receipt, in one transaction: all of it, or
+/// nothing. `body` is the canonical text of the command. On an error nothing of it stands, but that a
+/// power failure after a commit that failed may leave either; the connection is as it was, or shut.
+pub fn write<S: Alter>(
+    conn: &mut Connection<S>,
+    command: &Command,
+    body: &str,
+    changes: &Changes,
+) -> Result<(), Error>
+    requires idle { conn.old.in_transaction ≡ false }
+    requires body { body.now ≡ canonical command.now }
+    ensures idle { conn.new.in_transaction ≡ false }
+    ensures clean { doubt (state S.Store conn.old).is_clean ≤ doubt (state S.Store conn.new).is_clean }
+    ensures either { (court : CourtSettings) (t : Tables) → t.next_row + length changes.now.rows.items < 2 ^ 63 → HoldsRows S.Store conn.old (rows_in court t)
+        → MatchResult result (λ _. HoldsRows S.Store conn.new (rows_in court (with_receipt command.now changes.now.reply (all_changed changes.now.rows.items t))))
+            (λ _. LastsAsEither S.Store conn.new (rows_in court t) (rows_in court (with_receipt command.now changes.now.reply (all_changed changes.now.rows.items t)))) }
+{
+    let mut tx = conn.transaction();
+    record(&mut tx, command, body, changes)?;
+    tx.commit()
+}
