@@ -22,7 +22,7 @@ court_cells c next =
 -- calendar: row_no, kind, a, b, name
 abbrev pub calendar_cells : CalendarRow → Row
 calendar_cells r =
-    Int (pos r.number) ∷ Int (pos (item_code r.item).kind) ∷ Int (pos (item_code r.item).a) ∷ Int (pos (item_code r.item).b) ∷ Text r.name ∷ []
+    Int (pos r.number) ∷ Int (pos (item_code r.item).kind) ∷ Int (item_code r.item).a ∷ Int (item_code r.item).b ∷ Text r.name ∷ []
 
 -- cases: number, label, caption, filed
 abbrev pub case_cells : CaseRow → Row

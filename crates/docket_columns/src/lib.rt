@@ -1,6 +1,8 @@
 //! How each row of the docket's tables is laid out in columns of SQL.
 #![tactic(auto)]
 
+mod act;
+mod calendar;
 mod cases;
 mod cell;
 mod codes;
@@ -8,6 +10,8 @@ mod deadline;
 mod entry;
 mod party;
 
+pub use act::{act_of, act_values};
+pub use calendar::{calendar_of, calendar_values};
 pub use cases::{case_of, case_values};
 pub use deadline::{deadline_of, deadline_values};
 pub use entry::{entry_of, entry_values};
