@@ -1,5 +1,6 @@
 -- The rows of the docket's tables in SQL: the values of the columns, in order.
-use Rattle.std.specs.Prelude.{ℕ, pos, List, [], ◌∷◌, codes}
+use Rattle.std.specs.Prelude.{ℕ, pos, List, [], ◌∷◌, codes, if◌then◌else◌}
+use Rattle.std.specs.Str.{bytes_eq}
 use Rattle.sqlite_value.specs.declared.value.Value.TheVariants.{Int, Text}
 use Rattle.sqlite_value.specs.Order.{Row}
 use Rattle.court_days.specs.Court.{CourtSettings}
@@ -11,6 +12,10 @@ use Rattle.docket_core.specs.declared.row.EntryRow.{EntryRow}
 use Rattle.docket_core.specs.declared.row.DeadlineRow.{DeadlineRow}
 use Rattle.docket_core.specs.declared.row.ActRow.{ActRow}
 use Rattle.docket_core.specs.declared.row.Receipt.{Receipt}
+use Rattle.docket_core.specs.declared.view.Kept.{Kept}
+use Rattle.docket_core.specs.declared.view.Kept.TheVariants.{Same, Other}
+use Rattle.docket_core.specs.Outcomes.{replied}
+use Rattle.docket_columns.specs.declared.court.CourtRow.{CourtRow}
 use Rattle.docket_wire.specs.Writing.{canonical}
 use Rattle.docket_columns.specs.Codes.{flag_number, role_number, item_code, act_code}
 
@@ -19,10 +24,14 @@ abbrev pub court_cells : CourtSettings → ℕ → Row
 court_cells c next =
     Int (pos 1) ∷ Text (codes "civil docket") ∷ Int (pos 0) ∷ Text c.zone_text ∷ Int (pos c.close_minute) ∷ Int (pos next) ∷ []
 
+-- what a row of the court says
+abbrev pub settings_of : CourtRow → CourtSettings
+settings_of r = record { zone_text = r.zone; close_minute = r.close }
+
 -- calendar: row_no, kind, a, b, name
 abbrev pub calendar_cells : CalendarRow → Row
 calendar_cells r =
-    Int (pos r.number) ∷ Int (pos (item_code r.item).kind) ∷ Int (pos (item_code r.item).a) ∷ Int (pos (item_code r.item).b) ∷ Text r.name ∷ []
+    Int (pos r.number) ∷ Int (pos (item_code r.item).kind) ∷ Int (item_code r.item).a ∷ Int (item_code r.item).b ∷ Text r.name ∷ []
 
 -- cases: number, label, caption, filed
 abbrev pub case_cells : CaseRow → Row
@@ -54,3 +63,7 @@ stored_cells key body reply = Text key ∷ Text body ∷ Int (pos reply) ∷ []
 
 abbrev pub receipt_cells : Receipt → Row
 receipt_cells r = stored_cells r.command.key (canonical r.command) r.reply.number
+
+-- what is kept under a key, for a command with this body
+abbrev pub kept_as : List ℕ → ℕ → List ℕ → Kept
+kept_as stored reply body = if bytes_eq stored body then Same (replied reply) else Other

@@ -17,6 +17,8 @@ use Rattle.docket_command.specs.declared.choice.Role.{Role}
 use Rattle.docket_command.specs.declared.choice.Role.TheVariants.{Plaintiff, Defendant, Other}
 use Rattle.docket_core.specs.declared.item.CalendarItem.{CalendarItem}
 use Rattle.docket_core.specs.declared.item.CalendarItem.TheVariants as item
+use Rattle.docket_columns.specs.declared.act.ActCode.{ActCode}
+use Rattle.docket_columns.specs.declared.calendar.ItemCode.{ItemCode}
 
 abbrev pub flag_number : Bool → ℕ
 flag_number b = if b then 1 else 0
@@ -46,14 +48,9 @@ day_kind_number State = 2
 day_kind_number Closed = 3
 
 -- what a row of the calendar enters: its kind, the day or the start, and the end
-pub record ItemCode : Type 0 where
-  pub kind : ℕ
-  pub a : ℕ
-  pub b : ℕ
-
 abbrev pub item_code : CalendarItem → ItemCode
-item_code (item.Day kind day) = record { kind = day_kind_number kind; a = day; b = 0 }
-item_code (item.Span start end) = record { kind = 4; a = start; b = end }
+item_code (item.Day kind day) = record { kind = day_kind_number kind; a = pos day; b = pos 0 }
+item_code (item.Span start end) = record { kind = 4; a = pos start; b = pos end }
 
 -- days 1, months 2; hours are 3
 abbrev pub unit_number : Period → ℕ
@@ -64,18 +61,10 @@ abbrev pub unit_count : Period → ℕ
 unit_count (Days count) = count
 unit_count (Months count) = count
 
--- an act: its kind, and what it holds
-pub record ActCode : Type 0 where
-  pub kind : ℕ
-  pub p1 : ℤ
-  pub p2 : ℕ
-  pub p3 : ℕ
-  pub p4 : ℕ
-  pub p5 : ℕ
-
 abbrev pub coded : ℕ → ℤ → ℕ → ℕ → ℕ → ℕ → ActCode
 coded kind p1 p2 p3 p4 p5 = record { kind = kind; p1 = p1; p2 = p2; p3 = p3; p4 = p4; p5 = p5 }
 
+-- an act: its kind, and what it holds
 abbrev pub act_code : Act → ActCode
 act_code (act.Start (start.Days s)) = coded 1 (pos s.trigger) (unit_number s.period) (unit_count s.period) (direction_number s.direction) (flag_number s.three_days)
 act_code (act.Start (start.Hours s)) = coded 1 s.at 3 s.hours (direction_number s.direction) 0

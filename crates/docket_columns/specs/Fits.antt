@@ -18,6 +18,7 @@ use Rattle.docket_core.specs.declared.row.EntryRow.{EntryRow}
 use Rattle.docket_core.specs.declared.row.DeadlineRow.{DeadlineRow}
 use Rattle.docket_core.specs.declared.row.ActRow.{ActRow}
 use Rattle.docket_core.specs.declared.row.Receipt.{Receipt}
+use Rattle.docket_wire.specs.Valid.{IsCommand}
 use Rattle.docket_columns.specs.Codes.{unit_count}
 
 -- a number of a row, a party, a count
@@ -31,13 +32,17 @@ IsSeconds at = FitsSigned w64 at
 abbrev pub IsCourtRow : CourtSettings → ℕ → Type 0
 IsCourtRow c next = IsUtf8 c.zone_text × (c.close_minute < 1440) × (next ≤ 2 ^ 32)
 
-abbrev pub IsItem : CalendarItem → List ℕ → Type 0
-IsItem (item.Day kind day) name = IsDayNumber day
+abbrev pub IsItem : CalendarItem → Type 0
+IsItem (item.Day kind day) = IsDayNumber day
+IsItem (item.Span start end) = IsWholeMinute start × IsWholeMinute end
+
 -- the name of a span is empty
-IsItem (item.Span start end) name = IsWholeMinute start × IsWholeMinute end × (name ≡ [])
+abbrev pub IsNameOf : CalendarItem → List ℕ → Type 0
+IsNameOf (item.Day kind day) name = Unit {0}
+IsNameOf (item.Span start end) name = name ≡ []
 
 abbrev pub IsCalendarRow : CalendarRow → Type 0
-IsCalendarRow r = IsCount r.number × IsItem r.item r.name × IsUtf8 r.name
+IsCalendarRow r = IsCount r.number × IsItem r.item × IsNameOf r.item r.name × IsUtf8 r.name
 
 abbrev pub IsCaseRow : CaseRow → Type 0
 IsCaseRow r = IsCount r.number × IsUtf8 r.label × IsUtf8 r.caption × IsDayNumber r.filed
@@ -70,4 +75,4 @@ abbrev pub IsActRow : ActRow → Type 0
 IsActRow r = IsCount r.case × IsCount r.deadline × IsCount r.number × IsAct r.act
 
 abbrev pub IsReceipt : Receipt → Type 0
-IsReceipt r = IsCount r.reply.number
+IsReceipt r = IsCommand r.command × IsCount r.reply.number

@@ -31,15 +31,23 @@ pub(crate) fn count_at(row: &Row, at: usize) -> Option<u32>
     u32::try_from(number_at(row, at)?).ok()
 }
 
+/// The bytes of the text in a column.
+pub(crate) fn bytes_at(row: &Row, at: usize) -> Option<&[u8]>
+    ensures reads { (t : List ℕ) → column row.now at ≡ Text t → option_copied result ≡ Some t }
+    ensures sound { IfSome result (λ t. column row.now at ≡ Text t.now) }
+{
+    match row.get_ref(at) {
+        Ok(ValueRef::Text(text)) => Some(text),
+        _ => None,
+    }
+}
+
 /// The text in a column.
 pub(crate) fn text_at(row: &Row, at: usize) -> Option<&str>
     ensures reads { (t : List ℕ) → IsUtf8 t → column row.now at ≡ Text t → option_copied result ≡ Some t }
     ensures utf8 { IfSome result (λ text. IsUtf8 text.now) }
 {
-    match row.get_ref(at) {
-        Ok(ValueRef::Text(text)) => str::from_utf8(text).ok(),
-        _ => None,
-    }
+    str::from_utf8(bytes_at(row, at)?).ok()
 }
 
 /// The day of that number.

@@ -1,14 +1,22 @@
 //! How each row of the docket's tables is laid out in columns of SQL.
 #![tactic(auto)]
 
+mod act;
+mod calendar;
 mod cases;
 mod cell;
 mod codes;
+mod court;
 mod deadline;
 mod entry;
 mod party;
+mod receipt;
 
+pub use act::{act_of, act_values};
+pub use calendar::{calendar_of, calendar_values};
 pub use cases::{case_of, case_values};
+pub use court::{CourtRow, court_of, court_values};
 pub use deadline::{deadline_of, deadline_values};
 pub use entry::{entry_of, entry_values};
 pub use party::{party_of, party_values};
+pub use receipt::{kept_by, receipt_values, reply_of};

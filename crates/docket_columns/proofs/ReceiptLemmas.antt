@@ -1,0 +1,33 @@
+-- What is kept under a key: a stored text is that of the same command.
+use Rattle.std.proofs.Common.{◌≡◌, ℕ, List, Bool, true, false, Some, refl, ap, sym, ◌∙◌}
+use Rattle.std.specs.Prelude.{if◌then◌else◌}
+use Rattle.docket_core.specs.declared.view.Kept.TheVariants.{Same, Other}
+use Rattle.std.specs.Str.{bytes_eq}
+use Rattle.std.proofs.lemmas.Slice.Eq.{bytes_eq-Decides}
+use Rattle.docket_command.specs.declared.command.Command.{Command}
+use Rattle.docket_command.specs.Sameness.{is_same_command}
+use Rattle.docket_command.proofs.SamenessLemmas.{same_command}
+use Rattle.docket_core.specs.declared.row.Receipt.{Receipt}
+use Rattle.docket_core.specs.Outcomes.{kept_by, replied}
+use Rattle.docket_wire.specs.Valid.{IsCommand}
+use Rattle.docket_wire.specs.Writing.{canonical}
+use Rattle.docket_wire.proofs.CanonicalLemmas.{unique}
+use Rattle.docket_columns.specs.Cells.{kept_as}
+use Rattle.docket_columns.specs.Fits.{IsReceipt}
+
+same_answer : (a b : Bool) → (a ≡ true → b ≡ true) → (b ≡ true → a ≡ true) → a ≡ b
+same_answer true b there back = sym (there refl)
+same_answer false true there back = back refl
+same_answer false false there back = refl
+
+same_text : (c d : Command) → IsCommand c → IsCommand d → bytes_eq (canonical c) (canonical d) ≡ is_same_command c d
+same_text c d ok fine =
+    same_answer _ _
+    (λ e. (same_command c d).1 (unique c d ok fine ((bytes_eq-Decides (canonical c) (canonical d)).0 e)))
+    (λ e. (bytes_eq-Decides (canonical c) (canonical d)).1 (ap canonical ((same_command c d).0 e)))
+
+pub kept_is : (r : Receipt) (c : Command) (body : List ℕ) → IsReceipt r → IsCommand c → body ≡ canonical c
+    → kept_as (canonical r.command) r.reply.number body ≡ kept_by (Some r) c
+kept_is r c body fits ok e =
+    ap (λ b. kept_as (canonical r.command) r.reply.number b) e
+    ∙ ap (λ (b : Bool). if b then Same (replied r.reply.number) else Other) (same_text r.command c fits.0 ok)
