@@ -1,6 +1,6 @@
 -- Changes, one after another.
 use Rattle.std.proofs.Common.{◌≡◌, ◌∙◌, ◌+◌, ◌<◌, ◌≤◌, ℕ, List, [], ◌∷◌, ◌++◌, length, take, get_or, refl, sym, ap, arith}
-use Rattle.std.proofs.lemmas.List.{take_more, length_take}
+use Rattle.std.proofs.lemmas.List.{take_more, length-take}
 use Rattle.docket_core.specs.Tables.{Tables, changed, all_changed}
 use Rattle.docket_core.specs.declared.row.Change.{Change}
 use Rattle.docket_core.specs.declared.row.Change.TheVariants.{AddCalendar, RemoveCalendar, AddCase, AddParty, AddEntry, AddDeadline, AddAct}
@@ -24,7 +24,7 @@ all_counted (x ∷ xs) t = omega (arith, all_counted xs (changed x t), one_count
 
 -- before each of them, the numbers of calendar rows are at most so many more
 pub counted_within : (xs : List Change) (t : Tables) (i : ℕ) → i < length xs → (all_changed (take i xs) t).next_row + 1 ≤ t.next_row + length xs
-counted_within xs t i inside = omega (arith, all_counted (take i xs) t, length_take i xs, inside)
+counted_within xs t i inside = omega (arith, all_counted (take i xs) t, length-take i xs, inside)
 
 pub changed_next : (xs : List Change) (x : Change) (t : Tables) (i : ℕ) → i < length xs → x ≡ get_or xs i x → changed x (all_changed (take i xs) t) ≡ all_changed (take (i + 1) xs) t
 changed_next xs x t i inside is =

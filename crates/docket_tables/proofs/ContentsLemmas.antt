@@ -1,6 +1,7 @@
 -- What each change makes of the rows of a docket.
-use Rattle.std.proofs.Common.{◌≡◌, ◌∙◌, ◌==◌, ◌&&◌, ◌+◌, ℕ, ℤ, pos, List, [], ◌∷◌, ◌++◌, map, filter, not, Bool, true, false, Ordering, Less, Equal, Greater, is_eq, int_cmp, refl, sym, ap, subst, arith}
+use Rattle.std.proofs.Common.{◌≡◌, ◌∙◌, ◌==◌, ◌&&◌, ◌+◌, ℕ, ℤ, pos, List, [], ◌∷◌, ◌++◌, map, filter, not, Bool, true, false, Ordering, Less, Equal, Greater, is_eq, int_cmp, refl, sym, ap, subst, arith, Result, OnOk}
 use Rattle.std.specs.List.{AllByRecursion}
+use Rattle.std.proofs.lemmas.Result.{IfOk-weaker}
 use Rattle.std.proofs.lemmas.Bool.Decides.{nat_tests}
 use Rattle.std.proofs.lemmas.Int.{ints}
 use Rattle.std.proofs.lemmas.List.{map-append}
@@ -41,6 +42,13 @@ sees_same s a b same sees = record {
     holds = λ table. subst (λ rows. Holds (tree_of table) (places_of table) rows s.now.trees) (same table) (sees.shows.holds table);
   };
 }
+
+-- an INSERT of the row of a change
+pub row_inserted : {E : Type 0} (result : Result (Unit {0}) E) (old new : State) (table : Table) (given cells : Row) (rows next : Rows) → given ≡ cells → Fits table cells
+    → ((other : Table) → with_row table cells rows other ≡ next other) → (Fits table given → (r : Rows) → Sees old r → OnOk result (Sees new (with_row table given r)))
+    → Sees old rows → OnOk result (Sees new next)
+row_inserted result old new table given cells rows next is fits same inserts sees =
+    IfOk-weaker result _ _ (λ _ h. sees_same new _ next same (subst (λ r. Sees new (with_row table r rows)) is h)) (inserts (subst (Fits table) (sym is) fits) rows sees)
 
 module _ (court : CourtSettings) (t : Tables) where
   pub case_added : (row : CaseRow) → (table : Table) → with_row Cases (case_cells row) (rows_in court t) table ≡ rows_in court (changed (AddCase row) t) table
@@ -141,7 +149,7 @@ pub court_fits : (court : CourtSettings) (next : ℕ) → Fits Court (court_cell
 court_fits court next = ((pos 1, (_, (pos 0, (court.zone_text, (pos court.close_minute, (pos next, tt)))))), refl)
 
 pub calendar_fits : (row : CalendarRow) → Fits Calendar (calendar_cells row)
-calendar_fits row = ((pos row.number, (pos (item_code row.item).kind, (pos (item_code row.item).a, (pos (item_code row.item).b, (row.name, tt))))), refl)
+calendar_fits row = ((pos row.number, (pos (item_code row.item).kind, ((item_code row.item).a, ((item_code row.item).b, (row.name, tt))))), refl)
 
 pub case_fits : (row : CaseRow) → Fits Cases (case_cells row)
 case_fits row = ((pos row.number, (row.label, (row.caption, (pos row.filed, tt)))), refl)

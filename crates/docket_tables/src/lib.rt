@@ -6,8 +6,8 @@ mod query;
 mod statement;
 mod store;
 mod table;
-mod write;
+mod writing;
 
 pub use query::Query;
 pub use table::Table;
-pub use write::write;
+pub use writing::write;

@@ -6,7 +6,7 @@ use Rattle.docket_tables.specs.Contents.{rows_in}
 use Rattle.docket_tables.specs.Stands.{Sees}
 use Rattle.docket_tables.proofs.ChangesLemmas.{counted_within, changed_next}
 use Rattle.docket_tables.proofs.CommitLemmas.{inside_then, inside_still}
-use Rattle.docket_tables.proofs.write.change_all.Goals as goal
+use Rattle.docket_tables.proofs.writing.change_all.Goals as goal
 
 pub changes-init : goal.changes-init
 changes-init g c = (refl, inside_still _, λ clean court t small sees. sees)

@@ -9,17 +9,18 @@ use Rattle.docket_tables.specs.Stands.{Sees}
 use Rattle.docket_tables.specs.declared.table.Table.TheVariants.{Court, Calendar}
 use Rattle.docket_tables.proofs.CommitLemmas.{inside_then}
 use Rattle.docket_tables.proofs.ContentsLemmas.{calendar_added, calendar_fits, sees_same}
-use Rattle.docket_tables.proofs.write.add_calendar_row.Goals as goal
+use Rattle.docket_tables.proofs.writing.add_calendar_row.Goals as goal
 
 pub returns-clause-inside : goal.returns-clause-inside
 returns-clause-inside g c = inside_then _ _ _ c.insert.ensures.inside c.count_calendar_row.ensures.inside
 
 pub returns-clause-ok : goal.returns-clause-ok
 returns-clause-ok g c clean court t small sees =
+    let mid = state g.S.Store c.insert.new.tx.conn.now in
     let last = state g.S.Store c.count_calendar_row.new.tx.conn.now in
     let row = c.args.row.now in
     let fits = subst (Fits Calendar) (sym c.calendar_values.ensures) (calendar_fits row) in
     let added = c.in_ok-insert.ensures.ok (omega (arith, c.count_calendar_row.ensures.inside.survives.clean)) fits (rows_in court t) sees in
-    let there = subst (λ r. Sees _ (with_row Calendar r (rows_in court t))) c.calendar_values.ensures added in
+    let there = subst (λ r. Sees mid (with_row Calendar r (rows_in court t))) c.calendar_values.ensures added in
     IfOk-weaker c.count_calendar_row.result _ _ (λ _ h. sees_same last _ _ (calendar_added court t row) h)
         (c.count_calendar_row.ensures.ok clean court t.next_row (with_row Calendar (calendar_cells row) (rows_in court t)) small refl there)

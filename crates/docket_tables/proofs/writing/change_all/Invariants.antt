@@ -5,7 +5,7 @@ use Rattle.court_days.specs.Court.{CourtSettings}
 use Rattle.docket_core.specs.Tables.{Tables, all_changed}
 use Rattle.docket_tables.specs.Contents.{rows_in}
 use Rattle.docket_tables.specs.Stands.{StaysInside, Sees}
-use Rattle.docket_tables.proofs.write.change_all.Given as goal
+use Rattle.docket_tables.proofs.writing.change_all.Given as goal
 
 abbrev pub invariant-changes : goal.invariant-changes
 invariant-changes g l =

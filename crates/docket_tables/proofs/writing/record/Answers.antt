@@ -2,7 +2,7 @@ use Rattle.std.proofs.Common.{◌≡◌, ◌∙◌, refl, ap, subst, sym, arith}
 use Rattle.std.proofs.lemmas.Result.{IfOk-weaker}
 use Rattle.sqlite.specs.Held.{state}
 use Rattle.sqlite.specs.Values.{bound}
-use Rattle.docket_core.specs.Tables.{Tables, all_changed}
+use Rattle.docket_core.specs.Tables.{Tables, all_changed, with_receipt}
 use Rattle.docket_core.specs.declared.row.Receipt.{Receipt}
 use Rattle.docket_columns.specs.Cells.{receipt_cells}
 use Rattle.docket_tables.specs.Contents.{rows_in}
@@ -10,8 +10,8 @@ use Rattle.docket_tables.specs.Layouts.{Fits, with_row}
 use Rattle.docket_tables.specs.Stands.{Sees}
 use Rattle.docket_tables.specs.declared.table.Table.TheVariants.{Receipts}
 use Rattle.docket_tables.proofs.CommitLemmas.{inside_then}
-use Rattle.docket_tables.proofs.ContentsLemmas.{receipt_added, receipt_fits, sees_same}
-use Rattle.docket_tables.proofs.write.record.Goals as goal
+use Rattle.docket_tables.proofs.ContentsLemmas.{receipt_added, receipt_fits, row_inserted}
+use Rattle.docket_tables.proofs.writing.record.Goals as goal
 
 pub returns-clause-inside : goal.returns-clause-inside
 returns-clause-inside g c = inside_then _ _ _ c.change_all.ensures.inside c.insert.ensures.inside
@@ -22,7 +22,7 @@ returns-clause-ok g c clean court t small sees =
     let receipt : Receipt = record { command = c.args.command.now; reply = c.args.changes.now.reply } in
     let values = c.receipt_values.ensures.receipt c.requires in
     let then : Tables = all_changed c.args.changes.now.rows.items t in
-    let fits = subst (Fits Receipts) (sym values) (receipt_fits receipt) in
-    let changed = rw c.as_slice.ensures at (c.in_ok-change_all.ensures.ok (omega (arith, c.insert.ensures.inside.survives.clean)) court t) in
-    IfOk-weaker c.insert.result _ _ (λ _ h. sees_same last _ _ (receipt_added court then receipt) (subst (λ r. Sees last (with_row Receipts r (rows_in court then))) values h))
-        (c.insert.ensures.ok clean fits (rows_in court then) (changed small sees))
+    let old = state g.S.Store c.change_all.new.tx.conn.now in
+    let changed = rw c.as_slice.ensures.value at (c.in_ok-change_all.ensures.ok (omega (arith, c.insert.ensures.inside.survives.clean)) court t) in
+    row_inserted c.insert.result old last Receipts _ (receipt_cells receipt) (rows_in court then) (rows_in court (with_receipt c.args.command.now c.args.changes.now.reply then)) values (receipt_fits receipt)
+        (receipt_added court then receipt) (c.insert.ensures.ok clean) (changed small sees)
