@@ -87,6 +87,25 @@ module _ (start begun last end : State) (rows next : Rows) (was : IsSettled star
     ];
   }
 
+-- the same where nothing is known of what the connection held
+module _ (start begun last end : State) (begins : begun ≡ record start { in_transaction = true }) (inside : Survives begun last (λ _. ⊥)) where
+  left_before : HasCleanDisk last → (db : Trees) → last.may_leave db → start.may_leave db
+  left_before clean db may =
+      let early : Survives (record start { in_transaction = true }) last (λ _. ⊥) = subst (λ s. Survives s last (λ _. ⊥)) begins inside in
+      elim (early.crash clean db may) [ inl before ↦ before | inr none ↦ absurd none ]
+
+  pub left_undone : HasCleanDisk end → Survives last end (λ _. ⊥) → (db : Trees) → end.may_leave db → start.may_leave db
+  left_undone clean after db may = elim (after.crash clean db may) [ inl before ↦ left_before (omega (arith, after.clean)) db before | inr none ↦ absurd none ]
+
+  pub made : (rows : Rows) → LeavesCommit end → Sees last rows → Turns last end last.now last.now false → IsSettled end rows
+  made rows leaves sees turns = settles end rows turns.mode (shows_again last end rows turns.now_is turns.is_open sees.shows) (turns.committed_is ∙ sym turns.now_is) leaves
+
+  pub may_be_made : (rows : Rows) → HasCleanDisk end → Sees last rows → Survives last end (λ db. db ≡ last.now.trees) → (db : Trees) → end.may_leave db → start.may_leave db ⊎ IsImage rows db
+  may_be_made rows clean sees after db may = elim (after.crash clean db may) [
+    | inl before ↦ inl (left_before (omega (arith, after.clean)) db before)
+    | inr made ↦ inr (subst (IsImage rows) (sym made) (image_of last rows sees.shows))
+  ]
+
 pub begins_seeing : (start begun : State) (rows : Rows) → IsSettled start rows → begun ≡ record start { in_transaction = true } → Sees begun rows
 begins_seeing start begun rows was begins =
     subst (λ s. Sees s rows) (sym begins) (record {

@@ -10,7 +10,7 @@ use Rattle.sqlite.specs.Order.{Row}
 use Rattle.sqlite.specs.State.{State}
 use Rattle.sqlite.specs.Tree.{Trees}
 use Rattle.court_days.specs.Court.{CourtSettings}
-use Rattle.docket_core.specs.Tables.{Tables, changed, with_receipt}
+use Rattle.docket_core.specs.Tables.{Tables, rows_of, changed, with_receipt}
 use Rattle.docket_core.specs.declared.row.Change.TheVariants.{AddCalendar, RemoveCalendar, AddCase, AddParty, AddEntry, AddDeadline, AddAct}
 use Rattle.docket_core.specs.declared.row.CalendarRow.{CalendarRow}
 use Rattle.docket_core.specs.declared.row.CaseRow.{CaseRow}
@@ -26,6 +26,7 @@ use Rattle.docket_wire.specs.Writing.{canonical}
 use Rattle.docket_tables.specs.declared.table.Table.{Table}
 use Rattle.docket_tables.specs.declared.table.Table.TheVariants.{Court, Calendar, Cases, Parties, Entries, Deadlines, Acts, Receipts}
 use Rattle.docket_tables.specs.Contents.{rows_in}
+use Rattle.docket_tables.specs.Creation.{no_rows}
 use Rattle.docket_tables.specs.Holds.{Holds, IsKeyed, has_key, without_number}
 use Rattle.docket_tables.specs.Layouts.{Rows, AreRows, Fits, tree_of, places_of, with_rows, with_row}
 use Rattle.docket_tables.specs.Stands.{Shows, Sees}
@@ -138,6 +139,17 @@ module _ (court : CourtSettings) (t : Tables) where
   calendar_removed n Deadlines = refl
   calendar_removed n Acts = refl
   calendar_removed n Receipts = refl
+
+-- the tables of a docket without any record
+pub court_entered : (court : CourtSettings) (table : Table) → with_row Court (court_cells court 1) no_rows table ≡ rows_in court (rows_of court []) table
+court_entered court Court = refl
+court_entered court Calendar = refl
+court_entered court Cases = refl
+court_entered court Parties = refl
+court_entered court Entries = refl
+court_entered court Deadlines = refl
+court_entered court Acts = refl
+court_entered court Receipts = refl
 
 -- a row of the calendar begins with its number
 pub calendar_keyed : (rows : List CalendarRow) → AllByRecursion IsKeyed (map calendar_cells rows)

@@ -60,3 +60,7 @@ module _ {S : Type 0} (g : Ghosts S) where
   -- a write that did not end well
   abbrev pub LastsAsEither : Held S → Rows → Rows → Type 0
   LastsAsEither c rows next = (c.in_transaction ≡ false) × (HasCleanDisk (state g c) → IsEither (state g c) rows next)
+
+  -- a power failure leaves what it could leave before, or the rows
+  abbrev pub MayMake : Held S → Held S → Rows → Type 0
+  MayMake old new rows = (new.in_transaction ≡ false) × (HasCleanDisk (state g new) → (db : Trees) → (state g new).may_leave db → (state g old).may_leave db ⊎ IsImage rows db)

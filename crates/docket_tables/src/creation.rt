@@ -1,13 +1,19 @@
 //! The making of the tables.
-ghost use Rattle.std.specs.Prelude.{◌≡◌, ◌<◌, ℕ, suc, slice_get, Some, OnOk};
+ghost use Rattle.std.specs.Prelude.{◌≡◌, ◌<◌, ◌≤◌, ℕ, suc, [], slice_get, Some, OnOk, MatchResult, false};
+ghost use Rattle.docket_core.specs.Tables.{rows_of};
 ghost use Rattle.sqlite.specs.Held.{state};
 ghost use Rattle.sqlite.specs.State.{HasCleanDisk};
+ghost use Rattle.sqlite.specs.View.{doubt};
 ghost use Rattle.docket_tables.specs.Creation.{texts, IsMade, no_rows};
 ghost use Rattle.docket_tables.specs.Schema.{no_schema};
-ghost use Rattle.docket_tables.specs.Stands.{Sees, StaysInside};
+ghost use Rattle.docket_tables.specs.Contents.{rows_in};
+ghost use Rattle.docket_tables.specs.Stands.{HoldsRows, MayMake, Sees, StaysInside};
 
-use crate::store::change;
-use sqlite::{Alter, Error, Transaction};
+use crate::store::{change, insert};
+use crate::table::Table;
+use court_days::Court;
+use docket_columns::court_values;
+use sqlite::{Alter, Connection, Error, Transaction};
 
 const TABLES: usize = 8;
 
@@ -39,7 +45,7 @@ fn define<S: Alter>(tx: &mut Transaction<'_, S>, sql: &str) -> Result<(), Error>
 }
 
 /// Makes all tables.
-pub(crate) fn define_all<S: Alter>(tx: &mut Transaction<'_, S>) -> Result<(), Error>
+fn define_all<S: Alter>(tx: &mut Transaction<'_, S>) -> Result<(), Error>
     ensures same_reference { tx.new.conn.ghost_name ≡ tx.old.conn.ghost_name }
     ensures inside { StaysInside (state S.Store tx.old.conn.now) (state S.Store tx.new.conn.now) }
     ensures ok { HasCleanDisk (state S.Store tx.new.conn.now) → (state S.Store tx.old.conn.now).now.schema ≡ no_schema → OnOk result (Sees (state S.Store tx.new.conn.now) no_rows) }
@@ -50,3 +56,28 @@ pub(crate) fn define_all<S: Alter>(tx: &mut Transaction<'_, S>) -> Result<(), Er
     Ok(())
 }
 
+/// Makes all tables, and the row of the court.
+fn define_docket<S: Alter>(tx: &mut Transaction<'_, S>, court: &Court) -> Result<(), Error>
+    ensures same_reference { tx.new.conn.ghost_name ≡ tx.old.conn.ghost_name }
+    ensures inside { StaysInside (state S.Store tx.old.conn.now) (state S.Store tx.new.conn.now) }
+    ensures ok { HasCleanDisk (state S.Store tx.new.conn.now) → (state S.Store tx.old.conn.now).now.schema ≡ no_schema
+        → OnOk result (Sees (state S.Store tx.new.conn.now) (rows_in court.now (rows_of court.now []))) }
+{
+    define_all(tx)?;
+    insert(tx, Table::Court, &court_values(court, 1))
+}
+
+/// Makes the tables of a docket of the court without any record, in a database without any table, in
+/// one transaction: all of them, or nothing.
+pub fn make<S: Alter>(conn: &mut Connection<S>, court: &Court) -> Result<(), Error>
+    requires idle { conn.old.in_transaction ≡ false }
+    requires bare { conn.old.schema ≡ no_schema }
+    ensures idle { conn.new.in_transaction ≡ false }
+    ensures clean { doubt (state S.Store conn.old).is_clean ≤ doubt (state S.Store conn.new).is_clean }
+    ensures made { MatchResult result (λ _. HoldsRows S.Store conn.new (rows_in court.now (rows_of court.now [])))
+        (λ _. MayMake S.Store conn.old conn.new (rows_in court.now (rows_of court.now []))) }
+{
+    let mut tx = conn.transaction();
+    define_docket(&mut tx, court)?;
+    tx.commit()
+}

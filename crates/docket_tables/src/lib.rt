@@ -8,6 +8,7 @@ mod store;
 mod table;
 mod writing;
 
+pub use creation::make;
 pub use query::Query;
 pub use table::Table;
 pub use writing::write;
