@@ -40,11 +40,14 @@ fn no_court(rt: HostRuntime) -> Result<(), Fail> {
         number(4_294_967_296),
     ];
     // another version
+    assert!(rt; version_of(&row(rt.alloc(), &cells)?) == Some(1));
     assert!(rt; court_of(rt.alloc(), &row(rt.alloc(), &cells)?)?.is_none());
     cells[2] = number(0);
     let found = court_of(rt.alloc(), &row(rt.alloc(), &cells)?)?.ok_or("no row")?;
     assert!(rt; found.next_row == 4_294_967_296);
+    assert!(rt; version_of(&row(rt.alloc(), &cells)?) == Some(0));
     cells[1] = text("criminal docket");
+    assert!(rt; version_of(&row(rt.alloc(), &cells)?).is_none());
     assert!(rt; court_of(rt.alloc(), &row(rt.alloc(), &cells)?)?.is_none());
     Ok(())
 }
