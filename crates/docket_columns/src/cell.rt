@@ -24,8 +24,8 @@ pub(crate) fn number_at(row: &Row, at: usize) -> Option<i64>
     }
 }
 
-/// The same where it is from 0 to 2^32 - 1.
-pub(crate) fn count_at(row: &Row, at: usize) -> Option<u32>
+/// The whole number in a column, where it is from 0 to 2^32 - 1.
+pub fn count_at(row: &Row, at: usize) -> Option<u32>
     ensures { (n : ℕ) → IsCount n → column row.now at ≡ Int (pos n) → result ≡ Some n }
 {
     u32::try_from(number_at(row, at)?).ok()

@@ -6,4 +6,4 @@ use Rattle.docket_columns.specs.Fits.{IsPartyRow}
 use Rattle.docket_tables.proofs.rows.parties_in.Given as goal
 
 abbrev pub invariant-loop-row : goal.invariant-loop-row
-invariant-loop-row l = (ps : List Party) → AllByRecursion IsPartyRow ps → l.rows ≡ map party_cells ps → l.found.items ≡ take l.row-index ps
+invariant-loop-row l = (all : List Party) → AllByRecursion IsPartyRow all → l.rows ≡ map party_cells all → l.found.items ≡ take l.row-index all
