@@ -1,3 +1,4 @@
 pub mod PlainLemmas
 pub mod RuleLemmas
 pub mod ReceiptLemmas
+pub mod RowLemmas

@@ -1,8 +1,8 @@
 -- The rows of the docket's tables in SQL: the values of the columns, in order.
-use Rattle.std.specs.Prelude.{ℕ, pos, List, [], ◌∷◌, codes, if◌then◌else◌}
+use Rattle.std.specs.Prelude.{◌≡◌, ℕ, pos, List, [], ◌∷◌, codes, if◌then◌else◌}
 use Rattle.std.specs.Str.{bytes_eq}
 use Rattle.sqlite_value.specs.declared.value.Value.TheVariants.{Int, Text}
-use Rattle.sqlite_value.specs.Order.{Row}
+use Rattle.sqlite_value.specs.Order.{Row, column}
 use Rattle.court_days.specs.Court.{CourtSettings}
 use Rattle.court_rules.specs.Rules.{name_of}
 use Rattle.docket_core.specs.declared.row.CalendarRow.{CalendarRow}
@@ -23,6 +23,11 @@ use Rattle.docket_columns.specs.Codes.{flag_number, role_number, item_code, act_
 abbrev pub court_cells : CourtSettings → ℕ → Row
 court_cells c next =
     Int (pos 1) ∷ Text (codes "civil docket") ∷ Int (pos 0) ∷ Text c.zone_text ∷ Int (pos c.close_minute) ∷ Int (pos next) ∷ []
+
+-- the row of the court of a docket whose tables have this version
+abbrev pub IsMarked : ℕ → Row → Type 0
+IsMarked version row =
+    (column row 0 ≡ Int (pos 1)) × (column row 1 ≡ Text (codes "civil docket")) × (column row 2 ≡ Int (pos version))
 
 -- what a row of the court says
 abbrev pub settings_of : CourtRow → CourtSettings

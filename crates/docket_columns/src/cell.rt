@@ -24,11 +24,31 @@ pub(crate) fn number_at(row: &Row, at: usize) -> Option<i64>
     }
 }
 
-/// The same where it is from 0 to 2^32 - 1.
-pub(crate) fn count_at(row: &Row, at: usize) -> Option<u32>
+/// The whole number in a column, where it is from 0 to 2^32 - 1.
+pub fn count_at(row: &Row, at: usize) -> Option<u32>
     ensures { (n : ℕ) → IsCount n → column row.now at ≡ Int (pos n) → result ≡ Some n }
 {
     u32::try_from(number_at(row, at)?).ok()
+}
+
+/// Whether that number stands in a column.
+pub(crate) fn is_number(row: &Row, at: usize, number: i64) -> bool
+    ensures { IsTrue result ↔ (column row.now at ≡ Int number) }
+{
+    match row.get_ref(at) {
+        Ok(ValueRef::Int(found)) => found == number,
+        _ => false,
+    }
+}
+
+/// Whether that text stands in a column.
+pub(crate) fn is_text(row: &Row, at: usize, text: &str) -> bool
+    ensures { IsTrue result ↔ (column row.now at ≡ Text text.now) }
+{
+    match row.get_ref(at) {
+        Ok(ValueRef::Text(found)) => found == text.as_bytes(),
+        _ => false,
+    }
 }
 
 /// The bytes of the text in a column.

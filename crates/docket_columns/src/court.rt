@@ -4,10 +4,10 @@ ghost use Rattle.sqlite.specs.Values.{bound};
 ghost use Rattle.sqlite_value.specs.Order.{column};
 ghost use Rattle.sqlite_value.specs.declared.value.Value.TheVariants.{Int};
 ghost use Rattle.court_days.specs.Court.{CourtSettings};
-ghost use Rattle.docket_columns.specs.Cells.{court_cells, settings_of};
-ghost use Rattle.docket_columns.specs.Fits.{IsCourtRow};
+ghost use Rattle.docket_columns.specs.Cells.{court_cells, settings_of, IsMarked};
+ghost use Rattle.docket_columns.specs.Fits.{IsCount, IsCourtRow};
 
-use crate::cell::{count_at, has_values, number_at, text_at};
+use crate::cell::{count_at, has_values, is_number, is_text, number_at, text_at};
 use court_days::Court;
 use docket_core::Text;
 use sqlite::Row;
@@ -75,6 +75,19 @@ fn next_row_at(row: &Row, at: usize) -> Option<u64>
     let next_row = u64::try_from(number_at(row, at)?).ok()?;
     if next_row <= MOST_ROWS {
         Some(next_row)
+    } else {
+        None
+    }
+}
+
+/// What version of the tables the row of the court tells. `None`: it is no row of a docket.
+pub fn version_of(row: &Row) -> Option<u32>
+    ensures reads { (version : ℕ) → IsCount version → IsMarked version row.now → result ≡ Some version }
+    ensures sound { IfSome result (λ version. IsMarked version row.now) }
+{
+    let version = count_at(row, 2)?;
+    if is_number(row, 0, 1) && is_text(row, 1, WORD) && is_number(row, 2, i64::from(version)) {
+        Some(version)
     } else {
         None
     }

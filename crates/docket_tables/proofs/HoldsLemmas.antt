@@ -30,11 +30,11 @@ back : (b : Bool) → is_true (from_truth (Some b)) ≡ b
 back true = refl
 back false = refl
 
-equal_int : (m n : ℤ) → equal Binary (Int m) (Int n) ≡ is_eq (int_cmp m n)
+pub equal_int : (m n : ℤ) → equal Binary (Int m) (Int n) ≡ is_eq (int_cmp m n)
 unfolding Rattle.sqlite_sql.specs.Ops.binary
 equal_int m n = back (is_eq (value_cmp (Int m) (Int n))) ∙ ap is_eq (value_cmp-Int m n)
 
-and_yes : (b : Bool) → (b && true) ≡ b
+pub and_yes : (b : Bool) → (b && true) ≡ b
 and_yes true = refl
 and_yes false = refl
 

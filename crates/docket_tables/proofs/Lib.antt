@@ -1,3 +1,4 @@
+mod AnswerLemmas
 mod CalendarLemmas
 mod CellLemmas
 mod ChangesLemmas
@@ -11,6 +12,7 @@ mod InsertLemmas
 mod LayoutLemmas
 mod ProbeLemmas
 mod QueryLemmas
+mod ReadLemmas
 mod SelectLemmas
 mod StandsLemmas
 mod UpdateLemmas

@@ -2,7 +2,9 @@ pub mod Contents
 pub mod Creation
 pub mod Holds
 pub mod Layouts
+pub mod Orderly
 pub mod Queries
+pub mod Readings
 pub mod Schema
 pub mod Stands
 pub mod Statements

@@ -2,13 +2,18 @@
 #![tactic(auto)]
 
 mod creation;
+mod fault;
 mod query;
+mod reading;
+mod rows;
 mod statement;
 mod store;
 mod table;
 mod writing;
 
 pub use creation::make;
+pub use fault::ReadFault;
 pub use query::Query;
+pub use reading::parties;
 pub use table::Table;
 pub use writing::write;

@@ -1,0 +1,31 @@
+-- What a question to a connection gives.
+use Rattle.std.specs.Prelude.{Result, Ok, Err}
+use Rattle.sqlite.specs.Store.{Ghosts}
+use Rattle.sqlite.specs.State.{HasCleanDisk}
+use Rattle.sqlite.specs.Held.{Held, state}
+use Rattle.court_days.specs.Court.{CourtSettings}
+use Rattle.docket_core.specs.Tables.{Tables}
+use Rattle.docket_tables.specs.Contents.{rows_in}
+use Rattle.docket_tables.specs.Layouts.{Rows}
+use Rattle.docket_tables.specs.Orderly.{IsOrderly}
+use Rattle.docket_tables.specs.Stands.{HoldsRows, Lasts}
+use Rattle.docket_tables.specs.declared.fault.ReadFault.{ReadFault}
+use Rattle.docket_tables.specs.declared.fault.ReadFault.TheVariants.{Store, NoMemory, Damaged}
+
+-- the answer, unless memory is short; the rows are a docket's
+abbrev pub IsReadAs : {X : Type 0} → (X → Type 0) → Result X ReadFault → Type 0
+IsReadAs answer (Ok x) = answer x
+IsReadAs answer (Err NoMemory) = Unit {0}
+IsReadAs answer (Err _) = ⊥
+
+module _ {S : Type 0} (g : Ghosts S) where
+  -- the answer, and the connection holds the rows still; on a failure of the store it may be shut
+  abbrev pub Gives : {X : Type 0} → Held S → Rows → (X → Type 0) → Result X ReadFault → Type 0
+  Gives new rows answer (Ok x) = HoldsRows g new rows × (HasCleanDisk (state g new) → answer x)
+  Gives new rows answer (Err (Store e)) = Lasts g new rows
+  Gives new rows answer (Err NoMemory) = HoldsRows g new rows
+  Gives new rows answer (Err Damaged) = HasCleanDisk (state g new) → ⊥
+
+  -- of a connection that holds a docket's tables
+  abbrev pub Reads : {X : Type 0} → Held S → Held S → Result X ReadFault → (CourtSettings → Tables → X → Type 0) → Type 0
+  Reads old new result answer = (court : CourtSettings) (t : Tables) → IsOrderly court t → HoldsRows g old (rows_in court t) → Gives new (rows_in court t) (answer court t) result

@@ -1,0 +1,46 @@
+//! Why a question gave no answer.
+use sqlite::Error;
+use std::alloc::{AllocError, AllocFailed};
+
+/// Why a question gave no answer.
+#[derive(Clone, Copy, Debug, PartialEq, Eq)]
+pub enum ReadFault {
+    /// The database failed, or memory ran out in it.
+    Store(Error),
+    NoMemory,
+    /// A row is none of a docket.
+    Damaged,
+}
+
+impl From<Error> for ReadFault {
+    ghost use Rattle.std.specs.Prelude.{◌≡◌};
+    ghost use Rattle.docket_tables.specs.declared.fault.ReadFault.TheVariants.{Store};
+
+    ghost from_gives = { λ e fault. fault ≡ Store e };
+
+    fn from(error: Error) -> ReadFault {
+        ReadFault::Store(error)
+    }
+}
+
+impl From<AllocError> for ReadFault {
+    ghost use Rattle.std.specs.Prelude.{◌≡◌};
+    ghost use Rattle.docket_tables.specs.declared.fault.ReadFault.TheVariants.{NoMemory};
+
+    ghost from_gives = { λ _ fault. fault ≡ NoMemory };
+
+    fn from(_: AllocError) -> ReadFault {
+        ReadFault::NoMemory
+    }
+}
+
+impl<T: Drop> From<AllocFailed<T>> for ReadFault {
+    ghost use Rattle.std.specs.Prelude.{◌≡◌};
+    ghost use Rattle.docket_tables.specs.declared.fault.ReadFault.TheVariants.{NoMemory};
+
+    ghost from_gives = { λ _ fault. fault ≡ NoMemory };
+
+    fn from(_: AllocFailed<T>) -> ReadFault {
+        ReadFault::NoMemory
+    }
+}
