@@ -14,6 +14,9 @@ mod writing;
 pub use creation::make;
 pub use fault::ReadFault;
 pub use query::Query;
-pub use reading::parties;
+pub use reading::{
+    acts, calendar, case, cases, count_entries, count_parties, court, deadlines, entries,
+    is_label_taken, is_row_standing, kept, parties,
+};
 pub use table::Table;
 pub use writing::write;
