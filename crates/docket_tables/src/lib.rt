@@ -3,6 +3,7 @@
 
 mod creation;
 mod fault;
+mod probe;
 mod query;
 mod reading;
 mod rows;
@@ -12,7 +13,8 @@ mod table;
 mod writing;
 
 pub use creation::make;
-pub use fault::ReadFault;
+pub use fault::{ReadFault, StoreFault};
+pub use probe::fault_of;
 pub use query::Query;
 pub use reading::{
     acts, calendar, case, cases, count_entries, count_parties, court, deadlines, entries,

@@ -5,7 +5,7 @@ use Rattle.sqlite.specs.Held.{state}
 use Rattle.docket_tables.specs.Stands.{HoldsRows, LastsAsEither, IsEither, IsSettled}
 use Rattle.docket_tables.proofs.CommitLemmas.{LeavesCommit}
 use Rattle.docket_tables.proofs.ProbeLemmas.{nothing_done, probe_committed, probe_failed, either_from_settled, past_err, past_ok}
-use Rattle.docket_tables.proofs.store.is_alive.Goals as goal
+use Rattle.docket_tables.proofs.probe.is_alive.Goals as goal
 
 pub returns-clause-either : goal.returns-clause-either
 returns-clause-either g c rows next lasts =
