@@ -3,6 +3,7 @@
 
 mod creation;
 mod fault;
+mod probe;
 mod query;
 mod reading;
 mod rows;
@@ -12,8 +13,12 @@ mod table;
 mod writing;
 
 pub use creation::make;
-pub use fault::ReadFault;
+pub use fault::{ReadFault, StoreFault};
+pub use probe::fault_of;
 pub use query::Query;
-pub use reading::parties;
+pub use reading::{
+    acts, calendar, case, cases, count_entries, count_parties, court, deadlines, entries,
+    is_label_taken, is_row_standing, kept, parties,
+};
 pub use table::Table;
 pub use writing::write;
