@@ -10,6 +10,8 @@ mod rows;
 mod statement;
 mod store;
 mod table;
+#[cfg(test)]
+mod tests;
 mod writing;
 
 pub use creation::make;
