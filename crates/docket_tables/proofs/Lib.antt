@@ -17,3 +17,4 @@ mod ReadLemmas
 mod SelectLemmas
 mod StandsLemmas
 mod UpdateLemmas
+mod ViewLemmas

@@ -10,6 +10,7 @@ mod rows;
 mod statement;
 mod store;
 mod table;
+mod viewing;
 mod writing;
 
 pub use creation::make;
@@ -21,4 +22,5 @@ pub use reading::{
     is_label_taken, is_row_standing, kept, parties,
 };
 pub use table::Table;
+pub use viewing::view;
 pub use writing::write;
