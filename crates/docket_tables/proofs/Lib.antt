@@ -10,6 +10,13 @@ mod DeleteLemmas
 mod HoldsLemmas
 mod InsertLemmas
 mod LayoutLemmas
+mod OrderlyActions
+mod OrderlyActs
+mod OrderlyCalendar
+mod OrderlyLemmas
+mod OrderlyLists
+mod OrderlyReceipts
+mod OrderlyRows
 mod ProbeLemmas
 mod QueryLemmas
 mod ReadLemmas

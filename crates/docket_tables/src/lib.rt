@@ -3,6 +3,7 @@
 
 mod creation;
 mod fault;
+mod laws;
 mod query;
 mod reading;
 mod rows;
@@ -13,6 +14,7 @@ mod writing;
 
 pub use creation::make;
 pub use fault::ReadFault;
+pub use laws::dockets_are_orderly;
 pub use query::Query;
 pub use reading::parties;
 pub use table::Table;
