@@ -1,5 +1,5 @@
 -- What the rows of an answer are, where the docket's rows are numbered.
-use Rattle.std.proofs.Common.{◌≡◌, ◌⊎◌, inl, inr, ◌∙◌, ◌==◌, ◌+◌, ◌<◌, ◌≤◌, ℕ, suc, pos, List, [], ◌∷◌, ◌++◌, append-nil, map, filter, length, take, Bool, true, false, Some, None, Ordering, Less, Equal, is_eq, int_cmp, IsPermutation, IsSorted, refl, sym, ap, subst, arith}
+use Rattle.std.proofs.Common.{◌≡◌, ◌⊎◌, inl, inr, ◌∙◌, ◌==◌, ◌+◌, ◌<◌, ◌≤◌, ℕ, suc, pos, List, [], ◌∷◌, ◌++◌, append-nil, map, filter, length, take, Bool, true, false, Some, None, Ordering, Less, Equal, is_eq, int_cmp, IsPermutation, IsSorted, refl, ap, subst, arith}
 use Rattle.std.specs.List.{AllByRecursion}
 use Rattle.std.specs.Ordering.{on, ordering_then}
 use Rattle.std.specs.Coded.{coded_ℕ}
@@ -12,7 +12,7 @@ use Rattle.std.proofs.lemmas.List.{length-map}
 use Rattle.std.proofs.lemmas.List.Sorted.{IsPermutation-trans, IsPermutation-sym, IsPermutation-refl, IsPermutation-cons, IsPermutation-middle, length_permutation}
 use Rattle.sqlite.specs.declared.types.Value.TheVariants.{Int}
 use Rattle.sqlite.specs.Collation.TheVariants.{Binary}
-use Rattle.sqlite.specs.Order.{Row, column}
+use Rattle.sqlite.specs.Order.{Row}
 use Rattle.sqlite.specs.Query.{key_cmp, limited}
 use Rattle.sqlite_keyed.proofs.SortLemmas.{sorted_unique}
 use Rattle.sqlite_keyed.proofs.ListLemmas.{all_weaker}
@@ -59,7 +59,7 @@ flipped_same : {A : Type 0} (xs : List A) → IsPermutation xs (flipped xs)
 flipped_same [] = IsPermutation-refl []
 flipped_same (x ∷ xs) =
     IsPermutation-trans _ _ _ (IsPermutation-cons x _ _ (flipped_same xs))
-        (IsPermutation-sym _ _ (subst (λ ys. IsPermutation (flipped xs ++ x ∷ []) (x ∷ ys)) (append-nil (flipped xs)) (IsPermutation-middle (flipped xs) x [])))
+    (IsPermutation-sym _ _ (subst (λ ys. IsPermutation (flipped xs ++ x ∷ []) (x ∷ ys)) (append-nil (flipped xs)) (IsPermutation-middle (flipped xs) x [])))
 
 ascending-snoc : {A : Type 0} (R : A → A → Type 0) (xs : List A) (z : A) → IsAscending R xs → AllByRecursion (λ x. R x z) xs → IsAscending R (xs ++ z ∷ [])
 ascending-snoc R [] z up all = (tt, tt)
@@ -89,15 +89,15 @@ module _ {X : Type 0} (q : Query) (params : Row) (cells : X → Row) (passes : X
   pub the_one : most_of q ≡ None → length (filter passes all) ≤ 1 → IsAnswer q params (map cells all) found → found ≡ map cells (filter passes all)
   the_one most few answer =
       ∥∥₁_elim answer (rows_set _ _) (λ it.
-          it.first ∙ ap (λ m. limited m it.whole) most
-          ∙ short_permutation _ it.whole (omega (arith, few, length-map (filter passes all) cells)) (subst (λ xs. IsPermutation xs it.whole) kept_rows it.same))
+      it.first ∙ ap (λ m. limited m it.whole) most
+      ∙ short_permutation _ it.whole (omega (arith, few, length-map (filter passes all) cells)) (subst (λ xs. IsPermutation xs it.whole) kept_rows it.same))
 
   -- as many rows as pass
   pub so_many : most_of q ≡ None → IsAnswer q params (map cells all) found → length found ≡ length (filter passes all)
   so_many most answer =
       ∥∥₁_elim answer (Coded-set coded_ℕ _ _) (λ it.
-          ap length (it.first ∙ ap (λ m. limited m it.whole) most)
-          ∙ length_permutation _ it.whole it.same ∙ ap length kept_rows ∙ length-map (filter passes all) cells)
+      ap length (it.first ∙ ap (λ m. limited m it.whole) most)
+      ∙ length_permutation _ it.whole it.same ∙ ap length kept_rows ∙ length-map (filter passes all) cells)
 
   module _ (number : X → ℕ) (picked : (x : X) → picks q (cells x) ≡ Int (pos (number x)) ∷ []) where
     abbrev cmp : List Key → Row → Row → Ordering
@@ -128,16 +128,16 @@ module _ {X : Type 0} (q : Query) (params : Row) (cells : X → Row) (passes : X
     pub in_order : directions q ≡ rising ∷ [] → most_of q ≡ None → Rises (map number (filter passes all)) → IsAnswer q params (map cells all) found → found ≡ map cells (filter passes all)
     in_order by most rises answer =
         ∥∥₁_elim answer (rows_set _ _) (λ it.
-            it.first ∙ ap (λ m. limited m it.whole) most
-            ∙ sorted_unique (cmp (rising ∷ [])) (on_total (picks q) (key_cmp_total (rising ∷ []) 0)) (map cells (filter passes all)) it.whole (ascends (filter passes all) rises)
-                (subst (λ xs. IsPermutation xs it.whole) kept_rows it.same) (subst (λ ks. IsSorted (cmp ks) it.whole) by it.sorted))
+        it.first ∙ ap (λ m. limited m it.whole) most
+        ∙ sorted_unique (cmp (rising ∷ [])) (on_total (picks q) (key_cmp_total (rising ∷ []) 0)) (map cells (filter passes all)) it.whole (ascends (filter passes all) rises)
+        (subst (λ xs. IsPermutation xs it.whole) kept_rows it.same) (subst (λ ks. IsSorted (cmp ks) it.whole) by it.sorted))
 
     falls : (xs : List X) → Rises (map number xs) → IsAscending (λ a b. cmp (falling ∷ []) a b ≡ Less) (flipped (map cells xs))
     falls [] rises = tt
     falls (x ∷ xs) rises =
         ascending-snoc (λ a b. cmp (falling ∷ []) a b ≡ Less) (flipped (map cells xs)) (cells x) (falls xs rises.1)
-            (all-flipped (λ r. cmp (falling ∷ []) r (cells x) ≡ Less) (map cells xs)
-            (all-map (λ r. cmp (falling ∷ []) r (cells x) ≡ Less) cells xs (all_weaker _ _ (λ y low. comes_last x y low) xs (each_above (number x) xs rises.0))))
+        (all-flipped (λ r. cmp (falling ∷ []) r (cells x) ≡ Less) (map cells xs)
+        (all-map (λ r. cmp (falling ∷ []) r (cells x) ≡ Less) cells xs (all_weaker _ _ (λ y low. comes_last x y low) xs (each_above (number x) xs rises.0))))
 
     last_of : (Is : X → Type 0) (n : ℕ) (xs : List X) → RunsFrom n (map number xs) → AllByRecursion Is xs → 0 < length xs
         → (x : X) × (number x + 1 ≡ n + length xs) × Is x × (take 1 (flipped (map cells xs)) ≡ cells x ∷ [])
@@ -157,9 +157,9 @@ module _ {X : Type 0} (q : Query) (params : Row) (cells : X → Row) (passes : X
         are = ∥∥₁_elim answer (rows_set _ _) (λ it.
             it.first ∙ ap (λ m. limited m it.whole) most
             ∙ ap (take 1) (sorted_unique (cmp (falling ∷ [])) (on_total (picks q) (key_cmp_total (falling ∷ []) 0)) (flipped (map cells (filter passes all))) it.whole
-                (falls (filter passes all) (rises_running 1 _ runs))
-                (IsPermutation-trans _ _ _ (IsPermutation-sym _ _ (flipped_same (map cells (filter passes all)))) (subst (λ xs. IsPermutation xs it.whole) kept_rows it.same))
-                (subst (λ ks. IsSorted (cmp ks) it.whole) by it.sorted)))
+            (falls (filter passes all) (rises_running 1 _ runs))
+            (IsPermutation-trans _ _ _ (IsPermutation-sym _ _ (flipped_same (map cells (filter passes all)))) (subst (λ xs. IsPermutation xs it.whole) kept_rows it.same))
+            (subst (λ ks. IsSorted (cmp ks) it.whole) by it.sorted)))
 
         split : (xs : List X) → filter passes all ≡ xs
             → ((length (filter passes all) ≡ 0) × (found ≡ [])) ⊎ ((x : X) × (number x ≡ length (filter passes all)) × Is x × (found ≡ cells x ∷ []))

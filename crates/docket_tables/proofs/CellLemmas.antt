@@ -1,5 +1,5 @@
 -- Cells, and what one more row makes of a table.
-use Rattle.std.proofs.Common.{◌≡◌, ℕ, ℤ, pos, ◌≤◌, List, [], ◌∷◌, ◌++◌, map, length, append-nil, Bool, true, false, Some, cond, Ordering, Less, Equal, Greater, IsPermutation, is_eq, refl, sym, ap, subst, ◌∙◌, arith}
+use Rattle.std.proofs.Common.{◌≡◌, ℕ, ℤ, ◌≤◌, List, [], ◌∷◌, ◌++◌, map, length, append-nil, Bool, true, false, Some, cond, Ordering, Less, Equal, Greater, IsPermutation, is_eq, refl, sym, ap, subst, ◌∙◌, arith}
 use Rattle.std.specs.Prelude.{bytes_eq}
 use Rattle.std.specs.Ordering.{match_ordering}
 use Rattle.std.proofs.Math.Logic.{∥∥₁_map}
@@ -17,7 +17,7 @@ use Rattle.sqlite.specs.Collation.TheVariants.{Binary}
 use Rattle.sqlite_schema.specs.Rules.{equal}
 use Rattle.sqlite_trees.specs.Tree.{put_row, rowid}
 use Rattle.sqlite_rules.specs.Edit.{is_taken}
-use Rattle.sqlite_value.proofs.OrderLemmas.{value_cmp-Int, value_cmp-Text}
+use Rattle.sqlite_value.proofs.OrderLemmas.{value_cmp-Text}
 use Rattle.sqlite.proofs.Callers.{one_permutation}
 use Rattle.docket_tables.specs.Holds.{cells, Holds}
 
@@ -50,10 +50,10 @@ pub holds_more : (tree : ℕ) (places : List ℕ) (all : List Row) (row shown : 
     → cells places row ≡ shown → Holds tree places (all ++ shown ∷ []) new
 holds_more tree places all row shown old new holds fresh rows same =
     ∥∥₁_map holds (λ was.
-        let put : IsPermutation (row ∷ old tree) (new tree) = subst (IsPermutation (row ∷ old tree)) (sym rows) (put_permutes row (old tree) fresh) in
-        let first : IsPermutation (map (cells places) (new tree)) (shown ∷ all) =
-        IsPermutation-trans _ _ _ (IsPermutation-map (cells places) _ _ (IsPermutation-sym _ _ put)) (subst (λ c. IsPermutation (cells places row ∷ map (cells places) (old tree)) (c ∷ all)) same (IsPermutation-cons _ _ _ was)) in
-        IsPermutation-trans _ _ _ first (IsPermutation-sym _ _ (subst (λ xs. IsPermutation (all ++ shown ∷ []) (shown ∷ xs)) (append-nil all) (IsPermutation-middle all shown []))))
+    let put : IsPermutation (row ∷ old tree) (new tree) = subst (IsPermutation (row ∷ old tree)) (sym rows) (put_permutes row (old tree) fresh) in
+    let first : IsPermutation (map (cells places) (new tree)) (shown ∷ all) =
+    IsPermutation-trans _ _ _ (IsPermutation-map (cells places) _ _ (IsPermutation-sym _ _ put)) (subst (λ c. IsPermutation (cells places row ∷ map (cells places) (old tree)) (c ∷ all)) same (IsPermutation-cons _ _ _ was)) in
+    IsPermutation-trans _ _ _ first (IsPermutation-sym _ _ (subst (λ xs. IsPermutation (all ++ shown ∷ []) (shown ∷ xs)) (append-nil all) (IsPermutation-middle all shown []))))
 
 pub holds_same : (tree : ℕ) (places : List ℕ) (all : List Row) (old new : Trees) → new tree ≡ old tree → Holds tree places all old → Holds tree places all new
 holds_same tree places all old new same holds = subst (λ rows. ∥ IsPermutation (map (cells places) rows) all ∥₁) (sym same) holds

@@ -1,5 +1,5 @@
 -- What the end of a transaction leaves.
-use Rattle.std.proofs.Common.{◌≡◌, ◌⊎◌, inl, inr, List, Ok, Err, Result, true, IsTrue, IsErr, MatchResult, refl, sym, ap, subst, ◌∙◌, arith}
+use Rattle.std.proofs.Common.{◌≡◌, ◌⊎◌, inl, inr, Ok, Err, Result, true, IsTrue, IsErr, MatchResult, refl, sym, ap, subst, ◌∙◌, arith}
 use Rattle.std.specs.Prelude.{false}
 use Rattle.sqlite.specs.Tree.{Trees}
 use Rattle.sqlite.specs.Effect.{Database, IsDatabase}
@@ -8,7 +8,6 @@ use Rattle.sqlite.specs.State.{State, HasCleanDisk, Survives, IsRolledBack, Keep
 use Rattle.sqlite.proofs.StateLemmas.{survives_then}
 use Rattle.sqlite.specs.Steps.{FailsToCommit}
 use Rattle.sqlite_catalog.specs.Listing.{IsSound}
-use Rattle.docket_tables.specs.Schema.{docket_schema}
 use Rattle.docket_tables.specs.Layouts.{Rows, AreRows}
 use Rattle.docket_tables.specs.Stands.{IsImage, Shows, Sees, IsSettled, IsEither, StaysInside}
 

@@ -1,5 +1,5 @@
 -- What each change makes of the rows of a docket.
-use Rattle.std.proofs.Common.{◌≡◌, ◌∙◌, ◌==◌, ◌&&◌, ◌+◌, ℕ, ℤ, pos, List, [], ◌∷◌, ◌++◌, map, filter, not, Bool, true, false, Ordering, Less, Equal, Greater, is_eq, int_cmp, refl, sym, ap, subst, arith, Result, OnOk}
+use Rattle.std.proofs.Common.{◌≡◌, ◌∙◌, ◌==◌, ◌+◌, ℕ, pos, List, [], ◌∷◌, map, filter, not, is_eq, int_cmp, refl, sym, ap, subst, arith, Result, OnOk}
 use Rattle.std.specs.List.{AllByRecursion}
 use Rattle.std.proofs.lemmas.Result.{IfOk-weaker}
 use Rattle.std.proofs.lemmas.Bool.Decides.{nat_tests}
@@ -8,7 +8,6 @@ use Rattle.std.proofs.lemmas.List.{map-append}
 use Rattle.sqlite_trees.proofs.ListLemmas.{filter-map, filter_same, all_of}
 use Rattle.sqlite.specs.Order.{Row}
 use Rattle.sqlite.specs.State.{State}
-use Rattle.sqlite.specs.Tree.{Trees}
 use Rattle.court_days.specs.Court.{CourtSettings}
 use Rattle.docket_core.specs.Tables.{Tables, rows_of, changed, with_receipt}
 use Rattle.docket_core.specs.declared.row.Change.TheVariants.{AddCalendar, RemoveCalendar, AddCase, AddParty, AddEntry, AddDeadline, AddAct}
@@ -27,9 +26,9 @@ use Rattle.docket_tables.specs.declared.table.Table.{Table}
 use Rattle.docket_tables.specs.declared.table.Table.TheVariants.{Court, Calendar, Cases, Parties, Entries, Deadlines, Acts, Receipts}
 use Rattle.docket_tables.specs.Contents.{rows_in}
 use Rattle.docket_tables.specs.Creation.{no_rows}
-use Rattle.docket_tables.specs.Holds.{Holds, IsKeyed, has_key, without_number}
-use Rattle.docket_tables.specs.Layouts.{Rows, AreRows, Fits, tree_of, places_of, with_rows, with_row}
-use Rattle.docket_tables.specs.Stands.{Shows, Sees}
+use Rattle.docket_tables.specs.Holds.{Holds, IsKeyed, without_number}
+use Rattle.docket_tables.specs.Layouts.{Rows, Fits, tree_of, places_of, with_rows, with_row}
+use Rattle.docket_tables.specs.Stands.{Sees}
 use Rattle.docket_tables.proofs.HoldsLemmas.{keyed_as}
 
 -- the same rows in other words

@@ -1,9 +1,8 @@
 -- The row of the court, and the number of the next calendar row.
-use Rattle.std.proofs.Common.{◌≡◌, ◌∙◌, ◌&&◌, ℕ, ℤ, pos, negsuc, List, [], ◌∷◌, map, filter, length, Bool, true, false, cond, not, drop, None, Ok, IsPermutation, codes, refl, sym, ap, subst, arith, nat_lt, ◌+◌, ◌<◌, ◌^◌, Some}
+use Rattle.std.proofs.Common.{◌≡◌, ◌∙◌, ℕ, pos, negsuc, List, [], ◌∷◌, map, filter, length, Bool, true, cond, not, drop, None, Ok, IsPermutation, codes, refl, sym, ap, subst, arith, nat_lt, ◌+◌, ◌<◌, ◌^◌, Some}
 use Rattle.std.specs.List.{list_all, flat_map}
 use Rattle.std.proofs.Math.Logic.{∥∥₁_map}
-use Rattle.std.proofs.lemmas.List.Sorted.{IsPermutation-map, IsPermutation-sym, IsPermutation-refl, length_permutation}
-use Rattle.std.proofs.lemmas.List.{length-map}
+use Rattle.std.proofs.lemmas.List.Sorted.{IsPermutation-map, IsPermutation-sym, IsPermutation-refl}
 use Rattle.std.proofs.lemmas.Bool.Decides.{nat_tests}
 use Rattle.sqlite_trees.proofs.ListLemmas.{map-map, filter_all, filter_same, all_of}
 use Rattle.sqlite.proofs.Callers.{one_permutation}
@@ -15,7 +14,7 @@ use Rattle.sqlite.specs.Tree.{Trees}
 use Rattle.sqlite.specs.Term.{Term, lit, col, op2, eval_all, holds}
 use Rattle.sqlite.specs.Query.{Output, output, IsAnswerAs}
 use Rattle.sqlite.specs.Program.{overlay}
-use Rattle.sqlite.specs.Edit.{Edit, edit_of, edited, with_rowid, without_all, put_all, numbered}
+use Rattle.sqlite.specs.Edit.{edit_of, edited, with_rowid, without_all, put_all, numbered}
 use Rattle.sqlite_trees.specs.Tree.{without_rowid}
 use Rattle.docket_tables.proofs.HoldsLemmas.{keyed_by, keyed_as, rowid_as}
 use Rattle.sqlite.specs.Rowids.TheVariants.{Given}
@@ -26,7 +25,6 @@ use Rattle.sqlite_sql.specs.declared.ops.BinaryOp.TheVariants.{Compare, Arith}
 use Rattle.sqlite_sql.specs.declared.ops.ArithOp.TheVariants.{Add}
 use Rattle.sqlite_sql.specs.Ops.{binary, int_or, real_arith, from_int}
 use Rattle.sqlite_sql.specs.declared.ops.CompareOp.TheVariants.{Eq}
-use Rattle.sqlite.specs.Effect.{IsDatabase}
 use Rattle.sqlite.specs.State.{State, Executes, Shows as Turns}
 use Rattle.docket_tables.specs.Schema.{docket_schema, court}
 use Rattle.docket_tables.specs.Statements.{count_text}
@@ -35,9 +33,9 @@ use Rattle.docket_columns.specs.Cells.{court_cells}
 use Rattle.docket_tables.specs.Layouts.{Rows, with_rows, places_of}
 use Rattle.docket_tables.specs.declared.table.Table.TheVariants.{Court}
 use Rattle.docket_tables.proofs.LayoutLemmas.{rows_changed}
-use Rattle.docket_tables.specs.Stands.{Shows, Sees}
-use Rattle.docket_tables.specs.Holds.{Holds, KeepsOthers, cells, has_key, plain_query}
-use Rattle.docket_tables.proofs.CellLemmas.{cast_int, holds_same}
+use Rattle.docket_tables.specs.Stands.{Sees}
+use Rattle.docket_tables.specs.Holds.{Holds, cells, plain_query}
+use Rattle.docket_tables.proofs.CellLemmas.{cast_int}
 use Rattle.docket_tables.proofs.SelectLemmas.{not_overlaid, matched}
 use Rattle.docket_tables.proofs.UpdateLemmas.{updates, court_update}
 
@@ -123,7 +121,7 @@ counted settings n rows old new count small one sees ran turns =
     let it = updates docket_schema count_text (record court { tree = 0 }) _ court_update [] old new count sees.shows.schema ran in
     let moved = it.2 in
     let same = found_by old.now.trees 0 (λ params. keyed_by (pos 1)) court_shown (op2 (Compare Eq Binary) (col 1 0) (lit (Int (pos 1))) ∷ [])
-        (col 1 0 ∷ col 1 0 ∷ lit Null ∷ col 1 2 ∷ col 1 3 ∷ col 1 4 ∷ col 1 5 ∷ op2 (Arith Add) (col 1 6) (lit (Int (pos 1))) ∷ []) (λ params row. refl) (λ params row. refl) [] moved.found (moved.answer.answer Null) in
+    (col 1 0 ∷ col 1 0 ∷ lit Null ∷ col 1 2 ∷ col 1 3 ∷ col 1 4 ∷ col 1 5 ∷ op2 (Arith Add) (col 1 6) (lit (Int (pos 1))) ∷ []) (λ params row. refl) (λ params row. refl) [] moved.found (moved.answer.answer Null) in
     let was = subst (λ l. Holds 0 court_places l old.now.trees) one (sees.shows.holds Court) in
     record {
       begun = turns.mode;

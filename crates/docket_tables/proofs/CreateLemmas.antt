@@ -1,5 +1,5 @@
 -- What each CREATE does, and what all of them leave.
-use Rattle.std.proofs.Common.{◌≡◌, ◌∙◌, ℕ, true, zero, suc, List, [], ◌∷◌, ◌++◌, slice_get, Some, None, Ok, Err, refl, sym, ap, subst, IsTrue, inl, inr, ◌⊎◌, map, IsPermutation, false, arith}
+use Rattle.std.proofs.Common.{◌≡◌, ◌∙◌, ℕ, true, zero, suc, List, [], ◌∷◌, ◌++◌, slice_get, Some, Ok, refl, sym, ap, subst, map, IsPermutation, false, arith}
 use Rattle.std.specs.List.{AllByRecursion}
 use Rattle.sqlite.specs.Compile.{table_defined_by}
 use Rattle.sqlite.specs.Change.{created, next_tree}
@@ -7,15 +7,14 @@ use Rattle.sqlite.specs.Does.{Tally, lacks_sequence}
 use Rattle.sqlite.specs.Table.{Table}
 use Rattle.sqlite.specs.Schema.{Schema}
 use Rattle.sqlite.specs.Tree.{Trees}
-use Rattle.sqlite.specs.Effect.{Database, IsDatabase}
+use Rattle.sqlite.specs.Effect.{Database}
 use Rattle.sqlite.specs.Listing.{understood}
 use Rattle.sqlite.specs.Command.TheVariants.{CreateTable}
-use Rattle.sqlite.specs.State.{State, HasCleanDisk, Writes, Executes, KeepsCommit, Survives, Shows as Turns}
+use Rattle.sqlite.specs.State.{State, Executes, Shows as Turns}
 use Rattle.sqlite.proofs.Callers.{command_of, statement_of, IsPlain, runs_as}
 use Rattle.sqlite_tied.specs.Compute.{everything}
-use Rattle.docket_tables.specs.Schema.{no_schema, tables, court_text, court, calendar_text, calendar, cases_text, cases, party_text, party, entry_text, entry, deadline_text, deadline, act_text, act, receipt_text, receipt}
+use Rattle.docket_tables.specs.Schema.{no_schema, court_text, court, calendar_text, calendar, cases_text, cases, party_text, party, entry_text, entry, deadline_text, deadline, act_text, act, receipt_text, receipt}
 use Rattle.docket_tables.specs.Creation.{texts, made, IsMade, no_rows}
-use Rattle.std.proofs.Math.Logic.{∥∥₁_map}
 use Rattle.std.proofs.lemmas.List.Sorted.{IsPermutation-refl}
 use Rattle.docket_tables.specs.Holds.{cells, Holds}
 use Rattle.docket_tables.specs.Stands.{Sees}

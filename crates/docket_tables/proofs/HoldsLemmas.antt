@@ -1,5 +1,5 @@
 -- From what DELETE does to what a table holds, where the rowid is the key.
-use Rattle.std.proofs.Common.{◌≡◌, ◌∙◌, ◌&&◌, ℕ, ℤ, pos, List, [], ◌∷◌, map, filter, length, not, Bool, true, false, cond, Some, Option, All, Ordering, Less, Equal, Greater, IsPermutation, is_eq, int_cmp, refl, sym, ap, ap₂, subst, arith}
+use Rattle.std.proofs.Common.{◌≡◌, ◌∙◌, ◌&&◌, ℕ, ℤ, List, [], ◌∷◌, map, filter, length, not, Bool, true, false, cond, Some, Ordering, Less, Equal, Greater, IsPermutation, is_eq, int_cmp, refl, sym, ap, subst, arith}
 use Rattle.std.specs.List.{AllByRecursion}
 use Rattle.std.proofs.Math.Logic.{∥∥₁_map}
 use Rattle.std.proofs.lemmas.Int.{ints}
@@ -8,9 +8,7 @@ use Rattle.std.proofs.lemmas.List.Elements.{All-from_recursion, recursion_from_A
 use Rattle.std.proofs.lemmas.List.Sorted.{IsPermutation-sym, All-permutation, length_permutation}
 use Rattle.sqlite_trees.proofs.ListLemmas.{filter-map, filter_all, filter_same, all-map, IsPermutation-filter}
 use Rattle.sqlite_value.proofs.OrderLemmas.{value_cmp-Int}
-use Rattle.sqlite.specs.declared.types.Value.{Value}
 use Rattle.sqlite.specs.declared.types.Value.TheVariants.{Int}
-use Rattle.sqlite_value.specs.declared.keys.Key.{Key}
 use Rattle.sqlite.specs.Order.{Row, column, value_cmp}
 use Rattle.sqlite.specs.Ops.{is_true, from_truth}
 use Rattle.sqlite.specs.Tree.{Trees}
@@ -21,7 +19,6 @@ use Rattle.sqlite.specs.Edit.{without_all}
 use Rattle.sqlite_rules.specs.Calls.{ids_of}
 use Rattle.sqlite_rules.specs.Edit.{id_in}
 use Rattle.docket_tables.specs.Holds.{cells, Holds, has_key, IsKeyed}
-use Rattle.docket_tables.proofs.SelectLemmas.{Answered}
 
 abbrev pub keyed_by : ℤ → Row → Bool
 keyed_by n = has_key (0 ∷ []) (Int n ∷ [])
@@ -112,11 +109,11 @@ pub holds_without : (tree : ℕ) (rest : List ℕ) (all : List Row) (n : ℤ) (f
     → Holds tree (0 ∷ rest) (filter (λ c. not (keyed_by n c)) all) new
 holds_without tree rest all n found old new holds keyed same gone =
     ∥∥₁_map holds (λ was.
-        let shown : AllByRecursion IsKeyed (map (cells (0 ∷ rest)) (old tree)) = recursion_from_All IsKeyed _ (All-permutation IsKeyed all _ (IsPermutation-sym _ _ was) (All-from_recursion IsKeyed all keyed)) in
-        let rows : AllByRecursion IsKeyed (old tree) = unmapped (cells (0 ∷ rest)) (old tree) shown in
-        let is : map (cells (0 ∷ rest)) (new tree) ≡ filter (λ c. not (keyed_by n c)) (map (cells (0 ∷ rest)) (old tree)) =
-        ap (map (cells (0 ∷ rest))) (gone ∙ row_gone n (old tree) found rows same) ∙ sym (filter-map (λ c. not (keyed_by n c)) (cells (0 ∷ rest)) (old tree)) in
-        subst (λ xs. IsPermutation xs (filter (λ c. not (keyed_by n c)) all)) (sym is) (IsPermutation-filter (λ c. not (keyed_by n c)) _ _ was))
+    let shown : AllByRecursion IsKeyed (map (cells (0 ∷ rest)) (old tree)) = recursion_from_All IsKeyed _ (All-permutation IsKeyed all _ (IsPermutation-sym _ _ was) (All-from_recursion IsKeyed all keyed)) in
+    let rows : AllByRecursion IsKeyed (old tree) = unmapped (cells (0 ∷ rest)) (old tree) shown in
+    let is : map (cells (0 ∷ rest)) (new tree) ≡ filter (λ c. not (keyed_by n c)) (map (cells (0 ∷ rest)) (old tree)) =
+    ap (map (cells (0 ∷ rest))) (gone ∙ row_gone n (old tree) found rows same) ∙ sym (filter-map (λ c. not (keyed_by n c)) (cells (0 ∷ rest)) (old tree)) in
+    subst (λ xs. IsPermutation xs (filter (λ c. not (keyed_by n c)) all)) (sym is) (IsPermutation-filter (λ c. not (keyed_by n c)) _ _ was))
   where
     unmapped : (f : Row → Row) (rs : List Row) → AllByRecursion (λ r. IsKeyed r) (map (cells (0 ∷ rest)) rs) → AllByRecursion IsKeyed rs
     unmapped f [] h = tt

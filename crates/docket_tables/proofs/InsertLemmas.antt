@@ -1,5 +1,5 @@
 -- What an INSERT of one row does.
-use Rattle.std.proofs.Common.{◌≡◌, ◌⊎◌, inl, inr, ℕ, ◌/◌, List, [], ◌∷◌, ◌++◌, length, take, slice_get, Bool, true, false, Some, None, Ok, Err, Result, refl, sym, ap, subst, subst₂, ℤ, ◌∙◌, append-nil, MatchBool, if◌then◌else◌, ap₂}
+use Rattle.std.proofs.Common.{◌≡◌, ◌⊎◌, inl, inr, ℕ, ◌/◌, List, [], ◌∷◌, length, take, slice_get, Bool, true, false, Some, None, Ok, Err, Result, refl, sym, ap, subst, subst₂, ℤ, ◌∙◌, append-nil, MatchBool, if◌then◌else◌, ap₂}
 use Rattle.std.proofs.lemmas.Bool.{and_parts, not-true}
 use Rattle.sqlite.specs.Rows.{rowids_for, count_of}
 use Rattle.sqlite.specs.Effect.{value_rows}
@@ -17,10 +17,9 @@ use Rattle.sqlite.specs.Does.{Tally, Does, OnRows, AtPlace, Concludes}
 use Rattle.sqlite.specs.declared.run.Mode.{Mode}
 use Rattle.sqlite.specs.Rows.{Written, Task, stamped, Inserts}
 use Rattle.sqlite.specs.Tree.{Trees}
-use Rattle.sqlite.specs.declared.error.Error.{Error}
 use Rattle.sqlite.specs.Listing.{understood}
 use Rattle.sqlite.specs.Effect.{Database, IsDatabase}
-use Rattle.sqlite.specs.State.{State, mode_of, Writes, Executes}
+use Rattle.sqlite.specs.State.{State, mode_of, Executes}
 use Rattle.sqlite.proofs.Callers.{IsPlain, command_of, statement_of, runs_as, one_step}
 use Rattle.sqlite_schema.specs.declared.schema.Keys.TheVariants.{Enforced}
 use Rattle.sqlite_rules.specs.Action.{works}

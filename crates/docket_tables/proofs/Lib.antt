@@ -7,6 +7,7 @@ mod ContentsLemmas
 mod CourtLemmas
 mod CreateLemmas
 mod DeleteLemmas
+mod FoundLemmas
 mod HoldsLemmas
 mod InsertLemmas
 mod LayoutLemmas

@@ -1,15 +1,13 @@
 -- The empty statement, which changes nothing and answers only where the connection is open.
-use Rattle.std.proofs.Common.{◌≡◌, ◌⊎◌, inl, inr, ℕ, List, [], Ok, Err, Result, IfErr, OnOk, is_ok, is_err, true, false, IsTrue, refl, sym, ap, subst, ◌∙◌, arith, append-nil}
-use Rattle.sqlite.specs.Order.{Row}
+use Rattle.std.proofs.Common.{◌≡◌, ◌⊎◌, inl, inr, ℕ, [], Ok, Err, Result, OnOk, is_ok, is_err, true, false, IsTrue, refl, subst, ◌∙◌, arith}
 use Rattle.sqlite.specs.Tree.{Trees}
 use Rattle.sqlite.specs.Schema.{Schema}
 use Rattle.sqlite.specs.Command.TheVariants.{Nothing}
 use Rattle.sqlite.specs.Listing.{understood}
 use Rattle.sqlite.specs.declared.error.Error.{Error}
-use Rattle.sqlite.specs.State.{State, HasCleanDisk, Survives, IsUnchanged, IsRolledBack, Executes, ExecutesIn, IsNotRun, RunsAlone, CommitsBy, KeepsCommit, Shows as Turns}
+use Rattle.sqlite.specs.State.{State, HasCleanDisk, Survives, IsUnchanged, IsRolledBack, Executes, KeepsCommit, Shows as Turns}
 use Rattle.sqlite.proofs.Callers.{IsPlain, command_of, runs_as}
 use Rattle.sqlite.specs.Steps.{FailsToCommit}
-use Rattle.sqlite.specs.Effect.{Database, IsDatabase}
 use Rattle.docket_tables.specs.Layouts.{Rows}
 use Rattle.docket_tables.specs.Stands.{IsImage, Sees, IsSettled, IsLasting, IsEither}
 use Rattle.docket_tables.proofs.CommitLemmas.{LeavesCommit, shows_again, begins_seeing, dropped, committed, not_committed}
@@ -38,9 +36,9 @@ module _ (start begun last end : State) (rows next : Rows) (was : IsEither start
   probe_dropped clean after undone = record {
     images = λ db may. elim (after.crash clean db may) [ inl before ↦ early_images (omega (arith, after.clean)) db before | inr none ↦ absurd none ];
     settled = λ is_open.
-    let early : KeepsCommit (record start { in_transaction = true }) last = subst (λ s. KeepsCommit s last) begins kept in
-    let was_open = early.was_open (undone.was_open is_open) in
-    (dropped start begun last end rows next (was.settled was_open) begins kept inside leaves clean after undone).settled is_open;
+        let early : KeepsCommit (record start { in_transaction = true }) last = subst (λ s. KeepsCommit s last) begins kept in
+        let was_open = early.was_open (undone.was_open is_open) in
+        (dropped start begun last end rows next (was.settled was_open) begins kept inside leaves clean after undone).settled is_open;
   }
 
   -- the probe went through, so the connection was open

@@ -1,5 +1,5 @@
 -- What each question means, and what answers it.
-use Rattle.std.proofs.Common.{◌≡◌, ◌∙◌, ℕ, List, [], ◌∷◌, map, pos, negsuc, codes, Some, None, refl, sym, ap, subst, true, false}
+use Rattle.std.proofs.Common.{◌≡◌, ℕ, List, [], ◌∷◌, pos, negsuc, codes, refl, true, false}
 use Rattle.std.proofs.Math.Logic.{∥∥₁_map}
 use Rattle.sqlite.specs.declared.types.Value.TheVariants.{Int}
 use Rattle.sqlite.specs.Collation.TheVariants.{Binary}
@@ -9,7 +9,6 @@ use Rattle.sqlite_sql.specs.declared.ops.BinaryOp.TheVariants.{Compare}
 use Rattle.sqlite_sql.specs.declared.ops.CompareOp.TheVariants.{Eq}
 use Rattle.sqlite.specs.Listing.{understood}
 use Rattle.sqlite.specs.State.{State, Shown}
-use Rattle.sqlite.specs.Tree.{Trees}
 use Rattle.sqlite_tied.specs.Compute.{everything}
 use Rattle.docket_tables.specs.declared.query.Query.{Query}
 use Rattle.docket_tables.specs.declared.query.Query.TheVariants as ask
@@ -67,4 +66,4 @@ answered q params rows old new found has_schema are shown =
     let t = table_of q in
     let a = selects docket_schema (select_text q) (tree_of t) (places_of t) (has_key (keys_of q)) (picks q) (directions q) (most_of q) (select_means q) params old new found has_schema shown in
     ∥∥₁_map (answered_as (tree_of t) (places_of t) (has_key (keys_of q) params) (picks q) (directions q) (most_of q) (rows t) old.now.trees found (are t) a)
-        (λ it. record { whole = it.whole; same = it.same; sorted = it.sorted; first = it.first })
+    (λ it. record { whole = it.whole; same = it.same; sorted = it.sorted; first = it.first })

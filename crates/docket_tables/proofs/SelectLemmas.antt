@@ -1,19 +1,19 @@
 -- What a query of one table answers.
-use Rattle.std.proofs.Common.{◌≡◌, ℕ, ◌+◌, ◌<◌, List, [], ◌∷◌, map, filter, length, ◌++◌, ◌^◌, nat_le, Option, None, unwrap_or, subst₂, Bool, true, false, Ok, Ordering, is_lt, cond, All, IsPermutation, IsSorted, refl, sym, ap, ap₂, subst, ◌∙◌, arith}
+use Rattle.std.proofs.Common.{◌≡◌, ℕ, ◌+◌, ◌<◌, List, [], ◌∷◌, map, filter, length, ◌++◌, ◌^◌, nat_le, Option, None, unwrap_or, Bool, true, false, Ordering, is_lt, cond, All, IsPermutation, IsSorted, refl, sym, ap, ap₂, subst, ◌∙◌, arith}
 use Rattle.std.specs.Ordering.{on}
 use Rattle.std.specs.List.{list_all, flat_map}
 use Rattle.std.proofs.lemmas.List.{get_or-map, length-map}
 use Rattle.std.proofs.lemmas.List.Sorted.{IsPermutation-map, IsPermutation-sym, IsPermutation-trans, All-permutation}
 use Rattle.std.proofs.lemmas.List.Elements.{All-from_recursion}
-use Rattle.sqlite_trees.proofs.ListLemmas.{map-map, filter-map, filter_same, all_of, map-flat_map, filter_as_flat_map, IsPermutation-same, IsPermutation-filter, all-map}
+use Rattle.sqlite_trees.proofs.ListLemmas.{map-map, filter-map, filter_same, all_of, IsPermutation-filter, all-map}
 use Rattle.sqlite.specs.declared.types.Value.TheVariants.{Null}
 use Rattle.sqlite.specs.Order.{Row}
 use Rattle.sqlite.specs.Collation.{Collation}
 use Rattle.sqlite_value.specs.declared.keys.Key.{Key}
 use Rattle.std.proofs.Math.Logic.{∥∥₁_map}
-use Rattle.sqlite.specs.Term.{Term, Env, eval, eval_all, holds}
-use Rattle.sqlite.specs.Query.{Query, inner, end, Output, output, key_cmp, IsAnswerAs, matches_as, limited, as_count}
-use Rattle.sqlite.specs.Program.{overlay, given_at}
+use Rattle.sqlite.specs.Term.{Term, eval, eval_all, holds}
+use Rattle.sqlite.specs.Query.{inner, end, Output, output, key_cmp, IsAnswerAs, matches_as, limited, as_count}
+use Rattle.sqlite.specs.Program.{overlay}
 use Rattle.sqlite.specs.Schema.{Schema}
 use Rattle.sqlite.specs.Tree.{Trees}
 use Rattle.sqlite.specs.Command.TheVariants.{Select}

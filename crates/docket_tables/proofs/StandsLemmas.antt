@@ -1,5 +1,5 @@
 -- What calls leave of a connection that holds rows.
-use Rattle.std.proofs.Common.{◌≡◌, ◌⊎◌, inl, inr, ℕ, List, Ok, Err, Result, Some, None, false, IfOk, IfErr, OnErr, refl, sym, ap, subst, ◌∙◌, arith}
+use Rattle.std.proofs.Common.{◌⊎◌, inl, inr, ℕ, List, sym, subst, ◌∙◌, arith}
 use Rattle.sqlite.specs.Order.{Row}
 use Rattle.sqlite.specs.Tree.{Trees}
 use Rattle.sqlite.specs.Listing.{understood}
@@ -10,7 +10,7 @@ use Rattle.sqlite.specs.Clock.{timed}
 use Rattle.sqlite.proofs.Callers.{IsPlain, never_commits}
 use Rattle.docket_tables.specs.Schema.{docket_schema}
 use Rattle.docket_tables.specs.Layouts.{Rows}
-use Rattle.docket_tables.specs.Stands.{IsImage, Shows, IsSettled, IsLasting}
+use Rattle.docket_tables.specs.Stands.{IsImage, IsSettled, IsLasting}
 use Rattle.docket_tables.proofs.CommitLemmas.{shows_again}
 
 module _ (old new : State) (rows : Rows) (crash : Survives old new (λ _. ⊥)) (clean : HasCleanDisk new) (was : IsSettled old rows) where
@@ -30,8 +30,8 @@ module _ (old new : State) (rows : Rows) (crash : Survives old new (λ _. ⊥)) 
   undone_lasting (inr undone) = record {
     images = images_last;
     settled = λ is_open.
-    let both = undone.undone is_open in
-    record { idle = undone.autocommit; shows = shows_again old new rows (both.0 ∙ was.committed) is_open was.shows; committed = both.1 ∙ sym both.0; images = images_last };
+        let both = undone.undone is_open in
+        record { idle = undone.autocommit; shows = shows_again old new rows (both.0 ∙ was.committed) is_open was.shows; committed = both.1 ∙ sym both.0; images = images_last };
   }
 
 -- a plain query that fails leaves the connection as it was, or rolled back

@@ -1,5 +1,5 @@
 -- The rows that the tables hold of a docket.
-use Rattle.std.specs.Prelude.{List, [], ◌∷◌, map}
+use Rattle.std.specs.Prelude.{[], ◌∷◌, map}
 use Rattle.court_days.specs.Court.{CourtSettings}
 use Rattle.docket_core.specs.Tables.{Tables}
 use Rattle.docket_columns.specs.Cells.{court_cells, calendar_cells, case_cells, party_cells, entry_cells, deadline_cells, act_cells, receipt_cells}

@@ -1,10 +1,9 @@
 -- The tables of the docket: what each CREATE says, and the schema that they leave. Each is STRICT, and no column takes NULL.
-use Rattle.std.specs.Prelude.{Bool, true, false, [], ◌∷◌, ◌++◌, map, None, Some, Option, codes, List, ℕ, fold}
+use Rattle.std.specs.Prelude.{true, false, [], ◌∷◌, map, None, Some, Option, codes, List, ℕ, fold}
 use Rattle.sqlite_value.specs.Keys.{plain}
 use Rattle.sqlite.specs.Collation.TheVariants.{Binary}
 use Rattle.sqlite.specs.declared.types.Value.TheVariants.{Null}
 use Rattle.sqlite_schema.specs.declared.schema.Column.{Column}
-use Rattle.sqlite_schema.specs.declared.schema.Index.{Index}
 use Rattle.sqlite_schema.specs.declared.schema.Reference.{Reference}
 use Rattle.sqlite_schema.specs.declared.schema.Action.TheVariants.{NoAction}
 use Rattle.sqlite.specs.Table.{Table}

@@ -8,6 +8,8 @@ use Rattle.sqlite.specs.Held.{Held, state}
 use Rattle.sqlite_catalog.specs.Listing.{IsSound}
 use Rattle.docket_tables.specs.Schema.{docket_schema}
 use Rattle.docket_tables.specs.Layouts.{Rows, AreRows}
+use Rattle.docket_tables.specs.declared.fault.StoreFault.{StoreFault}
+use Rattle.docket_tables.specs.declared.fault.StoreFault.TheVariants.{NoMemory, StoreFailed}
 
 -- a database that a power failure leaves has the docket's tables, and in them the rows
 pub record IsImage (rows : Rows) (db : Trees) : Type 0 where
@@ -64,3 +66,8 @@ module _ {S : Type 0} (g : Ghosts S) where
   -- a power failure leaves what it could leave before, or the rows
   abbrev pub MayMake : Held S → Held S → Rows → Type 0
   MayMake old new rows = (new.in_transaction ≡ false) × (HasCleanDisk (state g new) → (db : Trees) → (state g new).may_leave db → (state g old).may_leave db ⊎ IsImage rows db)
+
+  -- what an error leaves: where memory ran short the connection holds the rows
+  abbrev pub Leaves : Held S → Rows → Rows → StoreFault → Type 0
+  Leaves c rows next NoMemory = HoldsRows c rows
+  Leaves c rows next StoreFailed = LastsAsEither c rows next

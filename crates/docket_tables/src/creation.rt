@@ -23,14 +23,22 @@ fn create_text(number: usize) -> &'static str
     ensures { slice_get texts number ≡ Some result.now }
 {
     match number {
-        0 => "CREATE TABLE court (id INTEGER PRIMARY KEY, word TEXT NOT NULL, version INTEGER NOT NULL, zone TEXT NOT NULL, close INTEGER NOT NULL, next_row INTEGER NOT NULL) STRICT",
-        1 => "CREATE TABLE calendar (row_no INTEGER PRIMARY KEY, kind INTEGER NOT NULL, a INTEGER NOT NULL, b INTEGER NOT NULL, name TEXT NOT NULL, UNIQUE (kind, a, b)) STRICT",
-        2 => "CREATE TABLE cases (number INTEGER PRIMARY KEY, label TEXT NOT NULL UNIQUE, caption TEXT NOT NULL, filed INTEGER NOT NULL) STRICT",
-        3 => "CREATE TABLE party (case_no INTEGER NOT NULL, number INTEGER NOT NULL, name TEXT NOT NULL, role INTEGER NOT NULL, PRIMARY KEY (case_no, number), FOREIGN KEY (case_no) REFERENCES cases (number)) STRICT",
-        4 => "CREATE TABLE entry (case_no INTEGER NOT NULL, number INTEGER NOT NULL, day INTEGER NOT NULL, body TEXT NOT NULL, PRIMARY KEY (case_no, number), FOREIGN KEY (case_no) REFERENCES cases (number)) STRICT",
-        5 => "CREATE TABLE deadline (case_no INTEGER NOT NULL, number INTEGER NOT NULL, party INTEGER NOT NULL, rule TEXT NOT NULL, initial INTEGER NOT NULL, PRIMARY KEY (case_no, number), FOREIGN KEY (case_no) REFERENCES cases (number)) STRICT",
-        6 => "CREATE TABLE act (case_no INTEGER NOT NULL, deadline_no INTEGER NOT NULL, number INTEGER NOT NULL, kind INTEGER NOT NULL, p1 INTEGER NOT NULL, p2 INTEGER NOT NULL, p3 INTEGER NOT NULL, p4 INTEGER NOT NULL, p5 INTEGER NOT NULL, PRIMARY KEY (case_no, deadline_no, number), FOREIGN KEY (case_no, deadline_no) REFERENCES deadline (case_no, number)) STRICT",
-        _ => "CREATE TABLE receipt (command_key TEXT NOT NULL PRIMARY KEY, body TEXT NOT NULL, reply INTEGER NOT NULL) STRICT",
+        0 =>
+            "CREATE TABLE court (id INTEGER PRIMARY KEY, word TEXT NOT NULL, version INTEGER NOT NULL, zone TEXT NOT NULL, close INTEGER NOT NULL, next_row INTEGER NOT NULL) STRICT",
+        1 =>
+            "CREATE TABLE calendar (row_no INTEGER PRIMARY KEY, kind INTEGER NOT NULL, a INTEGER NOT NULL, b INTEGER NOT NULL, name TEXT NOT NULL, UNIQUE (kind, a, b)) STRICT",
+        2 =>
+            "CREATE TABLE cases (number INTEGER PRIMARY KEY, label TEXT NOT NULL UNIQUE, caption TEXT NOT NULL, filed INTEGER NOT NULL) STRICT",
+        3 =>
+            "CREATE TABLE party (case_no INTEGER NOT NULL, number INTEGER NOT NULL, name TEXT NOT NULL, role INTEGER NOT NULL, PRIMARY KEY (case_no, number), FOREIGN KEY (case_no) REFERENCES cases (number)) STRICT",
+        4 =>
+            "CREATE TABLE entry (case_no INTEGER NOT NULL, number INTEGER NOT NULL, day INTEGER NOT NULL, body TEXT NOT NULL, PRIMARY KEY (case_no, number), FOREIGN KEY (case_no) REFERENCES cases (number)) STRICT",
+        5 =>
+            "CREATE TABLE deadline (case_no INTEGER NOT NULL, number INTEGER NOT NULL, party INTEGER NOT NULL, rule TEXT NOT NULL, initial INTEGER NOT NULL, PRIMARY KEY (case_no, number), FOREIGN KEY (case_no) REFERENCES cases (number)) STRICT",
+        6 =>
+            "CREATE TABLE act (case_no INTEGER NOT NULL, deadline_no INTEGER NOT NULL, number INTEGER NOT NULL, kind INTEGER NOT NULL, p1 INTEGER NOT NULL, p2 INTEGER NOT NULL, p3 INTEGER NOT NULL, p4 INTEGER NOT NULL, p5 INTEGER NOT NULL, PRIMARY KEY (case_no, deadline_no, number), FOREIGN KEY (case_no, deadline_no) REFERENCES deadline (case_no, number)) STRICT",
+        _ =>
+            "CREATE TABLE receipt (command_key TEXT NOT NULL PRIMARY KEY, body TEXT NOT NULL, reply INTEGER NOT NULL) STRICT",
     }
 }
 

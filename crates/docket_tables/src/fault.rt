@@ -1,4 +1,4 @@
-//! Why a question gave no answer.
+//! Why a question gave no answer, and why a transaction did not stand.
 use sqlite::Error;
 use std::alloc::{AllocError, AllocFailed};
 
@@ -10,6 +10,14 @@ pub enum ReadFault {
     NoMemory,
     /// A row is none of a docket.
     Damaged,
+}
+
+/// Why a transaction did not stand.
+#[derive(Clone, Copy, Debug, PartialEq, Eq)]
+pub enum StoreFault {
+    NoMemory,
+    /// The database failed. It may be shut.
+    StoreFailed,
 }
 
 impl From<Error> for ReadFault {

@@ -4,6 +4,7 @@
 mod creation;
 mod fault;
 mod laws;
+mod probe;
 mod query;
 mod reading;
 mod rows;
@@ -13,9 +14,13 @@ mod table;
 mod writing;
 
 pub use creation::make;
-pub use fault::ReadFault;
+pub use fault::{ReadFault, StoreFault};
 pub use laws::dockets_are_orderly;
+pub use probe::fault_of;
 pub use query::Query;
-pub use reading::parties;
+pub use reading::{
+    acts, calendar, case, cases, count_entries, count_parties, court, deadlines, entries,
+    is_label_taken, is_row_standing, kept, parties,
+};
 pub use table::Table;
 pub use writing::write;

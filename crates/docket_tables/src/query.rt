@@ -38,15 +38,9 @@ pub(crate) fn select_text(query: Query) -> &'static str
     ensures { result.now ≡ select_text query }
 {
     match query {
-        Query::Court => {
-            "SELECT id, word, version, zone, close, next_row FROM court"
-        }
-        Query::Calendar => {
-            "SELECT row_no, kind, a, b, name FROM calendar ORDER BY row_no"
-        }
-        Query::CalendarRow => {
-            "SELECT row_no, kind, a, b, name FROM calendar WHERE row_no = ?1"
-        }
+        Query::Court => { "SELECT id, word, version, zone, close, next_row FROM court" }
+        Query::Calendar => { "SELECT row_no, kind, a, b, name FROM calendar ORDER BY row_no" }
+        Query::CalendarRow => { "SELECT row_no, kind, a, b, name FROM calendar WHERE row_no = ?1" }
         Query::LastCase => {
             "SELECT number, label, caption, filed FROM cases ORDER BY number DESC LIMIT 1"
         }
@@ -74,8 +68,6 @@ pub(crate) fn select_text(query: Query) -> &'static str
         Query::Acts => {
             "SELECT case_no, deadline_no, number, kind, p1, p2, p3, p4, p5 FROM act WHERE case_no = ?1 AND deadline_no = ?2 ORDER BY number"
         }
-        Query::Receipt => {
-            "SELECT command_key, body, reply FROM receipt WHERE command_key = ?1"
-        }
+        Query::Receipt => { "SELECT command_key, body, reply FROM receipt WHERE command_key = ?1" }
     }
 }

@@ -1,18 +1,107 @@
 //! Questions to a docket's tables.
-ghost use Rattle.std.specs.Prelude.{◌≡◌, ◌≤◌, false};
-ghost use Rattle.docket_core.specs.Histories.{parties_of_case};
+ghost use Rattle.std.specs.Prelude.{◌≡◌, ◌≤◌, ◌==◌, false, length};
+ghost use Rattle.std.specs.List.{list_any};
+ghost use Rattle.std.specs.Str.{bytes_eq};
 ghost use Rattle.sqlite.specs.Held.{state};
 ghost use Rattle.sqlite.specs.View.{doubt};
+ghost use Rattle.docket_core.specs.Histories.{parties_of_case, entries_of_case, deadlines_of_case, acts_of_deadline};
+ghost use Rattle.docket_core.specs.Outcomes.{kept};
+ghost use Rattle.docket_core.specs.Records.{case_at};
+ghost use Rattle.docket_wire.specs.Valid.{IsCommand};
+ghost use Rattle.docket_wire.specs.Writing.{canonical};
 ghost use Rattle.docket_tables.specs.Readings.{Reads};
 
 use crate::fault::ReadFault;
 use crate::query::Query;
-use crate::rows::parties_in;
+use crate::rows::{
+    acts_in, calendar_in, case_in, court_in, deadlines_in, entries_in, kept_in, number_in,
+    parties_in,
+};
 use crate::store::ask;
-use docket_core::PartyRow;
+use court_rules::Act;
+use docket_columns::CourtRow;
+use docket_command::Command;
+use docket_core::{CalendarRow, CaseRow, DeadlineRow, EntryRow, Kept, PartyRow};
 use sqlite::types::ToSql;
 use sqlite::{Alter, Connection};
 use std::alloc::Global;
+
+/// The court, with the number of the next calendar row.
+pub fn court<S: Alter>(conn: &mut Connection<S>, alloc: Global) -> Result<CourtRow, ReadFault>
+    ensures read { Reads S.Store conn.old conn.new result (λ court t found. found ≡ record { zone = court.zone_text; close = court.close_minute; next_row = t.next_row }) }
+    ensures clean { doubt (state S.Store conn.old).is_clean ≤ doubt (state S.Store conn.new).is_clean }
+    ensures mode { conn.old.in_transaction ≡ false → conn.new.in_transaction ≡ false }
+{
+    let rows = ask(conn, Query::Court, &[])?;
+    court_in(alloc, rows.as_slice())
+}
+
+/// The rows of the calendar, in the order of their numbers.
+pub fn calendar<S: Alter>(
+    conn: &mut Connection<S>,
+    alloc: Global,
+) -> Result<Vec<CalendarRow>, ReadFault>
+    ensures read { Reads S.Store conn.old conn.new result (λ _ t found. found.items ≡ t.calendar) }
+    ensures clean { doubt (state S.Store conn.old).is_clean ≤ doubt (state S.Store conn.new).is_clean }
+    ensures mode { conn.old.in_transaction ≡ false → conn.new.in_transaction ≡ false }
+{
+    let rows = ask(conn, Query::Calendar, &[])?;
+    calendar_in(alloc, rows.as_slice())
+}
+
+/// Whether the calendar row of a number stands.
+pub fn is_row_standing<S: Alter>(conn: &mut Connection<S>, number: u32) -> Result<bool, ReadFault>
+    ensures read { Reads S.Store conn.old conn.new result (λ _ t found. found ≡ list_any (λ row. row.number == number) t.calendar) }
+    ensures clean { doubt (state S.Store conn.old).is_clean ≤ doubt (state S.Store conn.new).is_clean }
+    ensures mode { conn.old.in_transaction ≡ false → conn.new.in_transaction ≡ false }
+{
+    let rows = ask(conn, Query::CalendarRow, &[number.to_sql()])?;
+    Ok(rows.as_slice().len() > 0)
+}
+
+/// How many cases there are.
+pub fn cases<S: Alter>(conn: &mut Connection<S>) -> Result<u32, ReadFault>
+    ensures read { Reads S.Store conn.old conn.new result (λ _ t found. found ≡ length t.cases) }
+    ensures clean { doubt (state S.Store conn.old).is_clean ≤ doubt (state S.Store conn.new).is_clean }
+    ensures mode { conn.old.in_transaction ≡ false → conn.new.in_transaction ≡ false }
+{
+    let rows = ask(conn, Query::LastCase, &[])?;
+    number_in(rows.as_slice(), 0)
+}
+
+/// Whether a case has the label.
+pub fn is_label_taken<S: Alter>(conn: &mut Connection<S>, label: &str) -> Result<bool, ReadFault>
+    ensures read { Reads S.Store conn.old conn.new result (λ _ t found. found ≡ list_any (λ row. bytes_eq row.label label.now) t.cases) }
+    ensures clean { doubt (state S.Store conn.old).is_clean ≤ doubt (state S.Store conn.new).is_clean }
+    ensures mode { conn.old.in_transaction ≡ false → conn.new.in_transaction ≡ false }
+{
+    let rows = ask(conn, Query::CaseLabelled, &[label.to_sql()])?;
+    Ok(rows.as_slice().len() > 0)
+}
+
+/// The case of a number.
+pub fn case<S: Alter>(
+    conn: &mut Connection<S>,
+    alloc: Global,
+    number: u32,
+) -> Result<Option<CaseRow>, ReadFault>
+    ensures read { Reads S.Store conn.old conn.new result (λ _ t found. found ≡ case_at t.cases number) }
+    ensures clean { doubt (state S.Store conn.old).is_clean ≤ doubt (state S.Store conn.new).is_clean }
+    ensures mode { conn.old.in_transaction ≡ false → conn.new.in_transaction ≡ false }
+{
+    let rows = ask(conn, Query::CaseNumbered, &[number.to_sql()])?;
+    case_in(alloc, rows.as_slice())
+}
+
+/// How many parties a case has.
+pub fn count_parties<S: Alter>(conn: &mut Connection<S>, case: u32) -> Result<u32, ReadFault>
+    ensures read { Reads S.Store conn.old conn.new result (λ _ t found. found ≡ length (parties_of_case case t.parties)) }
+    ensures clean { doubt (state S.Store conn.old).is_clean ≤ doubt (state S.Store conn.new).is_clean }
+    ensures mode { conn.old.in_transaction ≡ false → conn.new.in_transaction ≡ false }
+{
+    let rows = ask(conn, Query::LastParty, &[case.to_sql()])?;
+    number_in(rows.as_slice(), 1)
+}
 
 /// The parties of a case, in the order of their numbers.
 pub fn parties<S: Alter>(
@@ -26,4 +115,73 @@ pub fn parties<S: Alter>(
 {
     let rows = ask(conn, Query::Parties, &[case.to_sql()])?;
     parties_in(alloc, rows.as_slice())
+}
+
+/// How many entries a case has.
+pub fn count_entries<S: Alter>(conn: &mut Connection<S>, case: u32) -> Result<u32, ReadFault>
+    ensures read { Reads S.Store conn.old conn.new result (λ _ t found. found ≡ length (entries_of_case case t.entries)) }
+    ensures clean { doubt (state S.Store conn.old).is_clean ≤ doubt (state S.Store conn.new).is_clean }
+    ensures mode { conn.old.in_transaction ≡ false → conn.new.in_transaction ≡ false }
+{
+    let rows = ask(conn, Query::LastEntry, &[case.to_sql()])?;
+    number_in(rows.as_slice(), 1)
+}
+
+/// The entries of a case, in the order of their numbers.
+pub fn entries<S: Alter>(
+    conn: &mut Connection<S>,
+    alloc: Global,
+    case: u32,
+) -> Result<Vec<EntryRow>, ReadFault>
+    ensures read { Reads S.Store conn.old conn.new result (λ _ t found. found.items ≡ entries_of_case case t.entries) }
+    ensures clean { doubt (state S.Store conn.old).is_clean ≤ doubt (state S.Store conn.new).is_clean }
+    ensures mode { conn.old.in_transaction ≡ false → conn.new.in_transaction ≡ false }
+{
+    let rows = ask(conn, Query::Entries, &[case.to_sql()])?;
+    entries_in(alloc, rows.as_slice())
+}
+
+/// The deadlines of a case, in the order of their numbers.
+pub fn deadlines<S: Alter>(
+    conn: &mut Connection<S>,
+    alloc: Global,
+    case: u32,
+) -> Result<Vec<DeadlineRow>, ReadFault>
+    ensures read { Reads S.Store conn.old conn.new result (λ _ t found. found.items ≡ deadlines_of_case case t.deadlines) }
+    ensures clean { doubt (state S.Store conn.old).is_clean ≤ doubt (state S.Store conn.new).is_clean }
+    ensures mode { conn.old.in_transaction ≡ false → conn.new.in_transaction ≡ false }
+{
+    let rows = ask(conn, Query::Deadlines, &[case.to_sql()])?;
+    deadlines_in(alloc, rows.as_slice())
+}
+
+/// The acts of a deadline of a case, in the order of their numbers.
+pub fn acts<S: Alter>(
+    conn: &mut Connection<S>,
+    alloc: Global,
+    case: u32,
+    deadline: u32,
+) -> Result<Vec<Act>, ReadFault>
+    ensures read { Reads S.Store conn.old conn.new result (λ _ t found. found.items ≡ acts_of_deadline case deadline t.acts) }
+    ensures clean { doubt (state S.Store conn.old).is_clean ≤ doubt (state S.Store conn.new).is_clean }
+    ensures mode { conn.old.in_transaction ≡ false → conn.new.in_transaction ≡ false }
+{
+    let rows = ask(conn, Query::Acts, &[case.to_sql(), deadline.to_sql()])?;
+    acts_in(alloc, rows.as_slice())
+}
+
+/// What stands under a command's key. `body` is the canonical text of the command.
+pub fn kept<S: Alter>(
+    conn: &mut Connection<S>,
+    command: &Command,
+    body: &str,
+) -> Result<Kept, ReadFault>
+    requires body { body.now ≡ canonical command.now }
+    requires lawful { IsCommand command.now }
+    ensures read { Reads S.Store conn.old conn.new result (λ _ t found. found ≡ kept t.receipts command.now) }
+    ensures clean { doubt (state S.Store conn.old).is_clean ≤ doubt (state S.Store conn.new).is_clean }
+    ensures mode { conn.old.in_transaction ≡ false → conn.new.in_transaction ≡ false }
+{
+    let rows = ask(conn, Query::Receipt, &[command.key.as_str().to_sql()])?;
+    kept_in(rows.as_slice(), body)
 }

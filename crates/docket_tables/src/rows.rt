@@ -1,5 +1,5 @@
 //! Rows of SQL as rows of a docket.
-ghost use Rattle.std.specs.Prelude.{◌≡◌, ℕ, ◌^◌, ◌<◌, List, [], ◌∷◌, Ok, pos, map, IfOk};
+ghost use Rattle.std.specs.Prelude.{◌≡◌, ℕ, ◌^◌, ◌<◌, List, [], ◌∷◌, Ok, Some, None, pos, map, IfOk};
 ghost use Rattle.std.specs.List.{AllByRecursion};
 ghost use Rattle.sqlite.specs.Order.{Row as Cells, column};
 ghost use Rattle.sqlite.specs.declared.types.Value.TheVariants.{Int};
@@ -8,14 +8,25 @@ ghost use Rattle.docket_core.specs.declared.row.CalendarRow.{CalendarRow as Ente
 ghost use Rattle.docket_core.specs.declared.row.DeadlineRow.{DeadlineRow as Deadline};
 ghost use Rattle.docket_core.specs.declared.row.EntryRow.{EntryRow as Filed};
 ghost use Rattle.docket_core.specs.declared.row.PartyRow.{PartyRow as Party};
-ghost use Rattle.docket_columns.specs.Cells.{act_cells, calendar_cells, deadline_cells, entry_cells, party_cells};
-ghost use Rattle.docket_columns.specs.Fits.{IsActRow, IsCalendarRow, IsDeadlineRow, IsEntryRow, IsPartyRow};
+ghost use Rattle.court_days.specs.Court.{CourtSettings};
+ghost use Rattle.docket_command.specs.declared.command.Command.{Command as Asked};
+ghost use Rattle.docket_core.specs.Outcomes.{kept_by};
+ghost use Rattle.docket_core.specs.declared.row.CaseRow.{CaseRow as Case};
+ghost use Rattle.docket_core.specs.declared.row.Receipt.{Receipt as Stored};
+ghost use Rattle.docket_core.specs.declared.view.Kept.TheVariants as kept;
+ghost use Rattle.docket_wire.specs.Valid.{IsCommand};
+ghost use Rattle.docket_wire.specs.Writing.{canonical};
+ghost use Rattle.docket_columns.specs.Cells.{act_cells, calendar_cells, case_cells, court_cells, deadline_cells, entry_cells, party_cells, receipt_cells};
+ghost use Rattle.docket_columns.specs.Fits.{IsActRow, IsCalendarRow, IsCaseRow, IsCourtRow, IsDeadlineRow, IsEntryRow, IsPartyRow, IsReceipt};
 ghost use Rattle.docket_tables.specs.Readings.{IsReadAs};
 
 use crate::fault::ReadFault;
 use court_rules::Act;
-use docket_columns::{act_of, calendar_of, count_at, deadline_of, entry_of, party_of};
-use docket_core::{ActRow, CalendarRow, DeadlineRow, EntryRow, PartyRow};
+use docket_columns::{
+    CourtRow, act_of, calendar_of, case_of, count_at, court_of, deadline_of, entry_of, kept_by,
+    party_of,
+};
+use docket_core::{ActRow, CalendarRow, CaseRow, DeadlineRow, EntryRow, Kept, PartyRow};
 use sqlite::Row;
 use std::alloc::{AllocError, Global};
 
@@ -105,6 +116,41 @@ pub(crate) fn acts_in(alloc: Global, rows: &[Row]) -> Result<Vec<Act>, ReadFault
 {
     let found = act_rows_in(alloc, rows)?;
     Ok(acts_of(alloc, found.as_slice())?)
+}
+
+/// The court of the first row.
+pub(crate) fn court_in(alloc: Global, rows: &[Row]) -> Result<CourtRow, ReadFault>
+    ensures { (settings : CourtSettings) (next : ℕ) → IsCourtRow settings next → rows.now ≡ court_cells settings next ∷ []
+        → IsReadAs (λ found. found ≡ record { zone = settings.zone_text; close = settings.close_minute; next_row = next }) result }
+{
+    let row = rows.first().ok_or(ReadFault::Damaged)?;
+    court_of(alloc, row)?.ok_or(ReadFault::Damaged)
+}
+
+/// The case of the first row, if there is one.
+pub(crate) fn case_in(alloc: Global, rows: &[Row]) -> Result<Option<CaseRow>, ReadFault>
+    ensures none { rows.now ≡ [] → IsReadAs (λ found. found ≡ None) result }
+    ensures one { (c : Case) → IsCaseRow c → rows.now ≡ case_cells c ∷ [] → IsReadAs (λ found. found ≡ Some c) result }
+{
+    let Some(row) = rows.first() else {
+        return Ok(None);
+    };
+    match case_of(alloc, row)? {
+        Some(case) => Ok(Some(case)),
+        None => Err(ReadFault::Damaged),
+    }
+}
+
+/// What is kept under the key of the first row, for a command with this canonical text.
+pub(crate) fn kept_in(rows: &[Row], body: &str) -> Result<Kept, ReadFault>
+    ensures none { rows.now ≡ [] → result ≡ Ok kept.Fresh }
+    ensures one { (r : Stored) (c : Asked) → IsReceipt r → IsCommand c → body.now ≡ canonical c → rows.now ≡ receipt_cells r ∷ []
+        → result ≡ Ok (kept_by (Some r) c) }
+{
+    let Some(row) = rows.first() else {
+        return Ok(Kept::Fresh);
+    };
+    kept_by(row, body).ok_or(ReadFault::Damaged)
 }
 
 /// The number in a column of the first row, or 0 where there is no row.

@@ -30,9 +30,7 @@ pub(crate) fn insert_text(table: Table) -> &'static str
         Table::Acts => {
             "INSERT INTO act (case_no, deadline_no, number, kind, p1, p2, p3, p4, p5) VALUES (?1, ?2, ?3, ?4, ?5, ?6, ?7, ?8, ?9)"
         }
-        Table::Receipts => {
-            "INSERT INTO receipt (command_key, body, reply) VALUES (?1, ?2, ?3)"
-        }
+        Table::Receipts => { "INSERT INTO receipt (command_key, body, reply) VALUES (?1, ?2, ?3)" }
     }
 }
 

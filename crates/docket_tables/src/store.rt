@@ -1,5 +1,5 @@
 //! Calls of the database.
-ghost use Rattle.std.specs.Prelude.{◌≡◌, ◌≤◌, ◌<◌, ◌^◌, ◌+◌, [], ◌∷◌, ℕ, Ok, OnOk, OnErr, IfOk, IsTrue, false, true};
+ghost use Rattle.std.specs.Prelude.{◌≡◌, ◌≤◌, ◌<◌, ◌^◌, ◌+◌, [], ◌∷◌, ℕ, Ok, OnOk, OnErr, IfOk, false, true};
 ghost use Rattle.sqlite.specs.Given.{IsPlain};
 ghost use Rattle.sqlite.specs.Held.{state};
 ghost use Rattle.sqlite.specs.Listing.{understood};
@@ -14,7 +14,7 @@ ghost use Rattle.docket_tables.specs.declared.table.Table.TheVariants as table;
 ghost use Rattle.std.specs.List.{AllByRecursion};
 ghost use Rattle.docket_tables.specs.Queries.{IsAnswer, table_of};
 ghost use Rattle.docket_tables.specs.Schema.{docket_schema};
-ghost use Rattle.docket_tables.specs.Stands.{HoldsRows, Lasts, LastsAsEither, Sees, StaysInside};
+ghost use Rattle.docket_tables.specs.Stands.{HoldsRows, Lasts, Sees, StaysInside};
 
 use crate::query::{Query, select_text};
 use crate::statement::{count_text, delete_text, insert_text};
@@ -102,18 +102,4 @@ pub(crate) fn count_calendar_row<S: Alter>(tx: &mut Transaction<'_, S>) -> Resul
         → OnOk result (Sees (state S.Store tx.new.conn.now) (with_rows table.Court (court_cells court (n + 1) ∷ []) rows)) }
 {
     change(tx, count_text(), &[])
-}
-
-/// Whether the store still answers. An empty statement and its commit write nothing.
-pub(crate) fn is_alive<S: Alter>(conn: &mut Connection<S>) -> bool
-    requires { conn.old.in_transaction ≡ false }
-    ensures idle { conn.new.in_transaction ≡ false }
-    ensures either { (rows next : Rows) → LastsAsEither S.Store conn.old rows next → LastsAsEither S.Store conn.new rows next }
-    ensures alive { (rows next : Rows) → LastsAsEither S.Store conn.old rows next → IsTrue result → HoldsRows S.Store conn.new rows }
-{
-    let mut tx = conn.transaction();
-    if change(&mut tx, "", &[]).is_err() {
-        return false;
-    }
-    tx.commit().is_ok()
 }

@@ -21,10 +21,7 @@ use docket_core::{CalendarRow, Change, Changes};
 use sqlite::{Alter, Connection, Error, Transaction};
 
 /// Adds a row of the calendar, and counts its number.
-fn add_calendar_row<S: Alter>(
-    tx: &mut Transaction<'_, S>,
-    row: &CalendarRow,
-) -> Result<(), Error>
+fn add_calendar_row<S: Alter>(tx: &mut Transaction<'_, S>, row: &CalendarRow) -> Result<(), Error>
     ensures same_reference { tx.new.conn.ghost_name ≡ tx.old.conn.ghost_name }
     ensures inside { StaysInside (state S.Store tx.old.conn.now) (state S.Store tx.new.conn.now) }
     ensures ok { HasCleanDisk (state S.Store tx.new.conn.now) → (court : CourtSettings) (t : Tables) → t.next_row + 1 < 2 ^ 63
@@ -102,7 +99,7 @@ pub fn write<S: Alter>(
     ensures clean { doubt (state S.Store conn.old).is_clean ≤ doubt (state S.Store conn.new).is_clean }
     ensures either { (court : CourtSettings) (t : Tables) → t.next_row + length changes.now.rows.items < 2 ^ 63 → HoldsRows S.Store conn.old (rows_in court t)
         → MatchResult result (λ _. HoldsRows S.Store conn.new (rows_in court (with_receipt command.now changes.now.reply (all_changed changes.now.rows.items t))))
-            (λ _. LastsAsEither S.Store conn.new (rows_in court t) (rows_in court (with_receipt command.now changes.now.reply (all_changed changes.now.rows.items t)))) }
+        (λ _. LastsAsEither S.Store conn.new (rows_in court t) (rows_in court (with_receipt command.now changes.now.reply (all_changed changes.now.rows.items t)))) }
 {
     let mut tx = conn.transaction();
     record(&mut tx, command, body, changes)?;

@@ -1,4 +1,4 @@
-use Rattle.std.proofs.Common.{◌≡◌, ◌∙◌, suc, refl, sym, subst, arith, add-one}
+use Rattle.std.proofs.Common.{◌≡◌, ◌∙◌, refl, sym, subst, arith, add-one}
 use Rattle.sqlite.specs.Held.{state}
 use Rattle.docket_tables.specs.Creation.{IsMade}
 use Rattle.docket_tables.proofs.CommitLemmas.{inside_then, inside_still}
@@ -16,11 +16,11 @@ returns-in_err-define-clause-inside g c = inside_then _ _ _ c.tables.invariant.1
 
 pub tables-preserved : goal.tables-preserved
 tables-preserved g c = (
-      c.define.ensures.same_reference ∙ c.tables.invariant.0,
-      inside_then _ _ _ c.tables.invariant.1 c.define.ensures.inside,
-      λ clean was. subst (IsMade (state g.S.Store c.define.new.tx.conn.now)) (sym (add-one c.tables.number))
+  c.define.ensures.same_reference ∙ c.tables.invariant.0,
+  inside_then _ _ _ c.tables.invariant.1 c.define.ensures.inside,
+  λ clean was. subst (IsMade (state g.S.Store c.define.new.tx.conn.now)) (sym (add-one c.tables.number))
       (c.in_ok-define.ensures.ok clean c.tables.number c.create_text.ensures (c.tables.invariant.2 (omega (arith, c.define.ensures.inside.survives.clean)) was)),
-    )
+)
 
 pub returns-clause-same_reference : goal.returns-clause-same_reference
 returns-clause-same_reference g c = c.tables.invariant.0

@@ -1,4 +1,4 @@
-use Rattle.std.proofs.Common.{[], sym, subst, arith}
+use Rattle.std.proofs.Common.{[], arith}
 use Rattle.sqlite.specs.Held.{state}
 use Rattle.docket_columns.specs.Cells.{court_cells}
 use Rattle.docket_core.specs.Tables.{rows_of}
@@ -18,4 +18,4 @@ returns-clause-ok g c clean bare =
     let last = state g.S.Store c.insert.new.tx.conn.now in
     let court = c.args.court.now in
     row_inserted c.insert.result mid last Court _ (court_cells court 1) no_rows (rows_in court (rows_of court [])) c.court_values.ensures (court_fits court 1)
-        (court_entered court) (c.insert.ensures.ok clean) (c.in_ok-define_all.ensures.ok (omega (arith, c.insert.ensures.inside.survives.clean)) bare)
+    (court_entered court) (c.insert.ensures.ok clean) (c.in_ok-define_all.ensures.ok (omega (arith, c.insert.ensures.inside.survives.clean)) bare)

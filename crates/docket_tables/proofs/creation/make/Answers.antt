@@ -1,6 +1,5 @@
-use Rattle.std.proofs.Common.{◌≡◌, ◌⊎◌, inl, inr, [], IsTrue, false, true, Ok, Err, MatchResult, IfErr, OnOk, ap, sym, subst, arith, rules}
+use Rattle.std.proofs.Common.{◌≡◌, inl, [], IsTrue, false, Ok, Err, MatchResult, OnOk, ap, sym, subst, arith, rules}
 use Rattle.sqlite.specs.State.{HasCleanDisk, KeepsCounts, Shows as Turns}
-use Rattle.sqlite.specs.Steps.{FailsToCommit}
 use Rattle.sqlite.specs.Held.{state}
 use Rattle.docket_core.specs.Tables.{rows_of}
 use Rattle.docket_tables.specs.Contents.{rows_in}
@@ -18,8 +17,11 @@ returns-in_err-define_docket-clause-made g c =
     let end = c.drop-tx.new.self.0 in
     let rows : Rows = rows_in c.args.court.now (rows_of c.args.court.now []) in
     let begins = ap (state g.S.Store) c.transaction-tx.ensures.begun in
-    let may : MayMake g.S.Store c.args.conn.now end rows = (c.drop-tx.ensures.ended, λ clean db left.
-        inl (left_undone start begun last (state g.S.Store end) begins c.define_docket.ensures.inside.survives clean c.drop-tx.ensures.survives db left)) in
+    let may : MayMake g.S.Store c.args.conn.now end rows = (
+      c.drop-tx.ensures.ended,
+      λ clean db left.
+          inl (left_undone start begun last (state g.S.Store end) begins c.define_docket.ensures.inside.survives clean c.drop-tx.ensures.survives db left),
+    ) in
     let same : end ≡ c.conn-1.given.0 = search rules in
     when_err c.from_residual.result _ _ c.from_residual.ensures.0 (subst (λ h. MayMake g.S.Store c.args.conn.now h rows) same may)
 

@@ -1,4 +1,4 @@
-use Rattle.std.proofs.Common.{◌≡◌, sym, subst, arith}
+use Rattle.std.proofs.Common.{sym, subst, arith}
 use Rattle.std.proofs.lemmas.Result.{IfOk-weaker}
 use Rattle.sqlite.specs.Given.{IsPlain}
 use Rattle.sqlite.specs.Held.{state}
@@ -13,9 +13,12 @@ returns-clause-ok g c rows holds =
     let old = state g.S.Store c.args.conn.now in
     let new = state g.S.Store c.read.new.conn in
     let plain = subst (λ t. IsPlain (understood docket_schema t)) (sym c.select_text.ensures) (select_means c.args.query).plain in
-    IfOk-weaker c.read.result _ _ (λ found h. (h.0, λ clean.
-        let was = holds.1 (omega (arith, c.read.ensures.clean)) in
-        answered c.args.query (bound c.args.values.now) rows old new found.items was.shows.schema was.shows.holds (rw c.select_text.ensures at (h.1 clean)))) (c.read.ensures.ok rows holds plain)
+    IfOk-weaker c.read.result _ _ (λ found h. (
+      h.0,
+      λ clean.
+          let was = holds.1 (omega (arith, c.read.ensures.clean)) in
+          answered c.args.query (bound c.args.values.now) rows old new found.items was.shows.schema was.shows.holds (rw c.select_text.ensures at (h.1 clean)),
+    )) (c.read.ensures.ok rows holds plain)
 
 pub returns-clause-err : goal.returns-clause-err
 returns-clause-err g c rows holds = c.read.ensures.err rows holds (subst (λ t. IsPlain (understood docket_schema t)) (sym c.select_text.ensures) (select_means c.args.query).plain)

@@ -1,4 +1,4 @@
-use Rattle.std.proofs.Common.{◌≡◌, false, IfOk, IfErr, OnErr, Ok, Err, Result}
+use Rattle.std.proofs.Common.{◌≡◌, false, IfOk, IfErr, OnErr, Ok, Err}
 use Rattle.sqlite.specs.State.{HasCleanDisk, Shown, FailsToQuery}
 use Rattle.sqlite.specs.Values.{bound}
 use Rattle.sqlite.specs.Held.{state}

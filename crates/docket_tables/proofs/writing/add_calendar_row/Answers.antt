@@ -1,12 +1,11 @@
-use Rattle.std.proofs.Common.{◌≡◌, ◌+◌, [], ◌∷◌, refl, ap, subst, sym, arith}
+use Rattle.std.proofs.Common.{refl, subst, sym, arith}
 use Rattle.std.proofs.lemmas.Result.{IfOk-weaker}
 use Rattle.sqlite.specs.Held.{state}
-use Rattle.sqlite.specs.Values.{bound}
-use Rattle.docket_columns.specs.Cells.{court_cells, calendar_cells}
+use Rattle.docket_columns.specs.Cells.{calendar_cells}
 use Rattle.docket_tables.specs.Contents.{rows_in}
 use Rattle.docket_tables.specs.Layouts.{Fits, with_row}
 use Rattle.docket_tables.specs.Stands.{Sees}
-use Rattle.docket_tables.specs.declared.table.Table.TheVariants.{Court, Calendar}
+use Rattle.docket_tables.specs.declared.table.Table.TheVariants.{Calendar}
 use Rattle.docket_tables.proofs.CommitLemmas.{inside_then}
 use Rattle.docket_tables.proofs.ContentsLemmas.{calendar_added, calendar_fits, sees_same}
 use Rattle.docket_tables.proofs.writing.add_calendar_row.Goals as goal
@@ -23,4 +22,4 @@ returns-clause-ok g c clean court t small sees =
     let added = c.in_ok-insert.ensures.ok (omega (arith, c.count_calendar_row.ensures.inside.survives.clean)) fits (rows_in court t) sees in
     let there = subst (λ r. Sees mid (with_row Calendar r (rows_in court t))) c.calendar_values.ensures added in
     IfOk-weaker c.count_calendar_row.result _ _ (λ _ h. sees_same last _ _ (calendar_added court t row) h)
-        (c.count_calendar_row.ensures.ok clean court t.next_row (with_row Calendar (calendar_cells row) (rows_in court t)) small refl there)
+    (c.count_calendar_row.ensures.ok clean court t.next_row (with_row Calendar (calendar_cells row) (rows_in court t)) small refl there)

@@ -1,7 +1,7 @@
-use Rattle.std.proofs.Common.{◌≡◌, ◌∙◌, ◌+◌, ◌<◌, length, take, get_or, refl, sym, ap, subst, arith, rules}
+use Rattle.std.proofs.Common.{◌≡◌, ◌∙◌, ◌<◌, length, take, get_or, refl, subst, arith, rules}
 use Rattle.std.proofs.lemmas.List.{take_all}
 use Rattle.sqlite.specs.Held.{state}
-use Rattle.docket_core.specs.Tables.{changed, all_changed}
+use Rattle.docket_core.specs.Tables.{all_changed}
 use Rattle.docket_tables.specs.Contents.{rows_in}
 use Rattle.docket_tables.specs.Stands.{Sees}
 use Rattle.docket_tables.proofs.ChangesLemmas.{counted_within, changed_next}
@@ -27,9 +27,9 @@ changes-preserved g c =
       c.change_row.ensures.same_reference ∙ c.changes.invariant.0,
       inside_then _ _ _ c.changes.invariant.1 c.change_row.ensures.inside,
       λ clean court t small sees.
-      let was = c.changes.invariant.2 (omega (arith, c.change_row.ensures.inside.survives.clean)) court t small sees in
-      let now = c.in_ok-change_row.ensures.ok clean court (all_changed (take i all) t) (omega (arith, small, counted_within all t i inside)) was in
-      subst (λ s. Sees (state g.S.Store c.change_row.new.tx.conn.now) (rows_in court s)) (changed_next all change t i inside is) now,
+          let was = c.changes.invariant.2 (omega (arith, c.change_row.ensures.inside.survives.clean)) court t small sees in
+          let now = c.in_ok-change_row.ensures.ok clean court (all_changed (take i all) t) (omega (arith, small, counted_within all t i inside)) was in
+          subst (λ s. Sees (state g.S.Store c.change_row.new.tx.conn.now) (rows_in court s)) (changed_next all change t i inside is) now,
     )
 
 pub returns-clause-same_reference : goal.returns-clause-same_reference

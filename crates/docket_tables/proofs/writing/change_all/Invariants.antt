@@ -11,4 +11,4 @@ abbrev pub invariant-changes : goal.invariant-changes
 invariant-changes g l =
     (l.tx.conn.ghost_name ≡ l.fn.tx.conn.ghost_name) × StaysInside (state g.S.Store l.fn.tx.conn.now) (state g.S.Store l.tx.conn.now)
     × (HasCleanDisk (state g.S.Store l.tx.conn.now) → (court : CourtSettings) (t : Tables) → t.next_row + length l.changes < 2 ^ 63
-        → Sees (state g.S.Store l.fn.tx.conn.now) (rows_in court t) → Sees (state g.S.Store l.tx.conn.now) (rows_in court (all_changed (take l.change-index l.changes) t)))
+    → Sees (state g.S.Store l.fn.tx.conn.now) (rows_in court t) → Sees (state g.S.Store l.tx.conn.now) (rows_in court (all_changed (take l.change-index l.changes) t)))

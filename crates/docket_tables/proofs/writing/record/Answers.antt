@@ -1,13 +1,9 @@
-use Rattle.std.proofs.Common.{◌≡◌, ◌∙◌, refl, ap, subst, sym, arith}
-use Rattle.std.proofs.lemmas.Result.{IfOk-weaker}
+use Rattle.std.proofs.Common.{arith}
 use Rattle.sqlite.specs.Held.{state}
-use Rattle.sqlite.specs.Values.{bound}
 use Rattle.docket_core.specs.Tables.{Tables, all_changed, with_receipt}
 use Rattle.docket_core.specs.declared.row.Receipt.{Receipt}
 use Rattle.docket_columns.specs.Cells.{receipt_cells}
 use Rattle.docket_tables.specs.Contents.{rows_in}
-use Rattle.docket_tables.specs.Layouts.{Fits, with_row}
-use Rattle.docket_tables.specs.Stands.{Sees}
 use Rattle.docket_tables.specs.declared.table.Table.TheVariants.{Receipts}
 use Rattle.docket_tables.proofs.CommitLemmas.{inside_then}
 use Rattle.docket_tables.proofs.ContentsLemmas.{receipt_added, receipt_fits, row_inserted}
@@ -25,4 +21,4 @@ returns-clause-ok g c clean court t small sees =
     let old = state g.S.Store c.change_all.new.tx.conn.now in
     let changed = rw c.as_slice.ensures.value at (c.in_ok-change_all.ensures.ok (omega (arith, c.insert.ensures.inside.survives.clean)) court t) in
     row_inserted c.insert.result old last Receipts _ (receipt_cells receipt) (rows_in court then) (rows_in court (with_receipt c.args.command.now c.args.changes.now.reply then)) values (receipt_fits receipt)
-        (receipt_added court then receipt) (c.insert.ensures.ok clean) (changed small sees)
+    (receipt_added court then receipt) (c.insert.ensures.ok clean) (changed small sees)

@@ -1,4 +1,4 @@
-use Rattle.std.proofs.Common.{◌≡◌, [], IsTrue, false, true, Ok, Err, MatchResult, IfErr, OnOk, refl, ap, sym, subst, arith, rules}
+use Rattle.std.proofs.Common.{◌≡◌, [], IsTrue, false, true, Ok, Err, MatchResult, IfErr, OnOk, ap, subst, arith, rules}
 use Rattle.sqlite.specs.State.{HasCleanDisk, Survives, KeepsCounts, Shows as Turns}
 use Rattle.sqlite.specs.Steps.{FailsToCommit}
 use Rattle.sqlite.specs.Held.{state}
@@ -20,11 +20,14 @@ returns-in_err-record-clause-either g c court t small holds =
     let begins = ap (state g.S.Store) c.transaction-tx.ensures.begun in
     let inside = c.record.ensures.inside in
     let early : Survives (record start { in_transaction = true }) last (λ _. ⊥) = subst (λ s. Survives s last (λ _. ⊥)) begins inside.survives in
-    let either : LastsAsEither g.S.Store end rows next = (c.drop-tx.ensures.ended, λ clean.
-        let before : HasCleanDisk last = omega (arith, c.drop-tx.ensures.survives.clean) in
-        let was = holds.1 (omega (arith, early.clean)) in
-        dropped start begun last (state g.S.Store end) rows next was begins (inside.kept before) inside.survives (λ db is_open may. g.met.S.Store.settled end.store db is_open may) clean
-            c.drop-tx.ensures.survives (c.drop-tx.ensures.undone clean)) in
+    let either : LastsAsEither g.S.Store end rows next = (
+      c.drop-tx.ensures.ended,
+      λ clean.
+          let before : HasCleanDisk last = omega (arith, c.drop-tx.ensures.survives.clean) in
+          let was = holds.1 (omega (arith, early.clean)) in
+          dropped start begun last (state g.S.Store end) rows next was begins (inside.kept before) inside.survives (λ db is_open may. g.met.S.Store.settled end.store db is_open may) clean
+          c.drop-tx.ensures.survives (c.drop-tx.ensures.undone clean),
+    ) in
     let same : end ≡ c.conn-1.given.0 = search rules in
     when_err c.from_residual.result _ _ c.from_residual.ensures.0 (subst (λ h. LastsAsEither g.S.Store h rows next) same either)
 
@@ -47,7 +50,10 @@ returns-clause-either g c court t small holds =
     let same : end ≡ c.conn-2-1.given.0 = search rules in
     let ended = elim c.commit.result as (λ r. (HasCleanDisk (state g.S.Store end) → OnOk r (IsTrue last.in_transaction × Turns last (state g.S.Store end) last.now last.now false × KeepsCounts last (state g.S.Store end) × ((state g.S.Store end).marks ≡ []))) → (HasCleanDisk (state g.S.Store end) → IfErr r (FailsToCommit last (state g.S.Store end))) → MatchResult r (λ _. HoldsRows g.S.Store end next) (λ _. LastsAsEither g.S.Store end rows next)) [
       | Ok u ↦ λ ok err. (c.commit.ensures.ended, λ clean. committed start begun last (state g.S.Store end) rows next (was clean) begins (inside.kept (before clean)) inside.survives law (sees clean) (ok clean).1)
-      | Err e ↦ λ ok err. (c.commit.ensures.ended, λ clean.
-        not_committed start begun last (state g.S.Store end) rows next (was clean) begins (inside.kept (before clean)) inside.survives law clean (sees clean) c.commit.ensures.survives e (err clean))
+      | Err e ↦ λ ok err. (
+        c.commit.ensures.ended,
+        λ clean.
+            not_committed start begun last (state g.S.Store end) rows next (was clean) begins (inside.kept (before clean)) inside.survives law clean (sees clean) c.commit.ensures.survives e (err clean),
+      )
     ] c.commit.ensures.ok c.commit.ensures.err in
     subst (λ h. MatchResult c.commit.result (λ _. HoldsRows g.S.Store h next) (λ _. LastsAsEither g.S.Store h rows next)) same ended

@@ -1,0 +1,66 @@
+-- The case of a number, and what stands under a key.
+use Rattle.std.proofs.Common.{◌≡◌, ◌∙◌, ◌==◌, ◌+◌, ◌≤◌, ◌⊎◌, inl, inr, ℕ, zero, suc, pos, List, [], ◌∷◌, map, filter, length, slice_get, Some, None, Option, Result, Ok, refl, sym, ap, subst, arith}
+use Rattle.std.specs.List.{AllByRecursion}
+use Rattle.std.specs.Str.{bytes_eq}
+use Rattle.sqlite.specs.declared.types.Value.TheVariants.{Int, Text}
+use Rattle.sqlite.specs.Order.{Row}
+use Rattle.sqlite_trees.proofs.ListLemmas.{all-filter}
+use Rattle.docket_command.specs.declared.command.Command.{Command}
+use Rattle.docket_core.specs.Outcomes.{kept, kept_by}
+use Rattle.docket_core.specs.Records.{case_at}
+use Rattle.docket_core.specs.declared.row.CaseRow.{CaseRow}
+use Rattle.docket_core.specs.declared.row.Receipt.{Receipt}
+use Rattle.docket_core.specs.declared.view.Kept.{Kept}
+use Rattle.docket_core.specs.declared.view.Kept.TheVariants.{Fresh}
+use Rattle.docket_columns.specs.Cells.{case_cells, receipt_cells}
+use Rattle.docket_columns.specs.Fits.{IsCaseRow, IsReceipt}
+use Rattle.docket_tables.specs.Orderly.{RunsFrom, receipts_under}
+use Rattle.docket_tables.specs.Queries.{IsAnswer}
+use Rattle.docket_tables.specs.Readings.{IsReadAs}
+use Rattle.docket_tables.specs.declared.fault.ReadFault.{ReadFault}
+use Rattle.docket_tables.specs.declared.query.Query.TheVariants as ask
+use Rattle.docket_tables.proofs.AnswerLemmas.{the_one, equal_number}
+use Rattle.docket_tables.proofs.CellLemmas.{equal_text}
+use Rattle.docket_tables.proofs.HoldsLemmas.{and_yes}
+use Rattle.docket_tables.proofs.ReadLemmas.{read_ok, first_kept, numbered_at, none_below}
+
+-- a case of that number, or none
+case_split : (k : ℕ) (cases : List CaseRow) → RunsFrom 1 (map (λ row. row.number) cases)
+    → ((case_at cases k ≡ None) × (filter (λ row. row.number == k) cases ≡ [])) ⊎ ((row : CaseRow) × (case_at cases k ≡ Some row) × (filter (λ row. row.number == k) cases ≡ row ∷ []))
+case_split zero cases runs = inl (refl, none_below (λ row. row.number) 1 0 cases (omega arith) runs)
+case_split (suc i) cases runs =
+    let same : 1 + i ≡ suc i = omega arith in
+    subst (λ k. ((slice_get cases i ≡ None) × (filter (λ row. row.number == k) cases ≡ [])) ⊎ ((row : CaseRow) × (slice_get cases i ≡ Some row) × (filter (λ row. row.number == k) cases ≡ row ∷ []))) same
+    (numbered_at (λ row. row.number) 1 i cases runs)
+
+pub case_read : (k : ℕ) (result : Result (Option CaseRow) ReadFault) (found : List Row) (cases : List CaseRow) → AllByRecursion IsCaseRow cases → RunsFrom 1 (map (λ row. row.number) cases)
+    → IsAnswer ask.CaseNumbered (Int (pos k) ∷ []) (map case_cells cases) found
+    → (found ≡ [] → IsReadAs (λ c. c ≡ None) result) → ((row : CaseRow) → IsCaseRow row → found ≡ case_cells row ∷ [] → IsReadAs (λ c. c ≡ Some row) result)
+    → IsReadAs (λ c. c ≡ case_at cases k) result
+case_read k result found cases each runs answer none one =
+    elim (case_split k cases runs) [
+      | inl absent ↦ subst (λ o. IsReadAs (λ c. c ≡ o) result) (sym absent.0) (none (is (omega (arith, ap length absent.1)) ∙ ap (map case_cells) absent.1))
+      | inr it ↦ subst (λ o. IsReadAs (λ c. c ≡ o) result) (sym it.1) (one it.0 (subst (AllByRecursion IsCaseRow) it.2 (all-filter _ _ cases each)).0 (is (omega (arith, ap length it.2)) ∙ ap (map case_cells) it.2))
+    ]
+  where
+    is : length (filter (λ row. row.number == k) cases) ≤ 1 → found ≡ map case_cells (filter (λ row. row.number == k) cases)
+    is few = the_one ask.CaseNumbered (Int (pos k) ∷ []) case_cells (λ row. row.number == k) (λ row. and_yes _ ∙ equal_number row.number k) cases found refl few answer
+
+alone : {X : Type 0} (x : X) (rest : List X) → length (x ∷ rest) ≤ 1 → x ∷ rest ≡ x ∷ []
+alone x [] few = refl
+alone x (y ∷ rest) few = absurd (omega (arith, few))
+
+pub kept_read : (c : Command) (result : Result Kept ReadFault) (found : List Row) (receipts : List Receipt) → AllByRecursion IsReceipt receipts → length (receipts_under c.key receipts) ≤ 1
+    → IsAnswer ask.Receipt (Text c.key ∷ []) (map receipt_cells receipts) found
+    → (found ≡ [] → result ≡ Ok Fresh) → ((r : Receipt) → IsReceipt r → found ≡ receipt_cells r ∷ [] → result ≡ Ok (kept_by (Some r) c))
+    → IsReadAs (λ k. k ≡ kept receipts c) result
+kept_read c result found receipts each few answer none one =
+    elim (first_kept (λ r. bytes_eq r.command.key c.key) receipts) [
+      | inl absent ↦ read_ok (λ k. k ≡ kept receipts c) result Fresh (none (is ∙ ap (map receipt_cells) absent.1)) (sym (ap (λ o. kept_by o c) absent.0))
+      | inr it ↦ read_ok (λ k. k ≡ kept receipts c) result (kept_by (Some it.0) c)
+          (one it.0 (subst (AllByRecursion IsReceipt) it.3 (all-filter _ _ receipts each)).0 (is ∙ ap (map receipt_cells) (it.3 ∙ alone it.0 it.1 (omega (arith, few, ap length it.3)))))
+          (sym (ap (λ o. kept_by o c) it.2))
+    ]
+  where
+    is : found ≡ map receipt_cells (receipts_under c.key receipts)
+    is = the_one ask.Receipt (Text c.key ∷ []) receipt_cells (λ r. bytes_eq r.command.key c.key) (λ r. and_yes _ ∙ equal_text r.command.key c.key) receipts found refl few answer

@@ -1,0 +1,24 @@
+use Rattle.std.proofs.Common.{◌∙◌, [], true, map, length, inl, inr, refl, sym, ap, subst}
+use Rattle.sqlite_trees.proofs.ListLemmas.{filter_all, all_of}
+use Rattle.docket_columns.specs.Cells.{case_cells}
+use Rattle.docket_tables.specs.Contents.{rows_in}
+use Rattle.docket_tables.specs.declared.query.Query.TheVariants as ask
+use Rattle.docket_tables.proofs.AnswerLemmas.{the_last}
+use Rattle.docket_tables.proofs.ReadLemmas.{gives, read_ok}
+use Rattle.std.specs.List.{AllByRecursion}
+use Rattle.docket_columns.specs.Fits.{IsCaseRow}
+use Rattle.docket_tables.specs.Orderly.{RunsFrom}
+use Rattle.docket_tables.proofs.reading.cases.Goals as goal
+
+pub returns-clause-read : goal.returns-clause-read
+returns-clause-read g c court t orderly holds =
+    let asked = c.in_ok-rows.ensures.ok (rows_in court t) holds in
+    let rows = c.in_ok-rows.rows.items in
+    gives g.S.Store c.ask.new.conn (rows_in court t) _ c.number_in.result asked.0 (λ clean.
+    let all = filter_all (λ _. true) t.cases (all_of _ (λ _. refl) t.cases) in
+    let runs = subst (λ xs. RunsFrom 1 (map (λ row. row.number) xs)) (sym all) orderly.cases_run in
+    let each = subst (AllByRecursion IsCaseRow) (sym all) orderly.cases in
+    elim (the_last ask.LastCase [] case_cells (λ _. true) (λ row. refl) t.cases rows (λ row. row.number) (λ row. refl) IsCaseRow refl refl runs each (asked.1 clean)) [
+      | inl none ↦ read_ok _ c.number_in.result 0 (c.number_in.ensures.none (c.as_slice.ensures.value ∙ none.1)) (sym (ap length (sym all) ∙ none.0))
+      | inr one ↦ read_ok _ c.number_in.result one.0.number (c.number_in.ensures.first (case_cells one.0) one.0.number one.2.0 (c.as_slice.ensures.value ∙ one.3) refl) (one.1 ∙ ap length all)
+    ])

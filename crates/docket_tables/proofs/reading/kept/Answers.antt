@@ -1,0 +1,14 @@
+use Rattle.std.proofs.Common.{◌∙◌}
+use Rattle.docket_tables.specs.Contents.{rows_in}
+use Rattle.docket_tables.proofs.ReadLemmas.{gives}
+use Rattle.docket_tables.proofs.FoundLemmas.{kept_read}
+use Rattle.docket_tables.proofs.reading.kept.Goals as goal
+
+pub returns-clause-read : goal.returns-clause-read
+returns-clause-read g c court t orderly holds =
+    let asked = c.in_ok-rows.ensures.ok (rows_in court t) holds in
+    let rows = c.in_ok-rows.rows.items in
+    gives g.S.Store c.ask.new.conn (rows_in court t) _ c.kept_in.result asked.0 (λ clean.
+    let answer = rw (c.to_sql.ensures, c.as_str.ensures) at (asked.1 clean) in
+    kept_read c.args.command.now c.kept_in.result rows t.receipts orderly.receipts (orderly.one_receipt c.args.command.now.key) answer (λ none. c.kept_in.ensures.none (c.as_slice.ensures.value ∙ none))
+    (λ row typed one. c.kept_in.ensures.one row c.args.command.now typed c.requires.lawful c.requires.body (c.as_slice.ensures.value ∙ one)))

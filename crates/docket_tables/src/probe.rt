@@ -1,0 +1,39 @@
+//! Want of memory told from a database that failed.
+ghost use Rattle.std.specs.Prelude.{◌≡◌, false, IsTrue};
+ghost use Rattle.docket_tables.specs.Layouts.{Rows};
+ghost use Rattle.docket_tables.specs.Stands.{HoldsRows, LastsAsEither, Leaves};
+
+use crate::fault::StoreFault;
+use crate::store::change;
+use sqlite::{Alter, Connection, Error, ErrorCode};
+
+/// Whether the store still answers. An empty statement and its commit write nothing.
+fn is_alive<S: Alter>(conn: &mut Connection<S>) -> bool
+    requires { conn.old.in_transaction ≡ false }
+    ensures idle { conn.new.in_transaction ≡ false }
+    ensures either { (rows next : Rows) → LastsAsEither S.Store conn.old rows next → LastsAsEither S.Store conn.new rows next }
+    ensures alive { (rows next : Rows) → LastsAsEither S.Store conn.old rows next → IsTrue result → HoldsRows S.Store conn.new rows }
+{
+    let mut tx = conn.transaction();
+    if change(&mut tx, "", &[]).is_err() {
+        return false;
+    }
+    tx.commit().is_ok()
+}
+
+/// What an error of a question or of a write comes to: want of memory, where the store still answers
+/// and the rows are as they were, or a database that failed.
+pub fn fault_of<S: Alter>(conn: &mut Connection<S>, error: Error) -> StoreFault
+    requires { conn.old.in_transaction ≡ false }
+    ensures idle { conn.new.in_transaction ≡ false }
+    ensures left { (rows next : Rows) → LastsAsEither S.Store conn.old rows next → Leaves S.Store conn.new rows next result }
+{
+    if error != Error::SqliteFailure(ErrorCode::OutOfMemory) {
+        return StoreFault::StoreFailed;
+    }
+    if is_alive(conn) {
+        StoreFault::NoMemory
+    } else {
+        StoreFault::StoreFailed
+    }
+}
