@@ -6,13 +6,13 @@ use Rattle.docket_core.specs.Outcomes.{IsHistory}
 use Rattle.docket_core.specs.Tables.{rows_of}
 use Rattle.docket_core.proofs.LimitsKept.{within_limits}
 use Rattle.docket_wire.specs.Valid.{IsCommand}
-use Rattle.docket_tables.specs.Orderly.{IsCourt, IsOrderly}
+use Rattle.docket_tables.specs.Orderly.{IsCourtSettings, IsOrderly}
 use Rattle.docket_tables.proofs.OrderlyActs.{acts_held, acts_run}
 use Rattle.docket_tables.proofs.OrderlyCalendar.{calendar_held, calendar_rises}
 use Rattle.docket_tables.proofs.OrderlyReceipts.{receipts_held, one_receipt}
 use Rattle.docket_tables.proofs.OrderlyRows.{cases_held, cases_run, parties_held, parties_run, entries_held, entries_run, deadlines_held, deadlines_run}
 
-pub orderly : (court : CourtSettings) (h : History) → IsCourt court → IsHistory court h → AllByRecursion IsCommand h → IsOrderly court (rows_of court h)
+pub orderly : (court : CourtSettings) (h : History) → IsCourtSettings court → IsHistory court h → AllByRecursion IsCommand h → IsOrderly court (rows_of court h)
 orderly court h held is all =
     let next = (within_limits court h is).next_row in
     record {

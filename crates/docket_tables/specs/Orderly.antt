@@ -9,8 +9,8 @@ use Rattle.docket_core.specs.declared.row.Receipt.{Receipt}
 use Rattle.docket_columns.specs.Fits.{IsCourtRow, IsCalendarRow, IsCaseRow, IsPartyRow, IsEntryRow, IsDeadlineRow, IsActRow, IsReceipt}
 
 -- what the types hold of a court
-abbrev pub IsCourt : CourtSettings → Type 0
-IsCourt court = IsUtf8 court.zone_text × (court.close_minute < 1440)
+abbrev pub IsCourtSettings : CourtSettings → Type 0
+IsCourtSettings court = IsUtf8 court.zone_text × (court.close_minute < 1440)
 
 -- each number is below those after it
 abbrev pub Rises : List ℕ → Type 0

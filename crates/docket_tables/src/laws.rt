@@ -5,11 +5,12 @@ ghost use Rattle.docket_core.specs.Histories.{History};
 ghost use Rattle.docket_core.specs.Outcomes.{IsHistory};
 ghost use Rattle.docket_core.specs.Tables.{rows_of};
 ghost use Rattle.docket_wire.specs.Valid.{IsCommand};
-ghost use Rattle.docket_tables.specs.Orderly.{IsCourt, IsOrderly};
+ghost use Rattle.docket_tables.specs.Orderly.{IsCourtSettings, IsOrderly};
 
-/// The tables of every docket are orderly: its rows are numbered without gaps, those of the calendar in
-/// order, each holds what its type holds, and each key has one receipt at most.
+/// The tables of a docket are orderly where its court and its commands hold what their types hold: the
+/// cases are numbered from 1 without gaps, so are the parties, entries and deadlines of a case and the
+/// acts of a deadline, the numbers of calendar rows rise, and a key has one receipt at most.
 pub fn dockets_are_orderly()
-    ensures { (court : CourtSettings) (h : History) → IsCourt court → IsHistory court h → AllByRecursion IsCommand h
-        → IsOrderly court (rows_of court h) }
+    ensures { (court : CourtSettings) (h : History) → IsCourtSettings court → IsHistory court h
+        → AllByRecursion IsCommand h → IsOrderly court (rows_of court h) }
 {}
