@@ -11,6 +11,13 @@ mod FoundLemmas
 mod HoldsLemmas
 mod InsertLemmas
 mod LayoutLemmas
+mod OrderlyActions
+mod OrderlyActs
+mod OrderlyCalendar
+mod OrderlyLemmas
+mod OrderlyLists
+mod OrderlyReceipts
+mod OrderlyRows
 mod ProbeLemmas
 mod QueryLemmas
 mod ReadLemmas

@@ -3,6 +3,7 @@
 
 mod creation;
 mod fault;
+mod laws;
 mod probe;
 mod query;
 mod reading;
@@ -15,6 +16,7 @@ mod writing;
 
 pub use creation::make;
 pub use fault::{ReadFault, StoreFault};
+pub use laws::dockets_are_orderly;
 pub use probe::fault_of;
 pub use query::Query;
 pub use reading::{
