@@ -1,3 +1,4 @@
+pub mod FirstRows
 pub mod Firsts
 pub mod PlainSteps
 pub mod Runs

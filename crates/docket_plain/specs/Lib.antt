@@ -1,2 +1,4 @@
 pub mod Dockets
+pub mod Indexes
+pub mod Places
 pub mod Vectors

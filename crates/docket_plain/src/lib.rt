@@ -1,6 +1,8 @@
 //! The docket in memory: its tables in vectors, which stand for a history of commands.
 #![tactic(auto)]
 
+mod index;
+mod places;
 mod plain;
 mod reading;
 #[cfg(test)]

@@ -7,8 +7,12 @@ ghost use Rattle.docket_core.specs.Actions.{case_named, asks_calendar};
 ghost use Rattle.docket_core.specs.Histories.{acts_of_deadline, deadlines_of_case, deadlines_from, parties_of_case, entries_of_case, items_of};
 ghost use Rattle.docket_core.specs.Outcomes.{kept, is_label_taken, is_row_standing};
 ghost use Rattle.docket_core.specs.Tables.{case_in, view_in};
+ghost use Rattle.docket_plain.specs.Indexes.{key_of, label_of, IsIndex};
+ghost use Rattle.docket_plain.specs.Places.{place_of, TellsFirst};
 ghost use Rattle.docket_plain.specs.Vectors.{lists_of, AreSmall};
 
+use crate::index::{Index, case_labelled, receipt_of};
+use crate::places::Places;
 use crate::vectors::Vectors;
 use court_rules::Act;
 use docket_command::{Action, Command, Text};
@@ -18,31 +22,35 @@ use docket_core::{
 };
 use std::alloc::{AllocError, Global};
 
-fn kept(receipts: &[Receipt], command: &Command) -> Kept
+fn kept(receipts: &[Receipt], keys: &Places, command: &Command) -> Kept
+    requires { TellsFirst key_of receipts.now (place_of keys.now) }
     ensures { result ≡ kept receipts.now command.now }
 {
-    for receipt in receipts {
-        if receipt.command.key.same(&command.key) {
+    match receipt_of(receipts, keys, &command.key) {
+        Some(receipt) => {
             if receipt.command.same(command) {
-                return Kept::Same(receipt.reply);
+                Kept::Same(receipt.reply)
+            } else {
+                Kept::Other
             }
-            return Kept::Other;
         }
+        None => Kept::Fresh,
     }
-    Kept::Fresh
 }
 
-fn has_label(cases: &[CaseRow], label: &Text) -> bool
+fn has_label(cases: &[CaseRow], labels: &Places, label: &Text) -> bool
+    requires { TellsFirst label_of cases.now (place_of labels.now) }
     ensures { result ≡ list_any (λ row. bytes_eq row.label label.now) cases.now }
 {
-    cases.iter().any(|row| row.label.same(label))
+    case_labelled(cases, labels, label).is_some()
 }
 
-fn is_label_taken(cases: &[CaseRow], action: &Action) -> bool
+fn is_label_taken(cases: &[CaseRow], labels: &Places, action: &Action) -> bool
+    requires { TellsFirst label_of cases.now (place_of labels.now) }
     ensures { result ≡ is_label_taken action.now cases.now }
 {
     match action {
-        Action::OpenCase(a) => has_label(cases, &a.label),
+        Action::OpenCase(a) => has_label(cases, labels, &a.label),
         _ => false,
     }
 }
@@ -179,16 +187,18 @@ fn case_for(
 pub(crate) fn view_of(
     alloc: Global,
     tables: &Vectors,
+    index: &Index,
     command: &Command,
 ) -> Result<View, AllocError>
-    requires { AreSmall tables.now }
+    requires small { AreSmall tables.now }
+    requires index { IsIndex (lists_of tables.now) index.now }
     ensures { IfOk result (λ view. view ≡ view_in (lists_of tables.now) command.now) }
 {
     let action = &command.action;
     Ok(View {
-        kept: kept(tables.receipts.as_slice(), command),
+        kept: kept(tables.receipts.as_slice(), &index.keys, command),
         cases: tables.cases.len() as u32,
-        label_taken: is_label_taken(tables.cases.as_slice(), action),
+        label_taken: is_label_taken(tables.cases.as_slice(), &index.labels, action),
         case: case_for(alloc, tables, action)?,
         row_stands: is_row_standing(tables.calendar.as_slice(), action),
         calendar: items_for(alloc, tables.calendar.as_slice(), action)?,
