@@ -1,4 +1,6 @@
+pub mod CaseRows
 pub mod FirstRows
 pub mod Firsts
+pub mod IndexSteps
 pub mod PlainSteps
 pub mod Runs

@@ -1,20 +1,17 @@
 -- A docket in vectors after an accepted command.
-use Rattle.std.proofs.Common.{◌≡◌, List, [], ◌∷◌, ◌++◌, map, reverse, length, refl, sym, ap, subst, ◌∙◌, Result, Ok, Err}
+use Rattle.std.proofs.Common.{◌≡◌, List, [], ◌∷◌, ◌++◌, map, reverse, refl, sym, ap, subst, ◌∙◌, Result, Ok, Err}
 use Rattle.std.specs.Prelude.{IsOk, is_ok, if◌then◌else◌}
 use Rattle.std.proofs.lemmas.List.{map-append, reverse-append}
 use Rattle.court_days.specs.Court.{CourtSettings}
 use Rattle.docket_command.specs.declared.command.Command.{Command}
 use Rattle.docket_command.specs.declared.refusal.Reply.{Reply}
-use Rattle.docket_core.specs.Histories.{History, case_rows, new_case}
+use Rattle.docket_core.specs.Histories.{History}
 use Rattle.docket_core.specs.Outcomes.{accepted, outcome, after, after_answer, IsHistory}
 use Rattle.docket_core.specs.Tables.{Tables, rows_of, changed, all_changed, with_receipt}
 use Rattle.docket_core.specs.declared.row.Change.{Change}
 use Rattle.docket_core.specs.declared.row.Change.TheVariants.{AddCalendar, RemoveCalendar, AddCase, AddParty, AddEntry, AddDeadline, AddAct}
 use Rattle.docket_core.specs.declared.row.Receipt.{Receipt}
 use Rattle.docket_plain.specs.Dockets.{history_of, IsDocket}
-use Rattle.docket_plain.specs.Indexes.{key_of, label_of, IsIndex, IsReady}
-use Rattle.docket_plain.specs.Places.{place_of, TellsFirst}
-use Rattle.docket_plain.specs.declared.index.Index.{Index}
 use Rattle.docket_plain.specs.Vectors.{lists_of}
 use Rattle.docket_plain.specs.declared.vectors.Vectors.{Vectors}
 
@@ -31,7 +28,7 @@ one_kept (AddEntry row) t = refl
 one_kept (AddDeadline row) t = refl
 one_kept (AddAct row) t = refl
 
-receipts_kept : (xs : List Change) (t : Tables) → (all_changed xs t).receipts ≡ t.receipts
+pub receipts_kept : (xs : List Change) (t : Tables) → (all_changed xs t).receipts ≡ t.receipts
 receipts_kept [] t = refl
 receipts_kept (x ∷ xs) t = receipts_kept xs (changed x t) ∙ one_kept x t
 
@@ -45,24 +42,15 @@ module _ (court : CourtSettings) (old mid new : Vectors) (c : Command) (reply : 
       ∙ ap (λ rs. history_of (rs ++ record { command = c; reply = reply } ∷ [])) (ap (λ t. t.receipts) changes ∙ receipts_kept rows (lists_of old))
       ∙ history_of-push old.receipts.items c reply
 
+  -- the tables with the command
+  pub tables_after : with_receipt c reply (all_changed rows (rows_of court h)) ≡ rows_of court (c ∷ h) → lists_of new ≡ rows_of court (c ∷ h)
+  tables_after leads = told ∙ ap (with_receipt c reply) changes ∙ ap (λ t. with_receipt c reply (all_changed rows t)) was.same ∙ leads
+
   pub docket_after : outcome court h c ≡ accepted reply → with_receipt c reply (all_changed rows (rows_of court h)) ≡ rows_of court (c ∷ h) → IsDocket court new
   docket_after answer leads = record {
-    same = told ∙ ap (with_receipt c reply) changes ∙ ap (λ t. with_receipt c reply (all_changed rows t)) was.same ∙ leads ∙ ap (rows_of court) (sym grown);
+    same = tables_after leads ∙ ap (rows_of court) (sym grown);
     accepted = subst (IsHistory court) (sym grown) ((reply, answer), was.accepted);
   }
-
-  -- an index that was ready for the command knows the tables with it
-  pub index_after : with_receipt c reply (all_changed rows (rows_of court h)) ≡ rows_of court (c ∷ h) → (index : Index) → IsReady c (lists_of old) index → IsIndex (lists_of new) index
-  index_after leads index ready =
-      let receipts : new.receipts.items ≡ old.receipts.items ++ record { command = c; reply = reply } ∷ [] =
-      ap (λ t. t.receipts) told ∙ ap (λ rs. rs ++ record { command = c; reply = reply } ∷ []) (ap (λ t. t.receipts) changes ∙ receipts_kept rows (lists_of old)) in
-      let cases : new.cases.items ≡ old.cases.items ++ new_case (length (case_rows h)) c.action =
-      ap (λ t. t.cases) (told ∙ ap (with_receipt c reply) changes ∙ ap (λ t. with_receipt c reply (all_changed rows t)) was.same ∙ leads)
-      ∙ ap (λ t. t.cases ++ new_case (length (case_rows h)) c.action) (sym was.same) in
-      record {
-        keys = subst (λ rs. TellsFirst key_of rs (place_of index.keys)) (sym receipts) (ready.keys reply);
-        labels = subst (λ rs. TellsFirst label_of rs (place_of index.labels)) (sym cases) (ready.labels (length (case_rows h)));
-      }
 
 pub after_accepted : (court : CourtSettings) (h : History) (c : Command) (n : Reply) → outcome court h c ≡ accepted n → after court h c ≡ c ∷ h
 after_accepted court h c n e = ap (λ a. after_answer a h c) e

@@ -1,3 +1,4 @@
+pub mod CasePlaces
 pub mod Dockets
 pub mod Indexes
 pub mod Places

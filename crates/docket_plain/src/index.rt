@@ -1,25 +1,31 @@
 //! Where the tables have what a command asks for.
-ghost use Rattle.std.specs.Prelude.{◌≡◌, ℕ, ◌++◌, ◌∷◌, [], OnOk, option_copied};
+ghost use Rattle.std.specs.Prelude.{◌≡◌, ℕ, ◌+◌, ◌<◌, ◌^◌, ◌++◌, ◌∷◌, [], length, vec_len, slice_get, Some, OnOk, option_copied};
 ghost use Rattle.std.specs.List.{find};
 ghost use Rattle.std.specs.Str.{bytes_eq};
 ghost use Rattle.docket_command.specs.declared.refusal.Reply.{Reply};
-ghost use Rattle.docket_core.specs.Histories.{new_case};
+ghost use Rattle.docket_core.specs.Histories.{new_case, case_number};
+ghost use Rattle.docket_core.specs.Tables.{all_changed};
 ghost use Rattle.docket_core.specs.declared.row.CaseRow.{CaseRow};
+ghost use Rattle.docket_plain.specs.CasePlaces.{places_of_case, TellsCase, HasRoomFor};
 ghost use Rattle.docket_plain.specs.Indexes.{key_of, label_of, IsIndex, IsReady};
 ghost use Rattle.docket_plain.specs.Places.{place_of, TellsFirst};
-ghost use Rattle.docket_plain.specs.Vectors.{lists_of, no_rows};
+ghost use Rattle.docket_plain.specs.Vectors.{lists_of, no_rows, HasRoom};
+ghost use Rattle.docket_plain.specs.declared.case_places.CasePlaces.{CasePlaces};
 
+use crate::case_places::{CasePlaces, make_room};
 use crate::places::Places;
-use crate::vectors::Vectors;
+use crate::vectors::{Vectors, change_all};
 use docket_command::{Action, Command, Text};
-use docket_core::{CaseRow, Receipt};
+use docket_core::{CaseRow, Change, Receipt, case_named};
 use std::alloc::{AllocError, Global};
 
-/// The places of receipts by their keys, and of cases by their labels.
+/// The places of receipts by their keys, of cases by their labels, and of the rows of each case by
+/// its number.
 #[derive(Drop)]
 pub(crate) struct Index {
     pub(crate) keys: Places,
     pub(crate) labels: Places,
+    pub(crate) cases: Vec<CasePlaces>,
 }
 
 /// The first receipt with a key.
@@ -116,19 +122,22 @@ impl Index {
         Index {
             keys: Places::new(alloc),
             labels: Places::new(alloc),
+            cases: Vec::new(alloc),
         }
     }
 
-    /// Makes the places known of the rows that come with a command.
+    /// Makes the places known of the receipt and the case that come with a command, and room for those
+    /// of so many rows of the case that it names.
     pub(crate) fn expect(
         &mut self,
         alloc: Global,
         tables: &Vectors,
         command: &Command,
+        rows: usize,
     ) -> Result<(), AllocError>
         requires { IsIndex (lists_of tables.now) self.old }
         ensures same { IsIndex (lists_of tables.now) self.new }
-        ensures ready { OnOk result (IsReady command.now (lists_of tables.now) self.new) }
+        ensures ready { OnOk result (IsReady command.now rows (lists_of tables.now) self.new) }
     {
         expect_receipt(alloc, &mut self.keys, tables.receipts.as_slice(), command)?;
         expect_case(
@@ -136,6 +145,34 @@ impl Index {
             &mut self.labels,
             tables.cases.as_slice(),
             &command.action,
-        )
+        )?;
+        make_room(alloc, &mut self.cases, case_number(&command.action), rows)
     }
+}
+
+/// The number of the case that an action names, or 0.
+pub(crate) fn case_number(action: &Action) -> u32
+    ensures { result ≡ case_number action.now }
+{
+    case_named(action).unwrap_or(0)
+}
+
+/// Makes the changes of an action that names a case, and notes the places of the new rows.
+pub(crate) fn change_case(
+    tables: &mut Vectors,
+    cases: &mut Vec<CasePlaces>,
+    case: u32,
+    changes: Vec<Change>,
+)
+    requires next_row { tables.old.next_row + length changes.items < 2 ^ 64 }
+    requires room { HasRoom (length changes.items) tables.old }
+    requires within { case < vec_len cases.old }
+    requires places { (p : CasePlaces) → slice_get cases.old.items case ≡ Some p → HasRoomFor (length changes.items) p }
+    requires told { TellsCase case (lists_of tables.old) (places_of_case cases.old.items case) }
+    ensures lists { lists_of tables.new ≡ all_changed changes.items (lists_of tables.old) }
+    ensures room { HasRoom 0 tables.new }
+    ensures told { TellsCase case (lists_of tables.new) (places_of_case cases.new.items case) }
+    ensures others { (k : ℕ) → ¬ (k ≡ case) → places_of_case cases.new.items k ≡ places_of_case cases.old.items k }
+{
+    change_all(tables, &mut cases[case as usize], case, changes);
 }

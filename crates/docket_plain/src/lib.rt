@@ -1,6 +1,7 @@
 //! The docket in memory: its tables in vectors, which stand for a history of commands.
 #![tactic(auto)]
 
+mod case_places;
 mod index;
 mod places;
 mod plain;

@@ -9,9 +9,9 @@ ghost use Rattle.docket_plain.specs.Dockets.{history_of, IsDocket, IsReply, AreR
 ghost use Rattle.docket_plain.specs.Indexes.{IsIndex};
 ghost use Rattle.docket_plain.specs.Vectors.{lists_of};
 
-use crate::index::Index;
+use crate::index::{Index, case_number, change_case};
 use crate::reading::{case_record, lines_of_case};
-use crate::vectors::{Vectors, change_all, reserve};
+use crate::vectors::{Vectors, reserve};
 use crate::viewing::view_of;
 use court_days::Court;
 use docket_command::{Command, Reply};
@@ -43,8 +43,8 @@ fn apply_to(
             let rows = changes.rows;
             let reply = changes.reply;
             reserve(tables, rows.len())?;
-            index.expect(alloc, tables, command)?;
-            change_all(tables, rows);
+            index.expect(alloc, tables, command, rows.len())?;
+            change_case(tables, &mut index.cases, case_number(&command.action), rows);
             let _ = tables.receipts.push(Receipt {
                 command: copy,
                 reply,
