@@ -1,10 +1,9 @@
 -- The places of the rows of a case.
 use Rattle.std.proofs.Common.{◌≡◌, ℕ, zero, suc, Bool, true, false, cond, List, [], ◌∷◌, ◌++◌, map, length, refl, sym, ap, ◌∙◌, append-nil, Option, Some}
 use Rattle.std.specs.Prelude.{slice_get, filter, if◌then◌else◌}
-use Rattle.std.proofs.lemmas.List.{map-append, length-map}
+use Rattle.std.proofs.lemmas.List.{map-append}
 use Rattle.std.proofs.lemmas.List.Elements.{filter-append}
-use Rattle.docket_plain.specs.CasePlaces.{ArePlaces, listed, no_places, places_of_case}
-use Rattle.docket_plain.specs.declared.case_places.CasePlaces.{CasePlaces}
+use Rattle.docket_plain.specs.CasePlaces.{ArePlaces}
 
 module _ {R : Type 0} where
   at_end : (xs : List R) (y : R) → slice_get (xs ++ y ∷ []) (length xs) ≡ Some y
@@ -47,14 +46,3 @@ module _ {R : Type 0} where
           ∙ (λ i. (e ∙ sym (still rows (row ∷ []) (filter test rows) places e)) i ++ sym (at_end rows row) i ∷ [])
           ∙ sym (map-append (slice_get (rows ++ row ∷ [])) places (length rows ∷ []))
           ∙ ap (map (slice_get (rows ++ row ∷ []))) (sym (ap (λ b. if b then places ++ length rows ∷ [] else places) on))
-
-  -- there are as many places as rows that pass
-  pub places_count : (test : R → Bool) (rows : List R) (places : List ℕ) → ArePlaces test rows places → length places ≡ length (filter test rows)
-  places_count test rows places e = sym (length-map places (slice_get rows)) ∙ ap length (sym e) ∙ length-map (filter test rows) Some
-
--- an empty list of places more is as none
-pub none_more : (cases : List CasePlaces) (p : CasePlaces) → listed p ≡ no_places → (k : ℕ) → places_of_case (cases ++ p ∷ []) k ≡ places_of_case cases k
-none_more [] p e zero = e
-none_more [] p e (suc k) = refl
-none_more (c ∷ cases) p e zero = refl
-none_more (c ∷ cases) p e (suc k) = none_more cases p e k

@@ -2,5 +2,6 @@ pub mod CaseRows
 pub mod FirstRows
 pub mod Firsts
 pub mod IndexSteps
+pub mod Picked
 pub mod PlainSteps
 pub mod Runs

@@ -1,5 +1,6 @@
 //! Where the rows of a case stand in the tables.
-ghost use Rattle.std.specs.Prelude.{◌≡◌, ℕ, ◌+◌, ◌<◌, ◌≤◌, ◌++◌, ◌∷◌, [], if◌then◌else◌, OnOk, vec_len, vec_capacity, slice_get, Some, ◌^◌};
+ghost use Rattle.std.specs.Prelude.{◌≡◌, ℕ, ◌+◌, ◌<◌, ◌≤◌, ◌++◌, ◌∷◌, [], if◌then◌else◌, OnOk, IfOk, vec_len, vec_capacity, slice_get, Some, ◌^◌};
+ghost use Rattle.std.specs.List.{filter_map};
 ghost use Rattle.docket_core.specs.Tables.{changed};
 ghost use Rattle.docket_plain.specs.CasePlaces.{listed, no_places, places_of_case, TellsCase, HasRoomFor};
 ghost use Rattle.docket_plain.specs.Vectors.{lists_of};
@@ -109,4 +110,61 @@ pub(crate) fn make_room(
     let place = case as usize;
     reach(alloc, cases, place)?;
     cases[place].reserve(rows)
+}
+
+/// The places of the parties of a case.
+pub(crate) fn parties_at(cases: &[CasePlaces], case: u32) -> &[usize]
+    ensures { result.now ≡ (places_of_case cases.now case).parties }
+{
+    match cases.get(case as usize) {
+        Some(places) => places.parties.as_slice(),
+        None => &[],
+    }
+}
+
+/// The places of its entries.
+pub(crate) fn entries_at(cases: &[CasePlaces], case: u32) -> &[usize]
+    ensures { result.now ≡ (places_of_case cases.now case).entries }
+{
+    match cases.get(case as usize) {
+        Some(places) => places.entries.as_slice(),
+        None => &[],
+    }
+}
+
+/// The places of its deadlines.
+pub(crate) fn deadlines_at(cases: &[CasePlaces], case: u32) -> &[usize]
+    ensures { result.now ≡ (places_of_case cases.now case).deadlines }
+{
+    match cases.get(case as usize) {
+        Some(places) => places.deadlines.as_slice(),
+        None => &[],
+    }
+}
+
+/// The places of the acts of all its deadlines.
+pub(crate) fn acts_at(cases: &[CasePlaces], case: u32) -> &[usize]
+    ensures { result.now ≡ (places_of_case cases.now case).acts }
+{
+    match cases.get(case as usize) {
+        Some(places) => places.acts.as_slice(),
+        None => &[],
+    }
+}
+
+/// The rows at places, in order.
+pub(crate) fn rows_at<Row: Copy>(
+    alloc: Global,
+    rows: &[Row],
+    places: &[usize],
+) -> Result<Vec<Row>, AllocError>
+    ensures { IfOk result (λ found. found.items ≡ filter_map (slice_get rows.now) places.now) }
+{
+    let mut found = Vec::new(alloc);
+    for place in places {
+        if let Some(row) = rows.get(*place) {
+            found.push(*row)?;
+        }
+    }
+    Ok(found)
 }

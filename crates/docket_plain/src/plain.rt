@@ -107,7 +107,7 @@ impl Plain {
     pub fn case(&self, number: u32) -> Result<Option<CaseRecord>, AllocError>
         ensures { IfOk result (λ found. found ≡ case_record self.now.history number) }
     {
-        case_record(self.alloc, &self.tables, number)
+        case_record(self.alloc, &self.tables, &self.index, number)
     }
 
     /// The deadlines of the case of a number, and where each stands by the calendar of the docket.
@@ -115,7 +115,7 @@ impl Plain {
         ensures { IfOk result (λ found. option_map (λ lines. lines.items) found
             ≡ deadline_lines self.now.court self.now.history number) }
     {
-        lines_of_case(self.alloc, &self.court, &self.tables, number)
+        lines_of_case(self.alloc, &self.court, &self.tables, &self.index, number)
     }
 }
 

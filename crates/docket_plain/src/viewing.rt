@@ -7,10 +7,12 @@ ghost use Rattle.docket_core.specs.Actions.{case_named, asks_calendar};
 ghost use Rattle.docket_core.specs.Histories.{acts_of_deadline, deadlines_of_case, deadlines_from, parties_of_case, entries_of_case, items_of};
 ghost use Rattle.docket_core.specs.Outcomes.{kept, is_label_taken, is_row_standing};
 ghost use Rattle.docket_core.specs.Tables.{case_in, view_in};
+ghost use Rattle.docket_plain.specs.CasePlaces.{TellsCase, places_of_case};
 ghost use Rattle.docket_plain.specs.Indexes.{key_of, label_of, IsIndex};
 ghost use Rattle.docket_plain.specs.Places.{place_of, TellsFirst};
 ghost use Rattle.docket_plain.specs.Vectors.{lists_of, AreSmall};
 
+use crate::case_places::{CasePlaces, acts_at, deadlines_at, entries_at, parties_at, rows_at};
 use crate::index::{Index, case_labelled, receipt_of};
 use crate::places::Places;
 use crate::vectors::Vectors;
@@ -18,7 +20,7 @@ use court_rules::Act;
 use docket_command::{Action, Command, Text};
 use docket_core::{
     ActRow, Acts, CalendarItem, CalendarItems, CalendarRow, CaseRow, CaseView, DeadlineRow,
-    DeadlineView, Deadlines, EntryRow, Kept, PartyRow, Receipt, View, asks_calendar, case_named,
+    DeadlineView, Deadlines, Kept, Receipt, View, asks_calendar, case_named,
 };
 use std::alloc::{AllocError, Global};
 
@@ -70,18 +72,6 @@ fn is_row_standing(rows: &[CalendarRow], action: &Action) -> bool
     }
 }
 
-fn count_parties(parties: &[PartyRow], case: u32) -> usize
-    ensures { result ≡ length (parties_of_case case parties.now) }
-{
-    parties.iter().filter(|row| row.case == case).count()
-}
-
-fn count_entries(entries: &[EntryRow], case: u32) -> usize
-    ensures { result ≡ length (entries_of_case case entries.now) }
-{
-    entries.iter().filter(|row| row.case == case).count()
-}
-
 fn acts_of(alloc: Global, acts: &[ActRow], case: u32, deadline: u64) -> Result<Vec<Act>, AllocError>
     ensures { IfOk result (λ found. found.items ≡ acts_of_deadline case deadline acts.now) }
 {
@@ -94,8 +84,8 @@ fn acts_of(alloc: Global, acts: &[ActRow], case: u32, deadline: u64) -> Result<V
     Ok(found)
 }
 
-/// The deadlines of a case, each with its acts.
-pub(crate) fn deadlines_of(
+/// The deadlines of a case among rows, each with its acts.
+fn deadlines_of(
     alloc: Global,
     rows: &[DeadlineRow],
     acts: &[ActRow],
@@ -118,6 +108,26 @@ pub(crate) fn deadlines_of(
         }
     }
     Ok(found)
+}
+
+/// The deadlines of a case in the tables, each with its acts.
+pub(crate) fn deadlines_in(
+    alloc: Global,
+    tables: &Vectors,
+    cases: &[CasePlaces],
+    case: u32,
+) -> Result<Vec<DeadlineView>, AllocError>
+    requires { TellsCase case (lists_of tables.now) (places_of_case cases.now case) }
+    ensures { IfOk result (λ found. found.items
+        ≡ deadlines_from case 1 tables.now.acts.items (deadlines_of_case case tables.now.deadlines.items)) }
+{
+    let rows = rows_at(
+        alloc,
+        tables.deadlines.as_slice(),
+        deadlines_at(cases, case),
+    )?;
+    let acts = rows_at(alloc, tables.acts.as_slice(), acts_at(cases, case))?;
+    deadlines_of(alloc, rows.as_slice(), acts.as_slice(), case)
 }
 
 /// What the rows of the calendar enter.
@@ -146,25 +156,24 @@ fn items_for(
 }
 
 /// The case of a number.
-fn case_of(alloc: Global, tables: &Vectors, number: u32) -> Result<Option<CaseView>, AllocError>
-    requires { AreSmall tables.now }
+fn case_of(
+    alloc: Global,
+    tables: &Vectors,
+    cases: &[CasePlaces],
+    number: u32,
+) -> Result<Option<CaseView>, AllocError>
+    requires small { AreSmall tables.now }
+    requires told { TellsCase number (lists_of tables.now) (places_of_case cases.now number) }
     ensures { IfOk result (λ case. case ≡ case_in (lists_of tables.now) number) }
 {
     if number < 1 || tables.cases.len() < number as usize {
         return Ok(None);
     }
-    let deadlines = deadlines_of(
-        alloc,
-        tables.deadlines.as_slice(),
-        tables.acts.as_slice(),
-        number,
-    )?;
-    let parties = count_parties(tables.parties.as_slice(), number);
-    let entries = count_entries(tables.entries.as_slice(), number);
+    let deadlines = deadlines_in(alloc, tables, cases, number)?;
     Ok(Some(CaseView {
         number,
-        parties: parties as u32,
-        entries: entries as u32,
+        parties: parties_at(cases, number).len() as u32,
+        entries: entries_at(cases, number).len() as u32,
         deadlines: Deadlines::new(deadlines),
     }))
 }
@@ -172,13 +181,15 @@ fn case_of(alloc: Global, tables: &Vectors, number: u32) -> Result<Option<CaseVi
 fn case_for(
     alloc: Global,
     tables: &Vectors,
+    index: &Index,
     action: &Action,
 ) -> Result<Option<CaseView>, AllocError>
-    requires { AreSmall tables.now }
+    requires small { AreSmall tables.now }
+    requires index { IsIndex (lists_of tables.now) index.now }
     ensures { IfOk result (λ case. case ≡ option_and_then (case_in (lists_of tables.now)) (case_named action.now)) }
 {
     match case_named(action) {
-        Some(number) => case_of(alloc, tables, number),
+        Some(number) => case_of(alloc, tables, index.cases.as_slice(), number),
         None => Ok(None),
     }
 }
@@ -199,7 +210,7 @@ pub(crate) fn view_of(
         kept: kept(tables.receipts.as_slice(), &index.keys, command),
         cases: tables.cases.len() as u32,
         label_taken: is_label_taken(tables.cases.as_slice(), &index.labels, action),
-        case: case_for(alloc, tables, action)?,
+        case: case_for(alloc, tables, index, action)?,
         row_stands: is_row_standing(tables.calendar.as_slice(), action),
         calendar: items_for(alloc, tables.calendar.as_slice(), action)?,
         next_row: tables.next_row,
