@@ -94,13 +94,9 @@ impl Plain {
         ensures answer { IsReply result (outcome self.old.court self.old.history command.now) }
         ensures docket { self.new ≡ docket_after result self.old command.now }
     {
-        apply_to(
-            self.alloc,
-            &self.court,
-            &mut self.tables,
-            &mut self.index,
-            command,
-        )
+        let tables = &mut self.tables;
+        let index = &mut self.index;
+        apply_to(self.alloc, &self.court, tables, index, command)
     }
 
     /// The case of a number, with its parties and its entries.
