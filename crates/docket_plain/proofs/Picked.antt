@@ -6,8 +6,7 @@ use Rattle.std.specs.Slice.{IsItemAt}
 use Rattle.std.proofs.lemmas.List.{take_more}
 use Rattle.std.proofs.lemmas.List.Elements.{filter_map-append}
 use Rattle.std.proofs.lemmas.Option.{slice_get_past, slice_get_read}
-use Rattle.docket_core.specs.Histories.{acts_of_deadline, deadlines_from, deadlines_of_case}
-use Rattle.docket_core.specs.declared.row.ActRow.{ActRow}
+use Rattle.docket_core.specs.Histories.{deadlines_of_case}
 use Rattle.docket_core.specs.declared.row.DeadlineRow.{DeadlineRow}
 use Rattle.docket_plain.specs.CasePlaces.{ArePlaces}
 
@@ -16,13 +15,13 @@ picked_more : {X Y : Type 0} (f : X → Option Y) (xs : List X) (i : ℕ) (d : X
 picked_more f xs i d inside = ap (filter_map f) (take_more xs i d inside) ∙ filter_map-append f (take i xs) (get_or xs i d ∷ [])
 
 -- what `get` tells of a list
-seen : {X : Type 0} (xs : List X) (i : ℕ) (r : Option (Bor X)) → IsItemAt xs i r → slice_get xs i ≡ option_copied r
+pub seen : {X : Type 0} (xs : List X) (i : ℕ) (r : Option (Bor X)) → IsItemAt xs i r → slice_get xs i ≡ option_copied r
 seen xs i None item = slice_get_past xs i item.3
 seen xs i (Some x) item = slice_get_read xs (length xs) i x.now refl item.3.0 item.1
 
 -- a step of a loop over places: the row at the next place is added, where there is one
 module _ {X : Type 0} (rows : List X) (places : List ℕ) (i : ℕ) (inside : i < length places) (r : Option (Bor X)) (item : IsItemAt rows (get_or places i 0) r) (front all : List X) (was : front ≡ filter_map (slice_get rows) (take i places)) where
-  at_next : filter_map (slice_get rows) (take (i + 1) places) ≡ front ++ cons_option (option_copied r) []
+  pub at_next : filter_map (slice_get rows) (take (i + 1) places) ≡ front ++ cons_option (option_copied r) []
   at_next = picked_more (slice_get rows) places i 0 inside ∙ (λ j. sym was j ++ cons_option (seen rows (get_or places i 0) r item j) [])
 
   pub with_row : (row : Bor X) → r ≡ Some row → all ≡ front ++ row.now ∷ [] → all ≡ filter_map (slice_get rows) (take (i + 1) places)
@@ -45,18 +44,6 @@ pub picked : {R : Type 0} (test : R → Bool) (rows : List R) (places : List ℕ
 picked test rows places are = found_at (slice_get rows) (filter test rows) places are
 
 -- the rows of a case among its own rows
-module _ {A : Type 0} (p q : A → Bool) where
-  abbrev both : A → Bool
-  both x = p x && q x
-
-  pub filter_within_filter : (xs : List A) → filter both (filter p xs) ≡ filter both xs
-  filter_within_filter [] = refl
-  filter_within_filter (x ∷ xs) = at (filter_within_filter xs) (p x) refl
-    where
-      at : filter both (filter p xs) ≡ filter both xs → (b : Bool) → p x ≡ b → filter both (cond b (x ∷ filter p xs) (filter p xs)) ≡ cond (b && q x) (x ∷ filter both xs) (filter both xs)
-      at rest true e = ap (λ ys. cond (p x && q x) (x ∷ ys) ys) rest ∙ ap (λ b. cond (b && q x) (x ∷ filter both xs) (filter both xs)) e
-      at rest false e = rest
-
 pub filter_twice : {A : Type 0} (p : A → Bool) (xs : List A) → filter p (filter p xs) ≡ filter p xs
 filter_twice p [] = refl
 filter_twice p (x ∷ xs) = at (filter_twice p xs) (p x) refl
@@ -65,15 +52,14 @@ filter_twice p (x ∷ xs) = at (filter_twice p xs) (p x) refl
     at rest true e = ap (λ ys. cond (p x) (x ∷ ys) ys) rest ∙ ap (λ b. cond b (x ∷ filter p xs) (filter p xs)) e
     at rest false e = rest
 
-acts_same : (k n : ℕ) (acts : List ActRow) (rows : List DeadlineRow) → deadlines_from k n (filter (λ row. row.case == k) acts) rows ≡ deadlines_from k n acts rows
-acts_same k n acts [] = refl
-acts_same k n acts (row ∷ rows) =
-    let same : acts_of_deadline k n (filter (λ row. row.case == k) acts) ≡ acts_of_deadline k n acts = ap (map (λ (r : ActRow). r.act)) (filter_within_filter (λ (r : ActRow). r.case == k) (λ (r : ActRow). r.deadline == n) acts) in
-    λ i. record { party = row.party; rule = row.rule; initial = row.initial; acts = same i } ∷ acts_same k (n + 1) acts rows i
+pub rows_picked : (k : ℕ) (rows : List DeadlineRow) (places : List ℕ) → ArePlaces (λ row. row.case == k) rows places → deadlines_of_case k (filter_map (slice_get rows) places) ≡ deadlines_of_case k rows
+rows_picked k rows places are = ap (deadlines_of_case k) (picked (λ (r : DeadlineRow). r.case == k) rows places are) ∙ filter_twice (λ (r : DeadlineRow). r.case == k) rows
 
-pub deadlines_picked : (k : ℕ) (rows : List DeadlineRow) (acts : List ActRow) (places act_places : List ℕ) → ArePlaces (λ row. row.case == k) rows places → ArePlaces (λ row. row.case == k) acts act_places
-    → deadlines_from k 1 (filter_map (slice_get acts) act_places) (deadlines_of_case k (filter_map (slice_get rows) places)) ≡ deadlines_from k 1 acts (deadlines_of_case k rows)
-deadlines_picked k rows acts places act_places are are_acts =
-    (λ i. deadlines_from k 1 (picked (λ (r : ActRow). r.case == k) acts act_places are_acts i) (deadlines_of_case k (picked (λ (r : DeadlineRow). r.case == k) rows places are i)))
-    ∙ acts_same k 1 acts (deadlines_of_case k (deadlines_of_case k rows))
-    ∙ ap (deadlines_from k 1 acts) (filter_twice (λ (r : DeadlineRow). r.case == k) rows)
+-- what passes two tests
+pub filter_both : {A : Type 0} (p q : A → Bool) (xs : List A) → filter q (filter p xs) ≡ filter (λ x. p x && q x) xs
+filter_both p q [] = refl
+filter_both p q (x ∷ xs) = at (filter_both p q xs) (p x)
+  where
+    at : filter q (filter p xs) ≡ filter (λ y. p y && q y) xs → (b : Bool) → filter q (cond b (x ∷ filter p xs) (filter p xs)) ≡ cond (b && q x) (x ∷ filter (λ y. p y && q y) xs) (filter (λ y. p y && q y) xs)
+    at rest true = ap (λ ys. cond (q x) (x ∷ ys) ys) rest
+    at rest false = rest

@@ -143,7 +143,7 @@ pub(crate) fn deadlines_at(cases: &[CasePlaces], case: u32) -> &[usize]
 }
 
 /// The places of the acts of all its deadlines.
-pub(crate) fn acts_at(cases: &[CasePlaces], case: u32) -> &[usize]
+pub(crate) fn case_acts_at(cases: &[CasePlaces], case: u32) -> &[usize]
     ensures { result.now ≡ (places_of_case cases.now case).acts }
 {
     match cases.get(case as usize) {

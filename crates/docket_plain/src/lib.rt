@@ -2,6 +2,7 @@
 #![tactic(auto)]
 
 mod case_places;
+mod gathered;
 mod index;
 mod places;
 mod plain;

@@ -1,5 +1,5 @@
 //! What the tables show about a command.
-ghost use Rattle.std.specs.Prelude.{◌≡◌, ◌==◌, ◌&&◌, ◌+◌, ◌<◌, ◌≤◌, ◌^◌, length, map, IfOk, if◌then◌else◌, []};
+ghost use Rattle.std.specs.Prelude.{◌≡◌, ℕ, ◌==◌, ◌&&◌, ◌+◌, ◌<◌, ◌≤◌, ◌^◌, length, map, IfOk, if◌then◌else◌, []};
 ghost use Rattle.std.specs.List.{list_any};
 ghost use Rattle.std.specs.Option.{option_and_then};
 ghost use Rattle.std.specs.Str.{bytes_eq};
@@ -8,15 +8,16 @@ ghost use Rattle.docket_core.specs.Histories.{acts_of_deadline, deadlines_of_cas
 ghost use Rattle.docket_core.specs.Outcomes.{kept, is_label_taken, is_row_standing};
 ghost use Rattle.docket_core.specs.Tables.{case_in, view_in};
 ghost use Rattle.docket_plain.specs.CasePlaces.{TellsCase, places_of_case};
+ghost use Rattle.docket_plain.specs.Gathered.{list_at, acts_at};
 ghost use Rattle.docket_plain.specs.Indexes.{key_of, label_of, IsIndex};
 ghost use Rattle.docket_plain.specs.Places.{place_of, TellsFirst};
 ghost use Rattle.docket_plain.specs.Vectors.{lists_of, AreSmall};
 
-use crate::case_places::{CasePlaces, acts_at, deadlines_at, entries_at, parties_at, rows_at};
+use crate::case_places::{CasePlaces, case_acts_at, deadlines_at, entries_at, parties_at, rows_at};
+use crate::gathered::{acts_at, places_by_deadline};
 use crate::index::{Index, case_labelled, receipt_of};
 use crate::places::Places;
 use crate::vectors::Vectors;
-use court_rules::Act;
 use docket_command::{Action, Command, Text};
 use docket_core::{
     ActRow, Acts, CalendarItem, CalendarItems, CalendarRow, CaseRow, CaseView, DeadlineRow,
@@ -72,37 +73,28 @@ fn is_row_standing(rows: &[CalendarRow], action: &Action) -> bool
     }
 }
 
-fn acts_of(alloc: Global, acts: &[ActRow], case: u32, deadline: u64) -> Result<Vec<Act>, AllocError>
-    ensures { IfOk result (λ found. found.items ≡ acts_of_deadline case deadline acts.now) }
-{
-    let mut found = Vec::new(alloc);
-    for row in acts {
-        if row.case == case && u64::from(row.deadline) == deadline {
-            found.push(row.act)?;
-        }
-    }
-    Ok(found)
-}
-
-/// The deadlines of a case among rows, each with its acts.
+/// The deadlines of a case among rows, each with the acts at the places of its number.
 fn deadlines_of(
     alloc: Global,
     rows: &[DeadlineRow],
     acts: &[ActRow],
+    lists: &[Vec<usize>],
     case: u32,
 ) -> Result<Vec<DeadlineView>, AllocError>
+    requires long { length lists.now ≡ length rows.now + 1 }
+    requires acts { (n : ℕ) → n < length rows.now + 1 → acts_at acts.now (list_at lists.now n) ≡ acts_of_deadline case n acts.now }
     ensures { IfOk result (λ found. found.items ≡ deadlines_from case 1 acts.now (deadlines_of_case case rows.now)) }
 {
     let mut found = Vec::new(alloc);
-    let mut number = 1u64;
+    let mut number = 1;
     for row in rows {
         if row.case == case {
-            let acts = Acts::new(acts_of(alloc, acts, case, number)?);
+            let acts = acts_at(alloc, acts, lists[number].as_slice())?;
             found.push(DeadlineView {
                 party: row.party,
                 rule: row.rule,
                 initial: row.initial,
-                acts,
+                acts: Acts::new(acts),
             })?;
             number += 1;
         }
@@ -121,13 +113,12 @@ pub(crate) fn deadlines_in(
     ensures { IfOk result (λ found. found.items
         ≡ deadlines_from case 1 tables.now.acts.items (deadlines_of_case case tables.now.deadlines.items)) }
 {
-    let rows = rows_at(
-        alloc,
-        tables.deadlines.as_slice(),
-        deadlines_at(cases, case),
-    )?;
-    let acts = rows_at(alloc, tables.acts.as_slice(), acts_at(cases, case))?;
-    deadlines_of(alloc, rows.as_slice(), acts.as_slice(), case)
+    let places = deadlines_at(cases, case);
+    let rows = rows_at(alloc, tables.deadlines.as_slice(), places)?;
+    let acts = tables.acts.as_slice();
+    let places = case_acts_at(cases, case);
+    let lists = places_by_deadline(alloc, acts, places, rows.len() + 1)?;
+    deadlines_of(alloc, rows.as_slice(), acts, lists.as_slice(), case)
 }
 
 /// What the rows of the calendar enter.
