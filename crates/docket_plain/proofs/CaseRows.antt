@@ -1,20 +1,12 @@
 -- The places of the rows of a case.
-use Rattle.std.proofs.Common.{◌≡◌, ℕ, zero, suc, Bool, true, false, cond, List, [], ◌∷◌, ◌++◌, map, length, refl, sym, ap, ◌∙◌, append-nil, Option, Some}
+use Rattle.std.proofs.Common.{◌≡◌, ℕ, Bool, true, false, cond, List, [], ◌∷◌, ◌++◌, map, length, refl, sym, ap, ◌∙◌, append-nil, Option, Some}
 use Rattle.std.specs.Prelude.{slice_get, filter, if◌then◌else◌}
 use Rattle.std.proofs.lemmas.List.{map-append}
 use Rattle.std.proofs.lemmas.List.Elements.{filter-append}
+use Rattle.docket_plain.proofs.FirstRows.{at_end, before}
 use Rattle.docket_plain.specs.CasePlaces.{ArePlaces}
 
 module _ {R : Type 0} where
-  at_end : (xs : List R) (y : R) → slice_get (xs ++ y ∷ []) (length xs) ≡ Some y
-  at_end [] y = refl
-  at_end (x ∷ xs) y = at_end xs y
-
-  before : (xs ys : List R) (i : ℕ) (x : R) → Some x ≡ slice_get xs i → slice_get (xs ++ ys) i ≡ slice_get xs i
-  before [] ys i x e = absurd (cc)
-  before (y ∷ xs) ys zero x e = refl
-  before (y ∷ xs) ys (suc i) x e = before xs ys i x e
-
   heads : {x y : Option R} {xs ys : List (Option R)} → x ∷ xs ≡ y ∷ ys → (x ≡ y) × (xs ≡ ys)
   heads e = (cc, cc)
 
@@ -24,7 +16,7 @@ module _ {R : Type 0} where
   still rows new [] (i ∷ places) e = absurd (cc)
   still rows new (x ∷ found) (i ∷ places) e =
       let parts = heads e in
-      λ j. before rows new i x parts.0 j ∷ still rows new found places parts.1 j
+      λ j. (before rows new i x (sym parts.0) ∙ parts.0) j ∷ still rows new found places parts.1 j
 
   -- rows that don't pass
   pub places_past : (test : R → Bool) (rows new : List R) (places : List ℕ) → filter test new ≡ [] → ArePlaces test rows places → ArePlaces test (rows ++ new) places

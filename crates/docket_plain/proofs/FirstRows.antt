@@ -10,12 +10,12 @@ use Rattle.std.proofs.lemmas.Slice.Eq.{bytes_eq-Decides}
 use Rattle.docket_plain.specs.Places.{if_passes, row_at, TellsFirst}
 
 module _ {X : Type 0} where
-  before : (xs ys : List X) (i : ℕ) (x : X) → slice_get xs i ≡ Some x → slice_get (xs ++ ys) i ≡ Some x
+  pub before : (xs ys : List X) (i : ℕ) (x : X) → slice_get xs i ≡ Some x → slice_get (xs ++ ys) i ≡ Some x
   before [] ys i x e = absurd (cc)
   before (y ∷ xs) ys zero x e = e
   before (y ∷ xs) ys (suc i) x e = before xs ys i x e
 
-  at_end : (xs : List X) (y : X) → slice_get (xs ++ y ∷ []) (length xs) ≡ Some y
+  pub at_end : (xs : List X) (y : X) → slice_get (xs ++ y ∷ []) (length xs) ≡ Some y
   at_end [] y = refl
   at_end (x ∷ xs) y = at_end xs y
 
