@@ -1,5 +1,5 @@
 -- Deadlines with their acts, one after another.
-use Rattle.std.proofs.Common.{◌≡◌, ◌∙◌, ◌+◌, ◌<◌, ℕ, zero, suc, List, [], ◌∷◌, ◌++◌, map, length, take, get_or, refl, sym, ap, ap₂, subst, arith, ◌&&◌, true, false, if◌then◌else◌, nat_le, Bool, Option, Some, None}
+use Rattle.std.proofs.Common.{◌≡◌, ◌∙◌, ◌+◌, ◌<◌, ℕ, zero, suc, List, [], ◌∷◌, ◌++◌, map, length, take, get_or, sym, ap, ap₂, arith, ◌&&◌, true, false, if◌then◌else◌, nat_le, Bool, Option, Some, None}
 use Rattle.std.proofs.lemmas.List.{take_more, length-take}
 use Rattle.court_rules.specs.declared.act.Act.{Act}
 use Rattle.docket_core.specs.Histories.{deadlines_from, acts_of_deadline, parties_of_case, entries_of_case, deadlines_of_case, items_of}
@@ -9,7 +9,6 @@ use Rattle.docket_core.specs.Actions.{case_named, asks_calendar}
 use Rattle.docket_core.specs.Outcomes.{kept, is_label_taken, is_row_standing}
 use Rattle.docket_core.specs.declared.item.CalendarItem.{CalendarItem}
 use Rattle.docket_core.specs.declared.view.Kept.{Kept}
-use Rattle.docket_core.specs.declared.view.View.{View}
 use Rattle.docket_core.specs.Tables.{Tables, case_in, view_in}
 use Rattle.docket_core.specs.declared.view.CaseView.{CaseView}
 use Rattle.docket_core.specs.declared.row.ActRow.{ActRow}

@@ -1,4 +1,9 @@
-//! The tables of the docket in one SQLite database: their schema, the statements, and rows in them.
+//! The tables of a docket in one SQLite database.
+//!
+//! `make` makes them, `view` and the questions read them, and `write` makes the changes of a command:
+//! each write is one transaction. Every call works over any store of `sqlite`. A contract sees a
+//! connection as the rows that it holds, and that each database holds which a power failure may leave
+//! (`HoldsRows`).
 #![tactic(auto)]
 
 mod creation;
@@ -11,6 +16,8 @@ mod rows;
 mod statement;
 mod store;
 mod table;
+#[cfg(test)]
+mod tests;
 mod viewing;
 mod writing;
 

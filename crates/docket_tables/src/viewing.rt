@@ -18,8 +18,8 @@ use crate::reading::{
 };
 use docket_command::{Action, Command};
 use docket_core::{
-    Acts, CalendarItem, CalendarItems, CalendarRow, CaseView, DeadlineRow, DeadlineView, Deadlines, View,
-    asks_calendar, case_named,
+    Acts, CalendarItem, CalendarItems, CalendarRow, CaseView, DeadlineRow, DeadlineView, Deadlines,
+    View, asks_calendar, case_named,
 };
 use sqlite::{Alter, Connection};
 use std::alloc::{AllocError, Global};

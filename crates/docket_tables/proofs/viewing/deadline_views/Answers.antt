@@ -1,7 +1,6 @@
 use Rattle.std.proofs.Common.{◌∙◌, ap, arith}
-use Rattle.docket_core.specs.Histories.{deadlines_from, deadlines_of_case}
+use Rattle.docket_core.specs.Histories.{deadlines_from}
 use Rattle.docket_tables.specs.Contents.{rows_in}
-use Rattle.docket_tables.specs.Stands.{HoldsRows}
 use Rattle.docket_tables.proofs.ReadLemmas.{err_given, gives_clean}
 use Rattle.docket_tables.proofs.viewing.deadline_views.Goals as goal
 
@@ -13,5 +12,5 @@ pub returns-clause-read : goal.returns-clause-read
 returns-clause-read g c court t orderly holds =
     let read = c.in_ok-rows.ensures.read court t orderly holds in
     gives_clean g.S.Store c.with_acts.new.conn (rows_in court t) _ _ c.with_acts.result
-        (λ clean found is. let same = c.as_slice.ensures.value ∙ read.1 (omega (arith, c.with_acts.ensures.clean)) in is same ∙ ap (deadlines_from c.args.case 1 t.acts) same)
-        (c.with_acts.ensures.read court t orderly read.0)
+    (λ clean found is. let same = c.as_slice.ensures.value ∙ read.1 (omega (arith, c.with_acts.ensures.clean)) in is same ∙ ap (deadlines_from c.args.case 1 t.acts) same)
+    (c.with_acts.ensures.read court t orderly read.0)

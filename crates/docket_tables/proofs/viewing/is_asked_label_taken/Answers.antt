@@ -7,4 +7,4 @@ use Rattle.docket_tables.proofs.viewing.is_asked_label_taken.Goals as goal
 pub returns-in-OpenCase-clause-read : goal.returns-in-OpenCase-clause-read
 returns-in-OpenCase-clause-read g c court t orderly holds =
     gives_weaker g.S.Store c.is_label_taken.new.conn (rows_in court t) _ _ c.is_label_taken.result
-        (λ found is. (rw c.as_str.ensures at is) ∙ ap (λ a. is_label_taken a t.cases) (sym c.in-OpenCase.is)) (c.is_label_taken.ensures.read court t orderly holds)
+    (λ found is. (rw c.as_str.ensures at is) ∙ ap (λ a. is_label_taken a t.cases) (sym c.in-OpenCase.is)) (c.is_label_taken.ensures.read court t orderly holds)

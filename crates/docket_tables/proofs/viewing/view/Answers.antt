@@ -1,4 +1,4 @@
-use Rattle.std.proofs.Common.{◌≡◌, ◌∙◌, sym, ap, arith}
+use Rattle.std.proofs.Common.{ap, arith}
 use Rattle.sqlite.specs.Held.{state}
 use Rattle.sqlite.specs.State.{HasCleanDisk}
 use Rattle.docket_tables.specs.Contents.{rows_in}
@@ -63,12 +63,14 @@ returns-clause-read g c court t orderly holds =
     let read3 = c.in_ok-case.ensures.read court t orderly read2.0 in
     let read4 = c.in_ok-row_stands.ensures.read court t orderly read3.0 in
     let read5 = c.in_ok-calendar.ensures.read court t orderly read4.0 in
-    let read6 = c.in_ok-court.ensures.read court t orderly read5.0 in
-    (read6.0, λ clean6.
-      let clean5 : HasCleanDisk (state g.S.Store c.calendar_asked.new.conn) = omega (arith, c.court.ensures.clean) in
-      let clean4 : HasCleanDisk (state g.S.Store c.is_asked_row_standing.new.conn) = omega (arith, c.calendar_asked.ensures.clean) in
-      let clean3 : HasCleanDisk (state g.S.Store c.case_asked.new.conn) = omega (arith, c.is_asked_row_standing.ensures.clean) in
-      let clean2 : HasCleanDisk (state g.S.Store c.is_asked_label_taken.new.conn) = omega (arith, c.case_asked.ensures.clean) in
-      let clean1 : HasCleanDisk (state g.S.Store c.cases.new.conn) = omega (arith, c.is_asked_label_taken.ensures.clean) in
-      let clean0 : HasCleanDisk (state g.S.Store c.kept.new.conn) = omega (arith, c.cases.ensures.clean) in
-      whole_view t c.args.command.now _ _ _ _ _ _ _ (read0.1 clean0) (read1.1 clean1) (read2.1 clean2) (read3.1 clean3) (read4.1 clean4) (read5.1 clean5) (ap (λ r. r.next_row) (read6.1 clean6)))
+    let read6 = c.in_ok-court.ensures.read court t orderly read5.0 in (
+      read6.0,
+      λ clean6.
+          let clean5 : HasCleanDisk (state g.S.Store c.calendar_asked.new.conn) = omega (arith, c.court.ensures.clean) in
+          let clean4 : HasCleanDisk (state g.S.Store c.is_asked_row_standing.new.conn) = omega (arith, c.calendar_asked.ensures.clean) in
+          let clean3 : HasCleanDisk (state g.S.Store c.case_asked.new.conn) = omega (arith, c.is_asked_row_standing.ensures.clean) in
+          let clean2 : HasCleanDisk (state g.S.Store c.is_asked_label_taken.new.conn) = omega (arith, c.case_asked.ensures.clean) in
+          let clean1 : HasCleanDisk (state g.S.Store c.cases.new.conn) = omega (arith, c.is_asked_label_taken.ensures.clean) in
+          let clean0 : HasCleanDisk (state g.S.Store c.kept.new.conn) = omega (arith, c.cases.ensures.clean) in
+          whole_view t c.args.command.now _ _ _ _ _ _ _ (read0.1 clean0) (read1.1 clean1) (read2.1 clean2) (read3.1 clean3) (read4.1 clean4) (read5.1 clean5) (ap (λ r. r.next_row) (read6.1 clean6)),
+    )

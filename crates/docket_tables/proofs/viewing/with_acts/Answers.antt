@@ -1,4 +1,4 @@
-use Rattle.std.proofs.Common.{◌≡◌, ◌∙◌, ◌<◌, length, take, get_or, map, sym, ap, subst, arith}
+use Rattle.std.proofs.Common.{◌∙◌, ◌<◌, length, map, sym, ap, subst, arith}
 use Rattle.std.proofs.lemmas.List.{take_all}
 use Rattle.docket_core.specs.Histories.{deadlines_from}
 use Rattle.docket_tables.specs.Contents.{rows_in}
@@ -23,11 +23,13 @@ loop-row-preserved g c =
       λ idle. c.acts.ensures.mode (c.loop-row.invariant.0 idle),
       omega (arith, c.loop-row.invariant.1, c.acts.ensures.clean),
       λ court t orderly holds.
-      let was = c.loop-row.invariant.2 court t orderly holds in
-      let read = c.in_ok-list.ensures.read court t orderly was.0 in
-      (read.0, λ clean same.
-        shown_more c.args.case i t.acts all _ c.loop-row.found.items c.push.new.self.items c.new.result (subst (λ rows. RunsFrom 1 (map (λ r. r.number) rows)) (sym same) (orderly.deadlines_run c.args.case)) low
-          (was.1 (omega (arith, c.acts.ensures.clean)) same) (c.new.ensures ∙ read.1 clean) c.in_ok-push.ensures.items),
+          let was = c.loop-row.invariant.2 court t orderly holds in
+          let read = c.in_ok-list.ensures.read court t orderly was.0 in (
+            read.0,
+            λ clean same.
+                shown_more c.args.case i t.acts all _ c.loop-row.found.items c.push.new.self.items c.new.result (subst (λ rows. RunsFrom 1 (map (λ r. r.number) rows)) (sym same) (orderly.deadlines_run c.args.case)) low
+                (was.1 (omega (arith, c.acts.ensures.clean)) same) (c.new.ensures ∙ read.1 clean) c.in_ok-push.ensures.items,
+          ),
     )
 
 pub returns-clause-read : goal.returns-clause-read

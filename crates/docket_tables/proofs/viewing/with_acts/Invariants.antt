@@ -14,4 +14,4 @@ abbrev pub invariant-loop-row : goal.invariant-loop-row
 invariant-loop-row g l =
     (l.fn.conn.in_transaction ≡ false → l.conn.in_transaction ≡ false) × (doubt (state g.S.Store l.fn.conn).is_clean ≤ doubt (state g.S.Store l.conn).is_clean)
     × ((court : CourtSettings) (t : Tables) → IsOrderly court t → HoldsRows g.S.Store l.fn.conn (rows_in court t) → HoldsRows g.S.Store l.conn (rows_in court t)
-        × (HasCleanDisk (state g.S.Store l.conn) → l.rows ≡ deadlines_of_case l.case t.deadlines → l.found.items ≡ deadlines_from l.case 1 t.acts (take l.row-index l.rows)))
+    × (HasCleanDisk (state g.S.Store l.conn) → l.rows ≡ deadlines_of_case l.case t.deadlines → l.found.items ≡ deadlines_from l.case 1 t.acts (take l.row-index l.rows)))
