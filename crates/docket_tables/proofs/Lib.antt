@@ -21,6 +21,7 @@ mod OrderlyRows
 mod ProbeLemmas
 mod QueryLemmas
 mod ReadLemmas
+mod RowLemmas
 mod SelectLemmas
 mod StandsLemmas
 mod UpdateLemmas
