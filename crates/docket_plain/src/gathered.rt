@@ -1,5 +1,5 @@
 //! The acts of a case, gathered by their deadlines in one pass.
-ghost use Rattle.std.specs.Prelude.{◌≡◌, ℕ, ◌<◌, ◌++◌, ◌∷◌, [], ◌==◌, if◌then◌else◌, OnOk, IfOk, length, vec_len};
+ghost use Rattle.std.specs.Prelude.{◌≡◌, ℕ, ◌<◌, ◌++◌, ◌∷◌, [], ◌==◌, if◌then◌else◌, OnOk, IfOk, vec_len};
 ghost use Rattle.docket_plain.specs.Gathered.{list_at, acts_at, AreGathered};
 
 use court_rules::Act;

@@ -1,6 +1,5 @@
 //! The docket in vectors.
 ghost use Rattle.std.specs.Prelude.{◌≡◌, [], Err, OnOk, IfOk};
-ghost use Rattle.court_days.specs.Court.{CourtSettings};
 ghost use Rattle.docket_core.specs.Outcomes.{outcome, run, answers};
 ghost use Rattle.std.specs.Option.{option_map};
 ghost use Rattle.docket_core.specs.Records.{case_record, deadline_lines};

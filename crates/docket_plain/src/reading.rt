@@ -1,5 +1,5 @@
 //! What the tables tell of a case and its deadlines.
-ghost use Rattle.std.specs.Prelude.{◌≡◌, ◌==◌, option_copied, slice_get, Some, IfOk};
+ghost use Rattle.std.specs.Prelude.{◌≡◌, option_copied, slice_get, Some, IfOk};
 ghost use Rattle.std.specs.Option.{option_map};
 ghost use Rattle.std.specs.List.{filter_map};
 ghost use Rattle.docket_core.specs.Records.{case_at, record_of, deadline_lines};
