@@ -1,4 +1,3 @@
 pub mod PlainLemmas
 pub mod RuleLemmas
 pub mod ReceiptLemmas
-pub mod RowLemmas

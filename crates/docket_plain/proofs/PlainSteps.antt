@@ -28,7 +28,7 @@ one_kept (AddEntry row) t = refl
 one_kept (AddDeadline row) t = refl
 one_kept (AddAct row) t = refl
 
-receipts_kept : (xs : List Change) (t : Tables) → (all_changed xs t).receipts ≡ t.receipts
+pub receipts_kept : (xs : List Change) (t : Tables) → (all_changed xs t).receipts ≡ t.receipts
 receipts_kept [] t = refl
 receipts_kept (x ∷ xs) t = receipts_kept xs (changed x t) ∙ one_kept x t
 
@@ -42,9 +42,13 @@ module _ (court : CourtSettings) (old mid new : Vectors) (c : Command) (reply : 
       ∙ ap (λ rs. history_of (rs ++ record { command = c; reply = reply } ∷ [])) (ap (λ t. t.receipts) changes ∙ receipts_kept rows (lists_of old))
       ∙ history_of-push old.receipts.items c reply
 
+  -- the tables with the command
+  pub tables_after : with_receipt c reply (all_changed rows (rows_of court h)) ≡ rows_of court (c ∷ h) → lists_of new ≡ rows_of court (c ∷ h)
+  tables_after leads = told ∙ ap (with_receipt c reply) changes ∙ ap (λ t. with_receipt c reply (all_changed rows t)) was.same ∙ leads
+
   pub docket_after : outcome court h c ≡ accepted reply → with_receipt c reply (all_changed rows (rows_of court h)) ≡ rows_of court (c ∷ h) → IsDocket court new
   docket_after answer leads = record {
-    same = told ∙ ap (with_receipt c reply) changes ∙ ap (λ t. with_receipt c reply (all_changed rows t)) was.same ∙ leads ∙ ap (rows_of court) (sym grown);
+    same = tables_after leads ∙ ap (rows_of court) (sym grown);
     accepted = subst (IsHistory court) (sym grown) ((reply, answer), was.accepted);
   }
 

@@ -1,8 +1,10 @@
 //! The tables in vectors.
 ghost use Rattle.std.specs.Prelude.{◌≡◌, ℕ, ◌==◌, not, ◌+◌, ◌<◌, ◌≤◌, ◌^◌, length, filter, OnOk, vec_len, vec_capacity};
 ghost use Rattle.docket_core.specs.Tables.{changed, all_changed};
+ghost use Rattle.docket_plain.specs.CasePlaces.{listed, TellsCase, HasRoomFor};
 ghost use Rattle.docket_plain.specs.Vectors.{lists_of, HasRoom, no_rows};
 
+use crate::case_places::CasePlaces;
 use docket_core::{ActRow, CalendarRow, CaseRow, Change, DeadlineRow, EntryRow, PartyRow, Receipt};
 use std::alloc::{AllocError, Global};
 
@@ -80,15 +82,25 @@ fn change(tables: &mut Vectors, change: Change)
     }
 }
 
-/// Makes changes, for which there is room, one after another.
-pub(crate) fn change_all(tables: &mut Vectors, mut changes: Vec<Change>)
+/// Makes changes, for which there is room, one after another, and notes the places of the new rows
+/// of a case.
+pub(crate) fn change_all(
+    tables: &mut Vectors,
+    places: &mut CasePlaces,
+    case: u32,
+    mut changes: Vec<Change>,
+)
     requires next_row { tables.old.next_row + length changes.items < 2 ^ 64 }
     requires room { HasRoom (length changes.items) tables.old }
+    requires places { HasRoomFor (length changes.items) places.old }
+    requires told { TellsCase case (lists_of tables.old) (listed places.old) }
     ensures lists { lists_of tables.new ≡ all_changed changes.items (lists_of tables.old) }
     ensures room { HasRoom 0 tables.new }
+    ensures told { TellsCase case (lists_of tables.new) (listed places.new) }
 {
     while !changes.is_empty() {
         let next = changes.remove(0);
+        places.note(tables, case, &next);
         change(tables, next);
     }
 }

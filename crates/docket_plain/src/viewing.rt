@@ -1,48 +1,59 @@
 //! What the tables show about a command.
-ghost use Rattle.std.specs.Prelude.{◌≡◌, ◌==◌, ◌&&◌, ◌+◌, ◌<◌, ◌≤◌, ◌^◌, length, map, IfOk, if◌then◌else◌, []};
+ghost use Rattle.std.specs.Prelude.{◌≡◌, ℕ, ◌==◌, ◌+◌, ◌<◌, length, IfOk, if◌then◌else◌, []};
 ghost use Rattle.std.specs.List.{list_any};
 ghost use Rattle.std.specs.Option.{option_and_then};
 ghost use Rattle.std.specs.Str.{bytes_eq};
 ghost use Rattle.docket_core.specs.Actions.{case_named, asks_calendar};
-ghost use Rattle.docket_core.specs.Histories.{acts_of_deadline, deadlines_of_case, deadlines_from, parties_of_case, entries_of_case, items_of};
+ghost use Rattle.docket_core.specs.Histories.{acts_of_deadline, deadlines_of_case, deadlines_from, items_of};
 ghost use Rattle.docket_core.specs.Outcomes.{kept, is_label_taken, is_row_standing};
 ghost use Rattle.docket_core.specs.Tables.{case_in, view_in};
+ghost use Rattle.docket_plain.specs.CasePlaces.{TellsCase, places_of_case};
+ghost use Rattle.docket_plain.specs.Gathered.{list_at, acts_at};
+ghost use Rattle.docket_plain.specs.Indexes.{key_of, label_of, IsIndex};
+ghost use Rattle.docket_plain.specs.Places.{place_of, TellsFirst};
 ghost use Rattle.docket_plain.specs.Vectors.{lists_of, AreSmall};
 
+use crate::case_places::{CasePlaces, case_acts_at, deadlines_at, entries_at, parties_at, rows_at};
+use crate::gathered::{acts_at, places_by_deadline};
+use crate::index::{Index, case_labelled, receipt_of};
+use crate::places::Places;
 use crate::vectors::Vectors;
-use court_rules::Act;
 use docket_command::{Action, Command, Text};
 use docket_core::{
     ActRow, Acts, CalendarItem, CalendarItems, CalendarRow, CaseRow, CaseView, DeadlineRow,
-    DeadlineView, Deadlines, EntryRow, Kept, PartyRow, Receipt, View, asks_calendar, case_named,
+    DeadlineView, Deadlines, Kept, Receipt, View, asks_calendar, case_named,
 };
 use std::alloc::{AllocError, Global};
 
-fn kept(receipts: &[Receipt], command: &Command) -> Kept
+fn kept(receipts: &[Receipt], keys: &Places, command: &Command) -> Kept
+    requires { TellsFirst key_of receipts.now (place_of keys.now) }
     ensures { result ≡ kept receipts.now command.now }
 {
-    for receipt in receipts {
-        if receipt.command.key.same(&command.key) {
+    match receipt_of(receipts, keys, &command.key) {
+        Some(receipt) => {
             if receipt.command.same(command) {
-                return Kept::Same(receipt.reply);
+                Kept::Same(receipt.reply)
+            } else {
+                Kept::Other
             }
-            return Kept::Other;
         }
+        None => Kept::Fresh,
     }
-    Kept::Fresh
 }
 
-fn has_label(cases: &[CaseRow], label: &Text) -> bool
+fn has_label(cases: &[CaseRow], labels: &Places, label: &Text) -> bool
+    requires { TellsFirst label_of cases.now (place_of labels.now) }
     ensures { result ≡ list_any (λ row. bytes_eq row.label label.now) cases.now }
 {
-    cases.iter().any(|row| row.label.same(label))
+    case_labelled(cases, labels, label).is_some()
 }
 
-fn is_label_taken(cases: &[CaseRow], action: &Action) -> bool
+fn is_label_taken(cases: &[CaseRow], labels: &Places, action: &Action) -> bool
+    requires { TellsFirst label_of cases.now (place_of labels.now) }
     ensures { result ≡ is_label_taken action.now cases.now }
 {
     match action {
-        Action::OpenCase(a) => has_label(cases, &a.label),
+        Action::OpenCase(a) => has_label(cases, labels, &a.label),
         _ => false,
     }
 }
@@ -62,54 +73,52 @@ fn is_row_standing(rows: &[CalendarRow], action: &Action) -> bool
     }
 }
 
-fn count_parties(parties: &[PartyRow], case: u32) -> usize
-    ensures { result ≡ length (parties_of_case case parties.now) }
-{
-    parties.iter().filter(|row| row.case == case).count()
-}
-
-fn count_entries(entries: &[EntryRow], case: u32) -> usize
-    ensures { result ≡ length (entries_of_case case entries.now) }
-{
-    entries.iter().filter(|row| row.case == case).count()
-}
-
-fn acts_of(alloc: Global, acts: &[ActRow], case: u32, deadline: u64) -> Result<Vec<Act>, AllocError>
-    ensures { IfOk result (λ found. found.items ≡ acts_of_deadline case deadline acts.now) }
-{
-    let mut found = Vec::new(alloc);
-    for row in acts {
-        if row.case == case && u64::from(row.deadline) == deadline {
-            found.push(row.act)?;
-        }
-    }
-    Ok(found)
-}
-
-/// The deadlines of a case, each with its acts.
-pub(crate) fn deadlines_of(
+/// The deadlines of a case among rows, each with the acts at the places of its number.
+fn deadlines_of(
     alloc: Global,
     rows: &[DeadlineRow],
     acts: &[ActRow],
+    lists: &[Vec<usize>],
     case: u32,
 ) -> Result<Vec<DeadlineView>, AllocError>
+    requires long { length lists.now ≡ length rows.now + 1 }
+    requires acts { (n : ℕ) → n < length rows.now + 1 → acts_at acts.now (list_at lists.now n) ≡ acts_of_deadline case n acts.now }
     ensures { IfOk result (λ found. found.items ≡ deadlines_from case 1 acts.now (deadlines_of_case case rows.now)) }
 {
     let mut found = Vec::new(alloc);
-    let mut number = 1u64;
+    let mut number = 1;
     for row in rows {
         if row.case == case {
-            let acts = Acts::new(acts_of(alloc, acts, case, number)?);
+            let acts = acts_at(alloc, acts, lists[number].as_slice())?;
             found.push(DeadlineView {
                 party: row.party,
                 rule: row.rule,
                 initial: row.initial,
-                acts,
+                acts: Acts::new(acts),
             })?;
             number += 1;
         }
     }
     Ok(found)
+}
+
+/// The deadlines of a case in the tables, each with its acts.
+pub(crate) fn deadlines_in(
+    alloc: Global,
+    tables: &Vectors,
+    cases: &[CasePlaces],
+    case: u32,
+) -> Result<Vec<DeadlineView>, AllocError>
+    requires { TellsCase case (lists_of tables.now) (places_of_case cases.now case) }
+    ensures { IfOk result (λ found. found.items
+        ≡ deadlines_from case 1 tables.now.acts.items (deadlines_of_case case tables.now.deadlines.items)) }
+{
+    let places = deadlines_at(cases, case);
+    let rows = rows_at(alloc, tables.deadlines.as_slice(), places)?;
+    let acts = tables.acts.as_slice();
+    let places = case_acts_at(cases, case);
+    let lists = places_by_deadline(alloc, acts, places, rows.len() + 1)?;
+    deadlines_of(alloc, rows.as_slice(), acts, lists.as_slice(), case)
 }
 
 /// What the rows of the calendar enter.
@@ -138,25 +147,24 @@ fn items_for(
 }
 
 /// The case of a number.
-fn case_of(alloc: Global, tables: &Vectors, number: u32) -> Result<Option<CaseView>, AllocError>
-    requires { AreSmall tables.now }
+fn case_of(
+    alloc: Global,
+    tables: &Vectors,
+    cases: &[CasePlaces],
+    number: u32,
+) -> Result<Option<CaseView>, AllocError>
+    requires small { AreSmall tables.now }
+    requires told { TellsCase number (lists_of tables.now) (places_of_case cases.now number) }
     ensures { IfOk result (λ case. case ≡ case_in (lists_of tables.now) number) }
 {
     if number < 1 || tables.cases.len() < number as usize {
         return Ok(None);
     }
-    let deadlines = deadlines_of(
-        alloc,
-        tables.deadlines.as_slice(),
-        tables.acts.as_slice(),
-        number,
-    )?;
-    let parties = count_parties(tables.parties.as_slice(), number);
-    let entries = count_entries(tables.entries.as_slice(), number);
+    let deadlines = deadlines_in(alloc, tables, cases, number)?;
     Ok(Some(CaseView {
         number,
-        parties: parties as u32,
-        entries: entries as u32,
+        parties: parties_at(cases, number).len() as u32,
+        entries: entries_at(cases, number).len() as u32,
         deadlines: Deadlines::new(deadlines),
     }))
 }
@@ -164,13 +172,15 @@ fn case_of(alloc: Global, tables: &Vectors, number: u32) -> Result<Option<CaseVi
 fn case_for(
     alloc: Global,
     tables: &Vectors,
+    index: &Index,
     action: &Action,
 ) -> Result<Option<CaseView>, AllocError>
-    requires { AreSmall tables.now }
+    requires small { AreSmall tables.now }
+    requires index { IsIndex (lists_of tables.now) index.now }
     ensures { IfOk result (λ case. case ≡ option_and_then (case_in (lists_of tables.now)) (case_named action.now)) }
 {
     match case_named(action) {
-        Some(number) => case_of(alloc, tables, number),
+        Some(number) => case_of(alloc, tables, index.cases.as_slice(), number),
         None => Ok(None),
     }
 }
@@ -179,17 +189,19 @@ fn case_for(
 pub(crate) fn view_of(
     alloc: Global,
     tables: &Vectors,
+    index: &Index,
     command: &Command,
 ) -> Result<View, AllocError>
-    requires { AreSmall tables.now }
+    requires small { AreSmall tables.now }
+    requires index { IsIndex (lists_of tables.now) index.now }
     ensures { IfOk result (λ view. view ≡ view_in (lists_of tables.now) command.now) }
 {
     let action = &command.action;
     Ok(View {
-        kept: kept(tables.receipts.as_slice(), command),
+        kept: kept(tables.receipts.as_slice(), &index.keys, command),
         cases: tables.cases.len() as u32,
-        label_taken: is_label_taken(tables.cases.as_slice(), action),
-        case: case_for(alloc, tables, action)?,
+        label_taken: is_label_taken(tables.cases.as_slice(), &index.labels, action),
+        case: case_for(alloc, tables, index, action)?,
         row_stands: is_row_standing(tables.calendar.as_slice(), action),
         calendar: items_for(alloc, tables.calendar.as_slice(), action)?,
         next_row: tables.next_row,

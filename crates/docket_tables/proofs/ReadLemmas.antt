@@ -1,5 +1,5 @@
 -- Rows that were read, one after another.
-use Rattle.std.proofs.Common.{◌≡◌, ◌∙◌, ◌+◌, ◌<◌, ◌==◌, ◌||◌, ◌⊎◌, inl, inr, ℕ, zero, suc, nat_lt, List, [], ◌∷◌, map, filter, find, length, slice_get, Bool, true, false, cond, Some, None, refl, sym, ap, subst, arith, Result, Ok, Err}
+use Rattle.std.proofs.Common.{◌≡◌, ◌∙◌, ◌+◌, ◌<◌, ◌==◌, ◌||◌, ◌⊎◌, inl, inr, ℕ, zero, suc, nat_lt, List, [], ◌∷◌, map, filter, find, length, slice_get, Bool, true, false, cond, Some, None, refl, sym, ap, subst, arith, Result, Ok, Err, IsErrAnd}
 use Rattle.std.specs.List.{list_any}
 use Rattle.std.proofs.lemmas.Bool.Decides.{nat_tests}
 use Rattle.sqlite.specs.Store.{Ghosts}
@@ -7,7 +7,7 @@ use Rattle.sqlite.specs.State.{HasCleanDisk}
 use Rattle.sqlite.specs.Held.{Held, state}
 use Rattle.docket_tables.specs.Layouts.{Rows}
 use Rattle.docket_tables.specs.Orderly.{RunsFrom}
-use Rattle.docket_tables.specs.Readings.{IsReadAs, Gives}
+use Rattle.docket_tables.specs.Readings.{IsReadAs, Fails, Gives}
 use Rattle.docket_tables.specs.Stands.{HoldsRows}
 use Rattle.docket_tables.specs.declared.fault.ReadFault.{ReadFault}
 use Rattle.docket_tables.specs.declared.fault.ReadFault.TheVariants.{Store, NoMemory, Damaged}
@@ -19,6 +19,28 @@ gives g new rows answer (Ok x) holds read = (holds, read)
 gives g new rows answer (Err (Store e)) holds read = (holds.0, λ clean. record { images = (holds.1 clean).images; settled = λ _. holds.1 clean })
 gives g new rows answer (Err NoMemory) holds read = holds
 gives g new rows answer (Err Damaged) holds read = read
+
+-- a failure of one question is a failure of the whole
+pub err_given : {S : Type 0} (g : Ghosts S) {X : Type 0} (new : Held S) (rows : Rows) (Q : X → Type 0) (e : ReadFault) (res : Result X ReadFault) → IsErrAnd res (λ f. f ≡ e)
+    → Fails g new rows e → Gives g new rows Q res
+err_given g new rows Q e (Ok x) same fails = absurd same
+err_given g new rows Q e (Err f) same fails = subst (Fails g new rows) (sym same) fails
+
+-- want of memory, where the rows are held
+pub short_given : {S : Type 0} (g : Ghosts S) {X : Type 0} (new : Held S) (rows : Rows) (Q : X → Type 0) (res : Result X ReadFault) → IsErrAnd res (λ f. f ≡ NoMemory)
+    → HoldsRows g new rows → Gives g new rows Q res
+short_given g new rows Q (Ok x) same holds = absurd same
+short_given g new rows Q (Err f) same holds = subst (Fails g new rows) (sym same) holds
+
+-- the answer in other words
+pub gives_weaker : {S : Type 0} (g : Ghosts S) {X : Type 0} (new : Held S) (rows : Rows) (P Q : X → Type 0) (res : Result X ReadFault) → ((x : X) → P x → Q x) → Gives g new rows P res → Gives g new rows Q res
+gives_weaker g new rows P Q (Ok x) f h = (h.0, λ clean. f x (h.1 clean))
+gives_weaker g new rows P Q (Err e) f h = h
+
+-- the same where the disk is clean
+pub gives_clean : {S : Type 0} (g : Ghosts S) {X : Type 0} (new : Held S) (rows : Rows) (P Q : X → Type 0) (res : Result X ReadFault) → (HasCleanDisk (state g new) → (x : X) → P x → Q x) → Gives g new rows P res → Gives g new rows Q res
+gives_clean g new rows P Q (Ok x) f h = (h.0, λ clean. f clean x (h.1 clean))
+gives_clean g new rows P Q (Err e) f h = h
 
 pub read_ok : {X : Type 0} (answer : X → Type 0) (result : Result X ReadFault) (x : X) → result ≡ Ok x → answer x → IsReadAs answer result
 read_ok answer result x is holds = subst (IsReadAs answer) (sym is) holds

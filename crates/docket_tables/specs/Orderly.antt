@@ -1,5 +1,5 @@
 -- Tables in which a docket's rows are numbered, and hold what their types hold.
-use Rattle.std.specs.Prelude.{◌≡◌, ℕ, suc, ◌<◌, ◌≤◌, ◌==◌, ◌&&◌, List, [], ◌∷◌, map, filter, length, bytes_eq}
+use Rattle.std.specs.Prelude.{◌≡◌, ℕ, suc, ◌<◌, ◌≤◌, ◌==◌, ◌&&◌, List, [], ◌∷◌, map, filter, length, bytes_eq, IsUtf8}
 use Rattle.std.specs.List.{AllByRecursion}
 use Rattle.court_days.specs.Court.{CourtSettings}
 use Rattle.docket_core.specs.Histories.{parties_of_case, entries_of_case, deadlines_of_case}
@@ -7,6 +7,10 @@ use Rattle.docket_core.specs.Tables.{Tables}
 use Rattle.docket_core.specs.declared.row.ActRow.{ActRow}
 use Rattle.docket_core.specs.declared.row.Receipt.{Receipt}
 use Rattle.docket_columns.specs.Fits.{IsCourtRow, IsCalendarRow, IsCaseRow, IsPartyRow, IsEntryRow, IsDeadlineRow, IsActRow, IsReceipt}
+
+-- what the types hold of a court
+abbrev pub IsCourtSettings : CourtSettings → Type 0
+IsCourtSettings court = IsUtf8 court.zone_text × (court.close_minute < 1440)
 
 -- each number is below those after it
 abbrev pub Rises : List ℕ → Type 0

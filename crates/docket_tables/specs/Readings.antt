@@ -19,12 +19,16 @@ IsReadAs answer (Err NoMemory) = Unit {0}
 IsReadAs answer (Err _) = ⊥
 
 module _ {S : Type 0} (g : Ghosts S) where
-  -- the answer, and the connection holds the rows still; on a failure of the store it may be shut
+  -- what a failure leaves: the connection holds the rows still, but where the store failed it may be shut
+  abbrev pub Fails : Held S → Rows → ReadFault → Type 0
+  Fails new rows (Store e) = Lasts g new rows
+  Fails new rows NoMemory = HoldsRows g new rows
+  Fails new rows Damaged = HasCleanDisk (state g new) → ⊥
+
+  -- the answer, and the connection holds the rows still
   abbrev pub Gives : {X : Type 0} → Held S → Rows → (X → Type 0) → Result X ReadFault → Type 0
   Gives new rows answer (Ok x) = HoldsRows g new rows × (HasCleanDisk (state g new) → answer x)
-  Gives new rows answer (Err (Store e)) = Lasts g new rows
-  Gives new rows answer (Err NoMemory) = HoldsRows g new rows
-  Gives new rows answer (Err Damaged) = HasCleanDisk (state g new) → ⊥
+  Gives new rows answer (Err fault) = Fails new rows fault
 
   -- of a connection that holds a docket's tables
   abbrev pub Reads : {X : Type 0} → Held S → Held S → Result X ReadFault → (CourtSettings → Tables → X → Type 0) → Type 0

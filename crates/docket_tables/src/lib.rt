@@ -1,8 +1,14 @@
-//! The tables of the docket in one SQLite database: their schema, the statements, and rows in them.
+//! The tables of a docket in one SQLite database.
+//!
+//! `make` makes them, `view` and the questions read them, and `write` makes the changes of a command:
+//! each write is one transaction. Every call works over any store of `sqlite`. A contract sees a
+//! connection as the rows that it holds, and that each database holds which a power failure may leave
+//! (`HoldsRows`).
 #![tactic(auto)]
 
 mod creation;
 mod fault;
+mod laws;
 mod probe;
 mod query;
 mod reading;
@@ -12,10 +18,12 @@ mod store;
 mod table;
 #[cfg(test)]
 mod tests;
+mod viewing;
 mod writing;
 
 pub use creation::make;
 pub use fault::{ReadFault, StoreFault};
+pub use laws::dockets_are_orderly;
 pub use probe::fault_of;
 pub use query::Query;
 pub use reading::{
@@ -23,4 +31,5 @@ pub use reading::{
     is_label_taken, is_row_standing, kept, parties,
 };
 pub use table::Table;
+pub use viewing::view;
 pub use writing::write;

@@ -2,4 +2,5 @@
 
 mod count;
 mod ends;
+mod run;
 mod words;

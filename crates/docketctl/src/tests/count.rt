@@ -249,6 +249,7 @@ fn failing_writes(rt: HostRuntime) -> Result<(), Fail> {
             taken: Vec::new(rt.alloc()),
             size: 2,
             good_writes,
+            fails: good_writes % 2 == 0,
         };
         let end = count_run(rt.alloc(), &mut reader, &mut writer);
         let failed = matches!(end, Err(RunFault::WriteFailed));

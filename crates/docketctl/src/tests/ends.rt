@@ -24,18 +24,23 @@ impl Read for Pieces<'_> {
     }
 }
 
-/// Takes at most `size` bytes a write, and after so many writes none.
+/// Takes at most `size` bytes a write. After so many writes it fails, or takes nothing.
 #[derive(Drop)]
 pub struct Taker {
     pub taken: Vec<u8>,
     pub size: usize,
     pub good_writes: u32,
+    pub fails: bool,
 }
 
 impl Write for Taker {
     fn write(&mut self, buf: &[u8]) -> io::Result<usize> {
         if self.good_writes == 0 {
-            return Ok(0);
+            return if self.fails {
+                Err(ErrorKind::Other.into())
+            } else {
+                Ok(0)
+            };
         }
         self.good_writes -= 1;
         let count = self.size.min(buf.len());

@@ -1,5 +1,6 @@
-use Rattle.std.proofs.Common.{◌≡◌, ◌+◌, ◌<◌, ◌∷◌, length, ap, ◌∙◌, subst, arith, ℕ}
-use Rattle.docket_core.specs.Tables.{all_changed}
+use Rattle.std.proofs.Common.{◌≡◌, ◌+◌, ◌<◌, ◌∷◌, length, sym, ap, ◌∙◌, subst, arith, ℕ}
+use Rattle.docket_core.specs.Tables.{Tables, all_changed}
+use Rattle.docket_plain.specs.CasePlaces.{listed, TellsCase, HasRoomFor}
 use Rattle.docket_plain.specs.Vectors.{lists_of, HasRoom}
 use Rattle.docket_plain.proofs.Firsts.{first_and_rest}
 use Rattle.docket_plain.proofs.vectors.change_all.Goals as goal
@@ -13,5 +14,7 @@ loop-changes-preserved c =
     record {
       next_row = let b = c.change.ensures.next_row in let a = c.loop-changes.invariant.next_row in omega arith;
       room = c.change.ensures.room (length rest) (subst (λ (n : ℕ). HasRoom n c.loop-changes.tables) count c.loop-changes.invariant.room);
+      places = c.note.ensures.room (length rest) (subst (λ (n : ℕ). HasRoomFor n c.loop-changes.places) count c.loop-changes.invariant.places);
+      told = subst (λ (t : Tables). TellsCase c.args.case t (listed c.note.new.self)) (sym c.change.ensures.lists) c.note.ensures.told;
       rest = ap (all_changed rest) c.change.ensures.lists ∙ ap (λ xs. all_changed xs (lists_of c.loop-changes.tables)) parts ∙ c.loop-changes.invariant.rest;
     }

@@ -1,7 +1,7 @@
 use Rattle.std.proofs.Common.{◌≡◌, ◌∙◌, ◌<◌, ◌++◌, [], ◌∷◌, length, get_or, sym, ap₂, arith, rules}
 use Rattle.docket_columns.specs.Cells.{deadline_cells}
 use Rattle.docket_columns.specs.Fits.{IsDeadlineRow}
-use Rattle.docket_columns.proofs.RowLemmas.{row_of}
+use Rattle.docket_tables.proofs.RowLemmas.{row_of}
 use Rattle.docket_tables.proofs.rows.deadlines_in.Goals as goal
 
 pub returns-in_default : goal.returns-in_default

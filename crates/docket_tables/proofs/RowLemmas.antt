@@ -2,7 +2,7 @@
 use Rattle.std.proofs.Common.{◌≡◌, ◌∙◌, ◌+◌, ◌<◌, ℕ, zero, suc, List, [], ◌∷◌, ◌++◌, map, length, take, get_or, refl, sym, ap, arith}
 use Rattle.std.specs.List.{AllByRecursion}
 use Rattle.std.proofs.lemmas.List.{take_more, length-map}
-use Rattle.sqlite_value.specs.Order.{Row}
+use Rattle.sqlite.specs.Order.{Row}
 
 module _ {X : Type 0} (cells : X → Row) (Is : X → Type 0) where
   -- the row is that of an element

@@ -1,0 +1,195 @@
+//! What a docket's tables show about a command.
+ghost use Rattle.std.specs.Prelude.{◌≡◌, ◌≤◌, false, if◌then◌else◌, ◌&&◌, nat_le, [], IfOk};
+ghost use Rattle.std.specs.Option.{option_and_then};
+ghost use Rattle.sqlite.specs.Held.{state};
+ghost use Rattle.sqlite.specs.View.{doubt};
+ghost use Rattle.docket_core.specs.Actions.{case_named, asks_calendar};
+ghost use Rattle.docket_core.specs.Histories.{deadlines_of_case, deadlines_from, items_of};
+ghost use Rattle.docket_core.specs.Outcomes.{is_label_taken, is_row_standing};
+ghost use Rattle.docket_core.specs.Tables.{case_in, view_in};
+ghost use Rattle.docket_wire.specs.Valid.{IsCommand};
+ghost use Rattle.docket_wire.specs.Writing.{canonical};
+ghost use Rattle.docket_tables.specs.Readings.{Reads, IsReadAs};
+
+use crate::fault::ReadFault;
+use crate::reading::{
+    acts, calendar, cases, count_entries, count_parties, court, deadlines, is_label_taken,
+    is_row_standing, kept,
+};
+use docket_command::{Action, Command};
+use docket_core::{
+    Acts, CalendarItem, CalendarItems, CalendarRow, CaseView, DeadlineRow, DeadlineView, Deadlines,
+    View, asks_calendar, case_named,
+};
+use sqlite::{Alter, Connection};
+use std::alloc::{AllocError, Global};
+
+fn is_asked_label_taken<S: Alter>(
+    conn: &mut Connection<S>,
+    action: &Action,
+) -> Result<bool, ReadFault>
+    ensures read { Reads S.Store conn.old conn.new result (λ _ t found. found ≡ is_label_taken action.now t.cases) }
+    ensures clean { doubt (state S.Store conn.old).is_clean ≤ doubt (state S.Store conn.new).is_clean }
+    ensures mode { conn.old.in_transaction ≡ false → conn.new.in_transaction ≡ false }
+{
+    match action {
+        Action::OpenCase(a) => is_label_taken(conn, a.label.as_str()),
+        _ => Ok(false),
+    }
+}
+
+fn is_asked_row_standing<S: Alter>(
+    conn: &mut Connection<S>,
+    action: &Action,
+) -> Result<bool, ReadFault>
+    ensures read { Reads S.Store conn.old conn.new result (λ _ t found. found ≡ is_row_standing action.now t.calendar) }
+    ensures clean { doubt (state S.Store conn.old).is_clean ≤ doubt (state S.Store conn.new).is_clean }
+    ensures mode { conn.old.in_transaction ≡ false → conn.new.in_transaction ≡ false }
+{
+    match action {
+        Action::WithdrawCalendar(a) => is_row_standing(conn, a.row),
+        _ => Ok(false),
+    }
+}
+
+fn items_of(alloc: Global, rows: &[CalendarRow]) -> Result<Vec<CalendarItem>, AllocError>
+    ensures { IfOk result (λ items. items.items ≡ items_of rows.now) }
+{
+    let mut items = Vec::new(alloc);
+    for row in rows {
+        items.push(row.item)?;
+    }
+    Ok(items)
+}
+
+fn calendar_asked<S: Alter>(
+    conn: &mut Connection<S>,
+    alloc: Global,
+    action: &Action,
+) -> Result<CalendarItems, ReadFault>
+    ensures read { Reads S.Store conn.old conn.new result (λ _ t found. found ≡ (if asks_calendar action.now then items_of t.calendar else [])) }
+    ensures clean { doubt (state S.Store conn.old).is_clean ≤ doubt (state S.Store conn.new).is_clean }
+    ensures mode { conn.old.in_transaction ≡ false → conn.new.in_transaction ≡ false }
+{
+    if asks_calendar(action) {
+        let rows = calendar(conn, alloc)?;
+        return Ok(CalendarItems::new(items_of(alloc, rows.as_slice())?));
+    }
+    Ok(CalendarItems::new(Vec::new(alloc)))
+}
+
+/// These deadlines of a case, each with its acts.
+fn with_acts<S: Alter>(
+    conn: &mut Connection<S>,
+    alloc: Global,
+    case: u32,
+    rows: &[DeadlineRow],
+) -> Result<Vec<DeadlineView>, ReadFault>
+    ensures read { Reads S.Store conn.old conn.new result (λ _ t found. rows.now ≡ deadlines_of_case case t.deadlines → found.items ≡ deadlines_from case 1 t.acts rows.now) }
+    ensures clean { doubt (state S.Store conn.old).is_clean ≤ doubt (state S.Store conn.new).is_clean }
+    ensures mode { conn.old.in_transaction ≡ false → conn.new.in_transaction ≡ false }
+{
+    let mut found = Vec::new(alloc);
+    for row in rows {
+        let list = acts(conn, alloc, case, row.number)?;
+        found.push(DeadlineView {
+            party: row.party,
+            rule: row.rule,
+            initial: row.initial,
+            acts: Acts::new(list),
+        })?;
+    }
+    Ok(found)
+}
+
+/// The deadlines of a case, each with its acts.
+fn deadline_views<S: Alter>(
+    conn: &mut Connection<S>,
+    alloc: Global,
+    case: u32,
+) -> Result<Vec<DeadlineView>, ReadFault>
+    ensures read { Reads S.Store conn.old conn.new result (λ _ t found. found.items ≡ deadlines_from case 1 t.acts (deadlines_of_case case t.deadlines)) }
+    ensures clean { doubt (state S.Store conn.old).is_clean ≤ doubt (state S.Store conn.new).is_clean }
+    ensures mode { conn.old.in_transaction ≡ false → conn.new.in_transaction ≡ false }
+{
+    let rows = deadlines(conn, alloc, case)?;
+    with_acts(conn, alloc, case, rows.as_slice())
+}
+
+fn is_among(number: u32, count: u32) -> bool
+    ensures { result ≡ (nat_le 1 number && nat_le number count) }
+{
+    1 <= number && number <= count
+}
+
+/// The case of a number, if there is one.
+fn case_view<S: Alter>(
+    conn: &mut Connection<S>,
+    alloc: Global,
+    number: u32,
+) -> Result<Option<CaseView>, ReadFault>
+    ensures read { Reads S.Store conn.old conn.new result (λ _ t found. found ≡ case_in t number) }
+    ensures clean { doubt (state S.Store conn.old).is_clean ≤ doubt (state S.Store conn.new).is_clean }
+    ensures mode { conn.old.in_transaction ≡ false → conn.new.in_transaction ≡ false }
+{
+    let count = cases(conn)?;
+    if !is_among(number, count) {
+        return Ok(None);
+    }
+    let parties = count_parties(conn, number)?;
+    let entries = count_entries(conn, number)?;
+    let deadlines = deadline_views(conn, alloc, number)?;
+    Ok(Some(CaseView {
+        number,
+        parties,
+        entries,
+        deadlines: Deadlines::new(deadlines),
+    }))
+}
+
+fn case_asked<S: Alter>(
+    conn: &mut Connection<S>,
+    alloc: Global,
+    action: &Action,
+) -> Result<Option<CaseView>, ReadFault>
+    ensures read { Reads S.Store conn.old conn.new result (λ _ t found. found ≡ option_and_then (case_in t) (case_named action.now)) }
+    ensures clean { doubt (state S.Store conn.old).is_clean ≤ doubt (state S.Store conn.new).is_clean }
+    ensures mode { conn.old.in_transaction ≡ false → conn.new.in_transaction ≡ false }
+{
+    match case_named(action) {
+        Some(number) => case_view(conn, alloc, number),
+        None => Ok(None),
+    }
+}
+
+/// What a docket's tables show about a command. `body` is the canonical text of the command.
+pub fn view<S: Alter>(
+    conn: &mut Connection<S>,
+    alloc: Global,
+    command: &Command,
+    body: &str,
+) -> Result<View, ReadFault>
+    requires body { body.now ≡ canonical command.now }
+    requires lawful { IsCommand command.now }
+    ensures read { Reads S.Store conn.old conn.new result (λ _ t found. found ≡ view_in t command.now) }
+    ensures clean { doubt (state S.Store conn.old).is_clean ≤ doubt (state S.Store conn.new).is_clean }
+    ensures mode { conn.old.in_transaction ≡ false → conn.new.in_transaction ≡ false }
+{
+    let action = &command.action;
+    let kept = kept(conn, command, body)?;
+    let cases = cases(conn)?;
+    let label_taken = is_asked_label_taken(conn, action)?;
+    let case = case_asked(conn, alloc, action)?;
+    let row_stands = is_asked_row_standing(conn, action)?;
+    let calendar = calendar_asked(conn, alloc, action)?;
+    let court = court(conn, alloc)?;
+    Ok(View {
+        kept,
+        cases,
+        label_taken,
+        case,
+        row_stands,
+        calendar,
+        next_row: court.next_row,
+    })
+}
