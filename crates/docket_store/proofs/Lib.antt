@@ -1,1 +1,2 @@
+mod ApplyLemmas
 mod SoundLemmas

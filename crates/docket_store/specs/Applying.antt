@@ -11,7 +11,9 @@ use Rattle.docket_core.specs.Decisions.{IsAnswer, LeadsTo}
 use Rattle.docket_core.specs.Histories.{History}
 use Rattle.docket_core.specs.Outcomes.{IsHistory, shown, outcome, after, repeated, refused, accepted}
 use Rattle.docket_core.specs.Tables.{rows_of}
+use Rattle.docket_core.specs.declared.decision.Changes.{Changes}
 use Rattle.docket_core.specs.declared.decision.Decision.{Decision}
+use Rattle.docket_core.specs.declared.decision.Decision.TheVariants.{Change}
 use Rattle.docket_core.specs.declared.view.View.{View}
 use Rattle.docket_wire.specs.Valid.{IsCommand}
 use Rattle.docket_tables.specs.Contents.{rows_in}
@@ -30,6 +32,11 @@ pub record IsDocket (court : CourtSettings) (h : History) : Type 0 where
 -- the rows of a docket
 abbrev pub docket_rows : CourtSettings → History → Rows
 docket_rows court h = rows_in court (rows_of court h)
+
+-- the command is accepted, and its changes and its receipt lead to the tables with it
+abbrev pub IsAccepted : CourtSettings → History → Command → Changes → Type 0
+IsAccepted court h c changes =
+    (outcome court h c ≡ accepted changes.reply) × LeadsTo court h c (Change changes)
 
 module _ {S : Type 0} (g : Ghosts S) where
   -- the connection holds the rows of the docket, and so does each database that a power failure may leave
