@@ -14,7 +14,7 @@ mod LayoutLemmas
 mod OrderlyActions
 mod OrderlyActs
 mod OrderlyCalendar
-mod OrderlyLemmas
+pub mod OrderlyLemmas
 mod OrderlyLists
 mod OrderlyReceipts
 mod OrderlyRows

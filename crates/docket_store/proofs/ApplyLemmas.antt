@@ -1,0 +1,61 @@
+-- From what the tables' functions leave to what a command leaves.
+use Rattle.std.proofs.Common.{◌≡◌, inl, ◌∷◌, ℕ, ◌+◌, ◌<◌, ◌^◌, refl, sym, ap, subst, ◌∙◌, arith}
+use Rattle.sqlite.specs.Store.{Ghosts}
+use Rattle.sqlite.specs.State.{HasCleanDisk}
+use Rattle.sqlite.specs.Held.{Held, state}
+use Rattle.court_days.specs.Court.{CourtSettings}
+use Rattle.docket_command.specs.declared.command.Command.{Command}
+use Rattle.docket_command.specs.declared.refusal.Reply.{Reply}
+use Rattle.docket_core.specs.Decisions.{IsSoundView}
+use Rattle.docket_core.specs.Histories.{History, next_row}
+use Rattle.docket_core.specs.Outcomes.{Answer, repeated, refused, accepted, shown, outcome, after, after_answer}
+use Rattle.docket_core.specs.Tables.{rows_of, with_receipt, all_changed}
+use Rattle.docket_core.specs.declared.decision.Changes.{Changes}
+use Rattle.docket_core.specs.declared.view.View.{View}
+use Rattle.docket_core.proofs.LimitsKept.{within_limits, sound_view}
+use Rattle.docket_wire.specs.Valid.{IsCommand}
+use Rattle.docket_tables.specs.Contents.{rows_in}
+use Rattle.docket_tables.specs.Layouts.{Rows}
+use Rattle.docket_tables.specs.Orderly.{IsOrderly}
+use Rattle.docket_tables.specs.Stands.{HoldsRows, Lasts, LastsAsEither, IsSettled, IsEither}
+use Rattle.docket_tables.proofs.OrderlyLemmas.{orderly}
+use Rattle.docket_store.specs.Applying.{IsDocket, IsAccepted, docket_rows}
+
+pub docket_orderly : (court : CourtSettings) (h : History) → IsDocket court h → IsOrderly court (rows_of court h)
+docket_orderly court h is = orderly court h is.settings is.history is.commands
+
+pub shown_sound : (court : CourtSettings) (h : History) (c : Command) (v : View) → IsDocket court h → v ≡ shown court h c → IsSoundView court v
+shown_sound court h c v is seen = subst (λ (w : View). IsSoundView court w) (sym seen) (sound_view court h (within_limits court h is.history) c)
+
+-- the docket after a command
+pub docket_after : (court : CourtSettings) (h : History) (c : Command) → IsDocket court h → IsCommand c → IsDocket court (after court h c)
+docket_after court h c is lawful = at (outcome court h c) refl
+  where
+    at : (a : Answer) → outcome court h c ≡ a → IsDocket court (after_answer a h c)
+    at (repeated reply) e = is
+    at (refused r) e = is
+    at (accepted reply) e = record { settings = is.settings; history = ((reply, e), is.history); commands = (lawful, is.commands) }
+
+pub after_accepted : (court : CourtSettings) (h : History) (c : Command) (n : Reply) → outcome court h c ≡ accepted n → after court h c ≡ c ∷ h
+after_accepted court h c n e = ap (λ a. after_answer a h c) e
+
+pub after_repeated : (court : CourtSettings) (h : History) (c : Command) (n : Reply) → outcome court h c ≡ repeated n → after court h c ≡ h
+after_repeated court h c n e = ap (λ a. after_answer a h c) e
+
+pub numbers_fit : (court : CourtSettings) (h : History) (count : ℕ) → IsDocket court h → count < 2 ^ 62 → next_row h + count < 2 ^ 63
+numbers_fit court h count is few = omega (arith, (within_limits court h is.history).next_row, few)
+
+-- the rows after an accepted command
+pub rows_after : (court : CourtSettings) (h : History) (c : Command) (changes : Changes) → IsAccepted court h c changes
+    → rows_in court (with_receipt c changes.reply (all_changed changes.rows.items (rows_of court h))) ≡ docket_rows court (after court h c)
+rows_after court h c changes is = ap (rows_in court) (is.1 ∙ ap (rows_of court) (sym (after_accepted court h c changes.reply is.0)))
+
+module _ {S : Type 0} (g : Ghosts S) (conn : Held S) where
+  pub either_from_lasts : (rows next : Rows) → Lasts g conn rows → LastsAsEither g conn rows next
+  either_from_lasts rows next lasts = (lasts.0, λ clean. record { images = λ db may. inl ((lasts.1 clean).images db may); settled = (lasts.1 clean).settled })
+
+  pub holds_same : (rows next : Rows) → (HasCleanDisk (state g conn) → rows ≡ next) → HoldsRows g conn rows → HoldsRows g conn next
+  holds_same rows next same holds = (holds.0, λ clean. subst (λ (r : Rows). IsSettled (state g conn) r) (same clean) (holds.1 clean))
+
+  pub either_same : (rows one next : Rows) → (HasCleanDisk (state g conn) → one ≡ next) → LastsAsEither g conn rows one → LastsAsEither g conn rows next
+  either_same rows one next same lasts = (lasts.0, λ clean. subst (λ (r : Rows). IsEither (state g conn) rows r) (same clean) (lasts.1 clean))

@@ -1,0 +1,2 @@
+mod ApplyLemmas
+mod SoundLemmas

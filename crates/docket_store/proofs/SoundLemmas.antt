@@ -1,0 +1,98 @@
+-- What is tested of a view makes it sound, and a sound view passes.
+use Rattle.std.proofs.Common.{◌≡◌, ◌≤◌, Bool, true, false, List, [], ◌∷◌, length, refl, arith}
+use Rattle.std.specs.Prelude.{nat_lt, nat_le, ◌&&◌}
+use Rattle.std.specs.List.{All, list_all}
+use Rattle.std.proofs.lemmas.Bool.Decides.{nat_tests}
+use Rattle.std.proofs.lemmas.List.Elements.{All-nil, All-cons, All-head, All-tail}
+use Rattle.civil_time.specs.Zone.{ZoneRules}
+use Rattle.court_days.specs.Court.{CourtSettings, zone_of}
+use Rattle.court_rules.specs.Acts.{acts_ok, is_within, is_instant}
+use Rattle.court_rules.specs.Standings.{AreActs, begins_on_entered_day}
+use Rattle.court_rules.specs.declared.act.Act.{Act}
+use Rattle.court_rules.specs.declared.act.Act.TheVariants as act
+use Rattle.court_rules.specs.declared.act.Start.TheVariants as start
+use Rattle.docket_core.specs.CalendarItems.{IsEnteredItem}
+use Rattle.docket_core.specs.Decisions.{IsSoundView}
+use Rattle.docket_core.specs.Views.{deadlines_in}
+use Rattle.docket_core.specs.declared.item.CalendarItem.{CalendarItem}
+use Rattle.docket_core.specs.declared.item.CalendarItem.TheVariants.{Day, Span}
+use Rattle.docket_core.specs.declared.view.DeadlineView.{DeadlineView}
+use Rattle.docket_core.specs.declared.view.View.{View}
+use Rattle.docket_core.proofs.Passed.{left_true, right_true}
+use Rattle.docket_store.specs.Sound.{is_entered_item, begins_in_time, are_acts, are_lawful}
+
+both_true : (a b : Bool) → a ≡ true → b ≡ true → (a && b) ≡ true
+both_true true b e f = f
+both_true false b e f = absurd (cc)
+
+-- a test of each element that tells a property
+module _ {X : Type 0} (p : X → Bool) (P : X → Type 0) where
+  pub all_told : ((x : X) → p x ≡ true → P x) → (xs : List X) → list_all p xs ≡ true → All P xs
+  all_told tells [] e = All-nil P
+  all_told tells (x ∷ xs) e = All-cons P x xs (tells x (left_true (p x) (list_all p xs) e)) (all_told tells xs (right_true (p x) (list_all p xs) e))
+
+  pub all_passed : ((x : X) → P x → p x ≡ true) → (xs : List X) → All P xs → list_all p xs ≡ true
+  all_passed passes [] all = refl
+  all_passed passes (x ∷ xs) all = both_true (p x) (list_all p xs) (passes x (All-head P x xs all)) (all_passed passes xs (All-tail P x xs all))
+
+item_told : (item : CalendarItem) → is_entered_item item ≡ true → IsEnteredItem item
+item_told (Day kind day) e = grind (arith, nat_tests, left_true (nat_le 10_957 day) (nat_le day 47_481) e, right_true (nat_le 10_957 day) (nat_le day 47_481) e)
+item_told (Span start end) e =
+    let rest : (nat_lt start end && nat_le end 4_102_531_200) ≡ true = right_true (nat_le 946_598_400 start) (nat_lt start end && nat_le end 4_102_531_200) e in
+    let a : nat_le 946_598_400 start ≡ true = left_true (nat_le 946_598_400 start) (nat_lt start end && nat_le end 4_102_531_200) e in
+    let b : nat_lt start end ≡ true = left_true (nat_lt start end) (nat_le end 4_102_531_200) rest in
+    let d : nat_le end 4_102_531_200 ≡ true = right_true (nat_lt start end) (nat_le end 4_102_531_200) rest in
+    (grind (arith, nat_tests), grind (arith, nat_tests), grind (arith, nat_tests))
+
+item_passed : (item : CalendarItem) → IsEnteredItem item → is_entered_item item ≡ true
+item_passed (Day kind day) is = both_true (nat_le 10_957 day) (nat_le day 47_481) (grind (arith, nat_tests, is.0)) (grind (arith, nat_tests, is.1))
+item_passed (Span start end) is =
+    both_true (nat_le 946_598_400 start) (nat_lt start end && nat_le end 4_102_531_200) (grind (arith, nat_tests, is.0))
+    (both_true (nat_lt start end) (nat_le end 4_102_531_200) (grind (arith, nat_tests, is.1)) (grind (arith, nat_tests, is.2)))
+
+module _ (zone : ZoneRules) where
+  begin_told : (acts : List Act) → list_all (begins_in_time zone) acts ≡ true → list_all (begins_on_entered_day zone) acts ≡ true
+  begin_told [] e = refl
+  begin_told (a ∷ acts) e =
+      both_true (begins_on_entered_day zone a) (list_all (begins_on_entered_day zone) acts) (one a (left_true (begins_in_time zone a) (list_all (begins_in_time zone) acts) e))
+      (begin_told acts (right_true (begins_in_time zone a) (list_all (begins_in_time zone) acts) e))
+    where
+      one : (b : Act) → begins_in_time zone b ≡ true → begins_on_entered_day zone b ≡ true
+      one (act.Start (start.Hours hours)) f = right_true (is_instant hours.at) _ f
+      one _ f = refl
+
+  begin_one : (b : Act) → is_within b ≡ true → begins_on_entered_day zone b ≡ true → begins_in_time zone b ≡ true
+  begin_one (act.Start (start.Hours hours)) w f = both_true (is_instant hours.at) _ (left_true (is_instant hours.at) _ w) f
+  begin_one _ w f = refl
+
+  begin_passed : (acts : List Act) → list_all is_within acts ≡ true → list_all (begins_on_entered_day zone) acts ≡ true → list_all (begins_in_time zone) acts ≡ true
+  begin_passed [] w e = refl
+  begin_passed (a ∷ acts) w e =
+      both_true (begins_in_time zone a) (list_all (begins_in_time zone) acts)
+      (begin_one a (left_true (is_within a) (list_all is_within acts) w) (left_true (begins_on_entered_day zone a) (list_all (begins_on_entered_day zone) acts) e))
+      (begin_passed acts (right_true (is_within a) (list_all is_within acts) w) (right_true (begins_on_entered_day zone a) (list_all (begins_on_entered_day zone) acts) e))
+
+  all_within : (acts : List Act) → acts_ok acts ≡ true → list_all is_within acts ≡ true
+  all_within acts e =
+      let counted = nat_le 1 (length acts) && nat_le (length acts) 100 in
+      right_true counted (list_all is_within acts) (left_true (counted && list_all is_within acts) _ e)
+
+  acts_told : (d : DeadlineView) → are_acts zone d.acts ≡ true → AreActs zone d.acts
+  acts_told d e = (left_true (acts_ok d.acts) _ e, begin_told d.acts (right_true (acts_ok d.acts) _ e))
+
+  acts_passed : (d : DeadlineView) → AreActs zone d.acts → are_acts zone d.acts ≡ true
+  acts_passed d is = both_true (acts_ok d.acts) (list_all (begins_in_time zone) d.acts) is.0 (begin_passed d.acts (all_within d.acts is.0) is.1)
+
+pub sound_told : (court : CourtSettings) (v : View) → length v.calendar ≤ 4000 → v.next_row ≤ 4_294_967_296 → list_all is_entered_item v.calendar ≡ true → are_lawful (zone_of court) (deadlines_in v.case) ≡ true → IsSoundView court v
+sound_told court v few next items lawful = record {
+  items = all_told is_entered_item IsEnteredItem item_told v.calendar items;
+  rows = few;
+  next_row = next;
+  acts = all_told (λ (d : DeadlineView). are_acts (zone_of court) d.acts) (λ (d : DeadlineView). AreActs (zone_of court) d.acts) (acts_told (zone_of court)) (deadlines_in v.case) lawful;
+}
+
+pub items_passed : (court : CourtSettings) (v : View) → IsSoundView court v → list_all is_entered_item v.calendar ≡ true
+items_passed court v is = all_passed is_entered_item IsEnteredItem item_passed v.calendar is.items
+
+pub lawful_passed : (court : CourtSettings) (v : View) → IsSoundView court v → are_lawful (zone_of court) (deadlines_in v.case) ≡ true
+lawful_passed court v is = all_passed (λ (d : DeadlineView). are_acts (zone_of court) d.acts) (λ (d : DeadlineView). AreActs (zone_of court) d.acts) (acts_passed (zone_of court)) (deadlines_in v.case) is.acts

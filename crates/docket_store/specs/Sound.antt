@@ -1,0 +1,31 @@
+-- What is tested of a view that was read from a database.
+use Rattle.std.specs.Prelude.{nat_le, nat_lt, ◌&&◌, Bool, true, List}
+use Rattle.std.specs.List.{list_all}
+use Rattle.civil_time.specs.LocalTime.{local_day, seconds}
+use Rattle.civil_time.specs.Zone.{ZoneRules}
+use Rattle.court_rules.specs.Acts.{acts_ok, is_entered_day, is_instant}
+use Rattle.court_rules.specs.declared.act.Act.{Act}
+use Rattle.court_rules.specs.declared.act.Act.TheVariants as act
+use Rattle.court_rules.specs.declared.act.Start.TheVariants as start
+use Rattle.docket_core.specs.declared.item.CalendarItem.{CalendarItem}
+use Rattle.docket_core.specs.declared.item.CalendarItem.TheVariants.{Day, Span}
+use Rattle.docket_core.specs.declared.view.DeadlineView.{DeadlineView}
+
+-- a court may enter the item
+abbrev pub is_entered_item : CalendarItem → Bool
+is_entered_item (Day kind day) = is_entered_day day
+is_entered_item (Span start end) = nat_le 946_598_400 start && (nat_lt start end && nat_le end 4_102_531_200)
+
+-- a period of hours begins at an instant that has a local day, and a court may enter that day
+abbrev pub begins_in_time : ZoneRules → Act → Bool
+begins_in_time zone (act.Start (start.Hours hours)) =
+    is_instant hours.at && is_entered_day (local_day zone (seconds hours.at))
+begins_in_time zone _ = true
+
+-- these may be the acts of a deadline
+abbrev pub are_acts : ZoneRules → List Act → Bool
+are_acts zone acts = acts_ok acts && list_all (begins_in_time zone) acts
+
+-- each deadline has lawful acts
+abbrev pub are_lawful : ZoneRules → List DeadlineView → Bool
+are_lawful zone all = list_all (λ d. are_acts zone d.acts) all

@@ -1,0 +1,10 @@
+//! One command in one transaction: what a power failure leaves of the database is a docket.
+#![tactic(auto)]
+
+mod applying;
+mod fault;
+mod judging;
+mod sound;
+
+pub use applying::apply;
+pub use fault::ApplyFault;
