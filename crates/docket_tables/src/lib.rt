@@ -16,8 +16,6 @@ mod rows;
 mod statement;
 mod store;
 mod table;
-#[cfg(test)]
-mod tests;
 mod viewing;
 mod writing;
 

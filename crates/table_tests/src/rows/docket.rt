@@ -2,13 +2,13 @@
 ghost use Rattle.std.specs.Prelude.{◌≡◌, IsTrue};
 ghost use Rattle.docket_tables.specs.Schema.{no_schema};
 
-use crate::{make, write};
 use court_days::{Court, Day, DayKind, Direction, Way};
 use court_rules::{Act, DayPeriod, HourPeriod, MotionKind, Period, Rule, Start};
 use docket_command::{Action, Command, Moment, Reply, Role, Text, Vacate};
 use docket_core::{
     ActRow, CalendarItem, CalendarRow, CaseRow, Change, Changes, DeadlineRow, EntryRow, PartyRow,
 };
+use docket_tables::{make, write};
 use docket_wire::command_text;
 use sqlite::{Connection, MemStore};
 use sqlite_schema::schema::Schema;

@@ -1,6 +1,9 @@
 //! Each transaction, stopped after each number of calls of each disk until it meets no stop.
-use crate::disks::{Bytes, NO_STOP, Stop, are_stopped, bytes_of, files_of, left, open};
-use crate::docket::{Transaction, done, found};
+mod disks;
+mod docket;
+
+use self::disks::{Bytes, NO_STOP, Stop, are_stopped, bytes_of, files_of, left, open};
+use self::docket::{Transaction, done, found};
 use std::alloc::Global;
 use std::test::Fail;
 

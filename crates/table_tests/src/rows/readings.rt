@@ -1,10 +1,10 @@
 //! What the questions are answered.
 use super::docket::{Docket, acts, day, made, of_each, written};
-use crate as tables;
 use court_days::{DayKind, Direction, Way};
 use court_rules::{Act, MotionKind, Period, Rule, Start};
 use docket_command::{Action, Command, Moment, Role, Text, Vacate};
 use docket_core::{CalendarItem, Kept};
+use docket_tables as tables;
 use docket_wire::command_text;
 use std::alloc::Global;
 use std::test::Fail;
