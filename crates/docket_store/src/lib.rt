@@ -5,6 +5,8 @@ mod applying;
 mod fault;
 mod judging;
 mod sound;
+#[cfg(test)]
+mod tests;
 
 pub use applying::apply;
 pub use fault::ApplyFault;
