@@ -1,7 +1,5 @@
 //! What is done with a command, by the docket that the tables hold.
-ghost use Rattle.std.specs.Prelude.{◌≡◌, ◌≤◌, false};
-ghost use Rattle.sqlite.specs.Held.{state};
-ghost use Rattle.sqlite.specs.View.{doubt};
+ghost use Rattle.std.specs.Prelude.{◌≡◌, false};
 ghost use Rattle.court_days.specs.Court.{CourtSettings};
 ghost use Rattle.docket_core.specs.Histories.{History};
 ghost use Rattle.docket_wire.specs.Valid.{IsCommand};
