@@ -30,7 +30,7 @@ use Rattle.docket_tables.specs.declared.query.Query.{Query}
 use Rattle.docket_tables.proofs.CellLemmas.{short_permutation}
 use Rattle.docket_tables.proofs.HoldsLemmas.{equal_int}
 
-same_number : (m n : ℕ) → is_eq (int_cmp (pos m) (pos n)) ≡ (m == n)
+pub same_number : (m n : ℕ) → is_eq (int_cmp (pos m) (pos n)) ≡ (m == n)
 same_number m n = grind (arith, ints, nat_tests)
 
 pub equal_number : (m n : ℕ) → equal Binary (Int (pos m)) (Int (pos n)) ≡ (m == n)

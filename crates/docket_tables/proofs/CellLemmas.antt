@@ -29,7 +29,7 @@ pub cast_int : (n : ℤ) → cast Integer (Int n) ≡ Int n
 unfolding unary
 cast_int n = same_either _ (Int n)
 
-truth_back : (b : Bool) → is_true (from_truth (Some b)) ≡ b
+pub truth_back : (b : Bool) → is_true (from_truth (Some b)) ≡ b
 truth_back true = refl
 truth_back false = refl
 

@@ -1,9 +1,7 @@
 -- What each change makes of the rows of a docket.
-use Rattle.std.proofs.Common.{◌≡◌, ◌∙◌, ◌==◌, ◌+◌, ℕ, pos, List, [], ◌∷◌, map, filter, not, is_eq, int_cmp, refl, sym, ap, subst, arith, Result, OnOk}
+use Rattle.std.proofs.Common.{◌≡◌, ◌∙◌, ◌==◌, ◌+◌, ℕ, pos, List, [], ◌∷◌, map, filter, not, refl, sym, ap, subst, Result, OnOk}
 use Rattle.std.specs.List.{AllByRecursion}
 use Rattle.std.proofs.lemmas.Result.{IfOk-weaker}
-use Rattle.std.proofs.lemmas.Bool.Decides.{nat_tests}
-use Rattle.std.proofs.lemmas.Int.{ints}
 use Rattle.std.proofs.lemmas.List.{map-append}
 use Rattle.sqlite_trees.proofs.ListLemmas.{filter-map, filter_same, all_of}
 use Rattle.sqlite.specs.Order.{Row}
@@ -29,6 +27,7 @@ use Rattle.docket_tables.specs.Creation.{no_rows}
 use Rattle.docket_tables.specs.Holds.{Holds, IsKeyed, without_number}
 use Rattle.docket_tables.specs.Layouts.{Rows, Fits, tree_of, places_of, with_rows, with_row}
 use Rattle.docket_tables.specs.Stands.{Sees}
+use Rattle.docket_tables.proofs.AnswerLemmas.{same_number}
 use Rattle.docket_tables.proofs.HoldsLemmas.{keyed_as}
 
 -- the same rows in other words
@@ -121,13 +120,10 @@ module _ (court : CourtSettings) (t : Tables) where
   calendar_added row Acts = refl
   calendar_added row Receipts = refl
 
-  same_number : (n m : ℕ) → is_eq (int_cmp (pos m) (pos n)) ≡ (m == n)
-  same_number n m = grind (arith, ints, nat_tests)
-
   kept_rows : (n : ℕ) (rows : List CalendarRow) → without_number n (map calendar_cells rows) ≡ map calendar_cells (filter (λ row. not (row.number == n)) rows)
   kept_rows n rows =
       filter-map _ calendar_cells rows
-      ∙ ap (map calendar_cells) (filter_same _ _ rows (all_of _ (λ row. ap not (keyed_as (pos n) (pos row.number) (calendar_cells row) refl ∙ same_number n row.number)) rows))
+      ∙ ap (map calendar_cells) (filter_same _ _ rows (all_of _ (λ row. ap not (keyed_as (pos n) (pos row.number) (calendar_cells row) refl ∙ same_number row.number n)) rows))
 
   pub calendar_removed : (n : ℕ) → (table : Table) → with_rows Calendar (without_number n (map calendar_cells t.calendar)) (rows_in court t) table ≡ rows_in court (changed (RemoveCalendar n) t) table
   calendar_removed n Court = refl

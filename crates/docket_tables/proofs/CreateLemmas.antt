@@ -20,6 +20,7 @@ use Rattle.docket_tables.specs.Holds.{cells, Holds}
 use Rattle.docket_tables.specs.Stands.{Sees}
 use Rattle.docket_tables.specs.Layouts.{AreRows, tree_of, places_of}
 use Rattle.docket_tables.specs.declared.table.Table.TheVariants.{Court, Calendar, Cases, Parties, Entries, Deadlines, Acts, Receipts}
+use Rattle.docket_tables.proofs.HoldsLemmas.{all_both}
 use Rattle.docket_tables.proofs.InsertLemmas.{went, same_value}
 
 -- what the text means where so many tables stand
@@ -78,10 +79,6 @@ defines (suc (suc (suc (suc (suc (suc zero)))))) sql is = subst (Defines 6) (sam
 defines (suc (suc (suc (suc (suc (suc (suc zero))))))) sql is = subst (Defines 7) (same_some is) receipt_defines
 defines (suc (suc (suc (suc (suc (suc (suc (suc n)))))))) sql is = absurd (let no = is in cc)
 
-all_then : {X : Type 0} (P Q R : X → Type 0) → ((x : X) → P x → Q x → R x) → (xs : List X) → AllByRecursion P xs → AllByRecursion Q xs → AllByRecursion R xs
-all_then P Q R f [] p q = tt
-all_then P Q R f (x ∷ xs) p q = (f x p.0 q.0, all_then P Q R f xs p.1 q.1)
-
 all_snoc : {X : Type 0} (P : X → Type 0) (xs : List X) (x : X) → AllByRecursion P xs → P x → AllByRecursion P (xs ++ x ∷ [])
 all_snoc P [] x p q = (q, tt)
 all_snoc P (y ∷ ys) x p q = (p.0, all_snoc P ys x p.1 q)
@@ -102,7 +99,7 @@ one_more n sql old new count is was ran turns =
     let trees : new.now.trees ≡ first.0.trees = ap (λ (d : Database). d.trees) now in
     let others = subst (λ (s : Schema). AllByRecursion (λ t. first.0.trees t.tree ≡ old.now.trees t.tree) s.tables) was.schema made_one.others in
     let before : AllByRecursion (λ (t : Table). new.now.trees t.tree ≡ []) (made n).tables =
-    all_then (λ (t : Table). first.0.trees t.tree ≡ old.now.trees t.tree) (λ (t : Table). old.now.trees t.tree ≡ []) (λ (t : Table). new.now.trees t.tree ≡ []) (λ t p q. ap (λ f. f t.tree) trees ∙ p ∙ q) (made n).tables others was.empty in
+    all_both (λ (t : Table). first.0.trees t.tree ≡ old.now.trees t.tree) (λ (t : Table). old.now.trees t.tree ≡ []) (λ (t : Table). new.now.trees t.tree ≡ []) (λ t p q. ap (λ f. f t.tree) trees ∙ p ∙ q) (made n).tables others was.empty in
     let fresh : new.now.trees (next_tree (made n)) ≡ [] = ap (λ f. f (next_tree (made n))) trees ∙ subst (λ s. first.0.trees (next_tree s) ≡ []) was.schema made_one.empty in
     let added = all_snoc (λ (t : Table). new.now.trees t.tree ≡ []) (made n).tables (record text.table { tree = next_tree (made n) }) before fresh in
     record {

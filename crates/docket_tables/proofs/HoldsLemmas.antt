@@ -1,5 +1,5 @@
 -- From what DELETE does to what a table holds, where the rowid is the key.
-use Rattle.std.proofs.Common.{◌≡◌, ◌∙◌, ◌&&◌, ℕ, ℤ, List, [], ◌∷◌, map, filter, length, not, Bool, true, false, cond, Some, Ordering, Less, Equal, Greater, IsPermutation, is_eq, int_cmp, refl, sym, ap, subst, arith}
+use Rattle.std.proofs.Common.{◌≡◌, ◌∙◌, ◌&&◌, ℕ, ℤ, List, [], ◌∷◌, map, filter, length, not, Bool, true, false, cond, Ordering, Less, Equal, Greater, IsPermutation, is_eq, int_cmp, refl, sym, ap, subst, arith}
 use Rattle.std.specs.List.{AllByRecursion}
 use Rattle.std.proofs.Math.Logic.{∥∥₁_map}
 use Rattle.std.proofs.lemmas.Int.{ints}
@@ -10,7 +10,6 @@ use Rattle.sqlite_trees.proofs.ListLemmas.{filter-map, filter_all, filter_same, 
 use Rattle.sqlite_value.proofs.OrderLemmas.{value_cmp-Int}
 use Rattle.sqlite.specs.declared.types.Value.TheVariants.{Int}
 use Rattle.sqlite.specs.Order.{Row, column, value_cmp}
-use Rattle.sqlite.specs.Ops.{is_true, from_truth}
 use Rattle.sqlite.specs.Tree.{Trees}
 use Rattle.sqlite.specs.Collation.TheVariants.{Binary}
 use Rattle.sqlite_schema.specs.Rules.{equal}
@@ -19,17 +18,14 @@ use Rattle.sqlite.specs.Edit.{without_all}
 use Rattle.sqlite_rules.specs.Calls.{ids_of}
 use Rattle.sqlite_rules.specs.Edit.{id_in}
 use Rattle.docket_tables.specs.Holds.{cells, Holds, has_key, IsKeyed}
+use Rattle.docket_tables.proofs.CellLemmas.{truth_back}
 
 abbrev pub keyed_by : ℤ → Row → Bool
 keyed_by n = has_key (0 ∷ []) (Int n ∷ [])
 
-back : (b : Bool) → is_true (from_truth (Some b)) ≡ b
-back true = refl
-back false = refl
-
 pub equal_int : (m n : ℤ) → equal Binary (Int m) (Int n) ≡ is_eq (int_cmp m n)
 unfolding Rattle.sqlite_sql.specs.Ops.binary
-equal_int m n = back (is_eq (value_cmp (Int m) (Int n))) ∙ ap is_eq (value_cmp-Int m n)
+equal_int m n = truth_back (is_eq (value_cmp (Int m) (Int n))) ∙ ap is_eq (value_cmp-Int m n)
 
 pub and_yes : (b : Bool) → (b && true) ≡ b
 and_yes true = refl
@@ -46,7 +42,7 @@ same_int Less z n is e = absurd (let no = e in cc)
 same_int Equal z n is e = grind (arith, ints)
 same_int Greater z n is e = absurd (let no = e in cc)
 
-all_both : {X : Type 0} (P Q R : X → Type 0) → ((x : X) → P x → Q x → R x) → (xs : List X) → AllByRecursion P xs → AllByRecursion Q xs → AllByRecursion R xs
+pub all_both : {X : Type 0} (P Q R : X → Type 0) → ((x : X) → P x → Q x → R x) → (xs : List X) → AllByRecursion P xs → AllByRecursion Q xs → AllByRecursion R xs
 all_both P Q R f [] p q = tt
 all_both P Q R f (x ∷ xs) p q = (f x p.0 q.0, all_both P Q R f xs p.1 q.1)
 
