@@ -1,5 +1,5 @@
 //! A court: its zone, and the minute of the day at which the clerk's office closes.
-ghost use Rattle.std.specs.Prelude.{◌≡◌, ◌↔◌, ℕ, ◌-◌, ◌%◌, ◌<◌, None, Some, pos, IfOk, IsTrue, IsSome, string_bytes};
+ghost use Rattle.std.specs.Prelude.{◌≡◌, ◌↔◌, ℕ, ◌-◌, ◌%◌, ◌<◌, ◌≤◌, None, Some, pos, IfOk, IsTrue, IsSome, string_bytes};
 ghost use Rattle.std.specs.Str.{IsUtf8};
 ghost use Rattle.civil_time.specs.LocalTime.{local_day, local_minute, seconds, IsMoment};
 ghost use Rattle.civil_time.specs.MomentGrammar.{SpellsMoment, SpellsTimeOfDay};
@@ -12,6 +12,8 @@ ghost use Rattle.civil_time.specs.ZoneText.{zone_at};
 use civil_time::{Day, Zone, read_time_of_day, read_zone};
 use std::alloc::{AllocError, Global};
 use std::marker::Model;
+
+const MINUTES_OF_A_DAY: u32 = 1440;
 
 /// Why a court was not read: the first text spells no zone, the second no closing time, or memory ran
 /// out.
@@ -72,13 +74,33 @@ impl Court {
         let Some(read) = read_zone(zone.as_bytes()) else {
             return Err(CourtFault::BadZone);
         };
-        let Some(close_minute) = read_time_of_day(close.as_bytes()) else {
-            return Err(CourtFault::BadClose);
-        };
+        let close_minute = read_time_of_day(close.as_bytes()).ok_or(CourtFault::BadClose)?;
         let zone_text = String::from_str(alloc, zone)?;
         Ok(Court {
             zone: read,
             zone_text,
+            close_minute,
+        })
+    }
+
+    /// The court of a zone, as in `EST5EDT,M3.2.0,M11.1.0`, which closes at a minute of the day, from 0
+    /// to 1439.
+    pub fn closing_at(alloc: Global, zone: &str, close_minute: u32) -> Result<Court, CourtFault>
+        ensures bad_zone { (result ≡ Err CourtFault.BadZone) ↔ (zone_at zone.now ≡ None) }
+        ensures bad_close { (result ≡ Err CourtFault.BadClose)
+            ↔ (IsSome (zone_at zone.now) × (1440 ≤ close_minute)) }
+        ensures court { IfOk result (λ court. court ≡ record { zone_text = zone.now; close_minute = close_minute }) }
+    {
+        let Some(read) = read_zone(zone.as_bytes()) else {
+            return Err(CourtFault::BadZone);
+        };
+        if close_minute >= MINUTES_OF_A_DAY {
+            return Err(CourtFault::BadClose);
+        }
+        let text = String::from_str(alloc, zone)?;
+        Ok(Court {
+            zone: read,
+            zone_text: text,
             close_minute,
         })
     }
@@ -93,7 +115,8 @@ impl Court {
 
     /// The text of the zone, as it was read.
     pub fn zone_text(&self) -> &str
-        ensures { result.now ≡ self.now.zone_text }
+        ensures value { result.now ≡ self.now.zone_text }
+        ensures zone { IsSome (zone_at self.now.zone_text) }
     {
         self.zone_text.as_str()
     }
