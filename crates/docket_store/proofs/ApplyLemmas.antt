@@ -1,5 +1,5 @@
 -- From what the tables' functions leave to what a command leaves.
-use Rattle.std.proofs.Common.{◌≡◌, inl, ◌∷◌, ℕ, ◌+◌, ◌<◌, ◌^◌, refl, sym, ap, subst, ◌∙◌, arith}
+use Rattle.std.proofs.Common.{◌≡◌, inl, ◌∷◌, ℕ, ◌+◌, ◌<◌, ◌^◌, List, Option, refl, sym, ap, subst, ◌∙◌, arith}
 use Rattle.sqlite.specs.Store.{Ghosts}
 use Rattle.sqlite.specs.State.{HasCleanDisk}
 use Rattle.sqlite.specs.Held.{Held, state}
@@ -19,7 +19,11 @@ use Rattle.docket_tables.specs.Layouts.{Rows}
 use Rattle.docket_tables.specs.Orderly.{IsOrderly}
 use Rattle.docket_tables.specs.Stands.{HoldsRows, Lasts, LastsAsEither, IsSettled, IsEither}
 use Rattle.docket_tables.proofs.OrderlyLemmas.{orderly}
-use Rattle.docket_store.specs.Applying.{IsDocket, IsAccepted, docket_rows}
+use Rattle.docket_core.specs.declared.item.CalendarItem.{CalendarItem}
+use Rattle.docket_store.specs.Applying.{IsDocket, IsAccepted, docket_rows, Keeps, FailsAs, Faults}
+use Rattle.docket_store.specs.Dockets.{serving}
+use Rattle.docket_store.specs.declared.fault.Fault.{Fault}
+use Rattle.docket_store.specs.declared.fault.Fault.TheVariants.{Refused, NoMemory, StoreFailed, Closed, Damaged}
 
 pub docket_orderly : (court : CourtSettings) (h : History) → IsDocket court h → IsOrderly court (rows_of court h)
 docket_orderly court h is = orderly court h is.settings is.history is.commands
@@ -34,7 +38,7 @@ docket_after court h c is lawful = at (outcome court h c) refl
     at : (a : Answer) → outcome court h c ≡ a → IsDocket court (after_answer a h c)
     at (repeated reply) e = is
     at (refused r) e = is
-    at (accepted reply) e = record { settings = is.settings; history = ((reply, e), is.history); commands = (lawful, is.commands) }
+    at (accepted reply) e = record { settings = is.settings; zone = is.zone; history = ((reply, e), is.history); commands = (lawful, is.commands) }
 
 pub after_accepted : (court : CourtSettings) (h : History) (c : Command) (n : Reply) → outcome court h c ≡ accepted n → after court h c ≡ c ∷ h
 after_accepted court h c n e = ap (λ a. after_answer a h c) e
@@ -59,3 +63,12 @@ module _ {S : Type 0} (g : Ghosts S) (conn : Held S) where
 
   pub either_same : (rows one next : Rows) → (HasCleanDisk (state g conn) → one ≡ next) → LastsAsEither g conn rows one → LastsAsEither g conn rows next
   either_same rows one next same lasts = (lasts.0, λ clean. subst (λ (r : Rows). IsEither (state g conn) rows r) (same clean) (lasts.1 clean))
+
+  -- an error of the database, with a command under way
+  pub faults_of : (court : CourtSettings) (kept : Option (List CalendarItem)) (h : History) (c : Command) (f : Fault) → IsDocket court h → (HasCleanDisk (state g conn) → Keeps kept h)
+      → FailsAs g conn (docket_rows court h) (docket_rows court (after court h c)) f → Faults g (serving conn court kept) h c f
+  faults_of court kept h c (Refused r) is keeps fails = absurd fails
+  faults_of court kept h c NoMemory is keeps fails = record { docket = is; serves = refl; rows = fails; calendar = keeps }
+  faults_of court kept h c StoreFailed is keeps fails = fails
+  faults_of court kept h c Closed is keeps fails = absurd fails
+  faults_of court kept h c Damaged is keeps fails = fails

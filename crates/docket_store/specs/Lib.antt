@@ -1,2 +1,4 @@
 pub mod Applying
+pub mod Dockets
+pub mod Opening
 pub mod Sound

@@ -1,18 +1,21 @@
 //! One command, in one transaction.
-ghost use Rattle.std.specs.Prelude.{◌≡◌, ◌<◌, ◌^◌, length, false};
+ghost use Rattle.std.specs.Prelude.{◌≡◌, ◌≤◌, ◌<◌, ◌^◌, ◌∷◌, length, false};
 ghost use Rattle.sqlite.specs.Held.{state};
 ghost use Rattle.sqlite.specs.State.{HasCleanDisk};
+ghost use Rattle.sqlite.specs.View.{doubt};
 ghost use Rattle.court_days.specs.Court.{CourtSettings};
+ghost use Rattle.docket_command.specs.declared.command.Command.{Command as Asked};
 ghost use Rattle.docket_core.specs.Histories.{History};
 ghost use Rattle.docket_wire.specs.Valid.{IsCommand};
 ghost use Rattle.docket_wire.specs.Writing.{canonical};
-ghost use Rattle.docket_store.specs.Applying.{IsDocket, StandsFor, IsAccepted, Applies};
+ghost use Rattle.docket_store.specs.Applying.{IsDocket, StandsFor, Keeps, Stands, IsAccepted, Applies};
+ghost use Rattle.docket_store.specs.Dockets.{serving};
 
-use crate::fault::{ApplyFault, store_fault};
+use crate::fault::{Fault, store_fault};
 use crate::judging::judge;
 use court_days::Court;
-use docket_command::{Command, Reply};
-use docket_core::{Changes, Decision};
+use docket_command::{Action, Command, Reply};
+use docket_core::{CalendarItems, Changes, Decision};
 use docket_tables::write;
 use docket_wire::command_text;
 use sqlite::{Alter, Connection};
@@ -25,46 +28,60 @@ fn changes_fit(changes: &Changes)
     let _rows = changes.rows.as_slice();
 }
 
+/// What stays of the calendar that is kept, after an accepted command.
+fn keep_calendar(kept: &mut Option<CalendarItems>, action: &Action)
+    ensures { (h : History) (c : Asked) → c.action ≡ action.now → Keeps kept.old h
+        → Keeps kept.new h × Keeps kept.new (c ∷ h) }
+{
+    match action {
+        Action::DeclareDay(_) | Action::CloseDay(_) | Action::CloseSpan(_) => *kept = None,
+        Action::WithdrawCalendar(_) | Action::ImportCalendar(_) => *kept = None,
+        _ => {}
+    }
+}
+
 /// Writes what an accepted command changes.
 fn keep<S: Alter>(
     conn: &mut Connection<S>,
+    kept: &mut Option<CalendarItems>,
     command: &Command,
     body: &str,
     changes: &Changes,
-) -> Result<Reply, ApplyFault>
+) -> Result<Reply, Fault>
     requires idle { conn.old.in_transaction ≡ false }
     requires body { body.now ≡ canonical command.now }
     requires lawful { IsCommand command.now }
     ensures idle { conn.new.in_transaction ≡ false }
-    ensures kept { (court : CourtSettings) (h : History) → IsDocket court h → StandsFor S.Store conn.old court h
+    ensures clean { doubt (state S.Store conn.old).is_clean ≤ doubt (state S.Store conn.new).is_clean }
+    ensures kept { (court : CourtSettings) (h : History) → Stands S.Store (serving conn.old court kept.old) h
         → (HasCleanDisk (state S.Store conn.old) → IsAccepted court h command.now changes.now)
-        → Applies S.Store conn.new court h command.now result }
+        → Applies S.Store (serving conn.new court kept.new) h command.now result }
 {
     changes_fit(changes);
+    keep_calendar(kept, &command.action);
     match write(conn, command, body, changes) {
         Ok(()) => Ok(changes.reply),
         Err(error) => Err(store_fault(conn, error)),
     }
 }
 
-/// Applies a command to the docket of the court in the database, in one transaction. The docket is
-/// that of a history: the answer is the one after that history, and an accepted command stands from
-/// then on, past a power failure too. A repeat, a refusal and want of memory change nothing. Where the
-/// database fails, a power failure leaves the docket without the command or with it.
-pub fn apply<S: Alter>(
+/// Applies a command to the docket of the court in the database, in one transaction.
+pub(crate) fn apply_to<S: Alter>(
     conn: &mut Connection<S>,
     alloc: Global,
     court: &Court,
+    kept: &mut Option<CalendarItems>,
     command: &Command,
-) -> Result<Reply, ApplyFault>
+) -> Result<Reply, Fault>
     requires { conn.old.in_transaction ≡ false }
     ensures idle { conn.new.in_transaction ≡ false }
-    ensures answer { (h : History) → IsDocket court.now h → StandsFor S.Store conn.old court.now h
-        → Applies S.Store conn.new court.now h command.now result }
+    ensures clean { doubt (state S.Store conn.old).is_clean ≤ doubt (state S.Store conn.new).is_clean }
+    ensures answer { (h : History) → Stands S.Store (serving conn.old court.now kept.old) h
+        → Applies S.Store (serving conn.new court.now kept.new) h command.now result }
 {
     let body = command_text(alloc, command)?;
-    match judge(conn, alloc, court, command, body.as_str())? {
+    match judge(conn, alloc, court, kept, command, body.as_str())? {
         Decision::Repeat(reply) => Ok(reply),
-        Decision::Change(changes) => keep(conn, command, body.as_str(), &changes),
+        Decision::Change(changes) => keep(conn, kept, command, body.as_str(), &changes),
     }
 }

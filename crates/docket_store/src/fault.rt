@@ -1,50 +1,80 @@
-//! Why a command was not applied.
-ghost use Rattle.std.specs.Prelude.{◌≡◌, false};
-ghost use Rattle.court_days.specs.Court.{CourtSettings};
-ghost use Rattle.docket_command.specs.declared.command.Command.{Command};
-ghost use Rattle.docket_core.specs.Histories.{History};
-ghost use Rattle.docket_core.specs.Outcomes.{after};
+//! Why a docket gave no answer.
+ghost use Rattle.std.specs.Prelude.{◌≡◌, ◌≤◌, false};
+ghost use Rattle.sqlite.specs.Held.{state};
+ghost use Rattle.sqlite.specs.View.{doubt};
+ghost use Rattle.docket_tables.specs.Layouts.{Rows};
+ghost use Rattle.docket_tables.specs.Readings.{Fails};
 ghost use Rattle.docket_tables.specs.Stands.{LastsAsEither};
-ghost use Rattle.docket_store.specs.Applying.{docket_rows, Faults};
+ghost use Rattle.docket_store.specs.Applying.{FailsAs};
 
 use docket_command::Refusal;
-use docket_tables::{StoreFault, fault_of};
+use docket_tables::{ReadFault, StoreFault, fault_of};
 use sqlite::{Alter, Connection, Error};
 use std::alloc::AllocError;
+use std::fmt;
 
-/// Why a command was not applied.
-#[derive(Drop)]
-pub enum ApplyFault {
+/// Why a command was not applied, or a question was not answered.
+#[derive(Clone, Copy, Debug, PartialEq, Eq)]
+pub enum Fault {
+    /// The command is refused. Nothing is changed.
     Refused(Refusal),
+    /// Nothing is changed.
     NoMemory,
-    /// The database failed. It may be shut; a power failure leaves the docket without the command, or
-    /// with it.
+    /// The database failed. A power failure leaves the docket without the command, or with it. From
+    /// now on the docket is closed; its database may be opened and adopted anew.
     StoreFailed,
-    /// The tables are not those of a docket.
+    /// The database failed before. Nothing was done.
+    Closed,
+    /// The tables are not those of a docket. Nothing is changed.
     Damaged,
 }
 
-impl From<AllocError> for ApplyFault {
+impl From<AllocError> for Fault {
     ghost use Rattle.std.specs.Prelude.{◌≡◌};
-    ghost use Rattle.docket_store.specs.declared.fault.ApplyFault.TheVariants.{NoMemory};
+    ghost use Rattle.docket_store.specs.declared.fault.Fault.TheVariants.{NoMemory};
 
     ghost from_gives = { λ _ fault. fault ≡ NoMemory };
 
-    fn from(_: AllocError) -> ApplyFault {
-        ApplyFault::NoMemory
+    fn from(_: AllocError) -> Fault {
+        Fault::NoMemory
+    }
+}
+
+impl fmt::Display for Fault {
+    fn fmt<W: fmt::Write>(&self, f: &mut fmt::Formatter<W>) -> fmt::Result {
+        f.write_str(match self {
+            Fault::Refused(_) => "the command is refused",
+            Fault::NoMemory => "there is not enough memory",
+            Fault::StoreFailed => "the database failed",
+            Fault::Closed => "the docket is closed since its database failed",
+            Fault::Damaged => "the database is not that of a docket",
+        })
     }
 }
 
 /// What an error of the database comes to.
-pub(crate) fn store_fault<S: Alter>(conn: &mut Connection<S>, error: Error) -> ApplyFault
+pub(crate) fn store_fault<S: Alter>(conn: &mut Connection<S>, error: Error) -> Fault
     requires { conn.old.in_transaction ≡ false }
     ensures idle { conn.new.in_transaction ≡ false }
-    ensures left { (court : CourtSettings) (h : History) (c : Command)
-        → LastsAsEither S.Store conn.old (docket_rows court h) (docket_rows court (after court h c))
-        → Faults S.Store conn.new court h c result }
+    ensures clean { doubt (state S.Store conn.old).is_clean ≤ doubt (state S.Store conn.new).is_clean }
+    ensures left { (rows next : Rows) → LastsAsEither S.Store conn.old rows next → FailsAs S.Store conn.new rows next result }
 {
     match fault_of(conn, error) {
-        StoreFault::NoMemory => ApplyFault::NoMemory,
-        StoreFault::StoreFailed => ApplyFault::StoreFailed,
+        StoreFault::NoMemory => Fault::NoMemory,
+        StoreFault::StoreFailed => Fault::StoreFailed,
+    }
+}
+
+/// What a question that the tables did not answer comes to.
+pub(crate) fn read_fault<S: Alter>(conn: &mut Connection<S>, fault: ReadFault) -> Fault
+    requires { conn.old.in_transaction ≡ false }
+    ensures idle { conn.new.in_transaction ≡ false }
+    ensures clean { doubt (state S.Store conn.old).is_clean ≤ doubt (state S.Store conn.new).is_clean }
+    ensures left { (rows next : Rows) → Fails S.Store conn.old rows fault → FailsAs S.Store conn.new rows next result }
+{
+    match fault {
+        ReadFault::Store(error) => store_fault(conn, error),
+        ReadFault::NoMemory => Fault::NoMemory,
+        ReadFault::Damaged => Fault::Damaged,
     }
 }

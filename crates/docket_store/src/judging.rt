@@ -1,39 +1,88 @@
 //! What is done with a command, by the docket that the tables hold.
-ghost use Rattle.std.specs.Prelude.{◌≡◌, false};
+ghost use Rattle.std.specs.Prelude.{◌≡◌, ◌≤◌, [], false, if◌then◌else◌};
+ghost use Rattle.sqlite.specs.Held.{state};
+ghost use Rattle.sqlite.specs.State.{HasCleanDisk};
+ghost use Rattle.sqlite.specs.View.{doubt};
 ghost use Rattle.court_days.specs.Court.{CourtSettings};
-ghost use Rattle.docket_core.specs.Histories.{History};
+ghost use Rattle.docket_core.specs.Actions.{asks_calendar};
+ghost use Rattle.docket_core.specs.Histories.{History, items_of, standing_rows};
+ghost use Rattle.docket_core.specs.Outcomes.{shown};
 ghost use Rattle.docket_wire.specs.Valid.{IsCommand};
 ghost use Rattle.docket_wire.specs.Writing.{canonical};
-ghost use Rattle.docket_store.specs.Applying.{IsDocket, StandsFor, Shows, Judges};
+ghost use Rattle.docket_tables.specs.Readings.{Gives};
+ghost use Rattle.docket_store.specs.Applying.{IsDocket, StandsFor, Keeps, Stands, Shows, Judges, docket_rows};
+ghost use Rattle.docket_store.specs.Dockets.{serving};
 
-use crate::fault::{ApplyFault, store_fault};
+use crate::fault::{Fault, read_fault};
 use crate::sound::is_sound;
 use court_days::Court;
-use docket_command::Command;
-use docket_core::{DecideFault, Decision, View, decide};
-use docket_tables::{ReadFault, view};
+use docket_command::{Action, Command};
+use docket_core::{CalendarItems, DecideFault, Decision, View, asks_calendar, decide};
+use docket_tables::{ReadFault, calendar_items, view};
 use sqlite::{Alter, Connection};
 use std::alloc::Global;
+
+/// The calendar, where the action asks for it. What is kept of it is taken.
+fn calendar_asked<S: Alter>(
+    conn: &mut Connection<S>,
+    alloc: Global,
+    kept: &mut Option<CalendarItems>,
+    action: &Action,
+) -> Result<CalendarItems, ReadFault>
+    ensures mode { conn.old.in_transaction ≡ false → conn.new.in_transaction ≡ false }
+    ensures clean { doubt (state S.Store conn.old).is_clean ≤ doubt (state S.Store conn.new).is_clean }
+    ensures kept { (h : History) → Keeps kept.old h → Keeps kept.new h }
+    ensures read { (court : CourtSettings) (h : History) → Stands S.Store (serving conn.old court kept.old) h
+        → Gives S.Store conn.new (docket_rows court h) (λ items. items ≡ (if asks_calendar action.now then items_of (standing_rows h) else [])) result }
+{
+    if !asks_calendar(action) {
+        return Ok(CalendarItems::new(Vec::new(alloc)));
+    }
+    match kept.take() {
+        Some(items) => Ok(items),
+        None => calendar_items(conn, alloc),
+    }
+}
+
+/// What the tables show about the command.
+fn shown<S: Alter>(
+    conn: &mut Connection<S>,
+    alloc: Global,
+    kept: &mut Option<CalendarItems>,
+    command: &Command,
+    body: &str,
+) -> Result<View, ReadFault>
+    requires body { body.now ≡ canonical command.now }
+    requires lawful { IsCommand command.now }
+    ensures mode { conn.old.in_transaction ≡ false → conn.new.in_transaction ≡ false }
+    ensures clean { doubt (state S.Store conn.old).is_clean ≤ doubt (state S.Store conn.new).is_clean }
+    ensures kept { (h : History) → Keeps kept.old h → Keeps kept.new h }
+    ensures read { (court : CourtSettings) (h : History) → Stands S.Store (serving conn.old court kept.old) h
+        → Gives S.Store conn.new (docket_rows court h) (λ view. view ≡ shown court h command.now) result }
+{
+    let calendar = calendar_asked(conn, alloc, kept, &command.action)?;
+    view(conn, alloc, command, body, calendar)
+}
 
 /// What the docket shows about the command.
 fn look<S: Alter>(
     conn: &mut Connection<S>,
     alloc: Global,
+    kept: &mut Option<CalendarItems>,
     command: &Command,
     body: &str,
-) -> Result<View, ApplyFault>
+) -> Result<View, Fault>
     requires idle { conn.old.in_transaction ≡ false }
     requires body { body.now ≡ canonical command.now }
     requires lawful { IsCommand command.now }
     ensures idle { conn.new.in_transaction ≡ false }
-    ensures shown { (court : CourtSettings) (h : History) → IsDocket court h → StandsFor S.Store conn.old court h
-        → Shows S.Store conn.new court h command.now result }
+    ensures clean { doubt (state S.Store conn.old).is_clean ≤ doubt (state S.Store conn.new).is_clean }
+    ensures shown { (court : CourtSettings) (h : History) → Stands S.Store (serving conn.old court kept.old) h
+        → Shows S.Store (serving conn.new court kept.new) h command.now result }
 {
-    match view(conn, alloc, command, body) {
+    match shown(conn, alloc, kept, command, body) {
         Ok(view) => Ok(view),
-        Err(ReadFault::Store(error)) => Err(store_fault(conn, error)),
-        Err(ReadFault::NoMemory) => Err(ApplyFault::NoMemory),
-        Err(ReadFault::Damaged) => Err(ApplyFault::Damaged),
+        Err(fault) => Err(read_fault(conn, fault)),
     }
 }
 
@@ -42,23 +91,29 @@ pub(crate) fn judge<S: Alter>(
     conn: &mut Connection<S>,
     alloc: Global,
     court: &Court,
+    kept: &mut Option<CalendarItems>,
     command: &Command,
     body: &str,
-) -> Result<Decision, ApplyFault>
+) -> Result<Decision, Fault>
     requires idle { conn.old.in_transaction ≡ false }
     requires body { body.now ≡ canonical command.now }
     requires lawful { IsCommand command.now }
     ensures idle { conn.new.in_transaction ≡ false }
-    ensures judged { (h : History) → IsDocket court.now h → StandsFor S.Store conn.old court.now h
-        → Judges S.Store conn.new court.now h command.now result }
+    ensures clean { doubt (state S.Store conn.old).is_clean ≤ doubt (state S.Store conn.new).is_clean }
+    ensures judged { (h : History) → Stands S.Store (serving conn.old court.now kept.old) h
+        → Judges S.Store (serving conn.new court.now kept.new) h command.now result }
 {
-    let view = look(conn, alloc, command, body)?;
+    let view = look(conn, alloc, kept, command, body)?;
     if !is_sound(court, &view) {
-        return Err(ApplyFault::Damaged);
+        return Err(Fault::Damaged);
     }
-    match decide(alloc, &view, court, command) {
+    let decided = decide(alloc, &view, court, command);
+    if asks_calendar(&command.action) {
+        *kept = Some(view.calendar);
+    }
+    match decided {
         Ok(decision) => Ok(decision),
-        Err(DecideFault::Refused(refusal)) => Err(ApplyFault::Refused(refusal)),
-        Err(DecideFault::NoMemory) => Err(ApplyFault::NoMemory),
+        Err(DecideFault::Refused(refusal)) => Err(Fault::Refused(refusal)),
+        Err(DecideFault::NoMemory) => Err(Fault::NoMemory),
     }
 }

@@ -1,14 +1,20 @@
-//! One command in one transaction: what a power failure leaves of the database is a docket.
+//! The docket of a court in a database: one command, one transaction. What a power failure leaves of
+//! the database is a docket.
 #![tactic(auto)]
 
+mod adopting;
 mod applying;
+mod creating;
+mod docket;
 mod fault;
 mod judging;
 mod laws;
+mod returned;
 mod sound;
-#[cfg(test)]
-mod tests;
 
-pub use applying::apply;
-pub use fault::ApplyFault;
+pub use adopting::AdoptFault;
+pub use creating::CreateFault;
+pub use docket::Docket;
+pub use fault::Fault;
+pub use returned::Returned;
 pub use laws::courts_begin_without_a_record;

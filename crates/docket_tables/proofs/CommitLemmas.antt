@@ -2,6 +2,8 @@
 use Rattle.std.proofs.Common.{◌≡◌, ◌⊎◌, inl, inr, Ok, Err, Result, true, IsTrue, IsErr, MatchResult, refl, sym, ap, subst, ◌∙◌, arith}
 use Rattle.std.specs.Prelude.{false}
 use Rattle.sqlite.specs.Tree.{Trees}
+use Rattle.sqlite.specs.Store.{Ghosts}
+use Rattle.sqlite.specs.Held.{Held}
 use Rattle.sqlite.specs.Effect.{Database, IsDatabase}
 use Rattle.sqlite.specs.declared.error.Error.{Error}
 use Rattle.sqlite.specs.State.{State, HasCleanDisk, Survives, IsRolledBack, KeepsCommit, Shows as Turns}
@@ -9,7 +11,9 @@ use Rattle.sqlite.proofs.StateLemmas.{survives_then}
 use Rattle.sqlite.specs.Steps.{FailsToCommit}
 use Rattle.sqlite_catalog.specs.Listing.{IsSound}
 use Rattle.docket_tables.specs.Layouts.{Rows, AreRows}
-use Rattle.docket_tables.specs.Stands.{IsImage, Shows, Sees, IsSettled, IsEither, StaysInside}
+use Rattle.docket_tables.specs.Stands.{IsImage, Shows, Sees, IsSettled, IsEither, StaysInside, MakesNothing, Makes}
+use Rattle.docket_tables.specs.declared.fault.StoreFault.{StoreFault}
+use Rattle.docket_tables.specs.declared.fault.StoreFault.TheVariants.{NoMemory, StoreFailed}
 
 -- while the connection is open, a power failure leaves the last commit and nothing else
 abbrev pub LeavesCommit : State → Type 0
@@ -104,6 +108,11 @@ module _ (start begun last end : State) (begins : begun ≡ record start { in_tr
     | inl before ↦ inl (left_before (omega (arith, after.clean)) db before)
     | inr made ↦ inr (subst (IsImage rows) (sym made) (image_of last rows sees.shows))
   ]
+
+-- a transaction that left nothing made nothing, whatever the fault is called
+pub nothing_made : {S : Type 0} (g : Ghosts S) (old new : Held S) (rows : Rows) (fault : StoreFault) → MakesNothing g old new → Makes g old new rows (Err fault)
+nothing_made g old new rows NoMemory it = it
+nothing_made g old new rows StoreFailed it = (it.0, λ clean db may. inl (it.1 clean db may))
 
 pub begins_seeing : (start begun : State) (rows : Rows) → IsSettled start rows → begun ≡ record start { in_transaction = true } → Sees begun rows
 begins_seeing start begun rows was begins =

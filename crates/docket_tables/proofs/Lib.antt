@@ -20,7 +20,7 @@ mod OrderlyReceipts
 mod OrderlyRows
 mod ProbeLemmas
 mod QueryLemmas
-mod ReadLemmas
+pub mod ReadLemmas
 mod RowLemmas
 mod SelectLemmas
 mod StandsLemmas

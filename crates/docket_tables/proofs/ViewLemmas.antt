@@ -2,10 +2,10 @@
 use Rattle.std.proofs.Common.{◌≡◌, ◌∙◌, ◌+◌, ◌<◌, ℕ, zero, suc, List, [], ◌∷◌, ◌++◌, map, length, take, get_or, sym, ap, ap₂, arith, ◌&&◌, true, false, if◌then◌else◌, nat_le, Bool, Option, Some, None}
 use Rattle.std.proofs.lemmas.List.{take_more, length-take}
 use Rattle.court_rules.specs.declared.act.Act.{Act}
-use Rattle.docket_core.specs.Histories.{deadlines_from, acts_of_deadline, parties_of_case, entries_of_case, deadlines_of_case, items_of}
+use Rattle.docket_core.specs.Histories.{deadlines_from, acts_of_deadline, parties_of_case, entries_of_case, deadlines_of_case}
 use Rattle.std.specs.Option.{option_and_then}
 use Rattle.docket_command.specs.declared.command.Command.{Command}
-use Rattle.docket_core.specs.Actions.{case_named, asks_calendar}
+use Rattle.docket_core.specs.Actions.{case_named}
 use Rattle.docket_core.specs.Outcomes.{kept, is_label_taken, is_row_standing}
 use Rattle.docket_core.specs.declared.item.CalendarItem.{CalendarItem}
 use Rattle.docket_core.specs.declared.view.Kept.{Kept}
@@ -49,8 +49,7 @@ one_case t k parties entries deadlines among p e d =
     ∙ λ i. Some (record { number = k; parties = sym p i; entries = sym e i; deadlines = sym d i })
 
 pub whole_view : (t : Tables) (c : Command) (kept_is : Kept) (cases : ℕ) (taken : Bool) (case : Option CaseView) (stands : Bool) (items : List CalendarItem) (next : ℕ) → kept_is ≡ kept t.receipts c → cases ≡ length t.cases
-    → taken ≡ is_label_taken c.action t.cases → case ≡ option_and_then (case_in t) (case_named c.action) → stands ≡ is_row_standing c.action t.calendar
-    → items ≡ (if asks_calendar c.action then items_of t.calendar else []) → next ≡ t.next_row
-    → record { kept = kept_is; cases = cases; label_taken = taken; case = case; row_stands = stands; calendar = items; next_row = next } ≡ view_in t c
-whole_view t c kept_is cases taken case stands items next a b d e f h k =
-    λ i. record { kept = a i; cases = b i; label_taken = d i; case = e i; row_stands = f i; calendar = h i; next_row = k i }
+    → taken ≡ is_label_taken c.action t.cases → case ≡ option_and_then (case_in t) (case_named c.action) → stands ≡ is_row_standing c.action t.calendar → next ≡ t.next_row
+    → record { kept = kept_is; cases = cases; label_taken = taken; case = case; row_stands = stands; calendar = items; next_row = next } ≡ record (view_in t c) { calendar = items }
+whole_view t c kept_is cases taken case stands items next a b d e f k =
+    λ i. record { kept = a i; cases = b i; label_taken = d i; case = e i; row_stands = f i; calendar = items; next_row = k i }

@@ -5,6 +5,7 @@ pub mod Layouts
 pub mod Orderly
 pub mod Queries
 pub mod Readings
+pub mod Recognition
 pub mod Schema
 pub mod Stands
 pub mod Statements

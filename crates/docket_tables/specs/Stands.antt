@@ -1,5 +1,5 @@
 -- What it is for a connection to hold rows, and what a power failure leaves of them.
-use Rattle.std.specs.Prelude.{◌≡◌, ◌⊎◌, false, IsTrue}
+use Rattle.std.specs.Prelude.{◌≡◌, ◌⊎◌, false, IsTrue, Result, Ok, Err}
 use Rattle.sqlite.specs.Tree.{Trees}
 use Rattle.sqlite.specs.Store.{Ghosts}
 use Rattle.sqlite.specs.Effect.{IsDatabase}
@@ -66,6 +66,16 @@ module _ {S : Type 0} (g : Ghosts S) where
   -- a power failure leaves what it could leave before, or the rows
   abbrev pub MayMake : Held S → Held S → Rows → Type 0
   MayMake old new rows = (new.in_transaction ≡ false) × (HasCleanDisk (state g new) → (db : Trees) → (state g new).may_leave db → (state g old).may_leave db ⊎ IsImage rows db)
+
+  -- a power failure leaves what it could leave before: nothing was made
+  abbrev pub MakesNothing : Held S → Held S → Type 0
+  MakesNothing old new = (new.in_transaction ≡ false) × (HasCleanDisk (state g new) → (db : Trees) → (state g new).may_leave db → (state g old).may_leave db)
+
+  -- what the making of tables with these rows leaves
+  abbrev pub Makes : Held S → Held S → Rows → Result (Unit {0}) StoreFault → Type 0
+  Makes old new rows (Ok _) = HoldsRows new rows
+  Makes old new rows (Err NoMemory) = MakesNothing old new
+  Makes old new rows (Err StoreFailed) = MayMake old new rows
 
   -- what an error leaves: where memory ran short the connection holds the rows
   abbrev pub Leaves : Held S → Rows → Rows → StoreFault → Type 0

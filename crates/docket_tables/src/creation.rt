@@ -1,5 +1,5 @@
 //! The making of the tables.
-ghost use Rattle.std.specs.Prelude.{◌≡◌, ◌<◌, ◌≤◌, ℕ, suc, [], slice_get, Some, OnOk, MatchResult, false};
+ghost use Rattle.std.specs.Prelude.{◌≡◌, ◌≢◌, ◌<◌, ◌≤◌, ℕ, suc, [], slice_get, Some, OnOk, false};
 ghost use Rattle.docket_core.specs.Tables.{rows_of};
 ghost use Rattle.sqlite.specs.Held.{state};
 ghost use Rattle.sqlite.specs.State.{HasCleanDisk};
@@ -7,13 +7,17 @@ ghost use Rattle.sqlite.specs.View.{doubt};
 ghost use Rattle.docket_tables.specs.Creation.{texts, IsMade, no_rows};
 ghost use Rattle.docket_tables.specs.Schema.{no_schema};
 ghost use Rattle.docket_tables.specs.Contents.{rows_in};
-ghost use Rattle.docket_tables.specs.Stands.{HoldsRows, MayMake, Sees, StaysInside};
+ghost use Rattle.docket_tables.specs.Stands.{Makes, Sees, StaysInside};
+ghost use Rattle.docket_tables.specs.declared.fault.StoreFault.TheVariants.{NoMemory, StoreFailed};
+ghost use Rattle.sqlite.specs.declared.error.Error.TheVariants.{SqliteFailure};
+ghost use Rattle.sqlite.specs.declared.error.ErrorCode.TheVariants.{OutOfMemory};
 
+use crate::fault::StoreFault;
 use crate::store::{change, insert};
 use crate::table::Table;
 use court_days::Court;
 use docket_columns::court_values;
-use sqlite::{Alter, Connection, Error, Transaction};
+use sqlite::{Alter, Connection, Error, ErrorCode, Transaction};
 
 const TABLES: usize = 8;
 
@@ -75,17 +79,34 @@ fn define_docket<S: Alter>(tx: &mut Transaction<'_, S>, court: &Court) -> Result
     insert(tx, Table::Court, &court_values(court, 1))
 }
 
+/// What an error of a transaction that was dropped comes to.
+fn undone_fault(error: Error) -> StoreFault
+    ensures short { error ≡ SqliteFailure OutOfMemory → result ≡ NoMemory }
+    ensures other { error ≢ SqliteFailure OutOfMemory → result ≡ StoreFailed }
+{
+    if error == Error::SqliteFailure(ErrorCode::OutOfMemory) {
+        StoreFault::NoMemory
+    } else {
+        StoreFault::StoreFailed
+    }
+}
+
 /// Makes the tables of a docket of the court without any record, in a database without any table, in
-/// one transaction: all of them, or nothing.
-pub fn make<S: Alter>(conn: &mut Connection<S>, court: &Court) -> Result<(), Error>
+/// one transaction: all of them, or nothing. Where memory ran short nothing was made; where the
+/// database failed, a power failure leaves what it could leave before, or the tables.
+pub fn make<S: Alter>(conn: &mut Connection<S>, court: &Court) -> Result<(), StoreFault>
     requires idle { conn.old.in_transaction ≡ false }
     requires bare { conn.old.schema ≡ no_schema }
     ensures idle { conn.new.in_transaction ≡ false }
     ensures clean { doubt (state S.Store conn.old).is_clean ≤ doubt (state S.Store conn.new).is_clean }
-    ensures made { MatchResult result (λ _. HoldsRows S.Store conn.new (rows_in court.now (rows_of court.now [])))
-        (λ _. MayMake S.Store conn.old conn.new (rows_in court.now (rows_of court.now []))) }
+    ensures made { Makes S.Store conn.old conn.new (rows_in court.now (rows_of court.now [])) result }
 {
     let mut tx = conn.transaction();
-    define_docket(&mut tx, court)?;
-    tx.commit()
+    if let Err(error) = define_docket(&mut tx, court) {
+        return Err(undone_fault(error));
+    }
+    match tx.commit() {
+        Ok(()) => Ok(()),
+        Err(_) => Err(StoreFault::StoreFailed),
+    }
 }

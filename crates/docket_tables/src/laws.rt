@@ -1,4 +1,5 @@
 //! What the definitions of specs/ say, with nothing to run.
+ghost use Rattle.std.specs.Prelude.{◌≡◌, true, false};
 ghost use Rattle.std.specs.List.{AllByRecursion};
 ghost use Rattle.court_days.specs.Court.{CourtSettings};
 ghost use Rattle.docket_core.specs.Histories.{History};
@@ -6,6 +7,8 @@ ghost use Rattle.docket_core.specs.Outcomes.{IsHistory};
 ghost use Rattle.docket_core.specs.Tables.{rows_of};
 ghost use Rattle.docket_wire.specs.Valid.{IsCommand};
 ghost use Rattle.docket_tables.specs.Orderly.{IsCourtSettings, IsOrderly};
+ghost use Rattle.docket_tables.specs.Recognition.{has_court, has_court_columns, has_docket_table};
+ghost use Rattle.docket_tables.specs.Schema.{docket_schema, no_schema};
 
 /// The tables of a docket are orderly where its court and its commands hold what their types hold: the
 /// cases are numbered from 1 without gaps, so are the parties, entries and deadlines of a case and the
@@ -13,4 +16,13 @@ ghost use Rattle.docket_tables.specs.Orderly.{IsCourtSettings, IsOrderly};
 pub fn dockets_are_orderly()
     ensures { (court : CourtSettings) (h : History) → IsCourtSettings court → IsHistory court h
         → AllByRecursion IsCommand h → IsOrderly court (rows_of court h) }
+{}
+
+/// A docket's tables are recognized: the schema of a docket has them all, and a database without any
+/// table has none.
+pub fn dockets_are_recognized()
+    ensures named { has_docket_table docket_schema ≡ true }
+    ensures court { has_court docket_schema ≡ true }
+    ensures columns { has_court_columns docket_schema ≡ true }
+    ensures none { has_docket_table no_schema ≡ false }
 {}

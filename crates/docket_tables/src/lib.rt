@@ -12,6 +12,7 @@ mod laws;
 mod probe;
 mod query;
 mod reading;
+mod recognition;
 mod rows;
 mod statement;
 mod store;
@@ -21,13 +22,14 @@ mod writing;
 
 pub use creation::make;
 pub use fault::{ReadFault, StoreFault};
-pub use laws::dockets_are_orderly;
+pub use laws::{dockets_are_orderly, dockets_are_recognized};
 pub use probe::fault_of;
 pub use query::Query;
 pub use reading::{
     acts, calendar, case, cases, count_entries, count_parties, court, deadlines, entries,
     is_label_taken, is_row_standing, kept, parties,
 };
+pub use recognition::{has_court, has_court_columns, has_docket_table, is_bare};
 pub use table::Table;
-pub use viewing::view;
+pub use viewing::{calendar_items, view};
 pub use writing::write;

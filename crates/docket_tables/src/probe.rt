@@ -1,5 +1,10 @@
 //! Want of memory told from a database that failed.
-ghost use Rattle.std.specs.Prelude.{◌≡◌, false, IsTrue};
+ghost use Rattle.std.specs.Prelude.{◌≡◌, ◌≢◌, ◌≤◌, false, IsTrue};
+ghost use Rattle.sqlite.specs.Held.{state};
+ghost use Rattle.sqlite.specs.View.{doubt};
+ghost use Rattle.sqlite.specs.declared.error.Error.TheVariants.{SqliteFailure};
+ghost use Rattle.sqlite.specs.declared.error.ErrorCode.TheVariants.{OutOfMemory};
+ghost use Rattle.docket_tables.specs.declared.fault.StoreFault.TheVariants.{StoreFailed};
 ghost use Rattle.docket_tables.specs.Layouts.{Rows};
 ghost use Rattle.docket_tables.specs.Stands.{HoldsRows, LastsAsEither, Leaves};
 
@@ -11,6 +16,7 @@ use sqlite::{Alter, Connection, Error, ErrorCode};
 fn is_alive<S: Alter>(conn: &mut Connection<S>) -> bool
     requires { conn.old.in_transaction ≡ false }
     ensures idle { conn.new.in_transaction ≡ false }
+    ensures clean { doubt (state S.Store conn.old).is_clean ≤ doubt (state S.Store conn.new).is_clean }
     ensures either { (rows next : Rows) → LastsAsEither S.Store conn.old rows next → LastsAsEither S.Store conn.new rows next }
     ensures alive { (rows next : Rows) → LastsAsEither S.Store conn.old rows next → IsTrue result → HoldsRows S.Store conn.new rows }
 {
@@ -26,6 +32,8 @@ fn is_alive<S: Alter>(conn: &mut Connection<S>) -> bool
 pub fn fault_of<S: Alter>(conn: &mut Connection<S>, error: Error) -> StoreFault
     requires { conn.old.in_transaction ≡ false }
     ensures idle { conn.new.in_transaction ≡ false }
+    ensures clean { doubt (state S.Store conn.old).is_clean ≤ doubt (state S.Store conn.new).is_clean }
+    ensures other { error ≢ SqliteFailure OutOfMemory → result ≡ StoreFailed }
     ensures left { (rows next : Rows) → LastsAsEither S.Store conn.old rows next → Leaves S.Store conn.new rows next result }
 {
     if error != Error::SqliteFailure(ErrorCode::OutOfMemory) {

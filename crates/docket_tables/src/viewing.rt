@@ -1,9 +1,9 @@
 //! What a docket's tables show about a command.
-ghost use Rattle.std.specs.Prelude.{◌≡◌, ◌≤◌, false, if◌then◌else◌, ◌&&◌, nat_le, [], IfOk};
+ghost use Rattle.std.specs.Prelude.{◌≡◌, ◌≤◌, false, ◌&&◌, nat_le, IfOk};
 ghost use Rattle.std.specs.Option.{option_and_then};
 ghost use Rattle.sqlite.specs.Held.{state};
 ghost use Rattle.sqlite.specs.View.{doubt};
-ghost use Rattle.docket_core.specs.Actions.{case_named, asks_calendar};
+ghost use Rattle.docket_core.specs.Actions.{case_named};
 ghost use Rattle.docket_core.specs.Histories.{deadlines_of_case, deadlines_from, items_of};
 ghost use Rattle.docket_core.specs.Outcomes.{is_label_taken, is_row_standing};
 ghost use Rattle.docket_core.specs.Tables.{case_in, view_in};
@@ -19,7 +19,7 @@ use crate::reading::{
 use docket_command::{Action, Command};
 use docket_core::{
     Acts, CalendarItem, CalendarItems, CalendarRow, CaseView, DeadlineRow, DeadlineView, Deadlines,
-    View, asks_calendar, case_named,
+    View, case_named,
 };
 use sqlite::{Alter, Connection};
 use std::alloc::{AllocError, Global};
@@ -62,20 +62,17 @@ fn items_of(alloc: Global, rows: &[CalendarRow]) -> Result<Vec<CalendarItem>, Al
     Ok(items)
 }
 
-fn calendar_asked<S: Alter>(
+/// The items of the calendar, in the order of the numbers of their rows.
+pub fn calendar_items<S: Alter>(
     conn: &mut Connection<S>,
     alloc: Global,
-    action: &Action,
 ) -> Result<CalendarItems, ReadFault>
-    ensures read { Reads S.Store conn.old conn.new result (λ _ t found. found ≡ (if asks_calendar action.now then items_of t.calendar else [])) }
+    ensures read { Reads S.Store conn.old conn.new result (λ _ t found. found ≡ items_of t.calendar) }
     ensures clean { doubt (state S.Store conn.old).is_clean ≤ doubt (state S.Store conn.new).is_clean }
     ensures mode { conn.old.in_transaction ≡ false → conn.new.in_transaction ≡ false }
 {
-    if asks_calendar(action) {
-        let rows = calendar(conn, alloc)?;
-        return Ok(CalendarItems::new(items_of(alloc, rows.as_slice())?));
-    }
-    Ok(CalendarItems::new(Vec::new(alloc)))
+    let rows = calendar(conn, alloc)?;
+    Ok(CalendarItems::new(items_of(alloc, rows.as_slice())?))
 }
 
 /// These deadlines of a case, each with its acts.
@@ -162,16 +159,18 @@ fn case_asked<S: Alter>(
     }
 }
 
-/// What a docket's tables show about a command. `body` is the canonical text of the command.
+/// What a docket's tables show about a command, beside the calendar, which the caller gives. `body` is
+/// the canonical text of the command.
 pub fn view<S: Alter>(
     conn: &mut Connection<S>,
     alloc: Global,
     command: &Command,
     body: &str,
+    calendar: CalendarItems,
 ) -> Result<View, ReadFault>
     requires body { body.now ≡ canonical command.now }
     requires lawful { IsCommand command.now }
-    ensures read { Reads S.Store conn.old conn.new result (λ _ t found. found ≡ view_in t command.now) }
+    ensures read { Reads S.Store conn.old conn.new result (λ _ t found. found ≡ record (view_in t command.now) { calendar = calendar }) }
     ensures clean { doubt (state S.Store conn.old).is_clean ≤ doubt (state S.Store conn.new).is_clean }
     ensures mode { conn.old.in_transaction ≡ false → conn.new.in_transaction ≡ false }
 {
@@ -181,7 +180,6 @@ pub fn view<S: Alter>(
     let label_taken = is_asked_label_taken(conn, action)?;
     let case = case_asked(conn, alloc, action)?;
     let row_stands = is_asked_row_standing(conn, action)?;
-    let calendar = calendar_asked(conn, alloc, action)?;
     let court = court(conn, alloc)?;
     Ok(View {
         kept,

@@ -1,23 +1,13 @@
 //! Tables with many rows.
-ghost use Rattle.std.specs.Prelude.{◌≡◌, IsTrue};
-ghost use Rattle.docket_tables.specs.Schema.{no_schema};
-
 use crate::commands::{FILED, key_of, label_of};
 use anyhow::{Error, anyhow};
 use court_days::Court;
-use docket_tables::make;
+use docket_tables::{is_bare, make};
 use sqlite::{Alter, Connection, Transaction, params};
-use sqlite_schema::schema::Schema;
 use std::alloc::Global;
 
 /// How many rows of each table are added in one transaction.
 const AT_ONCE: u32 = 1000;
-
-fn is_bare(schema: &Schema) -> bool
-    ensures { IsTrue result → schema.now ≡ no_schema }
-{
-    schema.tables.is_empty() && schema.indexes.is_empty() && schema.views.is_empty()
-}
 
 /// Makes the tables.
 pub(crate) fn made<S: Alter>(alloc: Global, conn: &mut Connection<S>) -> Result<(), Error> {
@@ -25,7 +15,7 @@ pub(crate) fn made<S: Alter>(alloc: Global, conn: &mut Connection<S>) -> Result<
     if !conn.is_autocommit() || !is_bare(conn.schema()) {
         return Err(anyhow!("not an empty database"));
     }
-    make(conn, &court)?;
+    make(conn, &court).map_err(|_| anyhow!("no tables"))?;
     Ok(())
 }
 

@@ -1,16 +1,12 @@
 //! The transactions that are stopped, and what the tables hold.
-ghost use Rattle.std.specs.Prelude.{◌≡◌, IsTrue};
-ghost use Rattle.docket_tables.specs.Schema.{no_schema};
-
 use court_days::{Court, Day, DayKind};
 use docket_core::{
     Action, CalendarItem, CalendarRow, CaseRow, Change, Changes, Command, ImportCalendar, NewDay,
     NewDays, OpenCase, Reply, Text,
 };
-use docket_tables::{make, write};
+use docket_tables::{is_bare, make, write};
 use docket_wire::command_text;
 use sqlite::{Alter, Connection};
-use sqlite_schema::schema::Schema;
 use std::alloc::Global;
 use std::test::Fail;
 
@@ -74,12 +70,6 @@ fn import(alloc: Global) -> Result<(Command, Changes), Fail> {
     let key = Text::from_str(alloc, "storms")?;
     let reply = Reply { number: 3 };
     Ok((Command { key, action }, Changes { rows, reply }))
-}
-
-fn is_bare(schema: &Schema) -> bool
-    ensures { IsTrue result → schema.now ≡ no_schema }
-{
-    schema.tables.is_empty() && schema.indexes.is_empty() && schema.views.is_empty()
 }
 
 /// Whether the tables were made.

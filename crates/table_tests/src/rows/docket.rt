@@ -1,27 +1,17 @@
 //! A docket in memory, and a row of each table.
-ghost use Rattle.std.specs.Prelude.{◌≡◌, IsTrue};
-ghost use Rattle.docket_tables.specs.Schema.{no_schema};
-
 use court_days::{Court, Day, DayKind, Direction, Way};
 use court_rules::{Act, DayPeriod, HourPeriod, MotionKind, Period, Rule, Start};
 use docket_command::{Action, Command, Moment, Reply, Role, Text, Vacate};
 use docket_core::{
     ActRow, CalendarItem, CalendarRow, CaseRow, Change, Changes, DeadlineRow, EntryRow, PartyRow,
 };
-use docket_tables::{make, write};
+use docket_tables::{is_bare, make, write};
 use docket_wire::command_text;
 use sqlite::{Connection, MemStore};
-use sqlite_schema::schema::Schema;
 use std::alloc::Global;
 use std::test::Fail;
 
 pub(super) type Docket = Connection<MemStore>;
-
-fn is_bare(schema: &Schema) -> bool
-    ensures { IsTrue result → schema.now ≡ no_schema }
-{
-    schema.tables.is_empty() && schema.indexes.is_empty() && schema.views.is_empty()
-}
 
 /// The tables of a court in New York, without any record.
 pub(super) fn made(alloc: Global) -> Result<Docket, Fail> {
@@ -30,7 +20,7 @@ pub(super) fn made(alloc: Global) -> Result<Docket, Fail> {
     if !conn.is_autocommit() || !is_bare(conn.schema()) {
         return Err("not empty".into());
     }
-    make(&mut conn, &court)?;
+    make(&mut conn, &court).map_err(|_| "no tables")?;
     Ok(conn)
 }
 

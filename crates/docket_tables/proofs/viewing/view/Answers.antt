@@ -36,15 +36,6 @@ returns-in_err-row_stands-clause-read g c court t orderly holds =
     let read3 = c.in_ok-case.ensures.read court t orderly read2.0 in
     err_given g.S.Store c.is_asked_row_standing.new.conn (rows_in court t) _ c.in_err-row_stands.field-0.0 c.from_residual-in_err-row_stands.result c.from_residual-in_err-row_stands.ensures.1 (c.in_err-row_stands.ensures.read court t orderly read3.0)
 
-pub returns-in_err-calendar-clause-read : goal.returns-in_err-calendar-clause-read
-returns-in_err-calendar-clause-read g c court t orderly holds =
-    let read0 = c.in_ok-kept.ensures.read court t orderly holds in
-    let read1 = c.in_ok-cases.ensures.read court t orderly read0.0 in
-    let read2 = c.in_ok-label_taken.ensures.read court t orderly read1.0 in
-    let read3 = c.in_ok-case.ensures.read court t orderly read2.0 in
-    let read4 = c.in_ok-row_stands.ensures.read court t orderly read3.0 in
-    err_given g.S.Store c.calendar_asked.new.conn (rows_in court t) _ c.in_err-calendar.field-0.0 c.from_residual-in_err-calendar.result c.from_residual-in_err-calendar.ensures.1 (c.in_err-calendar.ensures.read court t orderly read4.0)
-
 pub returns-in_err-court-clause-read : goal.returns-in_err-court-clause-read
 returns-in_err-court-clause-read g c court t orderly holds =
     let read0 = c.in_ok-kept.ensures.read court t orderly holds in
@@ -52,8 +43,7 @@ returns-in_err-court-clause-read g c court t orderly holds =
     let read2 = c.in_ok-label_taken.ensures.read court t orderly read1.0 in
     let read3 = c.in_ok-case.ensures.read court t orderly read2.0 in
     let read4 = c.in_ok-row_stands.ensures.read court t orderly read3.0 in
-    let read5 = c.in_ok-calendar.ensures.read court t orderly read4.0 in
-    err_given g.S.Store c.court.new.conn (rows_in court t) _ c.in_err-court.field-0.0 c.from_residual-in_err-court.result c.from_residual-in_err-court.ensures.1 (c.in_err-court.ensures.read court t orderly read5.0)
+    err_given g.S.Store c.court.new.conn (rows_in court t) _ c.in_err-court.field-0.0 c.from_residual-in_err-court.result c.from_residual-in_err-court.ensures.1 (c.in_err-court.ensures.read court t orderly read4.0)
 
 pub returns-clause-read : goal.returns-clause-read
 returns-clause-read g c court t orderly holds =
@@ -62,15 +52,13 @@ returns-clause-read g c court t orderly holds =
     let read2 = c.in_ok-label_taken.ensures.read court t orderly read1.0 in
     let read3 = c.in_ok-case.ensures.read court t orderly read2.0 in
     let read4 = c.in_ok-row_stands.ensures.read court t orderly read3.0 in
-    let read5 = c.in_ok-calendar.ensures.read court t orderly read4.0 in
-    let read6 = c.in_ok-court.ensures.read court t orderly read5.0 in (
-      read6.0,
-      λ clean6.
-          let clean5 : HasCleanDisk (state g.S.Store c.calendar_asked.new.conn) = omega (arith, c.court.ensures.clean) in
-          let clean4 : HasCleanDisk (state g.S.Store c.is_asked_row_standing.new.conn) = omega (arith, c.calendar_asked.ensures.clean) in
+    let read5 = c.in_ok-court.ensures.read court t orderly read4.0 in (
+      read5.0,
+      λ clean5.
+          let clean4 : HasCleanDisk (state g.S.Store c.is_asked_row_standing.new.conn) = omega (arith, c.court.ensures.clean) in
           let clean3 : HasCleanDisk (state g.S.Store c.case_asked.new.conn) = omega (arith, c.is_asked_row_standing.ensures.clean) in
           let clean2 : HasCleanDisk (state g.S.Store c.is_asked_label_taken.new.conn) = omega (arith, c.case_asked.ensures.clean) in
           let clean1 : HasCleanDisk (state g.S.Store c.cases.new.conn) = omega (arith, c.is_asked_label_taken.ensures.clean) in
           let clean0 : HasCleanDisk (state g.S.Store c.kept.new.conn) = omega (arith, c.cases.ensures.clean) in
-          whole_view t c.args.command.now _ _ _ _ _ _ _ (read0.1 clean0) (read1.1 clean1) (read2.1 clean2) (read3.1 clean3) (read4.1 clean4) (read5.1 clean5) (ap (λ r. r.next_row) (read6.1 clean6)),
+          whole_view t c.args.command.now _ _ _ _ _ _ _ (read0.1 clean0) (read1.1 clean1) (read2.1 clean2) (read3.1 clean3) (read4.1 clean4) (ap (λ r. r.next_row) (read5.1 clean5)),
     )

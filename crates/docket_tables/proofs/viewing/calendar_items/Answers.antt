@@ -1,8 +1,8 @@
-use Rattle.std.proofs.Common.{◌∙◌, ap, sym, if◌then◌else◌, []}
+use Rattle.std.proofs.Common.{◌∙◌, ap}
 use Rattle.docket_core.specs.Histories.{items_of}
 use Rattle.docket_tables.specs.Contents.{rows_in}
 use Rattle.docket_tables.proofs.ReadLemmas.{err_given, short_given}
-use Rattle.docket_tables.proofs.viewing.calendar_asked.Goals as goal
+use Rattle.docket_tables.proofs.viewing.calendar_items.Goals as goal
 
 pub returns-in_err-rows-clause-read : goal.returns-in_err-rows-clause-read
 returns-in_err-rows-clause-read g c court t orderly holds =
@@ -13,10 +13,9 @@ returns-in_err-items_of-clause-read g c court t orderly holds =
     short_given g.S.Store c.calendar.new.conn (rows_in court t) _ c.from_residual-in_err-items_of.result c.from_residual-in_err-items_of.ensures.1
     (c.in_ok-rows.ensures.read court t orderly holds).0
 
-pub returns-then-asks_calendar-clause-read : goal.returns-then-asks_calendar-clause-read
-returns-then-asks_calendar-clause-read g c court t orderly holds =
+pub returns-clause-read : goal.returns-clause-read
+returns-clause-read g c court t orderly holds =
     let read = c.in_ok-rows.ensures.read court t orderly holds in (
       read.0,
-      λ clean. c.new.ensures ∙ c.in_ok-items_of.ensures ∙ ap items_of (c.as_slice.ensures.value ∙ read.1 clean)
-          ∙ ap (λ b. if b then items_of t.calendar else []) (sym (sym c.asks_calendar.ensures ∙ c.if-asks_calendar.true)),
+      λ clean. c.new.ensures ∙ c.in_ok-items_of.ensures ∙ ap items_of (c.as_slice.ensures.value ∙ read.1 clean),
     )

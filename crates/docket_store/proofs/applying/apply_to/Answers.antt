@@ -2,32 +2,37 @@ use Rattle.std.proofs.Common.{◌≡◌, Ok, inr, sym, ap, subst}
 use Rattle.sqlite.specs.Held.{state}
 use Rattle.sqlite.specs.State.{HasCleanDisk}
 use Rattle.docket_core.specs.Decisions.{IsAnswer, LeadsTo}
+use Rattle.docket_core.specs.Histories.{History}
 use Rattle.docket_core.specs.Outcomes.{outcome, repeated}
 use Rattle.docket_core.specs.declared.decision.Decision.{Decision}
-use Rattle.docket_store.specs.Applying.{IsAccepted, docket_rows}
+use Rattle.docket_store.specs.Applying.{IsAccepted, Keeps, docket_rows}
 use Rattle.docket_store.proofs.ApplyLemmas.{docket_after, after_repeated, holds_same}
-use Rattle.docket_store.proofs.applying.apply.Goals as goal
+use Rattle.docket_store.proofs.applying.apply_to.Goals as goal
 
 pub returns-in-Repeat-clause-answer : goal.returns-in-Repeat-clause-answer
-returns-in-Repeat-clause-answer g c h is stands =
+returns-in-Repeat-clause-answer g c h stands =
     let court = c.args.court.now in
     let command = c.args.command.now in
-    let judged = c.in_ok-reply.ensures.judged h is stands in
+    let judged = c.in_ok-reply.ensures.judged h stands in
     let answer : HasCleanDisk (state g.S.Store c.judge.new.conn) → outcome court h command ≡ repeated c.in-Repeat.reply =
     λ clean. subst (λ (d : Decision). IsAnswer (Ok d) (outcome court h command)) c.in-Repeat.is (judged.1 clean).0 in (
-      holds_same g.S.Store c.judge.new.conn _ _ (λ clean. ap (docket_rows court) (sym (after_repeated court h command c.in-Repeat.reply (answer clean)))) judged.0,
-      docket_after court h command is c.in_ok-body.ensures.lawful,
+      record {
+        docket = docket_after court h command stands.docket c.in_ok-body.ensures.lawful;
+        serves = judged.0.serves;
+        rows = holds_same g.S.Store c.judge.new.conn _ _ (λ clean. ap (docket_rows court) (sym (after_repeated court h command c.in-Repeat.reply (answer clean)))) judged.0.rows;
+        calendar = λ clean. subst (λ (x : History). Keeps c.judge.new.kept x) (sym (after_repeated court h command c.in-Repeat.reply (answer clean))) (judged.0.calendar clean);
+      },
       λ clean. inr (answer clean),
     )
 
 pub returns-clause-answer : goal.returns-clause-answer
-returns-clause-answer g c h is stands =
+returns-clause-answer g c h stands =
     let court = c.args.court.now in
     let command = c.args.command.now in
-    let judged = c.in_ok-reply.ensures.judged h is stands in
+    let judged = c.in_ok-reply.ensures.judged h stands in
     let accepts : HasCleanDisk (state g.S.Store c.judge.new.conn) → IsAccepted court h command c.in-Change.changes =
     λ clean. (
       subst (λ (d : Decision). IsAnswer (Ok d) (outcome court h command)) c.in-Change.is (judged.1 clean).0,
       subst (λ (d : Decision). LeadsTo court h command d) c.in-Change.is (judged.1 clean).1,
     ) in
-    c.keep.ensures.kept court h is judged.0 accepts
+    c.keep.ensures.kept court h judged.0 accepts

@@ -1,0 +1,11 @@
+use Rattle.std.proofs.Common.{subst}
+use Rattle.docket_tables.specs.Readings.{Fails}
+use Rattle.docket_tables.specs.Stands.{Lasts}
+use Rattle.docket_tables.specs.declared.fault.ReadFault.{ReadFault}
+use Rattle.docket_store.proofs.ApplyLemmas.{either_from_lasts}
+use Rattle.docket_store.proofs.fault.read_fault.Goals as goal
+
+pub returns-in-Store-clause-left : goal.returns-in-Store-clause-left
+returns-in-Store-clause-left g c rows next fails =
+    let lasts : Lasts g.S.Store c.args.conn.now rows = subst (λ (f : ReadFault). Fails g.S.Store c.args.conn.now rows f) c.in-Store.is fails in
+    c.store_fault.ensures.left rows next (either_from_lasts g.S.Store c.args.conn.now rows next lasts)

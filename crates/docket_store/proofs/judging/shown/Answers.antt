@@ -1,0 +1,17 @@
+use Rattle.std.proofs.Common.{◌∙◌, ap, arith}
+use Rattle.docket_core.specs.Tables.{rows_of, view_in}
+use Rattle.docket_tables.proofs.ReadLemmas.{err_given, gives_clean}
+use Rattle.docket_store.specs.Applying.{docket_rows}
+use Rattle.docket_store.proofs.ApplyLemmas.{docket_orderly}
+use Rattle.docket_store.proofs.judging.shown.Goals as goal
+
+pub returns-in_err-calendar-clause-read : goal.returns-in_err-calendar-clause-read
+returns-in_err-calendar-clause-read g c court h stands =
+    err_given g.S.Store c.calendar_asked.new.conn (docket_rows court h) _ c.in_err-calendar.field-0.0 c.from_residual.result c.from_residual.ensures.1 (c.in_err-calendar.ensures.read court h stands)
+
+pub returns-clause-read : goal.returns-clause-read
+returns-clause-read g c court h stands =
+    let asked = c.in_ok-calendar.ensures.read court h stands in
+    gives_clean g.S.Store c.view.new.conn (docket_rows court h) _ _ c.view.result
+    (λ clean found is. is ∙ ap (λ items. record (view_in (rows_of court h) c.args.command.now) { calendar = items }) (asked.1 (omega (arith, c.view.ensures.clean))))
+    (c.view.ensures.read court (rows_of court h) (docket_orderly court h stands.docket) asked.0)

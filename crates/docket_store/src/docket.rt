@@ -1,0 +1,119 @@
+//! The docket of a court in a database.
+ghost use Rattle.std.specs.Prelude.{◌≡◌, ◌↔◌, [], true, false, Err, IfOk, OnOk, IfErr};
+ghost use Rattle.docket_core.specs.Histories.{History};
+ghost use Rattle.docket_tables.specs.Recognition.{has_docket_table};
+ghost use Rattle.docket_store.specs.Applying.{Stands, Applies};
+ghost use Rattle.docket_store.specs.Opening.{IsNotMade};
+ghost use Rattle.docket_store.specs.declared.fault.Fault.TheVariants as fault;
+
+use crate::applying::apply_to;
+use crate::creating::{CreateFault, make_docket};
+use crate::fault::Fault;
+use crate::laws::courts_begin_without_a_record;
+use crate::returned::Returned;
+use court_days::Court;
+use docket_command::{Command, Reply};
+use docket_core::CalendarItems;
+use sqlite::{Alter, Connection};
+use std::alloc::Global;
+use std::marker::Model;
+
+/// The docket of a court, kept in a database.
+pub struct Docket<S: Alter> {
+    alloc: Global,
+    conn: Connection<S>,
+    court: Court,
+    // Whether the database failed.
+    closed: bool,
+    // The calendar, from when it is first asked for until it changes.
+    calendar: Option<CalendarItems>,
+}
+
+impl<S: Alter> Model for Docket<S> {
+    ghost use Rattle.std.specs.Prelude.{◌≡◌, false};
+    ghost use Rattle.docket_store.specs.Dockets.{Docket, docket_code};
+
+    ghost Value = { Docket S };
+
+    ghost coded = { docket_code S.code };
+
+    ghost view = { λ d. record { conn = d.conn; court = d.court; closed = d.closed; calendar = d.calendar } };
+
+    ghost invariant = { λ d. d.conn.in_transaction ≡ false };
+}
+
+/// Whether the database failed.
+fn is_store_failure(answer: &Result<Reply, Fault>) -> bool
+    ensures { (result ≡ true) ↔ (answer.now ≡ Err fault.StoreFailed) }
+{
+    matches!(answer, Err(Fault::StoreFailed))
+}
+
+impl<S: Alter> Docket<S> {
+    /// Makes the docket of a court, without any record, in a database that holds nothing.
+    pub fn create(
+        alloc: Global,
+        conn: Connection<S>,
+        court: Court,
+    ) -> Result<Docket<S>, Returned<S, CreateFault>>
+        ensures made { IfOk result (λ docket. Stands S.Store docket [] × (docket.court ≡ court)) }
+        ensures empty { OnOk result (has_docket_table conn.schema ≡ false) }
+        ensures fault { IfErr result (λ returned. IsNotMade S.Store conn returned.connection court returned.fault) }
+    {
+        let mut connection = conn;
+        courts_begin_without_a_record(&court);
+        match make_docket(&mut connection, &court) {
+            Ok(()) => Ok(Docket {
+                alloc,
+                conn: connection,
+                court,
+                closed: false,
+                calendar: None,
+            }),
+            Err(fault) => Err(Returned { fault, connection }),
+        }
+    }
+
+    /// Applies a command in one transaction. An accepted command stands from then on, past a power
+    /// failure too. A repeat has the reply that it had; it, a refusal and want of memory change
+    /// nothing. Where the database fails the docket is closed, and a power failure leaves it without
+    /// the command or with it.
+    pub fn apply(&mut self, command: &Command) -> Result<Reply, Fault>
+        ensures court { self.new.court ≡ self.old.court }
+        ensures answer { (h : History) → Stands S.Store self.old h → Applies S.Store self.new h command.now result }
+        // A closed docket takes no memory and touches no disk.
+        ensures closed { self.old.closed ≡ true → (result ≡ Err fault.Closed) × (self.new ≡ self.old) }
+        ensures closes { self.old.closed ≡ false → (self.new.closed ≡ true) ↔ (result ≡ Err fault.StoreFailed) }
+    {
+        if self.closed {
+            return Err(Fault::Closed);
+        }
+        let conn = &mut self.conn;
+        let kept = &mut self.calendar;
+        let answer = apply_to(conn, self.alloc, &self.court, kept, command);
+        self.closed = is_store_failure(&answer);
+        answer
+    }
+
+    /// The court whose docket it is.
+    pub fn court(&self) -> &Court
+        ensures { result.now ≡ self.now.court }
+    {
+        &self.court
+    }
+
+    /// The connection, with whatever it holds.
+    pub fn close(self) -> Connection<S>
+        ensures conn { result ≡ self.conn }
+        ensures idle { result.in_transaction ≡ false }
+    {
+        let Docket {
+            alloc: _,
+            conn,
+            court: _,
+            closed: _,
+            calendar: _,
+        } = self;
+        conn
+    }
+}
