@@ -25,4 +25,5 @@ mod RowLemmas
 mod SelectLemmas
 mod StandsLemmas
 mod UpdateLemmas
+mod VersionLemmas
 mod ViewLemmas

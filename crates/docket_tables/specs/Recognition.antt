@@ -1,8 +1,11 @@
--- What tells the tables of a docket from others, by the schema alone.
-use Rattle.std.specs.Prelude.{ℕ, List, [], ◌∷◌, map, codes, Bool, false, ◌&&◌, bytes_eq}
+-- What tells the tables of a docket from others: the schema, and the row of the court.
+use Rattle.std.specs.Prelude.{ℕ, List, [], ◌∷◌, map, codes, Bool, false, ◌&&◌, bytes_eq, ◌≡◌, Option, Some, None}
 use Rattle.std.specs.List.{list_any}
 use Rattle.sqlite_schema.specs.declared.schema.Column.{Column}
+use Rattle.sqlite.specs.Order.{Row}
 use Rattle.sqlite.specs.Schema.{Schema}
+use Rattle.docket_columns.specs.Cells.{IsMarked}
+use Rattle.docket_columns.specs.Fits.{IsCount}
 use Rattle.docket_tables.specs.Schema.{tables}
 
 -- the names of a docket's tables
@@ -30,3 +33,8 @@ are_court_columns _ = false
 -- the table of the court has these columns
 abbrev pub has_court_columns : Schema → Bool
 has_court_columns schema = list_any (λ t. bytes_eq t.name (codes "court") && are_court_columns t.columns) schema.tables
+
+-- the version that the rows of the court tell: there is one row, with the docket's word
+abbrev pub TellsVersion : List Row → Option ℕ → Type 0
+TellsVersion rows (Some version) = (row : Row) × (rows ≡ row ∷ []) × IsMarked version row
+TellsVersion rows None = (row : Row) (version : ℕ) → rows ≡ row ∷ [] → IsCount version → IsMarked version row → ⊥

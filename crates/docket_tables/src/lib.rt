@@ -1,9 +1,10 @@
 //! The tables of a docket in one SQLite database.
 //!
-//! `make` makes them, `view` and the questions read them, and `write` makes the changes of a command:
-//! each write is one transaction. Every call works over any store of `sqlite`. A contract sees a
-//! connection as the rows that it holds, and that each database holds which a power failure may leave
-//! (`HoldsRows`).
+//! `is_bare` and its neighbours tell by a schema whether the tables are there, and `version` by the row
+//! of the court. `make` makes the tables, `view` and the questions read them, and `write` makes the
+//! changes of a command: each write is one transaction, and `fault_of` tells why one did not stand.
+//! Every call works over any store of `sqlite`. A contract sees a connection as the rows that it holds,
+//! and that each database holds which a power failure may leave (`HoldsRows`).
 #![tactic(auto)]
 
 mod creation;
@@ -27,7 +28,7 @@ pub use probe::fault_of;
 pub use query::Query;
 pub use reading::{
     acts, calendar, case, cases, count_entries, count_parties, court, deadlines, entries,
-    is_label_taken, is_row_standing, kept, parties,
+    is_label_taken, is_row_standing, kept, parties, version,
 };
 pub use recognition::{has_court, has_court_columns, has_docket_table, is_bare};
 pub use table::Table;

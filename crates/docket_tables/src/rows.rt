@@ -19,12 +19,13 @@ ghost use Rattle.docket_wire.specs.Writing.{canonical};
 ghost use Rattle.docket_columns.specs.Cells.{act_cells, calendar_cells, case_cells, court_cells, deadline_cells, entry_cells, party_cells, receipt_cells};
 ghost use Rattle.docket_columns.specs.Fits.{IsActRow, IsCalendarRow, IsCaseRow, IsCourtRow, IsDeadlineRow, IsEntryRow, IsPartyRow, IsReceipt};
 ghost use Rattle.docket_tables.specs.Readings.{IsReadAs};
+ghost use Rattle.docket_tables.specs.Recognition.{TellsVersion};
 
 use crate::fault::ReadFault;
 use court_rules::Act;
 use docket_columns::{
     CourtRow, act_of, calendar_of, case_of, count_at, court_of, deadline_of, entry_of, kept_by,
-    party_of,
+    party_of, version_of,
 };
 use docket_core::{ActRow, CalendarRow, CaseRow, DeadlineRow, EntryRow, Kept, PartyRow};
 use sqlite::Row;
@@ -125,6 +126,16 @@ pub(crate) fn court_in(alloc: Global, rows: &[Row]) -> Result<CourtRow, ReadFaul
 {
     let row = rows.first().ok_or(ReadFault::Damaged)?;
     court_of(alloc, row)?.ok_or(ReadFault::Damaged)
+}
+
+/// What version of the tables the rows of the court tell.
+pub(crate) fn version_in(rows: &[Row]) -> Option<u32>
+    ensures { TellsVersion rows.now result }
+{
+    match rows {
+        [row] => version_of(row),
+        _ => None,
+    }
 }
 
 /// The case of the first row, if there is one.
