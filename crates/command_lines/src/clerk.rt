@@ -77,7 +77,7 @@ impl Clerk {
 }
 
 impl Answerer for Clerk {
-    ghost use Rattle.std.specs.Prelude.{◌≡◌};
+    ghost use Rattle.std.specs.Prelude.{◌≡◌, ⊤};
     ghost use Rattle.docket_plain.specs.Dockets.{Docket};
     ghost use Rattle.command_lines.specs.Lines.{judged, judged_long, IsEither};
 
@@ -95,6 +95,8 @@ impl Answerer for Clerk {
     ghost State = { Docket };
 
     ghost Shows = { λ clerk docket. clerk ≡ docket };
+
+    ghost Trusts = { λ _. ⊤ };
 
     ghost Fails = { λ clerk _ before after. IsEither clerk before after };
 

@@ -1,6 +1,5 @@
 -- The texts of a zone and of a closing time are text: bytes that are none spell neither.
-use Rattle.std.proofs.Common.{◌≡◌, ◌==◌, length, append-nil, ap, ℤ, ◌+◌, ◌-◌, ◌*◌, ◌/◌, ◌%◌, ◌<◌, ◌≤◌, ℕ, nat_lt, List, [], ◌∷◌, ◌++◌, Bool, true, ◌&&◌, Option, Some, None, IsUtf8, IsTrue, if◌then◌else◌, inl, inr, codes, refl, sym, ◌∙◌, subst, arith}
-use Rattle.std.specs.List.{list_all}
+use Rattle.std.proofs.Common.{◌≡◌, ◌==◌, length, ℤ, ◌+◌, ◌-◌, ◌/◌, ◌%◌, ◌<◌, ◌≤◌, ℕ, nat_lt, List, [], ◌∷◌, ◌++◌, true, Option, Some, None, IsUtf8, if◌then◌else◌, inl, inr, codes, refl, ◌∙◌, arith}
 use Rattle.std.proofs.lemmas.List.Folds.{list_all-append}
 use Rattle.std.proofs.lemmas.Bool.{cases_Bool}
 use Rattle.std.proofs.lemmas.Bool.Decides.{nat_tests}
@@ -12,9 +11,9 @@ use Rattle.civil_time.specs.MomentGrammar.{SpellsOffset, plus as ahead, minus as
 use Rattle.civil_time.specs.MomentText.{clock_text}
 use Rattle.civil_time.proofs.DayTexts.{spelled-is}
 use Rattle.civil_time.specs.Reading.{clock_at, time_of_day_at}
-use Rattle.civil_time.specs.Zone.{ZoneRules, IsChangeDate, IsSummerTime}
+use Rattle.civil_time.specs.Zone.{ZoneRules, IsChangeDate}
 use Rattle.civil_time.specs.ZoneGrammar.{AreLetters, SpellsNumber, one_digit, two_digits, SpellsHours, plain, plus, minus, SpellsSummer, SpellsZone, month_text, change_text}
-use Rattle.civil_time.specs.ZoneText.{is_letter, zone_at}
+use Rattle.civil_time.specs.ZoneText.{zone_at}
 use Rattle.civil_time.proofs.ReadingLemmas.{bound, tested, clock_sound, empty}
 use Rattle.civil_time.proofs.ZoneGrammarSound.{zone_sound}
 use Rattle.count_lines.proofs.TextNames.{is_word_byte, is_word, is_text, none_found}

@@ -1,5 +1,5 @@
 -- Lines are read as they are spelled.
-use Rattle.std.proofs.Common.{ℤ, ◌≡◌, ◌⊎◌, inl, inr, ℕ, ◌+◌, ◌%◌, ◌/◌, ◌<◌, ◌≤◌, ◌^◌, ◌==◌, nat_le, not, ◌&&◌, List, [], ◌∷◌, ◌++◌, length, get_or, if◌then◌else◌, Bool, true, false, Option, Some, None, codes, refl, sym, ◌∙◌, ap, subst, append_assoc, append-nil, arith, rules}
+use Rattle.std.proofs.Common.{ℤ, ◌≡◌, inl, inr, ℕ, ◌+◌, ◌%◌, ◌/◌, ◌<◌, ◌≤◌, ◌^◌, ◌==◌, nat_le, ◌&&◌, List, [], ◌∷◌, ◌++◌, length, get_or, if◌then◌else◌, Bool, true, false, Option, Some, None, codes, refl, sym, ◌∙◌, ap, subst, append_assoc, append-nil, arith, rules}
 use Rattle.std.proofs.lemmas.Bool.{cases_Bool, eqb-true, eqb-false, ne_eqb}
 use Rattle.std.proofs.lemmas.Bool.Decides.{nat_tests}
 use Rattle.std.proofs.lemmas.Slice.Eq.{bytes_eq-Decides}
@@ -10,7 +10,7 @@ use Rattle.std.specs.Fmt.{decimal}
 use Rattle.std.specs.List.{list_all}
 use Rattle.std.specs.Str.{bytes_eq}
 use Rattle.std.specs.Str.Parse.{digits_value}
-use Rattle.civil_time.specs.Civil.{IsDayNumber, year_of, month_of, day_of_month}
+use Rattle.civil_time.specs.Civil.{year_of, month_of, day_of_month}
 use Rattle.civil_time.specs.DayText.{day_text, day_of_text}
 use Rattle.civil_time.proofs.DayTexts as texts
 use Rattle.court_days.specs.Civil.{IsEnteredDay}
@@ -26,9 +26,8 @@ use Rattle.court_rules.specs.Rules.{line_of, name_of, rule_named}
 use Rattle.court_rules.proofs.Names as names
 use Rattle.civil_time.specs.MomentText.{moment_at, clock_text}
 use Rattle.civil_time.specs.Reading.{clock_at, time_of_day_at}
-use Rattle.civil_time.specs.Zone.{ZoneRules}
 use Rattle.civil_time.specs.ZoneText.{zone_at}
-use Rattle.civil_time.specs.MomentGrammar.{SpellsMoment, SpellsTimeOfDay}
+use Rattle.civil_time.specs.MomentGrammar.{SpellsTimeOfDay}
 use Rattle.civil_time.specs.ZoneGrammar.{SpellsZone}
 use Rattle.civil_time.proofs.MomentGrammarLemmas.{moment_at-spelled, moment_sound}
 use Rattle.civil_time.proofs.ReadingLemmas as reading

@@ -1,5 +1,5 @@
 -- Cutting a line at its first space.
-use Rattle.std.proofs.Common.{◌≡◌, ℕ, suc, ◌+◌, ◌-◌, ◌<◌, ◌≤◌, List, [], ◌∷◌, ◌++◌, length, take, drop, slice_index, Option, Some, None, IfSome, Bool, true, false, ◌==◌, refl, ap, sym, ◌∙◌, append_assoc, append-nil, add-one, take-append-drop, length-take, arith}
+use Rattle.std.proofs.Common.{◌≡◌, ℕ, suc, ◌+◌, ◌-◌, ◌<◌, List, [], ◌∷◌, ◌++◌, length, take, drop, slice_index, Some, None, false, ◌==◌, refl, ap, sym, ◌∙◌, append_assoc, append-nil, add-one, take-append-drop, length-take, arith}
 use Rattle.std.proofs.lemmas.Grind.{common_steps}
 use Rattle.std.proofs.Math.Seq.{take-suc}
 use Rattle.line_io.proofs.Sending.{slice_from}

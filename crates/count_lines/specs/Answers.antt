@@ -1,5 +1,5 @@
 -- The lines of `count`: what each is answered, by what the lines before it entered.
-use Rattle.std.specs.Prelude.{ℕ, ◌==◌, Bool, true, false, not, ◌&&◌, nat_le, nat_lt, List, [], ◌∷◌, ◌++◌, Option, None, Some, codes, if◌then◌else◌, ℤ}
+use Rattle.std.specs.Prelude.{ℕ, ◌==◌, Bool, true, false, ◌&&◌, nat_le, nat_lt, List, [], ◌∷◌, ◌++◌, Option, None, Some, codes, if◌then◌else◌}
 use Rattle.std.specs.FinSet.{contains}
 use Rattle.civil_time.specs.DayText.{day_text}
 use Rattle.civil_time.specs.LocalTime.{local_day, seconds}

@@ -1,6 +1,7 @@
 -- From what the tables' functions leave to what a command leaves.
-use Rattle.std.proofs.Common.{◌≡◌, inl, ◌∷◌, ℕ, ◌+◌, ◌<◌, ◌^◌, List, Option, refl, sym, ap, subst, ◌∙◌, arith}
+use Rattle.std.proofs.Common.{◌≡◌, ◌⊎◌, inl, inr, ◌∷◌, ℕ, ◌+◌, ◌<◌, ◌^◌, List, Option, refl, sym, ap, subst, ◌∙◌, arith}
 use Rattle.sqlite.specs.Store.{Ghosts}
+use Rattle.sqlite.specs.Tree.{Trees}
 use Rattle.sqlite.specs.State.{HasCleanDisk}
 use Rattle.sqlite.specs.Held.{Held, state}
 use Rattle.court_days.specs.Court.{CourtSettings}
@@ -17,7 +18,7 @@ use Rattle.docket_wire.specs.Valid.{IsCommand}
 use Rattle.docket_tables.specs.Contents.{rows_in}
 use Rattle.docket_tables.specs.Layouts.{Rows}
 use Rattle.docket_tables.specs.Orderly.{IsOrderly}
-use Rattle.docket_tables.specs.Stands.{HoldsRows, Lasts, LastsAsEither, IsSettled, IsEither}
+use Rattle.docket_tables.specs.Stands.{HoldsRows, IsImage, Lasts, LastsAsEither, IsSettled, IsEither}
 use Rattle.docket_tables.proofs.OrderlyLemmas.{orderly}
 use Rattle.docket_core.specs.declared.item.CalendarItem.{CalendarItem}
 use Rattle.docket_store.specs.Applying.{IsDocket, IsAccepted, docket_rows, Keeps, FailsAs, Faults}
@@ -72,3 +73,11 @@ module _ {S : Type 0} (g : Ghosts S) (conn : Held S) where
   faults_of court kept h c StoreFailed is keeps fails = fails
   faults_of court kept h c Closed is keeps fails = absurd fails
   faults_of court kept h c Damaged is keeps fails = fails
+
+  pub lasts_from_either : (rows : Rows) → LastsAsEither g conn rows rows → Lasts g conn rows
+  lasts_from_either rows either =
+      (either.0, λ clean. record { images = λ db may. same db ((either.1 clean).images db may); settled = (either.1 clean).settled })
+    where
+      same : (db : Trees) → IsImage rows db ⊎ IsImage rows db → IsImage rows db
+      same db (inl a) = a
+      same db (inr b) = b

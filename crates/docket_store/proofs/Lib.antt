@@ -1,2 +1,3 @@
 mod ApplyLemmas
+mod OpeningLemmas
 mod SoundLemmas

@@ -1,11 +1,16 @@
 //! The docket of a court in a database.
-ghost use Rattle.std.specs.Prelude.{◌≡◌, ◌↔◌, [], true, false, Err, IfOk, OnOk, IfErr};
+ghost use Rattle.std.specs.Prelude.{◌≡◌, ◌↔◌, ◌≤◌, [], true, false, Err, IfOk, OnOk, IfErr, MatchResult};
+ghost use Rattle.sqlite.specs.Held.{state};
+ghost use Rattle.sqlite.specs.View.{doubt};
+ghost use Rattle.court_days.specs.Court.{CourtSettings};
 ghost use Rattle.docket_core.specs.Histories.{History};
-ghost use Rattle.docket_tables.specs.Recognition.{has_docket_table};
-ghost use Rattle.docket_store.specs.Applying.{Stands, Applies};
-ghost use Rattle.docket_store.specs.Opening.{IsNotMade};
+ghost use Rattle.docket_tables.specs.Recognition.{has_court, has_docket_table};
+ghost use Rattle.docket_store.specs.Applying.{IsDocket, StandsFor, Stands, Applies, docket_rows};
+ghost use Rattle.docket_store.specs.Opening.{IsAdopted, IsNotAdopted, IsNotMade};
+ghost use Rattle.docket_store.specs.declared.adopting.AdoptFault.TheVariants.{Empty};
 ghost use Rattle.docket_store.specs.declared.fault.Fault.TheVariants as fault;
 
+use crate::adopting::{AdoptFault, find_court};
 use crate::applying::apply_to;
 use crate::creating::{CreateFault, make_docket};
 use crate::fault::Fault;
@@ -74,6 +79,31 @@ impl<S: Alter> Docket<S> {
         }
     }
 
+    /// Adopts the docket that a database holds. Nothing is written. The faults are looked for in their
+    /// order, and want of memory or a failure of the database may come before any of them.
+    pub fn adopt(alloc: Global, conn: Connection<S>) -> Result<Docket<S>, Returned<S, AdoptFault>>
+        // The docket of a history is adopted as it is, and no other fault comes.
+        ensures adopted { (court : CourtSettings) (h : History) → IsDocket court h → StandsFor S.Store conn court h
+            → MatchResult result (λ docket. IsAdopted S.Store docket court h)
+            (λ returned. IsNotAdopted S.Store returned.connection (docket_rows court h) returned.fault) }
+        ensures empty { IfErr result (λ returned. (returned.fault ≡ Empty) ↔ (has_court conn.schema ≡ false)) }
+        ensures clean { MatchResult result
+            (λ docket. doubt (state S.Store conn).is_clean ≤ doubt (state S.Store docket.conn).is_clean)
+            (λ returned. doubt (state S.Store conn).is_clean ≤ doubt (state S.Store returned.connection).is_clean) }
+    {
+        let mut connection = conn;
+        match find_court(&mut connection, alloc) {
+            Ok(court) => Ok(Docket {
+                alloc,
+                conn: connection,
+                court,
+                closed: false,
+                calendar: None,
+            }),
+            Err(fault) => Err(Returned { fault, connection }),
+        }
+    }
+
     /// Applies a command in one transaction. An accepted command stands from then on, past a power
     /// failure too. A repeat has the reply that it had; it, a refusal and want of memory change
     /// nothing. Where the database fails the docket is closed, and a power failure leaves it without
@@ -83,6 +113,7 @@ impl<S: Alter> Docket<S> {
         ensures answer { (h : History) → Stands S.Store self.old h → Applies S.Store self.new h command.now result }
         // A closed docket takes no memory and touches no disk.
         ensures closed { self.old.closed ≡ true → (result ≡ Err fault.Closed) × (self.new ≡ self.old) }
+        ensures clean { doubt (state S.Store self.old.conn).is_clean ≤ doubt (state S.Store self.new.conn).is_clean }
         ensures closes { self.old.closed ≡ false → (self.new.closed ≡ true) ↔ (result ≡ Err fault.StoreFailed) }
     {
         if self.closed {

@@ -4,9 +4,10 @@ use Rattle.std.specs.Io.KnownBytes.{Appends}
 use Rattle.line_io.specs.Lines.{lines_from}
 use Rattle.line_io.specs.Report.{Judged, text_of, bad_of, after_of}
 
--- This holds from each state that is shown, and for each part of a line of which this is kept.
-abbrev pub FromEach : {S : Type 0} → (S → Type 0) → ℕ → List ℕ → (S → List ℕ → Type 0) → Type 0
-FromEach {S} Shows most kept Holds = (s : S) (part : List ℕ) → Shows s → kept ≡ take most part → Holds s part
+-- This holds from each state that is shown, and for each part of a line of which this is kept, as long as what the
+-- answers rely on is not lost.
+abbrev pub FromEach : {S : Type 0} → Type 0 → (S → Type 0) → ℕ → List ℕ → (S → List ℕ → Type 0) → Type 0
+FromEach {S} Trusted Shows most kept Holds = (s : S) (part : List ℕ) → Shows s → Trusted → kept ≡ take most part → Holds s part
 
 -- What was pending, and then the text, went out, but for what is pending now.
 pub record Sends (before now : Option (List ℕ)) (pending text left : List ℕ) : Type 0 where

@@ -2,7 +2,9 @@
 ghost use Rattle.std.specs.Prelude.{◌≡◌, ℕ, List, IfOk, IfErr, OnErr};
 ghost use Rattle.line_io.specs.Report.{Answers, Judged};
 
-/// Answers lines one after the other, each by what the lines before it left.
+/// Answers lines one after the other, each by what the lines before it left. What it says of its
+/// answers may rest on something that it can lose, as a disk that gives back what it took. One that
+/// relies on nothing says so by `ghost Trusts = { λ _. ⊤ }`.
 pub trait Answerer {
     /// Why a line could not be answered.
     type Fault: Drop;
@@ -27,6 +29,9 @@ pub trait Answerer {
     // The answerer stands for this state.
     ghost Shows: { Self → State → Type 0 };
 
+    // What the answers rely on. Once it is lost at a line it never comes back.
+    ghost Trusts: { Self → Type 0 };
+
     // What is known after a fault at a line: the first state is that before the line, and the second
     // is that which an answer would have left.
     ghost Fails: { Self → Self.Fault → State → State → Type 0 };
@@ -40,17 +45,19 @@ pub trait Answerer {
     /// Appends the answer to a line of at most `LIMIT` bytes, and says whether it counts as bad.
     /// Where it fails it appends nothing.
     fn answer(&mut self, line: &[u8], out: &mut Vec<u8>) -> Result<bool, Self::Fault>
-        ensures ok { IfOk result (λ bad. (s : State) → Shows self.old s
+        ensures ok { IfOk result (λ bad. (s : State) → Shows self.old s → Trusts self.new
             → Answers (Shows self.new) out.old.items out.new.items bad (judge s line.now)) }
+        ensures trust { Trusts self.new → Trusts self.old }
         ensures err { OnErr result (out.new.items ≡ out.old.items) }
-        ensures fails { IfErr result (λ fault. (s : State) → Shows self.old s
+        ensures fails { IfErr result (λ fault. (s : State) → Shows self.old s → Trusts self.new
             → Fails self.new fault s (judge s line.now).after) };
 
     /// Does the same for a line of more than `LIMIT` bytes.
     fn answer_long(&mut self, out: &mut Vec<u8>) -> Result<bool, Self::Fault>
-        ensures ok { IfOk result (λ bad. (s : State) → Shows self.old s
+        ensures ok { IfOk result (λ bad. (s : State) → Shows self.old s → Trusts self.new
             → Answers (Shows self.new) out.old.items out.new.items bad (judge_long s)) }
+        ensures trust { Trusts self.new → Trusts self.old }
         ensures err { OnErr result (out.new.items ≡ out.old.items) }
-        ensures fails { IfErr result (λ fault. (s : State) → Shows self.old s
+        ensures fails { IfErr result (λ fault. (s : State) → Shows self.old s → Trusts self.new
             → Fails self.new fault s (judge_long s).after) };
 }

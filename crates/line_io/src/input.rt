@@ -30,19 +30,20 @@ fn take_piece<W: Write, A: Answerer>(
     requires counts { progress.old.counts.bad ≤ progress.old.counts.lines
         × progress.old.counts.lines + length piece.now < 2 ^ 64 }
     ensures takes { OnOk result (
-        FromEach (A.Shows answerer.old) (A.LIMIT + 2) progress.old.kept.items (λ s part.
+        FromEach (A.Trusts answerer.new) (A.Shows answerer.old) (A.LIMIT + 2) progress.old.kept.items (λ s part.
         Takes (within A.LIMIT A.judge A.judge_long) (A.Shows answerer.new) (A.LIMIT + 2) s
         part piece.now progress.new.kept.items
         (W.contents writer.old) (W.contents writer.new)
         progress.old.pending.items progress.new.pending.items
         progress.old.counts.lines progress.old.counts.bad
         progress.new.counts.lines progress.new.counts.bad)) }
+    ensures trust { A.Trusts answerer.new → A.Trusts answerer.old }
     ensures kept { OnOk result (vec_len progress.new.kept ≤ A.LIMIT + 2) }
     ensures counts { OnOk result ((progress.new.counts.bad ≤ progress.new.counts.lines)
         × (progress.new.counts.lines ≤ progress.old.counts.lines + length piece.now)) }
     ensures pending { OnOk result (length progress.new.pending.items ≤ A.MAX_PENDING) }
     ensures stops { IfErr result (λ fault.
-        FromEach (A.Shows answerer.old) (A.LIMIT + 2) progress.old.kept.items (λ s part.
+        FromEach (A.Trusts answerer.new) (A.Shows answerer.old) (A.LIMIT + 2) progress.old.kept.items (λ s part.
         (rest : List ℕ) → Stops (within A.LIMIT A.judge A.judge_long)
         (Leaves (A.Shows answerer.new) (A.Fails answerer.new) fault) A.MAX_PENDING s
         (lines_from part (piece.now ++ rest))
@@ -71,12 +72,13 @@ fn answer_lines<R: Read, W: Write, A: Answerer>(
     requires len { vec_len progress.old.kept ≡ 0 }
     requires pending { progress.old.pending.items ≡ [] }
     requires counts { progress.old.counts.bad ≡ 0 × progress.old.counts.lines ≡ 0 }
-    ensures whole { OnOk result ((s : A.State) → A.Shows answerer.old s
+    ensures whole { OnOk result ((s : A.State) → A.Shows answerer.old s → A.Trusts answerer.new
         → IfSome (R.remaining reader.old) (λ input.
         Tells (within A.LIMIT A.judge A.judge_long) (A.Shows answerer.new) s (lines_of input)
         (W.contents writer.old) (W.contents writer.new)
         progress.new.pending.items progress.new.counts.lines progress.new.counts.bad)) }
-    ensures stops { IfErr result (λ fault. (s : A.State) → A.Shows answerer.old s
+    ensures trust { A.Trusts answerer.new → A.Trusts answerer.old }
+    ensures stops { IfErr result (λ fault. (s : A.State) → A.Shows answerer.old s → A.Trusts answerer.new
         → IfSome (R.remaining reader.old) (λ input.
         Stops (within A.LIMIT A.judge A.judge_long)
         (Leaves (A.Shows answerer.new) (A.Fails answerer.new) fault) A.MAX_PENDING s (lines_of input)
@@ -106,24 +108,27 @@ fn answer_lines<R: Read, W: Write, A: Answerer>(
 ///
 /// After a fault the answerer stands for what the lines answered so far left, or one line more. Of the
 /// answers to the lines without the one more at most `A::MAX_PENDING` bytes were not written.
+///
+/// All this is said where the answerer still has what it relies on when the run ends.
 pub fn run_lines<R: Read, W: Write, A: Answerer>(
     alloc: Global,
     reader: &mut R,
     writer: &mut W,
     answerer: &mut A,
 ) -> Result<CountEnd, LineFault<A::Fault>>
-    ensures whole { IfOk result (λ end. (s : A.State) → A.Shows answerer.old s
+    ensures whole { IfOk result (λ end. (s : A.State) → A.Shows answerer.old s → A.Trusts answerer.new
         → IfSome (R.remaining reader.old) (λ input.
         Appends (W.contents writer.old) (W.contents writer.new)
         (text_of (within A.LIMIT A.judge A.judge_long) s (lines_of input))
         × (end.lines ≡ length (lines_of input))
         × (end.bad ≡ bad_of (within A.LIMIT A.judge A.judge_long) s (lines_of input))
         × A.Shows answerer.new (after_of (within A.LIMIT A.judge A.judge_long) s (lines_of input)))) }
-    ensures front { OnErr result ((s : A.State) → A.Shows answerer.old s
+    ensures trust { A.Trusts answerer.new → A.Trusts answerer.old }
+    ensures front { OnErr result ((s : A.State) → A.Shows answerer.old s → A.Trusts answerer.new
         → IfSome (R.remaining reader.old) (λ input.
         HasFront (W.contents writer.old) (W.contents writer.new)
         (text_of (within A.LIMIT A.judge A.judge_long) s (lines_of input)))) }
-    ensures left { IfErr result (λ fault. (s : A.State) → A.Shows answerer.old s
+    ensures left { IfErr result (λ fault. (s : A.State) → A.Shows answerer.old s → A.Trusts answerer.new
         → IfSome (R.remaining reader.old) (λ input.
         BreaksOff (within A.LIMIT A.judge A.judge_long)
         (Leaves (A.Shows answerer.new) (A.Fails answerer.new) fault) A.MAX_PENDING s

@@ -53,11 +53,12 @@ fn answer_line<A: Answerer>(
     line: &[u8],
     pending: &mut Vec<u8>,
 ) -> Result<bool, LineFault<A::Fault>>
-    ensures ok { IfOk result (λ bad. (s : A.State) → A.Shows answerer.old s
+    ensures ok { IfOk result (λ bad. (s : A.State) → A.Shows answerer.old s → A.Trusts answerer.new
         → Answers (A.Shows answerer.new) pending.old.items pending.new.items bad
         (within A.LIMIT A.judge A.judge_long s line.now)) }
+    ensures trust { A.Trusts answerer.new → A.Trusts answerer.old }
     ensures err { OnErr result (pending.new.items ≡ pending.old.items) }
-    ensures fails { IfErr result (λ fault. (s : A.State) → A.Shows answerer.old s
+    ensures fails { IfErr result (λ fault. (s : A.State) → A.Shows answerer.old s → A.Trusts answerer.new
         → Leaves (A.Shows answerer.new) (A.Fails answerer.new) fault s
         (within A.LIMIT A.judge A.judge_long s line.now).after) }
 {
@@ -80,15 +81,16 @@ fn end_line<A: Answerer>(
 ) -> Result<bool, LineFault<A::Fault>>
     requires { vec_len progress.old.kept ≤ A.LIMIT + 2 }
     ensures ok { IfOk result (λ bad.
-        FromEach (A.Shows answerer.old) (A.LIMIT + 2) progress.old.kept.items (λ s part.
+        FromEach (A.Trusts answerer.new) (A.Shows answerer.old) (A.LIMIT + 2) progress.old.kept.items (λ s part.
         Answers (A.Shows answerer.new) progress.old.pending.items progress.new.pending.items bad
         (within A.LIMIT A.judge A.judge_long s (without_cr (part ++ bytes.now))))) }
     ensures kept { OnOk result (progress.new.kept.items ≡ []) }
     ensures len { OnOk result (vec_len progress.new.kept ≡ 0) }
     ensures counts { progress.new.counts ≡ progress.old.counts }
+    ensures trust { A.Trusts answerer.new → A.Trusts answerer.old }
     ensures err { OnErr result (progress.new.pending.items ≡ progress.old.pending.items) }
     ensures fails { IfErr result (λ fault.
-        FromEach (A.Shows answerer.old) (A.LIMIT + 2) progress.old.kept.items (λ s part.
+        FromEach (A.Trusts answerer.new) (A.Shows answerer.old) (A.LIMIT + 2) progress.old.kept.items (λ s part.
         Leaves (A.Shows answerer.new) (A.Fails answerer.new) fault s
         (within A.LIMIT A.judge A.judge_long s (without_cr (part ++ bytes.now))).after)) }
 {
@@ -128,19 +130,20 @@ pub(crate) fn take_line<W: Write, A: Answerer>(
     requires pending { length progress.old.pending.items ≤ A.MAX_PENDING }
     requires free { HasNoFeed bytes.now }
     ensures takes { OnOk result (
-        FromEach (A.Shows answerer.old) (A.LIMIT + 2) progress.old.kept.items (λ s part.
+        FromEach (A.Trusts answerer.new) (A.Shows answerer.old) (A.LIMIT + 2) progress.old.kept.items (λ s part.
         Takes (within A.LIMIT A.judge A.judge_long) (A.Shows answerer.new) (A.LIMIT + 2) s
         part (bytes.now ++ 10 ∷ []) progress.new.kept.items
         (W.contents writer.old) (W.contents writer.new)
         progress.old.pending.items progress.new.pending.items
         progress.old.counts.lines progress.old.counts.bad
         progress.new.counts.lines progress.new.counts.bad)) }
+    ensures trust { A.Trusts answerer.new → A.Trusts answerer.old }
     ensures kept { OnOk result (vec_len progress.new.kept ≡ 0) }
     ensures counts { OnOk result ((progress.new.counts.bad ≤ progress.new.counts.lines)
         × (progress.new.counts.lines ≡ progress.old.counts.lines + 1)) }
     ensures pending { OnOk result (length progress.new.pending.items ≤ A.MAX_PENDING) }
     ensures stops { IfErr result (λ fault.
-        FromEach (A.Shows answerer.old) (A.LIMIT + 2) progress.old.kept.items (λ s part.
+        FromEach (A.Trusts answerer.new) (A.Shows answerer.old) (A.LIMIT + 2) progress.old.kept.items (λ s part.
         (rest : List ℕ) → Stops (within A.LIMIT A.judge A.judge_long)
         (Leaves (A.Shows answerer.new) (A.Fails answerer.new) fault) A.MAX_PENDING s
         (lines_from part ((bytes.now ++ 10 ∷ []) ++ rest))
@@ -166,14 +169,15 @@ pub(crate) fn finish<A: Answerer>(
     requires counts { progress.old.counts.bad ≤ progress.old.counts.lines
         × progress.old.counts.lines < 2 ^ 64 - 1 }
     ensures ok { OnOk result (
-        FromEach (A.Shows answerer.old) (A.LIMIT + 2) progress.old.kept.items (λ s part.
+        FromEach (A.Trusts answerer.new) (A.Shows answerer.old) (A.LIMIT + 2) progress.old.kept.items (λ s part.
         Ends (within A.LIMIT A.judge A.judge_long) (A.Shows answerer.new) s (last_line part)
         progress.old.pending.items progress.new.pending.items
         progress.old.counts.lines progress.old.counts.bad
         progress.new.counts.lines progress.new.counts.bad)) }
+    ensures trust { A.Trusts answerer.new → A.Trusts answerer.old }
     ensures err { OnErr result (progress.new.pending.items ≡ progress.old.pending.items) }
     ensures fails { IfErr result (λ fault.
-        FromEach (A.Shows answerer.old) (A.LIMIT + 2) progress.old.kept.items (λ s part.
+        FromEach (A.Trusts answerer.new) (A.Shows answerer.old) (A.LIMIT + 2) progress.old.kept.items (λ s part.
         Leaves (A.Shows answerer.new) (A.Fails answerer.new) fault s
         (after_of (within A.LIMIT A.judge A.judge_long) s (last_line part)))) }
 {

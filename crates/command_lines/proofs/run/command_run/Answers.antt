@@ -12,5 +12,5 @@ returns-in-Err-clause-left g c =
     IfSome_then (g.R.Read.remaining c.args.reader.now)
     {Q = λ input. BreaksOff (within 1_048_576 judged judged_long) (IsEither c.run_lines.new.answerer) 0 c.args.clerk.now (lines_of input)
     (g.W.Write.contents c.args.writer.now) (g.W.Write.contents c.run_lines.new.writer)}
-    (c.in-Err.ensures.left c.args.clerk.now refl)
+    (c.in-Err.ensures.left c.args.clerk.now refl tt)
     (λ input off. breaks _ _ _ c.in-Err.fault _ _ _ off)

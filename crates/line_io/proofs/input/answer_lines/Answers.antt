@@ -15,23 +15,24 @@ reads-init g c = (
   c.requires.pending,
   omega (arith, c.requires.counts),
   omega (arith, c.requires.counts),
-  λ s shows. takes-start (within g.A.Answerer.LIMIT g.A.Answerer.judge g.A.Answerer.judge_long) (g.A.Answerer.LIMIT + 2) _ s _ _ _ _ _ shows c.requires.kept c.requires.pending c.requires.counts.1 c.requires.counts.0,
+  λ trusts. trusts,
+  λ s shows trusts. takes-start (within g.A.Answerer.LIMIT g.A.Answerer.judge g.A.Answerer.judge_long) (g.A.Answerer.LIMIT + 2) _ s _ _ _ _ _ shows c.requires.kept c.requires.pending c.requires.counts.1 c.requires.counts.0,
 )
 
 pub returns-in_default-clause-stops : goal.returns-in_default-clause-stops
-returns-in_default-clause-stops g c = λ s shows.
+returns-in_default-clause-stops g c = λ s shows trusts.
     let J = within g.A.Answerer.LIMIT g.A.Answerer.judge g.A.Answerer.judge_long in
     let now = c.reads.invariant in
     let none : length c.reads.progress.pending.items ≡ 0 = ap length now.3 in
-    let h = now.6 s shows in
+    let h = now.7 s shows trusts in
     read-stops J (g.A.Answerer.LIMIT + 2) _ _ _ _ _ s _ _ _ _ _ _ _ _ _ _ _ now.1 h (λ rest. stops-here J _ _ _ _ _ _ _ h.shows refl (omega (arith, none)))
 
 pub returns-clause-stops : goal.returns-clause-stops
-returns-clause-stops g c = λ s shows.
+returns-clause-stops g c = λ s shows trusts.
     let J = within g.A.Answerer.LIMIT g.A.Answerer.judge g.A.Answerer.judge_long in
     let now = c.reads.invariant in
     let none : length c.reads.progress.pending.items ≡ 0 = ap length now.3 in
-    let h = now.6 s shows in
+    let h = now.7 s shows trusts in
     read-stops J (g.A.Answerer.LIMIT + 2) _ _ _ _ _ s _ _ _ _ _ _ _ _ _ _ _ now.1 h (λ rest. stops-here J _ _ _ _ _ _ _ h.shows refl (omega (arith, none)))
 
 pub returns-then-count-eq0-clause-stops : goal.returns-then-count-eq0-clause-stops
@@ -41,11 +42,11 @@ returns-then-count-eq0-clause-stops g c =
     let none : length c.reads.progress.pending.items ≡ 0 = ap length now.3 in
     let room : 0 < length c.read.new.buf = omega (arith, c.read.auto.buf) in
     at-err c.finish.result
-    (λ fault same left s shows.
-    let h = now.6 s shows in
+    (λ fault same left s shows trusts.
+    let h = now.7 s shows (c.finish.ensures.trust trusts) in
     end-stops J (g.A.Answerer.LIMIT + 2) _ _ _ _ _ _ s _ _ _ _ _ _ _ _ _ _ _ _ now.1 c.in-Ok.ensures.bytes.0
     (ap (λ n. take n c.read.new.buf) c.if-count-eq0.true) (c.in-Ok.ensures.bytes.1 c.if-count-eq0.true room) h
-    (stops-last J _ _ _ h.open_part _ _ _ (left _ h.open_part h.shows h.keeps) same (omega (arith, none))))
+    (stops-last J _ _ _ h.open_part _ _ _ (left _ h.open_part h.shows trusts h.keeps) same (omega (arith, none))))
     c.finish.ensures.err c.finish.ensures.fails
 
 pub returns-then-count-eq0-clause-whole : goal.returns-then-count-eq0-clause-whole
@@ -53,10 +54,10 @@ returns-then-count-eq0-clause-whole g c =
     let now = c.reads.invariant in
     let room : 0 < length c.read.new.buf = omega (arith, c.read.auto.buf) in
     on_ok_weaker c.finish.result
-    (λ ends s shows.
-    let h = now.6 s shows in
+    (λ ends s shows trusts.
+    let h = now.7 s shows (c.finish.ensures.trust trusts) in
     ends-tells (within g.A.Answerer.LIMIT g.A.Answerer.judge g.A.Answerer.judge_long) (g.A.Answerer.LIMIT + 2) _ _ _ _ _ s _ _ _ _ _ _ _ _ _ _ _ now.1 c.in-Ok.ensures.bytes.0
-    (ap (λ n. take n c.read.new.buf) c.if-count-eq0.true) (c.in-Ok.ensures.bytes.1 c.if-count-eq0.true room) h now.3 (ends _ h.open_part h.shows h.keeps))
+    (ap (λ n. take n c.read.new.buf) c.if-count-eq0.true) (c.in-Ok.ensures.bytes.1 c.if-count-eq0.true room) h now.3 (ends _ h.open_part h.shows trusts h.keeps))
     c.finish.ensures.ok
 
 pub returns-in_err-take_piece-clause-stops : goal.returns-in_err-take_piece-clause-stops
@@ -64,17 +65,17 @@ returns-in_err-take_piece-clause-stops g c =
     let p = err_from_is_err_and c.from_residual.result c.from_residual.ensures.1 in
     let J = within g.A.Answerer.LIMIT g.A.Answerer.judge g.A.Answerer.judge_long in
     let now = c.reads.invariant in
-    rw (p.1, p.2) (λ s shows.
-    let h = now.6 s shows in
+    rw (p.1, p.2) (λ s shows trusts.
+    let h = now.7 s shows (c.in_err-take_piece.ensures.trust trusts) in
     piece-stops J (g.A.Answerer.LIMIT + 2) _ _ _ _ _ _ s _ _ _ _ _ _ _ _ _ _ _ _ now.1 c.in-Ok.ensures.bytes.0 h
-    (λ rest. c.in_err-take_piece.ensures.stops _ h.open_part h.shows h.keeps rest))
+    (λ rest. c.in_err-take_piece.ensures.stops _ h.open_part h.shows trusts h.keeps rest))
 
 pub returns-in_default-send-clause-stops : goal.returns-in_default-send-clause-stops
-returns-in_default-send-clause-stops g c = λ s shows.
+returns-in_default-send-clause-stops g c = λ s shows trusts.
     let J = within g.A.Answerer.LIMIT g.A.Answerer.judge g.A.Answerer.judge_long in
     let now = c.reads.invariant in
-    let h = now.6 s shows in
-    let taken = takes-then J (g.A.Answerer.LIMIT + 2) _ _ s [] _ _ _ _ _ _ _ _ _ _ _ _ _ _ _ _ h (c.in_ok-take_piece.ensures.takes _ h.open_part h.shows h.keeps) in
+    let h = now.7 s shows (c.in_ok-take_piece.ensures.trust trusts) in
+    let taken = takes-then J (g.A.Answerer.LIMIT + 2) _ _ s [] _ _ _ _ _ _ _ _ _ _ _ _ _ _ _ _ h (c.in_ok-take_piece.ensures.takes _ h.open_part h.shows trusts h.keeps) in
     read-stops J (g.A.Answerer.LIMIT + 2) _ _ _ _ _ s _ _ _ _ _ _ _ _ _ _ _ (Consumes-trans _ _ _ _ _ now.1 c.in-Ok.ensures.bytes.0) taken
     (λ rest. stops-unsent J _ _ _ _ _ _ _ _ taken.shows c.in_default-send.ensures.front c.in_default-send.ensures.sent c.in_ok-take_piece.ensures.pending)
 
@@ -89,9 +90,10 @@ reads-preserved g c =
       c.in-Ok-send.ensures.sent,
       counts.0,
       omega (arith, counts.1, now.5, c.in-Ok.ensures.bound),
-      λ s shows.
-          let h = now.6 s shows in
+      λ trusts. now.6 (c.in_ok-take_piece.ensures.trust trusts),
+      λ s shows trusts.
+          let h = now.7 s shows (c.in_ok-take_piece.ensures.trust trusts) in
           takes-sent J (g.A.Answerer.LIMIT + 2) _ s _ _ _ _ _ _ _ _ _ _ _ _ _
-          (takes-then J (g.A.Answerer.LIMIT + 2) _ _ s [] _ _ _ _ _ _ _ _ _ _ _ _ _ _ _ _ h (c.in_ok-take_piece.ensures.takes _ h.open_part h.shows h.keeps))
+          (takes-then J (g.A.Answerer.LIMIT + 2) _ _ s [] _ _ _ _ _ _ _ _ _ _ _ _ _ _ _ _ h (c.in_ok-take_piece.ensures.takes _ h.open_part h.shows trusts h.keeps))
           c.in-Ok-send.ensures.whole c.in-Ok-send.ensures.sent,
     )

@@ -15,7 +15,8 @@ lines-init g c = (
   c.requires.pending,
   c.requires.counts.0,
   omega arith,
-  λ s part shows kept. takes-none (within g.A.Answerer.LIMIT g.A.Answerer.judge g.A.Answerer.judge_long) _ _ s part _ _ _ _ _ shows kept,
+  λ trusts. trusts,
+  λ s part shows trusts kept. takes-none (within g.A.Answerer.LIMIT g.A.Answerer.judge g.A.Answerer.judge_long) _ _ s part _ _ _ _ _ shows kept,
 )
 
 pub returns-in_err-take_line-clause-stops : goal.returns-in_err-take_line-clause-stops
@@ -27,13 +28,13 @@ returns-in_err-take_line-clause-stops g c =
     let left = c.lines.rest.now in
     let line = take at left ++ 10 ∷ [] in
     let behind = take (length left - (at + 1)) (drop (at + 1) left) in
-    rw (p.1, p.2) (λ s part shows kept rest.
-    let h = now.6 s part shows kept in
+    rw (p.1, p.2) (λ s part shows trusts kept rest.
+    let h = now.7 s part shows (c.in_err-take_line.ensures.trust trusts) kept in
     takes-stops J _ _ _ _ s part _ _ (lines_from h.open_part (line ++ (behind ++ rest))) _ _ _ _ _ _ _ _ _ _ _ h
     (ap (λ z. lines_from part (z ++ rest)) (piece-on c.args.piece.now now.0 left at now.1 c.in-Some.ensures.0.high c.in-Some.ensures.1)
     ∙ ap (lines_from part) (append_assoc (now.0 ++ line) behind rest ∙ append_assoc now.0 line (behind ++ rest))
     ∙ h.goes (line ++ (behind ++ rest)))
-    (c.in_err-take_line.ensures.stops _ h.open_part h.shows h.keeps (behind ++ rest)))
+    (c.in_err-take_line.ensures.stops _ h.open_part h.shows trusts h.keeps (behind ++ rest)))
 
 pub lines-preserved : goal.lines-preserved
 lines-preserved g c =
@@ -48,17 +49,18 @@ lines-preserved g c =
       c.in_ok-take_line.ensures.pending,
       counts.0,
       omega (arith, counts.1, now.5, more-len now.0 (take at rest)),
-      λ s part shows kept.
-          let h = now.6 s part shows kept in
-          takes-then J _ _ _ s part _ _ _ _ _ _ _ _ _ _ _ _ _ _ _ _ h (c.in_ok-take_line.ensures.takes _ h.open_part h.shows h.keeps),
+      λ trusts. now.6 (c.in_ok-take_line.ensures.trust trusts),
+      λ s part shows trusts kept.
+          let h = now.7 s part shows (c.in_ok-take_line.ensures.trust trusts) kept in
+          takes-then J _ _ _ s part _ _ _ _ _ _ _ _ _ _ _ _ _ _ _ _ h (c.in_ok-take_line.ensures.takes _ h.open_part h.shows trusts h.keeps),
     )
 
 pub returns-in-Ok-clause-takes : goal.returns-in-Ok-clause-takes
-returns-in-Ok-clause-takes g c = λ s part shows kept.
+returns-in-Ok-clause-takes g c = λ s part shows trusts kept.
     let J = within g.A.Answerer.LIMIT g.A.Answerer.judge g.A.Answerer.judge_long in
     let now = c.lines.invariant in
     let rest = c.lines.rest.now in
-    let h = now.6 s part shows kept in
+    let h = now.7 s part shows trusts kept in
     let most = g.A.Answerer.LIMIT + 2 in
     let keeps : c.keep.new.kept.items ≡ take most (h.open_part ++ rest) =
     c.in-Ok.ensures ∙ ap (λ n. take (n + 2) (c.lines.progress.kept.items ++ rest)) c.LIMIT.ensures
@@ -68,11 +70,11 @@ returns-in-Ok-clause-takes g c = λ s part shows kept.
     (takes-open J most _ _ h.open_part rest _ _ _ _ _ (free-from rest c.in_default.ensures) h.shows keeps))
 
 pub returns-in-Err-clause-stops : goal.returns-in-Err-clause-stops
-returns-in-Err-clause-stops g c = λ s part shows kept rest.
+returns-in-Err-clause-stops g c = λ s part shows trusts kept rest.
     let J = within g.A.Answerer.LIMIT g.A.Answerer.judge g.A.Answerer.judge_long in
     let now = c.lines.invariant in
     let left = c.lines.rest.now in
-    let h = now.6 s part shows kept in
+    let h = now.7 s part shows trusts kept in
     takes-stops J _ _ _ _ s part _ _ (lines_from h.open_part (left ++ rest)) _ _ _ _ _ _ _ _ _ _ _ h
     (ap (λ z. lines_from part (z ++ rest)) now.1 ∙ ap (lines_from part) (append_assoc now.0 left rest) ∙ h.goes (left ++ rest))
     (stops-here J _ _ _ _ _ _ _ h.shows refl now.3)
