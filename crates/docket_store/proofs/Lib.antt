@@ -1,3 +1,5 @@
+mod AgainLemmas
 mod ApplyLemmas
 mod OpeningLemmas
+mod ReopeningLemmas
 mod SoundLemmas

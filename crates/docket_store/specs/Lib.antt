@@ -1,4 +1,5 @@
 pub mod Applying
 pub mod Dockets
 pub mod Opening
+pub mod Reopening
 pub mod Sound

@@ -9,6 +9,8 @@ mod docket;
 mod fault;
 mod judging;
 mod laws;
+mod recovering;
+mod reopening;
 mod returned;
 mod sound;
 
@@ -16,5 +18,7 @@ pub use adopting::AdoptFault;
 pub use creating::CreateFault;
 pub use docket::Docket;
 pub use fault::Fault;
-pub use returned::Returned;
 pub use laws::courts_begin_without_a_record;
+pub use recovering::{RecoverFault, apply_again, recover};
+pub use reopening::{power_failures_leave_dockets, reopen, reopen_from, stop};
+pub use returned::Returned;

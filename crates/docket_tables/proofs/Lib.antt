@@ -21,6 +21,7 @@ mod OrderlyRows
 mod ProbeLemmas
 mod QueryLemmas
 pub mod ReadLemmas
+pub mod ReopenLemmas
 mod RowLemmas
 mod SelectLemmas
 mod StandsLemmas

@@ -1,0 +1,122 @@
+-- A command that is given again.
+use Rattle.std.proofs.Common.{◌≡◌, ◌⊎◌, inl, inr, Bool, true, false, not, cond, Option, Some, None, List, [], ◌∷◌, Ok, Err, Result, refl, sym, ap, subst, ◌∙◌}
+use Rattle.std.proofs.Math.Logic.{∥∥₁_map}
+use Rattle.std.specs.Prelude.{find, bytes_eq, if◌then◌else◌}
+use Rattle.std.specs.Option.{option_or}
+use Rattle.std.proofs.lemmas.List.Folds.{find-append}
+use Rattle.std.proofs.lemmas.Slice.Eq.{bytes_eq-Decides}
+use Rattle.sqlite.specs.Store.{Ghosts}
+use Rattle.court_days.specs.Court.{CourtSettings}
+use Rattle.docket_command.specs.Sameness.{is_same_command}
+use Rattle.docket_command.specs.declared.command.Action.{Action}
+use Rattle.docket_command.specs.declared.command.Action.TheVariants as action
+use Rattle.docket_command.specs.declared.command.Command.{Command}
+use Rattle.docket_command.specs.declared.refusal.Refusal.{Refusal}
+use Rattle.docket_command.specs.declared.refusal.Refusal.TheVariants as refusal
+use Rattle.docket_command.specs.declared.refusal.Reply.{Reply}
+use Rattle.docket_command.proofs.SamenessLemmas.{same_command}
+use Rattle.docket_core.specs.Histories.{History}
+use Rattle.docket_core.specs.Outcomes.{Answer, accepted, repeated, refused, answer_kept, kept, kept_by, receipts, reply_to, replied, shown, shown_fresh, outcome, after, after_answer}
+use Rattle.docket_core.specs.Refusals.{on, on_value, first_some, is_reused, refusal_of, state_refusals}
+use Rattle.docket_core.specs.Values.{is_word, first_bad, bad_values}
+use Rattle.docket_core.specs.declared.row.Receipt.{Receipt}
+use Rattle.docket_core.specs.declared.view.Kept.{Kept}
+use Rattle.docket_core.specs.declared.view.Kept.TheVariants.{Fresh, Same, Other}
+use Rattle.docket_core.specs.declared.view.View.{View}
+use Rattle.docket_core.proofs.Leading.{is_accepted}
+use Rattle.docket_store.specs.Applying.{Applies, Stands}
+use Rattle.docket_store.specs.Dockets.{Docket}
+use Rattle.docket_store.specs.Reopening.{AppliesOnce}
+use Rattle.docket_store.specs.declared.fault.Fault.{Fault}
+use Rattle.docket_store.proofs.ApplyLemmas.{after_repeated}
+
+-- what is accepted has a fresh key
+not_reused : (b c : Bool) (r s : Refusal) (rest : List (Option Refusal)) → first_some (on b r ∷ on c s ∷ rest) ≡ None → c ≡ false
+not_reused true c r s rest e = absurd (cc)
+not_reused false true r s rest e = absurd (cc)
+not_reused false false r s rest e = refl
+
+fresh_by : (court : CourtSettings) (k : Kept) (v : View) (c : Command) (reply : Reply) → v.kept ≡ k → refusal_of court v c ≡ None → answer_kept court k v c ≡ accepted reply → k ≡ Fresh
+fresh_by court Fresh v c reply is free e = refl
+fresh_by court (Same old) v c reply is free e = absurd (let clash : repeated old ≡ accepted reply = e in cc)
+fresh_by court Other v c reply is free e =
+    let off : is_reused v.kept ≡ false = not_reused (not (is_word 64 c.key)) (is_reused v.kept) refusal.BadKey refusal.KeyReused (on_value (first_bad (bad_values court c.action)) ∷ state_refusals court v c.action) free in
+    absurd (let clash : true ≡ false = sym (ap is_reused is) ∙ off in cc)
+
+none_found : (o : Option Receipt) (c : Command) → kept_by o c ≡ Fresh → o ≡ None
+none_found None c e = refl
+none_found (Some r) c e = absurd (by_test (is_same_command r.command c) e)
+  where
+    by_test : (b : Bool) → (if b then Same r.reply else Other) ≡ Fresh → ⊥
+    by_test true e = cc
+    by_test false e = cc
+
+-- the reply to an action does not tell what stands under the key
+reply_kept : (court : CourtSettings) (v : View) (k : Kept) (a : Action) → reply_to court (record v { kept = k }) a ≡ reply_to court v a
+reply_kept court v k (action.DeclareDay a) = refl
+reply_kept court v k (action.CloseDay a) = refl
+reply_kept court v k (action.CloseSpan a) = refl
+reply_kept court v k (action.WithdrawCalendar a) = refl
+reply_kept court v k (action.ImportCalendar a) = refl
+reply_kept court v k (action.OpenCase a) = refl
+reply_kept court v k (action.AddParty a) = refl
+reply_kept court v k (action.FileEntry a) = refl
+reply_kept court v k (action.RuleMotion a) = refl
+reply_kept court v k (action.Dispose a) = refl
+reply_kept court v k (action.StatementServed a) = refl
+reply_kept court v k (action.Extend a) = refl
+reply_kept court v k (action.Satisfy a) = refl
+reply_kept court v k (action.Vacate a) = refl
+reply_kept court v k a = refl
+
+-- a receipt that is the only one under the command's key
+kept_alone : (o : Option Receipt) (new : Receipt) → o ≡ None
+    → kept_by (option_or o (find (λ r. bytes_eq r.command.key new.command.key) (new ∷ []))) new.command ≡ Same new.reply
+kept_alone None new e =
+    (λ i. kept_by (cond ((bytes_eq-Decides new.command.key new.command.key).1 refl i) (Some new) None) new.command)
+    ∙ (λ i. if (same_command new.command new.command).1 refl i then Same new.reply else Other)
+kept_alone (Some r) new e = absurd (cc)
+
+-- a command that was accepted is a repeat from then on, with the reply that it had
+pub repeats : (court : CourtSettings) (h : History) (c : Command) (n : Reply) → outcome court h c ≡ accepted n → outcome court (c ∷ h) c ≡ repeated n
+repeats court h c n e =
+    let v : View = shown court h c in
+    let new : Receipt = record { command = c; reply = replied (reply_to court (shown_fresh h c.action) c.action) } in
+    let met = is_accepted court v c n e in
+    let test = λ (r : Receipt). bytes_eq r.command.key c.key in
+    let none : find test (receipts court h) ≡ None = none_found _ c (fresh_by court v.kept v c n refl met.free e) in
+    let found : kept (receipts court (c ∷ h)) c ≡ Same new.reply = ap (λ o. kept_by o c) (find-append test (receipts court h) (new ∷ [])) ∙ kept_alone (find test (receipts court h)) new none in
+    let due : new.reply ≡ n = sym (met.due ∙ ap replied (reply_kept court (shown_fresh h c.action) v.kept c.action)) in
+    ap (λ k. answer_kept court k (shown court (c ∷ h) c) c) found ∙ ap repeated due
+
+-- what is given again changes nothing more
+pub after_again : (court : CourtSettings) (h : History) (c : Command) → after court (after court h c) c ≡ after court h c
+after_again court h c = at (outcome court h c) refl
+  where
+    at : (a : Answer) → outcome court h c ≡ a → after court (after_answer a h c) c ≡ after_answer a h c
+    at (accepted n) e = after_repeated court (c ∷ h) c n (repeats court h c n e)
+    at (repeated n) e = after_repeated court h c n e
+    at (refused r) e = ap (λ a. after_answer a h c) e
+
+reply_again : (court : CourtSettings) (h : History) (c : Command) (reply : Reply) (a : Answer) → outcome court h c ≡ a
+    → (outcome court (after_answer a h c) c ≡ accepted reply) ⊎ (outcome court (after_answer a h c) c ≡ repeated reply) → (a ≡ accepted reply) ⊎ (a ≡ repeated reply)
+reply_again court h c reply (accepted n) e (inl new) = absurd (let clash : repeated n ≡ accepted reply = sym (repeats court h c n e) ∙ new in cc)
+reply_again court h c reply (accepted n) e (inr old) = inl (let same : repeated n ≡ repeated reply = sym (repeats court h c n e) ∙ old in cc)
+reply_again court h c reply (repeated n) e (inl new) = inl (sym e ∙ new)
+reply_again court h c reply (repeated n) e (inr old) = inr (sym e ∙ old)
+reply_again court h c reply (refused r) e (inl new) = inl (sym e ∙ new)
+reply_again court h c reply (refused r) e (inr old) = inr (sym e ∙ old)
+
+-- the answer where the command stood already is the answer where it did not
+pub applies_once : {S : Type 0} (g : Ghosts S) (d : Docket S) (h : History) (c : Command) (reply : Reply)
+    → Applies g d (after d.court h c) c (Ok reply) → Applies g d h c (Ok reply)
+applies_once g d h c reply given = (
+  subst (λ (x : History). Stands g d x) (after_again d.court h c) given.0,
+  λ clean. reply_again d.court h c reply (outcome d.court h c) refl (given.1 clean),
+)
+
+pub once_given : {S : Type 0} (g : Ghosts S) (d : Docket S) (court : CourtSettings) (h : History) (c : Command) (r : Result Reply Fault)
+    → ∥ (Applies g d h c r ⊎ Applies g d (after court h c) c r) × (d.court ≡ court) ∥₁ → AppliesOnce g d court h c r
+once_given g d court h c (Ok reply) given =
+    ∥∥₁_map given (λ one. (elim one.0 [ inl fresh ↦ fresh | inr stood ↦ applies_once g d h c reply (subst (λ (s : CourtSettings). Applies g d (after s h c) c (Ok reply)) (sym one.1) stood) ], one.1))
+once_given g d court h c (Err fault) given = given

@@ -1,0 +1,96 @@
+-- What an open finds of a docket.
+use Rattle.std.proofs.Common.{◌≡◌, ◌⊎◌, inl, inr, Ok, Err, Result, IfOk, IsTrue, refl, sym, subst}
+use Rattle.std.proofs.Math.Logic.{∥∥₁_elim, ∥∥₁_map}
+use Rattle.sqlite_pool.proofs.ResealLemmas.{adopts_of}
+use Rattle.sqlite_pool.proofs.StateLemmas.{size_is_allowed}
+use Rattle.sqlite_catalog.specs.Listing.{IsSound}
+use Rattle.sqlite_disk.specs.declared.Disk.{Ghosts}
+use Rattle.sqlite_wal.specs.Recovery.{Image}
+use Rattle.sqlite_store.specs.declared.store.FileStore.{FileStore}
+use Rattle.sqlite_store.specs.FileStore.{state, view, recovers, reading, schema_in}
+use Rattle.sqlite_store.specs.Listing.{IsOurs}
+use Rattle.sqlite_trees.specs.View.{IsRolledBack as IsUndone}
+use Rattle.sqlite.specs.Tree.{Trees}
+use Rattle.sqlite.specs.Files.{HoldsDatabase, IsOpened, file_state, over_files}
+use Rattle.sqlite.specs.Held.{Held, IsNew}
+use Rattle.sqlite.specs.State.{HasCleanDisk, State}
+use Rattle.court_days.specs.Court.{CourtSettings}
+use Rattle.docket_core.specs.Histories.{History}
+use Rattle.docket_tables.specs.Schema.{docket_schema}
+use Rattle.docket_tables.specs.Layouts.{Rows}
+use Rattle.docket_tables.specs.Stands.{IsImage, IsEither, IsSettled}
+use Rattle.docket_tables.proofs.ReopenLemmas.{image_known, opened_stands}
+use Rattle.docket_store.specs.Applying.{StandsFor, docket_rows}
+use Rattle.docket_store.specs.Reopening.{HoldDocket, HoldEither, LeavesEither, MayLeave, StandsForEither}
+
+-- what three clauses say of a value
+pub if_ok : {T E : Type 0} (A B C P : T → Type 0) (r : Result T E) → ((x : T) → A x → B x → C x → P x) → IfOk r A → IfOk r B → IfOk r C → IfOk r P
+if_ok A B C P (Ok x) then a b c = then x a b c
+if_ok A B C P (Err e) then a b c = a
+
+-- What a power failure may leave of the files holds a database that the store allows, where each of those has the docket's tables.
+holds_allowed : {D : Type 0} {g : Ghosts D} (it : FileStore D g) → IsTrue (view it).is_numbered → ((db : Trees) → recovers it db → ∥ IsSound docket_schema db ∥₁)
+    → (files : Image) → (state it).may_leave files → ∥ ((db : Trees) × recovers it db × HoldsDatabase files db) ∥₁
+holds_allowed it numbered sound files may = ∥∥₁_elim it.safe squash₁ (λ all.
+    let found = all files may in
+    let db : Trees = reading it found.0 in
+    let allowed : recovers it db = (files, found.0, may, ∣ found.1 ∣₁, refl) in
+    ∥∥₁_elim (size_is_allowed it.pool) squash₁ (λ size. ∥∥₁_elim (sound db allowed) squash₁ (λ lists. ∥∥₁_map found.2 (λ ours.
+    let r : (x : Trees) × recovers it x × HoldsDatabase files x = (
+      db,
+      allowed,
+      (
+        (state it).page_size,
+        size,
+        record {
+          pages = found.0;
+          wanted = schema_in it found.0;
+          schema = docket_schema;
+          found = adopts_of _ files found.0 found.1;
+          reads = refl;
+          sound = lists;
+          ours = subst (λ b. IsOurs (state it).page_size b (schema_in it found.0) found.0) numbered ours;
+        },
+      ),
+    ) in r))))
+
+either_sound : (rows next : Rows) (db : Trees) → IsImage rows db ⊎ IsImage next db → ∥ IsSound docket_schema db ∥₁
+either_sound rows next db (inl image) = image.sound
+either_sound rows next db (inr image) = image.sound
+
+pub leaves_docket : {D : Type 0} {g : Ghosts D} (it : FileStore D g) (court : CourtSettings) (h next : History) (files : Image)
+    → LeavesEither it court h next → MayLeave it files → HoldEither files court h next
+leaves_docket it court h next files leaves may =
+    let sound : (db : Trees) → recovers it db → ∥ IsSound docket_schema db ∥₁ = λ db allowed. either_sound _ _ db (leaves.images db allowed) in
+    ∥∥₁_map (holds_allowed it leaves.numbered sound files may) (λ found. elim (leaves.images found.0 found.1) [
+      | inl image ↦ inl ∣ (found.0, found.2, image) ∣₁
+      | inr image ↦ inr ∣ (found.0, found.2, image) ∣₁
+    ])
+
+module _ {D : Type 0} {g : Ghosts D} (files : Image) (conn : Held (FileStore D g)) (new : IsNew conn) (opened : HasCleanDisk (file_state conn) → IsOpened conn)
+    (found : HasCleanDisk (file_state conn) → (db : Trees) → HoldsDatabase files db → (file_state conn).committed.trees ≡ db)
+    (settled : (db : Trees) → IsTrue (file_state conn).is_open → (file_state conn).may_leave db → db ≡ (file_state conn).committed.trees) where
+  pub stands_again : (court : CourtSettings) (h : History) → HoldDocket files court h → StandsFor over_files conn court h
+  stands_again court h held = (
+    new.autocommit,
+    λ clean.
+        let rows : Rows = docket_rows court h in
+        let image : IsImage rows (file_state conn).committed.trees =
+        image_known rows _ (∥∥₁_map held (λ one. subst (IsImage rows) (sym (found clean one.0 one.1)) one.2)) in
+        opened_stands (file_state conn) rows (opened clean).0 (opened clean).1 settled image,
+  )
+
+  pub stands_for_either : (court : CourtSettings) (h next : History) → HoldEither files court h next → StandsForEither over_files conn court h next
+  stands_for_either court h next held = ∥∥₁_map held (λ one. elim one [ inl was ↦ inl (stands_again court h was) | inr is ↦ inr (stands_again court next is) ])
+
+-- What a power failure leaves of a store, it leaves of an earlier one of the same numbers that it leaves no less of.
+module _ {D : Type 0} {g : Ghosts D} (conn : Held (FileStore D g)) (last : FileStore D g) (undone : IsUndone (view conn.store) (view last)) (numbered : IsTrue (view last).is_numbered)
+    (fewer : (db : Trees) → recovers last db → recovers conn.store db) where
+  pub leaves_both : (court : CourtSettings) (h next : History) → IsEither (file_state conn) (docket_rows court h) (docket_rows court next) → LeavesEither conn.store court h next × LeavesEither last court h next
+  leaves_both court h next either = (
+    record { numbered = subst IsTrue undone.numbered numbered; images = either.images },
+    record { numbered = numbered; images = λ db may. either.images db (fewer db may) },
+  )
+
+pub either_of_settled : (s : State) (rows : Rows) → IsSettled s rows → IsEither s rows rows
+either_of_settled s rows settled = record { images = λ db may. inl (settled.images db may); settled = λ _. settled }

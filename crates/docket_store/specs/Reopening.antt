@@ -1,0 +1,53 @@
+-- What a run leaves for the next one.
+use Rattle.std.specs.Prelude.{◌≡◌, ◌⊎◌, IsTrue, Result, Ok, Err}
+use Rattle.sqlite_disk.specs.declared.Disk.{Ghosts as Disk}
+use Rattle.sqlite_wal.specs.Recovery.{Image}
+use Rattle.sqlite_store.specs.declared.store.FileStore.{FileStore}
+use Rattle.sqlite_store.specs.FileStore.{state, view, recovers}
+use Rattle.sqlite.specs.Store.{Ghosts}
+use Rattle.sqlite.specs.Tree.{Trees}
+use Rattle.sqlite.specs.Files.{HoldsDatabase}
+use Rattle.sqlite.specs.Held as held
+use Rattle.sqlite.specs.Held.{Held}
+use Rattle.sqlite.specs.State.{HasCleanDisk}
+use Rattle.court_days.specs.Court.{CourtSettings}
+use Rattle.docket_command.specs.declared.command.Command.{Command}
+use Rattle.docket_command.specs.declared.refusal.Reply.{Reply}
+use Rattle.docket_core.specs.Histories.{History}
+use Rattle.docket_core.specs.Outcomes.{after}
+use Rattle.docket_tables.specs.Stands.{IsImage}
+use Rattle.docket_store.specs.Applying.{StandsFor, Stands, docket_rows, Applies, Faults}
+use Rattle.docket_store.specs.Dockets.{Docket}
+use Rattle.docket_store.specs.declared.fault.Fault.{Fault}
+
+-- the database file and its log hold the docket
+abbrev pub HoldDocket : Image → CourtSettings → History → Type 0
+HoldDocket files court h = ∥ ((db : Trees) × HoldsDatabase files db × IsImage (docket_rows court h) db) ∥₁
+
+-- a power failure leaves the docket of the one history or of the other
+pub record LeavesEither {D : Type 0} {g : Disk D} (it : FileStore D g) (court : CourtSettings) (h next : History) : Type 0 where
+  -- so it is of the store of every connection
+  pub numbered : IsTrue (view it).is_numbered
+  pub images : (db : Trees) → recovers it db → IsImage (docket_rows court h) db ⊎ IsImage (docket_rows court next) db
+
+-- the two files may hold these bytes after a power failure at this moment
+abbrev pub MayLeave : {D : Type 0} {g : Disk D} → FileStore D g → Image → Type 0
+MayLeave it files = (state it).may_leave files
+
+-- the files hold the docket of the one history or of the other
+abbrev pub HoldEither : Image → CourtSettings → History → History → Type 0
+HoldEither files court h next = ∥ HoldDocket files court h ⊎ HoldDocket files court next ∥₁
+
+-- the connection stands for the docket of the one history or of the other
+abbrev pub StandsForEither : {S : Type 0} → Ghosts S → Held S → CourtSettings → History → History → Type 0
+StandsForEither g conn court h next = ∥ StandsFor g conn court h ⊎ StandsFor g conn court next ∥₁
+
+-- the docket of the court is that of the one history or of the other
+abbrev pub IsEither : {S : Type 0} → Ghosts S → Docket S → CourtSettings → History → History → Type 0
+IsEither g d court h next =
+    HasCleanDisk (held.state g d.conn) → ∥ (Stands g d h ⊎ Stands g d next) × (d.court ≡ court) ∥₁
+
+-- a command that is given again where it may stand already: it is answered, and stands once
+abbrev pub AppliesOnce : {S : Type 0} → Ghosts S → Docket S → CourtSettings → History → Command → Result Reply Fault → Type 0
+AppliesOnce g d court h c (Ok reply) = ∥ Applies g d h c (Ok reply) × (d.court ≡ court) ∥₁
+AppliesOnce g d court h c (Err fault) = ∥ (Faults g d h c fault ⊎ Faults g d (after court h c) c fault) × (d.court ≡ court) ∥₁

@@ -1,0 +1,78 @@
+//! Going on where a run stopped, also one that a power failure stopped.
+ghost use Rattle.std.specs.Prelude.{IsTrue, IfOk};
+ghost use Rattle.sqlite_store.specs.declared.store.FileStore.{FileStore};
+ghost use Rattle.sqlite.specs.Files.{over_files, image_of};
+ghost use Rattle.sqlite.specs.Held.{state};
+ghost use Rattle.sqlite.specs.State.{HasCleanDisk};
+ghost use Rattle.court_days.specs.Court.{CourtSettings};
+ghost use Rattle.docket_core.specs.Histories.{History};
+ghost use Rattle.docket_core.specs.Outcomes.{after};
+ghost use Rattle.docket_store.specs.Applying.{IsDocket};
+ghost use Rattle.docket_store.specs.Reopening.{AppliesOnce, IsEither, LeavesEither, MayLeave};
+
+use crate::adopting::AdoptFault;
+use crate::docket::Docket;
+use crate::fault::Fault;
+use crate::reopening::reopen;
+use crate::returned::Returned;
+use docket_command::{Command, Reply};
+use sqlite::{Error, FileStore, Files, Leftover, Options};
+use sqlite_disk::Disk;
+use std::alloc::Global;
+
+/// Why a run did not go on, and what is left of its files.
+pub enum RecoverFault<D: Disk> {
+    /// The files could not be opened.
+    NotOpened(Error, Leftover<D>),
+    /// They were opened, and not adopted.
+    NotAdopted(Returned<FileStore<D>, AdoptFault>),
+}
+
+impl<D: Disk> From<(Error, Leftover<D>)> for RecoverFault<D> {
+    fn from(fault: (Error, Leftover<D>)) -> RecoverFault<D> {
+        RecoverFault::NotOpened(fault.0, fault.1)
+    }
+}
+
+impl<D: Disk> From<Returned<FileStore<D>, AdoptFault>> for RecoverFault<D> {
+    fn from(fault: Returned<FileStore<D>, AdoptFault>) -> RecoverFault<D> {
+        RecoverFault::NotAdopted(fault)
+    }
+}
+
+/// Opens the database file and its log, whatever a run left in them, and adopts their docket. Where a
+/// power failure stopped the run at a command, it is the docket without the command or with it.
+pub fn recover<D: Disk + Drop>(
+    alloc: Global,
+    files: Files<D>,
+    options: Options,
+) -> Result<Docket<FileStore<D>>, RecoverFault<D>>
+    requires log { IsTrue (D.Disk.is_usable files.log) }
+    requires db { IsTrue (D.Disk.is_usable files.db) }
+    ensures either { (it : FileStore D D.Disk) (court : CourtSettings) (h next : History) → IsDocket court h → IsDocket court next
+        → LeavesEither it court h next → MayLeave it (image_of D.Disk files)
+        → IfOk result (λ docket. IsEither over_files docket court h next) }
+{
+    let conn = reopen(alloc, files, options)?;
+    let docket = Docket::adopt(alloc, conn)?;
+    Ok(docket)
+}
+
+/// Goes on where a power failure stopped a run at a command, and gives the command again: an answer is
+/// the one that it had or was to have, and the command stands once.
+pub fn apply_again<D: Disk + Drop>(
+    alloc: Global,
+    files: Files<D>,
+    options: Options,
+    command: &Command,
+) -> Result<(Docket<FileStore<D>>, Result<Reply, Fault>), RecoverFault<D>>
+    requires log { IsTrue (D.Disk.is_usable files.log) }
+    requires db { IsTrue (D.Disk.is_usable files.db) }
+    ensures once { (it : FileStore D D.Disk) (court : CourtSettings) (h : History) → IsDocket court h → IsDocket court (after court h command.now)
+        → LeavesEither it court h (after court h command.now) → MayLeave it (image_of D.Disk files)
+        → IfOk result (λ r. HasCleanDisk (state over_files r.0.conn) → AppliesOnce over_files r.0 court h command.now r.1) }
+{
+    let mut docket = recover(alloc, files, options)?;
+    let answer = docket.apply(command);
+    Ok((docket, answer))
+}
