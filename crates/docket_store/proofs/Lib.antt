@@ -2,4 +2,5 @@ mod AgainLemmas
 mod ApplyLemmas
 mod OpeningLemmas
 mod ReopeningLemmas
+mod RunLemmas
 mod SoundLemmas

@@ -2,4 +2,5 @@ pub mod Applying
 pub mod Dockets
 pub mod Opening
 pub mod Reopening
+pub mod Sequence
 pub mod Sound

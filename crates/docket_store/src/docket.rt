@@ -24,6 +24,7 @@ use std::alloc::Global;
 use std::marker::Model;
 
 /// The docket of a court, kept in a database.
+#[derive(Drop)]
 pub struct Docket<S: Alter> {
     alloc: Global,
     conn: Connection<S>,

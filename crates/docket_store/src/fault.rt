@@ -10,7 +10,7 @@ ghost use Rattle.docket_store.specs.Applying.{FailsAs};
 use docket_command::Refusal;
 use docket_tables::{ReadFault, StoreFault, fault_of};
 use sqlite::{Alter, Connection, Error};
-use std::alloc::AllocError;
+use std::alloc::{AllocError, AllocFailed};
 use std::fmt;
 
 /// Why a command was not applied, or a question was not answered.
@@ -36,6 +36,17 @@ impl From<AllocError> for Fault {
     ghost from_gives = { λ _ fault. fault ≡ NoMemory };
 
     fn from(_: AllocError) -> Fault {
+        Fault::NoMemory
+    }
+}
+
+impl<T: Drop> From<AllocFailed<T>> for Fault {
+    ghost use Rattle.std.specs.Prelude.{◌≡◌};
+    ghost use Rattle.docket_store.specs.declared.fault.Fault.TheVariants.{NoMemory};
+
+    ghost from_gives = { λ _ fault. fault ≡ NoMemory };
+
+    fn from(_: AllocFailed<T>) -> Fault {
         Fault::NoMemory
     }
 }

@@ -12,6 +12,7 @@ mod laws;
 mod recovering;
 mod reopening;
 mod returned;
+mod sequence;
 mod sound;
 
 pub use adopting::AdoptFault;
@@ -22,3 +23,4 @@ pub use laws::courts_begin_without_a_record;
 pub use recovering::{RecoverFault, apply_again, recover};
 pub use reopening::{power_failures_leave_dockets, reopen, reopen_from, stop};
 pub use returned::Returned;
+pub use sequence::apply_all;

@@ -1,0 +1,12 @@
+use Rattle.std.proofs.Common.{sym, ap, subst}
+use Rattle.docket_core.specs.Histories.{History}
+use Rattle.docket_core.specs.Outcomes.{after_answer}
+use Rattle.docket_store.specs.Applying.{Faults, Stands}
+use Rattle.docket_store.specs.declared.fault.Fault.{Fault}
+use Rattle.docket_store.proofs.sequence.answer.Goals as goal
+
+pub returns-in-Err-Refused-clause-answer : goal.returns-in-Err-Refused-clause-answer
+returns-in-Err-Refused-clause-answer g c h stands clean =
+    let told = subst (λ (f : Fault). Faults g.S.Store c.apply.new.self h c.args.command.now f) c.in-Err-Refused.field-0-is (c.in-Err-Refused.ensures.answer h stands) in
+    let refused = told.1 clean in
+    (subst (λ (x : History). Stands g.S.Store c.apply.new.self x) (sym (ap (λ a. after_answer a h c.args.command.now) refused)) told.0, refused)

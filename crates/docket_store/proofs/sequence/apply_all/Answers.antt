@@ -1,0 +1,27 @@
+use Rattle.std.proofs.Common.{◌<◌, ◌∙◌, length, take, sym, subst, arith}
+use Rattle.court_days.specs.Court.{CourtSettings}
+use Rattle.docket_core.specs.Histories.{History}
+use Rattle.docket_core.specs.Outcomes.{run, answers}
+use Rattle.docket_store.specs.Applying.{Stands}
+use Rattle.docket_store.specs.Sequence.{AreReplies}
+use Rattle.docket_store.proofs.RunLemmas.{run_more, replies_more}
+use Rattle.docket_store.proofs.sequence.apply_all.Goals as goal
+
+pub commands-preserved : goal.commands-preserved
+commands-preserved g c =
+    let i = c.commands.command-index in
+    let cs = c.args.commands.now in
+    let command = c.command-item.result in
+    let inside : i < length cs = omega arith in
+    record {
+      court = c.answer.ensures.court ∙ c.commands.invariant.court;
+      clean = omega (arith, c.commands.invariant.clean, c.answer.ensures.clean);
+      answers = λ h stands clean.
+          let court = c.answer.new.docket.court in
+          let was = c.commands.invariant.answers h stands (omega (arith, c.answer.ensures.clean)) in
+          let before = subst (λ (k : CourtSettings). Stands g.S.Store c.commands.docket (run k h (take i cs)) × AreReplies c.commands.replies.items (answers k h (take i cs))) (sym c.answer.ensures.court) was in
+          let now = c.in_ok-reply.ensures.answer (run court h (take i cs)) before.0 clean in (
+            subst (λ (x : History). Stands g.S.Store c.answer.new.docket x) (run_more court h cs i command inside c.command-item.is) now.0,
+            replies_more court h cs i command inside c.command-item.is c.commands.replies.items c.push.new.self.items c.in_ok-reply.reply before.1 now.1 c.in_ok-push.ensures.items,
+          );
+    }

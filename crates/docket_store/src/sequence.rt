@@ -1,0 +1,49 @@
+//! Commands in order, each in a transaction of its own.
+ghost use Rattle.std.specs.Prelude.{◌≡◌, ◌≤◌, IfOk};
+ghost use Rattle.sqlite.specs.Held.{state};
+ghost use Rattle.sqlite.specs.View.{doubt};
+ghost use Rattle.docket_core.specs.Histories.{History};
+ghost use Rattle.docket_store.specs.Applying.{Stands};
+ghost use Rattle.docket_store.specs.Sequence.{Answers, AnswersAll};
+
+use crate::docket::Docket;
+use crate::fault::Fault;
+use docket_command::{Command, Refusal, Reply};
+use sqlite::Alter;
+use std::alloc::Global;
+
+/// The reply to a command, or its refusal.
+fn answer<S: Alter>(
+    docket: &mut Docket<S>,
+    command: &Command,
+) -> Result<Result<Reply, Refusal>, Fault>
+    ensures court { docket.new.court ≡ docket.old.court }
+    ensures clean { doubt (state S.Store docket.old.conn).is_clean ≤ doubt (state S.Store docket.new.conn).is_clean }
+    ensures answer { (h : History) → Stands S.Store docket.old h → IfOk result (Answers S.Store docket.new h command.now) }
+{
+    match docket.apply(command) {
+        Ok(reply) => Ok(Ok(reply)),
+        Err(Fault::Refused(refusal)) => Ok(Err(refusal)),
+        Err(fault) => Err(fault),
+    }
+}
+
+/// The replies to commands in order, each judged in the docket that those before it left. A refused
+/// command does not stop the others; another fault does, and then the commands before it stand.
+pub fn apply_all<S: Alter>(
+    alloc: Global,
+    docket: &mut Docket<S>,
+    commands: &[Command],
+) -> Result<Vec<Result<Reply, Refusal>>, Fault>
+    ensures court { docket.new.court ≡ docket.old.court }
+    ensures clean { doubt (state S.Store docket.old.conn).is_clean ≤ doubt (state S.Store docket.new.conn).is_clean }
+    ensures answers { (h : History) → Stands S.Store docket.old h
+        → IfOk result (λ replies. AnswersAll S.Store docket.new h commands.now replies.items) }
+{
+    let mut replies = Vec::new(alloc);
+    'commands: for command in commands {
+        let reply = answer(docket, command)?;
+        replies.push(reply)?;
+    }
+    Ok(replies)
+}
