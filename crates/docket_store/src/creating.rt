@@ -1,10 +1,11 @@
 //! A new docket in a database.
-ghost use Rattle.std.specs.Prelude.{◌≡◌, ◌≤◌, [], false, OnOk, IfErr};
+ghost use Rattle.std.specs.Prelude.{◌≡◌, ◌≤◌, [], false, Err, IsTrue, OnOk, IfErr};
 ghost use Rattle.sqlite.specs.Held.{state};
 ghost use Rattle.sqlite.specs.View.{doubt};
 ghost use Rattle.docket_tables.specs.Recognition.{has_docket_table};
 ghost use Rattle.docket_store.specs.Applying.{StandsFor};
 ghost use Rattle.docket_store.specs.Opening.{IsNotMade};
+ghost use Rattle.docket_store.specs.declared.creating.CreateFault.TheVariants as fault;
 
 use court_days::Court;
 use docket_tables::{StoreFault, has_docket_table, is_bare, make};
@@ -42,6 +43,7 @@ pub(crate) fn make_docket<S: Alter>(
     ensures clean { doubt (state S.Store conn.old).is_clean ≤ doubt (state S.Store conn.new).is_clean }
     ensures made { OnOk result (StandsFor S.Store conn.new court.now []) }
     ensures empty { OnOk result (has_docket_table conn.old.schema ≡ false) }
+    ensures full { IsTrue (has_docket_table conn.old.schema) → result ≡ Err fault.NotEmpty }
     ensures fault { IfErr result (IsNotMade S.Store conn.old conn.new court.now) }
 {
     if has_docket_table(conn.schema()) {

@@ -1,5 +1,5 @@
 //! The docket of a court in a database.
-ghost use Rattle.std.specs.Prelude.{◌≡◌, ◌↔◌, ◌≤◌, [], true, false, Err, IfOk, OnOk, IfErr, MatchResult};
+ghost use Rattle.std.specs.Prelude.{◌≡◌, ◌↔◌, ◌≤◌, [], true, false, Err, IfOk, OnOk, IfErr, IsErrAnd, IsTrue, MatchResult};
 ghost use Rattle.sqlite.specs.Held.{state};
 ghost use Rattle.sqlite.specs.View.{doubt};
 ghost use Rattle.court_days.specs.Court.{CourtSettings};
@@ -8,6 +8,7 @@ ghost use Rattle.docket_tables.specs.Recognition.{has_court, has_docket_table};
 ghost use Rattle.docket_store.specs.Applying.{IsDocket, StandsFor, Stands, Applies, docket_rows};
 ghost use Rattle.docket_store.specs.Opening.{IsAdopted, IsNotAdopted, IsNotMade};
 ghost use Rattle.docket_store.specs.declared.adopting.AdoptFault.TheVariants.{Empty};
+ghost use Rattle.docket_store.specs.declared.creating.CreateFault.TheVariants.{NotEmpty};
 ghost use Rattle.docket_store.specs.declared.fault.Fault.TheVariants as fault;
 
 use crate::adopting::{AdoptFault, find_court};
@@ -64,6 +65,7 @@ impl<S: Alter> Docket<S> {
     ) -> Result<Docket<S>, Returned<S, CreateFault>>
         ensures made { IfOk result (λ docket. Stands S.Store docket [] × (docket.court ≡ court)) }
         ensures empty { OnOk result (has_docket_table conn.schema ≡ false) }
+        ensures full { IsTrue (has_docket_table conn.schema) → IsErrAnd result (λ returned. returned.fault ≡ NotEmpty) }
         ensures fault { IfErr result (λ returned. IsNotMade S.Store conn returned.connection court returned.fault) }
     {
         let mut connection = conn;
