@@ -1,10 +1,10 @@
 //! Commands in order, each in a transaction of its own.
-ghost use Rattle.std.specs.Prelude.{◌≡◌, ◌≤◌, IfOk};
+ghost use Rattle.std.specs.Prelude.{◌≡◌, ◌≤◌, IfOk, IfErr};
 ghost use Rattle.sqlite.specs.Held.{state};
 ghost use Rattle.sqlite.specs.View.{doubt};
 ghost use Rattle.docket_core.specs.Histories.{History};
 ghost use Rattle.docket_store.specs.Applying.{Stands};
-ghost use Rattle.docket_store.specs.Sequence.{Answers, AnswersAll};
+ghost use Rattle.docket_store.specs.Sequence.{Answers, AnswersAll, Halts, BreaksOff};
 
 use crate::docket::Docket;
 use crate::fault::Fault;
@@ -20,6 +20,7 @@ fn answer<S: Alter>(
     ensures court { docket.new.court ≡ docket.old.court }
     ensures clean { doubt (state S.Store docket.old.conn).is_clean ≤ doubt (state S.Store docket.new.conn).is_clean }
     ensures answer { (h : History) → Stands S.Store docket.old h → IfOk result (Answers S.Store docket.new h command.now) }
+    ensures halts { (h : History) → Stands S.Store docket.old h → IfErr result (Halts S.Store docket.new h command.now) }
 {
     match docket.apply(command) {
         Ok(reply) => Ok(Ok(reply)),
@@ -39,6 +40,7 @@ pub fn apply_all<S: Alter>(
     ensures clean { doubt (state S.Store docket.old.conn).is_clean ≤ doubt (state S.Store docket.new.conn).is_clean }
     ensures answers { (h : History) → Stands S.Store docket.old h
         → IfOk result (λ replies. AnswersAll S.Store docket.new h commands.now replies.items) }
+    ensures halts { (h : History) → Stands S.Store docket.old h → IfErr result (BreaksOff S.Store docket.new h commands.now) }
 {
     let mut replies = Vec::new(alloc);
     'commands: for command in commands {
