@@ -1,5 +1,6 @@
 mod AgainLemmas
 mod ApplyLemmas
+mod AskLemmas
 mod OpeningLemmas
 mod ReopeningLemmas
 mod RunLemmas

@@ -19,7 +19,7 @@ use Rattle.docket_core.specs.declared.item.CalendarItem.TheVariants.{Day, Span}
 use Rattle.docket_core.specs.declared.view.DeadlineView.{DeadlineView}
 use Rattle.docket_core.specs.declared.view.View.{View}
 use Rattle.docket_core.proofs.Passed.{left_true, right_true}
-use Rattle.docket_store.specs.Sound.{is_entered_item, begins_in_time, are_acts, are_lawful}
+use Rattle.docket_store.specs.Sound.{is_entered_item, begins_in_time, are_acts, are_lawful, IsSoundCase}
 
 both_true : (a b : Bool) → a ≡ true → b ≡ true → (a && b) ≡ true
 both_true true b e f = f
@@ -96,3 +96,18 @@ items_passed court v is = all_passed is_entered_item IsEnteredItem item_passed v
 
 pub lawful_passed : (court : CourtSettings) (v : View) → IsSoundView court v → are_lawful (zone_of court) (deadlines_in v.case) ≡ true
 lawful_passed court v is = all_passed (λ (d : DeadlineView). are_acts (zone_of court) d.acts) (λ (d : DeadlineView). AreActs (zone_of court) d.acts) (acts_passed (zone_of court)) (deadlines_in v.case) is.acts
+
+module _ (court : CourtSettings) (items : List CalendarItem) (ds : List DeadlineView) where
+  pub case_told : length items ≤ 4000 → length ds ≤ 1000 → list_all is_entered_item items ≡ true → are_lawful (zone_of court) ds ≡ true → IsSoundCase court items ds
+  case_told rows few entered lawful = record {
+    entered = all_told is_entered_item IsEnteredItem item_told items entered;
+    rows = rows;
+    few = few;
+    acts = all_told (λ (d : DeadlineView). are_acts (zone_of court) d.acts) (λ (d : DeadlineView). AreActs (zone_of court) d.acts) (acts_told (zone_of court)) ds lawful;
+  }
+
+  pub case_items_passed : IsSoundCase court items ds → list_all is_entered_item items ≡ true
+  case_items_passed is = all_passed is_entered_item IsEnteredItem item_passed items is.entered
+
+  pub case_acts_passed : IsSoundCase court items ds → are_lawful (zone_of court) ds ≡ true
+  case_acts_passed is = all_passed (λ (d : DeadlineView). are_acts (zone_of court) d.acts) (λ (d : DeadlineView). AreActs (zone_of court) d.acts) (acts_passed (zone_of court)) ds is.acts

@@ -3,9 +3,11 @@ ghost use Rattle.std.specs.Prelude.{◌≡◌, ◌↔◌, ◌≤◌, [], true, f
 ghost use Rattle.sqlite.specs.Held.{state};
 ghost use Rattle.sqlite.specs.View.{doubt};
 ghost use Rattle.court_days.specs.Court.{CourtSettings};
+ghost use Rattle.std.specs.Option.{option_map};
 ghost use Rattle.docket_core.specs.Histories.{History};
+ghost use Rattle.docket_core.specs.Records.{case_record, deadline_lines};
 ghost use Rattle.docket_tables.specs.Recognition.{has_court, has_docket_table};
-ghost use Rattle.docket_store.specs.Applying.{IsDocket, StandsFor, Stands, Applies, docket_rows};
+ghost use Rattle.docket_store.specs.Applying.{IsDocket, StandsFor, Stands, Applies, Asks, docket_rows};
 ghost use Rattle.docket_store.specs.Opening.{IsAdopted, IsNotAdopted, IsNotMade};
 ghost use Rattle.docket_store.specs.declared.adopting.AdoptFault.TheVariants.{Empty};
 ghost use Rattle.docket_store.specs.declared.creating.CreateFault.TheVariants.{NotEmpty};
@@ -13,13 +15,14 @@ ghost use Rattle.docket_store.specs.declared.fault.Fault.TheVariants as fault;
 
 use crate::adopting::{AdoptFault, find_court};
 use crate::applying::apply_to;
+use crate::asking::{lines_numbered, record_numbered};
 use crate::creating::{CreateFault, make_docket};
 use crate::fault::Fault;
 use crate::laws::courts_begin_without_a_record;
 use crate::returned::Returned;
 use court_days::Court;
 use docket_command::{Command, Reply};
-use docket_core::CalendarItems;
+use docket_core::{CalendarItems, CaseRecord, DeadlineLine};
 use sqlite::{Alter, Connection};
 use std::alloc::Global;
 use std::marker::Model;
@@ -50,7 +53,7 @@ impl<S: Alter> Model for Docket<S> {
 }
 
 /// Whether the database failed.
-fn is_store_failure(answer: &Result<Reply, Fault>) -> bool
+fn is_store_failure<T>(answer: &Result<T, Fault>) -> bool
     ensures { (result ≡ true) ↔ (answer.now ≡ Err fault.StoreFailed) }
 {
     matches!(answer, Err(Fault::StoreFailed))
@@ -125,6 +128,42 @@ impl<S: Alter> Docket<S> {
         let conn = &mut self.conn;
         let kept = &mut self.calendar;
         let answer = apply_to(conn, self.alloc, &self.court, kept, command);
+        self.closed = is_store_failure(&answer);
+        answer
+    }
+
+    /// The case of a number, with its parties and its entries.
+    pub fn case(&mut self, number: u32) -> Result<Option<CaseRecord>, Fault>
+        ensures court { self.new.court ≡ self.old.court }
+        ensures answer { (h : History) → Stands S.Store self.old h
+            → Asks S.Store self.new h (λ found. found ≡ case_record h number) result }
+        ensures closed { self.old.closed ≡ true → (result ≡ Err fault.Closed) × (self.new ≡ self.old) }
+        ensures clean { doubt (state S.Store self.old.conn).is_clean ≤ doubt (state S.Store self.new.conn).is_clean }
+        ensures closes { self.old.closed ≡ false → (self.new.closed ≡ true) ↔ (result ≡ Err fault.StoreFailed) }
+    {
+        if self.closed {
+            return Err(Fault::Closed);
+        }
+        let answer = record_numbered(&mut self.conn, self.alloc, number);
+        self.closed = is_store_failure(&answer);
+        answer
+    }
+
+    /// The deadlines of the case of a number, and where each stands by the calendar of the docket.
+    pub fn deadlines(&mut self, number: u32) -> Result<Option<Vec<DeadlineLine>>, Fault>
+        ensures court { self.new.court ≡ self.old.court }
+        ensures answer { (h : History) → Stands S.Store self.old h
+            → Asks S.Store self.new h (λ found. option_map (λ lines. lines.items) found ≡ deadline_lines self.old.court h number) result }
+        ensures closed { self.old.closed ≡ true → (result ≡ Err fault.Closed) × (self.new ≡ self.old) }
+        ensures clean { doubt (state S.Store self.old.conn).is_clean ≤ doubt (state S.Store self.new.conn).is_clean }
+        ensures closes { self.old.closed ≡ false → (self.new.closed ≡ true) ↔ (result ≡ Err fault.StoreFailed) }
+    {
+        if self.closed {
+            return Err(Fault::Closed);
+        }
+        let conn = &mut self.conn;
+        let kept = &mut self.calendar;
+        let answer = lines_numbered(conn, self.alloc, &self.court, kept, number);
         self.closed = is_store_failure(&answer);
         answer
     }

@@ -22,6 +22,24 @@ use docket_tables::{ReadFault, calendar_items, view};
 use sqlite::{Alter, Connection};
 use std::alloc::Global;
 
+/// The calendar: what is kept of it is taken, and else the tables are asked.
+pub(crate) fn take_calendar<S: Alter>(
+    conn: &mut Connection<S>,
+    alloc: Global,
+    kept: &mut Option<CalendarItems>,
+) -> Result<CalendarItems, ReadFault>
+    ensures mode { conn.old.in_transaction ≡ false → conn.new.in_transaction ≡ false }
+    ensures clean { doubt (state S.Store conn.old).is_clean ≤ doubt (state S.Store conn.new).is_clean }
+    ensures kept { (h : History) → Keeps kept.old h → Keeps kept.new h }
+    ensures read { (court : CourtSettings) (h : History) → Stands S.Store (serving conn.old court kept.old) h
+        → Gives S.Store conn.new (docket_rows court h) (λ items. items ≡ items_of (standing_rows h)) result }
+{
+    match kept.take() {
+        Some(items) => Ok(items),
+        None => calendar_items(conn, alloc),
+    }
+}
+
 /// The calendar, where the action asks for it. What is kept of it is taken.
 fn calendar_asked<S: Alter>(
     conn: &mut Connection<S>,
@@ -38,10 +56,7 @@ fn calendar_asked<S: Alter>(
     if !asks_calendar(action) {
         return Ok(CalendarItems::new(Vec::new(alloc)));
     }
-    match kept.take() {
-        Some(items) => Ok(items),
-        None => calendar_items(conn, alloc),
-    }
+    take_calendar(conn, alloc, kept)
 }
 
 /// What the tables show about the command.

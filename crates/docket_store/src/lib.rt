@@ -4,6 +4,7 @@
 
 mod adopting;
 mod applying;
+mod asking;
 mod creating;
 mod docket;
 mod fault;

@@ -5,7 +5,7 @@ ghost use Rattle.court_days.specs.Court.{zone_of};
 ghost use Rattle.court_rules.specs.Acts.{is_instant, is_entered_day};
 ghost use Rattle.docket_core.specs.Decisions.{IsSoundView};
 ghost use Rattle.docket_core.specs.Views.{deadlines_in};
-ghost use Rattle.docket_store.specs.Sound.{is_entered_item, begins_in_time, are_acts, are_lawful};
+ghost use Rattle.docket_store.specs.Sound.{is_entered_item, begins_in_time, are_acts, are_lawful, IsSoundCase};
 
 use court_days::{Court, Day, is_entered};
 use court_rules::{Act, Start, acts_ok};
@@ -13,6 +13,9 @@ use docket_core::{CalendarItem, CaseView, DeadlineView, View};
 
 /// How many rows a calendar holds at most.
 const MOST_ROWS: usize = 4000;
+
+/// How many deadlines a case has at most.
+const MOST_DEADLINES: usize = 1000;
 
 /// The greatest number that the next calendar row may have.
 const LAST_ROW: u64 = 4_294_967_296;
@@ -102,4 +105,18 @@ pub(crate) fn is_sound(court: &Court, view: &View) -> bool
         return false;
     }
     are_entered_items(items) && is_lawful(court, &view.case)
+}
+
+/// Whether a history can show these deadlines of a case, beside a calendar of these items.
+pub(crate) fn is_sound_case(
+    court: &Court,
+    items: &[CalendarItem],
+    deadlines: &[DeadlineView],
+) -> bool
+    ensures { IsTrue result ↔ IsSoundCase court.now items.now deadlines.now }
+{
+    if items.len() > MOST_ROWS || deadlines.len() > MOST_DEADLINES {
+        return false;
+    }
+    are_entered_items(items) && are_lawful(court, deadlines)
 }

@@ -18,6 +18,7 @@ mod rows;
 mod statement;
 mod store;
 mod table;
+mod telling;
 mod viewing;
 mod writing;
 
@@ -32,5 +33,6 @@ pub use reading::{
 };
 pub use recognition::{has_court, has_court_columns, has_docket_table, is_bare};
 pub use table::Table;
-pub use viewing::{calendar_items, view};
+pub use telling::case_record;
+pub use viewing::{calendar_items, case_view, view};
 pub use writing::write;

@@ -120,7 +120,7 @@ fn is_among(number: u32, count: u32) -> bool
 }
 
 /// The case of a number, if there is one.
-fn case_view<S: Alter>(
+pub fn case_view<S: Alter>(
     conn: &mut Connection<S>,
     alloc: Global,
     number: u32,

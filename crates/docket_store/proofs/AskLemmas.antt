@@ -1,0 +1,81 @@
+-- From what the tables' questions give to what a question to a docket gives.
+use Rattle.std.proofs.Common.{◌≡◌, ◌&&◌, ℕ, Bool, true, false, List, Option, Some, None, length, nat_le, unwrap_or, if◌then◌else◌, Result, Ok, Err, IsErrAnd, refl, sym, ap, subst, arith}
+use Rattle.std.specs.Prelude.{MatchResult}
+use Rattle.std.specs.Option.{option_map}
+use Rattle.std.proofs.lemmas.List.{length-map}
+use Rattle.sqlite.specs.Store.{Ghosts}
+use Rattle.sqlite.specs.State.{HasCleanDisk}
+use Rattle.sqlite.specs.Held.{Held, state}
+use Rattle.court_days.specs.Court.{CourtSettings, zone_of}
+use Rattle.docket_core.specs.Histories.{History, items_of, standing_rows, case_rows, act_rows, deadline_rows, deadlines, deadlines_of_case}
+use Rattle.docket_core.specs.Records.{calendar, deadline_lines, lines_from}
+use Rattle.docket_core.specs.Tables.{case_in, rows_of}
+use Rattle.docket_core.specs.declared.item.CalendarItem.{CalendarItem}
+use Rattle.docket_core.specs.declared.row.CalendarRow.{CalendarRow}
+use Rattle.docket_core.specs.declared.view.CaseView.{CaseView}
+use Rattle.docket_core.specs.declared.view.DeadlineView.{DeadlineView}
+use Rattle.docket_core.proofs.Leading.{length-deadlines_from}
+use Rattle.docket_core.proofs.LimitsKept.{within_limits, lawful_deadlines}
+use Rattle.docket_store.specs.Applying.{IsDocket, Stands, Asks, FailsAs, Keeps, docket_rows}
+use Rattle.docket_store.specs.Dockets.{Docket, serving}
+use Rattle.docket_store.specs.Sound.{IsSoundCase, IsNotTold}
+use Rattle.docket_store.specs.declared.fault.Fault.{Fault}
+use Rattle.docket_store.specs.declared.fault.Fault.TheVariants.{Refused, NoMemory, StoreFailed, Closed, Damaged}
+use Rattle.docket_store.proofs.ApplyLemmas.{lasts_from_either}
+
+module _ {S : Type 0} (g : Ghosts S) where
+  -- a question that the database did not answer
+  pub asks_failed : {X : Type 0} (conn : Held S) (court : CourtSettings) (kept : Option (List CalendarItem)) (h : History) (answer : X → Type 0) (f : Fault) → IsDocket court h
+      → (HasCleanDisk (state g conn) → Keeps kept h) → FailsAs g conn (docket_rows court h) (docket_rows court h) f → Asks g (serving conn court kept) h answer (Err f)
+  asks_failed conn court kept h answer (Refused r) is keeps fails = absurd fails
+  asks_failed conn court kept h answer NoMemory is keeps fails = record { docket = is; serves = refl; rows = fails; calendar = keeps }
+  asks_failed conn court kept h answer StoreFailed is keeps fails = lasts_from_either g conn (docket_rows court h) fails
+  asks_failed conn court kept h answer Closed is keeps fails = absurd fails
+  asks_failed conn court kept h answer Damaged is keeps fails = fails
+
+  fault_of_other : {X Y : Type 0} (d : Docket S) (h : History) (P : X → Type 0) (Q : Y → Type 0) (f : Fault) → Asks g d h P (Err f) → Asks g d h Q (Err f)
+  fault_of_other d h P Q (Refused r) asks = absurd asks
+  fault_of_other d h P Q NoMemory asks = asks
+  fault_of_other d h P Q StoreFailed asks = asks
+  fault_of_other d h P Q Closed asks = absurd asks
+  fault_of_other d h P Q Damaged asks = asks
+
+  -- a fault of one question is a fault of the whole
+  pub asks_err : {X Y : Type 0} (d : Docket S) (h : History) (P : X → Type 0) (Q : Y → Type 0) (f : Fault) (result : Result Y Fault) → IsErrAnd result (λ e. e ≡ f) → Asks g d h P (Err f) → Asks g d h Q result
+  asks_err d h P Q f (Ok y) same asks = absurd same
+  asks_err d h P Q f (Err e) same asks = subst (λ (k : Fault). Asks g d h Q (Err k)) (sym same) (fault_of_other d h P Q f asks)
+
+  -- the deadlines that were told, where a history shows them; and else why they were not
+  pub asks_told : {X : Type 0} (d : Docket S) (h : History) (court : CourtSettings) (items : List CalendarItem) (ds : List DeadlineView) (P answer : X → Type 0) (result : Result X Fault) → Stands g d h
+      → (HasCleanDisk (state g d.conn) → IsSoundCase court items ds) → (HasCleanDisk (state g d.conn) → (x : X) → P x → answer x) → MatchResult result P (IsNotTold court items ds) → Asks g d h answer result
+  asks_told d h court items ds P answer (Ok x) stands sound tells told = (stands, λ clean. tells clean x told)
+  asks_told d h court items ds P answer (Err (Refused r)) stands sound tells told = absurd told
+  asks_told d h court items ds P answer (Err NoMemory) stands sound tells told = stands
+  asks_told d h court items ds P answer (Err StoreFailed) stands sound tells told = absurd told
+  asks_told d h court items ds P answer (Err Closed) stands sound tells told = absurd told
+  asks_told d h court items ds P answer (Err Damaged) stands sound tells told = λ clean. told (sound clean)
+
+-- every history shows deadlines of a case, and a calendar, that are sound
+pub sound_case : (court : CourtSettings) (h : History) (k : ℕ) → IsDocket court h → IsSoundCase court (items_of (standing_rows h)) (deadlines k h)
+sound_case court h k is =
+    let within = within_limits court h is.history in record {
+      entered = within.items;
+      rows = omega (arith, length-map (standing_rows h) (λ (row : CalendarRow). row.item), within.rows);
+      few = omega (arith, length-deadlines_from k 1 (act_rows h) (deadlines_of_case k (deadline_rows h)), within.deadlines k);
+      acts = lawful_deadlines court h within k;
+    }
+
+if_mapped : {X Y : Type 0} (f : X → Y) (b : Bool) (x : X) → option_map f (if b then Some x else None) ≡ (if b then Some (f x) else None)
+if_mapped f true x = refl
+if_mapped f false x = refl
+
+if_some : {X : Type 0} (b : Bool) (x y : X) → (if b then Some x else None) ≡ Some y → y ≡ x
+if_some true x y e = ap (λ o. unwrap_or o y) (sym e)
+if_some false x y e = absurd (cc)
+
+-- the deadlines of the case that is shown are those that are told
+pub lines_shown : (court : CourtSettings) (h : History) (k : ℕ) → option_map (λ (v : CaseView). lines_from (zone_of court) (calendar h) 1 v.deadlines) (case_in (rows_of court h) k) ≡ deadline_lines court h k
+lines_shown court h k = if_mapped (λ (v : CaseView). lines_from (zone_of court) (calendar h) 1 v.deadlines) (nat_le 1 k && nat_le k (length (case_rows h))) _
+
+pub deadlines_shown : (court : CourtSettings) (h : History) (k : ℕ) (v : CaseView) → case_in (rows_of court h) k ≡ Some v → v.deadlines ≡ deadlines k h
+deadlines_shown court h k v e = ap (λ (w : CaseView). w.deadlines) (if_some (nat_le 1 k && nat_le k (length (case_rows h))) _ v e)

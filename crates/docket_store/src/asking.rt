@@ -1,0 +1,139 @@
+//! What the docket that the tables hold tells of a case.
+ghost use Rattle.std.specs.Prelude.{◌≡◌, ◌≤◌, ℕ, List, Option, Some, false, MatchResult};
+ghost use Rattle.std.specs.Option.{option_map};
+ghost use Rattle.sqlite.specs.Held.{state};
+ghost use Rattle.sqlite.specs.State.{HasCleanDisk};
+ghost use Rattle.sqlite.specs.View.{doubt};
+ghost use Rattle.court_days.specs.Court.{CourtSettings, zone_of};
+ghost use Rattle.docket_core.specs.CalendarItems.{calendar_of};
+ghost use Rattle.docket_core.specs.Histories.{History, items_of, standing_rows};
+ghost use Rattle.docket_core.specs.Records.{case_record, deadline_lines, lines_from};
+ghost use Rattle.docket_core.specs.Tables.{case_in, rows_of};
+ghost use Rattle.docket_core.specs.declared.item.CalendarItem.{CalendarItem as Item};
+ghost use Rattle.docket_store.specs.Applying.{Stands, Asks};
+ghost use Rattle.docket_store.specs.Dockets.{serving};
+ghost use Rattle.docket_store.specs.Sound.{IsNotTold};
+
+use crate::fault::{Fault, read_fault};
+use crate::judging::take_calendar;
+use crate::sound::is_sound_case;
+use court_days::Court;
+use docket_core::{
+    CalendarItem, CalendarItems, CaseRecord, CaseView, DeadlineLine, DeadlineView, calendar_of,
+    deadline_lines,
+};
+use docket_tables::{case_record, case_view};
+use sqlite::{Alter, Connection};
+use std::alloc::Global;
+
+/// The case of a number, with its parties and its entries.
+pub(crate) fn record_numbered<S: Alter>(
+    conn: &mut Connection<S>,
+    alloc: Global,
+    number: u32,
+) -> Result<Option<CaseRecord>, Fault>
+    requires { conn.old.in_transaction ≡ false }
+    ensures idle { conn.new.in_transaction ≡ false }
+    ensures clean { doubt (state S.Store conn.old).is_clean ≤ doubt (state S.Store conn.new).is_clean }
+    ensures answer { (court : CourtSettings) (kept : Option (List Item)) (h : History) → Stands S.Store (serving conn.old court kept) h
+        → Asks S.Store (serving conn.new court kept) h (λ found. found ≡ case_record h number) result }
+{
+    match case_record(conn, alloc, number) {
+        Ok(found) => Ok(found),
+        Err(fault) => Err(read_fault(conn, fault)),
+    }
+}
+
+/// The case of a number, with its deadlines.
+fn case_shown<S: Alter>(
+    conn: &mut Connection<S>,
+    alloc: Global,
+    number: u32,
+) -> Result<Option<CaseView>, Fault>
+    requires { conn.old.in_transaction ≡ false }
+    ensures idle { conn.new.in_transaction ≡ false }
+    ensures clean { doubt (state S.Store conn.old).is_clean ≤ doubt (state S.Store conn.new).is_clean }
+    ensures answer { (court : CourtSettings) (kept : Option (List Item)) (h : History) → Stands S.Store (serving conn.old court kept) h
+        → Asks S.Store (serving conn.new court kept) h (λ found. found ≡ case_in (rows_of court h) number) result }
+{
+    match case_view(conn, alloc, number) {
+        Ok(found) => Ok(found),
+        Err(fault) => Err(read_fault(conn, fault)),
+    }
+}
+
+/// The items of the calendar. What is kept of it is taken.
+fn calendar_shown<S: Alter>(
+    conn: &mut Connection<S>,
+    alloc: Global,
+    kept: &mut Option<CalendarItems>,
+) -> Result<CalendarItems, Fault>
+    requires { conn.old.in_transaction ≡ false }
+    ensures idle { conn.new.in_transaction ≡ false }
+    ensures clean { doubt (state S.Store conn.old).is_clean ≤ doubt (state S.Store conn.new).is_clean }
+    ensures answer { (court : CourtSettings) (h : History) → Stands S.Store (serving conn.old court kept.old) h
+        → Asks S.Store (serving conn.new court kept.new) h (λ items. items ≡ items_of (standing_rows h)) result }
+{
+    match take_calendar(conn, alloc, kept) {
+        Ok(items) => Ok(items),
+        Err(fault) => Err(read_fault(conn, fault)),
+    }
+}
+
+/// The deadlines, with where each stands by the calendar of the items.
+fn lines_by(
+    alloc: Global,
+    court: &Court,
+    items: &[CalendarItem],
+    deadlines: &[DeadlineView],
+) -> Result<Vec<DeadlineLine>, Fault>
+    ensures { MatchResult result (λ lines. lines.items ≡ lines_from (zone_of court.now) (calendar_of items.now) 1 deadlines.now)
+        (IsNotTold court.now items.now deadlines.now) }
+{
+    if !is_sound_case(court, items, deadlines) {
+        return Err(Fault::Damaged);
+    }
+    let calendar = calendar_of(alloc, items)?;
+    Ok(deadline_lines(alloc, court, &calendar, deadlines)?)
+}
+
+/// The deadlines of the case, with where each stands by the calendar, which is kept.
+fn lines_of_case<S: Alter>(
+    conn: &mut Connection<S>,
+    alloc: Global,
+    court: &Court,
+    kept: &mut Option<CalendarItems>,
+    case: &CaseView,
+) -> Result<Vec<DeadlineLine>, Fault>
+    requires { conn.old.in_transaction ≡ false }
+    ensures idle { conn.new.in_transaction ≡ false }
+    ensures clean { doubt (state S.Store conn.old).is_clean ≤ doubt (state S.Store conn.new).is_clean }
+    ensures answer { (number : ℕ) (h : History) → Stands S.Store (serving conn.old court.now kept.old) h
+        → (HasCleanDisk (state S.Store conn.old) → case_in (rows_of court.now h) number ≡ Some case.now)
+        → Asks S.Store (serving conn.new court.now kept.new) h (λ lines. Some lines.items ≡ deadline_lines court.now h number) result }
+{
+    let items = calendar_shown(conn, alloc, kept)?;
+    let answer = lines_by(alloc, court, items.as_slice(), case.deadlines.as_slice());
+    *kept = Some(items);
+    answer
+}
+
+/// The deadlines of the case of a number, with where each stands by the calendar.
+pub(crate) fn lines_numbered<S: Alter>(
+    conn: &mut Connection<S>,
+    alloc: Global,
+    court: &Court,
+    kept: &mut Option<CalendarItems>,
+    number: u32,
+) -> Result<Option<Vec<DeadlineLine>>, Fault>
+    requires { conn.old.in_transaction ≡ false }
+    ensures idle { conn.new.in_transaction ≡ false }
+    ensures clean { doubt (state S.Store conn.old).is_clean ≤ doubt (state S.Store conn.new).is_clean }
+    ensures answer { (h : History) → Stands S.Store (serving conn.old court.now kept.old) h
+        → Asks S.Store (serving conn.new court.now kept.new) h (λ found. option_map (λ lines. lines.items) found ≡ deadline_lines court.now h number) result }
+{
+    match case_shown(conn, alloc, number)? {
+        Some(case) => Ok(Some(lines_of_case(conn, alloc, court, kept, &case)?)),
+        None => Ok(None),
+    }
+}
