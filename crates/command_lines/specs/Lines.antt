@@ -1,16 +1,22 @@
 -- What each line of `run` comes to.
 use Rattle.std.specs.Prelude.{◌≡◌, ◌⊎◌, ℕ, Bool, true, false, List, [], ◌∷◌, ◌++◌, Result, Ok, Err}
+use Rattle.court_days.specs.Court.{CourtSettings}
 use Rattle.docket_command.specs.declared.command.Command.{Command}
 use Rattle.docket_command.specs.declared.refusal.Refusal.{Refusal}
 use Rattle.docket_command.specs.declared.refusal.Reply.{Reply}
-use Rattle.docket_core.specs.Outcomes.{Answer, repeated, refused, accepted, outcome, after_answer}
-use Rattle.docket_plain.specs.Dockets.{Docket}
+use Rattle.docket_core.specs.Histories.{History}
+use Rattle.docket_core.specs.Outcomes.{Answer, repeated, refused, accepted, outcome, after, after_answer}
 use Rattle.docket_wire.specs.Reading.{command_in}
 use Rattle.docket_wire.specs.Texts.{reply_text, fault_text}
 use Rattle.docket_wire.specs.declared.fault.WireFault.{WireFault}
 use Rattle.docket_wire.specs.declared.fault.WireFault.TheVariants.{NotJson}
 use Rattle.line_io.specs.Report.{Judged, within, text_of, bad_of, after_of}
 use Rattle.line_io.specs.Lines.{lines_of}
+
+-- what a docket is: its court, and the commands that were accepted
+pub record Docket : Type 0 where
+  pub court : CourtSettings
+  pub history : History
 
 -- the reply to a repeat is the one that it had
 abbrev pub answer_text : Answer → List ℕ
@@ -21,6 +27,10 @@ answer_text (refused r) = reply_text (Err r)
 abbrev pub is_refused : Answer → Bool
 is_refused (refused r) = true
 is_refused _ = false
+
+-- the docket after a command
+abbrev pub docket_with : Docket → Command → Docket
+docket_with docket c = record { court = docket.court; history = after docket.court docket.history c }
 
 -- what is said is this answer
 abbrev pub IsSaid : Result Reply Refusal → Answer → Type 0
@@ -62,7 +72,3 @@ bad_answers docket input = bad_of (within 1_048_576 judged judged_long) docket (
 -- the docket that the lines leave
 abbrev pub docket_after : Docket → List ℕ → Docket
 docket_after docket input = after_of (within 1_048_576 judged judged_long) docket (lines_of input)
-
--- after a fault the docket stands as before the line, or as after it
-abbrev pub IsEither : Docket → Docket → Docket → Type 0
-IsEither docket before next = (docket ≡ before) ⊎ (docket ≡ next)

@@ -1,30 +1,40 @@
 //! Who answers commands.
-ghost use Rattle.std.specs.Prelude.{◌≡◌, ◌++◌, ◌∷◌, [], IfOk, OnErr, OnOk, string_bytes, true};
-ghost use Rattle.docket_core.specs.Outcomes.{outcome, after};
+ghost use Rattle.std.specs.Prelude.{◌≡◌, ◌++◌, ◌∷◌, [], IfOk, IfErr, OnErr, OnOk, string_bytes, true};
+ghost use Rattle.sqlite.specs.Held.{state};
+ghost use Rattle.sqlite.specs.State.{HasCleanDisk};
+ghost use Rattle.docket_core.specs.Outcomes.{outcome};
 ghost use Rattle.docket_wire.specs.Texts.{fault_text};
-ghost use Rattle.command_lines.specs.Lines.{IsSaid};
+ghost use Rattle.command_lines.specs.Ending.{StandsAs, FailsAt};
+ghost use Rattle.command_lines.specs.Lines.{Docket as Told, IsSaid, docket_with};
 
 use docket_command::{Command, Refusal, Reply};
-use docket_core::DecideFault;
-use docket_plain::Plain;
+use docket_store::{Docket, Fault};
 use docket_wire::{WireFault, read_command, reply_text, wire_fault_text};
 use line_io::Answerer;
+use sqlite::Alter;
 use std::alloc::{AllocError, Global};
 use std::marker::Model;
 
-/// Keeps a docket and answers the commands for it. A contract sees the docket.
-#[derive(Drop)]
-pub struct Clerk {
+/// Keeps a docket in a database and answers the commands for it. A contract sees the docket.
+pub struct Clerk<S: Alter> {
     alloc: Global,
-    docket: Plain,
+    docket: Docket<S>,
 }
 
-impl Model for Clerk {
-    ghost use Rattle.docket_plain.specs.Dockets.{Docket};
+impl<S: Alter> Model for Clerk<S> {
+    ghost use Rattle.docket_store.specs.Dockets.{Docket, docket_code};
 
-    ghost Value = { Docket };
+    ghost Value = { Docket S };
+
+    ghost coded = { docket_code S.code };
 
     ghost view = { λ clerk. clerk.docket };
+}
+
+impl<S: Alter + Drop> Drop for Clerk<S> {
+    fn drop(self) {
+        let _ = self.into_docket().close();
+    }
 }
 
 /// Appends the text and a line feed.
@@ -46,42 +56,51 @@ fn push_fault(alloc: Global, out: &mut Vec<u8>, fault: WireFault) -> Result<bool
     Ok(true)
 }
 
-impl Clerk {
+impl<S: Alter> Clerk<S> {
     /// A clerk who keeps the docket.
-    pub fn new(alloc: Global, docket: Plain) -> Clerk
+    pub fn new(alloc: Global, docket: Docket<S>) -> Clerk<S>
         ensures { result ≡ docket }
     {
         Clerk { alloc, docket }
     }
 
-    /// The docket as the commands so far left it.
-    pub fn docket(&self) -> &Plain
-        ensures { result.now ≡ self.now }
+    /// The docket as the commands left it.
+    pub fn into_docket(self) -> Docket<S>
+        ensures { result ≡ self }
     {
-        &self.docket
+        let Clerk { alloc: _, docket } = self;
+        docket
     }
 
     /// The reply to a command, or its refusal.
-    fn apply(&mut self, command: &Command) -> Result<Result<Reply, Refusal>, AllocError>
-        ensures said { IfOk result (λ said. IsSaid said (outcome self.old.court self.old.history command.now)) }
-        ensures docket { OnOk result (self.new
-            ≡ record { court = self.old.court; history = after self.old.court self.old.history command.now }) }
-        ensures err { OnErr result (self.new ≡ self.old) }
+    fn apply(&mut self, command: &Command) -> Result<Result<Reply, Refusal>, Fault>
+        ensures trust { HasCleanDisk (state S.Store self.new.conn) → HasCleanDisk (state S.Store self.old.conn) }
+        ensures said { IfOk result (λ said. (docket : Told) → StandsAs S.Store self.old docket
+            → HasCleanDisk (state S.Store self.new.conn)
+            → IsSaid said (outcome docket.court docket.history command.now)
+            × StandsAs S.Store self.new (docket_with docket command.now)) }
+        ensures fails { IfErr result (λ fault. (docket : Told) → StandsAs S.Store self.old docket
+            → HasCleanDisk (state S.Store self.new.conn)
+            → FailsAt S.Store self.new fault docket (docket_with docket command.now)) }
     {
         match self.docket.apply(command) {
             Ok(reply) => Ok(Ok(reply)),
-            Err(DecideFault::Refused(refusal)) => Ok(Err(refusal)),
-            Err(DecideFault::NoMemory) => Err(AllocError),
+            Err(Fault::Refused(refusal)) => Ok(Err(refusal)),
+            Err(Fault::NoMemory) => Err(Fault::NoMemory),
+            Err(Fault::StoreFailed) => Err(Fault::StoreFailed),
+            Err(Fault::Closed) => Err(Fault::Closed),
+            Err(Fault::Damaged) => Err(Fault::Damaged),
         }
     }
 }
 
-impl Answerer for Clerk {
-    ghost use Rattle.std.specs.Prelude.{◌≡◌, ⊤};
-    ghost use Rattle.docket_plain.specs.Dockets.{Docket};
-    ghost use Rattle.command_lines.specs.Lines.{judged, judged_long, IsEither};
+impl<S: Alter> Answerer for Clerk<S> {
+    ghost use Rattle.sqlite.specs.Held.{state};
+    ghost use Rattle.sqlite.specs.State.{HasCleanDisk};
+    ghost use Rattle.command_lines.specs.Ending.{StandsAs, FailsAt};
+    ghost use Rattle.command_lines.specs.Lines.{Docket, judged, judged_long};
 
-    type Fault = AllocError;
+    type Fault = Fault;
 
     const LIMIT: u32 = 1_048_576;
 
@@ -94,17 +113,17 @@ impl Answerer for Clerk {
 
     ghost State = { Docket };
 
-    ghost Shows = { λ clerk docket. clerk ≡ docket };
+    ghost Shows = { λ clerk docket. StandsAs S.Store clerk docket };
 
-    ghost Trusts = { λ _. ⊤ };
+    ghost Trusts = { λ clerk. HasCleanDisk (state S.Store clerk.conn) };
 
-    ghost Fails = { λ clerk _ before after. IsEither clerk before after };
+    ghost Fails = { λ clerk fault before next. FailsAt S.Store clerk fault before next };
 
     ghost judge = { judged };
 
     ghost judge_long = { judged_long };
 
-    fn answer(&mut self, line: &[u8], out: &mut Vec<u8>) -> Result<bool, AllocError> {
+    fn answer(&mut self, line: &[u8], out: &mut Vec<u8>) -> Result<bool, Fault> {
         match read_command(self.alloc, line) {
             Ok(command) => {
                 let answer = self.apply(&command)?;
@@ -112,12 +131,12 @@ impl Answerer for Clerk {
                 push_line(out, text)?;
                 Ok(answer.is_err())
             }
-            Err(WireFault::NoMemory) => Err(AllocError),
-            Err(fault) => push_fault(self.alloc, out, fault),
+            Err(WireFault::NoMemory) => Err(Fault::NoMemory),
+            Err(fault) => Ok(push_fault(self.alloc, out, fault)?),
         }
     }
 
-    fn answer_long(&mut self, out: &mut Vec<u8>) -> Result<bool, AllocError> {
-        push_fault(self.alloc, out, WireFault::NotJson)
+    fn answer_long(&mut self, out: &mut Vec<u8>) -> Result<bool, Fault> {
+        Ok(push_fault(self.alloc, out, WireFault::NotJson)?)
     }
 }

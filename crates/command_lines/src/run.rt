@@ -1,38 +1,49 @@
 //! The engine of `run`: commands in, one answer each out.
-ghost use Rattle.std.specs.Prelude.{◌≡◌, length, IfOk, OnErr, IfSome};
+ghost use Rattle.std.specs.Prelude.{◌≡◌, length, IfOk, IfErr, OnErr, IfSome};
 ghost use Rattle.std.specs.Io.KnownBytes.{Appends};
+ghost use Rattle.sqlite.specs.Held.{state};
+ghost use Rattle.sqlite.specs.State.{HasCleanDisk};
 ghost use Rattle.line_io.specs.Lines.{lines_of};
 ghost use Rattle.line_io.specs.Output.{HasFront};
 ghost use Rattle.line_io.specs.Ending.{BreaksOff};
 ghost use Rattle.line_io.specs.Report.{within};
-ghost use Rattle.command_lines.specs.Lines.{run_text, bad_answers, docket_after, judged, judged_long, IsEither};
+ghost use Rattle.command_lines.specs.Ending.{StandsAs, Leaves};
+ghost use Rattle.command_lines.specs.Lines.{Docket, run_text, bad_answers, docket_after, judged, judged_long};
 
 use crate::clerk::Clerk;
 use crate::fault::RunFault;
 use line_io::{CountEnd, run_lines};
+use sqlite::Alter;
 use std::alloc::Global;
 use std::io::{Read, Write};
 
 /// Answers each line of the reader: a command of the docket with its reply or its refusal, and what
 /// spells no command with its fault; and counts the lines, and the refusals and faults among the
 /// answers. Each answer is written before the next command is applied. On a fault a front of the
-/// answers went out.
-pub fn command_run<R: Read, W: Write>(
+/// answers went out, and no further line was answered.
+///
+/// All this is said where the disk gives back what it took when the run ends; then it did from the
+/// start.
+pub fn command_run<R: Read, W: Write, S: Alter>(
     alloc: Global,
     reader: &mut R,
     writer: &mut W,
-    clerk: &mut Clerk,
+    clerk: &mut Clerk<S>,
 ) -> Result<CountEnd, RunFault>
-    ensures whole { IfOk result (λ end. IfSome (R.remaining reader.old) (λ input.
-        Appends (W.contents writer.old) (W.contents writer.new) (run_text clerk.old input)
+    ensures whole { IfOk result (λ end. (docket : Docket) → StandsAs S.Store clerk.old docket
+        → HasCleanDisk (state S.Store clerk.new.conn) → IfSome (R.remaining reader.old) (λ input.
+        Appends (W.contents writer.old) (W.contents writer.new) (run_text docket input)
         × (end.lines ≡ length (lines_of input))
-        × (end.bad ≡ bad_answers clerk.old input)
-        × (clerk.new ≡ docket_after clerk.old input))) }
-    ensures front { OnErr result (IfSome (R.remaining reader.old) (λ input.
-        HasFront (W.contents writer.old) (W.contents writer.new) (run_text clerk.old input))) }
+        × (end.bad ≡ bad_answers docket input)
+        × StandsAs S.Store clerk.new (docket_after docket input))) }
+    ensures trust { HasCleanDisk (state S.Store clerk.new.conn) → HasCleanDisk (state S.Store clerk.old.conn) }
+    ensures front { OnErr result ((docket : Docket) → StandsAs S.Store clerk.old docket
+        → HasCleanDisk (state S.Store clerk.new.conn) → IfSome (R.remaining reader.old) (λ input.
+        HasFront (W.contents writer.old) (W.contents writer.new) (run_text docket input))) }
     // The docket stands for the lines answered, and at most for one line more.
-    ensures left { OnErr result (IfSome (R.remaining reader.old) (λ input.
-        BreaksOff (within 1_048_576 judged judged_long) (IsEither clerk.new) 0 clerk.old (lines_of input)
+    ensures left { IfErr result (λ fault. (docket : Docket) → StandsAs S.Store clerk.old docket
+        → HasCleanDisk (state S.Store clerk.new.conn) → IfSome (R.remaining reader.old) (λ input.
+        BreaksOff (within 1_048_576 judged judged_long) (Leaves S.Store clerk.new fault) 0 docket (lines_of input)
         (W.contents writer.old) (W.contents writer.new))) }
 {
     match run_lines(alloc, reader, writer, clerk) {

@@ -8,3 +8,4 @@ pub mod LaterActs
 pub mod Leading
 pub mod LimitsKept
 pub mod Passed
+pub mod Runs

@@ -6,18 +6,10 @@ use Rattle.docket_command.specs.declared.command.Command.{Command}
 use Rattle.docket_command.specs.declared.refusal.Reply.{Reply}
 use Rattle.docket_core.specs.Histories.{History}
 use Rattle.docket_core.specs.Outcomes.{Answer, outcome, after, run, answers}
+use Rattle.docket_core.proofs.Runs.{run-push, answers-push}
 use Rattle.docket_core.specs.declared.decision.DecideFault.{DecideFault}
 use Rattle.docket_core.specs.declared.decision.DecideFault.TheVariants.{Refused, NoMemory}
 use Rattle.docket_plain.specs.Dockets.{AreReplies, IsSaid, IsReply, history_after}
-
-module _ (court : CourtSettings) where
-  run-push : (h : History) (cs : List Command) (c : Command) → run court h (cs ++ c ∷ []) ≡ after court (run court h cs) c
-  run-push h [] c = refl
-  run-push h (x ∷ xs) c = run-push (after court h x) xs c
-
-  answers-push : (h : History) (cs : List Command) (c : Command) → answers court h (cs ++ c ∷ []) ≡ answers court h cs ++ outcome court (run court h cs) c ∷ []
-  answers-push h [] c = refl
-  answers-push h (x ∷ xs) c = ap (λ rest. outcome court h x ∷ rest) (answers-push (after court h x) xs c)
 
 replies-push : (rs : List (Result Reply DecideFault)) (all : List Answer) (r : Result Reply DecideFault) (a : Answer) → AreReplies rs all → IsSaid r a → AreReplies (rs ++ r ∷ []) (all ++ a ∷ [])
 replies-push [] [] r a all one = (one, tt)

@@ -1,5 +1,5 @@
 -- A run goes on by one command.
-use Rattle.std.proofs.Common.{◌≡◌, ℕ, ◌+◌, ◌<◌, List, [], ◌∷◌, ◌++◌, length, take, get_or, refl, sym, ap, subst, ◌∙◌, Result, Ok, Err, IfErr, IsErrAnd}
+use Rattle.std.proofs.Common.{◌≡◌, ℕ, ◌+◌, ◌<◌, List, [], ◌∷◌, ◌++◌, length, take, get_or, sym, ap, subst, ◌∙◌, Result, Ok, Err, IfErr, IsErrAnd}
 use Rattle.std.proofs.lemmas.List.{take_more}
 use Rattle.court_days.specs.Court.{CourtSettings}
 use Rattle.docket_command.specs.declared.command.Command.{Command}
@@ -7,6 +7,7 @@ use Rattle.docket_command.specs.declared.refusal.Refusal.{Refusal}
 use Rattle.docket_command.specs.declared.refusal.Reply.{Reply}
 use Rattle.docket_core.specs.Histories.{History}
 use Rattle.docket_core.specs.Outcomes.{Answer, outcome, after, run, answers}
+use Rattle.docket_core.proofs.Runs.{run-push, answers-push}
 use Rattle.sqlite.specs.Store.{Ghosts}
 use Rattle.sqlite.specs.State.{HasCleanDisk}
 use Rattle.sqlite.specs.Held.{state}
@@ -16,15 +17,6 @@ use Rattle.docket_store.specs.Dockets.{Docket}
 use Rattle.docket_store.specs.Sequence.{AreReplies, BreaksOff, Halts, HaltsAfter, IsSaid}
 use Rattle.docket_store.specs.declared.fault.Fault.{Fault}
 use Rattle.docket_store.specs.declared.fault.Fault.TheVariants.{Refused, NoMemory, StoreFailed, Closed, Damaged}
-
-module _ (court : CourtSettings) where
-  run-push : (h : History) (cs : List Command) (c : Command) → run court h (cs ++ c ∷ []) ≡ after court (run court h cs) c
-  run-push h [] c = refl
-  run-push h (x ∷ xs) c = run-push (after court h x) xs c
-
-  answers-push : (h : History) (cs : List Command) (c : Command) → answers court h (cs ++ c ∷ []) ≡ answers court h cs ++ outcome court (run court h cs) c ∷ []
-  answers-push h [] c = refl
-  answers-push h (x ∷ xs) c = ap (λ rest. outcome court h x ∷ rest) (answers-push (after court h x) xs c)
 
 replies-push : (rs : List (Result Reply Refusal)) (all : List Answer) (r : Result Reply Refusal) (a : Answer) → AreReplies rs all → IsSaid r a → AreReplies (rs ++ r ∷ []) (all ++ a ∷ [])
 replies-push [] [] r a all one = (one, tt)

@@ -1,15 +1,30 @@
 //! What a command line asks for.
 
-use clap::{Command, Error};
+use clap::{Arg, ArgAction, Command, Error};
 use std::alloc::{AllocError, Global};
+
+/// The zone of the court of `run`, where none is given.
+const ZONE: &str = "UTC0";
+
+/// When its clerk's office closes, where no time is given.
+const CLOSE: &str = "17:00";
 
 /// What the program is to do.
 #[derive(Clone, Copy, Debug, PartialEq, Eq)]
-pub enum Job {
+pub enum Job<'a> {
     /// `count`, or no word at all: answer lines of days from standard input.
     Count,
-    /// `run`: answer commands of the docket from standard input.
-    Run,
+    /// `run`: answer commands of the docket of a court from standard input. The texts may spell no
+    /// court.
+    Run { zone: &'a str, close: &'a str },
+}
+
+fn option<'a>(alloc: Global, id: &'a str, value: &'a str, help: &'a str) -> Arg<'a> {
+    Arg::new(alloc, id)
+        .long(id)
+        .action(ArgAction::Set)
+        .value_name(value)
+        .help(help)
 }
 
 /// The program's command line.
@@ -17,9 +32,18 @@ fn command<'a>(alloc: Global) -> Result<Command<'a>, AllocError> {
     let count = Command::new(alloc, "count")
         .about("Enter days and count periods, one line of standard input after the other")
         .after_help(COUNT_HELP);
+    let zone = option(
+        alloc,
+        "zone",
+        "ZONE",
+        "The court's zone, as EST5EDT,M3.2.0,M11.1.0",
+    );
+    let close = option(alloc, "close", "HH:MM", "When the clerk's office closes");
     let run = Command::new(alloc, "run")
         .about("Keep a docket in memory, and answer one command a line of standard input")
-        .after_help(RUN_HELP);
+        .after_help(RUN_HELP)
+        .arg(zone.default_value(ZONE))?
+        .arg(close.default_value(CLOSE))?;
     Command::new(alloc, "docketctl")
         .bin_name("docketctl")?
         .about("The civil docket of a United States district court, with computed filing deadlines")
@@ -64,18 +88,22 @@ A command that is sent again under its key has the reply that it had, and acts o
 refused, or a line that is no command, changes nothing:
   {\"name\":\"Exists\",\"refused\":8}
   {\"fault\":4,\"field\":\"case\",\"name\":\"MissingField\"}
-The docket is kept in memory and ends with the program. Its court has the zone UTC0 and closes at
-17:00.
+The docket is kept in a database in memory, of SQLite, and ends with the program. ZONE is as
+EST5EDT,M3.2.0,M11.1.0: hours west of Greenwich, and the dates on which clocks change. HH:MM is
+from 00:00 to 23:59.
 
 Exit status: 0 all commands were accepted, 1 a line was refused or no command, 2 bad command
-line, 3 reading, writing or memory failed.";
+line, 3 reading, writing, memory or the database failed.";
 
 /// What the words ask for, the first of which is the program's name. The error is what to print: a
 /// bad command line, a help text or the version.
-pub fn read_job<'a>(alloc: Global, words: &'a [String]) -> Result<Job, Error> {
+pub fn read_job<'a>(alloc: Global, words: &'a [String]) -> Result<Job<'a>, Error> {
     let matches = command(alloc)?.try_get_matches_from(words)?;
-    Ok(match matches.subcommand_name() {
-        Some("run") => Job::Run,
-        _ => Job::Count,
+    Ok(match matches.subcommand_matches("run") {
+        Some(run) => Job::Run {
+            zone: run.get_str("zone").unwrap_or(ZONE),
+            close: run.get_str("close").unwrap_or(CLOSE),
+        },
+        None => Job::Count,
     })
 }

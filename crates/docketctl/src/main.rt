@@ -8,11 +8,12 @@ mod tests;
 
 use command_lines::{Clerk, RunFault, command_run};
 use count_lines::count_run;
-use court_days::Court;
-use docket_plain::Plain;
+use court_days::{Court, CourtFault};
+use docket_store::{CreateFault, Docket, Returned};
 use job::{Job, read_job};
+use sqlite::{Connection, MemStore};
 use std::process::ExitCode;
-use std::{env, io};
+use std::{env, fmt, io};
 
 /// Every line was answered, and none as bad.
 const DONE: u8 = 0;
@@ -23,34 +24,68 @@ const SOME_BAD: u8 = 1;
 /// The command line is none of the program's.
 const BAD_LINE: u8 = 2;
 
-/// Reading, writing or memory failed.
+/// Reading, writing, memory or the database failed.
 const FAILED: u8 = 3;
+
+/// Tells why the program ended early.
+fn failed<F: fmt::Display>(rt: &HostRuntime, fault: &F) -> io::Result<u8> {
+    eprintln!(rt; "docketctl: {fault}")?;
+    Ok(FAILED)
+}
 
 /// Runs `count` over standard input and output, and answers the exit status.
 fn count(rt: &HostRuntime) -> io::Result<u8> {
     match count_run(rt.alloc(), &mut rt.stdin(), &mut rt.stdout()) {
         Ok(end) if end.bad == 0 => Ok(DONE),
         Ok(_) => Ok(SOME_BAD),
-        Err(fault) => {
-            eprintln!(rt; "docketctl: {fault}")?;
-            Ok(FAILED)
-        }
+        Err(fault) => failed(rt, &fault),
     }
 }
 
-/// Runs `run` over a docket in memory, and answers the exit status.
-fn run_commands(rt: &HostRuntime) -> io::Result<u8> {
-    let Ok(court) = Court::read(rt.alloc(), "UTC0", "17:00") else {
-        return out_of_memory(rt);
-    };
-    let mut clerk = Clerk::new(rt.alloc(), Plain::new(rt.alloc(), court));
-    match command_run(rt.alloc(), &mut rt.stdin(), &mut rt.stdout(), &mut clerk) {
+/// Answers the commands of standard input, and answers the exit status.
+fn answer_commands(rt: &HostRuntime, clerk: &mut Clerk<MemStore>) -> io::Result<u8> {
+    match command_run(rt.alloc(), &mut rt.stdin(), &mut rt.stdout(), clerk) {
         Ok(end) if end.bad == 0 => Ok(DONE),
         Ok(_) => Ok(SOME_BAD),
         Err(RunFault::NoMemory) => out_of_memory(rt),
-        Err(fault) => {
-            eprintln!(rt; "docketctl: {fault}")?;
-            Ok(FAILED)
+        Err(fault) => failed(rt, &fault),
+    }
+}
+
+/// Runs `run` over a docket of the court in memory, and answers the exit status.
+fn keep_docket(rt: &HostRuntime, court: Court) -> io::Result<u8> {
+    let Ok(connection) = Connection::open_in_memory(rt.alloc()) else {
+        return out_of_memory(rt);
+    };
+    match Docket::create(rt.alloc(), connection, court) {
+        Ok(docket) => answer_commands(rt, &mut Clerk::new(rt.alloc(), docket)),
+        Err(
+            Returned {
+                fault: CreateFault::NoMemory,
+                connection: _,
+            },
+        ) => out_of_memory(rt),
+        Err(
+            Returned {
+                fault,
+                connection: _,
+            },
+        ) => failed(rt, &fault),
+    }
+}
+
+/// Runs `run` for the court that the texts spell, and answers the exit status.
+fn run_commands(rt: &HostRuntime, zone: &str, close: &str) -> io::Result<u8> {
+    match Court::read(rt.alloc(), zone, close) {
+        Ok(court) => keep_docket(rt, court),
+        Err(CourtFault::NoMemory) => out_of_memory(rt),
+        Err(CourtFault::BadZone) => {
+            eprintln!(rt; "docketctl: --zone {zone:?} is no zone, as EST5EDT,M3.2.0,M11.1.0 is")?;
+            Ok(BAD_LINE)
+        }
+        Err(CourtFault::BadClose) => {
+            eprintln!(rt; "docketctl: --close {close:?} is no time from 00:00 to 23:59")?;
+            Ok(BAD_LINE)
         }
     }
 }
@@ -66,7 +101,7 @@ fn run(rt: &HostRuntime) -> io::Result<u8> {
     let words: Vec<String> = env::args(rt)?.collect(rt.alloc())?;
     match read_job(rt.alloc(), words.as_slice()) {
         Ok(Job::Count) => count(rt),
-        Ok(Job::Run) => run_commands(rt),
+        Ok(Job::Run { zone, close }) => run_commands(rt, zone, close),
         Err(error) => {
             error.print(rt)?;
             Ok(if error.use_stderr() { BAD_LINE } else { DONE })

@@ -6,7 +6,9 @@
 use command_lines::{Clerk, command_run};
 use count_lines::count_run;
 use court_days::Court;
-use docket_plain::Plain;
+use docket_store::{CreateFault, Docket, Returned};
+use sqlite::{Connection, MemStore};
+use std::alloc::Global;
 use std::process::ExitCode;
 use std::{fs, io};
 
@@ -55,11 +57,33 @@ fn count_agrees(rt: &HostRuntime, name: &str) -> io::Result<bool> {
     agrees(rt, name, &written)
 }
 
+/// A clerk who keeps a docket without any record, in memory.
+fn clerk(alloc: Global, court: Court) -> Result<Clerk<MemStore>, CreateFault> {
+    let Ok(connection) = Connection::open_in_memory(alloc) else {
+        return Err(CreateFault::NoMemory);
+    };
+    match Docket::create(alloc, connection, court) {
+        Ok(docket) => Ok(Clerk::new(alloc, docket)),
+        Err(
+            Returned {
+                fault,
+                connection: _,
+            },
+        ) => Err(fault),
+    }
+}
+
 fn run_agrees(rt: &HostRuntime, name: &str) -> io::Result<bool> {
     let Ok(court) = Court::read(rt.alloc(), "UTC0", "17:00") else {
         return Ok(false);
     };
-    let mut clerk = Clerk::new(rt.alloc(), Plain::new(rt.alloc(), court));
+    let mut clerk = match clerk(rt.alloc(), court) {
+        Ok(clerk) => clerk,
+        Err(fault) => {
+            println!(rt; "{name}: {fault}")?;
+            return Ok(false);
+        }
+    };
     let mut written = Vec::new(rt.alloc());
     let lines = input(rt, name)?;
     if let Err(fault) = command_run(rt.alloc(), &mut lines.as_slice(), &mut written, &mut clerk) {

@@ -6,7 +6,8 @@ use command_lines::{Clerk, command_run};
 use court_days::{Court, Day, End};
 use court_rules::Standing;
 use docket_core::DeadlineLine;
-use docket_plain::Plain;
+use docket_store::{Docket, Returned};
+use sqlite::{Connection, MemStore};
 use std::alloc::{AllocError, Global};
 use std::process::ExitCode;
 use std::{fs, io};
@@ -79,19 +80,46 @@ fn push_deadlines(
 fn court(alloc: Global) -> io::Result<Court> {
     match Court::read(alloc, "EST5EDT,M3.2.0,M11.1.0", "17:00") {
         Ok(court) => Ok(court),
-        Err(_) => Err(io::Error::from(io::ErrorKind::OutOfMemory)),
+        Err(_) => Err(failed()),
     }
+}
+
+/// What a fault of a docket in memory comes to here.
+fn failed() -> io::Error {
+    io::Error::from(io::ErrorKind::OutOfMemory)
+}
+
+/// A clerk who keeps a docket without any record, in memory.
+fn clerk(alloc: Global) -> io::Result<Clerk<MemStore>> {
+    let court = court(alloc)?;
+    let connection = Connection::open_in_memory(alloc)?;
+    match Docket::create(alloc, connection, court) {
+        Ok(docket) => Ok(Clerk::new(alloc, docket)),
+        Err(
+            Returned {
+                fault: _,
+                connection: _,
+            },
+        ) => Err(failed()),
+    }
+}
+
+/// Where the deadlines of case 1 stand in the docket.
+fn deadlines(mut docket: Docket<MemStore>) -> io::Result<Option<Vec<DeadlineLine>>> {
+    let found = docket.deadlines(1);
+    let _ = docket.close();
+    found.map_err(|_| failed())
 }
 
 /// What is answered to the commands, and then where the deadlines stand.
 fn played(alloc: Global, commands: &[u8]) -> io::Result<Vec<u8>> {
-    let mut clerk = Clerk::new(alloc, Plain::new(alloc, court(alloc)?));
+    let mut clerk = clerk(alloc)?;
     let mut out = Vec::new(alloc);
     let mut lines = commands;
     if command_run(alloc, &mut lines, &mut out, &mut clerk).is_err() {
-        return Err(io::Error::from(io::ErrorKind::OutOfMemory));
+        return Err(failed());
     }
-    if let Some(deadlines) = clerk.docket().deadlines(1)? {
+    if let Some(deadlines) = deadlines(clerk.into_docket())? {
         push_deadlines(alloc, &court(alloc)?, &deadlines, &mut out)?;
     }
     Ok(out)

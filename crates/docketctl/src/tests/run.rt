@@ -3,7 +3,8 @@
 use super::ends::{Pieces, Taker};
 use command_lines::{Clerk, CountEnd, RunFault, command_run};
 use court_days::Court;
-use docket_plain::Plain;
+use docket_store::{Docket, Returned};
+use sqlite::{Connection, MemStore};
 use std::test::Fail;
 
 const INPUT: &[u8] = br#"{"case":9,"deadline":1,"do":"vacate","key":"k"}
@@ -19,10 +20,19 @@ const ANSWERS: [&str; 4] = [
     "{\"number\":1}\n",
 ];
 
-/// A clerk who keeps a docket without any record.
-fn clerk(rt: &HostRuntime) -> Result<Clerk, Fail> {
+/// A clerk who keeps a docket without any record, in memory.
+fn clerk(rt: &HostRuntime) -> Result<Clerk<MemStore>, Fail> {
     let court = Court::read(rt.alloc(), "UTC0", "17:00").map_err(|_| "no court")?;
-    Ok(Clerk::new(rt.alloc(), Plain::new(rt.alloc(), court)))
+    let connection = Connection::open_in_memory(rt.alloc())?;
+    match Docket::create(rt.alloc(), connection, court) {
+        Ok(docket) => Ok(Clerk::new(rt.alloc(), docket)),
+        Err(
+            Returned {
+                fault: _,
+                connection: _,
+            },
+        ) => Err(Fail::new("no docket")),
+    }
 }
 
 /// The first answers, so many of them, as one text.

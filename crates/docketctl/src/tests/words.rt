@@ -11,14 +11,29 @@ fn words_of(rt: &HostRuntime, line: &str) -> Result<Vec<String>, Fail> {
     Ok(words)
 }
 
+/// What the words ask for: the zone and the closing time of `run`, or else to count.
+const JOBS: [(&str, Option<(&str, &str)>); 5] = [
+    ("docketctl", None),
+    ("docketctl count", None),
+    ("docketctl run", Some(("UTC0", "17:00"))),
+    (
+        "docketctl run --zone EST5EDT,M3.2.0,M11.1.0",
+        Some(("EST5EDT,M3.2.0,M11.1.0", "17:00")),
+    ),
+    (
+        "docketctl run --close=16:30 --zone CST6",
+        Some(("CST6", "16:30")),
+    ),
+];
+
 #[test]
 fn jobs(rt: HostRuntime) -> Result<(), Fail> {
-    for (line, wanted) in [
-        ("docketctl", Job::Count),
-        ("docketctl count", Job::Count),
-        ("docketctl run", Job::Run),
-    ] {
+    for (line, wanted) in JOBS {
         let words = words_of(&rt, line)?;
+        let wanted = match wanted {
+            Some((zone, close)) => Job::Run { zone, close },
+            None => Job::Count,
+        };
         let job = read_job(rt.alloc(), words.as_slice());
         assert!(rt; job.is_ok_and(|job| job == wanted), "{line}");
     }
@@ -26,7 +41,7 @@ fn jobs(rt: HostRuntime) -> Result<(), Fail> {
 }
 
 /// What is printed where the words ask for no job, and whether that is a mistake.
-const TEXTS: [(&str, &str, bool); 7] = [
+const TEXTS: [(&str, &str, bool); 8] = [
     ("docketctl --help", "Usage: docketctl [COMMAND]", false),
     ("docketctl --version", "docketctl 0.1.0", false),
     ("docketctl count --help", "forward DAY N", false),
@@ -39,6 +54,11 @@ const TEXTS: [(&str, &str, bool); 7] = [
     (
         "docketctl count 3",
         "error: unexpected argument '3' found",
+        true,
+    ),
+    (
+        "docketctl run --zone",
+        "a value is required for '--zone <ZONE>'",
         true,
     ),
     (

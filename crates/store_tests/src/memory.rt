@@ -1,0 +1,5 @@
+//! Dockets in memory.
+mod adopting;
+mod answers;
+mod calendar;
+mod records;
