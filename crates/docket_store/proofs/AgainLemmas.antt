@@ -1,5 +1,5 @@
 -- A command that is given again.
-use Rattle.std.proofs.Common.{◌≡◌, ◌⊎◌, inl, inr, Bool, true, false, not, cond, Option, Some, None, List, [], ◌∷◌, Ok, Err, Result, refl, sym, ap, subst, ◌∙◌}
+use Rattle.std.proofs.Common.{◌≡◌, ◌⊎◌, inl, inr, cond, Option, Some, None, [], ◌∷◌, Ok, Err, Result, refl, sym, ap, subst, ◌∙◌}
 use Rattle.std.proofs.Math.Logic.{∥∥₁_map}
 use Rattle.std.specs.Prelude.{find, bytes_eq, if◌then◌else◌}
 use Rattle.std.specs.Option.{option_or}
@@ -7,49 +7,24 @@ use Rattle.std.proofs.lemmas.List.Folds.{find-append}
 use Rattle.std.proofs.lemmas.Slice.Eq.{bytes_eq-Decides}
 use Rattle.sqlite.specs.Store.{Ghosts}
 use Rattle.court_days.specs.Court.{CourtSettings}
-use Rattle.docket_command.specs.Sameness.{is_same_command}
 use Rattle.docket_command.specs.declared.command.Action.{Action}
 use Rattle.docket_command.specs.declared.command.Action.TheVariants as action
 use Rattle.docket_command.specs.declared.command.Command.{Command}
-use Rattle.docket_command.specs.declared.refusal.Refusal.{Refusal}
-use Rattle.docket_command.specs.declared.refusal.Refusal.TheVariants as refusal
 use Rattle.docket_command.specs.declared.refusal.Reply.{Reply}
 use Rattle.docket_command.proofs.SamenessLemmas.{same_command}
 use Rattle.docket_core.specs.Histories.{History}
 use Rattle.docket_core.specs.Outcomes.{Answer, accepted, repeated, refused, answer_kept, kept, kept_by, receipts, reply_to, replied, shown, shown_fresh, outcome, after, after_answer}
-use Rattle.docket_core.specs.Refusals.{on, on_value, first_some, is_reused, refusal_of, state_refusals}
-use Rattle.docket_core.specs.Values.{is_word, first_bad, bad_values}
 use Rattle.docket_core.specs.declared.row.Receipt.{Receipt}
 use Rattle.docket_core.specs.declared.view.Kept.{Kept}
-use Rattle.docket_core.specs.declared.view.Kept.TheVariants.{Fresh, Same, Other}
+use Rattle.docket_core.specs.declared.view.Kept.TheVariants.{Same, Other}
 use Rattle.docket_core.specs.declared.view.View.{View}
 use Rattle.docket_core.proofs.Leading.{is_accepted}
+use Rattle.docket_tables.proofs.OrderlyReceipts.{fresh_by, none_found}
 use Rattle.docket_store.specs.Applying.{Applies, Stands}
 use Rattle.docket_store.specs.Dockets.{Docket}
 use Rattle.docket_store.specs.Reopening.{AppliesOnce}
 use Rattle.docket_store.specs.declared.fault.Fault.{Fault}
 use Rattle.docket_store.proofs.ApplyLemmas.{after_repeated}
-
--- what is accepted has a fresh key
-not_reused : (b c : Bool) (r s : Refusal) (rest : List (Option Refusal)) → first_some (on b r ∷ on c s ∷ rest) ≡ None → c ≡ false
-not_reused true c r s rest e = absurd (cc)
-not_reused false true r s rest e = absurd (cc)
-not_reused false false r s rest e = refl
-
-fresh_by : (court : CourtSettings) (k : Kept) (v : View) (c : Command) (reply : Reply) → v.kept ≡ k → refusal_of court v c ≡ None → answer_kept court k v c ≡ accepted reply → k ≡ Fresh
-fresh_by court Fresh v c reply is free e = refl
-fresh_by court (Same old) v c reply is free e = absurd (let clash : repeated old ≡ accepted reply = e in cc)
-fresh_by court Other v c reply is free e =
-    let off : is_reused v.kept ≡ false = not_reused (not (is_word 64 c.key)) (is_reused v.kept) refusal.BadKey refusal.KeyReused (on_value (first_bad (bad_values court c.action)) ∷ state_refusals court v c.action) free in
-    absurd (let clash : true ≡ false = sym (ap is_reused is) ∙ off in cc)
-
-none_found : (o : Option Receipt) (c : Command) → kept_by o c ≡ Fresh → o ≡ None
-none_found None c e = refl
-none_found (Some r) c e = absurd (by_test (is_same_command r.command c) e)
-  where
-    by_test : (b : Bool) → (if b then Same r.reply else Other) ≡ Fresh → ⊥
-    by_test true e = cc
-    by_test false e = cc
 
 -- the reply to an action does not tell what stands under the key
 reply_kept : (court : CourtSettings) (v : View) (k : Kept) (a : Action) → reply_to court (record v { kept = k }) a ≡ reply_to court v a
@@ -84,7 +59,7 @@ repeats court h c n e =
     let new : Receipt = record { command = c; reply = replied (reply_to court (shown_fresh h c.action) c.action) } in
     let met = is_accepted court v c n e in
     let test = λ (r : Receipt). bytes_eq r.command.key c.key in
-    let none : find test (receipts court h) ≡ None = none_found _ c (fresh_by court v.kept v c n refl met.free e) in
+    let none : find test (receipts court h) ≡ None = none_found _ c (fresh_by court v.kept v c n refl e) in
     let found : kept (receipts court (c ∷ h)) c ≡ Same new.reply = ap (λ o. kept_by o c) (find-append test (receipts court h) (new ∷ [])) ∙ kept_alone (find test (receipts court h)) new none in
     let due : new.reply ≡ n = sym (met.due ∙ ap replied (reply_kept court (shown_fresh h c.action) v.kept c.action)) in
     ap (λ k. answer_kept court k (shown court (c ∷ h) c) c) found ∙ ap repeated due

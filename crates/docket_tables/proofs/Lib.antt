@@ -16,7 +16,7 @@ mod OrderlyActs
 mod OrderlyCalendar
 pub mod OrderlyLemmas
 mod OrderlyLists
-mod OrderlyReceipts
+pub mod OrderlyReceipts
 mod OrderlyRows
 mod ProbeLemmas
 mod QueryLemmas

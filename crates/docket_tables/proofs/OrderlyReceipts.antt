@@ -48,14 +48,14 @@ accepts : (court : CourtSettings) (o : Option Refusal) (v : View) (c : Command) 
 accepts court None v c reply e = refl
 accepts court (Some r) v c reply e = absurd (let clash : refused r ≡ accepted reply = e in cc)
 
-fresh_by : (court : CourtSettings) (k : Kept) (v : View) (c : Command) (reply : Reply) → v.kept ≡ k → answer_kept court k v c ≡ accepted reply → k ≡ Fresh
+pub fresh_by : (court : CourtSettings) (k : Kept) (v : View) (c : Command) (reply : Reply) → v.kept ≡ k → answer_kept court k v c ≡ accepted reply → k ≡ Fresh
 fresh_by court Fresh v c reply is e = refl
 fresh_by court (Same old) v c reply is e = absurd (let clash : repeated old ≡ accepted reply = e in cc)
 fresh_by court Other v c reply is e =
     let off : is_reused v.kept ≡ false = not_reused (not (is_word 64 c.key)) (is_reused v.kept) refusal.BadKey refusal.KeyReused (on_value (first_bad (bad_values court c.action)) ∷ state_refusals court v c.action) (accepts court (refusal_of court v c) v c reply e) in
     absurd (let clash : true ≡ false = sym (ap is_reused is) ∙ off in cc)
 
-none_found : (o : Option Receipt) (c : Command) → kept_by o c ≡ Fresh → o ≡ None
+pub none_found : (o : Option Receipt) (c : Command) → kept_by o c ≡ Fresh → o ≡ None
 none_found None c e = refl
 none_found (Some r) c e = absurd (by_test (is_same_command r.command c) e)
   where

@@ -1,6 +1,6 @@
 -- From one run to the next: what an open finds in the files of a run that stopped.
-use Rattle.std.proofs.Common.{◌≡◌, ◌⊎◌, inl, inr, ◌∙◌, IsTrue, sym, ap, subst}
-use Rattle.std.proofs.Math.Logic.{∥∥₁_map, ∥∥₁_elim}
+use Rattle.std.proofs.Common.{◌≡◌, ◌∙◌, sym, ap, subst}
+use Rattle.std.proofs.Math.Logic.{∥∥₁_elim}
 use base.Stored.{Coded-set}
 use Rattle.sqlite_schema.specs.contracts.schema.Schema as schema
 use Rattle.sqlite_catalog.specs.Listing.{IsSound}
@@ -10,13 +10,6 @@ use Rattle.sqlite.specs.Tree.{Trees}
 use Rattle.sqlite.specs.Schema.{Schema}
 use Rattle.sqlite.specs.Effect.{Database}
 use Rattle.sqlite.specs.State.{State, Opens, IsLive}
-use Rattle.sqlite_disk.specs.declared.Disk.{Ghosts}
-use Rattle.sqlite_wal.specs.Recovery.{Image}
-use Rattle.sqlite_store.specs.declared.store.FileStore.{FileStore}
-use Rattle.sqlite_store.specs.FileStore.{state, view, recovers}
-use Rattle.sqlite.specs.Held.{AreDatabases}
-use Rattle.sqlite.specs.Start.{FindsIn}
-use Rattle.sqlite.proofs.Theorems.{next_run}
 use Rattle.docket_tables.specs.Schema.{docket_schema}
 use Rattle.docket_tables.specs.Layouts.{Rows, AreRows}
 use Rattle.docket_tables.specs.Stands.{IsImage, IsSettled}
@@ -43,19 +36,3 @@ opened_stands s rows opens live leaves image =
       live = (live opens.is_open).0;
       holds = subst (AreRows rows) (sym (ap (λ (b : Database). b.trees) is)) image.holds;
     }) (sym is) leaves
-
--- on an image of the one rows or of the other
-pub opened_either : (s : State) (rows next : Rows) → Opens s → IsLive s → LeavesCommit s → IsImage rows s.committed.trees ⊎ IsImage next s.committed.trees → IsSettled s rows ⊎ IsSettled s next
-opened_either s rows next opens live leaves (inl image) = inl (opened_stands s rows opens live leaves image)
-opened_either s rows next opens live leaves (inr image) = inr (opened_stands s next opens live leaves image)
-
-module _ {D : Type 0} {g : Ghosts D} (it : FileStore D g) (numbered : IsTrue (view it).is_numbered) (sound : AreDatabases (recovers it))
-    (left : Image) (may : (state it).may_leave left) (s : State) (opens : Opens s) (live : IsLive s) (leaves : LeavesCommit s) (found : FindsIn left s) where
-  -- where the files hold what a crash could leave of a store whose images hold the rows, the next open holds them
-  pub reopened : (rows : Rows) → ((db : Trees) → recovers it db → IsImage rows db) → IsSettled s rows
-  reopened rows images = opened_stands s rows opens live leaves (image_known rows _ (∥∥₁_map (next_run it numbered sound left may s found) (images s.committed.trees)))
-
-  -- where each image holds the one rows or the other, so does the next open
-  pub reopened_either : (rows next : Rows) → ((db : Trees) → recovers it db → IsImage rows db ⊎ IsImage next db) → ∥ IsSettled s rows ⊎ IsSettled s next ∥₁
-  reopened_either rows next images =
-      ∥∥₁_map (next_run it numbered sound left may s found) (λ allowed. opened_either s rows next opens live leaves (images s.committed.trees allowed))
