@@ -1,3 +1,4 @@
 pub mod MomentLemmas
 pub mod SamenessLemmas
+pub mod SchemaLemmas
 pub mod WordLemmas

@@ -1,7 +1,9 @@
 pub mod Conversions
+pub mod FieldTypes
 pub mod Fields
 pub mod Moments
 pub mod Names
 pub mod Refusals
 pub mod Sameness
+pub mod Schema
 pub mod Words

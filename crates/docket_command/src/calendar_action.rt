@@ -1,17 +1,16 @@
 //! Commands on the court's calendar.
-ghost use Rattle.std.specs.Prelude.{◌≡◌, IfOk};
-ghost use Rattle.docket_command.specs.Sameness.{is_same_declare_day, is_same_close_day, is_same_close_span, is_same_withdraw_calendar, is_same_import_calendar};
+ghost use Rattle.std.specs.Prelude.{◌≡◌};
+ghost use Rattle.docket_command.specs.Sameness.{is_same_action};
+ghost use Rattle.docket_command.specs.declared.command.Action.TheVariants as action;
 
 use crate::choice::Sovereign;
 use crate::moment::Moment;
 use crate::new_day::NewDays;
-use crate::same::is_same_word;
 use crate::text::Text;
 use civil_time::Day;
-use std::alloc::{AllocError, Global};
 
 /// A holiday is declared (Fed. R. Civ. P. 6(a)(6)(B) and (C)).
-#[derive(Drop)]
+#[derive(Clone, PartialEq, Drop)]
 pub struct DeclareDay {
     pub day: Day,
     pub kind: Sovereign,
@@ -19,96 +18,72 @@ pub struct DeclareDay {
 }
 
 impl DeclareDay {
-    pub(crate) fn copied(&self) -> Result<DeclareDay, AllocError>
-        ensures { IfOk result (λ copy. copy ≡ self.now) }
-    {
-        Ok(DeclareDay {
-            day: self.day,
-            kind: self.kind,
-            name: self.name.copied()?,
-        })
-    }
-
+    #[tactic(auto, unfolding(crate::specs::Sameness::is_same_action))]
     pub(crate) fn same(&self, other: &DeclareDay) -> bool
-        ensures { result ≡ is_same_declare_day self.now other.now }
+        ensures { result ≡ is_same_action (action.DeclareDay self.now) (action.DeclareDay other.now) }
     {
-        self.day.epoch_day() == other.day.epoch_day()
-            && is_same_word(self.kind, other.kind)
-            && self.name.same(&other.name)
+        *self == *other
     }
 }
 
 /// The clerk's office is inaccessible on a day (Fed. R. Civ. P. 6(a)(3)).
-#[derive(Drop)]
+#[derive(Clone, PartialEq, Drop)]
 pub struct CloseDay {
     pub day: Day,
     pub name: Text,
 }
 
 impl CloseDay {
-    pub(crate) fn copied(&self) -> Result<CloseDay, AllocError>
-        ensures { IfOk result (λ copy. copy ≡ self.now) }
-    {
-        Ok(CloseDay {
-            day: self.day,
-            name: self.name.copied()?,
-        })
-    }
-
+    #[tactic(auto, unfolding(crate::specs::Sameness::is_same_action))]
     pub(crate) fn same(&self, other: &CloseDay) -> bool
-        ensures { result ≡ is_same_close_day self.now other.now }
+        ensures { result ≡ is_same_action (action.CloseDay self.now) (action.CloseDay other.now) }
     {
-        self.day.epoch_day() == other.day.epoch_day() && self.name.same(&other.name)
+        *self == *other
     }
 }
 
 /// The clerk's office is inaccessible from `start` up to but not with `end`, which counts for periods
 /// of hours (Fed. R. Civ. P. 6(a)(3)).
-#[derive(Clone, Copy)]
+#[derive(Clone, Copy, PartialEq)]
 pub struct CloseSpan {
     pub start: Moment,
     pub end: Moment,
 }
 
 impl CloseSpan {
+    #[tactic(auto, unfolding(crate::specs::Sameness::is_same_action))]
     pub(crate) fn same(&self, other: &CloseSpan) -> bool
-        ensures { result ≡ is_same_close_span self.now other.now }
+        ensures { result ≡ is_same_action (action.CloseSpan self.now) (action.CloseSpan other.now) }
     {
-        self.start.instant() == other.start.instant() && self.end.instant() == other.end.instant()
+        *self == *other
     }
 }
 
 /// A row of the calendar is taken back.
-#[derive(Clone, Copy)]
+#[derive(Clone, Copy, PartialEq)]
 pub struct WithdrawCalendar {
     pub row: u32,
 }
 
 impl WithdrawCalendar {
+    #[tactic(auto, unfolding(crate::specs::Sameness::is_same_action))]
     pub(crate) fn same(&self, other: &WithdrawCalendar) -> bool
-        ensures { result ≡ is_same_withdraw_calendar self.now other.now }
+        ensures { result ≡ is_same_action (action.WithdrawCalendar self.now) (action.WithdrawCalendar other.now) }
     {
-        self.row == other.row
+        *self == *other
     }
 }
 
 /// Days are entered together, those that do not stand yet.
-#[derive(Drop)]
+#[derive(Clone, Drop)]
 pub struct ImportCalendar {
     pub rows: NewDays,
 }
 
 impl ImportCalendar {
-    pub(crate) fn copied(&self, alloc: Global) -> Result<ImportCalendar, AllocError>
-        ensures { IfOk result (λ copy. copy ≡ self.now) }
-    {
-        Ok(ImportCalendar {
-            rows: self.rows.copied(alloc)?,
-        })
-    }
-
+    #[tactic(auto, unfolding(crate::specs::Sameness::is_same_action))]
     pub(crate) fn same(&self, other: &ImportCalendar) -> bool
-        ensures { result ≡ is_same_import_calendar self.now other.now }
+        ensures { result ≡ is_same_action (action.ImportCalendar self.now) (action.ImportCalendar other.now) }
     {
         self.rows.same(&other.rows)
     }

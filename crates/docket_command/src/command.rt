@@ -11,7 +11,7 @@ use crate::time_action::{EnterJudgment, Extend, NoticeHearing, OrderPeriod, Sati
 use std::alloc::{AllocError, Global};
 
 /// What the clerk asks for, under a key of the clerk's own by which it is known again.
-#[derive(Drop)]
+#[derive(Clone, Drop)]
 pub struct Command {
     pub key: Text,
     pub action: Action,
@@ -19,7 +19,7 @@ pub struct Command {
 
 /// What a command asks for. Its days and moments may lie outside the limits of what the docket
 /// enters, its texts may be of any length, and its numbers may name nothing.
-#[derive(Drop)]
+#[derive(Clone, Drop)]
 pub enum Action {
     DeclareDay(DeclareDay),
     CloseDay(CloseDay),
@@ -45,34 +45,7 @@ pub enum Action {
 }
 
 impl Action {
-    fn copied(&self, alloc: Global) -> Result<Action, AllocError>
-        ensures { IfOk result (λ copy. copy ≡ self.now) }
-    {
-        Ok(match self {
-            Action::DeclareDay(a) => Action::DeclareDay(a.copied()?),
-            Action::CloseDay(a) => Action::CloseDay(a.copied()?),
-            Action::CloseSpan(a) => Action::CloseSpan(*a),
-            Action::WithdrawCalendar(a) => Action::WithdrawCalendar(*a),
-            Action::ImportCalendar(a) => Action::ImportCalendar(a.copied(alloc)?),
-            Action::OpenCase(a) => Action::OpenCase(a.copied()?),
-            Action::AddParty(a) => Action::AddParty(a.copied()?),
-            Action::FileEntry(a) => Action::FileEntry(a.copied()?),
-            Action::ServeSummons(a) => Action::ServeSummons(*a),
-            Action::FileWaiver(a) => Action::FileWaiver(*a),
-            Action::ServePleading(a) => Action::ServePleading(*a),
-            Action::OrderReply(a) => Action::OrderReply(*a),
-            Action::RuleMotion(a) => Action::RuleMotion(*a),
-            Action::Dispose(a) => Action::Dispose(*a),
-            Action::StatementServed(a) => Action::StatementServed(*a),
-            Action::NoticeHearing(a) => Action::NoticeHearing(*a),
-            Action::OrderPeriod(a) => Action::OrderPeriod(*a),
-            Action::EnterJudgment(a) => Action::EnterJudgment(*a),
-            Action::Extend(a) => Action::Extend(*a),
-            Action::Satisfy(a) => Action::Satisfy(*a),
-            Action::Vacate(a) => Action::Vacate(*a),
-        })
-    }
-
+    #[tactic(auto, using(crate::proofs::SamenessLemmas::other_kinds))]
     fn same(&self, other: &Action) -> bool
         ensures { result ≡ is_same_action self.now other.now }
     {
@@ -105,13 +78,10 @@ impl Action {
 
 impl Command {
     /// The same command again.
-    pub fn copied(&self, alloc: Global) -> Result<Command, AllocError>
+    pub fn copied(&self, _alloc: Global) -> Result<Command, AllocError>
         ensures { IfOk result (λ copy. copy ≡ self.now) }
     {
-        Ok(Command {
-            key: self.key.copied()?,
-            action: self.action.copied(alloc)?,
-        })
+        self.clone()
     }
 
     /// Whether they are one command: the same key, the same kind, and the same in each field.
@@ -119,6 +89,12 @@ impl Command {
     pub fn same(&self, other: &Command) -> bool
         ensures value { result ≡ is_same_command self.now other.now }
         ensures means { IsTrue result ↔ self.now ≡ other.now }
+    {
+        self.compared(other)
+    }
+
+    fn compared(&self, other: &Command) -> bool
+        ensures { result ≡ is_same_command self.now other.now }
     {
         self.key.same(&other.key) && self.action.same(&other.action)
     }

@@ -1,14 +1,14 @@
 //! Commands on motions under Fed. R. Civ. P. 12 and on what follows them.
 ghost use Rattle.std.specs.Prelude.{◌≡◌};
-ghost use Rattle.docket_command.specs.Sameness.{is_same_rule_motion, is_same_dispose, is_same_statement_served};
+ghost use Rattle.docket_command.specs.Sameness.{is_same_action};
+ghost use Rattle.docket_command.specs.declared.command.Action.TheVariants as action;
 
 use crate::choice::{Ruling, ServiceMethod};
-use crate::same::{is_same_day, is_same_number, is_same_word};
 use civil_time::Day;
 use court_rules::MotionKind;
 
 /// A motion suspends a deadline (Fed. R. Civ. P. 12(a)(4)).
-#[derive(Clone, Copy)]
+#[derive(Clone, Copy, PartialEq)]
 pub struct RuleMotion {
     pub case: u32,
     pub deadline: u32,
@@ -17,18 +17,16 @@ pub struct RuleMotion {
 }
 
 impl RuleMotion {
+    #[tactic(auto, unfolding(crate::specs::Sameness::is_same_action))]
     pub(crate) fn same(&self, other: &RuleMotion) -> bool
-        ensures { result ≡ is_same_rule_motion self.now other.now }
+        ensures { result ≡ is_same_action (action.RuleMotion self.now) (action.RuleMotion other.now) }
     {
-        self.case == other.case
-            && self.deadline == other.deadline
-            && is_same_word(self.kind, other.kind)
-            && self.served.epoch_day() == other.served.epoch_day()
+        *self == *other
     }
 }
 
 /// The court rules on the motion that suspends a deadline (Fed. R. Civ. P. 12(a)(4), 12(e)).
-#[derive(Clone, Copy)]
+#[derive(Clone, Copy, PartialEq)]
 pub struct Dispose {
     pub case: u32,
     pub deadline: u32,
@@ -42,20 +40,16 @@ pub struct Dispose {
 }
 
 impl Dispose {
+    #[tactic(auto, unfolding(crate::specs::Sameness::is_same_action))]
     pub(crate) fn same(&self, other: &Dispose) -> bool
-        ensures { result ≡ is_same_dispose self.now other.now }
+        ensures { result ≡ is_same_action (action.Dispose self.now) (action.Dispose other.now) }
     {
-        self.case == other.case
-            && self.deadline == other.deadline
-            && is_same_word(self.outcome, other.outcome)
-            && self.notice.epoch_day() == other.notice.epoch_day()
-            && is_same_number(self.party, other.party)
-            && is_same_day(self.due, other.due)
+        *self == *other
     }
 }
 
 /// The more definite statement is served (Fed. R. Civ. P. 12(a)(4)(B)).
-#[derive(Clone, Copy)]
+#[derive(Clone, Copy, PartialEq)]
 pub struct StatementServed {
     pub case: u32,
     pub deadline: u32,
@@ -64,12 +58,10 @@ pub struct StatementServed {
 }
 
 impl StatementServed {
+    #[tactic(auto, unfolding(crate::specs::Sameness::is_same_action))]
     pub(crate) fn same(&self, other: &StatementServed) -> bool
-        ensures { result ≡ is_same_statement_served self.now other.now }
+        ensures { result ≡ is_same_action (action.StatementServed self.now) (action.StatementServed other.now) }
     {
-        self.case == other.case
-            && self.deadline == other.deadline
-            && self.served.epoch_day() == other.served.epoch_day()
-            && is_same_word(self.method, other.method)
+        *self == *other
     }
 }

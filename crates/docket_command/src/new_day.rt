@@ -32,6 +32,16 @@ impl Model for NewDays {
     ghost view = { λ d. d.days.items };
 }
 
+impl Clone for NewDays {
+    ghost use Rattle.std.specs.Prelude.{◌≡◌};
+
+    ghost is_clone = { λ days copy. copy ≡ days };
+
+    fn clone(&self) -> Result<NewDays, AllocError> {
+        days_copied(*self.days.allocator(), self.as_slice())
+    }
+}
+
 impl NewDays {
     /// Those days, in that order.
     pub fn new(days: Vec<NewDay>) -> NewDays
@@ -45,12 +55,6 @@ impl NewDays {
         ensures { result.now ≡ self.now }
     {
         self.days.as_slice()
-    }
-
-    pub(crate) fn copied(&self, alloc: Global) -> Result<NewDays, AllocError>
-        ensures { IfOk result (λ copy. copy ≡ self.now) }
-    {
-        days_copied(alloc, self.as_slice())
     }
 
     pub(crate) fn same(&self, other: &NewDays) -> bool

@@ -1,13 +1,14 @@
 //! Commands on what is served on a party, each of which makes the deadline of its answer.
 ghost use Rattle.std.specs.Prelude.{◌≡◌};
-ghost use Rattle.docket_command.specs.Sameness.{is_same_serve_summons, is_same_file_waiver, is_same_serve_pleading, is_same_order_reply};
+ghost use Rattle.docket_command.specs.Sameness.{is_same_action};
+ghost use Rattle.docket_command.specs.declared.command.Action.TheVariants as action;
 
 use crate::choice::{Basis, PleadingKind, ServiceMethod};
-use crate::same::{is_same_choice, is_same_day, is_same_flag, is_same_word};
+use crate::same::{is_same_day, is_same_method, is_same_word};
 use civil_time::Day;
 
 /// The summons and the complaint are served (Fed. R. Civ. P. 12(a)(1)(A)(i), 12(a)(2), 12(a)(3)).
-#[derive(Clone, Copy)]
+#[derive(Clone, Copy, PartialEq)]
 pub struct ServeSummons {
     pub case: u32,
     pub party: u32,
@@ -19,19 +20,16 @@ pub struct ServeSummons {
 }
 
 impl ServeSummons {
+    #[tactic(auto, unfolding(crate::specs::Sameness::is_same_action))]
     pub(crate) fn same(&self, other: &ServeSummons) -> bool
-        ensures { result ≡ is_same_serve_summons self.now other.now }
+        ensures { result ≡ is_same_action (action.ServeSummons self.now) (action.ServeSummons other.now) }
     {
-        self.case == other.case
-            && self.party == other.party
-            && is_same_word(self.basis, other.basis)
-            && self.served.epoch_day() == other.served.epoch_day()
-            && is_same_day(self.attorney, other.attorney)
+        *self == *other
     }
 }
 
 /// A party waives service (Fed. R. Civ. P. 4(d), 12(a)(1)(A)(ii)).
-#[derive(Clone, Copy)]
+#[derive(Clone, Copy, PartialEq)]
 pub struct FileWaiver {
     pub case: u32,
     pub party: u32,
@@ -46,21 +44,17 @@ pub struct FileWaiver {
 }
 
 impl FileWaiver {
+    #[tactic(auto, unfolding(crate::specs::Sameness::is_same_action))]
     pub(crate) fn same(&self, other: &FileWaiver) -> bool
-        ensures { result ≡ is_same_file_waiver self.now other.now }
+        ensures { result ≡ is_same_action (action.FileWaiver self.now) (action.FileWaiver other.now) }
     {
-        self.case == other.case
-            && self.party == other.party
-            && self.sent.epoch_day() == other.sent.epoch_day()
-            && self.allowed == other.allowed
-            && self.returned.epoch_day() == other.returned.epoch_day()
-            && is_same_flag(self.abroad, other.abroad)
+        *self == *other
     }
 }
 
 /// A counterclaim, a crossclaim or a pleading to which no response is allowed is served (Fed. R. Civ.
 /// P. 12(a)(1)(B), 12(a)(2), 12(a)(3), 12(f)(2)).
-#[derive(Clone, Copy)]
+#[derive(Clone, Copy, PartialEq)]
 pub struct ServePleading {
     pub case: u32,
     pub party: u32,
@@ -76,22 +70,23 @@ pub struct ServePleading {
 }
 
 impl ServePleading {
+    #[tactic(auto, unfolding(crate::specs::Sameness::is_same_action))]
     pub(crate) fn same(&self, other: &ServePleading) -> bool
-        ensures { result ≡ is_same_serve_pleading self.now other.now }
+        ensures { result ≡ is_same_action (action.ServePleading self.now) (action.ServePleading other.now) }
     {
         self.case == other.case
             && self.party == other.party
             && is_same_word(self.kind, other.kind)
             && is_same_word(self.basis, other.basis)
-            && self.served.epoch_day() == other.served.epoch_day()
+            && self.served == other.served
             && is_same_word(self.method, other.method)
             && is_same_day(self.attorney, other.attorney)
-            && is_same_choice(self.attorney_method, other.attorney_method)
+            && is_same_method(self.attorney_method, other.attorney_method)
     }
 }
 
 /// An order to reply to an answer is served (Fed. R. Civ. P. 12(a)(1)(C)).
-#[derive(Clone, Copy)]
+#[derive(Clone, Copy, PartialEq)]
 pub struct OrderReply {
     pub case: u32,
     pub party: u32,
@@ -102,13 +97,10 @@ pub struct OrderReply {
 }
 
 impl OrderReply {
+    #[tactic(auto, unfolding(crate::specs::Sameness::is_same_action))]
     pub(crate) fn same(&self, other: &OrderReply) -> bool
-        ensures { result ≡ is_same_order_reply self.now other.now }
+        ensures { result ≡ is_same_action (action.OrderReply self.now) (action.OrderReply other.now) }
     {
-        self.case == other.case
-            && self.party == other.party
-            && self.served.epoch_day() == other.served.epoch_day()
-            && is_same_word(self.method, other.method)
-            && is_same_day(self.due, other.due)
+        *self == *other
     }
 }

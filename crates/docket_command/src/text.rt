@@ -19,6 +19,30 @@ impl Model for Text {
     ghost view = { λ t. string_bytes t.text };
 }
 
+impl Clone for Text {
+    ghost use Rattle.std.specs.Prelude.{◌≡◌};
+
+    ghost is_clone = { λ text copy. copy ≡ text };
+
+    fn clone(&self) -> Result<Text, AllocError> {
+        Ok(Text::new(self.text.clone()?))
+    }
+}
+
+impl PartialEq for Text {
+    ghost use Rattle.std.specs.Str.{bytes_eq};
+    ghost use Rattle.std.proofs.Common.{rules};
+    ghost use Rattle.std.specs.Cmp.Rules.{comparing};
+
+    ghost eq = { bytes_eq };
+
+    ghost laws = { Prim.search (comparing, rules) };
+
+    fn eq(&self, other: &Text) -> bool {
+        self.as_str() == other.as_str()
+    }
+}
+
 impl Text {
     /// The text of that string.
     pub fn new(text: String) -> Text
@@ -45,7 +69,7 @@ impl Text {
     pub fn copied(&self) -> Result<Text, AllocError>
         ensures { IfOk result (λ copy. copy ≡ self.now) }
     {
-        Ok(Text::new(self.text.clone()?))
+        self.clone()
     }
 
     /// Whether they are one text.

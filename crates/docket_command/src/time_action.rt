@@ -1,17 +1,18 @@
 //! Commands that set times, extend them and end them.
 ghost use Rattle.std.specs.Prelude.{◌≡◌};
-ghost use Rattle.docket_command.specs.Sameness.{is_same_notice_hearing, is_same_order_period, is_same_enter_judgment, is_same_extend, is_same_satisfy, is_same_vacate};
+ghost use Rattle.docket_command.specs.Sameness.{is_same_action};
+ghost use Rattle.docket_command.specs.declared.command.Action.TheVariants as action;
 
 use crate::choice::{PeriodUnit, ServiceMethod};
 use crate::moment::Moment;
 use crate::same::{
-    is_same_choice, is_same_day, is_same_flag, is_same_moment, is_same_number, is_same_word,
+    is_same_day, is_same_direction, is_same_method, is_same_moment, is_same_number, is_same_word,
 };
 use civil_time::Day;
 use court_days::{Direction, Way};
 
 /// A hearing is noticed (Fed. R. Civ. P. 6(c)).
-#[derive(Clone, Copy)]
+#[derive(Clone, Copy, PartialEq)]
 pub struct NoticeHearing {
     pub case: u32,
     /// Who moves.
@@ -22,18 +23,16 @@ pub struct NoticeHearing {
 }
 
 impl NoticeHearing {
+    #[tactic(auto, unfolding(crate::specs::Sameness::is_same_action))]
     pub(crate) fn same(&self, other: &NoticeHearing) -> bool
-        ensures { result ≡ is_same_notice_hearing self.now other.now }
+        ensures { result ≡ is_same_action (action.NoticeHearing self.now) (action.NoticeHearing other.now) }
     {
-        self.case == other.case
-            && self.party == other.party
-            && self.opponent == other.opponent
-            && self.hearing.epoch_day() == other.hearing.epoch_day()
+        *self == *other
     }
 }
 
 /// The court orders a period or sets a day (Fed. R. Civ. P. 6(a)).
-#[derive(Clone, Copy)]
+#[derive(Clone, Copy, PartialEq)]
 pub struct OrderPeriod {
     pub case: u32,
     /// Whose time it is, 0 for every party's.
@@ -52,8 +51,9 @@ pub struct OrderPeriod {
 }
 
 impl OrderPeriod {
+    #[tactic(auto, unfolding(crate::specs::Sameness::is_same_action))]
     pub(crate) fn same(&self, other: &OrderPeriod) -> bool
-        ensures { result ≡ is_same_order_period self.now other.now }
+        ensures { result ≡ is_same_action (action.OrderPeriod self.now) (action.OrderPeriod other.now) }
     {
         self.case == other.case
             && self.party == other.party
@@ -61,14 +61,14 @@ impl OrderPeriod {
             && is_same_day(self.start, other.start)
             && is_same_moment(self.at, other.at)
             && is_same_number(self.count, other.count)
-            && is_same_choice(self.direction, other.direction)
-            && is_same_choice(self.method, other.method)
+            && is_same_direction(self.direction, other.direction)
+            && is_same_method(self.method, other.method)
             && is_same_day(self.until, other.until)
     }
 }
 
 /// Judgment is entered (Fed. R. Civ. P. 50, 52, 59 and 60).
-#[derive(Clone, Copy)]
+#[derive(Clone, Copy, PartialEq)]
 pub struct EnterJudgment {
     pub case: u32,
     pub entered: Day,
@@ -77,17 +77,16 @@ pub struct EnterJudgment {
 }
 
 impl EnterJudgment {
+    #[tactic(auto, unfolding(crate::specs::Sameness::is_same_action))]
     pub(crate) fn same(&self, other: &EnterJudgment) -> bool
-        ensures { result ≡ is_same_enter_judgment self.now other.now }
+        ensures { result ≡ is_same_action (action.EnterJudgment self.now) (action.EnterJudgment other.now) }
     {
-        self.case == other.case
-            && self.entered.epoch_day() == other.entered.epoch_day()
-            && is_same_day(self.discharged, other.discharged)
+        *self == *other
     }
 }
 
 /// The court extends a time, by days or until a day (Fed. R. Civ. P. 6(b)).
-#[derive(Clone, Copy)]
+#[derive(Clone, Copy, PartialEq)]
 pub struct Extend {
     pub case: u32,
     pub deadline: u32,
@@ -100,20 +99,16 @@ pub struct Extend {
 }
 
 impl Extend {
+    #[tactic(auto, unfolding(crate::specs::Sameness::is_same_action))]
     pub(crate) fn same(&self, other: &Extend) -> bool
-        ensures { result ≡ is_same_extend self.now other.now }
+        ensures { result ≡ is_same_action (action.Extend self.now) (action.Extend other.now) }
     {
-        self.case == other.case
-            && self.deadline == other.deadline
-            && self.at.instant() == other.at.instant()
-            && is_same_flag(self.neglect, other.neglect)
-            && is_same_number(self.days, other.days)
-            && is_same_day(self.until, other.until)
+        *self == *other
     }
 }
 
 /// What a deadline asks for is filed.
-#[derive(Clone, Copy)]
+#[derive(Clone, Copy, PartialEq)]
 pub struct Satisfy {
     pub case: u32,
     pub deadline: u32,
@@ -122,27 +117,26 @@ pub struct Satisfy {
 }
 
 impl Satisfy {
+    #[tactic(auto, unfolding(crate::specs::Sameness::is_same_action))]
     pub(crate) fn same(&self, other: &Satisfy) -> bool
-        ensures { result ≡ is_same_satisfy self.now other.now }
+        ensures { result ≡ is_same_action (action.Satisfy self.now) (action.Satisfy other.now) }
     {
-        self.case == other.case
-            && self.deadline == other.deadline
-            && self.at.instant() == other.at.instant()
-            && is_same_word(self.way, other.way)
+        *self == *other
     }
 }
 
 /// A deadline is vacated.
-#[derive(Clone, Copy)]
+#[derive(Clone, Copy, PartialEq)]
 pub struct Vacate {
     pub case: u32,
     pub deadline: u32,
 }
 
 impl Vacate {
+    #[tactic(auto, unfolding(crate::specs::Sameness::is_same_action))]
     pub(crate) fn same(&self, other: &Vacate) -> bool
-        ensures { result ≡ is_same_vacate self.now other.now }
+        ensures { result ≡ is_same_action (action.Vacate self.now) (action.Vacate other.now) }
     {
-        self.case == other.case && self.deadline == other.deadline
+        *self == *other
     }
 }

@@ -49,6 +49,7 @@ IsDay day = IsAct (act.Fixed day)
 
 -- what an action names
 pub case_counts : (a : Action) → IsAction a → IsCount (case_number a)
+unfolding IsAction
 case_counts (action.AddParty a) is = is.0
 case_counts (action.FileEntry a) is = is.0
 case_counts (action.ServeSummons a) is = is.0
@@ -67,12 +68,13 @@ case_counts (action.Vacate a) is = is.0
 case_counts _ is = omega arith
 
 pub deadline_counts : (a : Action) → IsAction a → IsCount (deadline_number a)
-deadline_counts (action.RuleMotion a) is = is.1
-deadline_counts (action.Dispose a) is = is.1
-deadline_counts (action.StatementServed a) is = is.1
-deadline_counts (action.Extend a) is = is.1
-deadline_counts (action.Satisfy a) is = is.1
-deadline_counts (action.Vacate a) is = is.1
+unfolding IsAction
+deadline_counts (action.RuleMotion a) is = is.1.0
+deadline_counts (action.Dispose a) is = is.1.0
+deadline_counts (action.StatementServed a) is = is.1.0
+deadline_counts (action.Extend a) is = is.1.0
+deadline_counts (action.Satisfy a) is = is.1.0
+deadline_counts (action.Vacate a) is = is.1.0
 deadline_counts _ is = omega arith
 
 -- the calendar rows that it asks for
@@ -90,10 +92,11 @@ days_asked [] all = tt
 days_asked (new ∷ others) all = (record { item = all.0.0; named = tt; name = all.0.1 }, days_asked others all.1)
 
 pub rows_fine : (a : Action) → IsAction a → AllByRecursion IsAsked (rows_asked a)
-rows_fine (action.DeclareDay a) is = (record { item = is.0; named = tt; name = is.1 }, tt)
-rows_fine (action.CloseDay a) is = (record { item = is.0; named = tt; name = is.1 }, tt)
-rows_fine (action.CloseSpan a) is = (record { item = is; named = refl; name = no_bytes }, tt)
-rows_fine (action.ImportCalendar a) is = days_asked a.rows is
+unfolding IsAction
+rows_fine (action.DeclareDay a) is = (record { item = is.0; named = tt; name = is.1.1.0 }, tt)
+rows_fine (action.CloseDay a) is = (record { item = is.0; named = tt; name = is.1.0 }, tt)
+rows_fine (action.CloseSpan a) is = (record { item = (is.0, is.1.0); named = refl; name = no_bytes }, tt)
+rows_fine (action.ImportCalendar a) is = days_asked a.rows is.0
 rows_fine _ is = tt
 
 -- the deadlines that it makes
@@ -176,21 +179,23 @@ in_months_fine None few = tt
 in_months_fine (Some n) few = few
 
 ordered_fine : (u : PeriodUnit) (a : order_period.OrderPeriod) → IsAction (action.OrderPeriod a) → IfSome (ordered u a) IsAct
-ordered_fine unit.Days a is = days_fine a.start (option_map period.Days a.count) a.direction a.method is.2 (in_days_fine a.count is.4)
-ordered_fine unit.Months a is = days_fine a.start (option_map period.Months a.count) a.direction a.method is.2 (in_months_fine a.count is.4)
-ordered_fine unit.Hours a is = hours_fine a.at a.count a.direction is.3 is.4
-ordered_fine unit.Fixed a is = fixed_fine a.until is.5
+unfolding IsAction
+ordered_fine unit.Days a is = days_fine a.start (option_map period.Days a.count) a.direction a.method is.1.1.1.0 (in_days_fine a.count is.1.1.1.1.1.0)
+ordered_fine unit.Months a is = days_fine a.start (option_map period.Months a.count) a.direction a.method is.1.1.1.0 (in_months_fine a.count is.1.1.1.1.1.0)
+ordered_fine unit.Hours a is = hours_fine a.at a.count a.direction is.1.1.1.1.0 is.1.1.1.1.1.0
+ordered_fine unit.Fixed a is = fixed_fine a.until is.1.1.1.1.1.1.1.1.0
 
 pub deadlines_fine : (a : Action) → IsAction a → AllByRecursion IsMaking (deadlines_made a)
-deadlines_fine (action.ServeSummons a) is = (timed_fine a.party (answer_rule a.basis) true method.Rule4 _ is.1 (from_fine a.basis a.served a.attorney is.2 is.3), tt)
-deadlines_fine (action.FileWaiver a) is = (timed_fine a.party (waiver_rule a.abroad) true method.Rule4 a.sent is.1 is.2, tt)
-deadlines_fine (action.ServePleading a) is = (timed_fine a.party (pleading_rule a.kind a.basis) false _ _ is.1 (from_fine a.basis a.served a.attorney is.2 is.3), tt)
-deadlines_fine (action.OrderReply a) is = (or_set_fine a.party rule.ReplyToAnswer _ a.served a.due is.1 is.2 is.3, tt)
-deadlines_fine (action.Dispose a) is = statement_fine a.outcome a.party a.notice a.due is.3 is.2 is.4
+unfolding IsAction
+deadlines_fine (action.ServeSummons a) is = (timed_fine a.party (answer_rule a.basis) true method.Rule4 _ is.1.0 (from_fine a.basis a.served a.attorney is.1.1.1.0 is.1.1.1.1.0), tt)
+deadlines_fine (action.FileWaiver a) is = (timed_fine a.party (waiver_rule a.abroad) true method.Rule4 a.sent is.1.0 is.1.1.0, tt)
+deadlines_fine (action.ServePleading a) is = (timed_fine a.party (pleading_rule a.kind a.basis) false _ _ is.1.0 (from_fine a.basis a.served a.attorney is.1.1.1.1.0 is.1.1.1.1.1.1.0), tt)
+deadlines_fine (action.OrderReply a) is = (or_set_fine a.party rule.ReplyToAnswer _ a.served a.due is.1.0 is.1.1.0 is.1.1.1.1.0, tt)
+deadlines_fine (action.Dispose a) is = statement_fine a.outcome a.party a.notice a.due is.1.1.1.1.0 is.1.1.1.0 is.1.1.1.1.1.0
 deadlines_fine (action.NoticeHearing a) is =
-    (timed_fine a.party rule.MotionAndNotice false method.Nothing a.hearing is.1 is.3, (timed_fine a.opponent rule.OpposingAffidavit false method.Nothing a.hearing is.2 is.3, tt))
-deadlines_fine (action.OrderPeriod a) is = one_ordered a.party (ordered a.unit a) is.1 (ordered_fine a.unit a is)
-deadlines_fine (action.EnterJudgment a) is = judgment_fine a.entered a.discharged is.1 is.2
+    (timed_fine a.party rule.MotionAndNotice false method.Nothing a.hearing is.1.0 is.1.1.1.0, (timed_fine a.opponent rule.OpposingAffidavit false method.Nothing a.hearing is.1.1.0 is.1.1.1.0, tt))
+deadlines_fine (action.OrderPeriod a) is = one_ordered a.party (ordered a.unit a) is.1.0 (ordered_fine a.unit a is)
+deadlines_fine (action.EnterJudgment a) is = judgment_fine a.entered a.discharged is.1.0 is.1.1.0
 deadlines_fine _ is = tt
 
 few_statements : (outcome : Ruling) (party : Option ℕ) (notice : ℕ) (due : Option ℕ) → length (statement_ordered outcome party notice due) ≤ 7
@@ -235,11 +240,12 @@ extension_few (Some n) (Some day) = omega arith
 extension_few None None = omega arith
 
 pub acts_fine : (a : Action) → IsAction a → AllByRecursion IsAct (acts_made a)
-acts_fine (action.RuleMotion a) is = (is.2, tt)
-acts_fine (action.Dispose a) is = (ruled_fine a.outcome a.notice a.due is.2 is.4, tt)
-acts_fine (action.StatementServed a) is = (is.2, tt)
-acts_fine (action.Extend a) is = extension_fine a.days a.until is.3 is.4
-acts_fine (action.Satisfy a) is = (moment_fits (pos a.at) is.2.0, tt)
+unfolding IsAction
+acts_fine (action.RuleMotion a) is = (is.1.1.1.0, tt)
+acts_fine (action.Dispose a) is = (ruled_fine a.outcome a.notice a.due is.1.1.1.0 is.1.1.1.1.1.0, tt)
+acts_fine (action.StatementServed a) is = (is.1.1.0, tt)
+acts_fine (action.Extend a) is = extension_fine a.days a.until is.1.1.1.1.0 is.1.1.1.1.1.0
+acts_fine (action.Satisfy a) is = (moment_fits (pos a.at) is.1.1.0.0, tt)
 acts_fine (action.Vacate a) is = (tt, tt)
 acts_fine _ is = tt
 

@@ -107,13 +107,14 @@ either true m n one other = one
 either false m n one other = other
 
 reply_counts : (court : CourtSettings) (h : History) (a : Action) → IsWithinLimits court h → IsAction a → is_there (shown_fresh h a) a ≡ false → is_full (shown_fresh h a) a ≡ false → IsCount (reply_to court (shown_fresh h a) a)
+unfolding IsAction
 reply_counts court h (action.DeclareDay a) within is new room =
     omega (arith, one_row (is_there (shown_fresh h (action.DeclareDay a)) (action.DeclareDay a)) (day_row (day_kind_of a.kind) a.day a.name) new, rows_fit (shown_fresh h (action.DeclareDay a)) (action.DeclareDay a) room within.next_row)
 reply_counts court h (action.CloseDay a) within is new room =
     omega (arith, one_row (is_there (shown_fresh h (action.CloseDay a)) (action.CloseDay a)) (day_row kind.Closed a.day a.name) new, rows_fit (shown_fresh h (action.CloseDay a)) (action.CloseDay a) room within.next_row)
 reply_counts court h (action.CloseSpan a) within is new room =
     omega (arith, one_row (is_there (shown_fresh h (action.CloseSpan a)) (action.CloseSpan a)) (record { item = Span a.start a.end; name = [] }) new, rows_fit (shown_fresh h (action.CloseSpan a)) (action.CloseSpan a) room within.next_row)
-reply_counts court h (action.WithdrawCalendar a) within is new room = is
+reply_counts court h (action.WithdrawCalendar a) within is new room = is.0
 reply_counts court h (action.ImportCalendar a) within is new room =
     let v = shown_fresh h (action.ImportCalendar a) in
     let added = count_added v (action.ImportCalendar a) in
@@ -121,14 +122,14 @@ reply_counts court h (action.ImportCalendar a) within is new room =
 reply_counts court h (action.OpenCase a) within is new room = omega (arith, within.cases)
 reply_counts court h (action.AddParty a) within is new room = let few = not_at 1000 (parties_in (shown_fresh h (action.AddParty a)).case) room in omega (arith, few)
 reply_counts court h (action.FileEntry a) within is new room = let few = not_at 10_000 (entries_in (shown_fresh h (action.FileEntry a)).case) room in omega (arith, few)
-reply_counts court h (action.RuleMotion a) within is new room = is.1
+reply_counts court h (action.RuleMotion a) within is new room = is.1.0
 reply_counts court h (action.Dispose a) within is new room =
-    either (wants_statement a.outcome) _ a.deadline (omega (arith, few_deadlines h (Some a.case) within.deadlines)) is.1
-reply_counts court h (action.StatementServed a) within is new room = is.1
-reply_counts court h (action.Extend a) within is new room = is.1
+    either (wants_statement a.outcome) _ a.deadline (omega (arith, few_deadlines h (Some a.case) within.deadlines)) is.1.0
+reply_counts court h (action.StatementServed a) within is new room = is.1.0
+reply_counts court h (action.Extend a) within is new room = is.1.0
 reply_counts court h (action.Satisfy a) within is new room =
     either (is_in_time court (standing_shown court (shown_fresh h (action.Satisfy a)) (action.Satisfy a)) a.at a.way) 1 0 (omega arith) (omega arith)
-reply_counts court h (action.Vacate a) within is new room = is.1
+reply_counts court h (action.Vacate a) within is new room = is.1.0
 reply_counts court h a within is new room = omega (arith, few_deadlines h (case_named a) within.deadlines)
 
 pub receipts_held : (court : CourtSettings) (h : History) → IsHistory court h → AllByRecursion IsCommand h → AllByRecursion IsReceipt (receipts court h)

@@ -22,7 +22,8 @@ use Rattle.docket_tables.proofs.OrderlyLists.{all_both, numbered_runs}
 
 -- cases
 one_case : (m : ℕ) (a : Action) → m ≤ 100_000 → IsAction a → AllByRecursion IsCaseRow (new_case m a)
-one_case m (action.OpenCase a) few is = ((omega (arith, few), is.0, is.1, is.2), tt)
+unfolding IsAction
+one_case m (action.OpenCase a) few is = ((omega (arith, few), is.0, is.1.0, is.1.1.0), tt)
 one_case m _ few is = tt
 
 pub cases_held : (court : CourtSettings) (h : History) → IsHistory court h → AllByRecursion IsCommand h → AllByRecursion IsCaseRow (case_rows h)
@@ -38,7 +39,8 @@ cases_run h =
 
 -- parties
 one_party : (m : ℕ) (a : Action) → m ≤ 1000 → IsAction a → AllByRecursion IsPartyRow (new_party m a)
-one_party m (action.AddParty a) few is = ((is.0, omega (arith, few), is.1), tt)
+unfolding IsAction
+one_party m (action.AddParty a) few is = ((is.0, omega (arith, few), is.1.0), tt)
 one_party m _ few is = tt
 
 pub parties_held : (court : CourtSettings) (h : History) → IsHistory court h → AllByRecursion IsCommand h → AllByRecursion IsPartyRow (party_rows h)
@@ -55,7 +57,8 @@ parties_run h k =
 
 -- entries
 one_entry : (m : ℕ) (a : Action) → m ≤ 10_000 → IsAction a → AllByRecursion IsEntryRow (new_entry m a)
-one_entry m (action.FileEntry a) few is = ((is.0, omega (arith, few), is.1, is.2), tt)
+unfolding IsAction
+one_entry m (action.FileEntry a) few is = ((is.0, omega (arith, few), is.1.0, is.1.1.0), tt)
 one_entry m _ few is = tt
 
 pub entries_held : (court : CourtSettings) (h : History) → IsHistory court h → AllByRecursion IsCommand h → AllByRecursion IsEntryRow (entry_rows h)

@@ -1,21 +1,22 @@
 -- A text that is read as no command has the fault that is told.
 use Rattle.std.proofs.Common.{◌≡◌, ◌↔◌, ℕ, Bool, true, false, List, [], ◌∷◌, Option, Some, None, option_map, is_none, Result, Ok, Err, refl, ap, sym, ◌∙◌, cond}
-use Rattle.std.specs.Prelude.{find, IsSome}
+use Rattle.std.specs.Prelude.{find, not, is_some, IsSome}
+use Rattle.std.specs.Option.{option_map_or}
 use Rattle.serde_json.specs.Data.{Data, Members}
-use Rattle.serde_json.specs.Find.{as_str, as_bool, as_object}
+use Rattle.serde_json.specs.Find.{as_str, as_object}
 use Rattle.docket_command.specs.declared.field.Field.{Field}
 use Rattle.docket_command.specs.declared.field.Field.TheVariants as field
 use Rattle.docket_command.specs.declared.command_name.CommandName.{CommandName}
-use Rattle.docket_command.specs.declared.command_name.CommandName.TheVariants as name
 use Rattle.docket_command.specs.declared.command.Command.{Command}
 use Rattle.docket_command.specs.declared.command.Action.{Action}
-use Rattle.docket_command.specs.Words.{basis_named, direction_named, motion_kind_named, period_unit_named, pleading_kind_named, role_named, ruling_named, service_method_named, sovereign_named, way_named}
 use Rattle.docket_wire.specs.declared.fault.WireFault.{WireFault}
 use Rattle.docket_wire.specs.declared.fault.WireFault.TheVariants.{NotJson, NotAnObject, UnknownCommand, MissingField, WrongField, UnknownField}
-use Rattle.docket_wire.specs.FirstFaults.{takes, is_wrong, first_wrong, HasFault, not_json, not_an_object, unknown_command, missing_field, wrong_field, unknown_field}
-use Rattle.docket_wire.specs.Members.{◌>>=◌, or_fault, present, required, optional, optional_of, a_number, a_day, a_moment, a_word}
-use Rattle.docket_wire.specs.Reading.{json_of, command_in, command_of, action_at, first_missing, no_missing, no_other, only_known, name_of_object, rows_of, declare_day_at, close_day_at, close_span_at, withdraw_calendar_at, import_calendar_at, open_case_at, add_party_at, file_entry_at, serve_summons_at, file_waiver_at, serve_pleading_at, order_reply_at, rule_motion_at, dispose_at, statement_served_at, notice_hearing_at, order_period_at, enter_judgment_at, extend_at, satisfy_at, vacate_at}
-use Rattle.docket_wire.specs.Tables.{required_fields, known_fields}
+use Rattle.docket_wire.specs.FirstFaults.{is_wrong, first_wrong, HasFault, not_json, not_an_object, unknown_command, missing_field, wrong_field, unknown_field}
+use Rattle.docket_wire.specs.Members.{◌>>=◌, or_fault, present, required, optional, optional_of}
+use Rattle.docket_command.specs.FieldTypes as of
+use Rattle.docket_command.specs.Schema.{FieldSpec, must, may, field_of, ValueIn, Makes, fields_of, made_of}
+use Rattle.docket_wire.specs.Reading.{json_of, command_in, command_of, action_at, meaning_of, read_field, read_fields, first_missing, no_missing, no_other, only_known, name_of_object}
+use Rattle.docket_wire.specs.Tables.{that_must, all_fields, required_fields, known_fields}
 use Rattle.docket_wire.proofs.SpellsLemmas.{after_ok, said, may_said, there_is}
 
 -- ---- one step
@@ -54,298 +55,84 @@ all_there (f ∷ fs) d h = from (λ k. all_there fs d k) (present f d) refl h
 
 -- ---- one field
 
-fine_said : {A : Type 0} (meaning : Data → Option A) (f : Field) (d : Data) (x : A) → required meaning f d ≡ Ok x → is_wrong d (takes f meaning) ≡ false
-unfolding is_wrong
+fine_said : {A : Type 0} (meaning : Data → Option A) (f : Field) (d : Data) (x : A) → required meaning f d ≡ Ok x → option_map_or (λ v. not (is_some (meaning v))) (present f d) false ≡ false
 fine_said meaning f d x e = let s = said meaning f d x e in rw (s.1, s.2) refl
 
-fine_may : {A : Type 0} (meaning : Data → Option A) (f : Field) (d : Data) (o : Option A) → optional meaning f d ≡ Ok o → is_wrong d (takes f meaning) ≡ false
-unfolding is_wrong
+fine_may : {A : Type 0} (meaning : Data → Option A) (f : Field) (d : Data) (o : Option A) → optional meaning f d ≡ Ok o → option_map_or (λ v. not (is_some (meaning v))) (present f d) false ≡ false
 fine_may meaning f d None e = let s = may_said meaning f d None e in rw s refl
 fine_may meaning f d (Some x) e = let s = may_said meaning f d (Some x) e in rw (s.1, s.2) refl
 
-wrong_said : {A : Type 0} (meaning : Data → Option A) (f : Field) (d : Data) (e : WireFault) → IsThere f d → required meaning f d ≡ Err e → (e ≡ WrongField f) × (is_wrong d (takes f meaning) ≡ true)
+fine : (s : FieldSpec) (d : Data) (x : ValueIn s) → read_field s d ≡ Ok x → is_wrong d s ≡ false
 unfolding is_wrong
+fine (must f t) d x e = fine_said (meaning_of t) f d x e
+fine (may f t) d x e = fine_may (meaning_of t) f d x e
+
+wrong_said : {A : Type 0} (meaning : Data → Option A) (f : Field) (d : Data) (e : WireFault) → IsThere f d → required meaning f d ≡ Err e → (e ≡ WrongField f) × (option_map_or (λ v. not (is_some (meaning v))) (present f d) false ≡ true)
 wrong_said meaning f d e there h =
     let at_value : or_fault (WrongField f) (meaning there.0) ≡ Err e = rw there.1 at h in
     let none = none_is (WrongField f) (meaning there.0) e at_value in
     (none.0, rw (there.1, none.1) refl)
 
-wrong_may : {A : Type 0} (meaning : Data → Option A) (f : Field) (d : Data) (e : WireFault) → optional meaning f d ≡ Err e → (e ≡ WrongField f) × (is_wrong d (takes f meaning) ≡ true)
-unfolding is_wrong
+wrong_may : {A : Type 0} (meaning : Data → Option A) (f : Field) (d : Data) (e : WireFault) → optional meaning f d ≡ Err e → (e ≡ WrongField f) × (option_map_or (λ v. not (is_some (meaning v))) (present f d) false ≡ true)
 wrong_may {A = A} meaning f d e h = from (present f d) refl h
   where
-    with_value : (v : Data) (m : Option A) → present f d ≡ Some v → meaning v ≡ m → or_fault (WrongField f) (option_map Some m) ≡ Err e → (e ≡ WrongField f) × (is_wrong d (takes f meaning) ≡ true)
+    with_value : (v : Data) (m : Option A) → present f d ≡ Some v → meaning v ≡ m → or_fault (WrongField f) (option_map Some m) ≡ Err e → (e ≡ WrongField f) × (option_map_or (λ v. not (is_some (meaning v))) (present f d) false ≡ true)
     with_value v None p q k = (sym (err_is (WrongField f) e k), rw (p, q) refl)
     with_value v (Some x) p q k = absurd cc
 
-    from : (o : Option Data) → present f d ≡ o → optional_of meaning f o ≡ Err e → (e ≡ WrongField f) × (is_wrong d (takes f meaning) ≡ true)
+    from : (o : Option Data) → present f d ≡ o → optional_of meaning f o ≡ Err e → (e ≡ WrongField f) × (option_map_or (λ v. not (is_some (meaning v))) (present f d) false ≡ true)
     from None p k = absurd cc
     from (Some v) p k = with_value v (meaning v) p refl k
 
--- ---- each kind of command
+-- ---- the fields of an action
+
+-- the first of the fields that is wrong
+abbrev wrong_in : List FieldSpec → Data → Option Field
+wrong_in ss d = option_map field_of (find (is_wrong d) ss)
+
+abbrev IsWrongIn : List FieldSpec → Data → WireFault → Type 0
+IsWrongIn ss d e = (f : Field) × (e ≡ WrongField f) × (wrong_in ss d ≡ Some f)
+
+first_is : (s : FieldSpec) (ss : List FieldSpec) (d : Data) (e : WireFault) → AllThere (that_must (s ∷ ss)) d → read_field s d ≡ Err e → IsWrongIn (s ∷ ss) d e
+unfolding is_wrong
+first_is (must f t) ss d e there h = let w = wrong_said (meaning_of t) f d e there.0 h in (f, w.0, rw (w.1) refl)
+first_is (may f t) ss d e there h = let w = wrong_may (meaning_of t) f d e h in (f, w.0, rw (w.1) refl)
+
+rest_there : (s : FieldSpec) (ss : List FieldSpec) (d : Data) → AllThere (that_must (s ∷ ss)) d → AllThere (that_must ss) d
+rest_there (must f t) ss d there = there.1
+rest_there (may f t) ss d there = there
+
+fields_wrong : (ss : List FieldSpec) (make : Makes ss) (d : Data) (e : WireFault) → AllThere (that_must ss) d → read_fields ss make d ≡ Err e → IsWrongIn ss d e
+fields_wrong [] made d e there h = absurd cc
+fields_wrong (s ∷ ss) make d e there h =
+    on_err (read_field s d) (λ x. read_fields ss (make x) d) e (IsWrongIn (s ∷ ss) d e) h
+    (first_is s ss d e there)
+    (λ x e0 h1. let w = fields_wrong ss (make x) d e (rest_there s ss d there) h1 in (w.0, w.1, rw (fine s d x e0) w.2))
+
+fields_fine : (ss : List FieldSpec) (make : Makes ss) (d : Data) (a : Action) → read_fields ss make d ≡ Ok a → wrong_in ss d ≡ None
+fields_fine [] made d a h = refl
+fields_fine (s ∷ ss) make d a h =
+    after_ok (read_field s d) (λ x. read_fields ss (make x) d) a (wrong_in (s ∷ ss) d ≡ None) h
+    (λ x e0 h1. rw (fine s d x e0) (fields_fine ss (make x) d a h1))
+
+-- ---- with the key before them
 
 abbrev IsWrong : CommandName → Data → WireFault → Type 0
-IsWrong kind d e = (f : Field) × (e ≡ WrongField f) × (first_wrong kind d ≡ Some f)
+IsWrong kind d e = IsWrongIn (all_fields kind) d e
 
-declare_day_wrong : (d : Data) (e : WireFault) → AllThere (required_fields name.DeclareDay) d → is_wrong d (takes field.Key as_str) ≡ false → declare_day_at d ≡ Err e → IsWrong name.DeclareDay d e
-unfolding declare_day_at
-declare_day_wrong d e t key h = on_err _ _ _ _ h (λ b. let w = wrong_said a_day field.Day d e t.1.0 b in (field.Day, w.0, rw (key, w.1) refl)) (λ x0 e0 h. on_err _ _ _ _ h (λ b. let w = wrong_said (a_word sovereign_named) field.Kind d e t.1.1.0 b in (field.Kind, w.0, rw (key, fine_said a_day field.Day d x0 e0, w.1) refl)) (λ x1 e1 h. on_err _ _ _ _ h (λ b. let w = wrong_said as_str field.Name d e t.1.1.1.0 b in (field.Name, w.0, rw (key, fine_said a_day field.Day d x0 e0, fine_said (a_word sovereign_named) field.Kind d x1 e1, w.1) refl)) (λ x2 e2 h. absurd cc)))
+abbrev key_spec : FieldSpec
+key_spec = must field.Key of.Text
 
-declare_day_fine : (d : Data) (a : Action) → is_wrong d (takes field.Key as_str) ≡ false → declare_day_at d ≡ Ok a → first_wrong name.DeclareDay d ≡ None
-unfolding declare_day_at
-declare_day_fine d a key h = after_ok _ _ _ (first_wrong name.DeclareDay d ≡ None) h (λ x0 e0 h. after_ok _ _ _ (first_wrong name.DeclareDay d ≡ None) h (λ x1 e1 h. after_ok _ _ _ (first_wrong name.DeclareDay d ≡ None) h (λ x2 e2 h. rw (key, fine_said a_day field.Day d x0 e0, fine_said (a_word sovereign_named) field.Kind d x1 e1, fine_said as_str field.Name d x2 e2) refl)))
+key_wrong : (kind : CommandName) (d : Data) (e : WireFault) → AllThere (required_fields kind) d → required as_str field.Key d ≡ Err e → IsWrong kind d e
+key_wrong kind d e there h = first_is key_spec (fields_of kind) d e there h
 
-close_day_wrong : (d : Data) (e : WireFault) → AllThere (required_fields name.CloseDay) d → is_wrong d (takes field.Key as_str) ≡ false → close_day_at d ≡ Err e → IsWrong name.CloseDay d e
-unfolding close_day_at
-close_day_wrong d e t key h = on_err _ _ _ _ h (λ b. let w = wrong_said a_day field.Day d e t.1.0 b in (field.Day, w.0, rw (key, w.1) refl)) (λ x0 e0 h. on_err _ _ _ _ h (λ b. let w = wrong_said as_str field.Name d e t.1.1.0 b in (field.Name, w.0, rw (key, fine_said a_day field.Day d x0 e0, w.1) refl)) (λ x1 e1 h. absurd cc))
+action_wrong : (kind : CommandName) (d : Data) (e : WireFault) (key : List ℕ) → AllThere (required_fields kind) d → required as_str field.Key d ≡ Ok key → action_at kind d ≡ Err e → IsWrong kind d e
+unfolding action_at
+action_wrong kind d e key there k h = let w = fields_wrong (fields_of kind) (made_of kind) d e there.1 h in (w.0, w.1, rw (fine key_spec d key k) w.2)
 
-close_day_fine : (d : Data) (a : Action) → is_wrong d (takes field.Key as_str) ≡ false → close_day_at d ≡ Ok a → first_wrong name.CloseDay d ≡ None
-unfolding close_day_at
-close_day_fine d a key h = after_ok _ _ _ (first_wrong name.CloseDay d ≡ None) h (λ x0 e0 h. after_ok _ _ _ (first_wrong name.CloseDay d ≡ None) h (λ x1 e1 h. rw (key, fine_said a_day field.Day d x0 e0, fine_said as_str field.Name d x1 e1) refl))
-
-close_span_wrong : (d : Data) (e : WireFault) → AllThere (required_fields name.CloseSpan) d → is_wrong d (takes field.Key as_str) ≡ false → close_span_at d ≡ Err e → IsWrong name.CloseSpan d e
-unfolding close_span_at
-close_span_wrong d e t key h = on_err _ _ _ _ h (λ b. let w = wrong_said a_moment field.Start d e t.1.0 b in (field.Start, w.0, rw (key, w.1) refl)) (λ x0 e0 h. on_err _ _ _ _ h (λ b. let w = wrong_said a_moment field.End d e t.1.1.0 b in (field.End, w.0, rw (key, fine_said a_moment field.Start d x0 e0, w.1) refl)) (λ x1 e1 h. absurd cc))
-
-close_span_fine : (d : Data) (a : Action) → is_wrong d (takes field.Key as_str) ≡ false → close_span_at d ≡ Ok a → first_wrong name.CloseSpan d ≡ None
-unfolding close_span_at
-close_span_fine d a key h = after_ok _ _ _ (first_wrong name.CloseSpan d ≡ None) h (λ x0 e0 h. after_ok _ _ _ (first_wrong name.CloseSpan d ≡ None) h (λ x1 e1 h. rw (key, fine_said a_moment field.Start d x0 e0, fine_said a_moment field.End d x1 e1) refl))
-
-withdraw_calendar_wrong : (d : Data) (e : WireFault) → AllThere (required_fields name.WithdrawCalendar) d → is_wrong d (takes field.Key as_str) ≡ false → withdraw_calendar_at d ≡ Err e → IsWrong name.WithdrawCalendar d e
-unfolding withdraw_calendar_at
-withdraw_calendar_wrong d e t key h = on_err _ _ _ _ h (λ b. let w = wrong_said a_number field.Row d e t.1.0 b in (field.Row, w.0, rw (key, w.1) refl)) (λ x0 e0 h. absurd cc)
-
-withdraw_calendar_fine : (d : Data) (a : Action) → is_wrong d (takes field.Key as_str) ≡ false → withdraw_calendar_at d ≡ Ok a → first_wrong name.WithdrawCalendar d ≡ None
-unfolding withdraw_calendar_at
-withdraw_calendar_fine d a key h = after_ok _ _ _ (first_wrong name.WithdrawCalendar d ≡ None) h (λ x0 e0 h. rw (key, fine_said a_number field.Row d x0 e0) refl)
-
-import_calendar_wrong : (d : Data) (e : WireFault) → AllThere (required_fields name.ImportCalendar) d → is_wrong d (takes field.Key as_str) ≡ false → import_calendar_at d ≡ Err e → IsWrong name.ImportCalendar d e
-unfolding import_calendar_at
-import_calendar_wrong d e t key h = on_err _ _ _ _ h (λ b. let w = wrong_said rows_of field.Rows d e t.1.0 b in (field.Rows, w.0, rw (key, w.1) refl)) (λ x0 e0 h. absurd cc)
-
-import_calendar_fine : (d : Data) (a : Action) → is_wrong d (takes field.Key as_str) ≡ false → import_calendar_at d ≡ Ok a → first_wrong name.ImportCalendar d ≡ None
-unfolding import_calendar_at
-import_calendar_fine d a key h = after_ok _ _ _ (first_wrong name.ImportCalendar d ≡ None) h (λ x0 e0 h. rw (key, fine_said rows_of field.Rows d x0 e0) refl)
-
-open_case_wrong : (d : Data) (e : WireFault) → AllThere (required_fields name.OpenCase) d → is_wrong d (takes field.Key as_str) ≡ false → open_case_at d ≡ Err e → IsWrong name.OpenCase d e
-unfolding open_case_at
-open_case_wrong d e t key h = on_err _ _ _ _ h (λ b. let w = wrong_said as_str field.Label d e t.1.0 b in (field.Label, w.0, rw (key, w.1) refl)) (λ x0 e0 h. on_err _ _ _ _ h (λ b. let w = wrong_said as_str field.Caption d e t.1.1.0 b in (field.Caption, w.0, rw (key, fine_said as_str field.Label d x0 e0, w.1) refl)) (λ x1 e1 h. on_err _ _ _ _ h (λ b. let w = wrong_said a_day field.Filed d e t.1.1.1.0 b in (field.Filed, w.0, rw (key, fine_said as_str field.Label d x0 e0, fine_said as_str field.Caption d x1 e1, w.1) refl)) (λ x2 e2 h. absurd cc)))
-
-open_case_fine : (d : Data) (a : Action) → is_wrong d (takes field.Key as_str) ≡ false → open_case_at d ≡ Ok a → first_wrong name.OpenCase d ≡ None
-unfolding open_case_at
-open_case_fine d a key h = after_ok _ _ _ (first_wrong name.OpenCase d ≡ None) h (λ x0 e0 h. after_ok _ _ _ (first_wrong name.OpenCase d ≡ None) h (λ x1 e1 h. after_ok _ _ _ (first_wrong name.OpenCase d ≡ None) h (λ x2 e2 h. rw (key, fine_said as_str field.Label d x0 e0, fine_said as_str field.Caption d x1 e1, fine_said a_day field.Filed d x2 e2) refl)))
-
-add_party_wrong : (d : Data) (e : WireFault) → AllThere (required_fields name.AddParty) d → is_wrong d (takes field.Key as_str) ≡ false → add_party_at d ≡ Err e → IsWrong name.AddParty d e
-unfolding add_party_at
-add_party_wrong d e t key h = on_err _ _ _ _ h (λ b. let w = wrong_said a_number field.Case d e t.1.0 b in (field.Case, w.0, rw (key, w.1) refl)) (λ x0 e0 h. on_err _ _ _ _ h (λ b. let w = wrong_said as_str field.Name d e t.1.1.0 b in (field.Name, w.0, rw (key, fine_said a_number field.Case d x0 e0, w.1) refl)) (λ x1 e1 h. on_err _ _ _ _ h (λ b. let w = wrong_said (a_word role_named) field.Role d e t.1.1.1.0 b in (field.Role, w.0, rw (key, fine_said a_number field.Case d x0 e0, fine_said as_str field.Name d x1 e1, w.1) refl)) (λ x2 e2 h. absurd cc)))
-
-add_party_fine : (d : Data) (a : Action) → is_wrong d (takes field.Key as_str) ≡ false → add_party_at d ≡ Ok a → first_wrong name.AddParty d ≡ None
-unfolding add_party_at
-add_party_fine d a key h = after_ok _ _ _ (first_wrong name.AddParty d ≡ None) h (λ x0 e0 h. after_ok _ _ _ (first_wrong name.AddParty d ≡ None) h (λ x1 e1 h. after_ok _ _ _ (first_wrong name.AddParty d ≡ None) h (λ x2 e2 h. rw (key, fine_said a_number field.Case d x0 e0, fine_said as_str field.Name d x1 e1, fine_said (a_word role_named) field.Role d x2 e2) refl)))
-
-file_entry_wrong : (d : Data) (e : WireFault) → AllThere (required_fields name.FileEntry) d → is_wrong d (takes field.Key as_str) ≡ false → file_entry_at d ≡ Err e → IsWrong name.FileEntry d e
-unfolding file_entry_at
-file_entry_wrong d e t key h = on_err _ _ _ _ h (λ b. let w = wrong_said a_number field.Case d e t.1.0 b in (field.Case, w.0, rw (key, w.1) refl)) (λ x0 e0 h. on_err _ _ _ _ h (λ b. let w = wrong_said a_day field.Day d e t.1.1.0 b in (field.Day, w.0, rw (key, fine_said a_number field.Case d x0 e0, w.1) refl)) (λ x1 e1 h. on_err _ _ _ _ h (λ b. let w = wrong_said as_str field.Text d e t.1.1.1.0 b in (field.Text, w.0, rw (key, fine_said a_number field.Case d x0 e0, fine_said a_day field.Day d x1 e1, w.1) refl)) (λ x2 e2 h. absurd cc)))
-
-file_entry_fine : (d : Data) (a : Action) → is_wrong d (takes field.Key as_str) ≡ false → file_entry_at d ≡ Ok a → first_wrong name.FileEntry d ≡ None
-unfolding file_entry_at
-file_entry_fine d a key h = after_ok _ _ _ (first_wrong name.FileEntry d ≡ None) h (λ x0 e0 h. after_ok _ _ _ (first_wrong name.FileEntry d ≡ None) h (λ x1 e1 h. after_ok _ _ _ (first_wrong name.FileEntry d ≡ None) h (λ x2 e2 h. rw (key, fine_said a_number field.Case d x0 e0, fine_said a_day field.Day d x1 e1, fine_said as_str field.Text d x2 e2) refl)))
-
-serve_summons_wrong : (d : Data) (e : WireFault) → AllThere (required_fields name.ServeSummons) d → is_wrong d (takes field.Key as_str) ≡ false → serve_summons_at d ≡ Err e → IsWrong name.ServeSummons d e
-unfolding serve_summons_at
-serve_summons_wrong d e t key h = on_err _ _ _ _ h (λ b. let w = wrong_said a_number field.Case d e t.1.0 b in (field.Case, w.0, rw (key, w.1) refl)) (λ x0 e0 h. on_err _ _ _ _ h (λ b. let w = wrong_said a_number field.Party d e t.1.1.0 b in (field.Party, w.0, rw (key, fine_said a_number field.Case d x0 e0, w.1) refl)) (λ x1 e1 h. on_err _ _ _ _ h (λ b. let w = wrong_said (a_word basis_named) field.Basis d e t.1.1.1.0 b in (field.Basis, w.0, rw (key, fine_said a_number field.Case d x0 e0, fine_said a_number field.Party d x1 e1, w.1) refl)) (λ x2 e2 h. on_err _ _ _ _ h (λ b. let w = wrong_said a_day field.Served d e t.1.1.1.1.0 b in (field.Served, w.0, rw (key, fine_said a_number field.Case d x0 e0, fine_said a_number field.Party d x1 e1, fine_said (a_word basis_named) field.Basis d x2 e2, w.1) refl)) (λ x3 e3 h. on_err _ _ _ _ h (λ b. let w = wrong_may a_day field.Attorney d e b in (field.Attorney, w.0, rw (key, fine_said a_number field.Case d x0 e0, fine_said a_number field.Party d x1 e1, fine_said (a_word basis_named) field.Basis d x2 e2, fine_said a_day field.Served d x3 e3, w.1) refl)) (λ x4 e4 h. absurd cc)))))
-
-serve_summons_fine : (d : Data) (a : Action) → is_wrong d (takes field.Key as_str) ≡ false → serve_summons_at d ≡ Ok a → first_wrong name.ServeSummons d ≡ None
-unfolding serve_summons_at
-serve_summons_fine d a key h = after_ok _ _ _ (first_wrong name.ServeSummons d ≡ None) h (λ x0 e0 h. after_ok _ _ _ (first_wrong name.ServeSummons d ≡ None) h (λ x1 e1 h. after_ok _ _ _ (first_wrong name.ServeSummons d ≡ None) h (λ x2 e2 h. after_ok _ _ _ (first_wrong name.ServeSummons d ≡ None) h (λ x3 e3 h. after_ok _ _ _ (first_wrong name.ServeSummons d ≡ None) h (λ x4 e4 h. rw (key, fine_said a_number field.Case d x0 e0, fine_said a_number field.Party d x1 e1, fine_said (a_word basis_named) field.Basis d x2 e2, fine_said a_day field.Served d x3 e3, fine_may a_day field.Attorney d x4 e4) refl)))))
-
-file_waiver_wrong : (d : Data) (e : WireFault) → AllThere (required_fields name.FileWaiver) d → is_wrong d (takes field.Key as_str) ≡ false → file_waiver_at d ≡ Err e → IsWrong name.FileWaiver d e
-unfolding file_waiver_at
-file_waiver_wrong d e t key h = on_err _ _ _ _ h (λ b. let w = wrong_said a_number field.Case d e t.1.0 b in (field.Case, w.0, rw (key, w.1) refl)) (λ x0 e0 h. on_err _ _ _ _ h (λ b. let w = wrong_said a_number field.Party d e t.1.1.0 b in (field.Party, w.0, rw (key, fine_said a_number field.Case d x0 e0, w.1) refl)) (λ x1 e1 h. on_err _ _ _ _ h (λ b. let w = wrong_said a_day field.Sent d e t.1.1.1.0 b in (field.Sent, w.0, rw (key, fine_said a_number field.Case d x0 e0, fine_said a_number field.Party d x1 e1, w.1) refl)) (λ x2 e2 h. on_err _ _ _ _ h (λ b. let w = wrong_said a_number field.Allowed d e t.1.1.1.1.0 b in (field.Allowed, w.0, rw (key, fine_said a_number field.Case d x0 e0, fine_said a_number field.Party d x1 e1, fine_said a_day field.Sent d x2 e2, w.1) refl)) (λ x3 e3 h. on_err _ _ _ _ h (λ b. let w = wrong_said a_day field.Returned d e t.1.1.1.1.1.0 b in (field.Returned, w.0, rw (key, fine_said a_number field.Case d x0 e0, fine_said a_number field.Party d x1 e1, fine_said a_day field.Sent d x2 e2, fine_said a_number field.Allowed d x3 e3, w.1) refl)) (λ x4 e4 h. on_err _ _ _ _ h (λ b. let w = wrong_said as_bool field.Abroad d e t.1.1.1.1.1.1.0 b in (field.Abroad, w.0, rw (key, fine_said a_number field.Case d x0 e0, fine_said a_number field.Party d x1 e1, fine_said a_day field.Sent d x2 e2, fine_said a_number field.Allowed d x3 e3, fine_said a_day field.Returned d x4 e4, w.1) refl)) (λ x5 e5 h. absurd cc))))))
-
-file_waiver_fine : (d : Data) (a : Action) → is_wrong d (takes field.Key as_str) ≡ false → file_waiver_at d ≡ Ok a → first_wrong name.FileWaiver d ≡ None
-unfolding file_waiver_at
-file_waiver_fine d a key h = after_ok _ _ _ (first_wrong name.FileWaiver d ≡ None) h (λ x0 e0 h. after_ok _ _ _ (first_wrong name.FileWaiver d ≡ None) h (λ x1 e1 h. after_ok _ _ _ (first_wrong name.FileWaiver d ≡ None) h (λ x2 e2 h. after_ok _ _ _ (first_wrong name.FileWaiver d ≡ None) h (λ x3 e3 h. after_ok _ _ _ (first_wrong name.FileWaiver d ≡ None) h (λ x4 e4 h. after_ok _ _ _ (first_wrong name.FileWaiver d ≡ None) h (λ x5 e5 h. rw (key, fine_said a_number field.Case d x0 e0, fine_said a_number field.Party d x1 e1, fine_said a_day field.Sent d x2 e2, fine_said a_number field.Allowed d x3 e3, fine_said a_day field.Returned d x4 e4, fine_said as_bool field.Abroad d x5 e5) refl))))))
-
-serve_pleading_wrong : (d : Data) (e : WireFault) → AllThere (required_fields name.ServePleading) d → is_wrong d (takes field.Key as_str) ≡ false → serve_pleading_at d ≡ Err e → IsWrong name.ServePleading d e
-unfolding serve_pleading_at
-serve_pleading_wrong d e t key h = on_err _ _ _ _ h (λ b. let w = wrong_said a_number field.Case d e t.1.0 b in (field.Case, w.0, rw (key, w.1) refl)) (λ x0 e0 h. on_err _ _ _ _ h (λ b. let w = wrong_said a_number field.Party d e t.1.1.0 b in (field.Party, w.0, rw (key, fine_said a_number field.Case d x0 e0, w.1) refl)) (λ x1 e1 h. on_err _ _ _ _ h (λ b. let w = wrong_said (a_word pleading_kind_named) field.Kind d e t.1.1.1.0 b in (field.Kind, w.0, rw (key, fine_said a_number field.Case d x0 e0, fine_said a_number field.Party d x1 e1, w.1) refl)) (λ x2 e2 h. on_err _ _ _ _ h (λ b. let w = wrong_said (a_word basis_named) field.Basis d e t.1.1.1.1.0 b in (field.Basis, w.0, rw (key, fine_said a_number field.Case d x0 e0, fine_said a_number field.Party d x1 e1, fine_said (a_word pleading_kind_named) field.Kind d x2 e2, w.1) refl)) (λ x3 e3 h. on_err _ _ _ _ h (λ b. let w = wrong_said a_day field.Served d e t.1.1.1.1.1.0 b in (field.Served, w.0, rw (key, fine_said a_number field.Case d x0 e0, fine_said a_number field.Party d x1 e1, fine_said (a_word pleading_kind_named) field.Kind d x2 e2, fine_said (a_word basis_named) field.Basis d x3 e3, w.1) refl)) (λ x4 e4 h. on_err _ _ _ _ h (λ b. let w = wrong_said (a_word service_method_named) field.Method d e t.1.1.1.1.1.1.0 b in (field.Method, w.0, rw (key, fine_said a_number field.Case d x0 e0, fine_said a_number field.Party d x1 e1, fine_said (a_word pleading_kind_named) field.Kind d x2 e2, fine_said (a_word basis_named) field.Basis d x3 e3, fine_said a_day field.Served d x4 e4, w.1) refl)) (λ x5 e5 h. on_err _ _ _ _ h (λ b. let w = wrong_may a_day field.Attorney d e b in (field.Attorney, w.0, rw (key, fine_said a_number field.Case d x0 e0, fine_said a_number field.Party d x1 e1, fine_said (a_word pleading_kind_named) field.Kind d x2 e2, fine_said (a_word basis_named) field.Basis d x3 e3, fine_said a_day field.Served d x4 e4, fine_said (a_word service_method_named) field.Method d x5 e5, w.1) refl)) (λ x6 e6 h. on_err _ _ _ _ h (λ b. let w = wrong_may (a_word service_method_named) field.AttorneyMethod d e b in (field.AttorneyMethod, w.0, rw (key, fine_said a_number field.Case d x0 e0, fine_said a_number field.Party d x1 e1, fine_said (a_word pleading_kind_named) field.Kind d x2 e2, fine_said (a_word basis_named) field.Basis d x3 e3, fine_said a_day field.Served d x4 e4, fine_said (a_word service_method_named) field.Method d x5 e5, fine_may a_day field.Attorney d x6 e6, w.1) refl)) (λ x7 e7 h. absurd cc))))))))
-
-serve_pleading_fine : (d : Data) (a : Action) → is_wrong d (takes field.Key as_str) ≡ false → serve_pleading_at d ≡ Ok a → first_wrong name.ServePleading d ≡ None
-unfolding serve_pleading_at
-serve_pleading_fine d a key h = after_ok _ _ _ (first_wrong name.ServePleading d ≡ None) h (λ x0 e0 h. after_ok _ _ _ (first_wrong name.ServePleading d ≡ None) h (λ x1 e1 h. after_ok _ _ _ (first_wrong name.ServePleading d ≡ None) h (λ x2 e2 h. after_ok _ _ _ (first_wrong name.ServePleading d ≡ None) h (λ x3 e3 h. after_ok _ _ _ (first_wrong name.ServePleading d ≡ None) h (λ x4 e4 h. after_ok _ _ _ (first_wrong name.ServePleading d ≡ None) h (λ x5 e5 h. after_ok _ _ _ (first_wrong name.ServePleading d ≡ None) h (λ x6 e6 h. after_ok _ _ _ (first_wrong name.ServePleading d ≡ None) h (λ x7 e7 h. rw (key, fine_said a_number field.Case d x0 e0, fine_said a_number field.Party d x1 e1, fine_said (a_word pleading_kind_named) field.Kind d x2 e2, fine_said (a_word basis_named) field.Basis d x3 e3, fine_said a_day field.Served d x4 e4, fine_said (a_word service_method_named) field.Method d x5 e5, fine_may a_day field.Attorney d x6 e6, fine_may (a_word service_method_named) field.AttorneyMethod d x7 e7) refl))))))))
-
-order_reply_wrong : (d : Data) (e : WireFault) → AllThere (required_fields name.OrderReply) d → is_wrong d (takes field.Key as_str) ≡ false → order_reply_at d ≡ Err e → IsWrong name.OrderReply d e
-unfolding order_reply_at
-order_reply_wrong d e t key h = on_err _ _ _ _ h (λ b. let w = wrong_said a_number field.Case d e t.1.0 b in (field.Case, w.0, rw (key, w.1) refl)) (λ x0 e0 h. on_err _ _ _ _ h (λ b. let w = wrong_said a_number field.Party d e t.1.1.0 b in (field.Party, w.0, rw (key, fine_said a_number field.Case d x0 e0, w.1) refl)) (λ x1 e1 h. on_err _ _ _ _ h (λ b. let w = wrong_said a_day field.Served d e t.1.1.1.0 b in (field.Served, w.0, rw (key, fine_said a_number field.Case d x0 e0, fine_said a_number field.Party d x1 e1, w.1) refl)) (λ x2 e2 h. on_err _ _ _ _ h (λ b. let w = wrong_said (a_word service_method_named) field.Method d e t.1.1.1.1.0 b in (field.Method, w.0, rw (key, fine_said a_number field.Case d x0 e0, fine_said a_number field.Party d x1 e1, fine_said a_day field.Served d x2 e2, w.1) refl)) (λ x3 e3 h. on_err _ _ _ _ h (λ b. let w = wrong_may a_day field.Due d e b in (field.Due, w.0, rw (key, fine_said a_number field.Case d x0 e0, fine_said a_number field.Party d x1 e1, fine_said a_day field.Served d x2 e2, fine_said (a_word service_method_named) field.Method d x3 e3, w.1) refl)) (λ x4 e4 h. absurd cc)))))
-
-order_reply_fine : (d : Data) (a : Action) → is_wrong d (takes field.Key as_str) ≡ false → order_reply_at d ≡ Ok a → first_wrong name.OrderReply d ≡ None
-unfolding order_reply_at
-order_reply_fine d a key h = after_ok _ _ _ (first_wrong name.OrderReply d ≡ None) h (λ x0 e0 h. after_ok _ _ _ (first_wrong name.OrderReply d ≡ None) h (λ x1 e1 h. after_ok _ _ _ (first_wrong name.OrderReply d ≡ None) h (λ x2 e2 h. after_ok _ _ _ (first_wrong name.OrderReply d ≡ None) h (λ x3 e3 h. after_ok _ _ _ (first_wrong name.OrderReply d ≡ None) h (λ x4 e4 h. rw (key, fine_said a_number field.Case d x0 e0, fine_said a_number field.Party d x1 e1, fine_said a_day field.Served d x2 e2, fine_said (a_word service_method_named) field.Method d x3 e3, fine_may a_day field.Due d x4 e4) refl)))))
-
-rule_motion_wrong : (d : Data) (e : WireFault) → AllThere (required_fields name.RuleMotion) d → is_wrong d (takes field.Key as_str) ≡ false → rule_motion_at d ≡ Err e → IsWrong name.RuleMotion d e
-unfolding rule_motion_at
-rule_motion_wrong d e t key h = on_err _ _ _ _ h (λ b. let w = wrong_said a_number field.Case d e t.1.0 b in (field.Case, w.0, rw (key, w.1) refl)) (λ x0 e0 h. on_err _ _ _ _ h (λ b. let w = wrong_said a_number field.Deadline d e t.1.1.0 b in (field.Deadline, w.0, rw (key, fine_said a_number field.Case d x0 e0, w.1) refl)) (λ x1 e1 h. on_err _ _ _ _ h (λ b. let w = wrong_said (a_word motion_kind_named) field.Kind d e t.1.1.1.0 b in (field.Kind, w.0, rw (key, fine_said a_number field.Case d x0 e0, fine_said a_number field.Deadline d x1 e1, w.1) refl)) (λ x2 e2 h. on_err _ _ _ _ h (λ b. let w = wrong_said a_day field.Served d e t.1.1.1.1.0 b in (field.Served, w.0, rw (key, fine_said a_number field.Case d x0 e0, fine_said a_number field.Deadline d x1 e1, fine_said (a_word motion_kind_named) field.Kind d x2 e2, w.1) refl)) (λ x3 e3 h. absurd cc))))
-
-rule_motion_fine : (d : Data) (a : Action) → is_wrong d (takes field.Key as_str) ≡ false → rule_motion_at d ≡ Ok a → first_wrong name.RuleMotion d ≡ None
-unfolding rule_motion_at
-rule_motion_fine d a key h = after_ok _ _ _ (first_wrong name.RuleMotion d ≡ None) h (λ x0 e0 h. after_ok _ _ _ (first_wrong name.RuleMotion d ≡ None) h (λ x1 e1 h. after_ok _ _ _ (first_wrong name.RuleMotion d ≡ None) h (λ x2 e2 h. after_ok _ _ _ (first_wrong name.RuleMotion d ≡ None) h (λ x3 e3 h. rw (key, fine_said a_number field.Case d x0 e0, fine_said a_number field.Deadline d x1 e1, fine_said (a_word motion_kind_named) field.Kind d x2 e2, fine_said a_day field.Served d x3 e3) refl))))
-
-dispose_wrong : (d : Data) (e : WireFault) → AllThere (required_fields name.Dispose) d → is_wrong d (takes field.Key as_str) ≡ false → dispose_at d ≡ Err e → IsWrong name.Dispose d e
-unfolding dispose_at
-dispose_wrong d e t key h = on_err _ _ _ _ h (λ b. let w = wrong_said a_number field.Case d e t.1.0 b in (field.Case, w.0, rw (key, w.1) refl)) (λ x0 e0 h. on_err _ _ _ _ h (λ b. let w = wrong_said a_number field.Deadline d e t.1.1.0 b in (field.Deadline, w.0, rw (key, fine_said a_number field.Case d x0 e0, w.1) refl)) (λ x1 e1 h. on_err _ _ _ _ h (λ b. let w = wrong_said (a_word ruling_named) field.Outcome d e t.1.1.1.0 b in (field.Outcome, w.0, rw (key, fine_said a_number field.Case d x0 e0, fine_said a_number field.Deadline d x1 e1, w.1) refl)) (λ x2 e2 h. on_err _ _ _ _ h (λ b. let w = wrong_said a_day field.Notice d e t.1.1.1.1.0 b in (field.Notice, w.0, rw (key, fine_said a_number field.Case d x0 e0, fine_said a_number field.Deadline d x1 e1, fine_said (a_word ruling_named) field.Outcome d x2 e2, w.1) refl)) (λ x3 e3 h. on_err _ _ _ _ h (λ b. let w = wrong_may a_number field.Party d e b in (field.Party, w.0, rw (key, fine_said a_number field.Case d x0 e0, fine_said a_number field.Deadline d x1 e1, fine_said (a_word ruling_named) field.Outcome d x2 e2, fine_said a_day field.Notice d x3 e3, w.1) refl)) (λ x4 e4 h. on_err _ _ _ _ h (λ b. let w = wrong_may a_day field.Due d e b in (field.Due, w.0, rw (key, fine_said a_number field.Case d x0 e0, fine_said a_number field.Deadline d x1 e1, fine_said (a_word ruling_named) field.Outcome d x2 e2, fine_said a_day field.Notice d x3 e3, fine_may a_number field.Party d x4 e4, w.1) refl)) (λ x5 e5 h. absurd cc))))))
-
-dispose_fine : (d : Data) (a : Action) → is_wrong d (takes field.Key as_str) ≡ false → dispose_at d ≡ Ok a → first_wrong name.Dispose d ≡ None
-unfolding dispose_at
-dispose_fine d a key h = after_ok _ _ _ (first_wrong name.Dispose d ≡ None) h (λ x0 e0 h. after_ok _ _ _ (first_wrong name.Dispose d ≡ None) h (λ x1 e1 h. after_ok _ _ _ (first_wrong name.Dispose d ≡ None) h (λ x2 e2 h. after_ok _ _ _ (first_wrong name.Dispose d ≡ None) h (λ x3 e3 h. after_ok _ _ _ (first_wrong name.Dispose d ≡ None) h (λ x4 e4 h. after_ok _ _ _ (first_wrong name.Dispose d ≡ None) h (λ x5 e5 h. rw (key, fine_said a_number field.Case d x0 e0, fine_said a_number field.Deadline d x1 e1, fine_said (a_word ruling_named) field.Outcome d x2 e2, fine_said a_day field.Notice d x3 e3, fine_may a_number field.Party d x4 e4, fine_may a_day field.Due d x5 e5) refl))))))
-
-statement_served_wrong : (d : Data) (e : WireFault) → AllThere (required_fields name.StatementServed) d → is_wrong d (takes field.Key as_str) ≡ false → statement_served_at d ≡ Err e → IsWrong name.StatementServed d e
-unfolding statement_served_at
-statement_served_wrong d e t key h = on_err _ _ _ _ h (λ b. let w = wrong_said a_number field.Case d e t.1.0 b in (field.Case, w.0, rw (key, w.1) refl)) (λ x0 e0 h. on_err _ _ _ _ h (λ b. let w = wrong_said a_number field.Deadline d e t.1.1.0 b in (field.Deadline, w.0, rw (key, fine_said a_number field.Case d x0 e0, w.1) refl)) (λ x1 e1 h. on_err _ _ _ _ h (λ b. let w = wrong_said a_day field.Served d e t.1.1.1.0 b in (field.Served, w.0, rw (key, fine_said a_number field.Case d x0 e0, fine_said a_number field.Deadline d x1 e1, w.1) refl)) (λ x2 e2 h. on_err _ _ _ _ h (λ b. let w = wrong_said (a_word service_method_named) field.Method d e t.1.1.1.1.0 b in (field.Method, w.0, rw (key, fine_said a_number field.Case d x0 e0, fine_said a_number field.Deadline d x1 e1, fine_said a_day field.Served d x2 e2, w.1) refl)) (λ x3 e3 h. absurd cc))))
-
-statement_served_fine : (d : Data) (a : Action) → is_wrong d (takes field.Key as_str) ≡ false → statement_served_at d ≡ Ok a → first_wrong name.StatementServed d ≡ None
-unfolding statement_served_at
-statement_served_fine d a key h = after_ok _ _ _ (first_wrong name.StatementServed d ≡ None) h (λ x0 e0 h. after_ok _ _ _ (first_wrong name.StatementServed d ≡ None) h (λ x1 e1 h. after_ok _ _ _ (first_wrong name.StatementServed d ≡ None) h (λ x2 e2 h. after_ok _ _ _ (first_wrong name.StatementServed d ≡ None) h (λ x3 e3 h. rw (key, fine_said a_number field.Case d x0 e0, fine_said a_number field.Deadline d x1 e1, fine_said a_day field.Served d x2 e2, fine_said (a_word service_method_named) field.Method d x3 e3) refl))))
-
-notice_hearing_wrong : (d : Data) (e : WireFault) → AllThere (required_fields name.NoticeHearing) d → is_wrong d (takes field.Key as_str) ≡ false → notice_hearing_at d ≡ Err e → IsWrong name.NoticeHearing d e
-unfolding notice_hearing_at
-notice_hearing_wrong d e t key h = on_err _ _ _ _ h (λ b. let w = wrong_said a_number field.Case d e t.1.0 b in (field.Case, w.0, rw (key, w.1) refl)) (λ x0 e0 h. on_err _ _ _ _ h (λ b. let w = wrong_said a_number field.Party d e t.1.1.0 b in (field.Party, w.0, rw (key, fine_said a_number field.Case d x0 e0, w.1) refl)) (λ x1 e1 h. on_err _ _ _ _ h (λ b. let w = wrong_said a_number field.Opponent d e t.1.1.1.0 b in (field.Opponent, w.0, rw (key, fine_said a_number field.Case d x0 e0, fine_said a_number field.Party d x1 e1, w.1) refl)) (λ x2 e2 h. on_err _ _ _ _ h (λ b. let w = wrong_said a_day field.Hearing d e t.1.1.1.1.0 b in (field.Hearing, w.0, rw (key, fine_said a_number field.Case d x0 e0, fine_said a_number field.Party d x1 e1, fine_said a_number field.Opponent d x2 e2, w.1) refl)) (λ x3 e3 h. absurd cc))))
-
-notice_hearing_fine : (d : Data) (a : Action) → is_wrong d (takes field.Key as_str) ≡ false → notice_hearing_at d ≡ Ok a → first_wrong name.NoticeHearing d ≡ None
-unfolding notice_hearing_at
-notice_hearing_fine d a key h = after_ok _ _ _ (first_wrong name.NoticeHearing d ≡ None) h (λ x0 e0 h. after_ok _ _ _ (first_wrong name.NoticeHearing d ≡ None) h (λ x1 e1 h. after_ok _ _ _ (first_wrong name.NoticeHearing d ≡ None) h (λ x2 e2 h. after_ok _ _ _ (first_wrong name.NoticeHearing d ≡ None) h (λ x3 e3 h. rw (key, fine_said a_number field.Case d x0 e0, fine_said a_number field.Party d x1 e1, fine_said a_number field.Opponent d x2 e2, fine_said a_day field.Hearing d x3 e3) refl))))
-
-order_period_wrong : (d : Data) (e : WireFault) → AllThere (required_fields name.OrderPeriod) d → is_wrong d (takes field.Key as_str) ≡ false → order_period_at d ≡ Err e → IsWrong name.OrderPeriod d e
-unfolding order_period_at
-order_period_wrong d e t key h = on_err _ _ _ _ h (λ b. let w = wrong_said a_number field.Case d e t.1.0 b in (field.Case, w.0, rw (key, w.1) refl)) (λ x0 e0 h. on_err _ _ _ _ h (λ b. let w = wrong_said a_number field.Party d e t.1.1.0 b in (field.Party, w.0, rw (key, fine_said a_number field.Case d x0 e0, w.1) refl)) (λ x1 e1 h. on_err _ _ _ _ h (λ b. let w = wrong_said (a_word period_unit_named) field.Unit d e t.1.1.1.0 b in (field.Unit, w.0, rw (key, fine_said a_number field.Case d x0 e0, fine_said a_number field.Party d x1 e1, w.1) refl)) (λ x2 e2 h. on_err _ _ _ _ h (λ b. let w = wrong_may a_day field.Start d e b in (field.Start, w.0, rw (key, fine_said a_number field.Case d x0 e0, fine_said a_number field.Party d x1 e1, fine_said (a_word period_unit_named) field.Unit d x2 e2, w.1) refl)) (λ x3 e3 h. on_err _ _ _ _ h (λ b. let w = wrong_may a_moment field.At d e b in (field.At, w.0, rw (key, fine_said a_number field.Case d x0 e0, fine_said a_number field.Party d x1 e1, fine_said (a_word period_unit_named) field.Unit d x2 e2, fine_may a_day field.Start d x3 e3, w.1) refl)) (λ x4 e4 h. on_err _ _ _ _ h (λ b. let w = wrong_may a_number field.Count d e b in (field.Count, w.0, rw (key, fine_said a_number field.Case d x0 e0, fine_said a_number field.Party d x1 e1, fine_said (a_word period_unit_named) field.Unit d x2 e2, fine_may a_day field.Start d x3 e3, fine_may a_moment field.At d x4 e4, w.1) refl)) (λ x5 e5 h. on_err _ _ _ _ h (λ b. let w = wrong_may (a_word direction_named) field.Direction d e b in (field.Direction, w.0, rw (key, fine_said a_number field.Case d x0 e0, fine_said a_number field.Party d x1 e1, fine_said (a_word period_unit_named) field.Unit d x2 e2, fine_may a_day field.Start d x3 e3, fine_may a_moment field.At d x4 e4, fine_may a_number field.Count d x5 e5, w.1) refl)) (λ x6 e6 h. on_err _ _ _ _ h (λ b. let w = wrong_may (a_word service_method_named) field.Method d e b in (field.Method, w.0, rw (key, fine_said a_number field.Case d x0 e0, fine_said a_number field.Party d x1 e1, fine_said (a_word period_unit_named) field.Unit d x2 e2, fine_may a_day field.Start d x3 e3, fine_may a_moment field.At d x4 e4, fine_may a_number field.Count d x5 e5, fine_may (a_word direction_named) field.Direction d x6 e6, w.1) refl)) (λ x7 e7 h. on_err _ _ _ _ h (λ b. let w = wrong_may a_day field.Until d e b in (field.Until, w.0, rw (key, fine_said a_number field.Case d x0 e0, fine_said a_number field.Party d x1 e1, fine_said (a_word period_unit_named) field.Unit d x2 e2, fine_may a_day field.Start d x3 e3, fine_may a_moment field.At d x4 e4, fine_may a_number field.Count d x5 e5, fine_may (a_word direction_named) field.Direction d x6 e6, fine_may (a_word service_method_named) field.Method d x7 e7, w.1) refl)) (λ x8 e8 h. absurd cc)))))))))
-
-order_period_fine : (d : Data) (a : Action) → is_wrong d (takes field.Key as_str) ≡ false → order_period_at d ≡ Ok a → first_wrong name.OrderPeriod d ≡ None
-unfolding order_period_at
-order_period_fine d a key h = after_ok _ _ _ (first_wrong name.OrderPeriod d ≡ None) h (λ x0 e0 h. after_ok _ _ _ (first_wrong name.OrderPeriod d ≡ None) h (λ x1 e1 h. after_ok _ _ _ (first_wrong name.OrderPeriod d ≡ None) h (λ x2 e2 h. after_ok _ _ _ (first_wrong name.OrderPeriod d ≡ None) h (λ x3 e3 h. after_ok _ _ _ (first_wrong name.OrderPeriod d ≡ None) h (λ x4 e4 h. after_ok _ _ _ (first_wrong name.OrderPeriod d ≡ None) h (λ x5 e5 h. after_ok _ _ _ (first_wrong name.OrderPeriod d ≡ None) h (λ x6 e6 h. after_ok _ _ _ (first_wrong name.OrderPeriod d ≡ None) h (λ x7 e7 h. after_ok _ _ _ (first_wrong name.OrderPeriod d ≡ None) h (λ x8 e8 h. rw (key, fine_said a_number field.Case d x0 e0, fine_said a_number field.Party d x1 e1, fine_said (a_word period_unit_named) field.Unit d x2 e2, fine_may a_day field.Start d x3 e3, fine_may a_moment field.At d x4 e4, fine_may a_number field.Count d x5 e5, fine_may (a_word direction_named) field.Direction d x6 e6, fine_may (a_word service_method_named) field.Method d x7 e7, fine_may a_day field.Until d x8 e8) refl)))))))))
-
-enter_judgment_wrong : (d : Data) (e : WireFault) → AllThere (required_fields name.EnterJudgment) d → is_wrong d (takes field.Key as_str) ≡ false → enter_judgment_at d ≡ Err e → IsWrong name.EnterJudgment d e
-unfolding enter_judgment_at
-enter_judgment_wrong d e t key h = on_err _ _ _ _ h (λ b. let w = wrong_said a_number field.Case d e t.1.0 b in (field.Case, w.0, rw (key, w.1) refl)) (λ x0 e0 h. on_err _ _ _ _ h (λ b. let w = wrong_said a_day field.Entered d e t.1.1.0 b in (field.Entered, w.0, rw (key, fine_said a_number field.Case d x0 e0, w.1) refl)) (λ x1 e1 h. on_err _ _ _ _ h (λ b. let w = wrong_may a_day field.Discharged d e b in (field.Discharged, w.0, rw (key, fine_said a_number field.Case d x0 e0, fine_said a_day field.Entered d x1 e1, w.1) refl)) (λ x2 e2 h. absurd cc)))
-
-enter_judgment_fine : (d : Data) (a : Action) → is_wrong d (takes field.Key as_str) ≡ false → enter_judgment_at d ≡ Ok a → first_wrong name.EnterJudgment d ≡ None
-unfolding enter_judgment_at
-enter_judgment_fine d a key h = after_ok _ _ _ (first_wrong name.EnterJudgment d ≡ None) h (λ x0 e0 h. after_ok _ _ _ (first_wrong name.EnterJudgment d ≡ None) h (λ x1 e1 h. after_ok _ _ _ (first_wrong name.EnterJudgment d ≡ None) h (λ x2 e2 h. rw (key, fine_said a_number field.Case d x0 e0, fine_said a_day field.Entered d x1 e1, fine_may a_day field.Discharged d x2 e2) refl)))
-
-extend_wrong : (d : Data) (e : WireFault) → AllThere (required_fields name.Extend) d → is_wrong d (takes field.Key as_str) ≡ false → extend_at d ≡ Err e → IsWrong name.Extend d e
-unfolding extend_at
-extend_wrong d e t key h = on_err _ _ _ _ h (λ b. let w = wrong_said a_number field.Case d e t.1.0 b in (field.Case, w.0, rw (key, w.1) refl)) (λ x0 e0 h. on_err _ _ _ _ h (λ b. let w = wrong_said a_number field.Deadline d e t.1.1.0 b in (field.Deadline, w.0, rw (key, fine_said a_number field.Case d x0 e0, w.1) refl)) (λ x1 e1 h. on_err _ _ _ _ h (λ b. let w = wrong_said a_moment field.At d e t.1.1.1.0 b in (field.At, w.0, rw (key, fine_said a_number field.Case d x0 e0, fine_said a_number field.Deadline d x1 e1, w.1) refl)) (λ x2 e2 h. on_err _ _ _ _ h (λ b. let w = wrong_said as_bool field.Neglect d e t.1.1.1.1.0 b in (field.Neglect, w.0, rw (key, fine_said a_number field.Case d x0 e0, fine_said a_number field.Deadline d x1 e1, fine_said a_moment field.At d x2 e2, w.1) refl)) (λ x3 e3 h. on_err _ _ _ _ h (λ b. let w = wrong_may a_number field.Days d e b in (field.Days, w.0, rw (key, fine_said a_number field.Case d x0 e0, fine_said a_number field.Deadline d x1 e1, fine_said a_moment field.At d x2 e2, fine_said as_bool field.Neglect d x3 e3, w.1) refl)) (λ x4 e4 h. on_err _ _ _ _ h (λ b. let w = wrong_may a_day field.Until d e b in (field.Until, w.0, rw (key, fine_said a_number field.Case d x0 e0, fine_said a_number field.Deadline d x1 e1, fine_said a_moment field.At d x2 e2, fine_said as_bool field.Neglect d x3 e3, fine_may a_number field.Days d x4 e4, w.1) refl)) (λ x5 e5 h. absurd cc))))))
-
-extend_fine : (d : Data) (a : Action) → is_wrong d (takes field.Key as_str) ≡ false → extend_at d ≡ Ok a → first_wrong name.Extend d ≡ None
-unfolding extend_at
-extend_fine d a key h = after_ok _ _ _ (first_wrong name.Extend d ≡ None) h (λ x0 e0 h. after_ok _ _ _ (first_wrong name.Extend d ≡ None) h (λ x1 e1 h. after_ok _ _ _ (first_wrong name.Extend d ≡ None) h (λ x2 e2 h. after_ok _ _ _ (first_wrong name.Extend d ≡ None) h (λ x3 e3 h. after_ok _ _ _ (first_wrong name.Extend d ≡ None) h (λ x4 e4 h. after_ok _ _ _ (first_wrong name.Extend d ≡ None) h (λ x5 e5 h. rw (key, fine_said a_number field.Case d x0 e0, fine_said a_number field.Deadline d x1 e1, fine_said a_moment field.At d x2 e2, fine_said as_bool field.Neglect d x3 e3, fine_may a_number field.Days d x4 e4, fine_may a_day field.Until d x5 e5) refl))))))
-
-satisfy_wrong : (d : Data) (e : WireFault) → AllThere (required_fields name.Satisfy) d → is_wrong d (takes field.Key as_str) ≡ false → satisfy_at d ≡ Err e → IsWrong name.Satisfy d e
-unfolding satisfy_at
-satisfy_wrong d e t key h = on_err _ _ _ _ h (λ b. let w = wrong_said a_number field.Case d e t.1.0 b in (field.Case, w.0, rw (key, w.1) refl)) (λ x0 e0 h. on_err _ _ _ _ h (λ b. let w = wrong_said a_number field.Deadline d e t.1.1.0 b in (field.Deadline, w.0, rw (key, fine_said a_number field.Case d x0 e0, w.1) refl)) (λ x1 e1 h. on_err _ _ _ _ h (λ b. let w = wrong_said a_moment field.At d e t.1.1.1.0 b in (field.At, w.0, rw (key, fine_said a_number field.Case d x0 e0, fine_said a_number field.Deadline d x1 e1, w.1) refl)) (λ x2 e2 h. on_err _ _ _ _ h (λ b. let w = wrong_said (a_word way_named) field.Way d e t.1.1.1.1.0 b in (field.Way, w.0, rw (key, fine_said a_number field.Case d x0 e0, fine_said a_number field.Deadline d x1 e1, fine_said a_moment field.At d x2 e2, w.1) refl)) (λ x3 e3 h. absurd cc))))
-
-satisfy_fine : (d : Data) (a : Action) → is_wrong d (takes field.Key as_str) ≡ false → satisfy_at d ≡ Ok a → first_wrong name.Satisfy d ≡ None
-unfolding satisfy_at
-satisfy_fine d a key h = after_ok _ _ _ (first_wrong name.Satisfy d ≡ None) h (λ x0 e0 h. after_ok _ _ _ (first_wrong name.Satisfy d ≡ None) h (λ x1 e1 h. after_ok _ _ _ (first_wrong name.Satisfy d ≡ None) h (λ x2 e2 h. after_ok _ _ _ (first_wrong name.Satisfy d ≡ None) h (λ x3 e3 h. rw (key, fine_said a_number field.Case d x0 e0, fine_said a_number field.Deadline d x1 e1, fine_said a_moment field.At d x2 e2, fine_said (a_word way_named) field.Way d x3 e3) refl))))
-
-vacate_wrong : (d : Data) (e : WireFault) → AllThere (required_fields name.Vacate) d → is_wrong d (takes field.Key as_str) ≡ false → vacate_at d ≡ Err e → IsWrong name.Vacate d e
-unfolding vacate_at
-vacate_wrong d e t key h = on_err _ _ _ _ h (λ b. let w = wrong_said a_number field.Case d e t.1.0 b in (field.Case, w.0, rw (key, w.1) refl)) (λ x0 e0 h. on_err _ _ _ _ h (λ b. let w = wrong_said a_number field.Deadline d e t.1.1.0 b in (field.Deadline, w.0, rw (key, fine_said a_number field.Case d x0 e0, w.1) refl)) (λ x1 e1 h. absurd cc))
-
-vacate_fine : (d : Data) (a : Action) → is_wrong d (takes field.Key as_str) ≡ false → vacate_at d ≡ Ok a → first_wrong name.Vacate d ≡ None
-unfolding vacate_at
-vacate_fine d a key h = after_ok _ _ _ (first_wrong name.Vacate d ≡ None) h (λ x0 e0 h. after_ok _ _ _ (first_wrong name.Vacate d ≡ None) h (λ x1 e1 h. rw (key, fine_said a_number field.Case d x0 e0, fine_said a_number field.Deadline d x1 e1) refl))
-
-action_wrong : (kind : CommandName) (d : Data) (e : WireFault) → AllThere (required_fields kind) d → is_wrong d (takes field.Key as_str) ≡ false → action_at kind d ≡ Err e → IsWrong kind d e
-action_wrong name.DeclareDay d e t key h = declare_day_wrong d e t key h
-action_wrong name.CloseDay d e t key h = close_day_wrong d e t key h
-action_wrong name.CloseSpan d e t key h = close_span_wrong d e t key h
-action_wrong name.WithdrawCalendar d e t key h = withdraw_calendar_wrong d e t key h
-action_wrong name.ImportCalendar d e t key h = import_calendar_wrong d e t key h
-action_wrong name.OpenCase d e t key h = open_case_wrong d e t key h
-action_wrong name.AddParty d e t key h = add_party_wrong d e t key h
-action_wrong name.FileEntry d e t key h = file_entry_wrong d e t key h
-action_wrong name.ServeSummons d e t key h = serve_summons_wrong d e t key h
-action_wrong name.FileWaiver d e t key h = file_waiver_wrong d e t key h
-action_wrong name.ServePleading d e t key h = serve_pleading_wrong d e t key h
-action_wrong name.OrderReply d e t key h = order_reply_wrong d e t key h
-action_wrong name.RuleMotion d e t key h = rule_motion_wrong d e t key h
-action_wrong name.Dispose d e t key h = dispose_wrong d e t key h
-action_wrong name.StatementServed d e t key h = statement_served_wrong d e t key h
-action_wrong name.NoticeHearing d e t key h = notice_hearing_wrong d e t key h
-action_wrong name.OrderPeriod d e t key h = order_period_wrong d e t key h
-action_wrong name.EnterJudgment d e t key h = enter_judgment_wrong d e t key h
-action_wrong name.Extend d e t key h = extend_wrong d e t key h
-action_wrong name.Satisfy d e t key h = satisfy_wrong d e t key h
-action_wrong name.Vacate d e t key h = vacate_wrong d e t key h
-
-action_fine : (kind : CommandName) (d : Data) (a : Action) → is_wrong d (takes field.Key as_str) ≡ false → action_at kind d ≡ Ok a → first_wrong kind d ≡ None
-action_fine name.DeclareDay d a key h = declare_day_fine d a key h
-action_fine name.CloseDay d a key h = close_day_fine d a key h
-action_fine name.CloseSpan d a key h = close_span_fine d a key h
-action_fine name.WithdrawCalendar d a key h = withdraw_calendar_fine d a key h
-action_fine name.ImportCalendar d a key h = import_calendar_fine d a key h
-action_fine name.OpenCase d a key h = open_case_fine d a key h
-action_fine name.AddParty d a key h = add_party_fine d a key h
-action_fine name.FileEntry d a key h = file_entry_fine d a key h
-action_fine name.ServeSummons d a key h = serve_summons_fine d a key h
-action_fine name.FileWaiver d a key h = file_waiver_fine d a key h
-action_fine name.ServePleading d a key h = serve_pleading_fine d a key h
-action_fine name.OrderReply d a key h = order_reply_fine d a key h
-action_fine name.RuleMotion d a key h = rule_motion_fine d a key h
-action_fine name.Dispose d a key h = dispose_fine d a key h
-action_fine name.StatementServed d a key h = statement_served_fine d a key h
-action_fine name.NoticeHearing d a key h = notice_hearing_fine d a key h
-action_fine name.OrderPeriod d a key h = order_period_fine d a key h
-action_fine name.EnterJudgment d a key h = enter_judgment_fine d a key h
-action_fine name.Extend d a key h = extend_fine d a key h
-action_fine name.Satisfy d a key h = satisfy_fine d a key h
-action_fine name.Vacate d a key h = vacate_fine d a key h
-
-key_wrong : (kind : CommandName) (d : Data) → is_wrong d (takes field.Key as_str) ≡ true → first_wrong kind d ≡ Some field.Key
-key_wrong name.DeclareDay d w = rw w refl
-key_wrong name.CloseDay d w = rw w refl
-key_wrong name.CloseSpan d w = rw w refl
-key_wrong name.WithdrawCalendar d w = rw w refl
-key_wrong name.ImportCalendar d w = rw w refl
-key_wrong name.OpenCase d w = rw w refl
-key_wrong name.AddParty d w = rw w refl
-key_wrong name.FileEntry d w = rw w refl
-key_wrong name.ServeSummons d w = rw w refl
-key_wrong name.FileWaiver d w = rw w refl
-key_wrong name.ServePleading d w = rw w refl
-key_wrong name.OrderReply d w = rw w refl
-key_wrong name.RuleMotion d w = rw w refl
-key_wrong name.Dispose d w = rw w refl
-key_wrong name.StatementServed d w = rw w refl
-key_wrong name.NoticeHearing d w = rw w refl
-key_wrong name.OrderPeriod d w = rw w refl
-key_wrong name.EnterJudgment d w = rw w refl
-key_wrong name.Extend d w = rw w refl
-key_wrong name.Satisfy d w = rw w refl
-key_wrong name.Vacate d w = rw w refl
-
-key_there : (kind : CommandName) (d : Data) → AllThere (required_fields kind) d → IsThere field.Key d
-key_there name.DeclareDay d t = t.0
-key_there name.CloseDay d t = t.0
-key_there name.CloseSpan d t = t.0
-key_there name.WithdrawCalendar d t = t.0
-key_there name.ImportCalendar d t = t.0
-key_there name.OpenCase d t = t.0
-key_there name.AddParty d t = t.0
-key_there name.FileEntry d t = t.0
-key_there name.ServeSummons d t = t.0
-key_there name.FileWaiver d t = t.0
-key_there name.ServePleading d t = t.0
-key_there name.OrderReply d t = t.0
-key_there name.RuleMotion d t = t.0
-key_there name.Dispose d t = t.0
-key_there name.StatementServed d t = t.0
-key_there name.NoticeHearing d t = t.0
-key_there name.OrderPeriod d t = t.0
-key_there name.EnterJudgment d t = t.0
-key_there name.Extend d t = t.0
-key_there name.Satisfy d t = t.0
-key_there name.Vacate d t = t.0
+action_fine : (kind : CommandName) (d : Data) (a : Action) (key : List ℕ) → required as_str field.Key d ≡ Ok key → action_at kind d ≡ Ok a → first_wrong kind d ≡ None
+unfolding action_at
+action_fine kind d a key k h = rw (fine key_spec d key k) (fields_fine (fields_of kind) (made_of kind) d a h)
 
 -- ---- the whole
 
@@ -383,10 +170,9 @@ object_fault bytes d e json h =
     on_err _ _ _ _ h (λ b. let m = missing_is (required_fields kind) d e b in missing_field d kind m.0 m.1 json (object, named) m.2) (λ all e2 h.
     let here = nothing_missing (required_fields kind) d all e2 in
     let there = all_there (required_fields kind) d here in
-    on_err _ _ _ _ h (λ b. let w = wrong_said as_str field.Key d e (key_there kind d there) b in wrong_field d kind field.Key w.0 json (object, named) here (key_wrong kind d w.1)) (λ key e3 h.
-    let fine = fine_said as_str field.Key d key e3 in
-    on_err _ _ _ _ h (λ b. let w = action_wrong kind d e there fine b in wrong_field d kind w.0 w.1 json (object, named) here w.2) (λ a e4 h.
-    on_err _ _ _ _ h (λ b. let u = other_is (known_fields kind) d e b in unknown_field d kind u.0 json (object, named) here (action_fine kind d a fine e4) u.1) (λ known e5 h. absurd cc))))))
+    on_err _ _ _ _ h (λ b. let w = key_wrong kind d e there b in wrong_field d kind w.0 w.1 json (object, named) here w.2) (λ key e3 h.
+    on_err _ _ _ _ h (λ b. let w = action_wrong kind d e key there e3 b in wrong_field d kind w.0 w.1 json (object, named) here w.2) (λ a e4 h.
+    on_err _ _ _ _ h (λ b. let u = other_is (known_fields kind) d e b in unknown_field d kind u.0 json (object, named) here (action_fine kind d a key e3 e4) u.1) (λ known e5 h. absurd cc))))))
 
 pub has_fault : (bytes : List ℕ) (e : WireFault) → command_in bytes ≡ Err e → HasFault bytes e
 unfolding command_in
@@ -419,26 +205,26 @@ wrong_back kind d f here wrong = from (all_there (required_fields kind) d here) 
   where
     from : AllThere (required_fields kind) d → (r : Result (List ℕ) WireFault) (s : Result Action WireFault) → required as_str field.Key d ≡ r → action_at kind d ≡ s → rest kind d ≡ Err (WrongField f)
     from there (Err e) s p q =
-        let w = wrong_said as_str field.Key d e (key_there kind d there) p in
-        let same : Some field.Key ≡ Some f = sym (key_wrong kind d w.1) ∙ wrong in
-        let is : e ≡ WrongField f = w.0 ∙ ap WrongField (cc) in
+        let w = key_wrong kind d e there p in
+        let same : Some w.0 ≡ Some f = sym w.2 ∙ wrong in
+        let is : e ≡ WrongField f = w.1 ∙ ap WrongField (cc) in
         rw (p, is) refl
     from there (Ok key) (Err e) p q =
-        let w = action_wrong kind d e there (fine_said as_str field.Key d key p) q in
+        let w = action_wrong kind d e key there p q in
         let same : Some w.0 ≡ Some f = sym w.2 ∙ wrong in
         let is : e ≡ WrongField f = w.1 ∙ ap WrongField (cc) in
         rw (p, q, is) refl
-    from there (Ok key) (Ok a) p q = let bad : None ≡ Some f = sym (action_fine kind d a (fine_said as_str field.Key d key p) q) ∙ wrong in absurd cc
+    from there (Ok key) (Ok a) p q = let bad : None ≡ Some f = sym (action_fine kind d a key p q) ∙ wrong in absurd cc
 
 unknown_back : (kind : CommandName) (d : Data) → first_missing (required_fields kind) d ≡ None → first_wrong kind d ≡ None → only_known (known_fields kind) d ≡ false → rest kind d ≡ Err UnknownField
 unknown_back kind d here fine other = from (all_there (required_fields kind) d here) (required as_str field.Key d) (action_at kind d) refl refl
   where
     from : AllThere (required_fields kind) d → (r : Result (List ℕ) WireFault) (s : Result Action WireFault) → required as_str field.Key d ≡ r → action_at kind d ≡ s → rest kind d ≡ Err UnknownField
     from there (Err e) s p q =
-        let w = wrong_said as_str field.Key d e (key_there kind d there) p in
-        let bad : Some field.Key ≡ None = sym (key_wrong kind d w.1) ∙ fine in absurd cc
+        let w = key_wrong kind d e there p in
+        let bad : Some w.0 ≡ None = sym w.2 ∙ fine in absurd cc
     from there (Ok key) (Err e) p q =
-        let w = action_wrong kind d e there (fine_said as_str field.Key d key p) q in
+        let w = action_wrong kind d e key there p q in
         let bad : Some w.0 ≡ None = sym w.2 ∙ fine in absurd cc
     from there (Ok key) (Ok a) p q = rw (p, q, other) refl
 

@@ -6,4 +6,5 @@ pub mod MemberLemmas
 pub mod ReadingLemmas
 pub mod SpelledLemmas
 pub mod SpellsLemmas
+pub mod TypeLemmas
 pub mod WritingLemmas

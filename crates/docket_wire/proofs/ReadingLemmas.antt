@@ -1,9 +1,9 @@
 -- Lemmas on what readers see of a `Value`.
-use Rattle.std.proofs.Common.{◌≡◌, ◌≢◌, ℕ, ◌+◌, ◌<◌, ◌&&◌, ◌++◌, ◌∙◌, Bool, true, false, List, [], ◌∷◌, length, drop, get_or, Option, Some, None, option_map, Result, Ok, Err, String, Global, IsUtf8, string_bytes, refl, ap, sym, append_assoc, append-nil, ◌≤◌}
+use Rattle.std.proofs.Common.{◌≡◌, ◌≢◌, ℕ, ◌+◌, ◌<◌, ◌&&◌, ◌||◌, ◌++◌, ◌∙◌, Bool, true, false, List, [], ◌∷◌, length, drop, get_or, Option, Some, None, option_map, Result, Ok, Err, String, Global, IsUtf8, string_bytes, refl, ap, sym, append_assoc, append-nil, ◌≤◌}
 use Rattle.std.proofs.lemmas.Str.{is_utf8-from_IsUtf8, IsUtf8-from_is_utf8}
 use Rattle.std.specs.List.{list_all}
 use Rattle.std.specs.Map.{keys_of}
-use Rattle.std.specs.Str.{is_utf8}
+use Rattle.std.specs.Str.{is_utf8, bytes_eq}
 use Rattle.serde_json.specs.Data.{Data}
 use Rattle.serde_json.specs.Read.{read}
 use Rattle.serde_json.specs.View.{view, items_view, members_view}
@@ -15,6 +15,7 @@ use Rattle.docket_wire.specs.declared.fault.WireFault.{WireFault}
 use Rattle.docket_wire.specs.declared.fault.WireFault.TheVariants.{NotJson, NotAnObject, UnknownCommand, MissingField, WrongField, UnknownField, NoMemory}
 use Rattle.std.proofs.lemmas.List.{drop_more}
 use Rattle.std.proofs.Math.ListN.{drop_of_length-le}
+use Rattle.docket_command.specs.Fields.{field_name}
 use Rattle.docket_wire.specs.Faults.{in_rows}
 use Rattle.docket_wire.specs.Members.{Gives, or_fault}
 use Rattle.docket_wire.specs.Reading.{is_known, all_known, command_in, command_of, new_days_of, new_day_at}
@@ -22,6 +23,15 @@ use Rattle.docket_wire.specs.Reading.{is_known, all_known, command_in, command_o
 pub all_known_by_keys : (fields : List Field) (es : List (String Global × Value)) → list_all (λ k. is_known fields (string_bytes k)) (keys_of es) ≡ all_known fields (members_view es)
 all_known_by_keys fields [] = refl
 all_known_by_keys fields (e ∷ es) = ap (λ b. is_known fields (string_bytes e.0) && b) (all_known_by_keys fields es)
+
+pub known_in_either : (fields others : List Field) (k : List ℕ) → is_known (fields ++ others) k ≡ (is_known fields k || is_known others k)
+unfolding is_known
+known_in_either [] others k = refl
+known_in_either (f ∷ fields) others k = ap (λ b. bytes_eq k (field_name f) || b) (known_in_either fields others k) ∙ regroup_or (bytes_eq k (field_name f)) _ _
+  where
+    regroup_or : (a b c : Bool) → (a || (b || c)) ≡ ((a || b) || c)
+    regroup_or true b c = refl
+    regroup_or false b c = refl
 
 -- a fault other than of memory is the one that reading gives
 pub fault_given : {A : Type 0} (e : WireFault) (r : Result A WireFault) → e ≢ NoMemory → Gives (Err e) r → r ≡ Err e

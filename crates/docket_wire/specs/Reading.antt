@@ -14,13 +14,14 @@ use Rattle.docket_wire.specs.declared.fault.WireFault.TheVariants.{NotJson, NotA
 use Rattle.docket_command.specs.Words.{sovereign_named, day_kind_named, role_named, basis_named, pleading_kind_named, ruling_named, period_unit_named, direction_named, way_named, motion_kind_named, service_method_named}
 use Rattle.docket_command.specs.Fields.{field_name}
 use Rattle.docket_command.specs.Names.{command_named}
+use Rattle.docket_command.specs.FieldTypes.{FieldType, ValueOf}
+use Rattle.docket_command.specs.FieldTypes as of
+use Rattle.docket_command.specs.Schema.{FieldSpec, must, may, ValueIn, Makes, fields_of, made_of}
 use Rattle.docket_wire.specs.Tables.{required_fields, known_fields}
 use Rattle.docket_wire.specs.Members.{◌>>=◌, present, or_fault, required, optional, a_number, a_day, a_moment, a_word}
 use Rattle.docket_command.specs.declared.command.Command.{Command}
 use Rattle.docket_command.specs.declared.command.Action.{Action}
-use Rattle.docket_command.specs.declared.command.Action.TheVariants as action
 use Rattle.docket_command.specs.declared.command_name.CommandName.{CommandName}
-use Rattle.docket_command.specs.declared.command_name.CommandName.TheVariants as name
 use Rattle.docket_command.specs.declared.new_day.NewDay.{NewDay}
 
 -- the first of the fields that is not there
@@ -70,198 +71,38 @@ new_days_of (item d ds) = option_and_then (λ n. option_map (λ ns. n ∷ ns) (n
 abbrev pub rows_of : Data → Option (List NewDay)
 rows_of d = option_and_then new_days_of (as_array d)
 
--- ---- each kind of command
+-- ---- the types of fields
 
-unfoldable pub declare_day_at : Data → Result Action WireFault
-declare_day_at d = do
-  day ← required a_day field.Day d
-  kind ← required (a_word sovereign_named) field.Kind d
-  name ← required as_str field.Name d
-  Ok (action.DeclareDay (record { day = day; kind = kind; name = name }))
+abbrev pub meaning_of : (t : FieldType) → Data → Option (ValueOf t)
+meaning_of of.Number = a_number
+meaning_of of.Day = a_day
+meaning_of of.Moment = a_moment
+meaning_of of.Flag = as_bool
+meaning_of of.Text = as_str
+meaning_of of.Rows = rows_of
+meaning_of of.Basis = a_word basis_named
+meaning_of of.Direction = a_word direction_named
+meaning_of of.MotionKind = a_word motion_kind_named
+meaning_of of.PeriodUnit = a_word period_unit_named
+meaning_of of.PleadingKind = a_word pleading_kind_named
+meaning_of of.Role = a_word role_named
+meaning_of of.Ruling = a_word ruling_named
+meaning_of of.ServiceMethod = a_word service_method_named
+meaning_of of.Sovereign = a_word sovereign_named
+meaning_of of.Way = a_word way_named
 
-unfoldable pub close_day_at : Data → Result Action WireFault
-close_day_at d = do
-  day ← required a_day field.Day d
-  name ← required as_str field.Name d
-  Ok (action.CloseDay (record { day = day; name = name }))
+-- ---- the fields of an action, one after another
 
-unfoldable pub close_span_at : Data → Result Action WireFault
-close_span_at d = do
-  start ← required a_moment field.Start d
-  end ← required a_moment field.End d
-  Ok (action.CloseSpan (record { start = start; end = end }))
+abbrev pub read_field : (s : FieldSpec) → Data → Result (ValueIn s) WireFault
+read_field (must f t) d = required (meaning_of t) f d
+read_field (may f t) d = optional (meaning_of t) f d
 
-unfoldable pub withdraw_calendar_at : Data → Result Action WireFault
-withdraw_calendar_at d = do
-  row ← required a_number field.Row d
-  Ok (action.WithdrawCalendar (record { row = row }))
+abbrev pub read_fields : (ss : List FieldSpec) → Makes ss → Data → Result Action WireFault
+read_fields [] made d = Ok made
+read_fields (s ∷ ss) make d = read_field s d >>= (λ x. read_fields ss (make x) d)
 
-unfoldable pub import_calendar_at : Data → Result Action WireFault
-import_calendar_at d = do
-  rows ← required rows_of field.Rows d
-  Ok (action.ImportCalendar (record { rows = rows }))
-
-unfoldable pub open_case_at : Data → Result Action WireFault
-open_case_at d = do
-  label ← required as_str field.Label d
-  caption ← required as_str field.Caption d
-  filed ← required a_day field.Filed d
-  Ok (action.OpenCase (record { label = label; caption = caption; filed = filed }))
-
-unfoldable pub add_party_at : Data → Result Action WireFault
-add_party_at d = do
-  case ← required a_number field.Case d
-  name ← required as_str field.Name d
-  role ← required (a_word role_named) field.Role d
-  Ok (action.AddParty (record { case = case; name = name; role = role }))
-
-unfoldable pub file_entry_at : Data → Result Action WireFault
-file_entry_at d = do
-  case ← required a_number field.Case d
-  day ← required a_day field.Day d
-  text ← required as_str field.Text d
-  Ok (action.FileEntry (record { case = case; day = day; text = text }))
-
-unfoldable pub serve_summons_at : Data → Result Action WireFault
-serve_summons_at d = do
-  case ← required a_number field.Case d
-  party ← required a_number field.Party d
-  basis ← required (a_word basis_named) field.Basis d
-  served ← required a_day field.Served d
-  attorney ← optional a_day field.Attorney d
-  Ok (action.ServeSummons (record { case = case; party = party; basis = basis; served = served; attorney = attorney }))
-
-unfoldable pub file_waiver_at : Data → Result Action WireFault
-file_waiver_at d = do
-  case ← required a_number field.Case d
-  party ← required a_number field.Party d
-  sent ← required a_day field.Sent d
-  allowed ← required a_number field.Allowed d
-  returned ← required a_day field.Returned d
-  abroad ← required as_bool field.Abroad d
-  Ok (action.FileWaiver (record { case = case; party = party; sent = sent; allowed = allowed; returned = returned; abroad = abroad }))
-
-unfoldable pub serve_pleading_at : Data → Result Action WireFault
-serve_pleading_at d = do
-  case ← required a_number field.Case d
-  party ← required a_number field.Party d
-  kind ← required (a_word pleading_kind_named) field.Kind d
-  basis ← required (a_word basis_named) field.Basis d
-  served ← required a_day field.Served d
-  method ← required (a_word service_method_named) field.Method d
-  attorney ← optional a_day field.Attorney d
-  attorney_method ← optional (a_word service_method_named) field.AttorneyMethod d
-  Ok (action.ServePleading (record { case = case; party = party; kind = kind; basis = basis; served = served; method = method; attorney = attorney; attorney_method = attorney_method }))
-
-unfoldable pub order_reply_at : Data → Result Action WireFault
-order_reply_at d = do
-  case ← required a_number field.Case d
-  party ← required a_number field.Party d
-  served ← required a_day field.Served d
-  method ← required (a_word service_method_named) field.Method d
-  due ← optional a_day field.Due d
-  Ok (action.OrderReply (record { case = case; party = party; served = served; method = method; due = due }))
-
-unfoldable pub rule_motion_at : Data → Result Action WireFault
-rule_motion_at d = do
-  case ← required a_number field.Case d
-  deadline ← required a_number field.Deadline d
-  kind ← required (a_word motion_kind_named) field.Kind d
-  served ← required a_day field.Served d
-  Ok (action.RuleMotion (record { case = case; deadline = deadline; kind = kind; served = served }))
-
-unfoldable pub dispose_at : Data → Result Action WireFault
-dispose_at d = do
-  case ← required a_number field.Case d
-  deadline ← required a_number field.Deadline d
-  outcome ← required (a_word ruling_named) field.Outcome d
-  notice ← required a_day field.Notice d
-  party ← optional a_number field.Party d
-  due ← optional a_day field.Due d
-  Ok (action.Dispose (record { case = case; deadline = deadline; outcome = outcome; notice = notice; party = party; due = due }))
-
-unfoldable pub statement_served_at : Data → Result Action WireFault
-statement_served_at d = do
-  case ← required a_number field.Case d
-  deadline ← required a_number field.Deadline d
-  served ← required a_day field.Served d
-  method ← required (a_word service_method_named) field.Method d
-  Ok (action.StatementServed (record { case = case; deadline = deadline; served = served; method = method }))
-
-unfoldable pub notice_hearing_at : Data → Result Action WireFault
-notice_hearing_at d = do
-  case ← required a_number field.Case d
-  party ← required a_number field.Party d
-  opponent ← required a_number field.Opponent d
-  hearing ← required a_day field.Hearing d
-  Ok (action.NoticeHearing (record { case = case; party = party; opponent = opponent; hearing = hearing }))
-
-unfoldable pub order_period_at : Data → Result Action WireFault
-order_period_at d = do
-  case ← required a_number field.Case d
-  party ← required a_number field.Party d
-  unit ← required (a_word period_unit_named) field.Unit d
-  start ← optional a_day field.Start d
-  at ← optional a_moment field.At d
-  count ← optional a_number field.Count d
-  direction ← optional (a_word direction_named) field.Direction d
-  method ← optional (a_word service_method_named) field.Method d
-  until ← optional a_day field.Until d
-  Ok (action.OrderPeriod (record { case = case; party = party; unit = unit; start = start; at = at; count = count; direction = direction; method = method; until = until }))
-
-unfoldable pub enter_judgment_at : Data → Result Action WireFault
-enter_judgment_at d = do
-  case ← required a_number field.Case d
-  entered ← required a_day field.Entered d
-  discharged ← optional a_day field.Discharged d
-  Ok (action.EnterJudgment (record { case = case; entered = entered; discharged = discharged }))
-
-unfoldable pub extend_at : Data → Result Action WireFault
-extend_at d = do
-  case ← required a_number field.Case d
-  deadline ← required a_number field.Deadline d
-  at ← required a_moment field.At d
-  neglect ← required as_bool field.Neglect d
-  days ← optional a_number field.Days d
-  until ← optional a_day field.Until d
-  Ok (action.Extend (record { case = case; deadline = deadline; at = at; neglect = neglect; days = days; until = until }))
-
-unfoldable pub satisfy_at : Data → Result Action WireFault
-satisfy_at d = do
-  case ← required a_number field.Case d
-  deadline ← required a_number field.Deadline d
-  at ← required a_moment field.At d
-  way ← required (a_word way_named) field.Way d
-  Ok (action.Satisfy (record { case = case; deadline = deadline; at = at; way = way }))
-
-unfoldable pub vacate_at : Data → Result Action WireFault
-vacate_at d = do
-  case ← required a_number field.Case d
-  deadline ← required a_number field.Deadline d
-  Ok (action.Vacate (record { case = case; deadline = deadline }))
-
-abbrev pub action_at : CommandName → Data → Result Action WireFault
-action_at name.DeclareDay d = declare_day_at d
-action_at name.CloseDay d = close_day_at d
-action_at name.CloseSpan d = close_span_at d
-action_at name.WithdrawCalendar d = withdraw_calendar_at d
-action_at name.ImportCalendar d = import_calendar_at d
-action_at name.OpenCase d = open_case_at d
-action_at name.AddParty d = add_party_at d
-action_at name.FileEntry d = file_entry_at d
-action_at name.ServeSummons d = serve_summons_at d
-action_at name.FileWaiver d = file_waiver_at d
-action_at name.ServePleading d = serve_pleading_at d
-action_at name.OrderReply d = order_reply_at d
-action_at name.RuleMotion d = rule_motion_at d
-action_at name.Dispose d = dispose_at d
-action_at name.StatementServed d = statement_served_at d
-action_at name.NoticeHearing d = notice_hearing_at d
-action_at name.OrderPeriod d = order_period_at d
-action_at name.EnterJudgment d = enter_judgment_at d
-action_at name.Extend d = extend_at d
-action_at name.Satisfy d = satisfy_at d
-action_at name.Vacate d = vacate_at d
+unfoldable pub action_at : CommandName → Data → Result Action WireFault
+action_at kind d = read_fields (fields_of kind) (made_of kind) d
 
 -- ---- the whole
 

@@ -1,45 +1,33 @@
--- The fields of each kind of command, in their order.
+-- The members of each kind of command.
 use Rattle.std.specs.Prelude.{List, [], ◌∷◌, ◌++◌}
 use Rattle.docket_command.specs.declared.field.Field.{Field}
 use Rattle.docket_command.specs.declared.field.Field.TheVariants as field
 use Rattle.docket_command.specs.declared.command_name.CommandName.{CommandName}
-use Rattle.docket_command.specs.declared.command_name.CommandName.TheVariants as name
+use Rattle.docket_command.specs.FieldTypes as of
+use Rattle.docket_command.specs.Schema.{FieldSpec, must, may, fields_of}
 
--- those that must be there
+abbrev pub that_must : List FieldSpec → List Field
+that_must [] = []
+that_must (must f t ∷ ss) = f ∷ that_must ss
+that_must (may f t ∷ ss) = that_must ss
+
+abbrev pub that_may : List FieldSpec → List Field
+that_may [] = []
+that_may (must f t ∷ ss) = that_may ss
+that_may (may f t ∷ ss) = f ∷ that_may ss
+
+-- the key of the command, and the fields of its kind
+abbrev pub all_fields : CommandName → List FieldSpec
+all_fields kind = must field.Key of.Text ∷ fields_of kind
+
+-- those that must be there, in their order
 abbrev pub required_fields : CommandName → List Field
-required_fields name.DeclareDay = field.Key ∷ field.Day ∷ field.Kind ∷ field.Name ∷ []
-required_fields name.CloseDay = field.Key ∷ field.Day ∷ field.Name ∷ []
-required_fields name.CloseSpan = field.Key ∷ field.Start ∷ field.End ∷ []
-required_fields name.WithdrawCalendar = field.Key ∷ field.Row ∷ []
-required_fields name.ImportCalendar = field.Key ∷ field.Rows ∷ []
-required_fields name.OpenCase = field.Key ∷ field.Label ∷ field.Caption ∷ field.Filed ∷ []
-required_fields name.AddParty = field.Key ∷ field.Case ∷ field.Name ∷ field.Role ∷ []
-required_fields name.FileEntry = field.Key ∷ field.Case ∷ field.Day ∷ field.Text ∷ []
-required_fields name.ServeSummons = field.Key ∷ field.Case ∷ field.Party ∷ field.Basis ∷ field.Served ∷ []
-required_fields name.FileWaiver = field.Key ∷ field.Case ∷ field.Party ∷ field.Sent ∷ field.Allowed ∷ field.Returned ∷ field.Abroad ∷ []
-required_fields name.ServePleading = field.Key ∷ field.Case ∷ field.Party ∷ field.Kind ∷ field.Basis ∷ field.Served ∷ field.Method ∷ []
-required_fields name.OrderReply = field.Key ∷ field.Case ∷ field.Party ∷ field.Served ∷ field.Method ∷ []
-required_fields name.RuleMotion = field.Key ∷ field.Case ∷ field.Deadline ∷ field.Kind ∷ field.Served ∷ []
-required_fields name.Dispose = field.Key ∷ field.Case ∷ field.Deadline ∷ field.Outcome ∷ field.Notice ∷ []
-required_fields name.StatementServed = field.Key ∷ field.Case ∷ field.Deadline ∷ field.Served ∷ field.Method ∷ []
-required_fields name.NoticeHearing = field.Key ∷ field.Case ∷ field.Party ∷ field.Opponent ∷ field.Hearing ∷ []
-required_fields name.OrderPeriod = field.Key ∷ field.Case ∷ field.Party ∷ field.Unit ∷ []
-required_fields name.EnterJudgment = field.Key ∷ field.Case ∷ field.Entered ∷ []
-required_fields name.Extend = field.Key ∷ field.Case ∷ field.Deadline ∷ field.At ∷ field.Neglect ∷ []
-required_fields name.Satisfy = field.Key ∷ field.Case ∷ field.Deadline ∷ field.At ∷ field.Way ∷ []
-required_fields name.Vacate = field.Key ∷ field.Case ∷ field.Deadline ∷ []
+required_fields kind = that_must (all_fields kind)
 
--- those that may be absent or null
-abbrev pub optional_fields : CommandName → List Field
-optional_fields name.ServeSummons = field.Attorney ∷ []
-optional_fields name.ServePleading = field.Attorney ∷ field.AttorneyMethod ∷ []
-optional_fields name.OrderReply = field.Due ∷ []
-optional_fields name.Dispose = field.Party ∷ field.Due ∷ []
-optional_fields name.OrderPeriod = field.Start ∷ field.At ∷ field.Count ∷ field.Direction ∷ field.Method ∷ field.Until ∷ []
-optional_fields name.EnterJudgment = field.Discharged ∷ []
-optional_fields name.Extend = field.Days ∷ field.Until ∷ []
-optional_fields _ = []
+-- what may be there beside: the name of the kind, and the fields that may be absent
+abbrev pub other_fields : CommandName → List Field
+other_fields kind = field.Do ∷ that_may (all_fields kind)
 
 -- all of them
 abbrev pub known_fields : CommandName → List Field
-known_fields kind = field.Do ∷ (required_fields kind ++ optional_fields kind)
+known_fields kind = required_fields kind ++ other_fields kind

@@ -2,10 +2,11 @@
 ghost use Rattle.std.specs.Prelude.{◌≡◌, OnOk};
 ghost use Rattle.serde_json.specs.View.{view, members_view};
 ghost use Rattle.docket_command.specs.declared.command.Action.TheVariants as action;
+ghost use Rattle.docket_command.specs.declared.command_name.CommandName.TheVariants as name;
 ghost use Rattle.docket_wire.specs.Members.{Gives};
 ghost use Rattle.docket_wire.specs.Valid.{IsAction};
-ghost use Rattle.docket_wire.specs.Reading.{declare_day_at, close_day_at, close_span_at, withdraw_calendar_at, import_calendar_at};
-ghost use Rattle.docket_wire.specs.Writing.{put_all, declare_day_members, close_day_members, close_span_members, withdraw_calendar_members, import_calendar_members};
+ghost use Rattle.docket_wire.specs.Reading.{action_at};
+ghost use Rattle.docket_wire.specs.Writing.{put_all, action_members};
 
 use crate::fault::WireFault;
 use crate::member::{required, required_text, required_word};
@@ -17,9 +18,9 @@ use docket_command::{
 use serde_json::Value;
 use std::alloc::{AllocError, Global};
 
-#[tactic(auto, unfolding(crate::specs::Reading::declare_day_at))]
+#[tactic(auto, unfolding(crate::specs::Reading::action_at))]
 pub(crate) fn read_declare_day(alloc: Global, object: &Value) -> Result<Action, WireFault>
-    ensures { Gives result (declare_day_at (view object.now)) }
+    ensures { Gives result (action_at name.DeclareDay (view object.now)) }
 {
     Ok(Action::DeclareDay(DeclareDay {
         day: required(object, Field::Day)?,
@@ -28,13 +29,14 @@ pub(crate) fn read_declare_day(alloc: Global, object: &Value) -> Result<Action, 
     }))
 }
 
+#[tactic(auto, unfolding(crate::specs::Writing::action_members, crate::specs::Valid::IsAction))]
 pub(crate) fn put_declare_day(
     members: &mut Members,
     alloc: Global,
     command: &DeclareDay,
 ) -> Result<(), AllocError>
     ensures value { OnOk result (members_view members.new.entries
-        ≡ put_all (declare_day_members command.now) (members_view members.old.entries)) }
+        ≡ put_all (action_members (action.DeclareDay command.now)) (members_view members.old.entries)) }
     ensures lawful { OnOk result (IsAction (action.DeclareDay command.now)) }
 {
     put_value(members, alloc, Field::Day, command.day)?;
@@ -42,9 +44,9 @@ pub(crate) fn put_declare_day(
     put_text(members, alloc, Field::Name, &command.name)
 }
 
-#[tactic(auto, unfolding(crate::specs::Reading::close_day_at))]
+#[tactic(auto, unfolding(crate::specs::Reading::action_at))]
 pub(crate) fn read_close_day(alloc: Global, object: &Value) -> Result<Action, WireFault>
-    ensures { Gives result (close_day_at (view object.now)) }
+    ensures { Gives result (action_at name.CloseDay (view object.now)) }
 {
     Ok(Action::CloseDay(CloseDay {
         day: required(object, Field::Day)?,
@@ -52,22 +54,23 @@ pub(crate) fn read_close_day(alloc: Global, object: &Value) -> Result<Action, Wi
     }))
 }
 
+#[tactic(auto, unfolding(crate::specs::Writing::action_members, crate::specs::Valid::IsAction))]
 pub(crate) fn put_close_day(
     members: &mut Members,
     alloc: Global,
     command: &CloseDay,
 ) -> Result<(), AllocError>
     ensures value { OnOk result (members_view members.new.entries
-        ≡ put_all (close_day_members command.now) (members_view members.old.entries)) }
+        ≡ put_all (action_members (action.CloseDay command.now)) (members_view members.old.entries)) }
     ensures lawful { OnOk result (IsAction (action.CloseDay command.now)) }
 {
     put_value(members, alloc, Field::Day, command.day)?;
     put_text(members, alloc, Field::Name, &command.name)
 }
 
-#[tactic(auto, unfolding(crate::specs::Reading::close_span_at))]
+#[tactic(auto, unfolding(crate::specs::Reading::action_at))]
 pub(crate) fn read_close_span(object: &Value) -> Result<Action, WireFault>
-    ensures { Gives result (close_span_at (view object.now)) }
+    ensures { Gives result (action_at name.CloseSpan (view object.now)) }
 {
     Ok(Action::CloseSpan(CloseSpan {
         start: required(object, Field::Start)?,
@@ -75,56 +78,59 @@ pub(crate) fn read_close_span(object: &Value) -> Result<Action, WireFault>
     }))
 }
 
+#[tactic(auto, unfolding(crate::specs::Writing::action_members, crate::specs::Valid::IsAction))]
 pub(crate) fn put_close_span(
     members: &mut Members,
     alloc: Global,
     command: &CloseSpan,
 ) -> Result<(), AllocError>
     ensures value { OnOk result (members_view members.new.entries
-        ≡ put_all (close_span_members command.now) (members_view members.old.entries)) }
+        ≡ put_all (action_members (action.CloseSpan command.now)) (members_view members.old.entries)) }
     ensures lawful { OnOk result (IsAction (action.CloseSpan command.now)) }
 {
     put_value(members, alloc, Field::Start, command.start)?;
     put_value(members, alloc, Field::End, command.end)
 }
 
-#[tactic(auto, unfolding(crate::specs::Reading::withdraw_calendar_at))]
+#[tactic(auto, unfolding(crate::specs::Reading::action_at))]
 pub(crate) fn read_withdraw_calendar(object: &Value) -> Result<Action, WireFault>
-    ensures { Gives result (withdraw_calendar_at (view object.now)) }
+    ensures { Gives result (action_at name.WithdrawCalendar (view object.now)) }
 {
     Ok(Action::WithdrawCalendar(WithdrawCalendar {
         row: required(object, Field::Row)?,
     }))
 }
 
+#[tactic(auto, unfolding(crate::specs::Writing::action_members, crate::specs::Valid::IsAction))]
 pub(crate) fn put_withdraw_calendar(
     members: &mut Members,
     alloc: Global,
     command: &WithdrawCalendar,
 ) -> Result<(), AllocError>
     ensures value { OnOk result (members_view members.new.entries
-        ≡ put_all (withdraw_calendar_members command.now) (members_view members.old.entries)) }
+        ≡ put_all (action_members (action.WithdrawCalendar command.now)) (members_view members.old.entries)) }
     ensures lawful { OnOk result (IsAction (action.WithdrawCalendar command.now)) }
 {
     put_value(members, alloc, Field::Row, command.row)
 }
 
-#[tactic(auto, unfolding(crate::specs::Reading::import_calendar_at))]
+#[tactic(auto, unfolding(crate::specs::Reading::action_at))]
 pub(crate) fn read_import_calendar(alloc: Global, object: &Value) -> Result<Action, WireFault>
-    ensures { Gives result (import_calendar_at (view object.now)) }
+    ensures { Gives result (action_at name.ImportCalendar (view object.now)) }
 {
     Ok(Action::ImportCalendar(ImportCalendar {
         rows: required_rows(alloc, object)?,
     }))
 }
 
+#[tactic(auto, unfolding(crate::specs::Writing::action_members, crate::specs::Valid::IsAction))]
 pub(crate) fn put_import_calendar(
     members: &mut Members,
     alloc: Global,
     command: &ImportCalendar,
 ) -> Result<(), AllocError>
     ensures value { OnOk result (members_view members.new.entries
-        ≡ put_all (import_calendar_members command.now) (members_view members.old.entries)) }
+        ≡ put_all (action_members (action.ImportCalendar command.now)) (members_view members.old.entries)) }
     ensures lawful { OnOk result (IsAction (action.ImportCalendar command.now)) }
 {
     put_rows(members, alloc, &command.rows)

@@ -2,10 +2,11 @@
 ghost use Rattle.std.specs.Prelude.{◌≡◌, OnOk};
 ghost use Rattle.serde_json.specs.View.{view, members_view};
 ghost use Rattle.docket_command.specs.declared.command.Action.TheVariants as action;
+ghost use Rattle.docket_command.specs.declared.command_name.CommandName.TheVariants as name;
 ghost use Rattle.docket_wire.specs.Members.{Gives};
 ghost use Rattle.docket_wire.specs.Valid.{IsAction};
-ghost use Rattle.docket_wire.specs.Reading.{open_case_at, add_party_at, file_entry_at};
-ghost use Rattle.docket_wire.specs.Writing.{put_all, open_case_members, add_party_members, file_entry_members};
+ghost use Rattle.docket_wire.specs.Reading.{action_at};
+ghost use Rattle.docket_wire.specs.Writing.{put_all, action_members};
 
 use crate::fault::WireFault;
 use crate::member::{required, required_text, required_word};
@@ -14,9 +15,9 @@ use docket_command::{Action, AddParty, Field, FileEntry, OpenCase};
 use serde_json::Value;
 use std::alloc::{AllocError, Global};
 
-#[tactic(auto, unfolding(crate::specs::Reading::open_case_at))]
+#[tactic(auto, unfolding(crate::specs::Reading::action_at))]
 pub(crate) fn read_open_case(alloc: Global, object: &Value) -> Result<Action, WireFault>
-    ensures { Gives result (open_case_at (view object.now)) }
+    ensures { Gives result (action_at name.OpenCase (view object.now)) }
 {
     Ok(Action::OpenCase(OpenCase {
         label: required_text(alloc, object, Field::Label)?,
@@ -25,13 +26,14 @@ pub(crate) fn read_open_case(alloc: Global, object: &Value) -> Result<Action, Wi
     }))
 }
 
+#[tactic(auto, unfolding(crate::specs::Writing::action_members, crate::specs::Valid::IsAction))]
 pub(crate) fn put_open_case(
     members: &mut Members,
     alloc: Global,
     command: &OpenCase,
 ) -> Result<(), AllocError>
     ensures value { OnOk result (members_view members.new.entries
-        ≡ put_all (open_case_members command.now) (members_view members.old.entries)) }
+        ≡ put_all (action_members (action.OpenCase command.now)) (members_view members.old.entries)) }
     ensures lawful { OnOk result (IsAction (action.OpenCase command.now)) }
 {
     put_text(members, alloc, Field::Label, &command.label)?;
@@ -39,9 +41,9 @@ pub(crate) fn put_open_case(
     put_value(members, alloc, Field::Filed, command.filed)
 }
 
-#[tactic(auto, unfolding(crate::specs::Reading::add_party_at))]
+#[tactic(auto, unfolding(crate::specs::Reading::action_at))]
 pub(crate) fn read_add_party(alloc: Global, object: &Value) -> Result<Action, WireFault>
-    ensures { Gives result (add_party_at (view object.now)) }
+    ensures { Gives result (action_at name.AddParty (view object.now)) }
 {
     Ok(Action::AddParty(AddParty {
         case: required(object, Field::Case)?,
@@ -50,13 +52,14 @@ pub(crate) fn read_add_party(alloc: Global, object: &Value) -> Result<Action, Wi
     }))
 }
 
+#[tactic(auto, unfolding(crate::specs::Writing::action_members, crate::specs::Valid::IsAction))]
 pub(crate) fn put_add_party(
     members: &mut Members,
     alloc: Global,
     command: &AddParty,
 ) -> Result<(), AllocError>
     ensures value { OnOk result (members_view members.new.entries
-        ≡ put_all (add_party_members command.now) (members_view members.old.entries)) }
+        ≡ put_all (action_members (action.AddParty command.now)) (members_view members.old.entries)) }
     ensures lawful { OnOk result (IsAction (action.AddParty command.now)) }
 {
     put_value(members, alloc, Field::Case, command.case)?;
@@ -64,9 +67,9 @@ pub(crate) fn put_add_party(
     put_word(members, alloc, Field::Role, command.role)
 }
 
-#[tactic(auto, unfolding(crate::specs::Reading::file_entry_at))]
+#[tactic(auto, unfolding(crate::specs::Reading::action_at))]
 pub(crate) fn read_file_entry(alloc: Global, object: &Value) -> Result<Action, WireFault>
-    ensures { Gives result (file_entry_at (view object.now)) }
+    ensures { Gives result (action_at name.FileEntry (view object.now)) }
 {
     Ok(Action::FileEntry(FileEntry {
         case: required(object, Field::Case)?,
@@ -75,13 +78,14 @@ pub(crate) fn read_file_entry(alloc: Global, object: &Value) -> Result<Action, W
     }))
 }
 
+#[tactic(auto, unfolding(crate::specs::Writing::action_members, crate::specs::Valid::IsAction))]
 pub(crate) fn put_file_entry(
     members: &mut Members,
     alloc: Global,
     command: &FileEntry,
 ) -> Result<(), AllocError>
     ensures value { OnOk result (members_view members.new.entries
-        ≡ put_all (file_entry_members command.now) (members_view members.old.entries)) }
+        ≡ put_all (action_members (action.FileEntry command.now)) (members_view members.old.entries)) }
     ensures lawful { OnOk result (IsAction (action.FileEntry command.now)) }
 {
     put_value(members, alloc, Field::Case, command.case)?;

@@ -2,10 +2,11 @@
 ghost use Rattle.std.specs.Prelude.{◌≡◌, OnOk};
 ghost use Rattle.serde_json.specs.View.{view, members_view};
 ghost use Rattle.docket_command.specs.declared.command.Action.TheVariants as action;
+ghost use Rattle.docket_command.specs.declared.command_name.CommandName.TheVariants as name;
 ghost use Rattle.docket_wire.specs.Members.{Gives};
 ghost use Rattle.docket_wire.specs.Valid.{IsAction};
-ghost use Rattle.docket_wire.specs.Reading.{rule_motion_at, dispose_at, statement_served_at};
-ghost use Rattle.docket_wire.specs.Writing.{put_all, rule_motion_members, dispose_members, statement_served_members};
+ghost use Rattle.docket_wire.specs.Reading.{action_at};
+ghost use Rattle.docket_wire.specs.Writing.{put_all, action_members};
 
 use crate::fault::WireFault;
 use crate::member::{optional, required, required_word};
@@ -14,9 +15,9 @@ use docket_command::{Action, Dispose, Field, RuleMotion, StatementServed};
 use serde_json::Value;
 use std::alloc::{AllocError, Global};
 
-#[tactic(auto, unfolding(crate::specs::Reading::rule_motion_at))]
+#[tactic(auto, unfolding(crate::specs::Reading::action_at))]
 pub(crate) fn read_rule_motion(object: &Value) -> Result<Action, WireFault>
-    ensures { Gives result (rule_motion_at (view object.now)) }
+    ensures { Gives result (action_at name.RuleMotion (view object.now)) }
 {
     Ok(Action::RuleMotion(RuleMotion {
         case: required(object, Field::Case)?,
@@ -26,13 +27,14 @@ pub(crate) fn read_rule_motion(object: &Value) -> Result<Action, WireFault>
     }))
 }
 
+#[tactic(auto, unfolding(crate::specs::Writing::action_members, crate::specs::Valid::IsAction))]
 pub(crate) fn put_rule_motion(
     members: &mut Members,
     alloc: Global,
     command: &RuleMotion,
 ) -> Result<(), AllocError>
     ensures value { OnOk result (members_view members.new.entries
-        ≡ put_all (rule_motion_members command.now) (members_view members.old.entries)) }
+        ≡ put_all (action_members (action.RuleMotion command.now)) (members_view members.old.entries)) }
     ensures lawful { OnOk result (IsAction (action.RuleMotion command.now)) }
 {
     put_value(members, alloc, Field::Case, command.case)?;
@@ -41,9 +43,9 @@ pub(crate) fn put_rule_motion(
     put_value(members, alloc, Field::Served, command.served)
 }
 
-#[tactic(auto, unfolding(crate::specs::Reading::dispose_at))]
+#[tactic(auto, unfolding(crate::specs::Reading::action_at))]
 pub(crate) fn read_dispose(object: &Value) -> Result<Action, WireFault>
-    ensures { Gives result (dispose_at (view object.now)) }
+    ensures { Gives result (action_at name.Dispose (view object.now)) }
 {
     Ok(Action::Dispose(Dispose {
         case: required(object, Field::Case)?,
@@ -55,13 +57,14 @@ pub(crate) fn read_dispose(object: &Value) -> Result<Action, WireFault>
     }))
 }
 
+#[tactic(auto, unfolding(crate::specs::Writing::action_members, crate::specs::Valid::IsAction))]
 pub(crate) fn put_dispose(
     members: &mut Members,
     alloc: Global,
     command: &Dispose,
 ) -> Result<(), AllocError>
     ensures value { OnOk result (members_view members.new.entries
-        ≡ put_all (dispose_members command.now) (members_view members.old.entries)) }
+        ≡ put_all (action_members (action.Dispose command.now)) (members_view members.old.entries)) }
     ensures lawful { OnOk result (IsAction (action.Dispose command.now)) }
 {
     put_value(members, alloc, Field::Case, command.case)?;
@@ -72,9 +75,9 @@ pub(crate) fn put_dispose(
     put_optional(members, alloc, Field::Due, command.due)
 }
 
-#[tactic(auto, unfolding(crate::specs::Reading::statement_served_at))]
+#[tactic(auto, unfolding(crate::specs::Reading::action_at))]
 pub(crate) fn read_statement_served(object: &Value) -> Result<Action, WireFault>
-    ensures { Gives result (statement_served_at (view object.now)) }
+    ensures { Gives result (action_at name.StatementServed (view object.now)) }
 {
     Ok(Action::StatementServed(StatementServed {
         case: required(object, Field::Case)?,
@@ -84,13 +87,14 @@ pub(crate) fn read_statement_served(object: &Value) -> Result<Action, WireFault>
     }))
 }
 
+#[tactic(auto, unfolding(crate::specs::Writing::action_members, crate::specs::Valid::IsAction))]
 pub(crate) fn put_statement_served(
     members: &mut Members,
     alloc: Global,
     command: &StatementServed,
 ) -> Result<(), AllocError>
     ensures value { OnOk result (members_view members.new.entries
-        ≡ put_all (statement_served_members command.now) (members_view members.old.entries)) }
+        ≡ put_all (action_members (action.StatementServed command.now)) (members_view members.old.entries)) }
     ensures lawful { OnOk result (IsAction (action.StatementServed command.now)) }
 {
     put_value(members, alloc, Field::Case, command.case)?;

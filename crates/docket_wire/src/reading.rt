@@ -1,5 +1,5 @@
 //! Commands from JSON texts.
-ghost use Rattle.std.specs.Prelude.{◌≡◌, ◌≢◌, IfOk, IfErr};
+ghost use Rattle.std.specs.Prelude.{◌≡◌, ◌≢◌, ◌++◌, IfOk, IfErr};
 ghost use Rattle.docket_command.specs.declared.command.Command.{Command};
 ghost use Rattle.serde_json.specs.View.{view, members_view};
 ghost use Rattle.docket_wire.specs.declared.fault.WireFault.TheVariants.{NoMemory};
@@ -18,7 +18,7 @@ use crate::motion_fields::{read_dispose, read_rule_motion, read_statement_served
 use crate::service_fields::{
     read_file_waiver, read_order_reply, read_serve_pleading, read_serve_summons,
 };
-use crate::table::{known_fields, required_fields};
+use crate::table::members_of;
 use crate::time_fields::{
     read_enter_judgment, read_extend, read_notice_hearing, read_order_period, read_satisfy,
     read_vacate,
@@ -65,12 +65,13 @@ fn command(alloc: Global, object: &Value) -> Result<Command, WireFault>
         return Err(WireFault::NotAnObject);
     }
     let name = command_name(object).ok_or(WireFault::UnknownCommand)?;
-    if let Some(field) = first_missing(object, required_fields(name)) {
+    let known = members_of(name);
+    if let Some(field) = first_missing(object, known.required) {
         return Err(WireFault::MissingField(field));
     }
     let key = required_text(alloc, object, Field::Key)?;
     let action = action(alloc, name, object)?;
-    if !has_only(object, known_fields(name)) {
+    if !has_only(object, known.required, known.others) {
         return Err(WireFault::UnknownField);
     }
     Ok(Command { key, action })
@@ -91,28 +92,35 @@ fn first_missing(object: &Value, fields: &[Field]) -> Option<Field>
         .find(|f| present(object, *f).is_none())
 }
 
-pub(crate) fn has_only(object: &Value, fields: &[Field]) -> bool
-    ensures { result ≡ only_known fields.now (view object.now) }
+pub(crate) fn has_only(object: &Value, fields: &[Field], others: &[Field]) -> bool
+    ensures { result ≡ only_known (fields.now ++ others.now) (view object.now) }
 {
     match object.as_object() {
         None => true,
-        Some(members) => all_known(members, fields),
+        Some(members) => all_known(members, fields, others),
     }
 }
 
-fn all_known(members: &Map<String, Value>, fields: &[Field]) -> bool
-    ensures { result ≡ all_known fields.now (members_view members.now.entries) }
+fn all_known(members: &Map<String, Value>, fields: &[Field], others: &[Field]) -> bool
+    ensures { result ≡ all_known (fields.now ++ others.now) (members_view members.now.entries) }
 {
     for name in members.keys() {
-        if !is_known(name.as_str(), fields) {
+        if !is_known(name.as_str(), fields, others) {
             return false;
         }
     }
     true
 }
 
+#[tactic(auto, using(crate::proofs::ReadingLemmas::known_in_either))]
+fn is_known(name: &str, fields: &[Field], others: &[Field]) -> bool
+    ensures { result ≡ is_known (fields.now ++ others.now) name.now }
+{
+    is_one_of(name, fields) || is_one_of(name, others)
+}
+
 #[tactic(auto, unfolding(crate::specs::Reading::is_known))]
-fn is_known(name: &str, fields: &[Field]) -> bool
+fn is_one_of(name: &str, fields: &[Field]) -> bool
     ensures { result ≡ is_known fields.now name.now }
 {
     fields.iter().any(|f| name == f.name())

@@ -44,7 +44,7 @@ fn new_day(alloc: Global, object: &Value) -> Result<NewDay, WireFault>
     let kind = required_word(object, Field::Kind)?;
     let day = required(object, Field::Day)?;
     let name = required_text(alloc, object, Field::Name)?;
-    if !has_only(object, &[Field::Kind, Field::Day, Field::Name]) {
+    if !has_only(object, &[Field::Kind, Field::Day, Field::Name], &[]) {
         return Err(WireFault::UnknownField);
     }
     Ok(NewDay { kind, day, name })

@@ -2,10 +2,11 @@
 ghost use Rattle.std.specs.Prelude.{◌≡◌, OnOk};
 ghost use Rattle.serde_json.specs.View.{view, members_view};
 ghost use Rattle.docket_command.specs.declared.command.Action.TheVariants as action;
+ghost use Rattle.docket_command.specs.declared.command_name.CommandName.TheVariants as name;
 ghost use Rattle.docket_wire.specs.Members.{Gives};
 ghost use Rattle.docket_wire.specs.Valid.{IsAction};
-ghost use Rattle.docket_wire.specs.Reading.{serve_summons_at, file_waiver_at, serve_pleading_at, order_reply_at};
-ghost use Rattle.docket_wire.specs.Writing.{put_all, serve_summons_members, file_waiver_members, serve_pleading_members, order_reply_members};
+ghost use Rattle.docket_wire.specs.Reading.{action_at};
+ghost use Rattle.docket_wire.specs.Writing.{put_all, action_members};
 
 use crate::fault::WireFault;
 use crate::member::{optional, optional_word, required, required_word};
@@ -14,9 +15,9 @@ use docket_command::{Action, Field, FileWaiver, OrderReply, ServePleading, Serve
 use serde_json::Value;
 use std::alloc::{AllocError, Global};
 
-#[tactic(auto, unfolding(crate::specs::Reading::serve_summons_at))]
+#[tactic(auto, unfolding(crate::specs::Reading::action_at))]
 pub(crate) fn read_serve_summons(object: &Value) -> Result<Action, WireFault>
-    ensures { Gives result (serve_summons_at (view object.now)) }
+    ensures { Gives result (action_at name.ServeSummons (view object.now)) }
 {
     Ok(Action::ServeSummons(ServeSummons {
         case: required(object, Field::Case)?,
@@ -27,13 +28,14 @@ pub(crate) fn read_serve_summons(object: &Value) -> Result<Action, WireFault>
     }))
 }
 
+#[tactic(auto, unfolding(crate::specs::Writing::action_members, crate::specs::Valid::IsAction))]
 pub(crate) fn put_serve_summons(
     members: &mut Members,
     alloc: Global,
     command: &ServeSummons,
 ) -> Result<(), AllocError>
     ensures value { OnOk result (members_view members.new.entries
-        ≡ put_all (serve_summons_members command.now) (members_view members.old.entries)) }
+        ≡ put_all (action_members (action.ServeSummons command.now)) (members_view members.old.entries)) }
     ensures lawful { OnOk result (IsAction (action.ServeSummons command.now)) }
 {
     put_value(members, alloc, Field::Case, command.case)?;
@@ -43,9 +45,9 @@ pub(crate) fn put_serve_summons(
     put_optional(members, alloc, Field::Attorney, command.attorney)
 }
 
-#[tactic(auto, unfolding(crate::specs::Reading::file_waiver_at))]
+#[tactic(auto, unfolding(crate::specs::Reading::action_at))]
 pub(crate) fn read_file_waiver(object: &Value) -> Result<Action, WireFault>
-    ensures { Gives result (file_waiver_at (view object.now)) }
+    ensures { Gives result (action_at name.FileWaiver (view object.now)) }
 {
     Ok(Action::FileWaiver(FileWaiver {
         case: required(object, Field::Case)?,
@@ -57,13 +59,14 @@ pub(crate) fn read_file_waiver(object: &Value) -> Result<Action, WireFault>
     }))
 }
 
+#[tactic(auto, unfolding(crate::specs::Writing::action_members, crate::specs::Valid::IsAction))]
 pub(crate) fn put_file_waiver(
     members: &mut Members,
     alloc: Global,
     command: &FileWaiver,
 ) -> Result<(), AllocError>
     ensures value { OnOk result (members_view members.new.entries
-        ≡ put_all (file_waiver_members command.now) (members_view members.old.entries)) }
+        ≡ put_all (action_members (action.FileWaiver command.now)) (members_view members.old.entries)) }
     ensures lawful { OnOk result (IsAction (action.FileWaiver command.now)) }
 {
     put_value(members, alloc, Field::Case, command.case)?;
@@ -74,9 +77,9 @@ pub(crate) fn put_file_waiver(
     put_value(members, alloc, Field::Abroad, command.abroad)
 }
 
-#[tactic(auto, unfolding(crate::specs::Reading::serve_pleading_at))]
+#[tactic(auto, unfolding(crate::specs::Reading::action_at))]
 pub(crate) fn read_serve_pleading(object: &Value) -> Result<Action, WireFault>
-    ensures { Gives result (serve_pleading_at (view object.now)) }
+    ensures { Gives result (action_at name.ServePleading (view object.now)) }
 {
     Ok(Action::ServePleading(ServePleading {
         case: required(object, Field::Case)?,
@@ -90,13 +93,14 @@ pub(crate) fn read_serve_pleading(object: &Value) -> Result<Action, WireFault>
     }))
 }
 
+#[tactic(auto, unfolding(crate::specs::Writing::action_members, crate::specs::Valid::IsAction))]
 pub(crate) fn put_serve_pleading(
     members: &mut Members,
     alloc: Global,
     command: &ServePleading,
 ) -> Result<(), AllocError>
     ensures value { OnOk result (members_view members.new.entries
-        ≡ put_all (serve_pleading_members command.now) (members_view members.old.entries)) }
+        ≡ put_all (action_members (action.ServePleading command.now)) (members_view members.old.entries)) }
     ensures lawful { OnOk result (IsAction (action.ServePleading command.now)) }
 {
     put_value(members, alloc, Field::Case, command.case)?;
@@ -114,9 +118,9 @@ pub(crate) fn put_serve_pleading(
     )
 }
 
-#[tactic(auto, unfolding(crate::specs::Reading::order_reply_at))]
+#[tactic(auto, unfolding(crate::specs::Reading::action_at))]
 pub(crate) fn read_order_reply(object: &Value) -> Result<Action, WireFault>
-    ensures { Gives result (order_reply_at (view object.now)) }
+    ensures { Gives result (action_at name.OrderReply (view object.now)) }
 {
     Ok(Action::OrderReply(OrderReply {
         case: required(object, Field::Case)?,
@@ -127,13 +131,14 @@ pub(crate) fn read_order_reply(object: &Value) -> Result<Action, WireFault>
     }))
 }
 
+#[tactic(auto, unfolding(crate::specs::Writing::action_members, crate::specs::Valid::IsAction))]
 pub(crate) fn put_order_reply(
     members: &mut Members,
     alloc: Global,
     command: &OrderReply,
 ) -> Result<(), AllocError>
     ensures value { OnOk result (members_view members.new.entries
-        ≡ put_all (order_reply_members command.now) (members_view members.old.entries)) }
+        ≡ put_all (action_members (action.OrderReply command.now)) (members_view members.old.entries)) }
     ensures lawful { OnOk result (IsAction (action.OrderReply command.now)) }
 {
     put_value(members, alloc, Field::Case, command.case)?;

@@ -1,6 +1,6 @@
-//! The fields of each kind of command.
+//! The members of each kind of command.
 ghost use Rattle.std.specs.Prelude.{◌≡◌};
-ghost use Rattle.docket_wire.specs.Tables.{required_fields, known_fields};
+ghost use Rattle.docket_wire.specs.Tables.{required_fields, other_fields};
 
 use docket_command::CommandName;
 use docket_command::Field::{
@@ -10,73 +10,57 @@ use docket_command::Field::{
     Served, Start, Text, Unit, Until, Way,
 };
 
-/// The fields that must be there, in their order.
-pub(crate) fn required_fields(name: CommandName) -> &'static [Field]
-    ensures { result.now ≡ required_fields name }
-{
-    match name {
-        CommandName::DeclareDay => &[Key, Day, Kind, Name],
-        CommandName::CloseDay => &[Key, Day, Name],
-        CommandName::CloseSpan => &[Key, Start, End],
-        CommandName::WithdrawCalendar => &[Key, Row],
-        CommandName::ImportCalendar => &[Key, Rows],
-        CommandName::OpenCase => &[Key, Label, Caption, Filed],
-        CommandName::AddParty => &[Key, Case, Name, Role],
-        CommandName::FileEntry => &[Key, Case, Day, Text],
-        CommandName::ServeSummons => &[Key, Case, Party, Basis, Served],
-        CommandName::FileWaiver => &[Key, Case, Party, Sent, Allowed, Returned, Abroad],
-        CommandName::ServePleading => &[Key, Case, Party, Kind, Basis, Served, Method],
-        CommandName::OrderReply => &[Key, Case, Party, Served, Method],
-        CommandName::RuleMotion => &[Key, Case, Deadline, Kind, Served],
-        CommandName::Dispose => &[Key, Case, Deadline, Outcome, Notice],
-        CommandName::StatementServed => &[Key, Case, Deadline, Served, Method],
-        CommandName::NoticeHearing => &[Key, Case, Party, Opponent, Hearing],
-        CommandName::OrderPeriod => &[Key, Case, Party, Unit],
-        CommandName::EnterJudgment => &[Key, Case, Entered],
-        CommandName::Extend => &[Key, Case, Deadline, At, Neglect],
-        CommandName::Satisfy => &[Key, Case, Deadline, At, Way],
-        CommandName::Vacate => &[Key, Case, Deadline],
-    }
+/// The members of an object.
+#[derive(Clone, Copy)]
+pub(crate) struct KnownMembers {
+    /// Those that must be there, in their order.
+    pub(crate) required: &'static [Field],
+    /// Those that may be there beside.
+    pub(crate) others: &'static [Field],
 }
 
-/// All members that the command may have.
-pub(crate) fn known_fields(name: CommandName) -> &'static [Field]
-    ensures { result.now ≡ known_fields name }
+fn members(required: &'static [Field], others: &'static [Field]) -> KnownMembers
+    ensures required { result.required.now ≡ required.now }
+    ensures others { result.others.now ≡ others.now }
+{
+    KnownMembers { required, others }
+}
+
+/// The members of a command of that kind.
+pub(crate) fn members_of(name: CommandName) -> KnownMembers
+    ensures required { result.required.now ≡ required_fields name }
+    ensures others { result.others.now ≡ other_fields name }
 {
     match name {
-        CommandName::DeclareDay => &[Do, Key, Day, Kind, Name],
-        CommandName::CloseDay => &[Do, Key, Day, Name],
-        CommandName::CloseSpan => &[Do, Key, Start, End],
-        CommandName::WithdrawCalendar => &[Do, Key, Row],
-        CommandName::ImportCalendar => &[Do, Key, Rows],
-        CommandName::OpenCase => &[Do, Key, Label, Caption, Filed],
-        CommandName::AddParty => &[Do, Key, Case, Name, Role],
-        CommandName::FileEntry => &[Do, Key, Case, Day, Text],
-        CommandName::ServeSummons => &[Do, Key, Case, Party, Basis, Served, Attorney],
-        CommandName::FileWaiver => &[Do, Key, Case, Party, Sent, Allowed, Returned, Abroad],
-        CommandName::ServePleading => &[
-            Do,
-            Key,
-            Case,
-            Party,
-            Kind,
-            Basis,
-            Served,
-            Method,
-            Attorney,
-            AttorneyMethod,
-        ],
-        CommandName::OrderReply => &[Do, Key, Case, Party, Served, Method, Due],
-        CommandName::RuleMotion => &[Do, Key, Case, Deadline, Kind, Served],
-        CommandName::Dispose => &[Do, Key, Case, Deadline, Outcome, Notice, Party, Due],
-        CommandName::StatementServed => &[Do, Key, Case, Deadline, Served, Method],
-        CommandName::NoticeHearing => &[Do, Key, Case, Party, Opponent, Hearing],
-        CommandName::OrderPeriod => &[
-            Do, Key, Case, Party, Unit, Start, At, Count, Direction, Method, Until,
-        ],
-        CommandName::EnterJudgment => &[Do, Key, Case, Entered, Discharged],
-        CommandName::Extend => &[Do, Key, Case, Deadline, At, Neglect, Days, Until],
-        CommandName::Satisfy => &[Do, Key, Case, Deadline, At, Way],
-        CommandName::Vacate => &[Do, Key, Case, Deadline],
+        CommandName::DeclareDay => members(&[Key, Day, Kind, Name], &[Do]),
+        CommandName::CloseDay => members(&[Key, Day, Name], &[Do]),
+        CommandName::CloseSpan => members(&[Key, Start, End], &[Do]),
+        CommandName::WithdrawCalendar => members(&[Key, Row], &[Do]),
+        CommandName::ImportCalendar => members(&[Key, Rows], &[Do]),
+        CommandName::OpenCase => members(&[Key, Label, Caption, Filed], &[Do]),
+        CommandName::AddParty => members(&[Key, Case, Name, Role], &[Do]),
+        CommandName::FileEntry => members(&[Key, Case, Day, Text], &[Do]),
+        CommandName::ServeSummons => members(&[Key, Case, Party, Basis, Served], &[Do, Attorney]),
+        CommandName::FileWaiver => members(
+            &[Key, Case, Party, Sent, Allowed, Returned, Abroad],
+            &[Do],
+        ),
+        CommandName::ServePleading => members(
+            &[Key, Case, Party, Kind, Basis, Served, Method],
+            &[Do, Attorney, AttorneyMethod],
+        ),
+        CommandName::OrderReply => members(&[Key, Case, Party, Served, Method], &[Do, Due]),
+        CommandName::RuleMotion => members(&[Key, Case, Deadline, Kind, Served], &[Do]),
+        CommandName::Dispose => members(&[Key, Case, Deadline, Outcome, Notice], &[Do, Party, Due]),
+        CommandName::StatementServed => members(&[Key, Case, Deadline, Served, Method], &[Do]),
+        CommandName::NoticeHearing => members(&[Key, Case, Party, Opponent, Hearing], &[Do]),
+        CommandName::OrderPeriod => members(
+            &[Key, Case, Party, Unit],
+            &[Do, Start, At, Count, Direction, Method, Until],
+        ),
+        CommandName::EnterJudgment => members(&[Key, Case, Entered], &[Do, Discharged]),
+        CommandName::Extend => members(&[Key, Case, Deadline, At, Neglect], &[Do, Days, Until]),
+        CommandName::Satisfy => members(&[Key, Case, Deadline, At, Way], &[Do]),
+        CommandName::Vacate => members(&[Key, Case, Deadline], &[Do]),
     }
 }

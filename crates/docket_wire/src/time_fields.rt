@@ -2,10 +2,11 @@
 ghost use Rattle.std.specs.Prelude.{◌≡◌, OnOk};
 ghost use Rattle.serde_json.specs.View.{view, members_view};
 ghost use Rattle.docket_command.specs.declared.command.Action.TheVariants as action;
+ghost use Rattle.docket_command.specs.declared.command_name.CommandName.TheVariants as name;
 ghost use Rattle.docket_wire.specs.Members.{Gives};
 ghost use Rattle.docket_wire.specs.Valid.{IsAction};
-ghost use Rattle.docket_wire.specs.Reading.{notice_hearing_at, order_period_at, enter_judgment_at, extend_at, satisfy_at, vacate_at};
-ghost use Rattle.docket_wire.specs.Writing.{put_all, notice_hearing_members, order_period_members, enter_judgment_members, extend_members, satisfy_members, vacate_members};
+ghost use Rattle.docket_wire.specs.Reading.{action_at};
+ghost use Rattle.docket_wire.specs.Writing.{put_all, action_members};
 
 use crate::fault::WireFault;
 use crate::member::{optional, optional_word, required, required_word};
@@ -16,9 +17,9 @@ use docket_command::{
 use serde_json::Value;
 use std::alloc::{AllocError, Global};
 
-#[tactic(auto, unfolding(crate::specs::Reading::notice_hearing_at))]
+#[tactic(auto, unfolding(crate::specs::Reading::action_at))]
 pub(crate) fn read_notice_hearing(object: &Value) -> Result<Action, WireFault>
-    ensures { Gives result (notice_hearing_at (view object.now)) }
+    ensures { Gives result (action_at name.NoticeHearing (view object.now)) }
 {
     Ok(Action::NoticeHearing(NoticeHearing {
         case: required(object, Field::Case)?,
@@ -28,13 +29,14 @@ pub(crate) fn read_notice_hearing(object: &Value) -> Result<Action, WireFault>
     }))
 }
 
+#[tactic(auto, unfolding(crate::specs::Writing::action_members, crate::specs::Valid::IsAction))]
 pub(crate) fn put_notice_hearing(
     members: &mut Members,
     alloc: Global,
     command: &NoticeHearing,
 ) -> Result<(), AllocError>
     ensures value { OnOk result (members_view members.new.entries
-        ≡ put_all (notice_hearing_members command.now) (members_view members.old.entries)) }
+        ≡ put_all (action_members (action.NoticeHearing command.now)) (members_view members.old.entries)) }
     ensures lawful { OnOk result (IsAction (action.NoticeHearing command.now)) }
 {
     put_value(members, alloc, Field::Case, command.case)?;
@@ -43,9 +45,9 @@ pub(crate) fn put_notice_hearing(
     put_value(members, alloc, Field::Hearing, command.hearing)
 }
 
-#[tactic(auto, unfolding(crate::specs::Reading::order_period_at))]
+#[tactic(auto, unfolding(crate::specs::Reading::action_at))]
 pub(crate) fn read_order_period(object: &Value) -> Result<Action, WireFault>
-    ensures { Gives result (order_period_at (view object.now)) }
+    ensures { Gives result (action_at name.OrderPeriod (view object.now)) }
 {
     Ok(Action::OrderPeriod(OrderPeriod {
         case: required(object, Field::Case)?,
@@ -60,13 +62,14 @@ pub(crate) fn read_order_period(object: &Value) -> Result<Action, WireFault>
     }))
 }
 
+#[tactic(auto, unfolding(crate::specs::Writing::action_members, crate::specs::Valid::IsAction))]
 pub(crate) fn put_order_period(
     members: &mut Members,
     alloc: Global,
     command: &OrderPeriod,
 ) -> Result<(), AllocError>
     ensures value { OnOk result (members_view members.new.entries
-        ≡ put_all (order_period_members command.now) (members_view members.old.entries)) }
+        ≡ put_all (action_members (action.OrderPeriod command.now)) (members_view members.old.entries)) }
     ensures lawful { OnOk result (IsAction (action.OrderPeriod command.now)) }
 {
     put_value(members, alloc, Field::Case, command.case)?;
@@ -80,9 +83,9 @@ pub(crate) fn put_order_period(
     put_optional(members, alloc, Field::Until, command.until)
 }
 
-#[tactic(auto, unfolding(crate::specs::Reading::enter_judgment_at))]
+#[tactic(auto, unfolding(crate::specs::Reading::action_at))]
 pub(crate) fn read_enter_judgment(object: &Value) -> Result<Action, WireFault>
-    ensures { Gives result (enter_judgment_at (view object.now)) }
+    ensures { Gives result (action_at name.EnterJudgment (view object.now)) }
 {
     Ok(Action::EnterJudgment(EnterJudgment {
         case: required(object, Field::Case)?,
@@ -91,13 +94,14 @@ pub(crate) fn read_enter_judgment(object: &Value) -> Result<Action, WireFault>
     }))
 }
 
+#[tactic(auto, unfolding(crate::specs::Writing::action_members, crate::specs::Valid::IsAction))]
 pub(crate) fn put_enter_judgment(
     members: &mut Members,
     alloc: Global,
     command: &EnterJudgment,
 ) -> Result<(), AllocError>
     ensures value { OnOk result (members_view members.new.entries
-        ≡ put_all (enter_judgment_members command.now) (members_view members.old.entries)) }
+        ≡ put_all (action_members (action.EnterJudgment command.now)) (members_view members.old.entries)) }
     ensures lawful { OnOk result (IsAction (action.EnterJudgment command.now)) }
 {
     put_value(members, alloc, Field::Case, command.case)?;
@@ -105,9 +109,9 @@ pub(crate) fn put_enter_judgment(
     put_optional(members, alloc, Field::Discharged, command.discharged)
 }
 
-#[tactic(auto, unfolding(crate::specs::Reading::extend_at))]
+#[tactic(auto, unfolding(crate::specs::Reading::action_at))]
 pub(crate) fn read_extend(object: &Value) -> Result<Action, WireFault>
-    ensures { Gives result (extend_at (view object.now)) }
+    ensures { Gives result (action_at name.Extend (view object.now)) }
 {
     Ok(Action::Extend(Extend {
         case: required(object, Field::Case)?,
@@ -119,13 +123,14 @@ pub(crate) fn read_extend(object: &Value) -> Result<Action, WireFault>
     }))
 }
 
+#[tactic(auto, unfolding(crate::specs::Writing::action_members, crate::specs::Valid::IsAction))]
 pub(crate) fn put_extend(
     members: &mut Members,
     alloc: Global,
     command: &Extend,
 ) -> Result<(), AllocError>
     ensures value { OnOk result (members_view members.new.entries
-        ≡ put_all (extend_members command.now) (members_view members.old.entries)) }
+        ≡ put_all (action_members (action.Extend command.now)) (members_view members.old.entries)) }
     ensures lawful { OnOk result (IsAction (action.Extend command.now)) }
 {
     put_value(members, alloc, Field::Case, command.case)?;
@@ -136,9 +141,9 @@ pub(crate) fn put_extend(
     put_optional(members, alloc, Field::Until, command.until)
 }
 
-#[tactic(auto, unfolding(crate::specs::Reading::satisfy_at))]
+#[tactic(auto, unfolding(crate::specs::Reading::action_at))]
 pub(crate) fn read_satisfy(object: &Value) -> Result<Action, WireFault>
-    ensures { Gives result (satisfy_at (view object.now)) }
+    ensures { Gives result (action_at name.Satisfy (view object.now)) }
 {
     Ok(Action::Satisfy(Satisfy {
         case: required(object, Field::Case)?,
@@ -148,13 +153,14 @@ pub(crate) fn read_satisfy(object: &Value) -> Result<Action, WireFault>
     }))
 }
 
+#[tactic(auto, unfolding(crate::specs::Writing::action_members, crate::specs::Valid::IsAction))]
 pub(crate) fn put_satisfy(
     members: &mut Members,
     alloc: Global,
     command: &Satisfy,
 ) -> Result<(), AllocError>
     ensures value { OnOk result (members_view members.new.entries
-        ≡ put_all (satisfy_members command.now) (members_view members.old.entries)) }
+        ≡ put_all (action_members (action.Satisfy command.now)) (members_view members.old.entries)) }
     ensures lawful { OnOk result (IsAction (action.Satisfy command.now)) }
 {
     put_value(members, alloc, Field::Case, command.case)?;
@@ -163,9 +169,9 @@ pub(crate) fn put_satisfy(
     put_word(members, alloc, Field::Way, command.way)
 }
 
-#[tactic(auto, unfolding(crate::specs::Reading::vacate_at))]
+#[tactic(auto, unfolding(crate::specs::Reading::action_at))]
 pub(crate) fn read_vacate(object: &Value) -> Result<Action, WireFault>
-    ensures { Gives result (vacate_at (view object.now)) }
+    ensures { Gives result (action_at name.Vacate (view object.now)) }
 {
     Ok(Action::Vacate(Vacate {
         case: required(object, Field::Case)?,
@@ -173,13 +179,14 @@ pub(crate) fn read_vacate(object: &Value) -> Result<Action, WireFault>
     }))
 }
 
+#[tactic(auto, unfolding(crate::specs::Writing::action_members, crate::specs::Valid::IsAction))]
 pub(crate) fn put_vacate(
     members: &mut Members,
     alloc: Global,
     command: &Vacate,
 ) -> Result<(), AllocError>
     ensures value { OnOk result (members_view members.new.entries
-        ≡ put_all (vacate_members command.now) (members_view members.old.entries)) }
+        ≡ put_all (action_members (action.Vacate command.now)) (members_view members.old.entries)) }
     ensures lawful { OnOk result (IsAction (action.Vacate command.now)) }
 {
     put_value(members, alloc, Field::Case, command.case)?;
