@@ -29,79 +29,48 @@ use Rattle.docket_command.specs.Words.{sovereign_word, sovereign_named, day_kind
 
 pub sovereign_back : (x : Sovereign) → sovereign_named (sovereign_word x) ≡ Some x
 sovereign_back sovereign.Federal = refl
-sovereign_back sovereign.State = refl
+sovereign_back _ = refl
 
 pub day_kind_back : (x : DayKind) → day_kind_named (day_kind_word x) ≡ Some x
 day_kind_back day_kind.Federal = refl
-day_kind_back day_kind.State = refl
-day_kind_back day_kind.Closed = refl
+day_kind_back _ = refl
 
 pub role_back : (x : Role) → role_named (role_word x) ≡ Some x
 role_back role.Plaintiff = refl
-role_back role.Defendant = refl
-role_back role.Other = refl
+role_back _ = refl
 
 pub basis_back : (x : Basis) → basis_named (basis_word x) ≡ Some x
 basis_back basis.Private = refl
-basis_back basis.UnitedStates = refl
-basis_back basis.Officer = refl
+basis_back _ = refl
 
 pub pleading_kind_back : (x : PleadingKind) → pleading_kind_named (pleading_kind_word x) ≡ Some x
 pleading_kind_back pleading_kind.Counterclaim = refl
-pleading_kind_back pleading_kind.Crossclaim = refl
-pleading_kind_back pleading_kind.Unanswered = refl
+pleading_kind_back _ = refl
 
 pub ruling_back : (x : Ruling) → ruling_named (ruling_word x) ≡ Some x
 ruling_back ruling.Denied = refl
-ruling_back ruling.Postponed = refl
-ruling_back ruling.Statement = refl
+ruling_back _ = refl
 
 pub period_unit_back : (x : PeriodUnit) → period_unit_named (period_unit_word x) ≡ Some x
 period_unit_back period_unit.Days = refl
-period_unit_back period_unit.Months = refl
-period_unit_back period_unit.Hours = refl
-period_unit_back period_unit.Fixed = refl
+period_unit_back _ = refl
 
 pub direction_back : (x : Direction) → direction_named (direction_word x) ≡ Some x
 direction_back direction.Forward = refl
-direction_back direction.Backward = refl
+direction_back _ = refl
 
 pub way_back : (x : Way) → way_named (way_word x) ≡ Some x
 way_back way.Electronic = refl
-way_back way.Office = refl
+way_back _ = refl
 
 pub motion_kind_back : (x : MotionKind) → motion_kind_named (motion_kind_word x) ≡ Some x
 motion_kind_back motion_kind.B = refl
-motion_kind_back motion_kind.E = refl
-motion_kind_back motion_kind.F = refl
+motion_kind_back _ = refl
 
 pub service_method_back : (x : ServiceMethod) → service_method_named (service_method_word x) ≡ Some x
 service_method_back service_method.A = refl
-service_method_back service_method.B = refl
-service_method_back service_method.C = refl
-service_method_back service_method.D = refl
-service_method_back service_method.E = refl
-service_method_back service_method.F = refl
+service_method_back _ = refl
 
 pub command_name_back : (x : CommandName) → command_named (command_word x) ≡ Some x
 command_name_back command_name.DeclareDay = refl
-command_name_back command_name.CloseDay = refl
-command_name_back command_name.CloseSpan = refl
-command_name_back command_name.WithdrawCalendar = refl
-command_name_back command_name.ImportCalendar = refl
-command_name_back command_name.OpenCase = refl
-command_name_back command_name.AddParty = refl
-command_name_back command_name.FileEntry = refl
-command_name_back command_name.ServeSummons = refl
-command_name_back command_name.FileWaiver = refl
-command_name_back command_name.ServePleading = refl
-command_name_back command_name.OrderReply = refl
-command_name_back command_name.RuleMotion = refl
-command_name_back command_name.Dispose = refl
-command_name_back command_name.StatementServed = refl
-command_name_back command_name.NoticeHearing = refl
-command_name_back command_name.OrderPeriod = refl
-command_name_back command_name.EnterJudgment = refl
-command_name_back command_name.Extend = refl
-command_name_back command_name.Satisfy = refl
-command_name_back command_name.Vacate = refl
+command_name_back _ = refl

@@ -8,7 +8,7 @@ use crate::motion_action::{Dispose, RuleMotion, StatementServed};
 use crate::service_action::{FileWaiver, OrderReply, ServePleading, ServeSummons};
 use crate::text::Text;
 use crate::time_action::{EnterJudgment, Extend, NoticeHearing, OrderPeriod, Satisfy, Vacate};
-use std::alloc::{AllocError, Global};
+use std::alloc::AllocError;
 
 /// What the clerk asks for, under a key of the clerk's own by which it is known again.
 #[derive(Clone, Drop)]
@@ -78,7 +78,7 @@ impl Action {
 
 impl Command {
     /// The same command again.
-    pub fn copied(&self, _alloc: Global) -> Result<Command, AllocError>
+    pub fn copied(&self) -> Result<Command, AllocError>
         ensures { IfOk result (λ copy. copy ≡ self.now) }
     {
         self.clone()

@@ -73,7 +73,7 @@ fn copies(rt: HostRuntime) -> Result<(), Fail> {
     let key = Text::from_str(alloc, "c1")?;
     let action = Action::ImportCalendar(ImportCalendar { rows });
     let command = Command { key, action };
-    let copy = command.copied(alloc)?;
+    let copy = command.copied()?;
     assert!(rt; command.same(&copy) && copy.action.name() == CommandName::ImportCalendar);
     let other = Command {
         key: Text::from_str(alloc, "c1")?,

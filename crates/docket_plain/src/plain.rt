@@ -38,7 +38,7 @@ fn apply_to(
     match decide(alloc, &view, court, command)? {
         Decision::Repeat(reply) => Ok(reply),
         Decision::Change(changes) => {
-            let copy = command.copied(alloc)?;
+            let copy = command.copied()?;
             let rows = changes.rows;
             let reply = changes.reply;
             reserve(tables, rows.len())?;
