@@ -3,6 +3,7 @@ use Rattle.std.specs.Prelude.{ℕ, zero, suc, ◌+◌, ◌&&◌, if◌then◌els
 use Rattle.civil_time.specs.Zone.{ZoneRules}
 use Rattle.court_days.specs.Calendar.{Entered}
 use Rattle.court_days.specs.Court.{CourtSettings, zone_of}
+use Rattle.court_rules.specs.Rules.{name_of}
 use Rattle.court_rules.specs.Standings.{standing}
 use Rattle.docket_core.specs.CalendarItems.{calendar_of}
 use Rattle.docket_core.specs.Histories.{History, standing_rows, items_of, case_rows, party_rows, parties_of_case, entry_rows, entries_of_case, deadlines}
@@ -38,7 +39,7 @@ case_record h k = record_of (party_rows h) (entry_rows h) (case_at (case_rows h)
 abbrev pub lines_from : ZoneRules → Entered → ℕ → List DeadlineView → List DeadlineLine
 lines_from zone entered number [] = []
 lines_from zone entered number (d ∷ ds) =
-    record { number = number; party = d.party; rule = d.rule; standing = standing zone entered d.acts }
+    record { number = number; party = d.party; rule = name_of d.rule; standing = standing zone entered d.acts }
     ∷ lines_from zone entered (number + 1) ds
 
 -- the calendar of a history

@@ -8,6 +8,7 @@ mod deadline;
 mod decision;
 mod item;
 mod laws;
+mod lines;
 mod named;
 mod record;
 mod refusals;
@@ -29,7 +30,8 @@ pub use laws::{
     acts_are_in_order, limits_are_kept, rows_are_numbered_in_order, rows_stand_until_withdrawn,
     worked_dockets,
 };
+pub use lines::deadline_lines;
 pub use named::{asks_calendar, case_named};
-pub use record::{CaseRecord, DeadlineLine, DueRow, EntryRows, PartyRows, deadline_lines};
+pub use record::{CaseRecord, DeadlineLine, DueRow, EntryRows, PartyRows};
 pub use row::{ActRow, CalendarRow, CaseRow, Change, DeadlineRow, EntryRow, PartyRow, Receipt};
 pub use view::{Acts, CalendarItems, CaseView, DeadlineView, Deadlines, Kept, View};

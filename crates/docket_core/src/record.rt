@@ -1,16 +1,10 @@
 //! What a docket tells of its cases and deadlines.
-ghost use Rattle.std.specs.Prelude.{◌≡◌, ◌≤◌, length, IfOk};
-ghost use Rattle.std.specs.List.{All};
-ghost use Rattle.court_days.specs.Court.{zone_of};
-ghost use Rattle.court_rules.specs.Standings.{AreActs};
-ghost use Rattle.docket_core.specs.Records.{lines_from};
+ghost use Rattle.std.specs.Prelude.{◌≡◌};
 
 use crate::row::{EntryRow, PartyRow};
-use crate::view::DeadlineView;
-use court_days::{Calendar, Court, Day, End};
-use court_rules::{Rule, Standing, due};
+use court_days::{Day, End};
+use court_rules::Standing;
 use docket_command::Text;
-use std::alloc::{AllocError, Global};
 use std::marker::Model;
 
 /// Parties, in the order of their numbers, seen as the list of them.
@@ -82,46 +76,21 @@ pub struct CaseRecord {
     pub entries: EntryRows,
 }
 
-/// A deadline of a case, and where it stands. The party is 0 for every party.
-#[derive(Clone, Copy)]
+/// A deadline of a case, and where it stands. The party is 0 for every party, the rule is its name.
+#[derive(Drop)]
 pub struct DeadlineLine {
     pub number: u32,
     pub party: u32,
-    pub rule: Rule,
+    pub rule: Text,
     pub standing: Standing,
 }
 
-/// The end of a deadline whose time runs. The party is 0 for every party.
-#[derive(Clone, Copy)]
+/// The end of a deadline whose time runs. The party is 0 for every party, the rule is its name.
+#[derive(Drop)]
 pub struct DueRow {
     pub end: End,
     pub case: u32,
     pub number: u32,
     pub party: u32,
-    pub rule: Rule,
-}
-
-/// The deadlines, numbered from 1, with where each stands by the calendar.
-pub fn deadline_lines(
-    alloc: Global,
-    court: &Court,
-    calendar: &Calendar,
-    deadlines: &[DeadlineView],
-) -> Result<Vec<DeadlineLine>, AllocError>
-    requires few { length deadlines.now ≤ 1000 }
-    requires acts { All (λ d. AreActs (zone_of court.now) d.acts) deadlines.now }
-    ensures { IfOk result (λ lines. lines.items ≡ lines_from (zone_of court.now) calendar.now 1 deadlines.now) }
-{
-    let mut lines = Vec::new(alloc);
-    let mut number = 1;
-    for deadline in deadlines {
-        lines.push(DeadlineLine {
-            number,
-            party: deadline.party,
-            rule: deadline.rule,
-            standing: due(court, calendar, deadline.acts.as_slice()),
-        })?;
-        number += 1;
-    }
-    Ok(lines)
+    pub rule: Text,
 }

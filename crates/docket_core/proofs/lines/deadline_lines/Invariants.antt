@@ -1,7 +1,7 @@
 use Rattle.std.proofs.Common.{◌≡◌, ◌+◌, ◌++◌, drop}
 use Rattle.court_days.specs.Court.{zone_of}
 use Rattle.docket_core.specs.Records.{lines_from}
-use Rattle.docket_core.proofs.record.deadline_lines.Given as goal
+use Rattle.docket_core.proofs.lines.deadline_lines.Given as goal
 
 abbrev pub invariant-loop-deadline : goal.invariant-loop-deadline
 invariant-loop-deadline l = record {
