@@ -1,12 +1,13 @@
 -- What a run leaves for the next one.
-use Rattle.std.specs.Prelude.{◌≡◌, ◌⊎◌, IsTrue, Result, Ok, Err}
+use Rattle.std.specs.Prelude.{◌≡◌, ◌⊎◌, ⊤, IsTrue, Result, Ok, Err}
 use Rattle.sqlite_disk.specs.declared.Disk.{Ghosts as Disk}
+use Rattle.sqlite_disk.specs.declared.Files.{Files}
 use Rattle.sqlite_wal.specs.Recovery.{Image}
 use Rattle.sqlite_store.specs.declared.store.FileStore.{FileStore}
 use Rattle.sqlite_store.specs.FileStore.{state, view, recovers}
 use Rattle.sqlite.specs.Store.{Ghosts}
 use Rattle.sqlite.specs.Tree.{Trees}
-use Rattle.sqlite.specs.Files.{HoldsDatabase}
+use Rattle.sqlite.specs.Files.{FailsToOpenFiles, HoldsDatabase, IsCleanLeft, LeavesFiles, over_files}
 use Rattle.sqlite.specs.Held as held
 use Rattle.sqlite.specs.Held.{Held}
 use Rattle.sqlite.specs.State.{HasCleanDisk}
@@ -18,7 +19,10 @@ use Rattle.docket_core.specs.Outcomes.{after}
 use Rattle.docket_tables.specs.Stands.{IsImage}
 use Rattle.docket_store.specs.Applying.{StandsFor, Stands, docket_rows, Applies, Faults}
 use Rattle.docket_store.specs.Dockets.{Docket}
+use Rattle.docket_store.specs.Opening.{IsNotAdopted}
 use Rattle.docket_store.specs.declared.fault.Fault.{Fault}
+use Rattle.docket_store.specs.declared.recovering.RecoverFault.{RecoverFault}
+use Rattle.docket_store.specs.declared.recovering.RecoverFault.TheVariants.{NotOpened, NotAdopted}
 
 -- the database file and its log hold the docket
 abbrev pub HoldDocket : Image → CourtSettings → History → Type 0
@@ -46,6 +50,19 @@ StandsForEither g conn court h next = ∥ StandsFor g conn court h ⊎ StandsFor
 abbrev pub IsEither : {S : Type 0} → Ghosts S → Docket S → CourtSettings → History → History → Type 0
 IsEither g d court h next =
     HasCleanDisk (held.state g d.conn) → ∥ (Stands g d h ⊎ Stands g d next) × (d.court ≡ court) ∥₁
+
+-- where the files were not opened, the error is named by what they met, and they hold what they held
+abbrev pub IsNotOpened : {D : Type 0} {g : Disk D} → Files D → RecoverFault D g → Type 0
+IsNotOpened files (NotOpened error left) = IsCleanLeft left → FailsToOpenFiles files left error × LeavesFiles files left
+IsNotOpened files (NotAdopted returned) = ⊤
+
+-- where they were opened and the docket was not adopted, it stays, the one of the one history or of the other, and the fault is want
+-- of memory or a failure of the database
+abbrev pub IsNotRecovered : {D : Type 0} {g : Disk D} → CourtSettings → History → History → RecoverFault D g → Type 0
+IsNotRecovered court h next (NotOpened error left) = ⊤
+IsNotRecovered court h next (NotAdopted returned) =
+    ∥ IsNotAdopted over_files returned.connection (docket_rows court h) returned.fault
+    ⊎ IsNotAdopted over_files returned.connection (docket_rows court next) returned.fault ∥₁
 
 -- a command that is given again where it may stand already: it is answered, and stands once
 abbrev pub AppliesOnce : {S : Type 0} → Ghosts S → Docket S → CourtSettings → History → Command → Result Reply Fault → Type 0

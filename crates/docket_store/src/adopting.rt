@@ -132,6 +132,7 @@ pub(crate) fn find_court<S: Alter>(
     ensures found { (court : CourtSettings) (h : History) → IsDocket court h → StandsFor S.Store conn.old court h
         → Finds S.Store conn.new court h result }
     ensures empty { (result ≡ Err Empty) ↔ (has_court conn.old.schema ≡ false) }
+    ensures unread { has_court conn.old.schema ≡ false → conn.new ≡ conn.old }
 {
     if !has_court(conn.schema()) {
         return Err(AdoptFault::Empty);

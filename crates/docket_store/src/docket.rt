@@ -92,7 +92,10 @@ impl<S: Alter> Docket<S> {
         ensures adopted { (court : CourtSettings) (h : History) → IsDocket court h → StandsFor S.Store conn court h
             → MatchResult result (λ docket. IsAdopted S.Store docket court h)
             (λ returned. IsNotAdopted S.Store returned.connection (docket_rows court h) returned.fault) }
-        ensures empty { IfErr result (λ returned. (returned.fault ≡ Empty) ↔ (has_court conn.schema ≡ false)) }
+        // Without a court there is no docket, and the connection comes back as it was.
+        ensures empty { has_court conn.schema ≡ false
+            → IsErrAnd result (λ returned. (returned.fault ≡ Empty) × (returned.connection ≡ conn)) }
+        ensures court { IfErr result (λ returned. returned.fault ≡ Empty → has_court conn.schema ≡ false) }
         ensures clean { MatchResult result
             (λ docket. doubt (state S.Store conn).is_clean ≤ doubt (state S.Store docket.conn).is_clean)
             (λ returned. doubt (state S.Store conn).is_clean ≤ doubt (state S.Store returned.connection).is_clean) }

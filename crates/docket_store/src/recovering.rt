@@ -1,5 +1,5 @@
 //! Going on where a run stopped, also one that a power failure stopped.
-ghost use Rattle.std.specs.Prelude.{IsTrue, IfOk};
+ghost use Rattle.std.specs.Prelude.{IsTrue, IfErr, MatchResult};
 ghost use Rattle.sqlite_store.specs.declared.store.FileStore.{FileStore};
 ghost use Rattle.sqlite.specs.Files.{over_files, image_of};
 ghost use Rattle.sqlite.specs.Held.{state};
@@ -8,7 +8,7 @@ ghost use Rattle.court_days.specs.Court.{CourtSettings};
 ghost use Rattle.docket_core.specs.Histories.{History};
 ghost use Rattle.docket_core.specs.Outcomes.{after};
 ghost use Rattle.docket_store.specs.Applying.{IsDocket};
-ghost use Rattle.docket_store.specs.Reopening.{AppliesOnce, IsEither, LeavesEither, MayLeave};
+ghost use Rattle.docket_store.specs.Reopening.{AppliesOnce, IsEither, IsNotOpened, IsNotRecovered, LeavesEither, MayLeave};
 
 use crate::adopting::AdoptFault;
 use crate::docket::Docket;
@@ -29,19 +29,30 @@ pub enum RecoverFault<D: Disk> {
 }
 
 impl<D: Disk> From<(Error, Leftover<D>)> for RecoverFault<D> {
+    ghost use Rattle.std.specs.Prelude.{◌≡◌};
+    ghost use Rattle.docket_store.specs.declared.recovering.RecoverFault.TheVariants.{NotOpened};
+
+    ghost from_gives = { λ e fault. fault ≡ NotOpened e.0 e.1 };
+
     fn from(fault: (Error, Leftover<D>)) -> RecoverFault<D> {
         RecoverFault::NotOpened(fault.0, fault.1)
     }
 }
 
 impl<D: Disk> From<Returned<FileStore<D>, AdoptFault>> for RecoverFault<D> {
+    ghost use Rattle.std.specs.Prelude.{◌≡◌};
+    ghost use Rattle.docket_store.specs.declared.recovering.RecoverFault.TheVariants.{NotAdopted};
+
+    ghost from_gives = { λ returned fault. fault ≡ NotAdopted returned };
+
     fn from(fault: Returned<FileStore<D>, AdoptFault>) -> RecoverFault<D> {
         RecoverFault::NotAdopted(fault)
     }
 }
 
 /// Opens the database file and its log, whatever a run left in them, and adopts their docket. Where a
-/// power failure stopped the run at a command, it is the docket without the command or with it.
+/// power failure stopped the run at a command, it is the docket without the command or with it. Files
+/// that are not opened hold what they held, and a docket that is not adopted stays.
 pub fn recover<D: Disk + Drop>(
     alloc: Global,
     files: Files<D>,
@@ -51,7 +62,8 @@ pub fn recover<D: Disk + Drop>(
     requires db { IsTrue (D.Disk.is_usable files.db) }
     ensures either { (it : FileStore D D.Disk) (court : CourtSettings) (h next : History) → IsDocket court h → IsDocket court next
         → LeavesEither it court h next → MayLeave it (image_of D.Disk files)
-        → IfOk result (λ docket. IsEither over_files docket court h next) }
+        → MatchResult result (λ docket. IsEither over_files docket court h next) (IsNotRecovered court h next) }
+    ensures opened { IfErr result (IsNotOpened files) }
 {
     let conn = reopen(alloc, files, options)?;
     let docket = Docket::adopt(alloc, conn)?;
@@ -70,7 +82,9 @@ pub fn apply_again<D: Disk + Drop>(
     requires db { IsTrue (D.Disk.is_usable files.db) }
     ensures once { (it : FileStore D D.Disk) (court : CourtSettings) (h : History) → IsDocket court h → IsDocket court (after court h command.now)
         → LeavesEither it court h (after court h command.now) → MayLeave it (image_of D.Disk files)
-        → IfOk result (λ r. HasCleanDisk (state over_files r.0.conn) → AppliesOnce over_files r.0 court h command.now r.1) }
+        → MatchResult result (λ r. HasCleanDisk (state over_files r.0.conn) → AppliesOnce over_files r.0 court h command.now r.1)
+        (IsNotRecovered court h (after court h command.now)) }
+    ensures opened { IfErr result (IsNotOpened files) }
 {
     let mut docket = recover(alloc, files, options)?;
     let answer = docket.apply(command);
