@@ -6,24 +6,12 @@ ghost use Rattle.docket_wire.specs.declared.fault.WireFault.TheVariants.{NoMemor
 ghost use Rattle.docket_wire.specs.FirstFaults.{HasFault};
 ghost use Rattle.docket_wire.specs.Members.{Gives};
 ghost use Rattle.docket_wire.specs.Spells.{Spells};
-ghost use Rattle.docket_wire.specs.Reading.{first_missing, only_known, all_known, is_known, action_at, name_of_object, command_of, command_in};
+ghost use Rattle.docket_wire.specs.Reading.{first_missing, only_known, all_known, is_known, name_of_object, command_of, command_in};
 
-use crate::calendar_fields::{
-    read_close_day, read_close_span, read_declare_day, read_import_calendar, read_withdraw_calendar,
-};
-use crate::case_fields::{read_add_party, read_file_entry, read_open_case};
 use crate::fault::WireFault;
 use crate::member::{present, required_text};
-use crate::motion_fields::{read_dispose, read_rule_motion, read_statement_served};
-use crate::service_fields::{
-    read_file_waiver, read_order_reply, read_serve_pleading, read_serve_summons,
-};
-use crate::table::members_of;
-use crate::time_fields::{
-    read_enter_judgment, read_extend, read_notice_hearing, read_order_period, read_satisfy,
-    read_vacate,
-};
-use docket_command::{Action, Command, CommandName, Field, Word};
+use crate::table::{members_of, read_action};
+use docket_command::{Command, CommandName, Field, Word};
 use serde_json::{Map, Value};
 use std::alloc::Global;
 
@@ -70,7 +58,7 @@ fn command(alloc: Global, object: &Value) -> Result<Command, WireFault>
         return Err(WireFault::MissingField(field));
     }
     let key = required_text(alloc, object, Field::Key)?;
-    let action = action(alloc, name, object)?;
+    let action = read_action(alloc, name, object)?;
     if !has_only(object, known.required, known.others) {
         return Err(WireFault::UnknownField);
     }
@@ -124,32 +112,4 @@ fn is_one_of(name: &str, fields: &[Field]) -> bool
     ensures { result ≡ is_known fields.now name.now }
 {
     fields.iter().any(|f| name == f.name())
-}
-
-fn action(alloc: Global, name: CommandName, object: &Value) -> Result<Action, WireFault>
-    ensures { Gives result (action_at name (view object.now)) }
-{
-    match name {
-        CommandName::DeclareDay => read_declare_day(alloc, object),
-        CommandName::CloseDay => read_close_day(alloc, object),
-        CommandName::CloseSpan => read_close_span(object),
-        CommandName::WithdrawCalendar => read_withdraw_calendar(object),
-        CommandName::ImportCalendar => read_import_calendar(alloc, object),
-        CommandName::OpenCase => read_open_case(alloc, object),
-        CommandName::AddParty => read_add_party(alloc, object),
-        CommandName::FileEntry => read_file_entry(alloc, object),
-        CommandName::ServeSummons => read_serve_summons(object),
-        CommandName::FileWaiver => read_file_waiver(object),
-        CommandName::ServePleading => read_serve_pleading(object),
-        CommandName::OrderReply => read_order_reply(object),
-        CommandName::RuleMotion => read_rule_motion(object),
-        CommandName::Dispose => read_dispose(object),
-        CommandName::StatementServed => read_statement_served(object),
-        CommandName::NoticeHearing => read_notice_hearing(object),
-        CommandName::OrderPeriod => read_order_period(object),
-        CommandName::EnterJudgment => read_enter_judgment(object),
-        CommandName::Extend => read_extend(object),
-        CommandName::Satisfy => read_satisfy(object),
-        CommandName::Vacate => read_vacate(object),
-    }
 }
