@@ -1,5 +1,5 @@
 -- What an open finds of a docket.
-use Rattle.std.proofs.Common.{◌≡◌, ◌⊎◌, inl, inr, Ok, Err, Result, IfOk, IsTrue, refl, sym, subst}
+use Rattle.std.proofs.Common.{◌≡◌, ◌⊎◌, inl, inr, Ok, Err, Result, IfOk, IfErr, IsErrAnd, MatchResult, IsTrue, refl, sym, subst}
 use Rattle.std.proofs.Math.Logic.{∥∥₁_elim, ∥∥₁_map}
 use Rattle.sqlite_pool.proofs.ResealLemmas.{adopts_of}
 use Rattle.sqlite_pool.proofs.StateLemmas.{size_is_allowed}
@@ -27,6 +27,15 @@ use Rattle.docket_store.specs.Reopening.{HoldDocket, HoldEither, LeavesEither, M
 pub if_ok : {T E : Type 0} (A B C P : T → Type 0) (r : Result T E) → ((x : T) → A x → B x → C x → P x) → IfOk r A → IfOk r B → IfOk r C → IfOk r P
 if_ok A B C P (Ok x) then a b c = then x a b c
 if_ok A B C P (Err e) then a b c = a
+
+-- what holds of an error holds of the result that is told by it
+pub err_told : {T E : Type 0} (P : E → Type 0) (r : Result T E) (e : E) → IsErrAnd r (λ f. f ≡ e) → P e → IfErr r P
+err_told P (Ok x) e told p = absurd told
+err_told P (Err f) e told p = subst P (sym told) p
+
+pub match_told : {T E : Type 0} (A : T → Type 0) (P : E → Type 0) (r : Result T E) (e : E) → IsErrAnd r (λ f. f ≡ e) → P e → MatchResult r A P
+match_told A P (Ok x) e told p = absurd told
+match_told A P (Err f) e told p = subst P (sym told) p
 
 -- What a power failure may leave of the files holds a database that the store allows, where each of those has the docket's tables.
 holds_allowed : {D : Type 0} {g : Ghosts D} (it : FileStore D g) → IsTrue (view it).is_numbered → ((db : Trees) → recovers it db → ∥ IsSound docket_schema db ∥₁)
