@@ -33,6 +33,7 @@ pub record HasRoom (n : ℕ) (v : Vectors) : Type 0 where
 
 -- the numbers of rows fit
 pub record AreSmall (v : Vectors) : Type 0 where
+  pub next_row : v.next_row ≤ 2 ^ 32
   pub cases : vec_len v.cases < 2 ^ 31
   pub parties : (k : ℕ) → length (parties_of_case k v.parties.items) < 2 ^ 31
   pub entries : (k : ℕ) → length (entries_of_case k v.entries.items) < 2 ^ 31

@@ -1,10 +1,6 @@
-//! The docket in memory: its tables in vectors, which stand for a history of commands.
+//! A docket in vectors, which stands for a history of commands. Rows are found by going over them.
 #![tactic(auto)]
 
-mod case_places;
-mod gathered;
-mod index;
-mod places;
 mod plain;
 mod reading;
 #[cfg(test)]

@@ -5,16 +5,13 @@ ghost use Rattle.std.specs.Option.{option_map};
 ghost use Rattle.docket_core.specs.Records.{case_record, deadline_lines};
 ghost use Rattle.docket_core.specs.declared.decision.DecideFault.TheVariants as Fault;
 ghost use Rattle.docket_plain.specs.Dockets.{history_of, IsDocket, IsReply, AreReplies, history_after, docket_after};
-ghost use Rattle.docket_plain.specs.Indexes.{IsIndex};
-ghost use Rattle.docket_plain.specs.Vectors.{lists_of};
 
-use crate::index::{Index, case_number, change_case};
 use crate::reading::{case_record, lines_of_case};
-use crate::vectors::{Vectors, reserve};
+use crate::vectors::{Vectors, enter};
 use crate::viewing::view_of;
 use court_days::Court;
 use docket_command::{Command, Reply};
-use docket_core::{CaseRecord, DeadlineLine, DecideFault, Decision, Receipt, decide};
+use docket_core::{CaseRecord, DeadlineLine, DecideFault, Decision, decide};
 use std::alloc::{AllocError, Global};
 use std::marker::Model;
 
@@ -23,33 +20,18 @@ fn apply_to(
     alloc: Global,
     court: &Court,
     tables: &mut Vectors,
-    index: &mut Index,
     command: &Command,
 ) -> Result<Reply, DecideFault>
-    requires docket { IsDocket court.now tables.old }
-    requires index { IsIndex (lists_of tables.old) index.old }
+    requires { IsDocket court.now tables.old }
     ensures docket { IsDocket court.now tables.new }
-    ensures index { IsIndex (lists_of tables.new) index.new }
     ensures answer { IsReply result (outcome court.now (history_of tables.old.receipts.items) command.now) }
     ensures history { history_of tables.new.receipts.items
         ≡ history_after result court.now (history_of tables.old.receipts.items) command.now }
 {
-    let view = view_of(alloc, tables, index, command)?;
+    let view = view_of(alloc, tables, command)?;
     match decide(alloc, &view, court, command)? {
         Decision::Repeat(reply) => Ok(reply),
-        Decision::Change(changes) => {
-            let copy = command.copied()?;
-            let rows = changes.rows;
-            let reply = changes.reply;
-            reserve(tables, rows.len())?;
-            index.expect(alloc, tables, command, rows.len())?;
-            change_case(tables, &mut index.cases, case_number(&command.action), rows);
-            let _ = tables.receipts.push(Receipt {
-                command: copy,
-                reply,
-            });
-            Ok(reply)
-        }
+        Decision::Change(changes) => Ok(enter(tables, command, changes)?),
     }
 }
 
@@ -59,19 +41,16 @@ pub struct Plain {
     alloc: Global,
     court: Court,
     tables: Vectors,
-    index: Index,
 }
 
 impl Model for Plain {
     ghost use Rattle.docket_plain.specs.Dockets.{Docket, history_of, IsDocket};
-    ghost use Rattle.docket_plain.specs.Indexes.{IsIndex};
-    ghost use Rattle.docket_plain.specs.Vectors.{lists_of};
 
     ghost Value = { Docket };
 
     ghost view = { λ p. record { court = p.court; history = history_of p.tables.receipts.items } };
 
-    ghost invariant = { λ p. IsDocket p.court p.tables × IsIndex (lists_of p.tables) p.index };
+    ghost invariant = { λ p. IsDocket p.court p.tables };
 }
 
 impl Plain {
@@ -83,7 +62,6 @@ impl Plain {
             alloc,
             court,
             tables: Vectors::new(alloc),
-            index: Index::new(alloc),
         }
     }
 
@@ -93,16 +71,14 @@ impl Plain {
         ensures answer { IsReply result (outcome self.old.court self.old.history command.now) }
         ensures docket { self.new ≡ docket_after result self.old command.now }
     {
-        let tables = &mut self.tables;
-        let index = &mut self.index;
-        apply_to(self.alloc, &self.court, tables, index, command)
+        apply_to(self.alloc, &self.court, &mut self.tables, command)
     }
 
     /// The case of a number, with its parties and its entries.
     pub fn case(&self, number: u32) -> Result<Option<CaseRecord>, AllocError>
         ensures { IfOk result (λ found. found ≡ case_record self.now.history number) }
     {
-        case_record(self.alloc, &self.tables, &self.index, number)
+        case_record(self.alloc, &self.tables, number)
     }
 
     /// The deadlines of the case of a number, and where each stands by the calendar of the docket.
@@ -110,7 +86,7 @@ impl Plain {
         ensures { IfOk result (λ found. option_map (λ lines. lines.items) found
             ≡ deadline_lines self.now.court self.now.history number) }
     {
-        lines_of_case(self.alloc, &self.court, &self.tables, &self.index, number)
+        lines_of_case(self.alloc, &self.court, &self.tables, number)
     }
 }
 

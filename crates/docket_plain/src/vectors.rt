@@ -1,11 +1,12 @@
 //! The tables in vectors.
-ghost use Rattle.std.specs.Prelude.{◌≡◌, ℕ, ◌==◌, not, ◌+◌, ◌<◌, ◌≤◌, ◌^◌, length, filter, OnOk, vec_len, vec_capacity};
-ghost use Rattle.docket_core.specs.Tables.{changed, all_changed};
-ghost use Rattle.docket_plain.specs.CasePlaces.{listed, TellsCase, HasRoomFor};
-ghost use Rattle.docket_plain.specs.Vectors.{lists_of, HasRoom, no_rows};
+ghost use Rattle.std.specs.Prelude.{◌≡◌, ℕ, ◌==◌, not, ◌+◌, ◌<◌, ◌≤◌, ◌^◌, length, filter, OnOk, OnErr, IfOk, vec_len, vec_capacity};
+ghost use Rattle.docket_core.specs.Tables.{changed, all_changed, with_receipt};
+ghost use Rattle.docket_plain.specs.Vectors.{lists_of, AreSmall, HasRoom, no_rows};
 
-use crate::case_places::CasePlaces;
-use docket_core::{ActRow, CalendarRow, CaseRow, Change, DeadlineRow, EntryRow, PartyRow, Receipt};
+use docket_command::{Command, Reply};
+use docket_core::{
+    ActRow, CalendarRow, CaseRow, Change, Changes, DeadlineRow, EntryRow, PartyRow, Receipt,
+};
 use std::alloc::{AllocError, Global};
 
 /// The tables of a docket, and the number of the next calendar row.
@@ -21,23 +22,26 @@ pub(crate) struct Vectors {
     pub(crate) receipts: Vec<Receipt>,
 }
 
-fn remove_row(rows: &mut Vec<CalendarRow>, number: u32)
-    ensures items { rows.new.items ≡ filter (λ row. not (row.number == number)) rows.old.items }
-    ensures room { vec_capacity rows.new ≡ vec_capacity rows.old }
-    ensures shorter { vec_len rows.new ≤ vec_len rows.old }
-{
-    let mut i = 0;
-    while i < rows.len() {
-        if rows[i].number == number {
-            let _ = rows.remove(i);
-        } else {
-            i += 1;
+impl Vectors {
+    /// The tables of a docket without any record. They take no memory yet.
+    pub(crate) fn new(alloc: Global) -> Vectors
+        ensures { lists_of result ≡ no_rows }
+    {
+        Vectors {
+            next_row: 1,
+            calendar: Vec::new(alloc),
+            cases: Vec::new(alloc),
+            parties: Vec::new(alloc),
+            entries: Vec::new(alloc),
+            deadlines: Vec::new(alloc),
+            acts: Vec::new(alloc),
+            receipts: Vec::new(alloc),
         }
     }
 }
 
 /// Makes room for so many rows in each table, and for a receipt.
-pub(crate) fn reserve(tables: &mut Vectors, rows: usize) -> Result<(), AllocError>
+fn reserve(tables: &mut Vectors, rows: usize) -> Result<(), AllocError>
     ensures same { lists_of tables.new ≡ lists_of tables.old }
     ensures room { OnOk result (HasRoom rows tables.new) }
 {
@@ -48,6 +52,14 @@ pub(crate) fn reserve(tables: &mut Vectors, rows: usize) -> Result<(), AllocErro
     tables.deadlines.reserve(rows)?;
     tables.acts.reserve(rows)?;
     tables.receipts.reserve(1)
+}
+
+fn remove_row(rows: &mut Vec<CalendarRow>, number: u32)
+    ensures items { rows.new.items ≡ filter (λ row. not (row.number == number)) rows.old.items }
+    ensures room { vec_capacity rows.new ≡ vec_capacity rows.old }
+    ensures shorter { vec_len rows.new ≤ vec_len rows.old }
+{
+    rows.retain(|row| row.number != number);
 }
 
 /// Makes a change, for which there is room.
@@ -82,43 +94,46 @@ fn change(tables: &mut Vectors, change: Change)
     }
 }
 
-/// Makes changes, for which there is room, one after another, and notes the places of the new rows
-/// of a case.
-pub(crate) fn change_all(
-    tables: &mut Vectors,
-    places: &mut CasePlaces,
-    case: u32,
-    mut changes: Vec<Change>,
-)
+/// Makes changes, for which there is room, one after another.
+fn change_all(tables: &mut Vectors, changes: Vec<Change>)
     requires next_row { tables.old.next_row + length changes.items < 2 ^ 64 }
     requires room { HasRoom (length changes.items) tables.old }
-    requires places { HasRoomFor (length changes.items) places.old }
-    requires told { TellsCase case (lists_of tables.old) (listed places.old) }
     ensures lists { lists_of tables.new ≡ all_changed changes.items (lists_of tables.old) }
     ensures room { HasRoom 0 tables.new }
-    ensures told { TellsCase case (lists_of tables.new) (listed places.new) }
 {
-    while !changes.is_empty() {
-        let next = changes.remove(0);
-        places.note(tables, case, &next);
+    for next in changes {
         change(tables, next);
     }
 }
 
-impl Vectors {
-    /// The tables of a docket without any record. They take no memory yet.
-    pub(crate) fn new(alloc: Global) -> Vectors
-        ensures lists { lists_of result ≡ no_rows }
-    {
-        Vectors {
-            next_row: 1,
-            calendar: Vec::new(alloc),
-            cases: Vec::new(alloc),
-            parties: Vec::new(alloc),
-            entries: Vec::new(alloc),
-            deadlines: Vec::new(alloc),
-            acts: Vec::new(alloc),
-            receipts: Vec::new(alloc),
-        }
-    }
+/// Adds a receipt, for which there is room.
+fn add_receipt(tables: &mut Vectors, receipt: Receipt)
+    requires { HasRoom 0 tables.old }
+    ensures { lists_of tables.new ≡ with_receipt receipt.command receipt.reply (lists_of tables.old) }
+{
+    let _ = tables.receipts.push(receipt);
+}
+
+/// Makes the changes of a command, and adds its receipt. All that can fail is done before, so that
+/// want of memory changes nothing.
+pub(crate) fn enter(
+    tables: &mut Vectors,
+    command: &Command,
+    changes: Changes,
+) -> Result<Reply, AllocError>
+    requires { AreSmall tables.old }
+    ensures reply { IfOk result (λ reply. reply ≡ changes.reply) }
+    ensures entered { OnOk result (lists_of tables.new
+        ≡ with_receipt command.now changes.reply (all_changed changes.rows.items (lists_of tables.old))) }
+    ensures err { OnErr result (lists_of tables.new ≡ lists_of tables.old) }
+{
+    let reply = changes.reply;
+    let receipt = Receipt {
+        command: command.copied()?,
+        reply,
+    };
+    reserve(tables, changes.rows.len())?;
+    change_all(tables, changes.rows);
+    add_receipt(tables, receipt);
+    Ok(reply)
 }

@@ -12,31 +12,23 @@ use Rattle.docket_core.specs.declared.view.DeadlineView.{DeadlineView}
 use Rattle.docket_plain.specs.Dockets.{history_of}
 use Rattle.docket_plain.proofs.reading.lines_of_case.Goals as goal
 
-pub calendar_of-requires-clause-items : goal.calendar_of-requires-clause-items
-calendar_of-requires-clause-items c =
+pub calendar_of-requires : goal.calendar_of-requires
+calendar_of-requires c =
     let h : History = history_of c.args.tables.now.receipts.items in
-    let seen : c.as_slice-2.result.now ≡ items_of (standing_rows h) = c.as_slice-2.ensures.value ∙ c.in_ok-items.ensures ∙ ap items_of (c.as_slice.ensures.value ∙ ap (λ t. t.calendar) c.requires.docket.same) in
-    subst (All IsEnteredItem) (sym seen) (within_limits c.args.court.now h c.requires.docket.accepted).items
+    let limits = within_limits c.args.court.now h c.requires.accepted in
+    let seen : c.as_slice-2.result.now ≡ items_of (standing_rows h) = c.as_slice-2.ensures.value ∙ c.in_ok-items.ensures ∙ ap items_of (c.as_slice.ensures.value ∙ ap (λ t. t.calendar) c.requires.same) in
+    record {
+      items = subst (All IsEnteredItem) (sym seen) limits.items;
+      rows = omega (arith, ap length seen, length-map (standing_rows h) (λ (row : CalendarRow). row.item), limits.rows);
+    }
 
-pub calendar_of-requires-clause-rows : goal.calendar_of-requires-clause-rows
-calendar_of-requires-clause-rows c =
+pub deadline_lines-requires : goal.deadline_lines-requires
+deadline_lines-requires c =
     let h : History = history_of c.args.tables.now.receipts.items in
-    let seen : c.as_slice-2.result.now ≡ items_of (standing_rows h) = c.as_slice-2.ensures.value ∙ c.in_ok-items.ensures ∙ ap items_of (c.as_slice.ensures.value ∙ ap (λ t. t.calendar) c.requires.docket.same) in
-    omega (arith, ap length seen, length-map (standing_rows h) (λ (row : CalendarRow). row.item), (within_limits c.args.court.now h c.requires.docket.accepted).rows)
-
-pub deadline_lines-requires-clause-few : goal.deadline_lines-requires-clause-few
-deadline_lines-requires-clause-few c =
-    let h : History = history_of c.args.tables.now.receipts.items in
-    let seen : c.as_slice-4.result.now ≡ deadlines c.args.number h =
-    c.as_slice-4.ensures.value ∙ c.in_ok-deadlines.ensures
-    ∙ ap (λ t. deadlines_from c.args.number 1 t.acts (deadlines_of_case c.args.number t.deadlines)) c.requires.docket.same in
-    omega (arith, ap length seen, length-deadlines_from c.args.number 1 (act_rows h) (deadlines_of_case c.args.number (deadline_rows h)), (within_limits c.args.court.now h c.requires.docket.accepted).deadlines c.args.number)
-
-pub deadline_lines-requires-clause-acts : goal.deadline_lines-requires-clause-acts
-deadline_lines-requires-clause-acts c =
-    let h : History = history_of c.args.tables.now.receipts.items in
-    let seen : c.as_slice-4.result.now ≡ deadlines c.args.number h =
-    c.as_slice-4.ensures.value ∙ c.in_ok-deadlines.ensures
-    ∙ ap (λ t. deadlines_from c.args.number 1 t.acts (deadlines_of_case c.args.number t.deadlines)) c.requires.docket.same in
-    subst (All (λ (d : DeadlineView). AreActs (zone_of c.args.court.now) d.acts)) (sym seen)
-    (lawful_deadlines c.args.court.now h (within_limits c.args.court.now h c.requires.docket.accepted) c.args.number)
+    let k = c.args.number in
+    let limits = within_limits c.args.court.now h c.requires.accepted in
+    let seen : c.as_slice-3.result.now ≡ deadlines k h = c.as_slice-3.ensures.value ∙ c.in_ok-deadlines.ensures ∙ ap (λ t. deadlines_from k 1 t.acts (deadlines_of_case k t.deadlines)) c.requires.same in
+    record {
+      few = omega (arith, ap length seen, length-deadlines_from k 1 (act_rows h) (deadlines_of_case k (deadline_rows h)), limits.deadlines k);
+      acts = subst (All (λ (d : DeadlineView). AreActs (zone_of c.args.court.now) d.acts)) (sym seen) (lawful_deadlines c.args.court.now h limits k);
+    }

@@ -1,7 +1,6 @@
 use Rattle.std.proofs.Common.{◌≡◌, take}
-use Rattle.std.specs.Prelude.{slice_get}
-use Rattle.std.specs.List.{filter_map}
+use Rattle.docket_core.specs.Histories.{parties_of_case}
 use Rattle.docket_plain.proofs.reading.parties_of.Given as goal
 
-abbrev pub invariant-loop-place : goal.invariant-loop-place
-invariant-loop-place l = l.found.items ≡ filter_map (slice_get l.rows) (take l.place-index l.places)
+abbrev pub invariant-loop-row : goal.invariant-loop-row
+invariant-loop-row l = l.found.items ≡ parties_of_case l.case (take l.row-index l.rows)

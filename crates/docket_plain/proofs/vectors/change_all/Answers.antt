@@ -1,20 +1,17 @@
-use Rattle.std.proofs.Common.{◌≡◌, ◌+◌, ◌<◌, ◌∷◌, length, sym, ap, ◌∙◌, subst, arith, ℕ}
-use Rattle.docket_core.specs.Tables.{Tables, all_changed}
-use Rattle.docket_plain.specs.CasePlaces.{listed, TellsCase, HasRoomFor}
+use Rattle.std.proofs.Common.{ℕ, length, sym, ap, subst, ◌∙◌, arith}
+use Rattle.std.specs.Vec.Iter.{into_iter_items, into_iter_len}
+use Rattle.docket_core.specs.Tables.{all_changed}
 use Rattle.docket_plain.specs.Vectors.{lists_of, HasRoom}
-use Rattle.docket_plain.proofs.Firsts.{first_and_rest}
 use Rattle.docket_plain.proofs.vectors.change_all.Goals as goal
 
-pub loop-changes-preserved : goal.loop-changes-preserved
-loop-changes-preserved c =
-    let rest = c.remove-next.new.self.items in
-    let some : 0 < length c.loop-changes.changes.items = grind (arith, c.loop-changes-test.true, c.is_empty.ensures, c.loop-changes.changes.ok.0) in
-    let parts : c.remove-next.result ∷ rest ≡ c.loop-changes.changes.items = first_and_rest _ _ _ some c.remove-next.ensures.value c.remove-next.ensures.items in
-    let count : length c.loop-changes.changes.items ≡ length rest + 1 = omega (arith, ap length parts) in
+pub loop-next-preserved : goal.loop-next-preserved
+loop-next-preserved c =
+    let l = c.loop-next in
+    let rest = c.next.new.self in
+    let steps = c.in-Some.ensures.steps in
     record {
-      next_row = let b = c.change.ensures.next_row in let a = c.loop-changes.invariant.next_row in omega arith;
-      room = c.change.ensures.room (length rest) (subst (λ (n : ℕ). HasRoom n c.loop-changes.tables) count c.loop-changes.invariant.room);
-      places = c.note.ensures.room (length rest) (subst (λ (n : ℕ). HasRoomFor n c.loop-changes.places) count c.loop-changes.invariant.places);
-      told = subst (λ (t : Tables). TellsCase c.args.case t (listed c.note.new.self)) (sym c.change.ensures.lists) c.note.ensures.told;
-      rest = ap (all_changed rest) c.change.ensures.lists ∙ ap (λ xs. all_changed xs (lists_of c.loop-changes.tables)) parts ∙ c.loop-changes.invariant.rest;
+      len = omega (arith, ap length steps.0);
+      next_row = omega (arith, c.change.ensures.next_row, l.invariant.next_row);
+      room = c.change.ensures.room (into_iter_len rest) (subst (λ (n : ℕ). HasRoom n l.tables) (sym steps.1) l.invariant.room);
+      rest = ap (all_changed (into_iter_items rest)) c.change.ensures.lists ∙ ap (λ xs. all_changed xs (lists_of l.tables)) (sym steps.0) ∙ l.invariant.rest;
     }
