@@ -1,5 +1,5 @@
 //! Mean times, in nanoseconds.
-use crate::commands::{joining, key_of, opening, scattered};
+use crate::tables::commands::{joining, key_of, opening, scattered};
 use anyhow::{Error, anyhow};
 use docket_core::{Changes, Command};
 use docket_tables::write;
@@ -9,7 +9,7 @@ use sqlite::{Alter, Connection};
 use std::time::Instant;
 
 /// How many transactions are timed.
-const WRITES: u32 = 500;
+pub(crate) const WRITES: u32 = 500;
 
 /// How many reads are timed.
 const READS: u32 = 2000;

@@ -1,7 +1,4 @@
-//! Reads commands, one JSON text a line, from standard input, and writes a line for each: its
-//! canonical text, or the fault of the line.
-#![tactic(auto)]
-
+//! Commands as JSON, and their canonical texts.
 use docket_wire::{command_text, read_command, wire_fault_text};
 use std::alloc::{AllocError, Global};
 use std::io::{self, Read, Write};
@@ -14,7 +11,8 @@ fn answer(alloc: Global, line: &[u8]) -> Result<String, AllocError> {
     }
 }
 
-fn main(rt: HostRuntime) -> io::Result<()> {
+/// Writes a line to standard output for each line of standard input.
+pub(crate) fn write_texts(rt: &HostRuntime) -> io::Result<()> {
     let alloc = rt.alloc();
     let mut input = Vec::new(alloc);
     rt.stdin().read_to_end(&mut input)?;

@@ -1,5 +1,5 @@
 //! Tables with many rows.
-use crate::commands::{FILED, key_of, label_of};
+use crate::tables::commands::{FILED, key_of, label_of};
 use anyhow::{Error, anyhow};
 use court_days::Court;
 use docket_tables::{is_bare, make};

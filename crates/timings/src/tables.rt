@@ -1,0 +1,33 @@
+//! Times of transactions on the docket's tables, and of rows read by their keys.
+mod commands;
+mod filling;
+mod timing;
+
+use anyhow::Error;
+use filling::{count, filled, made};
+use sqlite::{Alter, Connection};
+pub(crate) use timing::WRITES;
+use timing::{time_cases, time_parties, time_reads};
+
+/// Fills the tables of cases, parties and receipts with so many rows, and prints nanoseconds to
+/// standard error and what the tables hold in the end to standard output.
+fn time_rows<S: Alter>(rt: &HostRuntime, conn: &mut Connection<S>, rows: u32) -> Result<(), Error> {
+    made(rt.alloc(), conn)?;
+    filled(rt.alloc(), conn, rows)?;
+    eprintln!(rt; "case {}", time_cases(rt, conn, rows)?)?;
+    eprintln!(rt; "party {}", time_parties(rt, conn, rows)?)?;
+    time_reads(rt, conn, rows)?;
+    let cases = count(conn, "SELECT count(*) FROM cases")?;
+    let parties = count(conn, "SELECT count(*) FROM party")?;
+    let receipts = count(conn, "SELECT count(*) FROM receipt")?;
+    println!(rt; "{cases} cases, {parties} parties, {receipts} receipts")?;
+    Ok(())
+}
+
+/// Times tables with so many rows, in the file of that path or in memory.
+pub(crate) fn time_tables(rt: &HostRuntime, rows: u32, path: Option<&str>) -> Result<(), Error> {
+    match path {
+        Some(path) => time_rows(rt, &mut Connection::open(rt, path)?, rows),
+        None => time_rows(rt, &mut Connection::open_in_memory(rt.alloc())?, rows),
+    }
+}
