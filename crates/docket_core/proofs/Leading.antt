@@ -5,7 +5,7 @@ use Rattle.std.specs.Option.{option_and_then}
 use Rattle.court_days.specs.Court.{CourtSettings}
 use Rattle.docket_command.specs.declared.command.Command.{Command}
 use Rattle.docket_command.specs.declared.command.Action.{Action}
-use Rattle.docket_command.specs.declared.command.Action.TheVariants.{DeclareDay, CloseDay, CloseSpan, ImportCalendar, AddParty, FileEntry, ServeSummons, Satisfy, Vacate, FileWaiver, ServePleading, OrderReply, RuleMotion, Dispose, StatementServed, NoticeHearing, OrderPeriod, EnterJudgment, Extend}
+use Rattle.docket_command.specs.declared.command.Action.TheVariants.{DeclareDay, CloseDay, CloseSpan, WithdrawCalendar, ImportCalendar, OpenCase, AddParty, FileEntry, Satisfy, Vacate, RuleMotion, Dispose, StatementServed, Extend}
 use Rattle.docket_command.specs.declared.refusal.Refusal.{Refusal}
 use Rattle.docket_command.specs.declared.refusal.Reply.{Reply}
 use Rattle.docket_core.specs.Actions.{case_named, deadline_named, deadlines_made, acts_made, asks_calendar, row_withdrawn}
@@ -96,15 +96,13 @@ no_entry (FileEntry a) m n e = absurd (cc)
 no_entry _ m n e = refl
 
 pub none_made : (a : Action) → case_named a ≡ None → deadlines_made a ≡ []
-none_made (ServeSummons a) e = absurd (cc)
-none_made (FileWaiver a) e = absurd (cc)
-none_made (ServePleading a) e = absurd (cc)
-none_made (OrderReply a) e = absurd (cc)
-none_made (Dispose a) e = absurd (cc)
-none_made (NoticeHearing a) e = absurd (cc)
-none_made (OrderPeriod a) e = absurd (cc)
-none_made (EnterJudgment a) e = absurd (cc)
-none_made _ e = refl
+none_made (DeclareDay a) e = refl
+none_made (CloseDay a) e = refl
+none_made (CloseSpan a) e = refl
+none_made (WithdrawCalendar a) e = refl
+none_made (ImportCalendar a) e = refl
+none_made (OpenCase a) e = refl
+none_made _ e = absurd (cc)
 
 -- an action that names no deadline makes no later act
 pub none_acted : (a : Action) → deadline_named a ≡ None → acts_made a ≡ []

@@ -83,15 +83,20 @@ rows_fit v _ e was = omega arith
 
 -- so do those of new deadlines
 pub deadlines_fit : (v : View) (a : Action) → is_full v a ≡ false → deadlines_made a ≢ [] → length (deadlines_in v.case) + length (deadlines_made a) ≤ 1000
-deadlines_fit v (action.ServeSummons a) e some = not_above _ _ (or_right_off (has_too_many_acts v (action.ServeSummons a)) _ e)
-deadlines_fit v (action.FileWaiver a) e some = not_above _ _ (or_right_off (has_too_many_acts v (action.FileWaiver a)) _ e)
-deadlines_fit v (action.ServePleading a) e some = not_above _ _ (or_right_off (has_too_many_acts v (action.ServePleading a)) _ e)
-deadlines_fit v (action.OrderReply a) e some = not_above _ _ (or_right_off (has_too_many_acts v (action.OrderReply a)) _ e)
-deadlines_fit v (action.Dispose a) e some = not_above _ _ (or_right_off (has_too_many_acts v (action.Dispose a)) _ e)
-deadlines_fit v (action.NoticeHearing a) e some = not_above _ _ (or_right_off (has_too_many_acts v (action.NoticeHearing a)) _ e)
-deadlines_fit v (action.OrderPeriod a) e some = not_above _ _ (or_right_off (has_too_many_acts v (action.OrderPeriod a)) _ e)
-deadlines_fit v (action.EnterJudgment a) e some = not_above _ _ (or_right_off (has_too_many_acts v (action.EnterJudgment a)) _ e)
-deadlines_fit v _ e some = absurd (some refl)
+deadlines_fit v (action.DeclareDay a) e some = absurd (some refl)
+deadlines_fit v (action.CloseDay a) e some = absurd (some refl)
+deadlines_fit v (action.CloseSpan a) e some = absurd (some refl)
+deadlines_fit v (action.WithdrawCalendar a) e some = absurd (some refl)
+deadlines_fit v (action.ImportCalendar a) e some = absurd (some refl)
+deadlines_fit v (action.OpenCase a) e some = absurd (some refl)
+deadlines_fit v (action.AddParty a) e some = absurd (some refl)
+deadlines_fit v (action.FileEntry a) e some = absurd (some refl)
+deadlines_fit v (action.RuleMotion a) e some = absurd (some refl)
+deadlines_fit v (action.StatementServed a) e some = absurd (some refl)
+deadlines_fit v (action.Extend a) e some = absurd (some refl)
+deadlines_fit v (action.Satisfy a) e some = absurd (some refl)
+deadlines_fit v (action.Vacate a) e some = absurd (some refl)
+deadlines_fit v a e some = not_above _ _ (or_right_off (has_too_many_acts v a) _ e)
 
 -- what holds of all elements holds of one
 pub one_of_all : {X : Type 0} (P : X → Type 0) (xs : List X) (i : ℕ) (x : X) → All P xs → slice_get xs i ≡ Some x → P x

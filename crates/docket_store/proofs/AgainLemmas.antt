@@ -29,19 +29,6 @@ use Rattle.docket_store.proofs.ApplyLemmas.{after_repeated}
 -- the reply to an action does not tell what stands under the key
 reply_kept : (court : CourtSettings) (v : View) (k : Kept) (a : Action) → reply_to court (record v { kept = k }) a ≡ reply_to court v a
 reply_kept court v k (action.DeclareDay a) = refl
-reply_kept court v k (action.CloseDay a) = refl
-reply_kept court v k (action.CloseSpan a) = refl
-reply_kept court v k (action.WithdrawCalendar a) = refl
-reply_kept court v k (action.ImportCalendar a) = refl
-reply_kept court v k (action.OpenCase a) = refl
-reply_kept court v k (action.AddParty a) = refl
-reply_kept court v k (action.FileEntry a) = refl
-reply_kept court v k (action.RuleMotion a) = refl
-reply_kept court v k (action.Dispose a) = refl
-reply_kept court v k (action.StatementServed a) = refl
-reply_kept court v k (action.Extend a) = refl
-reply_kept court v k (action.Satisfy a) = refl
-reply_kept court v k (action.Vacate a) = refl
 reply_kept court v k a = refl
 
 -- a receipt that is the only one under the command's key

@@ -50,22 +50,13 @@ IsDay day = IsAct (act.Fixed day)
 -- what an action names
 pub case_counts : (a : Action) → IsAction a → IsCount (case_number a)
 unfolding IsAction
-case_counts (action.AddParty a) is = is.0
-case_counts (action.FileEntry a) is = is.0
-case_counts (action.ServeSummons a) is = is.0
-case_counts (action.FileWaiver a) is = is.0
-case_counts (action.ServePleading a) is = is.0
-case_counts (action.OrderReply a) is = is.0
-case_counts (action.RuleMotion a) is = is.0
-case_counts (action.Dispose a) is = is.0
-case_counts (action.StatementServed a) is = is.0
-case_counts (action.NoticeHearing a) is = is.0
-case_counts (action.OrderPeriod a) is = is.0
-case_counts (action.EnterJudgment a) is = is.0
-case_counts (action.Extend a) is = is.0
-case_counts (action.Satisfy a) is = is.0
-case_counts (action.Vacate a) is = is.0
-case_counts _ is = omega arith
+case_counts (action.DeclareDay a) is = omega arith
+case_counts (action.CloseDay a) is = omega arith
+case_counts (action.CloseSpan a) is = omega arith
+case_counts (action.WithdrawCalendar a) is = omega arith
+case_counts (action.ImportCalendar a) is = omega arith
+case_counts (action.OpenCase a) is = omega arith
+case_counts _ is = is.0
 
 pub deadline_counts : (a : Action) → IsAction a → IsCount (deadline_number a)
 unfolding IsAction
@@ -209,14 +200,8 @@ few_ordered party None = omega arith
 few_ordered party (Some first) = omega arith
 
 pub deadlines_few : (a : Action) → length (deadlines_made a) ≤ 7
-deadlines_few (action.ServeSummons a) = omega arith
-deadlines_few (action.FileWaiver a) = omega arith
-deadlines_few (action.ServePleading a) = omega arith
-deadlines_few (action.OrderReply a) = omega arith
 deadlines_few (action.Dispose a) = few_statements a.outcome a.party a.notice a.due
-deadlines_few (action.NoticeHearing a) = omega arith
 deadlines_few (action.OrderPeriod a) = few_ordered a.party (ordered a.unit a)
-deadlines_few (action.EnterJudgment a) = omega arith
 deadlines_few _ = omega arith
 
 -- the acts that it adds
@@ -250,10 +235,5 @@ acts_fine (action.Vacate a) is = (tt, tt)
 acts_fine _ is = tt
 
 pub acts_few : (a : Action) → length (acts_made a) ≤ 1
-acts_few (action.RuleMotion a) = omega arith
-acts_few (action.Dispose a) = omega arith
-acts_few (action.StatementServed a) = omega arith
 acts_few (action.Extend a) = extension_few a.days a.until
-acts_few (action.Satisfy a) = omega arith
-acts_few (action.Vacate a) = omega arith
 acts_few _ = omega arith
