@@ -1,0 +1,51 @@
+-- The lengths of the lines of a calendar.
+use Rattle.std.proofs.Common.{◌≡◌, ℕ, ◌-◌, ◌<◌, ◌≤◌, ◌==◌, List, length, replicate, length-append, lit≤, arith}
+use Rattle.std.specs.Prelude.{decimal}
+use Rattle.std.proofs.lemmas.Bool.{cond_both}
+use Rattle.std.proofs.lemmas.Fmt.{length-decimal-le}
+use Rattle.std.proofs.lemmas.List.{length-replicate}
+use Rattle.civil_time.specs.LocalTime.{local_day}
+use Rattle.civil_time.proofs.DayTexts.{day_text-length}
+use Rattle.court_days.specs.Court.{CourtSettings, zone_of}
+use Rattle.court_days.specs.declared.filing.End.{End}
+use Rattle.court_days.specs.declared.filing.End.TheVariants.{LastDay, Moment}
+use Rattle.court_rules.specs.Rules.{line_of, name_of}
+use Rattle.court_rules.specs.declared.rule.Rule.{Rule}
+use Rattle.court_rules.specs.declared.rule.Rule.TheVariants.{Ordered}
+use Rattle.docket_core.specs.declared.record.DueRow.{DueRow}
+use Rattle.docket_text.specs.CalendarTexts.{end_columns, calendar_line}
+use Rattle.docket_text.specs.Lines.{right_in, left_in}
+use Rattle.docket_text.specs.Parties.{party_text}
+use Rattle.docket_text.specs.Times.{shown}
+
+right_in-length : (width : ℕ) (text : List ℕ) → length text ≤ width → length (right_in width text) ≡ width
+unfolding right_in
+right_in-length width text le = omega (arith, length-append (replicate (width - length text) 32) text, length-replicate {A = ℕ} (width - length text) 32)
+
+left_in-length : (width : ℕ) (text : List ℕ) → length text ≤ width → length (left_in width text) ≡ width
+unfolding left_in
+left_in-length width text le = omega (arith, length-append text (replicate (width - length text) 32), length-replicate {A = ℕ} (width - length text) 32)
+
+party_text-length : (party : ℕ) → party < 10_000 → length (party_text party) ≤ 4
+party_text-length party small =
+    cond_both (party == 0) _ _ (λ text. length text ≤ 4) (λ _. omega arith) (λ _. length-decimal-le 4 party (omega arith) (omega arith) (omega arith))
+
+end_columns-length : (court : CourtSettings) (end : End) → length (end_columns court end) ≡ 22
+end_columns-length court (LastDay day) = simp length-append (omega (arith, day_text-length day))
+end_columns-length court (Moment at) = simp length-append (omega (arith, day_text-length (local_day (zone_of court) (shown at))))
+
+-- 57 bytes and LF
+pub calendar_line-length : (court : CourtSettings) (row : DueRow) → row.case < 10_000_000 → row.number < 10_000 → length row.rule ≤ 16 → row.party < 10_000 → length (calendar_line court row) ≡ 58
+calendar_line-length court row case number rule party =
+    let columns = end_columns-length court row.end in
+    let case_column = right_in-length 7 (decimal row.case) (length-decimal-le 7 row.case (omega arith) (omega arith) (omega arith)) in
+    let number_column = right_in-length 4 (decimal row.number) (length-decimal-le 4 row.number (omega arith) (omega arith) (omega arith)) in
+    let rule_column = left_in-length 16 row.rule rule in
+    let party_column = right_in-length 4 (party_text row.party) (party_text-length row.party party) in
+    simp length-append (omega (arith, columns, case_column, number_column, rule_column, party_column))
+
+-- the names of the table, by computing each
+pub name_of-length : (rule : Rule) → length (name_of rule) ≤ 16
+unfolding line_of
+name_of-length Ordered = lit≤ tt
+name_of-length _ = lit≤ tt
