@@ -9,11 +9,7 @@ mod local_time;
 mod moment;
 mod months;
 mod reading;
-#[cfg(test)]
-mod tests;
 mod zone;
-#[cfg(test)]
-mod zone_tests;
 mod zone_text;
 
 pub use day::{Day, ymd_of};

@@ -2,8 +2,6 @@
 #![tactic(auto)]
 
 mod act;
-#[cfg(test)]
-mod chain_tests;
 mod end;
 mod laws;
 mod method;
@@ -11,8 +9,6 @@ mod order;
 mod rule;
 mod standing;
 mod table;
-#[cfg(test)]
-mod tests;
 
 pub use act::{Act, DayPeriod, HourPeriod, MotionKind, Standing, Start};
 pub use laws::{acts_go_on, method_names_read_back, rule_names_read_back};

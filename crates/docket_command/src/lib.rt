@@ -15,8 +15,6 @@ mod new_day;
 mod refusal;
 mod same;
 mod service_action;
-#[cfg(test)]
-mod tests;
 mod text;
 mod time_action;
 mod word;

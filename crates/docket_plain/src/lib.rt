@@ -3,8 +3,6 @@
 
 mod plain;
 mod reading;
-#[cfg(test)]
-mod tests;
 mod vectors;
 mod viewing;
 

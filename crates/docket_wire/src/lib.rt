@@ -11,8 +11,6 @@ mod reading;
 mod rows;
 mod service_fields;
 mod table;
-#[cfg(test)]
-mod tests;
 mod texts;
 mod time_fields;
 mod writing;

@@ -1,5 +1,6 @@
-use crate::Direction::{Backward, Forward};
-use crate::*;
+//! Holidays, calendars, and periods of days and months.
+use court_days::Direction::{Backward, Forward};
+use court_days::*;
 use std::alloc::Global;
 use std::test::Fail;
 

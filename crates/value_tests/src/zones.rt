@@ -1,4 +1,5 @@
-use crate::*;
+//! Local time in zones, beside jiff's own zones.
+use civil_time::*;
 use jiff::Timestamp;
 use jiff::tz::TimeZone;
 use std::test::Fail;

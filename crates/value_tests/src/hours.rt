@@ -1,6 +1,7 @@
-use crate::Direction::{Backward, Forward};
-use crate::Way::{Electronic, Office};
-use crate::*;
+//! Periods of hours, the end of the last day, and zones as a court reads them.
+use court_days::Direction::{Backward, Forward};
+use court_days::Way::{Electronic, Office};
+use court_days::*;
 use std::alloc::Global;
 use std::test::Fail;
 

@@ -1,4 +1,5 @@
-use crate::*;
+//! Civil dates, weekdays and their texts.
+use civil_time::*;
 use std::test::Fail;
 
 /// A day's number, its date, its weekday and its text.

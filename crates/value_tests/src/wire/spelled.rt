@@ -1,5 +1,5 @@
 //! Texts that spell a command, with its canonical text.
-use crate::{command_text, read_command};
+use docket_wire::{command_text, read_command};
 use std::test::Fail;
 
 /// Whether the text is read as a command that has this canonical text.

@@ -1,7 +1,7 @@
 //! Runs over readers and writers that work piece by piece and fail.
 ghost use Rattle.std.specs.Prelude.{◌≡◌, ◌<◌};
 
-use crate::{Answerer, CountEnd, LineFault, run_lines};
+use line_io::{Answerer, CountEnd, LineFault, run_lines};
 use std::alloc::{AllocError, Global};
 use std::io;
 use std::io::{ErrorKind, Read, Write};

@@ -1,5 +1,4 @@
 //! What is asked of a docket in a test, in few words, and what is answered.
-use crate::Plain;
 use court_days::{Court, Day, DayKind, End, Way, read_day};
 use court_rules::Standing;
 use docket_command::{
@@ -8,6 +7,7 @@ use docket_command::{
     Sovereign, Text, Vacate, WithdrawCalendar,
 };
 use docket_core::DecideFault;
+use docket_plain::Plain;
 use std::alloc::Global;
 use std::test::Fail;
 

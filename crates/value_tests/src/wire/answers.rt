@@ -1,6 +1,6 @@
 //! Texts of answers.
-use crate::{WireFault, reply_text, wire_fault_text};
 use docket_command::{Field, Refusal, Reply};
+use docket_wire::{WireFault, reply_text, wire_fault_text};
 use std::test::Fail;
 
 #[test]

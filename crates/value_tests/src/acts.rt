@@ -4,10 +4,10 @@ ghost use Rattle.std.specs.List.{list_all};
 ghost use Rattle.court_days.specs.Court.{zone_of};
 ghost use Rattle.court_rules.specs.Standings.{begins_on_entered_day, standing};
 
-use crate::*;
 use court_days::{
     Calendar, Court, Day, DayKind, Direction, End, Way, is_entered, read_day, read_moment,
 };
+use court_rules::{Act, DayPeriod, HourPeriod, MotionKind, Period, Standing, Start, acts_ok, due};
 use std::alloc::Global;
 use std::test::Fail;
 

@@ -1,7 +1,7 @@
 //! Words, moments, and copies of commands.
-use crate::*;
 use court_days::{DayKind, Direction, Way, read_day};
 use court_rules::{Method, MotionKind};
+use docket_command::*;
 use std::test::Fail;
 
 /// Whether the value is spelled so, and the spelling read as the value.

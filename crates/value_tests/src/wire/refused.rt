@@ -1,7 +1,7 @@
 //! Texts that spell no command, with the first fault: by the grammar of JSON (RFC 8259), what
 //! serde_json takes, and the fields of the commands.
-use crate::{WireFault, read_command};
 use docket_command::Field;
+use docket_wire::{WireFault, read_command};
 use std::test::Fail;
 
 fn are_refused(rt: &HostRuntime, rows: &[(&[u8], WireFault)]) -> bool {

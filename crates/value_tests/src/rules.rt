@@ -1,6 +1,6 @@
 //! The printed table and worked rows.
-use crate::*;
 use court_days::{Calendar, Day, Direction, is_entered, read_day};
+use court_rules::*;
 use std::test::Fail;
 
 const DAYS_7: Option<Period> = Some(Period::Days(7));

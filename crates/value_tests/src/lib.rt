@@ -1,0 +1,26 @@
+//! Tests of the parts below the database: dates, zones, periods, rules, acts, commands, dockets in
+//! vectors, texts, and lines. They stand in a crate of their own, since a crate with tests is proved twice.
+#![tactic(auto)]
+
+#[cfg(test)]
+mod acts;
+#[cfg(test)]
+mod commands;
+#[cfg(test)]
+mod dates;
+#[cfg(test)]
+mod dockets;
+#[cfg(test)]
+mod hours;
+#[cfg(test)]
+mod lines;
+#[cfg(test)]
+mod periods;
+#[cfg(test)]
+mod rules;
+#[cfg(test)]
+mod texts;
+#[cfg(test)]
+mod wire;
+#[cfg(test)]
+mod zones;
