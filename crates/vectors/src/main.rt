@@ -1,105 +1,73 @@
-//! Runs `count` and `run` on stored inputs, and compares what they write with outputs that an
-//! independent model of the rules and of the docket computed. It prints a line for each input, and
-//! exits with 1 where one differs.
+//! Plays stored inputs, and compares what is written with stored outputs: of `count` and of `run`,
+//! whose outputs an independent model of the rules and of the docket computed, and of dockets that
+//! were worked out by hand from the rules. It prints a line for each input, and exits with 1 where
+//! one differs.
 #![tactic(auto)]
 
-use command_lines::{Clerk, command_run};
-use count_lines::count_run;
-use court_days::Court;
-use docket_store::{CreateFault, Docket, Returned};
-use sqlite::{Connection, MemStore};
+mod comparing;
+mod counting;
+mod running;
+mod worked;
+
+use anyhow::Error;
+use comparing::{input, is_as_stored};
+use counting::counted;
+use running::ran;
 use std::alloc::Global;
+use std::io;
 use std::process::ExitCode;
-use std::{fs, io};
+use worked::worked_out;
 
-/// Inputs of `count`: data/NAME.in, and what is to be written is data/NAME.out.
-const COUNTS: [&str; 4] = ["count-days", "count-1", "count-2", "count-3"];
+/// How an input is played.
+#[derive(Clone, Copy)]
+enum Play {
+    /// By `count`.
+    Count,
+    /// By `run`, in a court of UTC0.
+    Run,
+    /// By `run`, in a court of Eastern time; then a line for each deadline of case 1.
+    Worked,
+}
 
-/// Inputs of `run`, in the same way.
-const RUNS: [&str; 5] = [
-    "run-calendar",
-    "run-chain",
-    "run-general",
-    "run-hours",
-    "run-wire",
+/// The input is data/NAME.in, and what is to be written is data/NAME.out.
+const INPUTS: [(Play, &str); 21] = [
+    (Play::Count, "count-days"),
+    (Play::Count, "count-1"),
+    (Play::Count, "count-2"),
+    (Play::Count, "count-3"),
+    (Play::Run, "run-calendar"),
+    (Play::Run, "run-chain"),
+    (Play::Run, "run-general"),
+    (Play::Run, "run-hours"),
+    (Play::Run, "run-wire"),
+    (Play::Worked, "worked-summons"),
+    (Play::Worked, "worked-ruling"),
+    (Play::Worked, "worked-awaiting"),
+    (Play::Worked, "worked-statement"),
+    (Play::Worked, "worked-motions-refused"),
+    (Play::Worked, "worked-pleading"),
+    (Play::Worked, "worked-officer"),
+    (Play::Worked, "worked-waiver"),
+    (Play::Worked, "worked-judgment"),
+    (Play::Worked, "worked-extension"),
+    (Play::Worked, "worked-fixed-day"),
+    (Play::Worked, "worked-hundred-acts"),
 ];
 
-/// How many lines two texts begin with alike.
-fn lines_alike(left: &[u8], right: &[u8]) -> usize {
-    left.split(|byte| *byte == b'\n')
-        .zip(right.split(|byte| *byte == b'\n'))
-        .take_while(|(left, right)| left == right)
-        .count()
-}
-
-/// Whether what was written on the input of that name is what the model wrote.
-fn agrees(rt: &HostRuntime, name: &str, written: &[u8]) -> io::Result<bool> {
-    let wanted = fs::read(rt, format!(in rt.alloc(); "{name}.out")?.as_str())?;
-    if written != wanted.as_slice() {
-        let alike = lines_alike(written, &wanted);
-        println!(rt; "{name}: alike for {alike} lines, and then different")?;
-        return Ok(false);
+/// What is written on the input.
+fn played(alloc: Global, play: Play, input: &[u8]) -> Result<Vec<u8>, Error> {
+    match play {
+        Play::Count => counted(alloc, input),
+        Play::Run => ran(alloc, input),
+        Play::Worked => worked_out(alloc, input),
     }
-    println!(rt; "{name}: as the model has it")?;
-    Ok(true)
-}
-
-fn input(rt: &HostRuntime, name: &str) -> io::Result<Vec<u8>> {
-    fs::read(rt, format!(in rt.alloc(); "{name}.in")?.as_str())
-}
-
-fn count_agrees(rt: &HostRuntime, name: &str) -> io::Result<bool> {
-    let mut written = Vec::new(rt.alloc());
-    if let Err(fault) = count_run(rt.alloc(), &mut input(rt, name)?.as_slice(), &mut written) {
-        println!(rt; "{name}: {fault}")?;
-        return Ok(false);
-    }
-    agrees(rt, name, &written)
-}
-
-/// A clerk who keeps a docket without any record, in memory.
-fn clerk(alloc: Global, court: Court) -> Result<Clerk<MemStore>, CreateFault> {
-    let Ok(connection) = Connection::open_in_memory(alloc) else {
-        return Err(CreateFault::NoMemory);
-    };
-    match Docket::create(alloc, connection, court) {
-        Ok(docket) => Ok(Clerk::new(alloc, docket)),
-        Err(
-            Returned {
-                fault,
-                connection: _,
-            },
-        ) => Err(fault),
-    }
-}
-
-fn run_agrees(rt: &HostRuntime, name: &str) -> io::Result<bool> {
-    let Ok(court) = Court::read(rt.alloc(), "UTC0", "17:00") else {
-        return Ok(false);
-    };
-    let mut clerk = match clerk(rt.alloc(), court) {
-        Ok(clerk) => clerk,
-        Err(fault) => {
-            println!(rt; "{name}: {fault}")?;
-            return Ok(false);
-        }
-    };
-    let mut written = Vec::new(rt.alloc());
-    let lines = input(rt, name)?;
-    if let Err(fault) = command_run(rt.alloc(), &mut lines.as_slice(), &mut written, &mut clerk) {
-        println!(rt; "{name}: {fault}")?;
-        return Ok(false);
-    }
-    agrees(rt, name, &written)
 }
 
 fn main(rt: HostRuntime) -> io::Result<ExitCode> {
     let mut all = true;
-    for name in COUNTS {
-        all &= count_agrees(&rt, name)?;
-    }
-    for name in RUNS {
-        all &= run_agrees(&rt, name)?;
+    for (play, name) in INPUTS {
+        let input = input(&rt, name)?;
+        all &= is_as_stored(&rt, name, played(rt.alloc(), play, &input))?;
     }
     Ok(if all {
         ExitCode::SUCCESS

@@ -1,0 +1,82 @@
+//! Dockets worked out by hand, with the deadlines that they leave.
+use crate::running::answered;
+use anyhow::{Error, anyhow};
+use court_days::{Court, Day, End};
+use court_rules::Standing;
+use docket_core::DeadlineLine;
+use docket_store::Docket;
+use sqlite::MemStore;
+use std::alloc::{AllocError, Global};
+
+/// The court's zone, Eastern time.
+const ZONE: &str = "EST5EDT,M3.2.0,M11.1.0";
+
+/// The case whose deadlines are shown.
+const CASE: u32 = 1;
+
+/// The first and the last instant that a text may show, in seconds since 1970-01-01T00:00Z.
+const INSTANTS: (i64, i64) = (315_705_600, 64_060_329_600);
+
+fn day_text(alloc: Global, day: Day) -> Result<String, AllocError> {
+    let (year, month, day) = day.ymd();
+    format!(in alloc; "due {year:04}-{month:02}-{day:02}")
+}
+
+fn end_text(alloc: Global, court: &Court, end: End) -> Result<String, AllocError> {
+    match end {
+        End::LastDay(day) => day_text(alloc, day),
+        End::Moment(at) => {
+            if at < INSTANTS.0 || at > INSTANTS.1 {
+                return String::from_str(alloc, "due out of reach");
+            }
+            let moment = court.moment_text(alloc, at)?;
+            format!(in alloc; "due {moment}")
+        }
+    }
+}
+
+/// Where a deadline stands, in words.
+fn standing_text(alloc: Global, court: &Court, standing: Standing) -> Result<String, AllocError> {
+    match standing {
+        Standing::Running(end) => end_text(alloc, court, end),
+        Standing::Suspended => String::from_str(alloc, "suspended"),
+        Standing::Awaiting => String::from_str(alloc, "awaiting"),
+        Standing::Done => String::from_str(alloc, "done"),
+        Standing::Vacated => String::from_str(alloc, "vacated"),
+    }
+}
+
+/// A line for each deadline.
+fn push_deadlines(
+    alloc: Global,
+    court: &Court,
+    lines: &[DeadlineLine],
+    out: &mut Vec<u8>,
+) -> Result<(), AllocError> {
+    for line in lines {
+        let standing = standing_text(alloc, court, line.standing)?;
+        let (number, party, rule) = (line.number, line.party, line.rule.as_str());
+        let text = format!(in alloc; "{number} of {party} by {rule}: {standing}\n")?;
+        out.extend_from_slice(text.as_bytes())?;
+    }
+    Ok(())
+}
+
+/// A line for each deadline of the case in the docket, or none where there is no such case.
+fn push_case(alloc: Global, docket: &mut Docket<MemStore>, out: &mut Vec<u8>) -> Result<(), Error> {
+    match docket.deadlines(CASE) {
+        Ok(Some(lines)) => Ok(push_deadlines(alloc, docket.court(), &lines, out)?),
+        Ok(None) => Ok(()),
+        Err(fault) => Err(anyhow!("{fault}")),
+    }
+}
+
+/// What is answered to the commands, and then where the deadlines of the case stand.
+pub(crate) fn worked_out(alloc: Global, commands: &[u8]) -> Result<Vec<u8>, Error> {
+    let (mut written, clerk) = answered(alloc, ZONE, commands)?;
+    let mut docket = clerk.into_docket();
+    let pushed = push_case(alloc, &mut docket, &mut written);
+    let _ = docket.close();
+    pushed?;
+    Ok(written)
+}
