@@ -1,4 +1,5 @@
--- When a text spells a command: it is an object with the members `do` and `key` and the fields of the command's kind, and no other.
+-- When a text spells a command: it is an object; its `do` names the kind and its `key` is the key; each field of the kind's row in
+-- Schema.antt is said, or is absent or null where it may be; and there is no other member.
 use Rattle.std.specs.Prelude.{◌≡◌, ℕ, List, [], ◌∷◌, true, Option, Some, None}
 use Rattle.serde_json.specs.Data.{Data, Members}
 use Rattle.serde_json.specs.Find.{as_str, as_object}
@@ -7,8 +8,8 @@ use Rattle.docket_command.specs.declared.field.Field.TheVariants as field
 use Rattle.docket_command.specs.declared.command.Command.{Command}
 use Rattle.docket_command.specs.declared.command.Action.{Action}
 use Rattle.docket_command.specs.Names.{name_of}
-use Rattle.docket_wire.specs.Tables.{known_fields}
 use Rattle.docket_command.specs.Schema.{FieldSpec, must, may, ValueIn, Values, fields_of, values_of}
+use Rattle.docket_wire.specs.Tables.{known_fields}
 use Rattle.docket_wire.specs.Members.{present}
 use Rattle.docket_wire.specs.Reading.{json_of, only_known, name_of_object, meaning_of}
 
