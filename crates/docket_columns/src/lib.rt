@@ -11,8 +11,6 @@ mod deadline;
 mod entry;
 mod party;
 mod receipt;
-#[cfg(test)]
-mod tests;
 
 pub use act::{act_of, act_values};
 pub use calendar::{calendar_of, calendar_values};

@@ -117,6 +117,14 @@ fn action(alloc: Global, ask: Ask) -> Result<Action, Fail> {
     })
 }
 
+/// The command that asks it under a key.
+pub(crate) fn command(alloc: Global, key: &str, ask: Ask) -> Result<Command, Fail> {
+    Ok(Command {
+        key: text(alloc, key)?,
+        action: action(alloc, ask)?,
+    })
+}
+
 /// What a docket answers.
 pub(crate) fn answer<S: Alter>(
     alloc: Global,
@@ -124,10 +132,7 @@ pub(crate) fn answer<S: Alter>(
     key: &str,
     ask: Ask,
 ) -> Result<Result<u32, Fault>, Fail> {
-    let command = Command {
-        key: text(alloc, key)?,
-        action: action(alloc, ask)?,
-    };
+    let command = command(alloc, key, ask)?;
     Ok(docket.apply(&command).map(|reply| reply.number))
 }
 

@@ -1,6 +1,6 @@
-//! Tests of the docket in a database: what commands are answered, which databases are taken for a
-//! docket's, and commands that stop at a call of a disk in memory, after which the docket that is
-//! adopted stands before the command or after it.
+//! Tests of the docket in a database: what stands in the tables, what commands are answered, which
+//! databases are taken for a docket's, and runs that stop at a call of a disk in memory, where the next
+//! run goes on from the docket before the command or after it.
 #![tactic(auto)]
 
 #[cfg(test)]
@@ -8,4 +8,8 @@ mod asking;
 #[cfg(test)]
 mod crashes;
 #[cfg(test)]
+mod disks;
+#[cfg(test)]
 mod memory;
+#[cfg(test)]
+mod rows;

@@ -1,13 +1,18 @@
-//! Two disks in memory, each of which stops at a call, and what a power failure leaves of them.
+//! Two disks in memory, each of which stops at a call and counts its calls; a database over them; and
+//! what a power failure leaves of it.
+mod counted;
+
+use self::counted::Counted;
+use docket_store::stop;
 use sqlite::{Connection, FileStore, Files, Options};
 use sqlite_disk::{Crash, Disk, Fuse, Memory};
 use std::alloc::{AllocError, Global};
 use std::test::Fail;
 
-pub(crate) type Fused = Fuse<Memory>;
+pub(crate) type Fused = Counted<Fuse<Memory>>;
 
-/// A docket over two such disks.
-pub(crate) type Docket = Connection<FileStore<Fused>>;
+/// A database over two such disks.
+pub(crate) type Store = FileStore<Fused>;
 
 /// What the two files hold.
 #[derive(Drop)]
@@ -37,8 +42,22 @@ pub(crate) const NO_STOP: Stop = Stop {
     db: u64::MAX,
 };
 
+/// How many calls came to each disk.
+#[derive(Clone, Copy, PartialEq)]
+pub(crate) struct Calls {
+    log: u64,
+    db: u64,
+}
+
+impl Calls {
+    /// Whether a disk that stops there has stopped.
+    pub(crate) fn are_past(self, stop: Stop) -> bool {
+        self.log > stop.log || self.db > stop.db
+    }
+}
+
 /// A disk with these bytes, as after a sync.
-fn disk(alloc: Global, bytes: &[u8]) -> Result<Memory, Fail> {
+fn disk(alloc: Global, bytes: &[u8], calls: u64) -> Result<Fused, Fail> {
     let mut disk = Memory::new(alloc);
     if disk.may_be_used() {
         disk.write_at(0, bytes)?;
@@ -46,49 +65,34 @@ fn disk(alloc: Global, bytes: &[u8]) -> Result<Memory, Fail> {
     if disk.may_be_used() {
         disk.sync()?;
     }
-    Ok(disk)
+    Ok(Counted::new(Fuse::new(disk, calls)))
 }
 
-fn files_with(alloc: Global, bytes: &Bytes, stop: Stop) -> Result<Files<Fused>, Fail> {
+/// Files with these bytes.
+pub(crate) fn files_with(alloc: Global, bytes: &Bytes, stop: Stop) -> Result<Files<Fused>, Fail> {
     Ok(Files {
-        log: Fuse::new(disk(alloc, &bytes.log)?, stop.log),
-        db: Fuse::new(disk(alloc, &bytes.db)?, stop.db),
+        log: disk(alloc, &bytes.log, stop.log)?,
+        db: disk(alloc, &bytes.db, stop.db)?,
     })
 }
 
-/// Opens files with these bytes, where so many frames of the log are copied into the database at a
-/// time. An open that is stopped gives the files back.
-pub(crate) fn open(
-    alloc: Global,
-    bytes: &Bytes,
-    stop: Stop,
-    frames: usize,
-) -> Result<Result<Docket, Files<Fused>>, Fail> {
-    let files = files_with(alloc, bytes, stop)?;
-    if !files.may_be_used() {
-        return Ok(Err(files));
-    }
+/// So many frames of the log are copied into the database at a time.
+pub(crate) fn options(frames: usize) -> Options {
     let mut options = Options::new(1);
     options.checkpoint_frames = frames;
-    match Connection::open_files(alloc, files, options) {
-        Ok(conn) => Ok(Ok(conn)),
-        Err((_, left)) => Ok(Err(left.into_files())),
-    }
+    options
 }
 
 /// Gives the files back, and asks nothing of the disks.
-pub(crate) fn files_of(conn: Docket) -> Files<Fused> {
-    conn.into_store().close()
+pub(crate) fn files_of(conn: Connection<Store>) -> Files<Fused> {
+    stop(conn).close()
 }
 
-/// Whether no call is left. It takes one.
-fn is_blown(disk: &mut Fused) -> bool {
-    !disk.may_be_used() || disk.len().is_err()
-}
-
-/// Whether a disk has stopped.
-pub(crate) fn are_stopped(files: &mut Files<Fused>) -> bool {
-    is_blown(&mut files.log) || is_blown(&mut files.db)
+pub(crate) fn calls_of(files: &Files<Fused>) -> Calls {
+    Calls {
+        log: files.log.calls(),
+        db: files.db.calls(),
+    }
 }
 
 fn copied(alloc: Global, bytes: &[u8]) -> Result<Vec<u8>, AllocError> {
@@ -99,8 +103,8 @@ fn copied(alloc: Global, bytes: &[u8]) -> Result<Vec<u8>, AllocError> {
 
 pub(crate) fn bytes_of(alloc: Global, files: &Files<Fused>) -> Result<Bytes, AllocError> {
     Ok(Bytes {
-        log: copied(alloc, files.log.inner().bytes())?,
-        db: copied(alloc, files.db.inner().bytes())?,
+        log: copied(alloc, files.log.inner().inner().bytes())?,
+        db: copied(alloc, files.db.inner().inner().bytes())?,
     })
 }
 

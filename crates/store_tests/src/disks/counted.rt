@@ -3,22 +3,22 @@ use sqlite_disk::{Crash, Disk, Tally};
 use std::io;
 
 #[derive(Drop)]
-pub(super) struct Counted<D: Disk> {
+pub(crate) struct Counted<D: Disk> {
     inner: D,
     calls: u64,
 }
 
 impl<D: Disk> Counted<D> {
-    pub(super) fn new(inner: D) -> Counted<D> {
+    pub(crate) fn new(inner: D) -> Counted<D> {
         Counted { inner, calls: 0 }
     }
 
-    pub(super) fn inner(&self) -> &D {
+    pub(crate) fn inner(&self) -> &D {
         &self.inner
     }
 
     /// How many calls have come, with those that failed.
-    pub(super) fn calls(&self) -> u64 {
+    pub(crate) fn calls(&self) -> u64 {
         self.calls
     }
 }

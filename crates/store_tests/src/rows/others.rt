@@ -1,0 +1,133 @@
+//! A row of SQL that is read as one of a table of the docket, and rows that are not.
+use docket_columns::{
+    act_of, calendar_of, case_of, court_of, deadline_of, entry_of, party_of, reply_of, version_of,
+};
+use sqlite::{Connection, Row};
+use std::alloc::{AllocError, Global};
+use std::test::Fail;
+
+/// A table of the docket.
+#[derive(Clone, Copy)]
+enum Kind {
+    Court,
+    Calendar,
+    Case,
+    Party,
+    Entry,
+    Deadline,
+    Act,
+    Receipt,
+}
+
+fn is_read(alloc: Global, kind: Kind, row: &Row) -> Result<bool, AllocError> {
+    Ok(match kind {
+        Kind::Court => court_of(alloc, row)?.is_some(),
+        Kind::Calendar => calendar_of(alloc, row)?.is_some(),
+        Kind::Case => case_of(alloc, row)?.is_some(),
+        Kind::Party => party_of(alloc, row)?.is_some(),
+        Kind::Entry => entry_of(alloc, row)?.is_some(),
+        Kind::Deadline => deadline_of(row).is_some(),
+        Kind::Act => act_of(row).is_some(),
+        Kind::Receipt => reply_of(row).is_some(),
+    })
+}
+
+const ROWS: [(Kind, &str, bool); 26] = [
+    (
+        Kind::Court,
+        "SELECT 1, 'civil docket', 0, 'UTC0', 1020, 7",
+        true,
+    ),
+    // the calendar is full
+    (
+        Kind::Court,
+        "SELECT 1, 'civil docket', 0, 'UTC0', 1020, 4294967296",
+        true,
+    ),
+    (
+        Kind::Court,
+        "SELECT 1, 'civil docket', 1, 'UTC0', 1020, 7",
+        false,
+    ),
+    (
+        Kind::Court,
+        "SELECT 1, 'criminal docket', 0, 'UTC0', 1020, 7",
+        false,
+    ),
+    (Kind::Calendar, "SELECT 2, 3, 20276, 0, 'Snow'", true),
+    (
+        Kind::Calendar,
+        "SELECT 3, 4, 1751893200, 1751900400, ''",
+        true,
+    ),
+    // a span with a name
+    (
+        Kind::Calendar,
+        "SELECT 3, 4, 1751893200, 1751900400, 'Snow'",
+        false,
+    ),
+    (
+        Kind::Case,
+        "SELECT 1, '1:25-cv-00001', 'Roe v. Doe', 20241",
+        true,
+    ),
+    // a value too few, and one that is no day
+    (Kind::Case, "SELECT 1, '1:25-cv-00001', 'Roe v. Doe'", false),
+    (
+        Kind::Case,
+        "SELECT 1, '1:25-cv-00001', 'Roe v. Doe', -1",
+        false,
+    ),
+    (Kind::Party, "SELECT 1, 4, 'Doe', 2", true),
+    (Kind::Party, "SELECT 1, 4, 'Doe', 4", false),
+    (Kind::Entry, "SELECT 1, 5, 20241, 'Complaint'", true),
+    (Kind::Entry, "SELECT 1, 5, 20241", false),
+    (Kind::Deadline, "SELECT 1, 2, 3, '12(a)(1)(A)(i)', 1", true),
+    (Kind::Deadline, "SELECT 1, 2, 3, '12(a)', 1", false),
+    (Kind::Act, "SELECT 1, 2, 3, 3, 30, 0, 0, 0, 0", true),
+    // a column that is to be 0
+    (Kind::Act, "SELECT 1, 2, 3, 3, 30, 1, 0, 0, 0", false),
+    (
+        Kind::Act,
+        "SELECT 1, 2, 3, 1, 1751893200, 3, 72, 1, 0",
+        true,
+    ),
+    // a unit that is none
+    (
+        Kind::Act,
+        "SELECT 1, 2, 3, 1, 1751893200, 4, 72, 1, 0",
+        false,
+    ),
+    (Kind::Act, "SELECT 1, 2, 3, 9, 0, 0, 0, 0, 0", true),
+    (Kind::Act, "SELECT 1, 2, 3, 10, 0, 0, 0, 0, 0", false),
+    (Kind::Receipt, "SELECT 'k5', '{}', 2", true),
+    (Kind::Receipt, "SELECT '{}', 2", false),
+    (Kind::Receipt, "SELECT 'k5', '{}', -1", false),
+    (Kind::Receipt, "SELECT 'k5', '{}', 'two'", false),
+];
+
+#[test]
+fn rows_are_read_or_none(rt: HostRuntime) -> Result<(), Fail> {
+    let mut conn = Connection::open_in_memory(rt.alloc())?;
+    for (kind, sql, wanted) in ROWS {
+        let row = conn.query_row(sql, &[])?;
+        assert_eq!(rt; is_read(rt.alloc(), kind, &row)?, wanted, "{sql}");
+    }
+    Ok(())
+}
+
+const VERSIONS: [(&str, Option<u32>); 3] = [
+    ("SELECT 1, 'civil docket', 0, 'UTC0', 1020, 7", Some(0)),
+    ("SELECT 1, 'civil docket', 1, 'UTC0', 1020, 7", Some(1)),
+    ("SELECT 1, 'criminal docket', 0, 'UTC0', 1020, 7", None),
+];
+
+#[test]
+fn versions(rt: HostRuntime) -> Result<(), Fail> {
+    let mut conn = Connection::open_in_memory(rt.alloc())?;
+    for (sql, wanted) in VERSIONS {
+        let row = conn.query_row(sql, &[])?;
+        assert_eq!(rt; version_of(&row), wanted, "{sql}");
+    }
+    Ok(())
+}
