@@ -1,12 +1,13 @@
-//! Plays stored inputs, and compares what is written with stored outputs: of `count` and of `run`,
-//! whose outputs an independent model of the rules and of the docket computed, and of dockets that
-//! were worked out by hand from the rules. It prints a line for each input, and exits with 1 where
-//! one differs.
+//! Plays stored inputs, and compares what is written with stored outputs: of `count`, of `run` and of
+//! the canonical texts of commands, whose outputs an independent model of the rules and of the docket
+//! computed, and of dockets that were worked out by hand from the rules. It prints a line for each
+//! input, and exits with 1 where one differs.
 #![tactic(auto)]
 
 mod comparing;
 mod counting;
 mod running;
+mod texts;
 mod worked;
 
 use anyhow::Error;
@@ -16,6 +17,7 @@ use running::ran;
 use std::alloc::Global;
 use std::io;
 use std::process::ExitCode;
+use texts::canonical;
 use worked::worked_out;
 
 /// How an input is played.
@@ -23,6 +25,8 @@ use worked::worked_out;
 enum Play {
     /// By `count`.
     Count,
+    /// By reading each command and writing its canonical text, or the fault of its line.
+    Texts,
     /// By `run`, in a court of UTC0.
     Run,
     /// By `run`, in a court of Eastern time; then a line for each deadline of case 1.
@@ -30,11 +34,12 @@ enum Play {
 }
 
 /// The input is data/NAME.in, and what is to be written is data/NAME.out.
-const INPUTS: [(Play, &str); 21] = [
+const INPUTS: [(Play, &str); 22] = [
     (Play::Count, "count-days"),
     (Play::Count, "count-1"),
     (Play::Count, "count-2"),
     (Play::Count, "count-3"),
+    (Play::Texts, "texts-wire"),
     (Play::Run, "run-calendar"),
     (Play::Run, "run-chain"),
     (Play::Run, "run-general"),
@@ -58,6 +63,7 @@ const INPUTS: [(Play, &str); 21] = [
 fn played(alloc: Global, play: Play, input: &[u8]) -> Result<Vec<u8>, Error> {
     match play {
         Play::Count => counted(alloc, input),
+        Play::Texts => canonical(alloc, input),
         Play::Run => ran(alloc, input),
         Play::Worked => worked_out(alloc, input),
     }
