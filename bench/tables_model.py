@@ -1,4 +1,4 @@
-"""Times the same transactions and reads as `timings tables`, by the module sqlite3: tables_model.py ROWS [FILE].
+"""Times the same transactions and reads as `trials tables`, by the module sqlite3: tables_model.py ROWS [FILE].
 
 A file has a log as ours has: journal_mode WAL, a sync at each commit (synchronous FULL), and a checkpoint each 1000 pages.
 """

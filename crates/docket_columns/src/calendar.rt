@@ -9,7 +9,8 @@ ghost use Rattle.docket_columns.specs.Fits.{IsItem, IsNameOf, IsCalendarRow};
 
 use crate::cell::{count_at, day_numbered, has_values, number_at, text_at};
 use crate::codes::{day_kind_number, day_kind_of};
-use docket_core::{CalendarItem, CalendarRow, Moment, Text};
+use docket_command::{Moment, Text};
+use docket_core::{CalendarItem, CalendarRow};
 use sqlite::Row;
 use sqlite::types::{ToSql, ValueRef};
 use std::alloc::{AllocError, Global};

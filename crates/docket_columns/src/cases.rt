@@ -6,7 +6,8 @@ ghost use Rattle.docket_columns.specs.Cells.{case_cells};
 ghost use Rattle.docket_columns.specs.Fits.{IsCaseRow};
 
 use crate::cell::{count_at, day_at, has_values, text_at};
-use docket_core::{CaseRow, Text};
+use docket_command::Text;
+use docket_core::CaseRow;
 use sqlite::Row;
 use sqlite::types::{ToSql, ValueRef};
 use std::alloc::{AllocError, Global};

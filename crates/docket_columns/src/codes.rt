@@ -9,7 +9,7 @@ ghost use Rattle.docket_columns.specs.Codes.{flag_number, role_number, direction
 
 use court_days::{DayKind, Direction, Way};
 use court_rules::MotionKind;
-use docket_core::Role;
+use docket_command::Role;
 
 pub(crate) fn flag_number(flag: bool) -> u32
     ensures { result ≡ flag_number flag }

@@ -9,7 +9,7 @@ ghost use Rattle.docket_columns.specs.Fits.{IsCount, IsCourtRow};
 
 use crate::cell::{count_at, has_values, is_number, is_text, number_at, text_at};
 use court_days::Court;
-use docket_core::Text;
+use docket_command::Text;
 use sqlite::Row;
 use sqlite::types::{ToSql, ValueRef};
 use std::alloc::{AllocError, Global};

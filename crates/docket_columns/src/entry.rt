@@ -6,7 +6,8 @@ ghost use Rattle.docket_columns.specs.Cells.{entry_cells};
 ghost use Rattle.docket_columns.specs.Fits.{IsEntryRow};
 
 use crate::cell::{count_at, day_at, has_values, text_at};
-use docket_core::{EntryRow, Text};
+use docket_command::Text;
+use docket_core::EntryRow;
 use sqlite::Row;
 use sqlite::types::{ToSql, ValueRef};
 use std::alloc::{AllocError, Global};

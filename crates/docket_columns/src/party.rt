@@ -11,7 +11,8 @@ ghost use Rattle.docket_columns.specs.Fits.{IsPartyRow};
 
 use crate::cell::{count_at, has_values, text_at};
 use crate::codes::{role_number, role_of};
-use docket_core::{PartyRow, Role, Text};
+use docket_command::{Role, Text};
+use docket_core::PartyRow;
 use sqlite::Row;
 use sqlite::types::{ToSql, ValueRef};
 use std::alloc::{AllocError, Global};

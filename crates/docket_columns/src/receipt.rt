@@ -12,7 +12,8 @@ ghost use Rattle.docket_columns.specs.Cells.{stored_cells, receipt_cells, kept_a
 ghost use Rattle.docket_columns.specs.Fits.{IsCount, IsReceipt};
 
 use crate::cell::{bytes_at, count_at, has_values};
-use docket_core::{Command, Kept, Reply};
+use docket_command::{Command, Reply};
+use docket_core::Kept;
 use sqlite::Row;
 use sqlite::types::{ToSql, ValueRef};
 

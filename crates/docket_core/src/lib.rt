@@ -18,13 +18,6 @@ mod view;
 
 pub use calendar::calendar_of;
 pub use decision::{Changes, DecideFault, Decision, decide};
-pub use docket_command::{
-    Action, AddParty, Basis, CloseDay, CloseSpan, Command, DeclareDay, Dispose, EnterJudgment,
-    Extend, Field, FileEntry, FileWaiver, ImportCalendar, Moment, NewDay, NewDays, NoticeHearing,
-    OpenCase, OrderPeriod, OrderReply, PeriodUnit, PleadingKind, Refusal, Reply, Role, RuleMotion,
-    Ruling, Satisfy, ServePleading, ServeSummons, ServiceMethod, Sovereign, StatementServed, Text,
-    Vacate, WithdrawCalendar,
-};
 pub use item::CalendarItem;
 pub use laws::{
     acts_are_in_order, limits_are_kept, rows_are_numbered_in_order, rows_stand_until_withdrawn,

@@ -1,7 +1,9 @@
-//! What an action names.
+//! What an action names, and whether the docket lacks it.
 ghost use Rattle.std.specs.Prelude.{◌≡◌};
 ghost use Rattle.docket_core.specs.Actions.{case_named, deadline_named, asks_calendar};
+ghost use Rattle.docket_core.specs.Refusals.{lacks_case, is_no_party, lacks_party, lacks_deadline, lacks_row};
 
+use crate::view::View;
 use docket_command::Action;
 
 /// The case that an action names.
@@ -51,6 +53,52 @@ pub fn asks_calendar(action: &Action) -> bool
         Action::DeclareDay(_) | Action::CloseDay(_) | Action::CloseSpan(_) => true,
         Action::ImportCalendar(_) | Action::FileWaiver(_) | Action::RuleMotion(_) => true,
         Action::Extend(_) | Action::Satisfy(_) => true,
+        _ => false,
+    }
+}
+
+pub(crate) fn lacks_case(view: &View, action: &Action) -> bool
+    ensures { result ≡ lacks_case view.now action.now }
+{
+    case_named(action).is_some() && view.case.is_none()
+}
+
+/// Whether the case that is named has no party of that number.
+fn is_no_party(view: &View, party: u32) -> bool
+    ensures { result ≡ is_no_party view.now party }
+{
+    party < 1 || view.parties() < party
+}
+
+pub(crate) fn lacks_party(view: &View, action: &Action) -> bool
+    ensures { result ≡ lacks_party view.now action.now }
+{
+    match action {
+        Action::ServeSummons(a) => is_no_party(view, a.party),
+        Action::FileWaiver(a) => is_no_party(view, a.party),
+        Action::ServePleading(a) => is_no_party(view, a.party),
+        Action::OrderReply(a) => is_no_party(view, a.party),
+        Action::Dispose(a) => match a.party {
+            Some(party) => is_no_party(view, party),
+            None => false,
+        },
+        Action::NoticeHearing(a) => is_no_party(view, a.party) || is_no_party(view, a.opponent),
+        Action::OrderPeriod(a) => a.party != 0 && is_no_party(view, a.party),
+        _ => false,
+    }
+}
+
+pub(crate) fn lacks_deadline(view: &View, action: &Action) -> bool
+    ensures { result ≡ lacks_deadline view.now action.now }
+{
+    deadline_named(action).is_some() && view.deadline_named(action).is_none()
+}
+
+pub(crate) fn lacks_row(view: &View, action: &Action) -> bool
+    ensures { result ≡ lacks_row view.now action.now }
+{
+    match action {
+        Action::WithdrawCalendar(_) => !view.row_stands,
         _ => false,
     }
 }

@@ -8,11 +8,11 @@ ghost use Rattle.docket_core.specs.CalendarItems.{calendar_of};
 ghost use Rattle.docket_core.specs.Decisions.{IsMatter};
 ghost use Rattle.docket_core.specs.Times.{standing_shown, is_in_time};
 ghost use Rattle.docket_core.specs.Values.{first_bad, bad_values};
-ghost use Rattle.docket_core.specs.Refusals.{on, first_some, is_reused, lacks_case, is_no_party, lacks_party, lacks_deadline, lacks_row, is_there, is_running, is_suspended, is_awaiting, is_over, is_not_open, is_not_awaiting, rule_shown, is_not_responsive, last_act, is_by_e, wants_statement, is_wrong_motion, is_past, is_after, is_vacated, has_initial, is_served, is_short_waiver, is_late_waiver, may_not_extend, is_expired, is_not_later, has_too_many_acts, count_added, is_calendar_full, is_full, state_refusals, refusal_of};
+ghost use Rattle.docket_core.specs.Refusals.{on, first_some, is_reused, is_there, is_running, is_suspended, is_awaiting, is_over, is_not_open, is_not_awaiting, rule_shown, is_not_responsive, last_act, is_by_e, wants_statement, is_wrong_motion, is_past, is_after, is_vacated, has_initial, is_served, is_short_waiver, is_late_waiver, may_not_extend, is_expired, is_not_later, has_too_many_acts, count_added, is_calendar_full, is_full, state_refusals, refusal_of};
 ghost use Rattle.docket_core.specs.Views.{ViewOf, deadline_shown};
 
 use crate::item::{CalendarItem, stands_among};
-use crate::named::{case_named, deadline_named};
+use crate::named::{deadline_named, lacks_case, lacks_deadline, lacks_party, lacks_row};
 use crate::value::{bad_field, is_word};
 use crate::view::{DeadlineView, Kept, View};
 use court_days::{Calendar, Court, Day, DayKind, Direction, End, Way, count_days, timely};
@@ -23,52 +23,6 @@ fn is_reused(kept: Kept) -> bool
     ensures { result ≡ is_reused kept }
 {
     matches!(kept, Kept::Other)
-}
-
-fn lacks_case(view: &View, action: &Action) -> bool
-    ensures { result ≡ lacks_case view.now action.now }
-{
-    case_named(action).is_some() && view.case.is_none()
-}
-
-/// Whether the case that is named has no party of that number.
-fn is_no_party(view: &View, party: u32) -> bool
-    ensures { result ≡ is_no_party view.now party }
-{
-    party < 1 || view.parties() < party
-}
-
-fn lacks_party(view: &View, action: &Action) -> bool
-    ensures { result ≡ lacks_party view.now action.now }
-{
-    match action {
-        Action::ServeSummons(a) => is_no_party(view, a.party),
-        Action::FileWaiver(a) => is_no_party(view, a.party),
-        Action::ServePleading(a) => is_no_party(view, a.party),
-        Action::OrderReply(a) => is_no_party(view, a.party),
-        Action::Dispose(a) => match a.party {
-            Some(party) => is_no_party(view, party),
-            None => false,
-        },
-        Action::NoticeHearing(a) => is_no_party(view, a.party) || is_no_party(view, a.opponent),
-        Action::OrderPeriod(a) => a.party != 0 && is_no_party(view, a.party),
-        _ => false,
-    }
-}
-
-fn lacks_deadline(view: &View, action: &Action) -> bool
-    ensures { result ≡ lacks_deadline view.now action.now }
-{
-    deadline_named(action).is_some() && view.deadline_named(action).is_none()
-}
-
-fn lacks_row(view: &View, action: &Action) -> bool
-    ensures { result ≡ lacks_row view.now action.now }
-{
-    match action {
-        Action::WithdrawCalendar(_) => !view.row_stands,
-        _ => false,
-    }
 }
 
 fn is_there(view: &View, action: &Action) -> bool

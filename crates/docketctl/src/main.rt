@@ -2,15 +2,14 @@
 //! under the Federal Rules of Civil Procedure.
 #![tactic(auto)]
 
-mod job;
-#[cfg(test)]
-mod tests;
+ghost use Rattle.std.specs.Int.{IsInRange};
 
 use command_lines::{Clerk, RunFault, command_run};
 use count_lines::count_run;
 use court_days::{Court, CourtFault};
+use docket_jobs::{Job, read_job};
 use docket_store::{CreateFault, Docket, Returned};
-use job::{Job, read_job};
+use docket_text::holiday_text;
 use sqlite::{Connection, MemStore};
 use std::process::ExitCode;
 use std::{env, fmt, io};
@@ -90,6 +89,17 @@ fn run_commands(rt: &HostRuntime, zone: &str, close: &str) -> io::Result<u8> {
     }
 }
 
+/// Tells the holidays of a year from 2000 to 2099, and answers the exit status.
+fn tell_holidays(rt: &HostRuntime, year: u32) -> io::Result<u8>
+    requires { IsInRange 2000 2099 year }
+{
+    let Ok(text) = holiday_text(rt.alloc(), year) else {
+        return failed(rt, &"there is not enough memory");
+    };
+    print!(rt; "{text}")?;
+    Ok(DONE)
+}
+
 /// Tells in the place of an answer that there is not enough memory.
 fn out_of_memory(rt: &HostRuntime) -> io::Result<u8> {
     println!(rt; "{{\"error\":\"no-memory\"}}")?;
@@ -102,6 +112,7 @@ fn run(rt: &HostRuntime) -> io::Result<u8> {
     match read_job(rt.alloc(), words.as_slice()) {
         Ok(Job::Count) => count(rt),
         Ok(Job::Run { zone, close }) => run_commands(rt, zone, close),
+        Ok(Job::Holidays { year }) => tell_holidays(rt, year),
         Err(error) => {
             error.print(rt)?;
             Ok(if error.use_stderr() { BAD_LINE } else { DONE })

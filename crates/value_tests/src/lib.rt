@@ -1,11 +1,13 @@
-//! Tests of the parts below the database: dates, zones, periods, rules, acts, commands, dockets in
-//! vectors, texts, and lines. They stand in a crate of their own, since a crate with tests is proved twice.
+//! Tests of the parts that need no database: dates, zones, periods, rules, acts, commands, dockets in
+//! vectors, texts, lines, `count`, and the words of the command line. They stand in a crate of their own, since a crate with tests is proved twice.
 #![tactic(auto)]
 
 #[cfg(test)]
 mod acts;
 #[cfg(test)]
 mod commands;
+#[cfg(test)]
+mod count;
 #[cfg(test)]
 mod dates;
 #[cfg(test)]
@@ -22,5 +24,7 @@ mod rules;
 mod texts;
 #[cfg(test)]
 mod wire;
+#[cfg(test)]
+mod words;
 #[cfg(test)]
 mod zones;

@@ -1,78 +1,10 @@
 //! Runs over readers and writers that work piece by piece and fail.
 ghost use Rattle.std.specs.Prelude.{◌≡◌, ◌<◌};
 
+use failing_ends::{Pieces, Taker};
 use line_io::{Answerer, CountEnd, LineFault, run_lines};
-use std::alloc::{AllocError, Global};
-use std::io;
-use std::io::{ErrorKind, Read, Write};
+use std::alloc::AllocError;
 use std::test::Fail;
-
-/// Gives its bytes in pieces of at most `size` bytes, and fails after so many reads.
-#[derive(Drop)]
-struct Pieces<'a> {
-    rest: &'a [u8],
-    size: usize,
-    good_reads: u32,
-}
-
-fn reader_of(rest: &[u8], size: usize, good_reads: u32) -> Pieces<'_> {
-    Pieces {
-        rest,
-        size,
-        good_reads,
-    }
-}
-
-impl Read for Pieces<'_> {
-    fn read(&mut self, buf: &mut [u8]) -> io::Result<usize> {
-        if self.good_reads == 0 {
-            return Err(ErrorKind::Other.into());
-        }
-        self.good_reads -= 1;
-        let count = self.size.min(self.rest.len()).min(buf.len());
-        buf[..count].copy_from_slice(&self.rest[..count]);
-        self.rest = &self.rest[count..];
-        Ok(count)
-    }
-}
-
-/// Takes at most `size` bytes a write. After so many writes it fails, or takes nothing.
-#[derive(Drop)]
-struct Taker {
-    taken: Vec<u8>,
-    size: usize,
-    good_writes: u32,
-    fails: bool,
-}
-
-fn writer_taking(alloc: Global, size: usize, good_writes: u32, fails: bool) -> Taker {
-    Taker {
-        taken: Vec::new(alloc),
-        size,
-        good_writes,
-        fails,
-    }
-}
-
-impl Write for Taker {
-    fn write(&mut self, buf: &[u8]) -> io::Result<usize> {
-        if self.good_writes == 0 {
-            return if self.fails {
-                Err(ErrorKind::Other.into())
-            } else {
-                Ok(0)
-            };
-        }
-        self.good_writes -= 1;
-        let count = self.size.min(buf.len());
-        self.taken.extend_from_slice(&buf[..count])?;
-        Ok(count)
-    }
-
-    fn flush(&mut self) -> io::Result<()> {
-        Ok(())
-    }
-}
 
 /// Answers with the last digit of the bytes in all lines so far. An empty answer is bad, and a question mark
 /// has no answer.
@@ -135,8 +67,8 @@ const ANSWERS: &[u8] = b"1\n4\n4\n8\n-\n-\n-\n2\n";
 #[test]
 fn answers_alike_in_pieces_of_any_size(rt: HostRuntime) -> Result<(), Fail> {
     for size in [1, 2, 3, 5, 8, 100] {
-        let mut reader = reader_of(INPUT, size, 100);
-        let mut writer = writer_taking(rt.alloc(), size, 100, true);
+        let mut reader = Pieces::new(INPUT, size, 100);
+        let mut writer = Taker::new(rt.alloc(), size, 100, true);
         let end = run_lines(
             rt.alloc(),
             &mut reader,
@@ -166,8 +98,8 @@ fn tells_a_read_that_failed(rt: HostRuntime) -> Result<(), Fail> {
         (43, b"1\n4\n4\n8\n-\n-\n-\n"),
     ];
     for (good_reads, answers) in rows {
-        let mut reader = reader_of(INPUT, 1, good_reads);
-        let mut writer = writer_taking(rt.alloc(), 100, 100, true);
+        let mut reader = Pieces::new(INPUT, 1, good_reads);
+        let mut writer = Taker::new(rt.alloc(), 100, 100, true);
         let end = run_lines(
             rt.alloc(),
             &mut reader,
@@ -194,8 +126,8 @@ fn tells_a_write_that_failed(rt: HostRuntime) -> Result<(), Fail> {
         (3, true),
         (15, false),
     ] {
-        let mut reader = reader_of(INPUT, 100, 100);
-        let mut writer = writer_taking(rt.alloc(), 1, good_writes, fails);
+        let mut reader = Pieces::new(INPUT, 100, 100);
+        let mut writer = Taker::new(rt.alloc(), 1, good_writes, fails);
         let end = run_lines(
             rt.alloc(),
             &mut reader,
@@ -219,8 +151,8 @@ fn tells_a_write_that_failed(rt: HostRuntime) -> Result<(), Fail> {
 #[test]
 fn tells_a_line_that_has_no_answer(rt: HostRuntime) -> Result<(), Fail> {
     for size in [1, 100] {
-        let mut reader = reader_of(b"ab\n\nc\n?\nd\n", size, 100);
-        let mut writer = writer_taking(rt.alloc(), 100, 100, true);
+        let mut reader = Pieces::new(b"ab\n\nc\n?\nd\n", size, 100);
+        let mut writer = Taker::new(rt.alloc(), 100, 100, true);
         let mut totals = Totals { digit: 0 };
         let end = run_lines(rt.alloc(), &mut reader, &mut writer, &mut totals);
         assert_eq!(rt;

@@ -1,9 +1,8 @@
 //! Commands with their changes.
 use anyhow::{Error, anyhow};
 use court_days::Day;
-use docket_core::{
-    Action, AddParty, CaseRow, Change, Changes, Command, OpenCase, PartyRow, Reply, Role, Text,
-};
+use docket_command::{Action, AddParty, Command, OpenCase, Reply, Role, Text};
+use docket_core::{CaseRow, Change, Changes, PartyRow};
 use std::alloc::Global;
 
 /// 2025-06-02.

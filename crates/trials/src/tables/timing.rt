@@ -1,7 +1,8 @@
 //! Mean times, in nanoseconds.
 use crate::tables::commands::{joining, key_of, opening, scattered};
 use anyhow::{Error, anyhow};
-use docket_core::{Changes, Command};
+use docket_command::Command;
+use docket_core::Changes;
 use docket_tables::write;
 use docket_wire::command_text;
 use sqlite::types::{ToSql, ValueRef};

@@ -1,9 +1,9 @@
 //! `run` on worked lines, and over ends that fail.
 
-use super::ends::{Pieces, Taker};
 use command_lines::{Clerk, CountEnd, RunFault, command_run};
 use court_days::Court;
 use docket_store::{Docket, Returned};
+use failing_ends::{Pieces, Taker};
 use sqlite::{Connection, MemStore};
 use std::test::Fail;
 
@@ -59,11 +59,7 @@ fn answers(rt: HostRuntime) -> Result<(), Fail> {
 #[test]
 fn failing_reads(rt: HostRuntime) -> Result<(), Fail> {
     for good_reads in 0..=INPUT.len() {
-        let mut reader = Pieces {
-            rest: INPUT,
-            size: 1,
-            good_reads: good_reads as u32,
-        };
+        let mut reader = Pieces::new(INPUT, 1, good_reads as u32);
         let mut writer = Vec::new(rt.alloc());
         let end = command_run(rt.alloc(), &mut reader, &mut writer, &mut clerk(&rt)?);
         assert_eq!(rt; end, Err(RunFault::ReadFailed), "after {good_reads} reads");
@@ -82,12 +78,7 @@ fn failing_writes(rt: HostRuntime) -> Result<(), Fail> {
     let all = first_answers(&rt, 4)?;
     for good_writes in 0..120 {
         let mut reader = INPUT;
-        let mut writer = Taker {
-            taken: Vec::new(rt.alloc()),
-            size: 1,
-            good_writes,
-            fails: good_writes % 2 == 0,
-        };
+        let mut writer = Taker::new(rt.alloc(), 1, good_writes, good_writes % 2 == 0);
         let end = command_run(rt.alloc(), &mut reader, &mut writer, &mut clerk(&rt)?);
         let failed = matches!(end, Err(RunFault::WriteFailed));
         let taken = all.len().min(good_writes as usize);

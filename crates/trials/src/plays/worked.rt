@@ -1,5 +1,5 @@
 //! Dockets worked out by hand, with the deadlines that they leave.
-use crate::running::answered;
+use crate::plays::running::answered;
 use anyhow::{Error, anyhow};
 use court_days::{Court, Day, End};
 use court_rules::Standing;

@@ -1,8 +1,8 @@
 //! `count` on worked examples.
 
-use super::ends::{Pieces, Taker};
 use count_lines::{CountEnd, RunFault, count_run};
 use court_days::{Day, day_bytes};
+use failing_ends::{Pieces, Taker};
 use std::test::Fail;
 
 /// More reads or writes than any of the tests makes.
@@ -134,11 +134,7 @@ const ENDS_OF_LINES: [Row; 5] = [
 fn check(rt: &HostRuntime, rows: &[Row]) -> Result<(), Fail> {
     for (lines, answers) in rows {
         for size in [1, 7, 4096] {
-            let mut reader = Pieces {
-                rest: lines.as_bytes(),
-                size,
-                good_reads: MANY,
-            };
+            let mut reader = Pieces::new(lines.as_bytes(), size, MANY);
             let mut writer = Vec::new(rt.alloc());
             let end = count_run(rt.alloc(), &mut reader, &mut writer)?;
             let is_counted = end.lines == answers.lines().count() as u64;
@@ -223,11 +219,7 @@ const ANSWERS: &[u8] = b"ok\n2007-09-04\nbad\n";
 fn failing_reads(rt: HostRuntime) -> Result<(), Fail> {
     let reads = SHORT.len().div_ceil(3) + 1;
     for good_reads in 0..20 {
-        let mut reader = Pieces {
-            rest: SHORT,
-            size: 3,
-            good_reads,
-        };
+        let mut reader = Pieces::new(SHORT, 3, good_reads);
         let mut writer = Vec::new(rt.alloc());
         let end = count_run(rt.alloc(), &mut reader, &mut writer);
         let failed = matches!(end, Err(RunFault::ReadFailed));
@@ -245,12 +237,7 @@ fn failing_reads(rt: HostRuntime) -> Result<(), Fail> {
 fn failing_writes(rt: HostRuntime) -> Result<(), Fail> {
     for good_writes in 0..12 {
         let mut reader = SHORT;
-        let mut writer = Taker {
-            taken: Vec::new(rt.alloc()),
-            size: 2,
-            good_writes,
-            fails: good_writes % 2 == 0,
-        };
+        let mut writer = Taker::new(rt.alloc(), 2, good_writes, good_writes % 2 == 0);
         let end = count_run(rt.alloc(), &mut reader, &mut writer);
         let failed = matches!(end, Err(RunFault::WriteFailed));
         let taken = ANSWERS.len().min(2 * good_writes as usize);

@@ -1,6 +1,6 @@
 //! The words of the command line.
 
-use crate::job::{Job, read_job};
+use docket_jobs::{Job, read_job};
 use std::test::Fail;
 
 fn words_of(rt: &HostRuntime, line: &str) -> Result<Vec<String>, Fail> {
@@ -11,29 +11,39 @@ fn words_of(rt: &HostRuntime, line: &str) -> Result<Vec<String>, Fail> {
     Ok(words)
 }
 
-/// What the words ask for: the zone and the closing time of `run`, or else to count.
-const JOBS: [(&str, Option<(&str, &str)>); 5] = [
-    ("docketctl", None),
-    ("docketctl count", None),
-    ("docketctl run", Some(("UTC0", "17:00"))),
+/// What the words ask for.
+const JOBS: [(&str, Job<'static>); 7] = [
+    ("docketctl", Job::Count),
+    ("docketctl count", Job::Count),
+    (
+        "docketctl run",
+        Job::Run {
+            zone: "UTC0",
+            close: "17:00",
+        },
+    ),
     (
         "docketctl run --zone EST5EDT,M3.2.0,M11.1.0",
-        Some(("EST5EDT,M3.2.0,M11.1.0", "17:00")),
+        Job::Run {
+            zone: "EST5EDT,M3.2.0,M11.1.0",
+            close: "17:00",
+        },
     ),
     (
         "docketctl run --close=16:30 --zone CST6",
-        Some(("CST6", "16:30")),
+        Job::Run {
+            zone: "CST6",
+            close: "16:30",
+        },
     ),
+    ("docketctl holidays 2000", Job::Holidays { year: 2000 }),
+    ("docketctl holidays 2099", Job::Holidays { year: 2099 }),
 ];
 
 #[test]
 fn jobs(rt: HostRuntime) -> Result<(), Fail> {
     for (line, wanted) in JOBS {
         let words = words_of(&rt, line)?;
-        let wanted = match wanted {
-            Some((zone, close)) => Job::Run { zone, close },
-            None => Job::Count,
-        };
         let job = read_job(rt.alloc(), words.as_slice());
         assert!(rt; job.is_ok_and(|job| job == wanted), "{line}");
     }
@@ -41,11 +51,36 @@ fn jobs(rt: HostRuntime) -> Result<(), Fail> {
 }
 
 /// What is printed where the words ask for no job, and whether that is a mistake.
-const TEXTS: [(&str, &str, bool); 8] = [
+const TEXTS: [(&str, &str, bool); 13] = [
     ("docketctl --help", "Usage: docketctl [COMMAND]", false),
     ("docketctl --version", "docketctl 0.1.0", false),
     ("docketctl count --help", "forward DAY N", false),
     ("docketctl run --help", "answer one command a line", false),
+    (
+        "docketctl holidays --help",
+        "2027-06-18 Fri Juneteenth (observed)",
+        false,
+    ),
+    (
+        "docketctl holidays 1999",
+        "invalid value '1999' for '<YEAR>': 1999 is not in 2000..=2099",
+        true,
+    ),
+    (
+        "docketctl holidays 2100",
+        "invalid value '2100' for '<YEAR>': 2100 is not in 2000..=2099",
+        true,
+    ),
+    (
+        "docketctl holidays next",
+        "invalid value 'next' for '<YEAR>'",
+        true,
+    ),
+    (
+        "docketctl holidays",
+        "the following required arguments were not provided",
+        true,
+    ),
     (
         "docketctl dance",
         "error: unrecognized subcommand 'dance'",

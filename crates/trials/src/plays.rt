@@ -1,9 +1,6 @@
-//! Plays stored inputs, and compares what is written with stored outputs: of `count`, of `run` and of
-//! the canonical texts of commands, whose outputs an independent model of the rules and of the docket
-//! computed, and of dockets that were worked out by hand from the rules. It prints a line for each
-//! input, and exits with 1 where one differs.
-#![tactic(auto)]
-
+//! Stored inputs, whose outputs are stored beside them: of `count`, of `run` and of the canonical texts
+//! of commands, whose outputs an independent model of the rules and of the docket computed, and of
+//! dockets that were worked out by hand from the rules.
 mod comparing;
 mod counting;
 mod running;
@@ -16,7 +13,6 @@ use counting::counted;
 use running::ran;
 use std::alloc::Global;
 use std::io;
-use std::process::ExitCode;
 use texts::canonical;
 use worked::worked_out;
 
@@ -69,15 +65,12 @@ fn played(alloc: Global, play: Play, input: &[u8]) -> Result<Vec<u8>, Error> {
     }
 }
 
-fn main(rt: HostRuntime) -> io::Result<ExitCode> {
+/// Plays all inputs, and prints a line for each. Whether all is written as it is stored.
+pub(crate) fn play_all(rt: &HostRuntime) -> io::Result<bool> {
     let mut all = true;
     for (play, name) in INPUTS {
-        let input = input(&rt, name)?;
-        all &= is_as_stored(&rt, name, played(rt.alloc(), play, &input))?;
+        let input = input(rt, name)?;
+        all &= is_as_stored(rt, name, played(rt.alloc(), play, &input))?;
     }
-    Ok(if all {
-        ExitCode::SUCCESS
-    } else {
-        ExitCode::from(1)
-    })
+    Ok(all)
 }

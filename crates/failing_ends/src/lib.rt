@@ -1,5 +1,7 @@
-//! Readers and writers that work piece by piece, and fail.
+//! Readers and writers that work piece by piece and fail, for tests of what reads and writes.
+#![tactic(auto)]
 
+use std::alloc::Global;
 use std::io;
 use std::io::{ErrorKind, Read, Write};
 
@@ -9,6 +11,16 @@ pub struct Pieces<'a> {
     pub rest: &'a [u8],
     pub size: usize,
     pub good_reads: u32,
+}
+
+impl<'a> Pieces<'a> {
+    pub fn new(rest: &'a [u8], size: usize, good_reads: u32) -> Pieces<'a> {
+        Pieces {
+            rest,
+            size,
+            good_reads,
+        }
+    }
 }
 
 impl Read for Pieces<'_> {
@@ -31,6 +43,17 @@ pub struct Taker {
     pub size: usize,
     pub good_writes: u32,
     pub fails: bool,
+}
+
+impl Taker {
+    pub fn new(alloc: Global, size: usize, good_writes: u32, fails: bool) -> Taker {
+        Taker {
+            taken: Vec::new(alloc),
+            size,
+            good_writes,
+            fails,
+        }
+    }
 }
 
 impl Write for Taker {

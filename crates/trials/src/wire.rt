@@ -4,7 +4,7 @@ use std::alloc::{AllocError, Global};
 use std::io::{self, Read, Write};
 
 /// The canonical text of the command on the line, or the text of the line's fault.
-fn answer(alloc: Global, line: &[u8]) -> Result<String, AllocError> {
+pub(crate) fn text_of(alloc: Global, line: &[u8]) -> Result<String, AllocError> {
     match read_command(alloc, line) {
         Ok(command) => command_text(alloc, &command),
         Err(fault) => wire_fault_text(alloc, &fault),
@@ -18,7 +18,7 @@ pub(crate) fn write_texts(rt: &HostRuntime) -> io::Result<()> {
     rt.stdin().read_to_end(&mut input)?;
     let mut out = io::BufWriter::new(alloc, rt.stdout())?;
     for line in input.as_slice().split_inclusive(|byte| *byte == b'\n') {
-        out.write_all(answer(alloc, line)?.as_bytes())?;
+        out.write_all(text_of(alloc, line)?.as_bytes())?;
         out.write_all(b"\n")?;
     }
     out.flush()

@@ -1,0 +1,55 @@
+//! A calendar of many lines.
+use anyhow::{Error, anyhow};
+use court_days::{Court, Day, End};
+use docket_command::Text;
+use docket_core::DueRow;
+use docket_text::calendar_text;
+use std::alloc::Global;
+use std::time::Instant;
+
+/// The court's zone, Eastern time.
+const ZONE: &str = "EST5EDT,M3.2.0,M11.1.0";
+
+/// 2025-06-02.
+const DAY: i32 = 20_241;
+
+/// 2025-06-02T00:00Z, in seconds since 1970-01-01T00:00Z.
+const INSTANT: i64 = 1_748_822_400;
+
+const RULES: [&str; 4] = ["12(a)(1)(A)(i)", "6(c)(1)", "59(e)", "order"];
+
+/// One of seven is an instant.
+fn end_of(number: u32) -> Result<End, Error> {
+    if number % 7 == 0 {
+        return Ok(End::Moment(INSTANT + 60 * i64::from(number % 1_000_000)));
+    }
+    let day = Day::new(DAY + (number % 3650) as i32).ok_or_else(|| anyhow!("no day"))?;
+    Ok(End::LastDay(day))
+}
+
+fn row(alloc: Global, number: u32) -> Result<DueRow, Error> {
+    Ok(DueRow {
+        end: end_of(number)?,
+        case: 1 + number % 100_000,
+        number: 1 + number % 1000,
+        party: number % 4,
+        rule: Text::from_str(alloc, RULES[(number % 4) as usize])?,
+    })
+}
+
+/// Writes a calendar of so many lines to standard output, and the time in which its text was made to
+/// standard error.
+pub(crate) fn time_text(rt: &HostRuntime, rows: u32) -> Result<(), Error> {
+    let alloc = rt.alloc();
+    let court = Court::read(alloc, ZONE, "17:00").map_err(|_| anyhow!("no court"))?;
+    let mut due = Vec::new(alloc);
+    for number in 0..rows {
+        due.push(row(alloc, number)?)?;
+    }
+    let start = Instant::now(rt)?;
+    let text = calendar_text(alloc, &court, &due)?;
+    let time = start.elapsed(rt)?.as_nanos();
+    eprintln!(rt; "text {time}")?;
+    print!(rt; "{text}")?;
+    Ok(())
+}
