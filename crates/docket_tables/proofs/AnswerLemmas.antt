@@ -82,7 +82,7 @@ first_before [] x z e = absurd (let no = ap length e in omega (arith, no))
 first_before (y ∷ ys) x z e = e
 
 module _ {X : Type 0} (q : Query) (params : Row) (cells : X → Row) (passes : X → Bool) (kept : (x : X) → has_key (keys_of q) params (cells x) ≡ passes x) (all : List X) (found : List Row) where
-  kept_rows : filter (has_key (keys_of q) params) (map cells all) ≡ map cells (filter passes all)
+  pub kept_rows : filter (has_key (keys_of q) params) (map cells all) ≡ map cells (filter passes all)
   kept_rows = filter-map _ cells all ∙ ap (map cells) (filter_same _ _ all (all_of _ kept all))
 
   -- with no order, where one row passes at most

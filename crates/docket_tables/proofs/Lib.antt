@@ -1,5 +1,6 @@
 mod AnswerLemmas
 mod CalendarLemmas
+mod CaseActs
 mod CellLemmas
 mod ChangesLemmas
 mod CommitLemmas

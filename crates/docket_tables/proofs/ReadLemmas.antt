@@ -87,3 +87,10 @@ module _ {X : Type 0} (number : X → ℕ) where
       let kept : filter (λ y. number y == n + suc i) (x ∷ xs) ≡ filter (λ y. number y == suc n + i) xs =
       ap (λ b. cond b (x ∷ filter (λ y. number y == n + suc i) xs) (filter (λ y. number y == n + suc i) xs)) other ∙ ap (λ k. filter (λ y. number y == k) xs) (sym same) in
       elim (numbered_at (suc n) i xs runs.1) [ inl none ↦ inl (none.0, kept ∙ none.1) | inr one ↦ inr (one.0, one.1, kept ∙ one.2) ]
+
+-- what was read, in other words
+pub read_as : {X : Type 0} (P Q : X → Type 0) (result : Result X ReadFault) → ((x : X) → P x → Q x) → IsReadAs P result → IsReadAs Q result
+read_as P Q (Ok x) f h = f x h
+read_as P Q (Err (Store e)) f h = h
+read_as P Q (Err NoMemory) f h = h
+read_as P Q (Err Damaged) f h = h

@@ -25,7 +25,7 @@ from-snoc k n acts (r ∷ rows) row =
     let same : (n + 1) + length rows ≡ n + length (r ∷ rows) = omega arith in
     ap (λ ds. shown_with r (acts_of_deadline k n acts) ∷ ds) (from-snoc k (n + 1) acts rows row ∙ ap (λ m. deadlines_from k (n + 1) acts rows ++ shown_with row (acts_of_deadline k m acts) ∷ []) same)
 
-number_at : (n i : ℕ) (rows : List DeadlineRow) (d : DeadlineRow) → RunsFrom n (map (λ r. r.number) rows) → i < length rows → (get_or rows i d).number ≡ n + i
+pub number_at : (n i : ℕ) (rows : List DeadlineRow) (d : DeadlineRow) → RunsFrom n (map (λ r. r.number) rows) → i < length rows → (get_or rows i d).number ≡ n + i
 number_at n i [] d runs low = absurd (omega (arith, low))
 number_at n zero (r ∷ rows) d runs low = runs.0 ∙ omega arith
 number_at n (suc i) (r ∷ rows) d runs low = number_at (suc n) i rows d runs.1 (omega (arith, low)) ∙ omega arith

@@ -23,7 +23,7 @@ select_text ask.Parties = codes "SELECT case_no, number, name, role FROM party W
 select_text ask.LastEntry = codes "SELECT case_no, number, day, body FROM entry WHERE case_no = ?1 ORDER BY number DESC LIMIT 1"
 select_text ask.Entries = codes "SELECT case_no, number, day, body FROM entry WHERE case_no = ?1 ORDER BY number"
 select_text ask.Deadlines = codes "SELECT case_no, number, party, rule, initial FROM deadline WHERE case_no = ?1 ORDER BY number"
-select_text ask.Acts = codes "SELECT case_no, deadline_no, number, kind, p1, p2, p3, p4, p5 FROM act WHERE case_no = ?1 AND deadline_no = ?2 ORDER BY number"
+select_text ask.Acts = codes "SELECT case_no, deadline_no, number, kind, p1, p2, p3, p4, p5 FROM act WHERE case_no = ?1 ORDER BY deadline_no, number"
 select_text ask.Receipt = codes "SELECT command_key, body, reply FROM receipt WHERE command_key = ?1"
 
 -- the table that is asked
@@ -55,7 +55,7 @@ keys_of ask.Parties = 0 ∷ []
 keys_of ask.LastEntry = 0 ∷ []
 keys_of ask.Entries = 0 ∷ []
 keys_of ask.Deadlines = 0 ∷ []
-keys_of ask.Acts = 0 ∷ 1 ∷ []
+keys_of ask.Acts = 0 ∷ []
 keys_of ask.Receipt = 0 ∷ []
 
 -- the columns in whose order the rows come
@@ -71,7 +71,7 @@ order_of ask.Parties = 1 ∷ []
 order_of ask.LastEntry = 1 ∷ []
 order_of ask.Entries = 1 ∷ []
 order_of ask.Deadlines = 1 ∷ []
-order_of ask.Acts = 2 ∷ []
+order_of ask.Acts = 1 ∷ 2 ∷ []
 order_of ask.Receipt = []
 
 -- whether the highest number comes first, and no other

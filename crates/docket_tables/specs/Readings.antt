@@ -1,13 +1,15 @@
 -- What a question to a connection gives.
-use Rattle.std.specs.Prelude.{Result, Ok, Err}
+use Rattle.std.specs.Prelude.{◌≡◌, ◌==◌, ℕ, List, filter, Result, Ok, Err}
+use Rattle.std.specs.List.Sorted.{IsNonDecreasingBy}
 use Rattle.sqlite.specs.Store.{Ghosts}
 use Rattle.sqlite.specs.State.{HasCleanDisk}
 use Rattle.sqlite.specs.Held.{Held, state}
 use Rattle.court_days.specs.Court.{CourtSettings}
 use Rattle.docket_core.specs.Tables.{Tables}
+use Rattle.docket_core.specs.declared.row.ActRow.{ActRow}
 use Rattle.docket_tables.specs.Contents.{rows_in}
 use Rattle.docket_tables.specs.Layouts.{Rows}
-use Rattle.docket_tables.specs.Orderly.{IsOrderly}
+use Rattle.docket_tables.specs.Orderly.{IsOrderly, acts_on}
 use Rattle.docket_tables.specs.Stands.{HoldsRows, Lasts}
 use Rattle.docket_tables.specs.declared.fault.ReadFault.{ReadFault}
 use Rattle.docket_tables.specs.declared.fault.ReadFault.TheVariants.{Store, NoMemory, Damaged}
@@ -17,6 +19,11 @@ abbrev pub IsReadAs : {X : Type 0} → (X → Type 0) → Result X ReadFault →
 IsReadAs answer (Ok x) = answer x
 IsReadAs answer (Err NoMemory) = Unit {0}
 IsReadAs answer (Err _) = ⊥
+
+-- the rows are the acts of case k, by their deadlines: of each deadline its acts, in their order
+abbrev pub AreActsOf : ℕ → List ActRow → List ActRow → Type 0
+AreActsOf k acts found =
+    ((n : ℕ) → filter (λ row. row.deadline == n) found ≡ acts_on k n acts) × IsNonDecreasingBy (λ row. row.deadline) found
 
 module _ {S : Type 0} (g : Ghosts S) where
   -- what a failure leaves: the connection holds the rows still, but where the store failed it may be shut

@@ -28,7 +28,7 @@ pub use laws::{dockets_are_orderly, dockets_are_recognized};
 pub use probe::fault_of;
 pub use query::Query;
 pub use reading::{
-    acts, calendar, case, cases, count_entries, count_parties, court, deadlines, entries,
+    acts_of_case, calendar, case, cases, count_entries, count_parties, court, deadlines, entries,
     is_label_taken, is_row_standing, kept, parties, version,
 };
 pub use recognition::{has_court, has_court_columns, has_docket_table, is_bare};

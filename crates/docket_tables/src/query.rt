@@ -27,7 +27,7 @@ pub enum Query {
     Entries,
     /// The deadlines of a case, in the order of their numbers.
     Deadlines,
-    /// The acts of a deadline of a case, in the order of their numbers.
+    /// The acts of a case, in the order of their deadlines and numbers.
     Acts,
     /// The receipt under a key.
     Receipt,
@@ -66,7 +66,7 @@ pub(crate) fn select_text(query: Query) -> &'static str
             "SELECT case_no, number, party, rule, initial FROM deadline WHERE case_no = ?1 ORDER BY number"
         }
         Query::Acts => {
-            "SELECT case_no, deadline_no, number, kind, p1, p2, p3, p4, p5 FROM act WHERE case_no = ?1 AND deadline_no = ?2 ORDER BY number"
+            "SELECT case_no, deadline_no, number, kind, p1, p2, p3, p4, p5 FROM act WHERE case_no = ?1 ORDER BY deadline_no, number"
         }
         Query::Receipt => { "SELECT command_key, body, reply FROM receipt WHERE command_key = ?1" }
     }

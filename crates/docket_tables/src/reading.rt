@@ -4,13 +4,13 @@ ghost use Rattle.std.specs.List.{list_any};
 ghost use Rattle.std.specs.Str.{bytes_eq};
 ghost use Rattle.sqlite.specs.Held.{state};
 ghost use Rattle.sqlite.specs.View.{doubt};
-ghost use Rattle.docket_core.specs.Histories.{parties_of_case, entries_of_case, deadlines_of_case, acts_of_deadline};
+ghost use Rattle.docket_core.specs.Histories.{parties_of_case, entries_of_case, deadlines_of_case};
 ghost use Rattle.docket_core.specs.Outcomes.{kept};
 ghost use Rattle.docket_core.specs.Records.{case_at};
 ghost use Rattle.docket_wire.specs.Valid.{IsCommand};
 ghost use Rattle.docket_wire.specs.Writing.{canonical};
 ghost use Rattle.docket_tables.specs.Layouts.{Rows};
-ghost use Rattle.docket_tables.specs.Readings.{Gives, Reads};
+ghost use Rattle.docket_tables.specs.Readings.{AreActsOf, Gives, Reads};
 ghost use Rattle.docket_tables.specs.Recognition.{TellsVersion};
 ghost use Rattle.docket_tables.specs.Stands.{HoldsRows};
 ghost use Rattle.docket_tables.specs.declared.table.Table.TheVariants as table;
@@ -22,10 +22,9 @@ use crate::rows::{
     parties_in, version_in,
 };
 use crate::store::ask;
-use court_rules::Act;
 use docket_columns::CourtRow;
 use docket_command::Command;
-use docket_core::{CalendarRow, CaseRow, DeadlineRow, EntryRow, Kept, PartyRow};
+use docket_core::{ActRow, CalendarRow, CaseRow, DeadlineRow, EntryRow, Kept, PartyRow};
 use sqlite::types::ToSql;
 use sqlite::{Alter, Connection};
 use std::alloc::Global;
@@ -171,18 +170,17 @@ pub fn deadlines<S: Alter>(
     deadlines_in(alloc, rows.as_slice())
 }
 
-/// The acts of a deadline of a case, in the order of their numbers.
-pub fn acts<S: Alter>(
+/// The acts of a case: those of each deadline in the order of their numbers.
+pub fn acts_of_case<S: Alter>(
     conn: &mut Connection<S>,
     alloc: Global,
     case: u32,
-    deadline: u32,
-) -> Result<Vec<Act>, ReadFault>
-    ensures read { Reads S.Store conn.old conn.new result (λ _ t found. found.items ≡ acts_of_deadline case deadline t.acts) }
+) -> Result<Vec<ActRow>, ReadFault>
+    ensures read { Reads S.Store conn.old conn.new result (λ _ t found. AreActsOf case t.acts found.items) }
     ensures clean { doubt (state S.Store conn.old).is_clean ≤ doubt (state S.Store conn.new).is_clean }
     ensures mode { conn.old.in_transaction ≡ false → conn.new.in_transaction ≡ false }
 {
-    let rows = ask(conn, Query::Acts, &[case.to_sql(), deadline.to_sql()])?;
+    let rows = ask(conn, Query::Acts, &[case.to_sql()])?;
     acts_in(alloc, rows.as_slice())
 }
 

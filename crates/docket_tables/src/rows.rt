@@ -1,6 +1,7 @@
 //! Rows of SQL as rows of a docket.
-ghost use Rattle.std.specs.Prelude.{◌≡◌, ℕ, ◌^◌, ◌<◌, List, [], ◌∷◌, Ok, Some, None, pos, map, IfOk};
+ghost use Rattle.std.specs.Prelude.{◌≡◌, ◌==◌, ℕ, ◌^◌, ◌<◌, ◌≤◌, List, [], ◌∷◌, length, Ok, Some, None, pos, map, filter, IfOk};
 ghost use Rattle.std.specs.List.{AllByRecursion};
+ghost use Rattle.std.specs.List.Sorted.{IsNonDecreasingBy, IsPartitionPoint};
 ghost use Rattle.sqlite.specs.Order.{Row as Cells, column};
 ghost use Rattle.sqlite.specs.declared.types.Value.TheVariants.{Int};
 ghost use Rattle.docket_core.specs.declared.row.ActRow.{ActRow as OnDeadline};
@@ -87,8 +88,8 @@ pub(crate) fn deadlines_in(alloc: Global, rows: &[Row]) -> Result<Vec<DeadlineRo
     Ok(found)
 }
 
-/// The rows of acts.
-fn act_rows_in(alloc: Global, rows: &[Row]) -> Result<Vec<ActRow>, ReadFault>
+/// The acts of rows.
+pub(crate) fn acts_in(alloc: Global, rows: &[Row]) -> Result<Vec<ActRow>, ReadFault>
     ensures { (all : List OnDeadline) → AllByRecursion IsActRow all → rows.now ≡ map act_cells all → IsReadAs (λ found. found.items ≡ all) result }
 {
     let mut found = Vec::new(alloc);
@@ -101,22 +102,30 @@ fn act_rows_in(alloc: Global, rows: &[Row]) -> Result<Vec<ActRow>, ReadFault>
     Ok(found)
 }
 
-fn acts_of(alloc: Global, rows: &[ActRow]) -> Result<Vec<Act>, AllocError>
-    ensures { IfOk result (λ found. found.items ≡ map (λ row. row.act) rows.now) }
+/// How many acts, by their deadlines, come up to the deadline.
+pub(crate) fn count_up_to(rows: &[ActRow], deadline: u32) -> usize
+    ensures bound { result ≤ length rows.now }
+    ensures cut { IsNonDecreasingBy (λ (row : OnDeadline). row.deadline) rows.now
+        → IsPartitionPoint (λ (row : OnDeadline). row.deadline ≤ deadline) (λ (row : OnDeadline). deadline < row.deadline) rows.now result }
+{
+    rows.partition_point(|row| row.deadline <= deadline)
+}
+
+/// The acts of a deadline, among those of its case.
+pub(crate) fn acts_among(
+    alloc: Global,
+    rows: &[ActRow],
+    deadline: u32,
+) -> Result<Vec<Act>, AllocError>
+    ensures { IfOk result (λ found. found.items ≡ map (λ row. row.act) (filter (λ row. row.deadline == deadline) rows.now)) }
 {
     let mut found = Vec::new(alloc);
     for row in rows {
-        found.push(row.act)?;
+        if row.deadline == deadline {
+            found.push(row.act)?;
+        }
     }
     Ok(found)
-}
-
-/// The acts of rows.
-pub(crate) fn acts_in(alloc: Global, rows: &[Row]) -> Result<Vec<Act>, ReadFault>
-    ensures { (all : List OnDeadline) → AllByRecursion IsActRow all → rows.now ≡ map act_cells all → IsReadAs (λ found. found.items ≡ map (λ row. row.act) all) result }
-{
-    let found = act_rows_in(alloc, rows)?;
-    Ok(acts_of(alloc, found.as_slice())?)
 }
 
 /// The court of the first row.

@@ -1,5 +1,5 @@
 //! What a docket's tables show about a command.
-ghost use Rattle.std.specs.Prelude.{◌≡◌, ◌≤◌, false, ◌&&◌, nat_le, IfOk};
+ghost use Rattle.std.specs.Prelude.{◌≡◌, ◌≤◌, ℕ, List, map, false, ◌&&◌, nat_le, IfOk};
 ghost use Rattle.std.specs.Option.{option_and_then};
 ghost use Rattle.sqlite.specs.Held.{state};
 ghost use Rattle.sqlite.specs.View.{doubt};
@@ -9,17 +9,20 @@ ghost use Rattle.docket_core.specs.Outcomes.{is_label_taken, is_row_standing};
 ghost use Rattle.docket_core.specs.Tables.{case_in, view_in};
 ghost use Rattle.docket_wire.specs.Valid.{IsCommand};
 ghost use Rattle.docket_wire.specs.Writing.{canonical};
-ghost use Rattle.docket_tables.specs.Readings.{Reads, IsReadAs};
+ghost use Rattle.docket_core.specs.declared.row.ActRow.{ActRow as OnDeadline};
+ghost use Rattle.docket_tables.specs.Orderly.{RunsFrom};
+ghost use Rattle.docket_tables.specs.Readings.{AreActsOf, Reads, IsReadAs};
 
 use crate::fault::ReadFault;
 use crate::reading::{
-    acts, calendar, cases, count_entries, count_parties, court, deadlines, is_label_taken,
+    acts_of_case, calendar, cases, count_entries, count_parties, court, deadlines, is_label_taken,
     is_row_standing, kept,
 };
+use crate::rows::{acts_among, count_up_to};
 use docket_command::{Action, Command};
 use docket_core::{
-    Acts, CalendarItem, CalendarItems, CalendarRow, CaseView, DeadlineRow, DeadlineView, Deadlines,
-    View, case_named,
+    ActRow, Acts, CalendarItem, CalendarItems, CalendarRow, CaseView, DeadlineRow, DeadlineView,
+    Deadlines, View, case_named,
 };
 use sqlite::{Alter, Connection};
 use std::alloc::{AllocError, Global};
@@ -75,20 +78,21 @@ pub fn calendar_items<S: Alter>(
     Ok(CalendarItems::new(items_of(alloc, rows.as_slice())?))
 }
 
-/// These deadlines of a case, each with its acts.
-fn with_acts<S: Alter>(
-    conn: &mut Connection<S>,
+/// These deadlines of a case, each with its acts among those of the case, which stand by their deadlines.
+fn with_acts(
     alloc: Global,
-    case: u32,
-    rows: &[DeadlineRow],
-) -> Result<Vec<DeadlineView>, ReadFault>
-    ensures read { Reads S.Store conn.old conn.new result (λ _ t found. rows.now ≡ deadlines_of_case case t.deadlines → found.items ≡ deadlines_from case 1 t.acts rows.now) }
-    ensures clean { doubt (state S.Store conn.old).is_clean ≤ doubt (state S.Store conn.new).is_clean }
-    ensures mode { conn.old.in_transaction ≡ false → conn.new.in_transaction ≡ false }
+    deadlines: &[DeadlineRow],
+    acts: &[ActRow],
+) -> Result<Vec<DeadlineView>, AllocError>
+    ensures { (k : ℕ) (all : List OnDeadline) → RunsFrom 1 (map (λ row. row.number) deadlines.now) → AreActsOf k all acts.now
+        → IfOk result (λ found. found.items ≡ deadlines_from k 1 all deadlines.now) }
 {
     let mut found = Vec::new(alloc);
-    for row in rows {
-        let list = acts(conn, alloc, case, row.number)?;
+    let mut rest = acts;
+    for row in deadlines {
+        let (own, later) = rest.split_at(count_up_to(rest, row.number));
+        let list = acts_among(alloc, own, row.number)?;
+        rest = later;
         found.push(DeadlineView {
             party: row.party,
             rule: row.rule,
@@ -110,7 +114,8 @@ fn deadline_views<S: Alter>(
     ensures mode { conn.old.in_transaction ≡ false → conn.new.in_transaction ≡ false }
 {
     let rows = deadlines(conn, alloc, case)?;
-    with_acts(conn, alloc, case, rows.as_slice())
+    let acts = acts_of_case(conn, alloc, case)?;
+    Ok(with_acts(alloc, rows.as_slice(), acts.as_slice())?)
 }
 
 fn is_among(number: u32, count: u32) -> bool

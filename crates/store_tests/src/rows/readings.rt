@@ -124,15 +124,18 @@ fn deadlines(rt: HostRuntime) -> Result<(), Fail> {
 #[test]
 fn acts(rt: HostRuntime) -> Result<(), Fail> {
     let mut conn = filled(rt.alloc())?;
+    let mut wanted = Vec::new(rt.alloc());
     for deadline in [1, 2, 3] {
-        let wanted = acts_of(rt.alloc(), deadline)?;
-        let found = tables::acts(&mut conn, rt.alloc(), 1, deadline)?;
-        assert!(rt;
-            found.as_slice() == wanted.as_slice(),
-            "deadline {deadline}"
-        );
+        for act in acts_of(rt.alloc(), deadline)? {
+            wanted.push((deadline, act))?;
+        }
     }
-    assert!(rt; tables::acts(&mut conn, rt.alloc(), 2, 1)?.is_empty());
+    let rows = tables::acts_of_case(&mut conn, rt.alloc(), 1)?;
+    assert_eq!(rt; rows.len(), wanted.len());
+    for (row, (deadline, act)) in rows.iter().zip(&wanted) {
+        assert!(rt; row.deadline == *deadline && row.act == *act);
+    }
+    assert!(rt; tables::acts_of_case(&mut conn, rt.alloc(), 2)?.is_empty());
     Ok(())
 }
 

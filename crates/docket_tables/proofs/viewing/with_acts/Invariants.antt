@@ -1,17 +1,15 @@
-use Rattle.std.proofs.Common.{◌≡◌, ◌≤◌, false, take}
-use Rattle.sqlite.specs.Held.{state}
-use Rattle.sqlite.specs.State.{HasCleanDisk}
-use Rattle.sqlite.specs.View.{doubt}
-use Rattle.court_days.specs.Court.{CourtSettings}
-use Rattle.docket_core.specs.Histories.{deadlines_from, deadlines_of_case}
-use Rattle.docket_core.specs.Tables.{Tables}
-use Rattle.docket_tables.specs.Contents.{rows_in}
-use Rattle.docket_tables.specs.Orderly.{IsOrderly}
-use Rattle.docket_tables.specs.Stands.{HoldsRows}
+use Rattle.std.proofs.Common.{◌≡◌, ◌==◌, ◌<◌, ℕ, List, map, take, filter}
+use Rattle.std.specs.List.Sorted.{IsNonDecreasingBy}
+use Rattle.docket_core.specs.Histories.{deadlines_from}
+use Rattle.docket_core.specs.declared.row.ActRow.{ActRow}
+use Rattle.docket_tables.specs.Orderly.{RunsFrom, acts_on}
+use Rattle.docket_tables.specs.Readings.{AreActsOf}
 use Rattle.docket_tables.proofs.viewing.with_acts.Given as goal
 
+-- the deadlines so far have their acts, and those of the later ones are left
 abbrev pub invariant-loop-row : goal.invariant-loop-row
-invariant-loop-row g l =
-    (l.fn.conn.in_transaction ≡ false → l.conn.in_transaction ≡ false) × (doubt (state g.S.Store l.fn.conn).is_clean ≤ doubt (state g.S.Store l.conn).is_clean)
-    × ((court : CourtSettings) (t : Tables) → IsOrderly court t → HoldsRows g.S.Store l.fn.conn (rows_in court t) → HoldsRows g.S.Store l.conn (rows_in court t)
-    × (HasCleanDisk (state g.S.Store l.conn) → l.rows ≡ deadlines_of_case l.case t.deadlines → l.found.items ≡ deadlines_from l.case 1 t.acts (take l.row-index l.rows)))
+invariant-loop-row l =
+    (k : ℕ) (all : List ActRow) → RunsFrom 1 (map (λ row. row.number) l.deadlines) → AreActsOf k all l.acts
+    → (l.found.items ≡ deadlines_from k 1 all (take l.row-index l.deadlines))
+    × ((n : ℕ) → l.row-index < n → filter (λ row. row.deadline == n) l.rest ≡ acts_on k n all)
+    × IsNonDecreasingBy (λ row. row.deadline) l.rest

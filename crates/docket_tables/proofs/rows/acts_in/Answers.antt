@@ -2,7 +2,7 @@ use Rattle.std.proofs.Common.{◌≡◌, ◌∙◌, ◌<◌, ◌++◌, [], ◌�
 use Rattle.docket_columns.specs.Cells.{act_cells}
 use Rattle.docket_columns.specs.Fits.{IsActRow}
 use Rattle.docket_tables.proofs.RowLemmas.{row_of}
-use Rattle.docket_tables.proofs.rows.act_rows_in.Goals as goal
+use Rattle.docket_tables.proofs.rows.acts_in.Goals as goal
 
 pub returns-in_default : goal.returns-in_default
 returns-in_default c all each are =

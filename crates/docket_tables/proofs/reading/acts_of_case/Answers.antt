@@ -1,0 +1,24 @@
+use Rattle.std.proofs.Common.{◌∙◌, ◌==◌, [], ◌∷◌, pos, sym, ap, subst, filter}
+use Rattle.std.specs.List.Sorted.{IsNonDecreasingBy}
+use Rattle.docket_core.specs.declared.row.ActRow.{ActRow}
+use Rattle.docket_columns.specs.Fits.{IsActRow}
+use Rattle.docket_tables.specs.Contents.{rows_in}
+use Rattle.docket_tables.specs.Readings.{AreActsOf}
+use Rattle.docket_tables.proofs.CaseActs.{in_turn, in_turn_of, in_turn_rises, in_turn_all, answered_in_turn}
+use Rattle.docket_tables.proofs.ReadLemmas.{gives, read_as}
+use Rattle.docket_tables.proofs.reading.acts_of_case.Goals as goal
+
+pub returns-clause-read : goal.returns-clause-read
+returns-clause-read g c court t orderly holds =
+    let asked = c.in_ok-rows.ensures.ok (rows_in court t) holds in
+    let rows = c.in_ok-rows.rows.items in
+    let k = c.args.case in
+    let runs = orderly.acts_run k in
+    let turn = in_turn k t.acts runs in
+    gives g.S.Store c.ask.new.conn (rows_in court t) _ c.acts_in.result asked.0 (λ clean.
+    let answer = rw c.to_sql.ensures at (asked.1 clean) in
+    read_as _ _ c.acts_in.result (λ found are. (
+      λ n. ap (λ xs. filter (λ row. row.deadline == n) xs) are ∙ in_turn_of k t.acts runs n,
+      subst (IsNonDecreasingBy (λ (row : ActRow). row.deadline)) (sym are) (in_turn_rises k t.acts runs),
+    ))
+    (c.acts_in.ensures turn (in_turn_all k t.acts runs IsActRow orderly.acts) (c.as_slice.ensures.value ∙ answered_in_turn k t.acts runs rows answer)))
