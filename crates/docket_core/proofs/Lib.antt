@@ -1,6 +1,7 @@
 pub mod ActsInOrder
 pub mod ActsKept
 pub mod CalendarLemmas
+pub mod EndChanges
 pub mod FirstActs
 pub mod GoodValues
 pub mod InOrderLemmas

@@ -6,6 +6,7 @@ mod calendar;
 mod changes;
 mod deadline;
 mod decision;
+mod end_row;
 mod item;
 mod laws;
 mod lines;
@@ -18,6 +19,7 @@ mod view;
 
 pub use calendar::calendar_of;
 pub use decision::{Changes, DecideFault, Decision, decide};
+pub use end_row::{EndChange, EndRow, EndTime, due_changes};
 pub use item::CalendarItem;
 pub use laws::{
     acts_are_in_order, limits_are_kept, rows_are_numbered_in_order, rows_stand_until_withdrawn,
