@@ -1,0 +1,20 @@
+use Rattle.std.proofs.Common.{◌≡◌, ◌∙◌, ◌++◌, [], ◌∷◌, ℕ, List, Ok, sym, ap, subst, rules}
+use Rattle.docket_core.specs.Outcomes.{outcome}
+use Rattle.docket_wire.specs.Reading.{command_in}
+use Rattle.line_io.specs.Report.{Judged}
+use Rattle.command_lines.specs.Ending.{StandsAs}
+use Rattle.command_lines.specs.Lines.{Docket, judged_read}
+use Rattle.command_lines.proofs.AnswerLemmas.{said_is}
+use Rattle.command_lines.proofs.clerk.ClerkAnswerer.answer.Goals as goal
+
+pub returns-in_ok-push_line-in-Ok-clause-ok : goal.returns-in_ok-push_line-in-Ok-clause-ok
+returns-in_ok-push_line-in-Ok-clause-ok g c s shows clean =
+    let command = c.in-Ok.command in
+    let told = c.in_ok-answer-in-Ok.ensures.said s shows clean in
+    let same = said_is c.in_ok-answer-in-Ok.answer (outcome s.court s.history command) told.0 in
+    let is : command_in c.args.line.now ≡ Ok command = c.in-Ok.ensures.value in
+    let judged_is = ap (judged_read s) (sym is) in (
+      c.in_ok-push_line-in-Ok.ensures.ok ∙ ap (λ (t : List ℕ). c.args.out.now.items ++ (t ++ 10 ∷ [])) (c.in_ok-text-in-Ok.ensures ∙ same.0) ∙ ap (λ (j : Judged Docket). c.args.out.now.items ++ j.text) judged_is,
+      (let bad = same.1 ∙ ap (λ (j : Judged Docket). j.bad) judged_is in search rules),
+      subst (λ (j : Judged Docket). StandsAs g.S.Store c.apply.new.self j.after) judged_is told.1,
+    )
