@@ -1,10 +1,12 @@
 //! Stored inputs, whose outputs are stored beside them: of `count`, of `run` and of the canonical texts
 //! of commands, whose outputs an independent model of the rules and of the docket computed, and of
-//! dockets that were worked out by hand from the rules.
+//! dockets that were worked out by hand from the rules. Commands are played over the docket in SQLite's
+//! tables, and once more over the docket in vectors.
 mod comparing;
 mod counting;
 mod running;
 mod texts;
+mod vectors;
 mod worked;
 
 use anyhow::Error;
@@ -25,12 +27,12 @@ enum Play {
     Texts,
     /// By `run`, in a court of UTC0.
     Run,
-    /// By `run`, in a court of Eastern time; then a line for each deadline of case 1.
+    /// By `run`, in a court of Eastern time, with where the deadlines of case 1 stand.
     Worked,
 }
 
 /// The input is data/NAME.in, and what is to be written is data/NAME.out.
-const INPUTS: [(Play, &str); 22] = [
+const INPUTS: [(Play, &str); 28] = [
     (Play::Count, "count-days"),
     (Play::Count, "count-1"),
     (Play::Count, "count-2"),
@@ -42,6 +44,12 @@ const INPUTS: [(Play, &str); 22] = [
     (Play::Run, "run-hours"),
     (Play::Run, "run-wire"),
     (Play::Worked, "worked-summons"),
+    (Play::Worked, "worked-filings"),
+    (Play::Worked, "worked-holiday"),
+    (Play::Worked, "worked-vacated"),
+    (Play::Worked, "worked-keys"),
+    (Play::Worked, "worked-refusals"),
+    (Play::Worked, "worked-full-calendar"),
     (Play::Worked, "worked-ruling"),
     (Play::Worked, "worked-awaiting"),
     (Play::Worked, "worked-statement"),
@@ -65,12 +73,24 @@ fn played(alloc: Global, play: Play, input: &[u8]) -> Result<Vec<u8>, Error> {
     }
 }
 
-/// Plays all inputs, and prints a line for each. Whether all is written as it is stored.
+/// What is written on the input over the docket in vectors, if it is one of commands.
+fn played_in_vectors(alloc: Global, play: Play, input: &[u8]) -> Option<Result<Vec<u8>, Error>> {
+    match play {
+        Play::Count | Play::Texts => None,
+        Play::Run => Some(vectors::ran(alloc, input)),
+        Play::Worked => Some(vectors::worked_out(alloc, input)),
+    }
+}
+
+/// Plays all inputs, and prints a line for each that is as stored, or not. Whether all is so.
 pub(crate) fn play_all(rt: &HostRuntime) -> io::Result<bool> {
     let mut all = true;
     for (play, name) in INPUTS {
         let input = input(rt, name)?;
-        all &= is_as_stored(rt, name, played(rt.alloc(), play, &input))?;
+        all &= is_as_stored(rt, name, "", played(rt.alloc(), play, &input))?;
+        if let Some(written) = played_in_vectors(rt.alloc(), play, &input) {
+            all &= is_as_stored(rt, name, ", in vectors", written)?;
+        }
     }
     Ok(all)
 }

@@ -1,5 +1,5 @@
-//! Tests of the parts that need no database: dates, zones, periods, rules, acts, commands, dockets in
-//! vectors, texts, lines, `count`, and the words of the command line. They stand in a crate of their own, since a crate with tests is proved twice.
+//! Tests of the parts that need no database: dates, zones, periods, rules, acts, commands,
+//! texts, lines, `count`, and the words of the command line. They stand in a crate of their own, since a crate with tests is proved twice.
 #![tactic(auto)]
 
 #[cfg(test)]
@@ -10,8 +10,6 @@ mod commands;
 mod count;
 #[cfg(test)]
 mod dates;
-#[cfg(test)]
-mod dockets;
 #[cfg(test)]
 mod hours;
 #[cfg(test)]

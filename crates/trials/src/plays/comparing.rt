@@ -18,25 +18,27 @@ fn lines_alike(left: &[u8], right: &[u8]) -> usize {
         .count()
 }
 
-/// Whether what was written on the input of that name is what is stored. It prints a line.
+/// Whether what was written on the input of that name is what is stored. It prints a line, with how it
+/// was played.
 pub(crate) fn is_as_stored(
     rt: &HostRuntime,
     name: &str,
+    how: &str,
     written: Result<Vec<u8>, Error>,
 ) -> io::Result<bool> {
     let written = match written {
         Ok(written) => written,
         Err(fault) => {
-            println!(rt; "{name}: {fault}")?;
+            println!(rt; "{name}{how}: {fault}")?;
             return Ok(false);
         }
     };
     let wanted = output(rt, name)?;
     if written.as_slice() != wanted.as_slice() {
         let alike = lines_alike(&written, &wanted);
-        println!(rt; "{name}: as stored for {alike} lines, and then otherwise")?;
+        println!(rt; "{name}{how}: as stored for {alike} lines, and then otherwise")?;
         return Ok(false);
     }
-    println!(rt; "{name}: as stored")?;
+    println!(rt; "{name}{how}: as stored")?;
     Ok(true)
 }

@@ -1,4 +1,4 @@
-//! Commands of `run`.
+//! Commands of `run`, over a docket in SQLite's tables in memory.
 use anyhow::{Error, anyhow};
 use command_lines::{Clerk, command_run};
 use court_days::Court;
@@ -7,7 +7,7 @@ use sqlite::{Connection, MemStore};
 use std::alloc::Global;
 
 /// A clerk who keeps a docket without any record, in memory, for a court of the zone.
-fn clerk(alloc: Global, zone: &str) -> Result<Clerk<MemStore>, Error> {
+pub(crate) fn clerk(alloc: Global, zone: &str) -> Result<Clerk<MemStore>, Error> {
     let court = Court::read(alloc, zone, "17:00").map_err(|_| anyhow!("no court"))?;
     let connection = Connection::open_in_memory(alloc)?;
     match Docket::create(alloc, connection, court) {
@@ -21,24 +21,24 @@ fn clerk(alloc: Global, zone: &str) -> Result<Clerk<MemStore>, Error> {
     }
 }
 
-/// What is answered to the commands for a court of the zone, and the clerk with the docket that they
-/// leave.
-pub(crate) fn answered(
+/// Appends what the clerk answers to the commands.
+pub(crate) fn answer(
     alloc: Global,
-    zone: &str,
+    clerk: &mut Clerk<MemStore>,
     commands: &[u8],
-) -> Result<(Vec<u8>, Clerk<MemStore>), Error> {
-    let mut clerk = clerk(alloc, zone)?;
+    written: &mut Vec<u8>,
+) -> Result<(), Error> {
     let mut commands = commands;
-    let mut written = Vec::new(alloc);
-    match command_run(alloc, &mut commands, &mut written, &mut clerk) {
-        Ok(_) => Ok((written, clerk)),
+    match command_run(alloc, &mut commands, written, clerk) {
+        Ok(_) => Ok(()),
         Err(fault) => Err(anyhow!("{fault}")),
     }
 }
 
 /// What `run` writes on the commands.
 pub(crate) fn ran(alloc: Global, commands: &[u8]) -> Result<Vec<u8>, Error> {
-    let (written, _) = answered(alloc, "UTC0", commands)?;
+    let mut clerk = clerk(alloc, "UTC0")?;
+    let mut written = Vec::new(alloc);
+    answer(alloc, &mut clerk, commands, &mut written)?;
     Ok(written)
 }

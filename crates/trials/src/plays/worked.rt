@@ -1,6 +1,7 @@
 //! Dockets worked out by hand, with the deadlines that they leave.
-use crate::plays::running::answered;
+use crate::plays::running::{answer, clerk};
 use anyhow::{Error, anyhow};
+use command_lines::Clerk;
 use court_days::{Court, Day, End};
 use court_rules::Standing;
 use docket_core::DeadlineLine;
@@ -9,10 +10,13 @@ use sqlite::MemStore;
 use std::alloc::{AllocError, Global};
 
 /// The court's zone, Eastern time.
-const ZONE: &str = "EST5EDT,M3.2.0,M11.1.0";
+pub(crate) const ZONE: &str = "EST5EDT,M3.2.0,M11.1.0";
 
 /// The case whose deadlines are shown.
-const CASE: u32 = 1;
+pub(crate) const CASE: u32 = 1;
+
+/// The line that asks where the deadlines of the case stand.
+pub(crate) const ASKED: &[u8] = b"?\n";
 
 /// The first and the last instant that a text may show, in seconds since 1970-01-01T00:00Z.
 const INSTANTS: (i64, i64) = (315_705_600, 64_060_329_600);
@@ -47,7 +51,7 @@ fn standing_text(alloc: Global, court: &Court, standing: Standing) -> Result<Str
 }
 
 /// A line for each deadline.
-fn push_deadlines(
+pub(crate) fn push_deadlines(
     alloc: Global,
     court: &Court,
     lines: &[DeadlineLine],
@@ -71,12 +75,31 @@ fn push_case(alloc: Global, docket: &mut Docket<MemStore>, out: &mut Vec<u8>) ->
     }
 }
 
-/// What is answered to the commands, and then where the deadlines of the case stand.
-pub(crate) fn worked_out(alloc: Global, commands: &[u8]) -> Result<Vec<u8>, Error> {
-    let (mut written, clerk) = answered(alloc, ZONE, commands)?;
+/// The clerk, after where the deadlines of the case stand was appended.
+fn shown(
+    alloc: Global,
+    clerk: Clerk<MemStore>,
+    out: &mut Vec<u8>,
+) -> Result<Clerk<MemStore>, Error> {
     let mut docket = clerk.into_docket();
-    let pushed = push_case(alloc, &mut docket, &mut written);
-    let _ = docket.close();
+    let pushed = push_case(alloc, &mut docket, out);
+    let clerk = Clerk::new(alloc, docket);
     pushed?;
+    Ok(clerk)
+}
+
+/// What is answered to the commands. A line `?` among them, and the end, ask where the deadlines of the
+/// case stand.
+pub(crate) fn worked_out(alloc: Global, commands: &[u8]) -> Result<Vec<u8>, Error> {
+    let mut clerk = clerk(alloc, ZONE)?;
+    let mut written = Vec::new(alloc);
+    for line in commands.split_inclusive(|byte| *byte == b'\n') {
+        if line == ASKED {
+            clerk = shown(alloc, clerk, &mut written)?;
+        } else {
+            answer(alloc, &mut clerk, line, &mut written)?;
+        }
+    }
+    shown(alloc, clerk, &mut written)?;
     Ok(written)
 }

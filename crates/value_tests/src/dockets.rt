@@ -1,3 +1,0 @@
-//! The docket in vectors, worked through.
-mod steps;
-mod worked;
