@@ -69,60 +69,90 @@ fn runs_to(text: &[u8]) -> Result<Option<Standing>, Fail> {
     Ok(Some(Standing::Running(End::LastDay(day(text)?))))
 }
 
+fn filed_in_time() -> Result<Act, Fail> {
+    Ok(Act::Done(moment(b"2025-07-07T23:59-04:00")?, Way::Electronic))
+}
+
+/// A time that a motion for a more definite statement suspends, up to the statement.
+fn statement_ordered(alloc: Global) -> Result<Vec<Act>, Fail> {
+    let mut acts = Vec::new(alloc);
+    acts.push(start(b"2025-06-13", 21, Direction::Forward)?)?;
+    acts.push(Act::Motion(day(b"2025-07-01")?, MotionKind::E))?;
+    acts.push(Act::AwaitStatement(day(b"2025-08-01")?))?;
+    acts.push(Act::Resume(day(b"2025-08-15")?, true))?;
+    Ok(acts)
+}
+
+/// Where a deadline with these acts stands in a court of Eastern time, with an empty calendar.
+fn standing_of(alloc: Global, acts: &[Act]) -> Result<Option<Standing>, Fail> {
+    let court = Court::read(alloc, EASTERN, "17:00")?;
+    Ok(standing(&court, &Calendar::new(alloc), acts))
+}
+
+/// The same with the first acts, so many of them.
+fn standing_after(alloc: Global, acts: &[Act], count: usize) -> Result<Option<Standing>, Fail> {
+    standing_of(alloc, acts.get(..count).ok_or("fewer acts")?)
+}
+
+/// The same where the office is closed on 2025-08-30, a Saturday.
+fn standing_while_closed(alloc: Global, acts: &[Act]) -> Result<Option<Standing>, Fail> {
+    let court = Court::read(alloc, EASTERN, "17:00")?;
+    let mut calendar = Calendar::new(alloc);
+    calendar.add_day(DayKind::Closed, day(b"2025-08-30")?)?;
+    Ok(standing(&court, &calendar, acts))
+}
+
 #[test]
 fn a_motion_for_a_more_definite_statement(rt: HostRuntime) -> Result<(), Fail> {
-    let court = Court::read(rt.alloc(), EASTERN, "17:00")?;
-    let calendar = Calendar::new(rt.alloc());
-    let acts = [
-        start(b"2025-06-13", 21, Direction::Forward)?,
-        Act::Motion(day(b"2025-07-01")?, MotionKind::E),
-        Act::AwaitStatement(day(b"2025-08-01")?),
-        Act::Resume(day(b"2025-08-15")?, true),
-    ];
-    assert!(rt; standing(&court, &calendar, &acts[..1]) == runs_to(b"2025-07-07")?);
-    assert!(rt; standing(&court, &calendar, &acts[..2]) == Some(Standing::Suspended));
-    assert!(rt; standing(&court, &calendar, &acts[..3]) == Some(Standing::Awaiting));
-    assert!(rt; standing(&court, &calendar, &acts) == runs_to(b"2025-09-02")?);
+    let alloc = rt.alloc();
+    let acts = statement_ordered(alloc)?;
+    assert!(rt; standing_after(alloc, &acts, 1)? == runs_to(b"2025-07-07")?);
+    assert!(rt; standing_after(alloc, &acts, 2)? == Some(Standing::Suspended));
+    assert!(rt; standing_after(alloc, &acts, 3)? == Some(Standing::Awaiting));
+    assert!(rt; standing_after(alloc, &acts, 4)? == runs_to(b"2025-09-02")?);
     Ok(())
+}
+
+fn two_days_in_hours() -> Result<Act, Fail> {
+    Ok(Act::Start(Start::Hours(HourPeriod {
+        at: moment(b"2025-06-20T15:30-04:00")?,
+        hours: 48,
+        direction: Direction::Forward,
+    })))
 }
 
 #[test]
 fn extensions(rt: HostRuntime) -> Result<(), Fail> {
-    let court = Court::read(rt.alloc(), EASTERN, "17:00")?;
-    let mut calendar = Calendar::new(rt.alloc());
-    let hours = Act::Start(Start::Hours(HourPeriod {
-        at: moment(b"2025-06-20T15:30-04:00")?,
-        hours: 48,
-        direction: Direction::Forward,
-    }));
+    let alloc = rt.alloc();
+    let hours = two_days_in_hours()?;
     let end = Standing::Running(End::Moment(moment(b"2025-06-23T15:30-04:00")?));
-    assert!(rt; standing(&court, &calendar, &[hours]) == Some(end));
-    assert!(rt; standing(&court, &calendar, &[hours, Act::ExtendBy(2)]) == runs_to(b"2025-06-25")?);
-
-    // A Saturday on which the office is closed.
-    calendar.add_day(DayKind::Closed, day(b"2025-08-30")?)?;
-    let fixed = Act::Fixed(day(b"2025-08-30")?);
-    assert!(rt; standing(&court, &calendar, &[fixed]) == runs_to(b"2025-08-30")?);
-    assert!(rt; standing(&court, &calendar, &[fixed, Act::ExtendBy(1)]) == runs_to(b"2025-09-02")?);
-    let extended = [
-        start(b"2025-06-13", 21, Direction::Forward)?,
-        Act::ExtendTo(day(b"2025-08-30")?),
-    ];
-    assert!(rt; standing(&court, &calendar, &extended) == runs_to(b"2025-08-30")?);
-
+    assert!(rt; standing_of(alloc, &[hours])? == Some(end));
+    assert!(rt; standing_of(alloc, &[hours, Act::ExtendBy(2)])? == runs_to(b"2025-06-25")?);
     let back = start(b"2000-01-01", 3650, Direction::Backward)?;
-    assert!(rt; standing(&court, &calendar, &[back, Act::ExtendBy(10)]) == runs_to(b"1990-01-16")?);
+    assert!(rt; standing_of(alloc, &[back, Act::ExtendBy(10)])? == runs_to(b"1990-01-16")?);
+    Ok(())
+}
+
+#[test]
+fn days_that_the_court_sets(rt: HostRuntime) -> Result<(), Fail> {
+    let alloc = rt.alloc();
+    let fixed = Act::Fixed(day(b"2025-08-30")?);
+    assert!(rt; standing_while_closed(alloc, &[fixed])? == runs_to(b"2025-08-30")?);
+    let longer = [fixed, Act::ExtendBy(1)];
+    assert!(rt; standing_while_closed(alloc, &longer)? == runs_to(b"2025-09-02")?);
+    let first = start(b"2025-06-13", 21, Direction::Forward)?;
+    let extended = [first, Act::ExtendTo(day(b"2025-08-30")?)];
+    assert!(rt; standing_while_closed(alloc, &extended)? == runs_to(b"2025-08-30")?);
     Ok(())
 }
 
 #[test]
 fn ends_of_deadlines(rt: HostRuntime) -> Result<(), Fail> {
-    let court = Court::read(rt.alloc(), EASTERN, "17:00")?;
-    let calendar = Calendar::new(rt.alloc());
+    let alloc = rt.alloc();
     let first = start(b"2025-06-13", 21, Direction::Forward)?;
-    let done = Act::Done(moment(b"2025-07-07T23:59-04:00")?, Way::Electronic);
-    assert!(rt; standing(&court, &calendar, &[first, done]) == Some(Standing::Done));
-    assert!(rt; standing(&court, &calendar, &[first, Act::Vacated]) == Some(Standing::Vacated));
+    let done = filed_in_time()?;
+    assert!(rt; standing_of(alloc, &[first, done])? == Some(Standing::Done));
+    assert!(rt; standing_of(alloc, &[first, Act::Vacated])? == Some(Standing::Vacated));
     assert!(rt; !acts_ok(&[first, done, Act::Vacated]));
     assert!(rt; !acts_ok(&[first, first]));
     assert!(rt; !acts_ok(&[done]));

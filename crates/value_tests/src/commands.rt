@@ -2,6 +2,7 @@
 use court_days::{DayKind, Direction, Way, read_day};
 use court_rules::{Method, MotionKind};
 use docket_command::*;
+use std::alloc::Global;
 use std::test::Fail;
 
 /// Whether the value is spelled so, and the spelling read as the value.
@@ -63,25 +64,32 @@ fn moments(rt: HostRuntime) -> Result<(), Fail> {
     Ok(())
 }
 
-#[test]
-fn copies(rt: HostRuntime) -> Result<(), Fail> {
-    let alloc = rt.alloc();
+/// The action under the key `c1`.
+fn command(alloc: Global, action: Action) -> Result<Command, Fail> {
+    let key = Text::from_str(alloc, "c1")?;
+    Ok(Command { key, action })
+}
+
+fn an_import(alloc: Global) -> Result<Command, Fail> {
     let day = read_day(b"2025-11-28").ok_or("no day")?;
     let name = Text::from_str(alloc, "Day after Thanksgiving")?;
     let kind = DayKind::State;
     let rows = NewDays::new(vec![in alloc; NewDay { kind, day, name }]?);
-    let key = Text::from_str(alloc, "c1")?;
-    let action = Action::ImportCalendar(ImportCalendar { rows });
-    let command = Command { key, action };
+    command(alloc, Action::ImportCalendar(ImportCalendar { rows }))
+}
+
+fn a_vacation(alloc: Global) -> Result<Command, Fail> {
+    let (case, deadline) = (1, 1);
+    command(alloc, Action::Vacate(Vacate { case, deadline }))
+}
+
+#[test]
+fn copies(rt: HostRuntime) -> Result<(), Fail> {
+    let command = an_import(rt.alloc())?;
     let copy = command.copied()?;
-    assert!(rt; command.same(&copy) && copy.action.name() == CommandName::ImportCalendar);
-    let other = Command {
-        key: Text::from_str(alloc, "c1")?,
-        action: Action::Vacate(Vacate {
-            case: 1,
-            deadline: 1,
-        }),
-    };
+    assert!(rt; command.same(&copy));
+    assert!(rt; copy.action.name() == CommandName::ImportCalendar);
+    let other = a_vacation(rt.alloc())?;
     assert!(rt; !command.same(&other));
     Ok(())
 }
