@@ -73,14 +73,24 @@ fn filed_in_time() -> Result<Act, Fail> {
     Ok(Act::Done(moment(b"2025-07-07T23:59-04:00")?, Way::Electronic))
 }
 
-/// A time that a motion for a more definite statement suspends, up to the statement.
-fn statement_ordered(alloc: Global) -> Result<Vec<Act>, Fail> {
-    let mut acts = Vec::new(alloc);
-    acts.push(start(b"2025-06-13", 21, Direction::Forward)?)?;
-    acts.push(Act::Motion(day(b"2025-07-01")?, MotionKind::E))?;
-    acts.push(Act::AwaitStatement(day(b"2025-08-01")?))?;
-    acts.push(Act::Resume(day(b"2025-08-15")?, true))?;
-    Ok(acts)
+fn motion(text: &[u8]) -> Result<Act, Fail> {
+    Ok(Act::Motion(day(text)?, MotionKind::E))
+}
+
+fn statement_awaited(text: &[u8]) -> Result<Act, Fail> {
+    Ok(Act::AwaitStatement(day(text)?))
+}
+
+fn statement_served(text: &[u8]) -> Result<Act, Fail> {
+    Ok(Act::Resume(day(text)?, true))
+}
+
+fn fixed(text: &[u8]) -> Result<Act, Fail> {
+    Ok(Act::Fixed(day(text)?))
+}
+
+fn extended_to(text: &[u8]) -> Result<Act, Fail> {
+    Ok(Act::ExtendTo(day(text)?))
 }
 
 /// Where a deadline with these acts stands in a court of Eastern time, with an empty calendar.
@@ -89,27 +99,26 @@ fn standing_of(alloc: Global, acts: &[Act]) -> Result<Option<Standing>, Fail> {
     Ok(standing(&court, &Calendar::new(alloc), acts))
 }
 
-/// The same with the first acts, so many of them.
-fn standing_after(alloc: Global, acts: &[Act], count: usize) -> Result<Option<Standing>, Fail> {
-    standing_of(alloc, acts.get(..count).ok_or("fewer acts")?)
-}
-
-/// The same where the office is closed on 2025-08-30, a Saturday.
-fn standing_while_closed(alloc: Global, acts: &[Act]) -> Result<Option<Standing>, Fail> {
+/// Whether it runs to that day where the office is closed on 2025-08-30, a Saturday.
+fn is_due_while_closed(alloc: Global, acts: &[Act], on: &[u8]) -> Result<bool, Fail> {
     let court = Court::read(alloc, EASTERN, "17:00")?;
     let mut calendar = Calendar::new(alloc);
     calendar.add_day(DayKind::Closed, day(b"2025-08-30")?)?;
-    Ok(standing(&court, &calendar, acts))
+    let wanted = Some(Standing::Running(End::LastDay(day(on)?)));
+    Ok(standing(&court, &calendar, acts) == wanted)
 }
 
 #[test]
 fn a_motion_for_a_more_definite_statement(rt: HostRuntime) -> Result<(), Fail> {
     let alloc = rt.alloc();
-    let acts = statement_ordered(alloc)?;
-    assert!(rt; standing_after(alloc, &acts, 1)? == runs_to(b"2025-07-07")?);
-    assert!(rt; standing_after(alloc, &acts, 2)? == Some(Standing::Suspended));
-    assert!(rt; standing_after(alloc, &acts, 3)? == Some(Standing::Awaiting));
-    assert!(rt; standing_after(alloc, &acts, 4)? == runs_to(b"2025-09-02")?);
+    let first = start(b"2025-06-13", 21, Direction::Forward)?;
+    let motion = motion(b"2025-07-01")?;
+    let awaited = statement_awaited(b"2025-08-01")?;
+    let served = statement_served(b"2025-08-15")?;
+    assert!(rt; standing_of(alloc, &[first])? == runs_to(b"2025-07-07")?);
+    assert!(rt; standing_of(alloc, &[first, motion])? == Some(Standing::Suspended));
+    assert!(rt; standing_of(alloc, &[first, motion, awaited])? == Some(Standing::Awaiting));
+    assert!(rt; standing_of(alloc, &[first, motion, awaited, served])? == runs_to(b"2025-09-02")?);
     Ok(())
 }
 
@@ -136,13 +145,12 @@ fn extensions(rt: HostRuntime) -> Result<(), Fail> {
 #[test]
 fn days_that_the_court_sets(rt: HostRuntime) -> Result<(), Fail> {
     let alloc = rt.alloc();
-    let fixed = Act::Fixed(day(b"2025-08-30")?);
-    assert!(rt; standing_while_closed(alloc, &[fixed])? == runs_to(b"2025-08-30")?);
-    let longer = [fixed, Act::ExtendBy(1)];
-    assert!(rt; standing_while_closed(alloc, &longer)? == runs_to(b"2025-09-02")?);
+    let fixed = fixed(b"2025-08-30")?;
+    assert!(rt; is_due_while_closed(alloc, &[fixed], b"2025-08-30")?);
+    assert!(rt; is_due_while_closed(alloc, &[fixed, Act::ExtendBy(1)], b"2025-09-02")?);
     let first = start(b"2025-06-13", 21, Direction::Forward)?;
-    let extended = [first, Act::ExtendTo(day(b"2025-08-30")?)];
-    assert!(rt; standing_while_closed(alloc, &extended)? == runs_to(b"2025-08-30")?);
+    let extended = extended_to(b"2025-08-30")?;
+    assert!(rt; is_due_while_closed(alloc, &[first, extended], b"2025-08-30")?);
     Ok(())
 }
 
