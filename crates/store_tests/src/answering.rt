@@ -49,7 +49,7 @@ fn answers(rt: HostRuntime) -> Result<(), Fail> {
     let mut reader = INPUT;
     let mut writer = Vec::new(rt.alloc());
     let end = command_run(rt.alloc(), &mut reader, &mut writer, &mut clerk(&rt)?);
-    assert_eq!(rt; end, Ok(CountEnd { lines: 4, bad: 2 }));
+    assert!(rt; matches!(end, Ok(CountEnd { lines: 4, bad: 2 })));
     assert_eq!(rt; writer, first_answers(&rt, 4)?);
     Ok(())
 }
@@ -62,7 +62,8 @@ fn failing_reads(rt: HostRuntime) -> Result<(), Fail> {
         let mut reader = Pieces::new(INPUT, 1, good_reads as u32);
         let mut writer = Vec::new(rt.alloc());
         let end = command_run(rt.alloc(), &mut reader, &mut writer, &mut clerk(&rt)?);
-        assert_eq!(rt; end, Err(RunFault::ReadFailed), "after {good_reads} reads");
+        let failed = matches!(end, Err(RunFault::ReadFailed));
+        assert!(rt; failed, "after {good_reads} reads");
         let lines = INPUT[..good_reads].iter().filter(|b| **b == b'\n').count();
         assert_eq!(rt;
             writer,
