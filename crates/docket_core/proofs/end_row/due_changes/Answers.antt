@@ -1,4 +1,4 @@
-use Rattle.std.proofs.Common.{◌≡◌, ◌++◌, false, IsPermutation, [], sym, subst}
+use Rattle.std.proofs.Common.{◌≡◌, ◌++◌, false, IsPermutation, sym, subst}
 use Rattle.std.proofs.lemmas.Result.{IfOk-weaker}
 use Rattle.court_days.specs.Court.{zone_of}
 use Rattle.docket_core.specs.EndRows.{all_changed_ends, end_rows_of, ends_running, touches}

@@ -1,6 +1,5 @@
 use Rattle.std.proofs.Common.{◌∙◌, ap, sym, subst, map, arith}
-use Rattle.std.proofs.lemmas.Result.{IfOk-weaker}
-use Rattle.docket_core.specs.Histories.{deadlines_from, deadlines_of_case}
+use Rattle.docket_core.specs.Histories.{deadlines_from}
 use Rattle.docket_tables.specs.Contents.{rows_in}
 use Rattle.docket_tables.specs.Orderly.{RunsFrom}
 use Rattle.docket_tables.specs.Readings.{AreActsOf}
