@@ -40,13 +40,25 @@ fn given_with_stop(
     }
 }
 
+fn tells_closed<T: Drop>(answer: Result<T, Fault>) -> bool {
+    matches!(answer, Err(Fault::Closed))
+}
+
 /// Whether the docket answers the command and the questions that it is closed.
 fn is_closed(alloc: Global, docket: &mut Docket<Store>, trial: &Trial) -> Result<bool, Fail> {
-    Ok(
-        answer(alloc, docket, trial.key, trial.ask)? == Err(Fault::Closed)
-            && matches!(docket.case(1), Err(Fault::Closed))
-            && matches!(docket.deadlines(1), Err(Fault::Closed)),
-    )
+    let applied = tells_closed(answer(alloc, docket, trial.key, trial.ask)?);
+    let case = tells_closed(docket.case(1));
+    let deadlines = tells_closed(docket.deadlines(1));
+    Ok(applied && case && deadlines)
+}
+
+/// Whether the command fails, and closes the docket, which is asked twice more.
+fn is_closed_by(alloc: Global, docket: &mut Docket<Store>, trial: &Trial) -> Result<bool, Fail> {
+    let answer = answer(alloc, docket, trial.key, trial.ask)?;
+    let failed = matches!(answer, Err(Fault::StoreFailed));
+    let once = is_closed(alloc, docket, trial)?;
+    let twice = is_closed(alloc, docket, trial)?;
+    Ok(failed && once && twice)
 }
 
 /// How often the disks are asked where the command fails, and the docket, which is closed by that, is
@@ -61,15 +73,13 @@ fn calls_with_more(
     let Ok(mut docket) = recovered(alloc, files_with(alloc, before, stop)?, frames)? else {
         return Err("not opened as before".into());
     };
-    if answer(alloc, &mut docket, trial.key, trial.ask)? != Err(Fault::StoreFailed) {
-        return Err("not answered as before".into());
+    let closed = is_closed_by(alloc, &mut docket, trial);
+    let calls = calls_of(&files_of(docket.close()));
+    if closed? {
+        Ok(calls)
+    } else {
+        Err("not closed".into())
     }
-    for _ in 0..2 {
-        if !is_closed(alloc, &mut docket, trial)? {
-            return Err("not closed".into());
-        }
-    }
-    Ok(calls_of(&files_of(docket.close())))
 }
 
 /// Whether the command was acknowledged. Where it failed, further commands and questions ask no disk:
