@@ -1,13 +1,37 @@
--- What is said of a command is what its line is judged by.
-use Rattle.std.proofs.Common.{◌≡◌, inl, inr, Result, Ok, Err, is_err, sym, ap}
+-- What is said of a command is what its line is judged by, and what a fault leaves.
+use Rattle.std.proofs.Common.{◌≡◌, inl, inr, Result, Ok, Err, is_err, sym, ap, subst}
+use Rattle.sqlite.specs.Store.{Ghosts}
+use Rattle.sqlite.specs.Held.{state}
+use Rattle.sqlite.specs.State.{HasCleanDisk}
+use Rattle.docket_command.specs.declared.command.Command.{Command}
 use Rattle.docket_command.specs.declared.refusal.Refusal.{Refusal}
 use Rattle.docket_command.specs.declared.refusal.Reply.{Reply}
-use Rattle.docket_core.specs.Outcomes.{Answer}
+use Rattle.docket_core.specs.Outcomes.{Answer, after}
+use Rattle.docket_tables.specs.Stands.{LastsAsEither}
+use Rattle.docket_store.specs.Applying.{Faults, docket_rows}
+use Rattle.docket_store.specs.Dockets.{Docket as Stored}
+use Rattle.docket_store.specs.declared.fault.Fault.{Fault}
+use Rattle.docket_store.specs.declared.fault.Fault.TheVariants.{Refused, NoMemory, StoreFailed, Closed, Damaged}
 use Rattle.docket_wire.specs.Texts.{reply_text}
-use Rattle.command_lines.specs.Lines.{answer_text, is_refused, IsSaid}
+use Rattle.command_lines.specs.Ending.{FailsAt}
+use Rattle.command_lines.specs.Lines.{Docket, answer_text, docket_with, is_refused, IsSaid}
 
 -- its text, and whether it is a refusal
 pub said_is : (said : Result Reply Refusal) (answer : Answer) → IsSaid said answer → (reply_text said ≡ answer_text answer) × (is_err said ≡ is_refused answer)
 said_is (Ok reply) answer (inl repeats) = (sym (ap answer_text repeats), sym (ap is_refused repeats))
 said_is (Ok reply) answer (inr accepts) = (sym (ap answer_text accepts), sym (ap is_refused accepts))
 said_is (Err refusal) answer refuses = (sym (ap answer_text refuses), sym (ap is_refused refuses))
+
+abbrev pub IsNoRefusal : Fault → Type 0
+IsNoRefusal (Refused r) = ⊥
+IsNoRefusal _ = Unit {0}
+
+-- a command that got neither a reply nor a refusal
+pub left_by : {S : Type 0} (g : Ghosts S) (new : Stored S) (docket : Docket) (c : Command) → new.court ≡ docket.court → HasCleanDisk (state g new.conn) → (fault : Fault) → IsNoRefusal fault
+    → Faults g new docket.history c fault → FailsAt g new fault docket (docket_with docket c)
+left_by g new docket c same clean (Refused r) plain faults = absurd plain
+left_by g new docket c same clean NoMemory plain faults = inl (record { court = same; stands = faults })
+left_by g new docket c same clean StoreFailed plain faults =
+    subst (λ court. LastsAsEither g new.conn (docket_rows court docket.history) (docket_rows court (after court docket.history c))) same faults
+left_by g new docket c same clean Closed plain faults = absurd faults
+left_by g new docket c same clean Damaged plain faults = absurd (faults clean)

@@ -5,6 +5,7 @@ use Rattle.sqlite_value.specs.declared.value.Value.TheVariants.{Int, Text}
 use Rattle.sqlite_value.specs.Order.{Row, column}
 use Rattle.court_days.specs.Court.{CourtSettings}
 use Rattle.court_rules.specs.Rules.{name_of}
+use Rattle.docket_core.specs.declared.end_row.EndRow.{EndRow}
 use Rattle.docket_core.specs.declared.row.CalendarRow.{CalendarRow}
 use Rattle.docket_core.specs.declared.row.CaseRow.{CaseRow}
 use Rattle.docket_core.specs.declared.row.PartyRow.{PartyRow}
@@ -22,7 +23,7 @@ use Rattle.docket_columns.specs.Codes.{flag_number, role_number, item_code, act_
 -- court: id, word, version, zone, close, next_row
 abbrev pub court_cells : CourtSettings → ℕ → Row
 court_cells c next =
-    Int (pos 1) ∷ Text (codes "civil docket") ∷ Int (pos 0) ∷ Text c.zone_text ∷ Int (pos c.close_minute) ∷ Int (pos next) ∷ []
+    Int (pos 1) ∷ Text (codes "civil docket") ∷ Int (pos 1) ∷ Text c.zone_text ∷ Int (pos c.close_minute) ∷ Int (pos next) ∷ []
 
 -- the row of the court of a docket whose tables have this version
 abbrev pub IsMarked : ℕ → Row → Type 0
@@ -61,6 +62,10 @@ act_cells r =
     Int (pos r.case) ∷ Int (pos r.deadline) ∷ Int (pos r.number)
     ∷ Int (pos (act_code r.act).kind) ∷ Int (act_code r.act).p1 ∷ Int (pos (act_code r.act).p2)
     ∷ Int (pos (act_code r.act).p3) ∷ Int (pos (act_code r.act).p4) ∷ Int (pos (act_code r.act).p5) ∷ []
+
+-- due: case_no, deadline_no, day, moment
+abbrev pub end_cells : EndRow → Row
+end_cells r = Int (pos r.case) ∷ Int (pos r.deadline) ∷ Int r.end.day ∷ Int r.end.moment ∷ []
 
 -- receipt: command_key, body, reply
 abbrev pub stored_cells : List ℕ → List ℕ → ℕ → Row

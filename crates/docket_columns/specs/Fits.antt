@@ -11,6 +11,7 @@ use Rattle.court_rules.specs.declared.act.Start.TheVariants as start
 use Rattle.docket_command.specs.Moments.{IsWholeMinute}
 use Rattle.docket_core.specs.declared.item.CalendarItem.{CalendarItem}
 use Rattle.docket_core.specs.declared.item.CalendarItem.TheVariants as item
+use Rattle.docket_core.specs.declared.end_row.EndRow.{EndRow}
 use Rattle.docket_core.specs.declared.row.CalendarRow.{CalendarRow}
 use Rattle.docket_core.specs.declared.row.CaseRow.{CaseRow}
 use Rattle.docket_core.specs.declared.row.PartyRow.{PartyRow}
@@ -73,6 +74,9 @@ IsAct act.Vacated = Unit {0}
 
 abbrev pub IsActRow : ActRow → Type 0
 IsActRow r = IsCount r.case × IsCount r.deadline × IsCount r.number × IsAct r.act
+
+abbrev pub IsEndRow : EndRow → Type 0
+IsEndRow r = IsCount r.case × IsCount r.deadline
 
 abbrev pub IsReceipt : Receipt → Type 0
 IsReceipt r = IsCommand r.command × IsCount r.reply.number

@@ -18,7 +18,7 @@ use std::alloc::{AllocError, Global};
 const WORD: &str = "civil docket";
 
 /// How the tables are laid out.
-const VERSION: u32 = 0;
+const VERSION: u32 = 1;
 
 const MINUTES_OF_A_DAY: u32 = 1440;
 

@@ -1,5 +1,7 @@
 -- From what the tables' functions leave to what a command leaves.
-use Rattle.std.proofs.Common.{◌≡◌, ◌⊎◌, inl, inr, ◌∷◌, ℕ, ◌+◌, ◌<◌, ◌^◌, List, Option, refl, sym, ap, subst, ◌∙◌, arith}
+use Rattle.std.proofs.Common.{◌≡◌, ◌⊎◌, inl, inr, ◌∷◌, ℕ, ◌+◌, ◌-◌, length, ◌<◌, ◌^◌, List, Option, false, refl, sym, ap, subst, ◌∙◌, arith}
+use Rattle.std.specs.Prelude.{IfSome}
+use Rattle.court_days.specs.Calendar.{Entered}
 use Rattle.sqlite.specs.Store.{Ghosts}
 use Rattle.sqlite.specs.Tree.{Trees}
 use Rattle.sqlite.specs.State.{HasCleanDisk}
@@ -10,7 +12,8 @@ use Rattle.docket_command.specs.declared.refusal.Reply.{Reply}
 use Rattle.docket_core.specs.Decisions.{IsSoundView}
 use Rattle.docket_core.specs.Histories.{History, next_row}
 use Rattle.docket_core.specs.Outcomes.{Answer, repeated, refused, accepted, shown, outcome, after, after_answer}
-use Rattle.docket_core.specs.Tables.{rows_of, with_receipt, all_changed}
+use Rattle.docket_core.specs.Records.{calendar}
+use Rattle.docket_core.specs.Tables.{Tables, rows_of, with_receipt, all_changed}
 use Rattle.docket_core.specs.declared.decision.Changes.{Changes}
 use Rattle.docket_core.specs.declared.view.View.{View}
 use Rattle.docket_core.proofs.LimitsKept.{within_limits, sound_view}
@@ -19,6 +22,8 @@ use Rattle.docket_tables.specs.Contents.{rows_in}
 use Rattle.docket_tables.specs.Layouts.{Rows}
 use Rattle.docket_tables.specs.Orderly.{IsOrderly}
 use Rattle.docket_tables.specs.Stands.{HoldsRows, IsImage, Lasts, LastsAsEither, IsSettled, IsEither}
+use Rattle.docket_tables.specs.Settling.{IsMoved, IsSettling, case_moved, changes_calendar}
+use Rattle.docket_tables.proofs.HistoryLemmas.{settling}
 use Rattle.docket_tables.proofs.OrderlyLemmas.{orderly}
 use Rattle.docket_core.specs.declared.item.CalendarItem.{CalendarItem}
 use Rattle.docket_store.specs.Applying.{IsDocket, IsAccepted, docket_rows, Keeps, FailsAs, Faults}
@@ -54,6 +59,15 @@ numbers_fit court h count is few = omega (arith, (within_limits court h is.histo
 pub rows_after : (court : CourtSettings) (h : History) (c : Command) (changes : Changes) → IsAccepted court h c changes
     → rows_in court (with_receipt c changes.reply (all_changed changes.rows.items (rows_of court h))) ≡ docket_rows court (after court h c)
 rows_after court h c changes is = ap (rows_in court) (is.1 ∙ ap (rows_of court) (sym (after_accepted court h c changes.reply is.0)))
+
+-- the ends that an accepted command may move
+pub settles_accepted : (court : CourtSettings) (h : History) (c : Command) (changes : Changes) (given : Option Entered) (first after_last : ℕ) → IsDocket court h → IsCommand c → IsAccepted court h c changes
+    → IfSome given (λ found. (found ≡ calendar h) × (changes_calendar c.action ≡ false))
+    → IsMoved c.action (length (rows_of court h).cases) (case_moved c.action) first after_last
+    → IsSettling court given first (after_last - first) (rows_of court h) (with_receipt c changes.reply (all_changed changes.rows.items (rows_of court h)))
+settles_accepted court h c changes given first after_last is lawful accepted_is shown moved =
+    subst (λ (next : Tables). IsSettling court given first (after_last - first) (rows_of court h) next) (sym accepted_is.1)
+    (settling court h c is.settings ((changes.reply, accepted_is.0), is.history) (lawful, is.commands) given first after_last shown moved)
 
 module _ {S : Type 0} (g : Ghosts S) (conn : Held S) where
   pub either_from_lasts : (rows next : Rows) → Lasts g conn rows → LastsAsEither g conn rows next

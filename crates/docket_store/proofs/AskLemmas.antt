@@ -1,5 +1,5 @@
 -- From what the tables' questions give to what a question to a docket gives.
-use Rattle.std.proofs.Common.{◌≡◌, ◌&&◌, ℕ, Bool, true, false, List, Option, Some, None, length, nat_le, unwrap_or, if◌then◌else◌, Result, Ok, Err, IsErrAnd, refl, sym, ap, subst, arith}
+use Rattle.std.proofs.Common.{◌≡◌, ◌&&◌, ℕ, Bool, true, false, List, [], Option, Some, None, length, nat_le, unwrap_or, if◌then◌else◌, Result, Ok, Err, IsErrAnd, refl, sym, ap, subst, arith}
 use Rattle.std.specs.Prelude.{MatchResult}
 use Rattle.std.specs.Option.{option_map}
 use Rattle.std.proofs.lemmas.List.{length-map}
@@ -7,6 +7,8 @@ use Rattle.sqlite.specs.Store.{Ghosts}
 use Rattle.sqlite.specs.State.{HasCleanDisk}
 use Rattle.sqlite.specs.Held.{Held, state}
 use Rattle.court_days.specs.Court.{CourtSettings, zone_of}
+use Rattle.docket_command.specs.declared.command.Command.{Command}
+use Rattle.docket_command.specs.declared.refusal.Reply.{Reply}
 use Rattle.docket_core.specs.Histories.{History, items_of, standing_rows, case_rows, act_rows, deadline_rows, deadlines, deadlines_of_case}
 use Rattle.docket_core.specs.Records.{calendar, deadline_lines, lines_from}
 use Rattle.docket_core.specs.Tables.{case_in, rows_of}
@@ -16,12 +18,13 @@ use Rattle.docket_core.specs.declared.view.CaseView.{CaseView}
 use Rattle.docket_core.specs.declared.view.DeadlineView.{DeadlineView}
 use Rattle.docket_core.proofs.Leading.{length-deadlines_from}
 use Rattle.docket_core.proofs.LimitsKept.{within_limits, lawful_deadlines}
-use Rattle.docket_store.specs.Applying.{IsDocket, Stands, Asks, FailsAs, Keeps, docket_rows}
+use Rattle.docket_store.specs.Applying.{IsDocket, Stands, Asks, Applies, Faults, FailsAs, Keeps, docket_rows}
 use Rattle.docket_store.specs.Dockets.{Docket, serving}
-use Rattle.docket_store.specs.Sound.{IsSoundCase, IsNotTold}
+use Rattle.docket_tables.specs.Sound.{IsSoundCase}
+use Rattle.docket_store.specs.Sound.{IsNotTold}
 use Rattle.docket_store.specs.declared.fault.Fault.{Fault}
 use Rattle.docket_store.specs.declared.fault.Fault.TheVariants.{Refused, NoMemory, StoreFailed, Closed, Damaged}
-use Rattle.docket_store.proofs.ApplyLemmas.{lasts_from_either}
+use Rattle.docket_store.proofs.ApplyLemmas.{lasts_from_either, either_from_lasts}
 
 module _ {S : Type 0} (g : Ghosts S) where
   -- a question that the database did not answer
@@ -32,6 +35,13 @@ module _ {S : Type 0} (g : Ghosts S) where
   asks_failed conn court kept h answer StoreFailed is keeps fails = lasts_from_either g conn (docket_rows court h) fails
   asks_failed conn court kept h answer Closed is keeps fails = absurd fails
   asks_failed conn court kept h answer Damaged is keeps fails = fails
+
+  -- a docket is closed where its database failed, and there alone
+  pub asks_kept : {X : Type 0} (conn : Held S) (court : CourtSettings) (kept : Option (List CalendarItem)) (h : History) (answer : X → Type 0) (closed : Bool) (result : Result X Fault) → (closed ≡ true → result ≡ Err StoreFailed)
+      → Asks g (serving conn court kept) h answer result → Asks g (record { conn = conn; court = court; closed = closed; calendar = kept }) h answer result
+  asks_kept conn court kept h answer false result failed asks = asks
+  asks_kept conn court kept h answer true result failed asks =
+      subst (λ r. Asks g (record { conn = conn; court = court; closed = true; calendar = kept }) h answer r) (sym (failed refl)) (subst (λ r. Asks g (serving conn court kept) h answer r) (failed refl) asks)
 
   fault_of_other : {X Y : Type 0} (d : Docket S) (h : History) (P : X → Type 0) (Q : Y → Type 0) (f : Fault) → Asks g d h P (Err f) → Asks g d h Q (Err f)
   fault_of_other d h P Q (Refused r) asks = absurd asks
@@ -44,6 +54,18 @@ module _ {S : Type 0} (g : Ghosts S) where
   pub asks_err : {X Y : Type 0} (d : Docket S) (h : History) (P : X → Type 0) (Q : Y → Type 0) (f : Fault) (result : Result Y Fault) → IsErrAnd result (λ e. e ≡ f) → Asks g d h P (Err f) → Asks g d h Q result
   asks_err d h P Q f (Ok y) same asks = absurd same
   asks_err d h P Q f (Err e) same asks = subst (λ (k : Fault). Asks g d h Q (Err k)) (sym same) (fault_of_other d h P Q f asks)
+
+  -- a question that was not answered ends a command
+  pub applies_err : {X : Type 0} (d : Docket S) (h : History) (c : Command) (P : X → Type 0) (f : Fault) (result : Result Reply Fault) → IsErrAnd result (λ e. e ≡ f) → Asks g d h P (Err f) → Applies g d h c result
+  applies_err d h c P f (Ok reply) same asks = absurd same
+  applies_err d h c P f (Err e) same asks = subst (λ (k : Fault). Faults g d h c k) (sym same) (ends f asks)
+    where
+      ends : (k : Fault) → Asks g d h P (Err k) → Faults g d h c k
+      ends (Refused r) asked = absurd asked
+      ends NoMemory stands = stands
+      ends StoreFailed lasts = either_from_lasts g d.conn (docket_rows d.court h) _ lasts
+      ends Closed asked = absurd asked
+      ends Damaged asked = asked
 
   -- the deadlines that were told, where a history shows them; and else why they were not
   pub asks_told : {X : Type 0} (d : Docket S) (h : History) (court : CourtSettings) (items : List CalendarItem) (ds : List DeadlineView) (P answer : X → Type 0) (result : Result X Fault) → Stands g d h
@@ -64,6 +86,12 @@ sound_case court h k is =
       few = omega (arith, length-deadlines_from k 1 (act_rows h) (deadlines_of_case k (deadline_rows h)), within.deadlines k);
       acts = lawful_deadlines court h within k;
     }
+
+-- and every calendar without deadlines is
+pub sound_calendar : (court : CourtSettings) (h : History) → IsDocket court h → IsSoundCase court (items_of (standing_rows h)) []
+sound_calendar court h is =
+    let sound = sound_case court h 0 is in
+    record { entered = sound.entered; rows = sound.rows; few = omega arith; acts = λ i d low. absurd (omega (arith, low)) }
 
 if_mapped : {X Y : Type 0} (f : X → Y) (b : Bool) (x : X) → option_map f (if b then Some x else None) ≡ (if b then Some (f x) else None)
 if_mapped f true x = refl

@@ -4,4 +4,3 @@ mod AskLemmas
 mod OpeningLemmas
 mod ReopeningLemmas
 mod RunLemmas
-mod SoundLemmas

@@ -115,7 +115,7 @@ fn court_by_version<S: Alter>(conn: &mut Connection<S>, alloc: Global) -> Result
     ensures other { result ≢ Err Empty }
 {
     match version(conn) {
-        Ok(Some(0)) => read_court(conn, alloc),
+        Ok(Some(1)) => read_court(conn, alloc),
         Ok(Some(_)) => Err(AdoptFault::OtherVersion),
         Ok(None) => Err(AdoptFault::NotADocket),
         Err(fault) => Err(adopt_fault(conn, fault)),

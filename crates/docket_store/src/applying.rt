@@ -3,7 +3,6 @@ ghost use Rattle.std.specs.Prelude.{◌≡◌, ◌≤◌, ◌<◌, ◌^◌, ◌�
 ghost use Rattle.sqlite.specs.Held.{state};
 ghost use Rattle.sqlite.specs.State.{HasCleanDisk};
 ghost use Rattle.sqlite.specs.View.{doubt};
-ghost use Rattle.court_days.specs.Court.{CourtSettings};
 ghost use Rattle.docket_command.specs.declared.command.Command.{Command as Asked};
 ghost use Rattle.docket_core.specs.Histories.{History};
 ghost use Rattle.docket_wire.specs.Valid.{IsCommand};
@@ -11,12 +10,13 @@ ghost use Rattle.docket_wire.specs.Writing.{canonical};
 ghost use Rattle.docket_store.specs.Applying.{IsDocket, StandsFor, Keeps, Stands, IsAccepted, Applies};
 ghost use Rattle.docket_store.specs.Dockets.{serving};
 
-use crate::fault::{Fault, store_fault};
+use crate::asking::calendar_for;
+use crate::fault::{Fault, read_fault, store_fault};
 use crate::judging::judge;
 use court_days::Court;
 use docket_command::{Action, Command, Reply};
 use docket_core::{CalendarItems, Changes, Decision};
-use docket_tables::write;
+use docket_tables::{cases_moved, write};
 use docket_wire::command_text;
 use sqlite::{Alter, Connection};
 use std::alloc::Global;
@@ -43,6 +43,8 @@ fn keep_calendar(kept: &mut Option<CalendarItems>, action: &Action)
 /// Writes what an accepted command changes.
 fn keep<S: Alter>(
     conn: &mut Connection<S>,
+    alloc: Global,
+    court: &Court,
     kept: &mut Option<CalendarItems>,
     command: &Command,
     body: &str,
@@ -53,13 +55,27 @@ fn keep<S: Alter>(
     requires lawful { IsCommand command.now }
     ensures idle { conn.new.in_transaction ≡ false }
     ensures clean { doubt (state S.Store conn.old).is_clean ≤ doubt (state S.Store conn.new).is_clean }
-    ensures kept { (court : CourtSettings) (h : History) → Stands S.Store (serving conn.old court kept.old) h
-        → (HasCleanDisk (state S.Store conn.old) → IsAccepted court h command.now changes.now)
-        → Applies S.Store (serving conn.new court kept.new) h command.now result }
+    ensures kept { (h : History) → Stands S.Store (serving conn.old court.now kept.old) h
+        → (HasCleanDisk (state S.Store conn.old) → IsAccepted court.now h command.now changes.now)
+        → Applies S.Store (serving conn.new court.now kept.new) h command.now result }
 {
     changes_fit(changes);
+    let calendar = calendar_for(conn, alloc, court, kept, &command.action)?;
+    let cases = match cases_moved(conn, &command.action) {
+        Ok(cases) => cases,
+        Err(fault) => return Err(read_fault(conn, fault)),
+    };
     keep_calendar(kept, &command.action);
-    match write(conn, command, body, changes) {
+    match write(
+        conn,
+        alloc,
+        court,
+        calendar.as_ref(),
+        cases,
+        command,
+        body,
+        changes,
+    ) {
         Ok(()) => Ok(changes.reply),
         Err(error) => Err(store_fault(conn, error)),
     }
@@ -82,6 +98,8 @@ pub(crate) fn apply_to<S: Alter>(
     let body = command_text(alloc, command)?;
     match judge(conn, alloc, court, kept, command, body.as_str())? {
         Decision::Repeat(reply) => Ok(reply),
-        Decision::Change(changes) => keep(conn, kept, command, body.as_str(), &changes),
+        Decision::Change(changes) => {
+            keep(conn, alloc, court, kept, command, body.as_str(), &changes)
+        }
     }
 }

@@ -14,11 +14,10 @@ ghost use Rattle.docket_store.specs.Applying.{IsDocket, StandsFor, Keeps, Stands
 ghost use Rattle.docket_store.specs.Dockets.{serving};
 
 use crate::fault::{Fault, read_fault};
-use crate::sound::is_sound;
 use court_days::Court;
 use docket_command::{Action, Command};
 use docket_core::{CalendarItems, DecideFault, Decision, View, asks_calendar, decide};
-use docket_tables::{ReadFault, calendar_items, view};
+use docket_tables::{ReadFault, calendar_items, is_sound, view};
 use sqlite::{Alter, Connection};
 use std::alloc::Global;
 

@@ -14,7 +14,6 @@ mod recovering;
 mod reopening;
 mod returned;
 mod sequence;
-mod sound;
 
 pub use adopting::AdoptFault;
 pub use creating::CreateFault;

@@ -16,6 +16,8 @@ use Rattle.sqlite.specs.Query.{Output, output, IsAnswerAs}
 use Rattle.sqlite.specs.Program.{overlay}
 use Rattle.sqlite.specs.Edit.{edit_of, edited, with_rowid, without_all, put_all, numbered}
 use Rattle.sqlite_trees.specs.Tree.{without_rowid}
+use Rattle.sqlite_trees.specs.View.{IsShaped}
+use Rattle.sqlite_trees.specs.declared.store.Shape.TheVariants as shape
 use Rattle.docket_tables.proofs.HoldsLemmas.{keyed_by, keyed_as, rowid_as}
 use Rattle.sqlite.specs.Rowids.TheVariants.{Given}
 use Rattle.sqlite.specs.Cast.{cast, cast_row}
@@ -71,19 +73,19 @@ one_more n small =
 abbrev court_places : List ℕ
 court_places = places_of Court
 
-court_as : (rows : List Row) (court : CourtSettings) (n : ℕ) (id none version close next : Value) → id ≡ Int (pos 1) → version ≡ Int (pos 0) → close ≡ Int (pos court.close_minute) → next ≡ Int (pos n)
+court_as : (rows : List Row) (court : CourtSettings) (n : ℕ) (id none version close next : Value) → id ≡ Int (pos 1) → version ≡ Int (pos 1) → close ≡ Int (pos court.close_minute) → next ≡ Int (pos n)
     → cells court_places (with_rowid Given rows (id ∷ none ∷ Text (codes "civil docket") ∷ version ∷ Text court.zone_text ∷ close ∷ next ∷ [])) ≡ court_cells court n
 court_as rows court n id none version close next a b d e = rw (a, b, d, e)
 
 module _ (settings : CourtSettings) (n : ℕ) (small : n + 1 < 2 ^ 63) where
   abbrev new_row : Row
-  new_row = Int (pos 1) ∷ Int (pos 1) ∷ Null ∷ Text (codes "civil docket") ∷ Int (pos 0) ∷ Text settings.zone_text ∷ Int (pos settings.close_minute) ∷ Int (pos (n + 1)) ∷ []
+  new_row = Int (pos 1) ∷ Int (pos 1) ∷ Null ∷ Text (codes "civil docket") ∷ Int (pos 1) ∷ Text settings.zone_text ∷ Int (pos settings.close_minute) ∷ Int (pos (n + 1)) ∷ []
 
   shown_row : (r : Row) → cells court_places r ≡ court_cells settings n → court_shown [] r ≡ new_row
   shown_row r is =
       let e0 : column r 0 ≡ Int (pos 1) = ap (λ x. column x 0) is in
       let e2 : column r 2 ≡ Text (codes "civil docket") = ap (λ x. column x 1) is in
-      let e3 : column r 3 ≡ Int (pos 0) = ap (λ x. column x 2) is in
+      let e3 : column r 3 ≡ Int (pos 1) = ap (λ x. column x 2) is in
       let e4 : column r 4 ≡ Text settings.zone_text = ap (λ x. column x 3) is in
       let e5 : column r 5 ≡ Int (pos settings.close_minute) = ap (λ x. column x 4) is in
       let e6 : binary (Arith Add) (column r 6) (Int (pos 1)) ≡ Int (pos (n + 1)) = ap (λ x. binary (Arith Add) (column x 5) (Int (pos 1))) is ∙ one_more n small in
@@ -94,8 +96,8 @@ module _ (settings : CourtSettings) (n : ℕ) (small : n + 1 < 2 ^ 63) where
     abbrev rewritten : List Row → List Row → List Row
     rewritten rows fs = put_all (without_all rows (ids_of fs)) (numbered Given (without_all rows (ids_of fs)) (map (λ s. cast_row (record court { tree = 0 }) (drop 1 s)) fs))
 
-    one_row : (r : Row) → old 0 ≡ r ∷ [] → cells court_places r ≡ court_cells settings n → map (cells court_places) (new 0) ≡ court_cells settings (n + 1) ∷ []
-    one_row r at shows =
+    rewritten_as : (r : Row) → old 0 ≡ r ∷ [] → cells court_places r ≡ court_cells settings n → new 0 ≡ with_rowid Given [] (cast_row (record court { tree = 0 }) (drop 1 new_row)) ∷ []
+    rewritten_as r at shows =
         let e0 : column r 0 ≡ Int (pos 1) = ap (λ x. column x 0) shows in
         let kept : filter (keyed_by (pos 1)) (r ∷ []) ≡ r ∷ [] = filter_all (keyed_by (pos 1)) (r ∷ []) (keyed_as (pos 1) (pos 1) r e0, tt) in
         let first : IsPermutation (court_shown [] r ∷ []) found = subst (λ rs. IsPermutation (map (court_shown []) rs) found) (ap (filter (keyed_by (pos 1))) at ∙ kept) same in
@@ -103,16 +105,29 @@ module _ (settings : CourtSettings) (n : ℕ) (small : n + 1 < 2 ^ 63) where
         let gone : without_rowid (pos 1) (r ∷ []) ≡ [] = ap (λ b. cond (not b) (r ∷ []) []) (rowid_as (pos 1) (pos 1) r e0) in
         let made : rewritten (r ∷ []) (new_row ∷ []) ≡ with_rowid Given [] (cast_row (record court { tree = 0 }) (drop 1 new_row)) ∷ [] =
         ap (λ left. put_all left (numbered Given left (map (λ s. cast_row (record court { tree = 0 }) (drop 1 s)) (new_row ∷ [])))) gone in
-        let rows : new 0 ≡ with_rowid Given [] (cast_row (record court { tree = 0 }) (drop 1 new_row)) ∷ [] = is ∙ ap (λ rs. rewritten rs found) at ∙ ap (rewritten (r ∷ [])) found_is ∙ made in
-        ap (map (cells court_places)) rows ∙ ap (λ x. x ∷ []) (court_as [] settings (n + 1) _ (cast Integer Null) _ _ _ (cast_int (pos 1)) (cast_int (pos 0)) (cast_int (pos settings.close_minute)) (cast_int (pos (n + 1))))
+        is ∙ ap (λ rs. rewritten rs found) at ∙ ap (rewritten (r ∷ [])) found_is ∙ made
+
+    one_row : (r : Row) → old 0 ≡ r ∷ [] → cells court_places r ≡ court_cells settings n → map (cells court_places) (new 0) ≡ court_cells settings (n + 1) ∷ []
+    one_row r at shows =
+        ap (map (cells court_places)) (rewritten_as r at shows) ∙ ap (λ x. x ∷ []) (court_as [] settings (n + 1) _ (cast Integer Null) _ _ _ (cast_int (pos 1)) (cast_int (pos 1)) (cast_int (pos settings.close_minute)) (cast_int (pos (n + 1))))
+
+    one_shaped : (r : Row) → old 0 ≡ r ∷ [] → cells court_places r ≡ court_cells settings n → IsShaped shape.Table (new 0)
+    one_shaped r at shows = subst (IsShaped shape.Table) (sym (rewritten_as r at shows)) ((tt, tt), (rw (cast_int (pos 1)) refl, tt))
 
     by_rows : (rows : List Row) → old 0 ≡ rows → map (cells court_places) rows ≡ court_cells settings n ∷ [] → map (cells court_places) (new 0) ≡ court_cells settings (n + 1) ∷ []
     by_rows [] at e = absurd (let no = ap length e in cc)
     by_rows (r ∷ []) at e = one_row r at (let it = e in cc)
     by_rows (r ∷ s ∷ rows) at e = absurd (let no = ap length e in omega (arith, no))
 
+    shaped : (rows : List Row) → old 0 ≡ rows → map (cells court_places) rows ≡ court_cells settings n ∷ [] → IsShaped shape.Table (new 0)
+    shaped [] at e = absurd (let no = ap length e in cc)
+    shaped (r ∷ []) at e = one_shaped r at (let it = e in cc)
+    shaped (r ∷ s ∷ rows) at e = absurd (let no = ap length e in omega (arith, no))
+
     pub court_holds : Holds 0 court_places (court_cells settings n ∷ []) old → Holds 0 court_places (court_cells settings (n + 1) ∷ []) new
-    court_holds holds = ∥∥₁_map holds (λ was. subst (λ xs. IsPermutation xs (court_cells settings (n + 1) ∷ [])) (sym (by_rows (old 0) refl (one_permutation _ _ (IsPermutation-sym _ _ was)))) (IsPermutation-refl _))
+    court_holds holds = ∥∥₁_map holds (λ was.
+        let one = one_permutation _ _ (IsPermutation-sym _ _ was.0) in
+        (subst (λ xs. IsPermutation xs (court_cells settings (n + 1) ∷ [])) (sym (by_rows (old 0) refl one)) (IsPermutation-refl _), shaped (old 0) refl one))
 
 -- the number of the next calendar row grows by one
 pub counted : (settings : CourtSettings) (n : ℕ) (rows : Rows) (old new : State) (count : ℕ) → n + 1 < 2 ^ 63 → rows Court ≡ court_cells settings n ∷ [] → Sees old rows

@@ -7,19 +7,21 @@ use Rattle.sqlite.specs.Does.{Tally, lacks_sequence}
 use Rattle.sqlite.specs.Table.{Table}
 use Rattle.sqlite.specs.Schema.{Schema}
 use Rattle.sqlite.specs.Tree.{Trees}
+use Rattle.sqlite_trees.specs.View.{IsShaped}
+use Rattle.sqlite_trees.specs.declared.store.Shape.TheVariants as shape
 use Rattle.sqlite.specs.Effect.{Database}
 use Rattle.sqlite.specs.Listing.{understood}
 use Rattle.sqlite.specs.Command.TheVariants.{CreateTable}
 use Rattle.sqlite.specs.State.{State, Executes, Shows as Turns}
 use Rattle.sqlite.proofs.Callers.{command_of, statement_of, IsPlain, runs_as}
 use Rattle.sqlite_tied.specs.Compute.{everything}
-use Rattle.docket_tables.specs.Schema.{no_schema, court_text, court, calendar_text, calendar, cases_text, cases, party_text, party, entry_text, entry, deadline_text, deadline, act_text, act, receipt_text, receipt}
+use Rattle.docket_tables.specs.Schema.{no_schema, court_text, court, calendar_text, calendar, cases_text, cases, party_text, party, entry_text, entry, deadline_text, deadline, act_text, act, receipt_text, receipt, due_text, due}
 use Rattle.docket_tables.specs.Creation.{texts, made, IsMade, no_rows}
 use Rattle.std.proofs.lemmas.List.Sorted.{IsPermutation-refl}
 use Rattle.docket_tables.specs.Holds.{cells, Holds}
 use Rattle.docket_tables.specs.Stands.{Sees}
 use Rattle.docket_tables.specs.Layouts.{AreRows, tree_of, places_of}
-use Rattle.docket_tables.specs.declared.table.Table.TheVariants.{Court, Calendar, Cases, Parties, Entries, Deadlines, Acts, Receipts}
+use Rattle.docket_tables.specs.declared.table.Table.TheVariants.{Court, Calendar, Cases, Parties, Entries, Deadlines, Acts, Receipts, Ends}
 use Rattle.docket_tables.proofs.HoldsLemmas.{all_both}
 use Rattle.docket_tables.proofs.InsertLemmas.{went, same_value}
 
@@ -65,6 +67,10 @@ receipt_defines : Defines 7 receipt_text
 unfolding understood everything
 receipt_defines = record { table = receipt; command = refl; plain = (refl, refl); words = refl; defined = refl; next = refl; uncounted = refl }
 
+due_defines : Defines 8 due_text
+unfolding understood everything
+due_defines = record { table = due; command = refl; plain = (refl, refl); words = refl; defined = refl; next = refl; uncounted = refl }
+
 same_some : {X : Type 0} {x y : X} → Some x ≡ Some y → x ≡ y
 same_some e = cc
 
@@ -77,7 +83,8 @@ defines (suc (suc (suc (suc zero)))) sql is = subst (Defines 4) (same_some is) e
 defines (suc (suc (suc (suc (suc zero))))) sql is = subst (Defines 5) (same_some is) deadline_defines
 defines (suc (suc (suc (suc (suc (suc zero)))))) sql is = subst (Defines 6) (same_some is) act_defines
 defines (suc (suc (suc (suc (suc (suc (suc zero))))))) sql is = subst (Defines 7) (same_some is) receipt_defines
-defines (suc (suc (suc (suc (suc (suc (suc (suc n)))))))) sql is = absurd (let no = is in cc)
+defines (suc (suc (suc (suc (suc (suc (suc (suc zero)))))))) sql is = subst (Defines 8) (same_some is) due_defines
+defines (suc (suc (suc (suc (suc (suc (suc (suc (suc n))))))))) sql is = absurd (let no = is in cc)
 
 all_snoc : {X : Type 0} (P : X → Type 0) (xs : List X) (x : X) → AllByRecursion P xs → P x → AllByRecursion P (xs ++ x ∷ [])
 all_snoc P [] x p q = (q, tt)
@@ -112,9 +119,9 @@ pub nothing_yet : (s : State) → s.now.schema ≡ no_schema → IsMade s 0
 nothing_yet s is = record { schema = is; serves = λ low. absurd (omega (arith, low)); empty = tt }
 
 holds_none : (tree : ℕ) (places : List ℕ) (db : Trees) → db tree ≡ [] → Holds tree places [] db
-holds_none tree places db none = ∣ subst (λ rows. IsPermutation (map (cells places) rows) []) (sym none) (IsPermutation-refl []) ∣₁
+holds_none tree places db none = ∣ subst (λ rows. IsPermutation (map (cells places) rows) [] × IsShaped shape.Table rows) (sym none) (IsPermutation-refl [], (tt, tt)) ∣₁
 
-holds_nothing : (s : State) → IsMade s 8 → AreRows no_rows s.now.trees
+holds_nothing : (s : State) → IsMade s 9 → AreRows no_rows s.now.trees
 holds_nothing s it Court = holds_none (tree_of Court) (places_of Court) s.now.trees it.empty.0
 holds_nothing s it Calendar = holds_none (tree_of Calendar) (places_of Calendar) s.now.trees it.empty.1.0
 holds_nothing s it Cases = holds_none (tree_of Cases) (places_of Cases) s.now.trees it.empty.1.1.0
@@ -123,9 +130,10 @@ holds_nothing s it Entries = holds_none (tree_of Entries) (places_of Entries) s.
 holds_nothing s it Deadlines = holds_none (tree_of Deadlines) (places_of Deadlines) s.now.trees it.empty.1.1.1.1.1.0
 holds_nothing s it Acts = holds_none (tree_of Acts) (places_of Acts) s.now.trees it.empty.1.1.1.1.1.1.0
 holds_nothing s it Receipts = holds_none (tree_of Receipts) (places_of Receipts) s.now.trees it.empty.1.1.1.1.1.1.1.0
+holds_nothing s it Ends = holds_none (tree_of Ends) (places_of Ends) s.now.trees it.empty.1.1.1.1.1.1.1.1.0
 
 -- the tables stand, and hold nothing
-pub sees_nothing : (s : State) → IsMade s 8 → Sees s no_rows
+pub sees_nothing : (s : State) → IsMade s 9 → Sees s no_rows
 sees_nothing s it =
     let serves = it.serves (omega arith) in
     record { begun = serves.1; shows = record { is_open = serves.0; schema = it.schema; live = serves.2; holds = holds_nothing s it } }

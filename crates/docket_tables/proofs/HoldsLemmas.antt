@@ -14,6 +14,9 @@ use Rattle.sqlite.specs.Tree.{Trees}
 use Rattle.sqlite.specs.Collation.TheVariants.{Binary}
 use Rattle.sqlite_schema.specs.Rules.{equal}
 use Rattle.sqlite_trees.specs.Tree.{rowid, has_rowid, without_rowid}
+use Rattle.sqlite_trees.specs.View.{IsShaped}
+use Rattle.sqlite_trees.specs.declared.store.Shape.TheVariants as shape
+use Rattle.sqlite_trees.proofs.TreeLemmas.{IsShaped-filter}
 use Rattle.sqlite.specs.Edit.{without_all}
 use Rattle.sqlite_rules.specs.Calls.{ids_of}
 use Rattle.sqlite_rules.specs.Edit.{id_in}
@@ -105,11 +108,13 @@ pub holds_without : (tree : ℕ) (rest : List ℕ) (all : List Row) (n : ℤ) (f
     → Holds tree (0 ∷ rest) (filter (λ c. not (keyed_by n c)) all) new
 holds_without tree rest all n found old new holds keyed same gone =
     ∥∥₁_map holds (λ was.
-    let shown : AllByRecursion IsKeyed (map (cells (0 ∷ rest)) (old tree)) = recursion_from_All IsKeyed _ (All-permutation IsKeyed all _ (IsPermutation-sym _ _ was) (All-from_recursion IsKeyed all keyed)) in
+    let shown : AllByRecursion IsKeyed (map (cells (0 ∷ rest)) (old tree)) = recursion_from_All IsKeyed _ (All-permutation IsKeyed all _ (IsPermutation-sym _ _ was.0) (All-from_recursion IsKeyed all keyed)) in
     let rows : AllByRecursion IsKeyed (old tree) = unmapped (cells (0 ∷ rest)) (old tree) shown in
     let is : map (cells (0 ∷ rest)) (new tree) ≡ filter (λ c. not (keyed_by n c)) (map (cells (0 ∷ rest)) (old tree)) =
-    ap (map (cells (0 ∷ rest))) (gone ∙ row_gone n (old tree) found rows same) ∙ sym (filter-map (λ c. not (keyed_by n c)) (cells (0 ∷ rest)) (old tree)) in
-    subst (λ xs. IsPermutation xs (filter (λ c. not (keyed_by n c)) all)) (sym is) (IsPermutation-filter (λ c. not (keyed_by n c)) _ _ was))
+    ap (map (cells (0 ∷ rest))) (gone ∙ row_gone n (old tree) found rows same) ∙ sym (filter-map (λ c. not (keyed_by n c)) (cells (0 ∷ rest)) (old tree)) in (
+      subst (λ xs. IsPermutation xs (filter (λ c. not (keyed_by n c)) all)) (sym is) (IsPermutation-filter (λ c. not (keyed_by n c)) _ _ was.0),
+      subst (IsShaped shape.Table) (sym (gone ∙ row_gone n (old tree) found rows same)) (IsShaped-filter shape.Table (λ r. not (keyed_by n r)) (old tree) was.1),
+    ))
   where
     unmapped : (f : Row → Row) (rs : List Row) → AllByRecursion (λ r. IsKeyed r) (map (cells (0 ∷ rest)) rs) → AllByRecursion IsKeyed rs
     unmapped f [] h = tt

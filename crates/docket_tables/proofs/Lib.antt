@@ -9,7 +9,10 @@ mod CourtLemmas
 mod CreateLemmas
 mod DeleteLemmas
 mod FoundLemmas
+mod EndLemmas
+pub mod HistoryLemmas
 mod HoldsLemmas
+mod InsideLemmas
 mod InsertLemmas
 mod LayoutLemmas
 mod OrderlyActions
@@ -24,8 +27,12 @@ mod QueryLemmas
 pub mod ReadLemmas
 pub mod ReopenLemmas
 mod RowLemmas
+mod RowidLemmas
 mod SelectLemmas
+mod SettlingLemmas
+mod SoundLemmas
 mod StandsLemmas
 mod UpdateLemmas
 mod VersionLemmas
 mod ViewLemmas
+mod WholeLemmas

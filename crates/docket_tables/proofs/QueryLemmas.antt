@@ -29,6 +29,7 @@ shows_of table.Entries = col 1 1 ∷ col 1 2 ∷ col 1 3 ∷ col 1 4 ∷ []
 shows_of table.Deadlines = col 1 1 ∷ col 1 2 ∷ col 1 3 ∷ col 1 4 ∷ col 1 5 ∷ []
 shows_of table.Acts = col 1 1 ∷ col 1 2 ∷ col 1 3 ∷ col 1 4 ∷ col 1 5 ∷ col 1 6 ∷ col 1 7 ∷ col 1 8 ∷ col 1 9 ∷ []
 shows_of table.Receipts = col 1 1 ∷ col 1 2 ∷ col 1 3 ∷ []
+shows_of table.Ends = col 1 1 ∷ col 1 2 ∷ col 1 3 ∷ col 1 4 ∷ []
 
 abbrev names_of : Table → List (List ℕ)
 names_of table.Court = codes "id" ∷ codes "word" ∷ codes "version" ∷ codes "zone" ∷ codes "close" ∷ codes "next_row" ∷ []
@@ -39,6 +40,7 @@ names_of table.Entries = codes "case_no" ∷ codes "number" ∷ codes "day" ∷ 
 names_of table.Deadlines = codes "case_no" ∷ codes "number" ∷ codes "party" ∷ codes "rule" ∷ codes "initial" ∷ []
 names_of table.Acts = codes "case_no" ∷ codes "deadline_no" ∷ codes "number" ∷ codes "kind" ∷ codes "p1" ∷ codes "p2" ∷ codes "p3" ∷ codes "p4" ∷ codes "p5" ∷ []
 names_of table.Receipts = codes "command_key" ∷ codes "body" ∷ codes "reply" ∷ []
+names_of table.Ends = codes "case_no" ∷ codes "deadline_no" ∷ codes "day" ∷ codes "moment" ∷ []
 
 abbrev has : ℕ → ℕ → Term
 has place at = op2 (Compare Eq Binary) (col 1 place) (col 0 at)
@@ -57,6 +59,7 @@ select_means ask.LastEntry = record { keeps = has 1 0 ∷ []; shows = shows_of t
 select_means ask.Entries = record { keeps = has 1 0 ∷ []; shows = shows_of table.Entries; collations = []; order = (col 1 2, record { collation = Binary; descending = false }) ∷ []; limit = lit (Int (negsuc 0)); names = names_of table.Entries; is = refl; plain = (refl, refl); unlisted = refl; kept = λ params row. refl; shown = λ params row. refl; sorted = λ params row. refl; keyed = refl; limited_to = λ params. refl }
 select_means ask.Deadlines = record { keeps = has 1 0 ∷ []; shows = shows_of table.Deadlines; collations = []; order = (col 1 2, record { collation = Binary; descending = false }) ∷ []; limit = lit (Int (negsuc 0)); names = names_of table.Deadlines; is = refl; plain = (refl, refl); unlisted = refl; kept = λ params row. refl; shown = λ params row. refl; sorted = λ params row. refl; keyed = refl; limited_to = λ params. refl }
 select_means ask.Acts = record { keeps = has 1 0 ∷ []; shows = shows_of table.Acts; collations = []; order = (col 1 2, record { collation = Binary; descending = false }) ∷ (col 1 3, record { collation = Binary; descending = false }) ∷ []; limit = lit (Int (negsuc 0)); names = names_of table.Acts; is = refl; plain = (refl, refl); unlisted = refl; kept = λ params row. refl; shown = λ params row. refl; sorted = λ params row. refl; keyed = refl; limited_to = λ params. refl }
+select_means ask.Ends = record { keeps = has 1 0 ∷ []; shows = shows_of table.Ends; collations = []; order = (col 1 2, record { collation = Binary; descending = false }) ∷ []; limit = lit (Int (negsuc 0)); names = names_of table.Ends; is = refl; plain = (refl, refl); unlisted = refl; kept = λ params row. refl; shown = λ params row. refl; sorted = λ params row. refl; keyed = refl; limited_to = λ params. refl }
 select_means ask.Receipt = record { keeps = has 1 0 ∷ []; shows = shows_of table.Receipts; collations = []; order = []; limit = lit (Int (negsuc 0)); names = names_of table.Receipts; is = refl; plain = (refl, refl); unlisted = refl; kept = λ params row. refl; shown = λ params row. refl; sorted = λ params row. refl; keyed = refl; limited_to = λ params. refl }
 
 -- what a question shows answers it

@@ -106,4 +106,4 @@ selects schema sql tree places keep picks keys most text params old new rows has
 pub answered_as : (tree : ℕ) (places : List ℕ) (keep : Row → Bool) (picks : Row → Row) (keys : List Key) (most : Option ℕ) (all : List Row) (db : Trees) (rows : List Row)
     → Holds tree places all db → Answered keep picks keys most (map (cells places) (db tree)) rows → ∥ Answered keep picks keys most all rows ∥₁
 answered_as tree places keep picks keys most all db rows holds a =
-    ∥∥₁_map holds (λ same. record { whole = a.whole; same = IsPermutation-trans _ _ _ (IsPermutation-filter keep all _ (IsPermutation-sym _ _ same)) a.same; sorted = a.sorted; first = a.first })
+    ∥∥₁_map holds (λ same. record { whole = a.whole; same = IsPermutation-trans _ _ _ (IsPermutation-filter keep all _ (IsPermutation-sym _ _ same.0)) a.same; sorted = a.sorted; first = a.first })

@@ -35,7 +35,7 @@ module _ (old new : State) (rows : Rows) (crash : Survives old new (λ _. ⊥)) 
   }
 
 -- a plain query that fails leaves the connection as it was, or rolled back
-failed_query : (sql : List ℕ) (params : Row) (old new : State) (e : Error) → IsPlain (understood old.now.schema sql) → FailsToQuery sql params old new e → IsUnchanged old new ⊎ IsRolledBack old new
+pub failed_query : (sql : List ℕ) (params : Row) (old new : State) (e : Error) → IsPlain (understood old.now.schema sql) → FailsToQuery sql params old new e → IsUnchanged old new ⊎ IsRolledBack old new
 unfolding FailsToQuery IsNotRun
 failed_query sql params old new e plain (inl (inl never)) = inl never.1
 failed_query sql params old new e plain (inl (inr fails)) = inr fails.3
@@ -43,7 +43,7 @@ failed_query sql params old new e plain (inr run) =
     let bare = subst IsPlain run.1.is plain in
     inl (subst (FailsToShow old new sql run.0 (timed params run.0.formats run.1.now) e) bare.0 run.2).3
 
-shown_unchanged : (sql : List ℕ) (params : Row) (old new : State) (found : List Row) → IsPlain (understood old.now.schema sql) → Shown sql params old new found → IsUnchanged old new
+pub shown_unchanged : (sql : List ℕ) (params : Row) (old new : State) (found : List Row) → IsPlain (understood old.now.schema sql) → Shown sql params old new found → IsUnchanged old new
 unfolding Shown
 shown_unchanged sql params old new found plain h =
     let bare = subst IsPlain h.1.is plain in

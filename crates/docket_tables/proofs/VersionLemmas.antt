@@ -29,13 +29,13 @@ module _ (rows found : List Row) (answer : IsAnswer ask.Court [] rows found) whe
   version_told (Some v) told = (told.0, sym (same_rows (omega (arith, same_count, ap length told.1))) ∙ told.1, told.2)
   version_told None told = λ row v one count marked. told row v (same_rows (omega (arith, ap length one)) ∙ one) count marked
 
--- the court of a docket tells version 0
-pub court_version : (court : CourtSettings) (next : ℕ) (version : Option ℕ) → TellsVersion (court_cells court next ∷ []) version → version ≡ Some 0
+-- the court of a docket tells version 1
+pub court_version : (court : CourtSettings) (next : ℕ) (version : Option ℕ) → TellsVersion (court_cells court next ∷ []) version → version ≡ Some 1
 court_version court next (Some v) told =
     let row : court_cells court next ≡ told.0 = (let is = told.1 in cc) in
     let same = ap (λ r. column r 2) row ∙ told.2.2 in
     (let e = same in cc)
-court_version court next None told = absurd (told (court_cells court next) 0 refl (omega arith) (refl, refl, refl))
+court_version court next None told = absurd (told (court_cells court next) 1 refl (omega arith) (refl, refl, refl))
 
 -- what one row tells, its rows tell
 pub told_by : (rows : List Row) (row : Row) (version : Option ℕ) → rows ≡ row ∷ [] → ((n : ℕ) → IsCount n → IsMarked n row → version ≡ Some n) → IfSome version (λ v. IsMarked v row) → TellsVersion rows version

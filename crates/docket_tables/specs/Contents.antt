@@ -1,17 +1,29 @@
 -- The rows that the tables hold of a docket.
-use Rattle.std.specs.Prelude.{[], ◌∷◌, map}
+use Rattle.std.specs.Prelude.{◌==◌, ℕ, List, [], ◌∷◌, map, filter}
 use Rattle.court_days.specs.Court.{CourtSettings}
+use Rattle.docket_core.specs.EndRows.{end_rows}
 use Rattle.docket_core.specs.Tables.{Tables}
-use Rattle.docket_columns.specs.Cells.{court_cells, calendar_cells, case_cells, party_cells, entry_cells, deadline_cells, act_cells, receipt_cells}
-use Rattle.docket_tables.specs.declared.table.Table.TheVariants.{Court, Calendar, Cases, Parties, Entries, Deadlines, Acts, Receipts}
+use Rattle.docket_core.specs.declared.end_row.EndRow.{EndRow}
+use Rattle.docket_columns.specs.Cells.{court_cells, calendar_cells, case_cells, party_cells, entry_cells, deadline_cells, act_cells, receipt_cells, end_cells}
+use Rattle.docket_tables.specs.declared.table.Table.TheVariants.{Court, Calendar, Cases, Parties, Entries, Deadlines, Acts, Receipts, Ends}
 use Rattle.docket_tables.specs.Layouts.{Rows}
 
+-- these tables, with these rows of ends
+abbrev pub rows_with : CourtSettings → Tables → List EndRow → Rows
+rows_with court t ends Court = court_cells court t.next_row ∷ []
+rows_with court t ends Calendar = map calendar_cells t.calendar
+rows_with court t ends Cases = map case_cells t.cases
+rows_with court t ends Parties = map party_cells t.parties
+rows_with court t ends Entries = map entry_cells t.entries
+rows_with court t ends Deadlines = map deadline_cells t.deadlines
+rows_with court t ends Acts = map act_cells t.acts
+rows_with court t ends Receipts = map receipt_cells t.receipts
+rows_with court t ends Ends = map end_cells ends
+
+-- with the ends that the tables have, by the calendar that stands in them
 abbrev pub rows_in : CourtSettings → Tables → Rows
-rows_in court t Court = court_cells court t.next_row ∷ []
-rows_in court t Calendar = map calendar_cells t.calendar
-rows_in court t Cases = map case_cells t.cases
-rows_in court t Parties = map party_cells t.parties
-rows_in court t Entries = map entry_cells t.entries
-rows_in court t Deadlines = map deadline_cells t.deadlines
-rows_in court t Acts = map act_cells t.acts
-rows_in court t Receipts = map receipt_cells t.receipts
+rows_in court t = rows_with court t (end_rows court t)
+
+-- the ends of a case
+abbrev pub ends_of : ℕ → List EndRow → List EndRow
+ends_of k ends = filter (λ row. row.case == k) ends

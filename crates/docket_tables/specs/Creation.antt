@@ -6,11 +6,11 @@ use Rattle.sqlite.specs.Change.{created}
 use Rattle.sqlite.specs.Effect.{IsDatabase}
 use Rattle.sqlite.specs.State.{State}
 use Rattle.docket_tables.specs.Layouts.{Rows}
-use Rattle.docket_tables.specs.Schema.{no_schema, tables, court_text, calendar_text, cases_text, party_text, entry_text, deadline_text, act_text, receipt_text}
+use Rattle.docket_tables.specs.Schema.{no_schema, tables, court_text, calendar_text, cases_text, party_text, entry_text, deadline_text, act_text, receipt_text, due_text}
 
 -- the statements that make the tables, in order
 abbrev pub texts : List (List ℕ)
-texts = court_text ∷ calendar_text ∷ cases_text ∷ party_text ∷ entry_text ∷ deadline_text ∷ act_text ∷ receipt_text ∷ []
+texts = court_text ∷ calendar_text ∷ cases_text ∷ party_text ∷ entry_text ∷ deadline_text ∷ act_text ∷ receipt_text ∷ due_text ∷ []
 
 -- the schema that so many of them leave
 abbrev pub made : ℕ → Schema

@@ -7,7 +7,7 @@ use Rattle.sqlite.specs.Order.{Row}
 use Rattle.sqlite.specs.Table.{Table as Shape}
 use Rattle.sqlite.specs.Tree.{Trees}
 use Rattle.docket_tables.specs.declared.table.Table.{Table}
-use Rattle.docket_tables.specs.declared.table.Table.TheVariants.{Court, Calendar, Cases, Parties, Entries, Deadlines, Acts, Receipts}
+use Rattle.docket_tables.specs.declared.table.Table.TheVariants.{Court, Calendar, Cases, Parties, Entries, Deadlines, Acts, Receipts, Ends}
 use Rattle.docket_tables.specs.Schema as schema
 use Rattle.docket_tables.specs.Holds.{Holds}
 
@@ -21,6 +21,7 @@ tree_of Entries = 7
 tree_of Deadlines = 9
 tree_of Acts = 11
 tree_of Receipts = 13
+tree_of Ends = 15
 
 -- the places of the columns in a stored row, where place 0 is the rowid
 abbrev pub places_of : Table → List ℕ
@@ -32,6 +33,7 @@ places_of Entries = 1 ∷ 2 ∷ 3 ∷ 4 ∷ []
 places_of Deadlines = 1 ∷ 2 ∷ 3 ∷ 4 ∷ 5 ∷ []
 places_of Acts = 1 ∷ 2 ∷ 3 ∷ 4 ∷ 5 ∷ 6 ∷ 7 ∷ 8 ∷ 9 ∷ []
 places_of Receipts = 1 ∷ 2 ∷ 3 ∷ []
+places_of Ends = 1 ∷ 2 ∷ 3 ∷ 4 ∷ []
 
 -- what each column holds
 abbrev pub kinds_of : Table → List Kind
@@ -43,6 +45,7 @@ kinds_of Entries = Integer ∷ Integer ∷ Integer ∷ Text ∷ []
 kinds_of Deadlines = Integer ∷ Integer ∷ Integer ∷ Text ∷ Integer ∷ []
 kinds_of Acts = Integer ∷ Integer ∷ Integer ∷ Integer ∷ Integer ∷ Integer ∷ Integer ∷ Integer ∷ Integer ∷ []
 kinds_of Receipts = Text ∷ Text ∷ Integer ∷ []
+kinds_of Ends = Integer ∷ Integer ∷ Integer ∷ Integer ∷ []
 
 -- what columns of these kinds hold
 abbrev pub Contents : List Kind → Type 0
@@ -74,6 +77,7 @@ definition_of Entries = schema.entry
 definition_of Deadlines = schema.deadline
 definition_of Acts = schema.act
 definition_of Receipts = schema.receipt
+definition_of Ends = schema.due
 
 abbrev pub shape_of : Table → Shape
 shape_of table = record (definition_of table) { tree = tree_of table }

@@ -7,5 +7,7 @@ pub mod Queries
 pub mod Readings
 pub mod Recognition
 pub mod Schema
+pub mod Settling
+pub mod Sound
 pub mod Stands
 pub mod Statements

@@ -25,6 +25,7 @@ select_text ask.Entries = codes "SELECT case_no, number, day, body FROM entry WH
 select_text ask.Deadlines = codes "SELECT case_no, number, party, rule, initial FROM deadline WHERE case_no = ?1 ORDER BY number"
 select_text ask.Acts = codes "SELECT case_no, deadline_no, number, kind, p1, p2, p3, p4, p5 FROM act WHERE case_no = ?1 ORDER BY deadline_no, number"
 select_text ask.Receipt = codes "SELECT command_key, body, reply FROM receipt WHERE command_key = ?1"
+select_text ask.Ends = codes "SELECT case_no, deadline_no, day, moment FROM due WHERE case_no = ?1 ORDER BY deadline_no"
 
 -- the table that is asked
 abbrev pub table_of : Query → Table
@@ -41,6 +42,7 @@ table_of ask.Entries = table.Entries
 table_of ask.Deadlines = table.Deadlines
 table_of ask.Acts = table.Acts
 table_of ask.Receipt = table.Receipts
+table_of ask.Ends = table.Ends
 
 -- the columns that have the parameters, counted from 0
 abbrev pub keys_of : Query → List ℕ
@@ -57,6 +59,7 @@ keys_of ask.Entries = 0 ∷ []
 keys_of ask.Deadlines = 0 ∷ []
 keys_of ask.Acts = 0 ∷ []
 keys_of ask.Receipt = 0 ∷ []
+keys_of ask.Ends = 0 ∷ []
 
 -- the columns in whose order the rows come
 abbrev pub order_of : Query → List ℕ
@@ -73,6 +76,7 @@ order_of ask.Entries = 1 ∷ []
 order_of ask.Deadlines = 1 ∷ []
 order_of ask.Acts = 1 ∷ 2 ∷ []
 order_of ask.Receipt = []
+order_of ask.Ends = 1 ∷ []
 
 -- whether the highest number comes first, and no other
 abbrev pub is_last : Query → Bool
@@ -89,6 +93,7 @@ is_last ask.Entries = false
 is_last ask.Deadlines = false
 is_last ask.Acts = false
 is_last ask.Receipt = false
+is_last ask.Ends = false
 
 -- how many rows come at most
 abbrev pub most_of : Query → Option ℕ
@@ -105,6 +110,7 @@ most_of ask.Entries = None
 most_of ask.Deadlines = None
 most_of ask.Acts = None
 most_of ask.Receipt = None
+most_of ask.Ends = None
 
 abbrev pub picks : Query → Row → Row
 picks query row = map (column row) (order_of query)

@@ -104,9 +104,16 @@ receipt_text = codes "CREATE TABLE receipt (command_key TEXT NOT NULL PRIMARY KE
 abbrev pub receipt : Table
 receipt = plain_table 0 (codes "receipt") None (1 ∷ []) ((1 ∷ []) ∷ []) [] (words (codes "command_key") ∷ words (codes "body") ∷ number (codes "reply") ∷ [])
 
+abbrev pub due_text : List ℕ
+due_text = codes "CREATE TABLE due (case_no INTEGER NOT NULL, deadline_no INTEGER NOT NULL, day INTEGER NOT NULL, moment INTEGER NOT NULL, PRIMARY KEY (case_no, deadline_no), UNIQUE (day, moment, case_no, deadline_no), FOREIGN KEY (case_no, deadline_no) REFERENCES deadline (case_no, number)) STRICT"
+
+abbrev pub due : Table
+due = plain_table 0 (codes "due") None (1 ∷ 2 ∷ []) ((1 ∷ 2 ∷ []) ∷ (3 ∷ 4 ∷ 1 ∷ 2 ∷ []) ∷ []) (to_deadline ∷ [])
+    (number (codes "case_no") ∷ number (codes "deadline_no") ∷ number (codes "day") ∷ number (codes "moment") ∷ [])
+
 -- the tables in order, each with the text that makes it
 abbrev pub tables : List Table
-tables = court ∷ calendar ∷ cases ∷ party ∷ entry ∷ deadline ∷ act ∷ receipt ∷ []
+tables = court ∷ calendar ∷ cases ∷ party ∷ entry ∷ deadline ∷ act ∷ receipt ∷ due ∷ []
 
 abbrev pub docket_schema : Schema
 docket_schema = fold created no_schema tables

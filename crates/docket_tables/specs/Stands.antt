@@ -1,5 +1,5 @@
 -- What it is for a connection to hold rows, and what a power failure leaves of them.
-use Rattle.std.specs.Prelude.{◌≡◌, ◌⊎◌, false, IsTrue, Result, Ok, Err}
+use Rattle.std.specs.Prelude.{◌≡◌, ◌⊎◌, false, IsTrue, IfOk, Result, Ok, Err}
 use Rattle.sqlite.specs.Tree.{Trees}
 use Rattle.sqlite.specs.Store.{Ghosts}
 use Rattle.sqlite.specs.Effect.{IsDatabase}
@@ -49,6 +49,11 @@ pub record IsEither (s : State) (rows next : Rows) : Type 0 where
 pub record StaysInside (old new : State) : Type 0 where
   pub kept : HasCleanDisk new → KeepsCommit old new
   pub survives : Survives old new (λ _. ⊥)
+
+-- a part of a transaction that saw these rows commits nothing; where it ends well it sees the next ones, and gives the answer
+abbrev pub Inside : {X E : Type 0} → State → State → Rows → Rows → Result X E → (X → Type 0) → Type 0
+Inside old new rows next result answer =
+    (HasCleanDisk old → Sees old rows) → StaysInside old new × (HasCleanDisk new → IfOk result (λ x. Sees new next × answer x))
 
 module _ {S : Type 0} (g : Ghosts S) where
   -- the connection holds the rows

@@ -1,7 +1,7 @@
 -- The statements of the docket.
 use Rattle.std.specs.Prelude.{codes, List, ℕ}
 use Rattle.docket_tables.specs.declared.table.Table.{Table}
-use Rattle.docket_tables.specs.declared.table.Table.TheVariants.{Court, Calendar, Cases, Parties, Entries, Deadlines, Acts, Receipts}
+use Rattle.docket_tables.specs.declared.table.Table.TheVariants.{Court, Calendar, Cases, Parties, Entries, Deadlines, Acts, Receipts, Ends}
 
 -- adds a row
 abbrev pub insert_text : Table → List ℕ
@@ -13,10 +13,15 @@ insert_text Entries = codes "INSERT INTO entry (case_no, number, day, body) VALU
 insert_text Deadlines = codes "INSERT INTO deadline (case_no, number, party, rule, initial) VALUES (?1, ?2, ?3, ?4, ?5)"
 insert_text Acts = codes "INSERT INTO act (case_no, deadline_no, number, kind, p1, p2, p3, p4, p5) VALUES (?1, ?2, ?3, ?4, ?5, ?6, ?7, ?8, ?9)"
 insert_text Receipts = codes "INSERT INTO receipt (command_key, body, reply) VALUES (?1, ?2, ?3)"
+insert_text Ends = codes "INSERT INTO due (case_no, deadline_no, day, moment) VALUES (?1, ?2, ?3, ?4)"
 
 -- the calendar loses a row
 abbrev pub delete_text : List ℕ
 delete_text = codes "DELETE FROM calendar WHERE row_no = ?1"
+
+-- the end of a deadline goes
+abbrev pub delete_end_text : List ℕ
+delete_end_text = codes "DELETE FROM due WHERE case_no = ?1 AND deadline_no = ?2"
 
 -- a number of a calendar row is used
 abbrev pub count_text : List ℕ

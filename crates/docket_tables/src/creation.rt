@@ -19,11 +19,11 @@ use court_days::Court;
 use docket_columns::court_values;
 use sqlite::{Alter, Connection, Error, ErrorCode, Transaction};
 
-const TABLES: usize = 8;
+const TABLES: usize = 9;
 
 /// What makes a table.
 fn create_text(number: usize) -> &'static str
-    requires { number < 8 }
+    requires { number < 9 }
     ensures { slice_get texts number ≡ Some result.now }
 {
     match number {
@@ -41,8 +41,10 @@ fn create_text(number: usize) -> &'static str
             "CREATE TABLE deadline (case_no INTEGER NOT NULL, number INTEGER NOT NULL, party INTEGER NOT NULL, rule TEXT NOT NULL, initial INTEGER NOT NULL, PRIMARY KEY (case_no, number), FOREIGN KEY (case_no) REFERENCES cases (number)) STRICT",
         6 =>
             "CREATE TABLE act (case_no INTEGER NOT NULL, deadline_no INTEGER NOT NULL, number INTEGER NOT NULL, kind INTEGER NOT NULL, p1 INTEGER NOT NULL, p2 INTEGER NOT NULL, p3 INTEGER NOT NULL, p4 INTEGER NOT NULL, p5 INTEGER NOT NULL, PRIMARY KEY (case_no, deadline_no, number), FOREIGN KEY (case_no, deadline_no) REFERENCES deadline (case_no, number)) STRICT",
-        _ =>
+        7 =>
             "CREATE TABLE receipt (command_key TEXT NOT NULL PRIMARY KEY, body TEXT NOT NULL, reply INTEGER NOT NULL) STRICT",
+        _ =>
+            "CREATE TABLE due (case_no INTEGER NOT NULL, deadline_no INTEGER NOT NULL, day INTEGER NOT NULL, moment INTEGER NOT NULL, PRIMARY KEY (case_no, deadline_no), UNIQUE (day, moment, case_no, deadline_no), FOREIGN KEY (case_no, deadline_no) REFERENCES deadline (case_no, number)) STRICT",
     }
 }
 

@@ -10,11 +10,14 @@
 mod creation;
 mod fault;
 mod laws;
+mod moving;
 mod probe;
 mod query;
 mod reading;
 mod recognition;
 mod rows;
+mod settling;
+mod sound;
 mod statement;
 mod store;
 mod table;
@@ -25,6 +28,7 @@ mod writing;
 pub use creation::make;
 pub use fault::{ReadFault, StoreFault};
 pub use laws::{dockets_are_orderly, dockets_are_recognized};
+pub use moving::{CaseRange, case_moved, cases_moved};
 pub use probe::fault_of;
 pub use query::Query;
 pub use reading::{
@@ -32,6 +36,7 @@ pub use reading::{
     is_label_taken, is_row_standing, kept, parties, version,
 };
 pub use recognition::{has_court, has_court_columns, has_docket_table, is_bare};
+pub use sound::{is_sound, is_sound_case};
 pub use table::Table;
 pub use telling::case_record;
 pub use viewing::{calendar_items, case_view, view};

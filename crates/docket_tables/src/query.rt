@@ -31,6 +31,8 @@ pub enum Query {
     Acts,
     /// The receipt under a key.
     Receipt,
+    /// The ends of the deadlines of a case, in the order of the deadlines.
+    Ends,
 }
 
 /// The text of the statement that asks it.
@@ -67,6 +69,9 @@ pub(crate) fn select_text(query: Query) -> &'static str
         }
         Query::Acts => {
             "SELECT case_no, deadline_no, number, kind, p1, p2, p3, p4, p5 FROM act WHERE case_no = ?1 ORDER BY deadline_no, number"
+        }
+        Query::Ends => {
+            "SELECT case_no, deadline_no, day, moment FROM due WHERE case_no = ?1 ORDER BY deadline_no"
         }
         Query::Receipt => { "SELECT command_key, body, reply FROM receipt WHERE command_key = ?1" }
     }

@@ -42,7 +42,7 @@ pub fn court<S: Alter>(conn: &mut Connection<S>, alloc: Global) -> Result<CourtR
 /// What version of the tables the database tells. `None`: `court` does not hold one row with the
 /// docket's word.
 pub fn version<S: Alter>(conn: &mut Connection<S>) -> Result<Option<u32>, ReadFault>
-    ensures read { Reads S.Store conn.old conn.new result (λ _ t found. found ≡ Some 0) }
+    ensures read { Reads S.Store conn.old conn.new result (λ _ t found. found ≡ Some 1) }
     ensures told { (rows : Rows) → HoldsRows S.Store conn.old rows → Gives S.Store conn.new rows (TellsVersion (rows table.Court)) result }
     ensures clean { doubt (state S.Store conn.old).is_clean ≤ doubt (state S.Store conn.new).is_clean }
     ensures mode { conn.old.in_transaction ≡ false → conn.new.in_transaction ≡ false }

@@ -17,6 +17,7 @@ fn is_table_name(name: &[u8]) -> bool
         || name == "deadline".as_bytes()
         || name == "act".as_bytes()
         || name == "receipt".as_bytes()
+        || name == "due".as_bytes()
 }
 
 /// Whether a table has the name of one of a docket's.

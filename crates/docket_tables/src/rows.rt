@@ -7,6 +7,7 @@ ghost use Rattle.sqlite.specs.declared.types.Value.TheVariants.{Int};
 ghost use Rattle.docket_core.specs.declared.row.ActRow.{ActRow as OnDeadline};
 ghost use Rattle.docket_core.specs.declared.row.CalendarRow.{CalendarRow as Entered};
 ghost use Rattle.docket_core.specs.declared.row.DeadlineRow.{DeadlineRow as Deadline};
+ghost use Rattle.docket_core.specs.declared.end_row.EndRow.{EndRow as Ended};
 ghost use Rattle.docket_core.specs.declared.row.EntryRow.{EntryRow as Filed};
 ghost use Rattle.docket_core.specs.declared.row.PartyRow.{PartyRow as Party};
 ghost use Rattle.court_days.specs.Court.{CourtSettings};
@@ -17,18 +18,18 @@ ghost use Rattle.docket_core.specs.declared.row.Receipt.{Receipt as Stored};
 ghost use Rattle.docket_core.specs.declared.view.Kept.TheVariants as kept;
 ghost use Rattle.docket_wire.specs.Valid.{IsCommand};
 ghost use Rattle.docket_wire.specs.Writing.{canonical};
-ghost use Rattle.docket_columns.specs.Cells.{act_cells, calendar_cells, case_cells, court_cells, deadline_cells, entry_cells, party_cells, receipt_cells};
-ghost use Rattle.docket_columns.specs.Fits.{IsActRow, IsCalendarRow, IsCaseRow, IsCourtRow, IsDeadlineRow, IsEntryRow, IsPartyRow, IsReceipt};
+ghost use Rattle.docket_columns.specs.Cells.{act_cells, calendar_cells, case_cells, court_cells, deadline_cells, end_cells, entry_cells, party_cells, receipt_cells};
+ghost use Rattle.docket_columns.specs.Fits.{IsActRow, IsCalendarRow, IsCaseRow, IsCourtRow, IsDeadlineRow, IsEndRow, IsEntryRow, IsPartyRow, IsReceipt};
 ghost use Rattle.docket_tables.specs.Readings.{IsReadAs};
 ghost use Rattle.docket_tables.specs.Recognition.{TellsVersion};
 
 use crate::fault::ReadFault;
 use court_rules::Act;
 use docket_columns::{
-    CourtRow, act_of, calendar_of, case_of, count_at, court_of, deadline_of, entry_of, kept_by,
-    party_of, version_of,
+    CourtRow, act_of, calendar_of, case_of, count_at, court_of, deadline_of, end_of, entry_of,
+    kept_by, party_of, version_of,
 };
-use docket_core::{ActRow, CalendarRow, CaseRow, DeadlineRow, EntryRow, Kept, PartyRow};
+use docket_core::{ActRow, CalendarRow, CaseRow, DeadlineRow, EndRow, EntryRow, Kept, PartyRow};
 use sqlite::Row;
 use std::alloc::{AllocError, Global};
 
@@ -124,6 +125,20 @@ pub(crate) fn acts_among(
         if row.deadline == deadline {
             found.push(row.act)?;
         }
+    }
+    Ok(found)
+}
+
+/// The ends of rows.
+pub(crate) fn ends_in(alloc: Global, rows: &[Row]) -> Result<Vec<EndRow>, ReadFault>
+    ensures { (all : List Ended) → AllByRecursion IsEndRow all → rows.now ≡ map end_cells all → IsReadAs (λ found. found.items ≡ all) result }
+{
+    let mut found = Vec::new(alloc);
+    for row in rows {
+        let Some(end) = end_of(row) else {
+            return Err(ReadFault::Damaged);
+        };
+        found.extend_from_slice(&[end])?;
     }
     Ok(found)
 }

@@ -1,6 +1,6 @@
 //! The texts of the statements.
 ghost use Rattle.std.specs.Prelude.{◌≡◌};
-ghost use Rattle.docket_tables.specs.Statements.{insert_text, delete_text, count_text};
+ghost use Rattle.docket_tables.specs.Statements.{insert_text, delete_text, delete_end_text, count_text};
 
 use crate::table::Table;
 
@@ -31,6 +31,9 @@ pub(crate) fn insert_text(table: Table) -> &'static str
             "INSERT INTO act (case_no, deadline_no, number, kind, p1, p2, p3, p4, p5) VALUES (?1, ?2, ?3, ?4, ?5, ?6, ?7, ?8, ?9)"
         }
         Table::Receipts => { "INSERT INTO receipt (command_key, body, reply) VALUES (?1, ?2, ?3)" }
+        Table::Ends => {
+            "INSERT INTO due (case_no, deadline_no, day, moment) VALUES (?1, ?2, ?3, ?4)"
+        }
     }
 }
 
@@ -39,6 +42,13 @@ pub(crate) fn delete_text() -> &'static str
     ensures { result.now ≡ delete_text }
 {
     "DELETE FROM calendar WHERE row_no = ?1"
+}
+
+/// Removes the end of a deadline of a case.
+pub(crate) fn delete_end_text() -> &'static str
+    ensures { result.now ≡ delete_end_text }
+{
+    "DELETE FROM due WHERE case_no = ?1 AND deadline_no = ?2"
 }
 
 /// Adds one to the number of the next calendar row.

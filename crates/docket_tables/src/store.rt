@@ -1,5 +1,5 @@
 //! Calls of the database.
-ghost use Rattle.std.specs.Prelude.{◌≡◌, ◌≤◌, ◌<◌, ◌^◌, ◌+◌, [], ◌∷◌, ℕ, Ok, OnOk, OnErr, IfOk, false, true};
+ghost use Rattle.std.specs.Prelude.{◌≡◌, pos, ◌≤◌, ◌<◌, ◌^◌, ◌+◌, [], ◌∷◌, ℕ, Ok, OnOk, OnErr, IfOk, false, true};
 ghost use Rattle.sqlite.specs.Given.{IsPlain};
 ghost use Rattle.sqlite.specs.Held.{state};
 ghost use Rattle.sqlite.specs.Listing.{understood};
@@ -8,7 +8,8 @@ ghost use Rattle.sqlite.specs.Values.{bound};
 ghost use Rattle.sqlite.specs.View.{doubt};
 ghost use Rattle.court_days.specs.Court.{CourtSettings};
 ghost use Rattle.docket_columns.specs.Cells.{court_cells};
-ghost use Rattle.docket_tables.specs.Holds.{IsKeyed, without_number};
+ghost use Rattle.docket_tables.specs.Holds.{IsKeyed, without_number, without_key};
+ghost use Rattle.sqlite.specs.declared.types.Value.TheVariants.{Int};
 ghost use Rattle.docket_tables.specs.Layouts.{Rows, Fits, with_row, with_rows};
 ghost use Rattle.docket_tables.specs.declared.table.Table.TheVariants as table;
 ghost use Rattle.std.specs.List.{AllByRecursion};
@@ -17,7 +18,7 @@ ghost use Rattle.docket_tables.specs.Schema.{docket_schema};
 ghost use Rattle.docket_tables.specs.Stands.{HoldsRows, Lasts, Sees, StaysInside};
 
 use crate::query::{Query, select_text};
-use crate::statement::{count_text, delete_text, insert_text};
+use crate::statement::{count_text, delete_end_text, delete_text, insert_text};
 use crate::table::Table;
 use sqlite::types::ValueRef;
 use sqlite::{Alter, Connection, Error, Row, Transaction, params};
@@ -92,6 +93,36 @@ pub(crate) fn remove_calendar_row<S: Alter>(
         → OnOk result (Sees (state S.Store tx.new.conn.now) (with_rows table.Calendar (without_number number (rows table.Calendar)) rows)) }
 {
     change(tx, delete_text(), params![number])
+}
+
+/// Removes the end of a deadline of a case.
+pub(crate) fn remove_end<S: Alter>(
+    tx: &mut Transaction<'_, S>,
+    case: u32,
+    deadline: u32,
+) -> Result<(), Error>
+    ensures same_reference { tx.new.conn.ghost_name ≡ tx.old.conn.ghost_name }
+    ensures inside { StaysInside (state S.Store tx.old.conn.now) (state S.Store tx.new.conn.now) }
+    ensures ok { HasCleanDisk (state S.Store tx.new.conn.now) → (rows : Rows) → Sees (state S.Store tx.old.conn.now) rows
+        → OnOk result (Sees (state S.Store tx.new.conn.now) (with_rows table.Ends (without_key (0 ∷ 1 ∷ []) (Int (pos case) ∷ Int (pos deadline) ∷ []) (rows table.Ends)) rows)) }
+{
+    change(tx, delete_end_text(), params![case, deadline])
+}
+
+/// The rows that answer a question about these values, inside a transaction.
+pub(crate) fn ask_inside<S: Alter>(
+    tx: &mut Transaction<'_, S>,
+    query: Query,
+    values: &[ValueRef<'_>],
+) -> Result<Vec<Row>, Error>
+    ensures same_reference { tx.new.conn.ghost_name ≡ tx.old.conn.ghost_name }
+    ensures inside { (rows : Rows) → (HasCleanDisk (state S.Store tx.old.conn.now) → Sees (state S.Store tx.old.conn.now) rows)
+        → StaysInside (state S.Store tx.old.conn.now) (state S.Store tx.new.conn.now) }
+    ensures clean { doubt (state S.Store tx.old.conn.now).is_clean ≤ doubt (state S.Store tx.new.conn.now).is_clean }
+    ensures ok { HasCleanDisk (state S.Store tx.new.conn.now) → (rows : Rows) → Sees (state S.Store tx.old.conn.now) rows
+        → IfOk result (λ found. Sees (state S.Store tx.new.conn.now) rows × IsAnswer query (bound values.now) (rows (table_of query)) found.items) }
+{
+    tx.query_all(select_text(query), values)
 }
 
 /// Adds one to the number of the next calendar row.

@@ -12,4 +12,6 @@ pub enum Table {
     Deadlines,
     Acts,
     Receipts,
+    /// The ends of the deadlines whose time runs.
+    Ends,
 }

@@ -55,7 +55,7 @@ fn is_asked_row_standing<S: Alter>(
     }
 }
 
-fn items_of(alloc: Global, rows: &[CalendarRow]) -> Result<Vec<CalendarItem>, AllocError>
+pub(crate) fn items_of(alloc: Global, rows: &[CalendarRow]) -> Result<Vec<CalendarItem>, AllocError>
     ensures { IfOk result (λ items. items.items ≡ items_of rows.now) }
 {
     let mut items = Vec::new(alloc);
@@ -79,7 +79,7 @@ pub fn calendar_items<S: Alter>(
 }
 
 /// These deadlines of a case, each with its acts among those of the case, which stand by their deadlines.
-fn with_acts(
+pub(crate) fn with_acts(
     alloc: Global,
     deadlines: &[DeadlineRow],
     acts: &[ActRow],

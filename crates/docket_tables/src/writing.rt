@@ -1,31 +1,40 @@
 //! Changes of rows, in one transaction.
-ghost use Rattle.std.specs.Prelude.{◌≡◌, ◌<◌, ◌≤◌, ◌+◌, ◌^◌, length, false, OnOk, MatchResult};
+ghost use Rattle.std.specs.Prelude.{◌≡◌, ◌<◌, ◌≤◌, ◌+◌, ◌-◌, ◌^◌, ℕ, List, length, false, OnOk, IfSome, option_copied, MatchResult};
 ghost use Rattle.court_days.specs.Court.{CourtSettings};
+ghost use Rattle.docket_core.specs.EndRows.{calendar_in};
 ghost use Rattle.docket_core.specs.Tables.{Tables, changed, all_changed, with_receipt};
 ghost use Rattle.docket_core.specs.declared.row.Change.TheVariants as change;
 ghost use Rattle.docket_wire.specs.Writing.{canonical};
 ghost use Rattle.sqlite.specs.Held.{state};
 ghost use Rattle.sqlite.specs.State.{HasCleanDisk};
 ghost use Rattle.sqlite.specs.View.{doubt};
-ghost use Rattle.docket_tables.specs.Contents.{rows_in};
-ghost use Rattle.docket_tables.specs.Stands.{HoldsRows, LastsAsEither, Sees, StaysInside};
+ghost use Rattle.docket_core.specs.declared.end_row.EndRow.{EndRow as Ended};
+ghost use Rattle.docket_tables.specs.Contents.{rows_in, rows_with};
+ghost use Rattle.docket_tables.specs.Stands.{HoldsRows, Inside, LastsAsEither, Sees, StaysInside};
+ghost use Rattle.docket_tables.specs.Orderly.{IsOrderly};
+ghost use Rattle.docket_tables.specs.Settling.{AreStored, IsSettling, settled_cases};
 
+use crate::fault::ReadFault;
+use crate::moving::CaseRange;
+use crate::settling::settle;
 use crate::store::{count_calendar_row, insert, remove_calendar_row};
 use crate::table::Table;
+use court_days::{Calendar, Court};
 use docket_columns::{
     act_values, calendar_values, case_values, deadline_values, entry_values, party_values,
     receipt_values,
 };
 use docket_command::Command;
 use docket_core::{CalendarRow, Change, Changes};
-use sqlite::{Alter, Connection, Error, Transaction};
+use sqlite::{Alter, Connection, Error, ErrorCode, Transaction};
+use std::alloc::Global;
 
 /// Adds a row of the calendar, and counts its number.
 fn add_calendar_row<S: Alter>(tx: &mut Transaction<'_, S>, row: &CalendarRow) -> Result<(), Error>
     ensures same_reference { tx.new.conn.ghost_name ≡ tx.old.conn.ghost_name }
     ensures inside { StaysInside (state S.Store tx.old.conn.now) (state S.Store tx.new.conn.now) }
-    ensures ok { HasCleanDisk (state S.Store tx.new.conn.now) → (court : CourtSettings) (t : Tables) → t.next_row + 1 < 2 ^ 63
-        → Sees (state S.Store tx.old.conn.now) (rows_in court t) → OnOk result (Sees (state S.Store tx.new.conn.now) (rows_in court (changed (change.AddCalendar row.now) t))) }
+    ensures ok { HasCleanDisk (state S.Store tx.new.conn.now) → (court : CourtSettings) (t : Tables) (ends : List Ended) → t.next_row + 1 < 2 ^ 63
+        → Sees (state S.Store tx.old.conn.now) (rows_with court t ends) → OnOk result (Sees (state S.Store tx.new.conn.now) (rows_with court (changed (change.AddCalendar row.now) t) ends)) }
 {
     insert(tx, Table::Calendar, &calendar_values(row))?;
     count_calendar_row(tx)
@@ -35,8 +44,8 @@ fn add_calendar_row<S: Alter>(tx: &mut Transaction<'_, S>, row: &CalendarRow) ->
 fn change_row<S: Alter>(tx: &mut Transaction<'_, S>, change: &Change) -> Result<(), Error>
     ensures same_reference { tx.new.conn.ghost_name ≡ tx.old.conn.ghost_name }
     ensures inside { StaysInside (state S.Store tx.old.conn.now) (state S.Store tx.new.conn.now) }
-    ensures ok { HasCleanDisk (state S.Store tx.new.conn.now) → (court : CourtSettings) (t : Tables) → t.next_row + 1 < 2 ^ 63
-        → Sees (state S.Store tx.old.conn.now) (rows_in court t) → OnOk result (Sees (state S.Store tx.new.conn.now) (rows_in court (changed change.now t))) }
+    ensures ok { HasCleanDisk (state S.Store tx.new.conn.now) → (court : CourtSettings) (t : Tables) (ends : List Ended) → t.next_row + 1 < 2 ^ 63
+        → Sees (state S.Store tx.old.conn.now) (rows_with court t ends) → OnOk result (Sees (state S.Store tx.new.conn.now) (rows_with court (changed change.now t) ends)) }
 {
     match change {
         Change::AddCalendar(row) => add_calendar_row(tx, row),
@@ -53,8 +62,8 @@ fn change_row<S: Alter>(tx: &mut Transaction<'_, S>, change: &Change) -> Result<
 fn change_all<S: Alter>(tx: &mut Transaction<'_, S>, changes: &[Change]) -> Result<(), Error>
     ensures same_reference { tx.new.conn.ghost_name ≡ tx.old.conn.ghost_name }
     ensures inside { StaysInside (state S.Store tx.old.conn.now) (state S.Store tx.new.conn.now) }
-    ensures ok { HasCleanDisk (state S.Store tx.new.conn.now) → (court : CourtSettings) (t : Tables) → t.next_row + length changes.now < 2 ^ 63
-        → Sees (state S.Store tx.old.conn.now) (rows_in court t) → OnOk result (Sees (state S.Store tx.new.conn.now) (rows_in court (all_changed changes.now t))) }
+    ensures ok { HasCleanDisk (state S.Store tx.new.conn.now) → (court : CourtSettings) (t : Tables) (ends : List Ended) → t.next_row + length changes.now < 2 ^ 63
+        → Sees (state S.Store tx.old.conn.now) (rows_with court t ends) → OnOk result (Sees (state S.Store tx.new.conn.now) (rows_with court (all_changed changes.now t) ends)) }
 {
     'changes: for change in changes {
         change_row(tx, change)?;
@@ -72,9 +81,9 @@ fn record<S: Alter>(
     requires { body.now ≡ canonical command.now }
     ensures same_reference { tx.new.conn.ghost_name ≡ tx.old.conn.ghost_name }
     ensures inside { StaysInside (state S.Store tx.old.conn.now) (state S.Store tx.new.conn.now) }
-    ensures ok { HasCleanDisk (state S.Store tx.new.conn.now) → (court : CourtSettings) (t : Tables) → t.next_row + length changes.now.rows.items < 2 ^ 63
-        → Sees (state S.Store tx.old.conn.now) (rows_in court t)
-        → OnOk result (Sees (state S.Store tx.new.conn.now) (rows_in court (with_receipt command.now changes.now.reply (all_changed changes.now.rows.items t)))) }
+    ensures ok { HasCleanDisk (state S.Store tx.new.conn.now) → (court : CourtSettings) (t : Tables) (ends : List Ended) → t.next_row + length changes.now.rows.items < 2 ^ 63
+        → Sees (state S.Store tx.old.conn.now) (rows_with court t ends)
+        → OnOk result (Sees (state S.Store tx.new.conn.now) (rows_with court (with_receipt command.now changes.now.reply (all_changed changes.now.rows.items t)) ends)) }
 {
     change_all(tx, changes.rows.as_slice())?;
     insert(
@@ -84,24 +93,71 @@ fn record<S: Alter>(
     )
 }
 
-/// Makes the changes of an accepted command and adds its receipt, in one transaction: all of it, or
-/// nothing. `body` is the canonical text of the command. On an error nothing of it stands, but that a
+/// What a fault of a part of a transaction comes to. Where a row is none of a docket's, the
+/// transaction ends as where the database failed.
+fn store_error(fault: ReadFault) -> Error {
+    match fault {
+        ReadFault::Store(error) => error,
+        ReadFault::NoMemory => Error::SqliteFailure(ErrorCode::OutOfMemory),
+        ReadFault::Damaged => Error::SqliteFailure(ErrorCode::DatabaseCorrupt),
+    }
+}
+
+/// Makes the changes of a command, adds its receipt, and brings the ends of cases up to date.
+fn fill<S: Alter>(
+    tx: &mut Transaction<'_, S>,
+    alloc: Global,
+    court: &Court,
+    calendar: Option<&Calendar>,
+    cases: CaseRange,
+    command: &Command,
+    body: &str,
+    changes: &Changes,
+) -> Result<(), Error>
+    requires order { cases.first ≤ cases.after }
+    requires body { body.now ≡ canonical command.now }
+    ensures same_reference { tx.new.conn.ghost_name ≡ tx.old.conn.ghost_name }
+    ensures clean { doubt (state S.Store tx.old.conn.now).is_clean ≤ doubt (state S.Store tx.new.conn.now).is_clean }
+    ensures inside { (t : Tables) (ends : List Ended) → t.next_row + length changes.now.rows.items < 2 ^ 63
+        → IsOrderly court.now (with_receipt command.now changes.now.reply (all_changed changes.now.rows.items t)) → ((k : ℕ) → AreStored k ends)
+        → IfSome (option_copied calendar.entry) (λ entered. entered ≡ calendar_in (with_receipt command.now changes.now.reply (all_changed changes.now.rows.items t)))
+        → Inside (state S.Store tx.old.conn.now) (state S.Store tx.new.conn.now) (rows_with court.now t ends)
+        (rows_with court.now (with_receipt command.now changes.now.reply (all_changed changes.now.rows.items t)) (settled_cases court.now (calendar_in (with_receipt command.now changes.now.reply (all_changed changes.now.rows.items t))) (with_receipt command.now changes.now.reply (all_changed changes.now.rows.items t)) cases.first (cases.after - cases.first) ends)) result (λ _. Unit {0}) }
+{
+    record(tx, command, body, changes)?;
+    match settle(tx, alloc, court, calendar, cases) {
+        Ok(()) => Ok(()),
+        Err(fault) => Err(store_error(fault)),
+    }
+}
+
+/// Makes the changes of an accepted command, adds its receipt, and brings the ends of `cases` up to
+/// date, in one transaction: all of it, or nothing. `body` is the canonical text of the command, and
+/// `calendar` the calendar that stands afterwards; where none is given it is read from its rows. On an error nothing of it stands, but that a
 /// power failure after a commit that failed may leave either; the connection is as it was, or shut.
 pub fn write<S: Alter>(
     conn: &mut Connection<S>,
+    alloc: Global,
+    court: &Court,
+    calendar: Option<&Calendar>,
+    cases: CaseRange,
     command: &Command,
     body: &str,
     changes: &Changes,
 ) -> Result<(), Error>
     requires idle { conn.old.in_transaction ≡ false }
+    requires order { cases.first ≤ cases.after }
     requires body { body.now ≡ canonical command.now }
     ensures idle { conn.new.in_transaction ≡ false }
     ensures clean { doubt (state S.Store conn.old).is_clean ≤ doubt (state S.Store conn.new).is_clean }
-    ensures either { (court : CourtSettings) (t : Tables) → t.next_row + length changes.now.rows.items < 2 ^ 63 → HoldsRows S.Store conn.old (rows_in court t)
-        → MatchResult result (λ _. HoldsRows S.Store conn.new (rows_in court (with_receipt command.now changes.now.reply (all_changed changes.now.rows.items t))))
-        (λ _. LastsAsEither S.Store conn.new (rows_in court t) (rows_in court (with_receipt command.now changes.now.reply (all_changed changes.now.rows.items t)))) }
+    ensures either { (t : Tables) → t.next_row + length changes.now.rows.items < 2 ^ 63 → HoldsRows S.Store conn.old (rows_in court.now t)
+        → (HasCleanDisk (state S.Store conn.old) → IsSettling court.now (option_copied calendar.entry) cases.first (cases.after - cases.first) t (with_receipt command.now changes.now.reply (all_changed changes.now.rows.items t)))
+        → MatchResult result (λ _. HoldsRows S.Store conn.new (rows_in court.now (with_receipt command.now changes.now.reply (all_changed changes.now.rows.items t))))
+        (λ _. LastsAsEither S.Store conn.new (rows_in court.now t) (rows_in court.now (with_receipt command.now changes.now.reply (all_changed changes.now.rows.items t)))) }
 {
     let mut tx = conn.transaction();
-    record(&mut tx, command, body, changes)?;
+    fill(
+        &mut tx, alloc, court, calendar, cases, command, body, changes,
+    )?;
     tx.commit()
 }

@@ -1,10 +1,11 @@
 //! `run` on worked lines, and over ends that fail.
-
+use crate::asking::court;
 use command_lines::{Clerk, CountEnd, RunFault, command_run};
-use court_days::Court;
-use docket_store::{Docket, Returned};
+use docket_store::Docket;
 use failing_ends::{Pieces, Taker};
 use sqlite::{Connection, MemStore};
+use std::alloc::{AllocError, Global};
+use std::io::{Read, Write};
 use std::test::Fail;
 
 const INPUT: &[u8] = br#"{"case":9,"deadline":1,"do":"vacate","key":"k"}
@@ -21,23 +22,27 @@ const ANSWERS: [&str; 4] = [
 ];
 
 /// A clerk who keeps a docket without any record, in memory.
-fn clerk(rt: &HostRuntime) -> Result<Clerk<MemStore>, Fail> {
-    let court = Court::read(rt.alloc(), "UTC0", "17:00").map_err(|_| "no court")?;
-    let connection = Connection::open_in_memory(rt.alloc())?;
-    match Docket::create(rt.alloc(), connection, court) {
-        Ok(docket) => Ok(Clerk::new(rt.alloc(), docket)),
-        Err(
-            Returned {
-                fault: _,
-                connection: _,
-            },
-        ) => Err(Fail::new("no docket")),
+fn clerk(alloc: Global) -> Option<Clerk<MemStore>> {
+    let connection = Connection::open_in_memory(alloc).ok()?;
+    match Docket::create(alloc, connection, court(alloc)?) {
+        Ok(docket) => Some(Clerk::new(alloc, docket)),
+        Err(_) => None,
     }
 }
 
+/// How a run ends, over a new docket.
+fn ended<R: Read, W: Write>(
+    alloc: Global,
+    reader: &mut R,
+    writer: &mut W,
+) -> Option<Result<CountEnd, RunFault>> {
+    let mut clerk = clerk(alloc)?;
+    Some(command_run(alloc, reader, writer, &mut clerk))
+}
+
 /// The first answers, so many of them, as one text.
-fn first_answers(rt: &HostRuntime, count: usize) -> Result<Vec<u8>, Fail> {
-    let mut text = Vec::new(rt.alloc());
+fn first_answers(alloc: Global, count: usize) -> Result<Vec<u8>, AllocError> {
+    let mut text = Vec::new(alloc);
     for answer in ANSWERS.iter().take(count) {
         text.extend_from_slice(answer.as_bytes())?;
     }
@@ -48,45 +53,57 @@ fn first_answers(rt: &HostRuntime, count: usize) -> Result<Vec<u8>, Fail> {
 fn answers(rt: HostRuntime) -> Result<(), Fail> {
     let mut reader = INPUT;
     let mut writer = Vec::new(rt.alloc());
-    let end = command_run(rt.alloc(), &mut reader, &mut writer, &mut clerk(&rt)?);
-    assert!(rt; matches!(end, Ok(CountEnd { lines: 4, bad: 2 })));
-    assert_eq!(rt; writer, first_answers(&rt, 4)?);
+    let end = ended(rt.alloc(), &mut reader, &mut writer);
+    assert!(rt; matches!(end, Some(Ok(CountEnd { lines: 4, bad: 2 }))));
+    assert_eq!(rt; writer, first_answers(rt.alloc(), 4)?);
     Ok(())
+}
+
+/// Whether the run fails after so many reads of a byte each, and has answered the lines that it read.
+fn fails_after_reads(alloc: Global, good_reads: u32) -> Result<bool, AllocError> {
+    let mut reader = Pieces::new(INPUT, 1, good_reads);
+    let mut writer = Vec::new(alloc);
+    let end = ended(alloc, &mut reader, &mut writer);
+    let lines = INPUT
+        .iter()
+        .take(good_reads as usize)
+        .filter(|b| **b == b'\n')
+        .count();
+    let wanted = first_answers(alloc, lines)?;
+    Ok(matches!(end, Some(Err(RunFault::ReadFailed))) && writer.as_slice() == wanted.as_slice())
 }
 
 // The input byte by byte: a line is answered once its line feed was read, and the read after the last
 // byte tells the end.
 #[test]
 fn failing_reads(rt: HostRuntime) -> Result<(), Fail> {
-    for good_reads in 0..=INPUT.len() {
-        let mut reader = Pieces::new(INPUT, 1, good_reads as u32);
-        let mut writer = Vec::new(rt.alloc());
-        let end = command_run(rt.alloc(), &mut reader, &mut writer, &mut clerk(&rt)?);
-        let failed = matches!(end, Err(RunFault::ReadFailed));
-        assert!(rt; failed, "after {good_reads} reads");
-        let lines = INPUT[..good_reads].iter().filter(|b| **b == b'\n').count();
-        assert_eq!(rt;
-            writer,
-            first_answers(&rt, lines)?,
+    for good_reads in 0..=u32::try_from(INPUT.len())? {
+        assert!(rt;
+            fails_after_reads(rt.alloc(), good_reads)?,
             "after {good_reads} reads"
         );
     }
     Ok(())
 }
 
+/// Whether the run fails after so many writes of a byte each, if there are more, and has written so
+/// many bytes.
+fn fails_after_writes(alloc: Global, all: &[u8], good_writes: u32) -> bool {
+    let mut reader = INPUT;
+    let mut writer = Taker::new(alloc, 1, good_writes, good_writes % 2 == 0);
+    let end = ended(alloc, &mut reader, &mut writer);
+    let taken = all.len().min(good_writes as usize);
+    let failed = matches!(end, Some(Err(RunFault::WriteFailed)));
+    let done = matches!(end, Some(Ok(_)));
+    failed == (taken < all.len()) && done != failed && writer.taken.as_slice() == &all[..taken]
+}
+
 #[test]
 fn failing_writes(rt: HostRuntime) -> Result<(), Fail> {
-    let all = first_answers(&rt, 4)?;
+    let all = first_answers(rt.alloc(), 4)?;
     for good_writes in 0..120 {
-        let mut reader = INPUT;
-        let mut writer = Taker::new(rt.alloc(), 1, good_writes, good_writes % 2 == 0);
-        let end = command_run(rt.alloc(), &mut reader, &mut writer, &mut clerk(&rt)?);
-        let failed = matches!(end, Err(RunFault::WriteFailed));
-        let taken = all.len().min(good_writes as usize);
-        assert_eq!(rt; failed, taken < all.len(), "after {good_writes} writes");
-        assert_eq!(rt;
-            writer.taken.as_slice(),
-            &all[..taken],
+        assert!(rt;
+            fails_after_writes(rt.alloc(), &all, good_writes),
             "after {good_writes} writes"
         );
     }

@@ -1,160 +1,79 @@
-//! What is asked of a docket, in few words, and what is answered.
-use court_days::{Court, Day, DayKind, End, Way, read_day};
-use court_rules::{MotionKind, Standing};
-use docket_command::{
-    Action, AddParty, Basis, CloseDay, Command, FileEntry, ImportCalendar, Moment, NewDay, NewDays,
-    OpenCase, Role, RuleMotion, Satisfy, ServeSummons, Text, WithdrawCalendar,
-};
+//! What is asked of a docket, as lines of JSON, and what is answered.
+use court_days::{Court, Day, End, read_day};
+use court_rules::Standing;
+use docket_command::{Command, Reply};
 use docket_store::{Docket, Fault};
+use docket_wire::{read_command, reply_text};
 use sqlite::Alter;
 use std::alloc::Global;
-use std::test::Fail;
 
-/// What is asked, of case 1 where no other is named.
-#[derive(Clone, Copy)]
-pub(crate) enum Ask {
-    /// A case with this label.
-    Open(&'static str),
-    Party(u32, &'static str, Role),
-    /// An entry with this text.
-    Entry(&'static str),
-    /// A summons, on a party and a day.
-    Summons(u32, &'static str),
-    /// A motion under a rule 12(b) defense, against a deadline, served on a day.
-    Motion(u32, &'static str),
-    Satisfy(u32, &'static str),
-    Close(&'static str),
-    Withdraw(u32),
-    /// The three storms.
-    Import,
-}
-
-/// What is asked under a key, and what is answered: a number, or why not.
-pub(crate) type Step = (&'static str, Ask, Result<u32, Fault>);
+/// A command as JSON, and the text of its answer.
+pub(crate) type Step = (&'static str, &'static str);
 
 /// The court of a docket, in New York.
-pub(crate) fn court(alloc: Global) -> Result<Court, Fail> {
-    Ok(Court::read(alloc, "EST5EDT,M3.2.0,M11.1.0", "17:00").map_err(|_| "no court")?)
-}
-
-pub(crate) fn day(text: &str) -> Result<Day, Fail> {
-    Ok(read_day(text.as_bytes()).ok_or("no day")?)
-}
-
-fn moment(text: &str) -> Result<Moment, Fail> {
-    Ok(Moment::read(text.as_bytes()).ok_or("no moment")?)
-}
-
-fn text(alloc: Global, text: &str) -> Result<Text, Fail> {
-    Ok(Text::from_str(alloc, text)?)
-}
-
-/// The office is closed on three days.
-fn storms(alloc: Global) -> Result<NewDays, Fail> {
-    let mut days = Vec::new(alloc);
-    for on in ["2025-07-07", "2025-07-08", "2025-07-09"] {
-        days.push(NewDay {
-            kind: DayKind::Closed,
-            day: day(on)?,
-            name: text(alloc, "Storm")?,
-        })?;
+pub(crate) fn court(alloc: Global) -> Option<Court> {
+    match Court::read(alloc, "EST5EDT,M3.2.0,M11.1.0", "17:00") {
+        Ok(court) => Some(court),
+        Err(_) => None,
     }
-    Ok(NewDays::new(days))
 }
 
-/// What is asked about a deadline of case 1.
-fn deadline_action(ask: Ask) -> Result<Action, Fail> {
-    Ok(match ask {
-        Ask::Summons(party, served) => Action::ServeSummons(ServeSummons {
-            case: 1,
-            party,
-            basis: Basis::Private,
-            served: day(served)?,
-            attorney: None,
-        }),
-        Ask::Motion(deadline, served) => Action::RuleMotion(RuleMotion {
-            case: 1,
-            deadline,
-            kind: MotionKind::B,
-            served: day(served)?,
-        }),
-        Ask::Satisfy(deadline, at) => Action::Satisfy(Satisfy {
-            case: 1,
-            deadline,
-            at: moment(at)?,
-            way: Way::Electronic,
-        }),
-        _ => return Err("not about a deadline".into()),
-    })
+pub(crate) fn day(text: &str) -> Option<Day> {
+    read_day(text.as_bytes())
 }
 
-fn action(alloc: Global, ask: Ask) -> Result<Action, Fail> {
-    Ok(match ask {
-        Ask::Open(label) => Action::OpenCase(OpenCase {
-            label: text(alloc, label)?,
-            caption: text(alloc, "Roe v. Doe")?,
-            filed: day("2025-06-02")?,
-        }),
-        Ask::Party(case, name, role) => Action::AddParty(AddParty {
-            case,
-            name: text(alloc, name)?,
-            role,
-        }),
-        Ask::Entry(body) => Action::FileEntry(FileEntry {
-            case: 1,
-            day: day("2025-06-02")?,
-            text: text(alloc, body)?,
-        }),
-        Ask::Close(on) => Action::CloseDay(CloseDay {
-            day: day(on)?,
-            name: text(alloc, "Storm")?,
-        }),
-        Ask::Withdraw(row) => Action::WithdrawCalendar(WithdrawCalendar { row }),
-        Ask::Import => Action::ImportCalendar(ImportCalendar {
-            rows: storms(alloc)?,
-        }),
-        about_a_deadline => deadline_action(about_a_deadline)?,
-    })
+/// The command that a line spells.
+pub(crate) fn command(alloc: Global, line: &str) -> Option<Command> {
+    match read_command(alloc, line.as_bytes()) {
+        Ok(command) => Some(command),
+        Err(_) => None,
+    }
 }
 
-/// The command that asks it under a key.
-pub(crate) fn command(alloc: Global, key: &str, ask: Ask) -> Result<Command, Fail> {
-    Ok(Command {
-        key: text(alloc, key)?,
-        action: action(alloc, ask)?,
-    })
+/// Whether this is the text of the answer.
+fn is_answer(alloc: Global, answer: Result<Reply, Fault>, text: &str) -> bool {
+    let answer = match answer {
+        Ok(reply) => Ok(reply),
+        Err(Fault::Refused(refusal)) => Err(refusal),
+        Err(_) => return false,
+    };
+    match reply_text(alloc, &answer) {
+        Ok(written) => written.as_str() == text,
+        Err(_) => false,
+    }
 }
 
-/// What a docket answers.
-pub(crate) fn answer<S: Alter>(
+/// Whether the docket answers the command so.
+pub(crate) fn is_answered<S: Alter>(
     alloc: Global,
     docket: &mut Docket<S>,
-    key: &str,
-    ask: Ask,
-) -> Result<Result<u32, Fault>, Fail> {
-    let command = command(alloc, key, ask)?;
-    Ok(docket.apply(&command).map(|reply| reply.number))
+    line: &str,
+    text: &str,
+) -> bool {
+    match command(alloc, line) {
+        Some(command) => is_answer(alloc, docket.apply(&command), text),
+        None => false,
+    }
 }
 
-/// Asks in order. An answer that is not the one wanted fails with its key.
-pub(crate) fn play<S: Alter>(
-    alloc: Global,
-    docket: &mut Docket<S>,
-    steps: &[Step],
-) -> Result<(), Fail> {
-    for (key, ask, wanted) in steps {
-        if answer(alloc, docket, key, *ask)? != *wanted {
-            return Err((*key).into());
+/// Whether the docket answers the commands so, in order.
+pub(crate) fn answers<S: Alter>(alloc: Global, docket: &mut Docket<S>, steps: &[Step]) -> bool {
+    for (line, text) in steps {
+        if !is_answered(alloc, docket, line, text) {
+            return false;
         }
     }
-    Ok(())
+    true
 }
 
 /// Whether the deadlines of case 1 run, and end on these days, in order.
-pub(crate) fn ends_on<S: Alter>(docket: &mut Docket<S>, ends: &[&str]) -> Result<bool, Fail> {
-    let lines = docket.deadlines(1)?.ok_or("no case")?;
+pub(crate) fn ends_on<S: Alter>(docket: &mut Docket<S>, ends: &[&str]) -> Result<bool, Fault> {
+    let Some(lines) = docket.deadlines(1)? else {
+        return Ok(false);
+    };
     for (line, end) in lines.iter().zip(ends) {
-        if line.standing != Standing::Running(End::LastDay(day(end)?)) {
+        if !matches!(line.standing, Standing::Running(End::LastDay(last)) if Some(last) == day(end))
+        {
             return Ok(false);
         }
     }
@@ -163,7 +82,16 @@ pub(crate) fn ends_on<S: Alter>(docket: &mut Docket<S>, ends: &[&str]) -> Result
 
 /// A case with a defendant and a plaintiff.
 pub(crate) const OPENING: [Step; 3] = [
-    ("open", Ask::Open("1:25-cv-00001"), Ok(1)),
-    ("doe", Ask::Party(1, "Doe", Role::Defendant), Ok(1)),
-    ("roe", Ask::Party(1, "Roe", Role::Plaintiff), Ok(2)),
+    (
+        r#"{"do":"open_case","key":"open","label":"1:25-cv-00001","caption":"Roe v. Doe","filed":"2025-06-02"}"#,
+        r#"{"number":1}"#,
+    ),
+    (
+        r#"{"do":"add_party","key":"doe","case":1,"name":"Doe","role":"defendant"}"#,
+        r#"{"number":1}"#,
+    ),
+    (
+        r#"{"do":"add_party","key":"roe","case":1,"name":"Roe","role":"plaintiff"}"#,
+        r#"{"number":2}"#,
+    ),
 ];

@@ -1,18 +1,46 @@
-//! Two disks in memory, each of which stops at a call and counts its calls; a database over them; and
-//! what a power failure leaves of it.
+//! Two disks in memory, each of which stops at a call and counts its calls, and what a power failure
+//! leaves of them.
 mod counted;
 
 use self::counted::Counted;
-use docket_store::stop;
-use sqlite::{Connection, FileStore, Files, Options};
+use sqlite::{Files, Options};
 use sqlite_disk::{Crash, Disk, Fuse, Memory};
 use std::alloc::{AllocError, Global};
-use std::test::Fail;
+use std::io;
+
+/// A disk in memory.
+pub(crate) trait Tried: Crash + Drop {
+    /// A disk that holds these bytes, as after a sync, and stops after so many calls.
+    fn holding(alloc: Global, bytes: &[u8], calls: u64) -> io::Result<Self>;
+
+    fn bytes(&self) -> &[u8];
+
+    /// How many calls have come to it.
+    fn calls(&self) -> u64;
+}
 
 pub(crate) type Fused = Counted<Fuse<Memory>>;
 
-/// A database over two such disks.
-pub(crate) type Store = FileStore<Fused>;
+impl Tried for Fused {
+    fn holding(alloc: Global, bytes: &[u8], calls: u64) -> io::Result<Fused> {
+        let mut disk = Memory::new(alloc);
+        if disk.may_be_used() {
+            disk.write_at(0, bytes)?;
+        }
+        if disk.may_be_used() {
+            disk.sync()?;
+        }
+        Ok(Counted::new(Fuse::new(disk, calls)))
+    }
+
+    fn bytes(&self) -> &[u8] {
+        self.inner().inner().bytes()
+    }
+
+    fn calls(&self) -> u64 {
+        self.count()
+    }
+}
 
 /// What the two files hold.
 #[derive(Drop)]
@@ -56,23 +84,15 @@ impl Calls {
     }
 }
 
-/// A disk with these bytes, as after a sync.
-fn disk(alloc: Global, bytes: &[u8], calls: u64) -> Result<Fused, Fail> {
-    let mut disk = Memory::new(alloc);
-    if disk.may_be_used() {
-        disk.write_at(0, bytes)?;
-    }
-    if disk.may_be_used() {
-        disk.sync()?;
-    }
-    Ok(Counted::new(Fuse::new(disk, calls)))
-}
-
 /// Files with these bytes.
-pub(crate) fn files_with(alloc: Global, bytes: &Bytes, stop: Stop) -> Result<Files<Fused>, Fail> {
+pub(crate) fn files_with<D: Tried>(
+    alloc: Global,
+    bytes: &Bytes,
+    stop: Stop,
+) -> io::Result<Files<D>> {
     Ok(Files {
-        log: disk(alloc, &bytes.log, stop.log)?,
-        db: disk(alloc, &bytes.db, stop.db)?,
+        log: D::holding(alloc, &bytes.log, stop.log)?,
+        db: D::holding(alloc, &bytes.db, stop.db)?,
     })
 }
 
@@ -83,12 +103,7 @@ pub(crate) fn options(frames: usize) -> Options {
     options
 }
 
-/// Gives the files back, and asks nothing of the disks.
-pub(crate) fn files_of(conn: Connection<Store>) -> Files<Fused> {
-    stop(conn).close()
-}
-
-pub(crate) fn calls_of(files: &Files<Fused>) -> Calls {
+pub(crate) fn calls_of<D: Tried>(files: &Files<D>) -> Calls {
     Calls {
         log: files.log.calls(),
         db: files.db.calls(),
@@ -101,24 +116,73 @@ fn copied(alloc: Global, bytes: &[u8]) -> Result<Vec<u8>, AllocError> {
     Ok(copy)
 }
 
-pub(crate) fn bytes_of(alloc: Global, files: &Files<Fused>) -> Result<Bytes, AllocError> {
+pub(crate) fn bytes_of<D: Tried>(alloc: Global, files: &Files<D>) -> Result<Bytes, AllocError> {
     Ok(Bytes {
-        log: copied(alloc, files.log.inner().inner().bytes())?,
-        db: copied(alloc, files.db.inner().inner().bytes())?,
+        log: copied(alloc, files.log.bytes())?,
+        db: copied(alloc, files.db.bytes())?,
     })
 }
 
-/// What a power failure leaves: all that was written, or that without what was not synced of the log,
-/// of the database, or of both.
-pub(crate) fn left(alloc: Global, mut files: Files<Fused>) -> Result<[Bytes; 4], AllocError> {
-    let kept = bytes_of(alloc, &files)?;
+/// What a run left: all that was written, and that without what was not synced.
+#[derive(Drop)]
+pub(crate) struct Remains {
+    written: Bytes,
+    synced: Bytes,
+}
+
+/// What a power failure loses of what was not synced.
+#[derive(Clone, Copy)]
+pub(crate) struct Loss {
+    log: bool,
+    db: bool,
+}
+
+/// Nothing, that of the log, of the database, or of both.
+pub(crate) const LOSSES: [Loss; 4] = [
+    Loss {
+        log: false,
+        db: false,
+    },
+    Loss {
+        log: true,
+        db: false,
+    },
+    Loss {
+        log: false,
+        db: true,
+    },
+    Loss {
+        log: true,
+        db: true,
+    },
+];
+
+pub(crate) fn left<D: Tried>(alloc: Global, mut files: Files<D>) -> Result<Remains, AllocError> {
+    let written = bytes_of(alloc, &files)?;
     files.log.crash();
-    let log_lost = bytes_of(alloc, &files)?;
     files.db.crash();
-    let both_lost = bytes_of(alloc, &files)?;
-    let db_lost = Bytes {
-        log: copied(alloc, &kept.log)?,
-        db: copied(alloc, &both_lost.db)?,
-    };
-    Ok([kept, log_lost, db_lost, both_lost])
+    Ok(Remains {
+        written,
+        synced: bytes_of(alloc, &files)?,
+    })
+}
+
+impl Remains {
+    /// What is left where a power failure loses so much.
+    pub(crate) fn after(&self, alloc: Global, loss: Loss) -> Result<Bytes, AllocError> {
+        let log = if loss.log {
+            &self.synced.log
+        } else {
+            &self.written.log
+        };
+        let db = if loss.db {
+            &self.synced.db
+        } else {
+            &self.written.db
+        };
+        Ok(Bytes {
+            log: copied(alloc, log)?,
+            db: copied(alloc, db)?,
+        })
+    }
 }

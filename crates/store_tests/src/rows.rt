@@ -10,49 +10,80 @@ use self::changes::{acts, of_each};
 use crate::asking::court;
 use docket_command::{Action, Command, Reply, Text, Vacate};
 use docket_core::{Change, Changes};
-use docket_tables::{is_bare, make, write};
+use docket_tables::{CaseRange, is_bare, make, write};
 use docket_wire::command_text;
-use sqlite::{Connection, MemStore};
-use std::alloc::Global;
+use sqlite::{Alter, Connection, MemStore};
+use std::alloc::{AllocError, Global};
 use std::test::Fail;
 
 type Database = Connection<MemStore>;
 
+/// Makes the tables of a court in New York, if there are none.
+fn make_tables<S: Alter>(alloc: Global, conn: &mut Connection<S>) -> bool {
+    let Some(court) = court(alloc) else {
+        return false;
+    };
+    if !conn.is_autocommit() || !is_bare(conn.schema()) {
+        return false;
+    }
+    make(conn, &court).is_ok()
+}
+
 /// The tables of a court in New York, without any record.
 fn made(alloc: Global) -> Result<Database, Fail> {
-    let court = court(alloc)?;
     let mut conn = Connection::open_in_memory(alloc)?;
-    if !conn.is_autocommit() || !is_bare(conn.schema()) {
-        return Err("not empty".into());
+    if make_tables(alloc, &mut conn) {
+        Ok(conn)
+    } else {
+        Err("no tables".into())
     }
-    make(&mut conn, &court).map_err(|_| "no tables")?;
-    Ok(conn)
 }
 
 /// A vacation under the key.
-fn vacation(alloc: Global, key: &str, deadline: u32) -> Result<Command, Fail> {
+fn vacation(alloc: Global, key: &str, deadline: u32) -> Result<Command, AllocError> {
     Ok(Command {
         key: Text::from_str(alloc, key)?,
         action: Action::Vacate(Vacate { case: 1, deadline }),
     })
 }
 
-/// Makes the changes, with the receipt of a vacation under the key.
-fn written(alloc: Global, conn: &mut Database, key: &str, rows: Vec<Change>) -> Result<(), Fail> {
+/// Whether the changes are made, with the receipt of a vacation under the key.
+fn is_written<S: Alter>(
+    alloc: Global,
+    conn: &mut Connection<S>,
+    key: &str,
+    rows: Vec<Change>,
+) -> Result<bool, AllocError> {
     let command = vacation(alloc, key, 2)?;
     let body = command_text(alloc, &command)?;
-    let reply = Reply { number: 2 };
+    let Some(court) = court(alloc) else {
+        return Ok(false);
+    };
     if !conn.is_autocommit() {
-        return Err("in a transaction".into());
+        return Ok(false);
     }
-    write(conn, &command, &body, &Changes { rows, reply })?;
-    Ok(())
+    let changes = Changes {
+        rows,
+        reply: Reply { number: 2 },
+    };
+    // No end is looked at: the range holds no case.
+    let none = CaseRange { first: 1, after: 1 };
+    Ok(write(conn, alloc, &court, None, none, &command, &body, &changes).is_ok())
 }
 
-/// The tables with a row of each, acts of each kind, and the receipts of k1 and k2.
+/// Whether it writes a row of each table, acts of each kind, and the receipts of k1 and k2.
+fn fill<S: Alter>(alloc: Global, conn: &mut Connection<S>) -> Result<bool, Fail> {
+    let of_each = of_each(alloc)?;
+    let acts = acts(alloc)?;
+    Ok(is_written(alloc, conn, "k1", of_each)? && is_written(alloc, conn, "k2", acts)?)
+}
+
+/// The tables with these rows.
 fn filled(alloc: Global) -> Result<Database, Fail> {
     let mut conn = made(alloc)?;
-    written(alloc, &mut conn, "k1", of_each(alloc)?)?;
-    written(alloc, &mut conn, "k2", acts(alloc)?)?;
-    Ok(conn)
+    if fill(alloc, &mut conn)? {
+        Ok(conn)
+    } else {
+        Err("not filled".into())
+    }
 }

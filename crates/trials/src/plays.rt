@@ -32,7 +32,7 @@ enum Play {
 }
 
 /// The input is data/NAME.in, and what is to be written is data/NAME.out.
-const INPUTS: [(Play, &str); 28] = [
+const INPUTS: [(Play, &str); 31] = [
     (Play::Count, "count-days"),
     (Play::Count, "count-1"),
     (Play::Count, "count-2"),
@@ -61,6 +61,9 @@ const INPUTS: [(Play, &str); 28] = [
     (Play::Worked, "worked-extension"),
     (Play::Worked, "worked-fixed-day"),
     (Play::Worked, "worked-hundred-acts"),
+    (Play::Worked, "worked-again"),
+    (Play::Worked, "worked-kept-calendar"),
+    (Play::Worked, "worked-moving-ends"),
 ];
 
 /// What is written on the input.

@@ -12,10 +12,10 @@ use timing::{time_cases, time_parties, time_reads};
 /// Fills the tables of cases, parties and receipts with so many rows, and prints nanoseconds to
 /// standard error and what the tables hold in the end to standard output.
 fn time_rows<S: Alter>(rt: &HostRuntime, conn: &mut Connection<S>, rows: u32) -> Result<(), Error> {
-    made(rt.alloc(), conn)?;
+    let court = made(rt.alloc(), conn)?;
     filled(rt.alloc(), conn, rows)?;
-    eprintln!(rt; "case {}", time_cases(rt, conn, rows)?)?;
-    eprintln!(rt; "party {}", time_parties(rt, conn, rows)?)?;
+    eprintln!(rt; "case {}", time_cases(rt, conn, &court, rows)?)?;
+    eprintln!(rt; "party {}", time_parties(rt, conn, &court, rows)?)?;
     time_reads(rt, conn, rows)?;
     let cases = count(conn, "SELECT count(*) FROM cases")?;
     let parties = count(conn, "SELECT count(*) FROM party")?;

@@ -1,17 +1,15 @@
 //! The commands that are stopped, and what the docket holds before them and after them. Days: 20241 is
-//! 2025-06-02, 20252 is 2025-06-13, 20276 is 2025-07-07.
-use crate::asking::{Ask, Step};
-use docket_command::Role;
+//! 2025-06-02, 20252 is 2025-06-13, 20276 is 2025-07-07, 20279 is 2025-07-10.
+use crate::asking::Step;
 
 /// A command that is stopped.
 #[derive(Clone, Copy)]
 pub(super) struct Trial {
-    pub(super) key: &'static str,
-    pub(super) ask: Ask,
+    pub(super) line: &'static str,
     /// What it is answered.
     pub(super) number: u32,
     /// What the tables hold with it.
-    pub(super) counts: [i64; 8],
+    pub(super) counts: [i64; 9],
     /// When the deadlines of case 1 end with it.
     pub(super) ends: &'static [&'static str],
     /// Questions that count its rows with all of their columns, and how many there are.
@@ -20,21 +18,32 @@ pub(super) struct Trial {
 
 /// What the docket holds before each: a case with two parties, of which one is served.
 pub(super) const BEFORE: [Step; 4] = [
-    ("open", Ask::Open("1:25-cv-00001"), Ok(1)),
-    ("doe", Ask::Party(1, "Doe", Role::Defendant), Ok(1)),
-    ("poe", Ask::Party(1, "Poe", Role::Defendant), Ok(2)),
-    ("doe-served", Ask::Summons(1, "2025-06-13"), Ok(1)),
+    (
+        r#"{"do":"open_case","key":"open","label":"1:25-cv-00001","caption":"Roe v. Doe","filed":"2025-06-02"}"#,
+        r#"{"number":1}"#,
+    ),
+    (
+        r#"{"do":"add_party","key":"doe","case":1,"name":"Doe","role":"defendant"}"#,
+        r#"{"number":1}"#,
+    ),
+    (
+        r#"{"do":"add_party","key":"poe","case":1,"name":"Poe","role":"defendant"}"#,
+        r#"{"number":2}"#,
+    ),
+    (
+        r#"{"do":"serve_summons","key":"doe-served","case":1,"party":1,"basis":"private","served":"2025-06-13"}"#,
+        r#"{"number":1}"#,
+    ),
 ];
 
-pub(super) const COUNTS_BEFORE: [i64; 8] = [1, 2, 0, 1, 1, 0, 1, 4];
+pub(super) const COUNTS_BEFORE: [i64; 9] = [1, 2, 0, 1, 1, 0, 1, 4, 1];
 
 pub(super) const ENDS_BEFORE: &[&str] = &["2025-07-07"];
 
 pub(super) const OPEN: Trial = Trial {
-    key: "second",
-    ask: Ask::Open("1:25-cv-00002"),
+    line: r#"{"do":"open_case","key":"second","label":"1:25-cv-00002","caption":"Roe v. Doe","filed":"2025-06-02"}"#,
     number: 2,
-    counts: [2, 2, 0, 1, 1, 0, 1, 5],
+    counts: [2, 2, 0, 1, 1, 0, 1, 5, 1],
     ends: &["2025-07-07"],
     rows: &[
         (
@@ -49,10 +58,9 @@ pub(super) const OPEN: Trial = Trial {
 };
 
 pub(super) const SERVE: Trial = Trial {
-    key: "poe-served",
-    ask: Ask::Summons(2, "2025-06-13"),
+    line: r#"{"do":"serve_summons","key":"poe-served","case":1,"party":2,"basis":"private","served":"2025-06-13"}"#,
     number: 2,
-    counts: [1, 2, 0, 2, 2, 0, 1, 5],
+    counts: [1, 2, 0, 2, 2, 0, 1, 5, 2],
     ends: &["2025-07-07", "2025-07-07"],
     rows: &[
         (
@@ -71,15 +79,18 @@ pub(super) const SERVE: Trial = Trial {
 };
 
 pub(super) const IMPORT: Trial = Trial {
-    key: "storms",
-    ask: Ask::Import,
+    line: r#"{"do":"import_calendar","key":"storms","rows":[{"kind":"closed","day":"2025-07-07","name":"Storm"},{"kind":"closed","day":"2025-07-08","name":"Storm"},{"kind":"closed","day":"2025-07-09","name":"Storm"}]}"#,
     number: 3,
-    counts: [1, 2, 0, 1, 1, 3, 4, 5],
+    counts: [1, 2, 0, 1, 1, 3, 4, 5, 0],
     ends: &["2025-07-10"],
     rows: &[
         (
             "SELECT count(*) FROM calendar WHERE kind = 3 AND a = 20275 + row_no AND b = 0 AND name = 'Storm'",
             3,
+        ),
+        (
+            "SELECT count(*) FROM due WHERE case_no = 1 AND deadline_no = 1 AND day = 20279 AND moment = 9999999999999",
+            1,
         ),
         (
             r#"SELECT count(*) FROM receipt WHERE command_key = 'storms' AND reply = 3 AND body = '{"do":"import_calendar","key":"storms","rows":[{"day":"2025-07-07","kind":"closed","name":"Storm"},{"day":"2025-07-08","kind":"closed","name":"Storm"},{"day":"2025-07-09","kind":"closed","name":"Storm"}]}'"#,

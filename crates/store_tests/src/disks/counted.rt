@@ -18,7 +18,7 @@ impl<D: Disk> Counted<D> {
     }
 
     /// How many calls have come, with those that failed.
-    pub(crate) fn calls(&self) -> u64 {
+    pub(crate) fn count(&self) -> u64 {
         self.calls
     }
 }

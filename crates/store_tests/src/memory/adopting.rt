@@ -1,16 +1,14 @@
 //! Which databases are taken for a docket's, and in which one is made.
-use super::answers::created;
-use crate::asking::{Ask, OPENING, Step, court, play};
-use docket_command::{Refusal, Role};
-use docket_store::Fault::Refused;
+use super::created;
+use crate::asking::{OPENING, Step, answers, court};
 use docket_store::{AdoptFault, CreateFault, Docket};
-use sqlite::{Connection, MemStore};
+use sqlite::{Alter, Connection, Error, MemStore};
 use std::alloc::Global;
 use std::test::Fail;
 
 type Database = Connection<MemStore>;
 
-fn adopted(alloc: Global, conn: Database) -> Result<Docket<MemStore>, Fail> {
+fn adopted<S: Alter + Drop>(alloc: Global, conn: Connection<S>) -> Result<Docket<S>, Fail> {
     match Docket::adopt(alloc, conn) {
         Ok(docket) => Ok(docket),
         Err(_) => Err("not adopted".into()),
@@ -18,18 +16,27 @@ fn adopted(alloc: Global, conn: Database) -> Result<Docket<MemStore>, Fail> {
 }
 
 /// Why the database is not adopted, and the database.
-fn adopt_fault(alloc: Global, conn: Database) -> Result<(AdoptFault, Database), Fail> {
+fn adopt_fault<S: Alter + Drop>(
+    alloc: Global,
+    conn: Connection<S>,
+) -> (Option<AdoptFault>, Connection<S>) {
     match Docket::adopt(alloc, conn) {
-        Ok(_) => Err("adopted".into()),
-        Err(returned) => Ok((returned.fault, returned.connection)),
+        Ok(docket) => (None, docket.close()),
+        Err(returned) => (Some(returned.fault), returned.connection),
     }
 }
 
 /// Why no docket is made in the database, and the database.
-fn create_fault(alloc: Global, conn: Database) -> Result<(CreateFault, Database), Fail> {
-    match Docket::create(alloc, conn, court(alloc)?) {
-        Ok(_) => Err("made".into()),
-        Err(returned) => Ok((returned.fault, returned.connection)),
+fn create_fault<S: Alter + Drop>(
+    alloc: Global,
+    conn: Connection<S>,
+) -> (Option<CreateFault>, Connection<S>) {
+    let Some(court) = court(alloc) else {
+        return (None, conn);
+    };
+    match Docket::create(alloc, conn, court) {
+        Ok(docket) => (None, docket.close()),
+        Err(returned) => (Some(returned.fault), returned.connection),
     }
 }
 
@@ -48,48 +55,78 @@ fn docket_after(alloc: Global, sql: &str) -> Result<Database, Fail> {
 
 // What was accepted before the docket was closed, and what comes after it.
 const GOING_ON: [Step; 5] = [
-    ("doe", Ask::Party(1, "Doe", Role::Defendant), Ok(1)),
     (
-        "doe",
-        Ask::Party(1, "Poe", Role::Defendant),
-        Err(Refused(Refusal::KeyReused)),
+        r#"{"do":"add_party","key":"doe","case":1,"name":"Doe","role":"defendant"}"#,
+        r#"{"number":1}"#,
     ),
-    ("poe", Ask::Party(1, "Poe", Role::Other), Ok(3)),
-    ("served", Ask::Summons(1, "2025-06-13"), Ok(1)),
-    ("storm", Ask::Close("2025-07-07"), Ok(1)),
+    (
+        r#"{"do":"add_party","key":"doe","case":1,"name":"Poe","role":"defendant"}"#,
+        r#"{"name":"KeyReused","refused":2}"#,
+    ),
+    (
+        r#"{"do":"add_party","key":"poe","case":1,"name":"Poe","role":"other"}"#,
+        r#"{"number":3}"#,
+    ),
+    (
+        r#"{"do":"serve_summons","key":"served","case":1,"party":1,"basis":"private","served":"2025-06-13"}"#,
+        r#"{"number":1}"#,
+    ),
+    (
+        r#"{"do":"close_day","key":"storm","day":"2025-07-07","name":"Storm"}"#,
+        r#"{"number":1}"#,
+    ),
 ];
 
 // The storm moves the end to 2025-07-08, in the court's own time.
 const LATER: [Step; 2] = [
-    ("storm", Ask::Close("2025-07-07"), Ok(1)),
-    ("answer", Ask::Satisfy(1, "2025-07-09T03:59+00:00"), Ok(1)),
+    (
+        r#"{"do":"close_day","key":"storm","day":"2025-07-07","name":"Storm"}"#,
+        r#"{"number":1}"#,
+    ),
+    (
+        r#"{"do":"satisfy","key":"answer","case":1,"deadline":1,"at":"2025-07-09T03:59+00:00","way":"electronic"}"#,
+        r#"{"number":1}"#,
+    ),
 ];
+
+/// A docket with some records, after it was closed and adopted again.
+fn reopened(alloc: Global) -> Result<Docket<MemStore>, Fail> {
+    let mut docket = created(alloc)?;
+    if answers(alloc, &mut docket, &OPENING) {
+        adopted(alloc, docket.close())
+    } else {
+        Err("not opened".into())
+    }
+}
 
 #[test]
 fn docket_goes_on_where_it_was(rt: HostRuntime) -> Result<(), Fail> {
     let alloc = rt.alloc();
-    let mut docket = created(alloc)?;
-    play(alloc, &mut docket, &OPENING)?;
-    let mut docket = adopted(alloc, docket.close())?;
+    let mut docket = reopened(alloc)?;
     assert!(rt; docket.court().zone_text() == "EST5EDT,M3.2.0,M11.1.0");
     assert!(rt; docket.court().close_minute() == 1020);
-    play(alloc, &mut docket, &GOING_ON)?;
-    let (fault, conn) = create_fault(alloc, docket.close())?;
-    assert_eq!(rt; fault, CreateFault::NotEmpty);
+    assert!(rt; answers(alloc, &mut docket, &GOING_ON));
+    let (fault, conn) = create_fault(alloc, docket.close());
+    assert!(rt; fault == Some(CreateFault::NotEmpty));
     let mut docket = adopted(alloc, conn)?;
-    play(alloc, &mut docket, &LATER)
+    assert!(rt; answers(alloc, &mut docket, &LATER));
+    Ok(())
 }
 
 #[test]
 fn docket_is_made_where_nothing_is(rt: HostRuntime) -> Result<(), Fail> {
     let alloc = rt.alloc();
-    let conn = Connection::open_in_memory(alloc)?;
-    let (fault, conn) = adopt_fault(alloc, conn)?;
-    assert_eq!(rt; fault, AdoptFault::Empty);
-    match Docket::create(alloc, conn, court(alloc)?) {
-        Ok(mut docket) => play(alloc, &mut docket, &OPENING),
-        Err(_) => Err("not made".into()),
-    }
+    let (fault, conn) = adopt_fault(alloc, Connection::open_in_memory(alloc)?);
+    assert!(rt; fault == Some(AdoptFault::Empty));
+    let (fault, conn) = create_fault(alloc, conn);
+    assert!(rt; fault.is_none());
+    let mut docket = adopted(alloc, conn)?;
+    assert!(rt; answers(alloc, &mut docket, &OPENING));
+    Ok(())
+}
+
+fn count<S: Alter>(conn: &mut Connection<S>, sql: &str) -> Result<i64, Error> {
+    conn.query_row(sql, &[])?.get(0)
 }
 
 #[test]
@@ -99,13 +136,13 @@ fn other_tables_are_left_alone(rt: HostRuntime) -> Result<(), Fail> {
         alloc,
         "CREATE TABLE note (id INTEGER PRIMARY KEY, body TEXT NOT NULL) STRICT; INSERT INTO note (id, body) VALUES (1, 'Roe')",
     )?;
-    let (fault, conn) = adopt_fault(alloc, conn)?;
-    assert_eq!(rt; fault, AdoptFault::Empty);
-    let (fault, mut conn) = create_fault(alloc, conn)?;
-    assert_eq!(rt; fault, CreateFault::StoreFailed);
-    let found = conn.query_row("SELECT count(*) FROM note WHERE body = 'Roe'", &[])?;
-    assert_eq!(rt; found.get::<i64>(0)?, 1);
-    assert_eq!(rt; conn.schema().tables.len(), 1);
+    let (fault, conn) = adopt_fault(alloc, conn);
+    assert!(rt; fault == Some(AdoptFault::Empty));
+    let (fault, mut conn) = create_fault(alloc, conn);
+    assert!(rt; fault == Some(CreateFault::StoreFailed));
+    let found = count(&mut conn, "SELECT count(*) FROM note WHERE body = 'Roe'");
+    assert!(rt; found == Ok(1));
+    assert!(rt; conn.schema().tables.len() == 1);
     Ok(())
 }
 
@@ -127,20 +164,19 @@ const NAMESAKES: [(&str, AdoptFault); 3] = [
 
 #[test]
 fn namesakes_are_no_docket(rt: HostRuntime) -> Result<(), Fail> {
-    let alloc = rt.alloc();
     for (sql, wanted) in NAMESAKES {
-        let (fault, conn) = adopt_fault(alloc, database_of(alloc, sql)?)?;
-        assert_eq!(rt; fault, wanted, "{sql}");
-        let (fault, conn) = create_fault(alloc, conn)?;
-        assert_eq!(rt; fault, CreateFault::NotEmpty, "{sql}");
-        assert_eq!(rt; conn.schema().tables.len(), 1, "{sql}");
+        let (fault, conn) = adopt_fault(rt.alloc(), database_of(rt.alloc(), sql)?);
+        assert!(rt; fault == Some(wanted), "{sql}");
+        let (fault, conn) = create_fault(rt.alloc(), conn);
+        assert!(rt; fault == Some(CreateFault::NotEmpty), "{sql}");
+        assert!(rt; conn.schema().tables.len() == 1, "{sql}");
     }
     Ok(())
 }
 
 // What becomes of a docket whose court has another row.
 const OTHERS: [(&str, AdoptFault); 6] = [
-    ("UPDATE court SET version = 1", AdoptFault::OtherVersion),
+    ("UPDATE court SET version = 0", AdoptFault::OtherVersion),
     (
         "UPDATE court SET word = 'criminal docket'",
         AdoptFault::NotADocket,
@@ -153,12 +189,11 @@ const OTHERS: [(&str, AdoptFault); 6] = [
 
 #[test]
 fn other_courts_are_told(rt: HostRuntime) -> Result<(), Fail> {
-    let alloc = rt.alloc();
     for (sql, wanted) in OTHERS {
-        let (fault, conn) = adopt_fault(alloc, docket_after(alloc, sql)?)?;
-        assert_eq!(rt; fault, wanted, "{sql}");
-        let (fault, _) = create_fault(alloc, conn)?;
-        assert_eq!(rt; fault, CreateFault::NotEmpty, "{sql}");
+        let (fault, conn) = adopt_fault(rt.alloc(), docket_after(rt.alloc(), sql)?);
+        assert!(rt; fault == Some(wanted), "{sql}");
+        let (fault, _) = create_fault(rt.alloc(), conn);
+        assert!(rt; fault == Some(CreateFault::NotEmpty), "{sql}");
     }
     Ok(())
 }
@@ -166,11 +201,11 @@ fn other_courts_are_told(rt: HostRuntime) -> Result<(), Fail> {
 #[test]
 fn open_transactions_are_left_open(rt: HostRuntime) -> Result<(), Fail> {
     let alloc = rt.alloc();
-    let (fault, conn) = create_fault(alloc, database_of(alloc, "BEGIN")?)?;
-    assert_eq!(rt; fault, CreateFault::StoreFailed);
+    let (fault, conn) = create_fault(alloc, database_of(alloc, "BEGIN")?);
+    assert!(rt; fault == Some(CreateFault::StoreFailed));
     assert!(rt; !conn.is_autocommit());
-    let (fault, conn) = adopt_fault(alloc, docket_after(alloc, "BEGIN")?)?;
-    assert_eq!(rt; fault, AdoptFault::StoreFailed);
+    let (fault, conn) = adopt_fault(alloc, docket_after(alloc, "BEGIN")?);
+    assert!(rt; fault == Some(AdoptFault::StoreFailed));
     assert!(rt; !conn.is_autocommit());
     Ok(())
 }

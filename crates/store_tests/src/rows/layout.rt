@@ -4,14 +4,19 @@ use super::cells::{
     has_numbers, is_row,
 };
 use super::changes::storm;
-use super::{Database, filled, made, written};
+use super::{filled, is_written, made};
 use docket_core::Change;
 use sqlite::types::ValueRef::{self, Int, Text};
-use std::alloc::Global;
+use sqlite::{Alter, Connection, Error};
+use std::alloc::{AllocError, Global};
 use std::test::Fail;
 
 /// Whether the rows of a query are these, column by column.
-fn shows(conn: &mut Database, sql: &str, wanted: &[&[ValueRef<'_>]]) -> Result<bool, Fail> {
+fn shows<S: Alter>(
+    conn: &mut Connection<S>,
+    sql: &str,
+    wanted: &[&[ValueRef<'_>]],
+) -> Result<bool, Error> {
     let rows = conn.query_all(sql, &[])?;
     for (row, cells) in rows.iter().zip(wanted) {
         if !is_row(row, cells) {
@@ -22,7 +27,11 @@ fn shows(conn: &mut Database, sql: &str, wanted: &[&[ValueRef<'_>]]) -> Result<b
 }
 
 /// Whether these rows of the calendar stand, and the court's row has this number for the next one.
-fn has_calendar(conn: &mut Database, rows: &[Cells], next: i64) -> Result<bool, Fail> {
+fn has_calendar<S: Alter>(
+    conn: &mut Connection<S>,
+    rows: &[Cells],
+    next: i64,
+) -> Result<bool, Error> {
     Ok(
         shows(conn, "SELECT * FROM calendar ORDER BY row_no", rows)?
             && shows(conn, "SELECT * FROM court", &[&court_cells(next)])?,
@@ -40,45 +49,60 @@ const SHOWN: [(&str, &[Cells]); 5] = [
     ("SELECT * FROM receipt ORDER BY command_key", &RECEIPTS),
 ];
 
+/// Whether each table but that of acts holds its rows.
+fn has_rows_of_each<S: Alter>(conn: &mut Connection<S>) -> Result<bool, Error> {
+    for (sql, wanted) in SHOWN {
+        if !shows(conn, sql, wanted)? {
+            return Ok(false);
+        }
+    }
+    has_calendar(conn, &[STORM, SPAN], 3)
+}
+
+/// Whether the table of acts holds its rows.
+fn has_rows_of_acts<S: Alter>(conn: &mut Connection<S>) -> Result<bool, Error> {
+    let sql = "SELECT * FROM act ORDER BY case_no, deadline_no, number";
+    let rows = conn.query_all(sql, &[])?;
+    for (row, numbers) in rows.iter().zip(&ACTS) {
+        if !has_numbers(row, numbers) {
+            return Ok(false);
+        }
+    }
+    Ok(rows.len() == ACTS.len())
+}
+
 #[test]
 fn rows_of_each_table(rt: HostRuntime) -> Result<(), Fail> {
     let mut conn = filled(rt.alloc())?;
-    for (sql, wanted) in SHOWN {
-        assert!(rt; shows(&mut conn, sql, wanted)?, "{sql}");
-    }
-    assert!(rt; has_calendar(&mut conn, &[STORM, SPAN], 3)?);
+    assert!(rt; has_rows_of_each(&mut conn) == Ok(true));
+    assert!(rt; has_rows_of_acts(&mut conn) == Ok(true));
     Ok(())
 }
 
-#[test]
-fn rows_of_acts(rt: HostRuntime) -> Result<(), Fail> {
-    let mut conn = filled(rt.alloc())?;
-    let sql = "SELECT * FROM act ORDER BY case_no, deadline_no, number";
-    let rows = conn.query_all(sql, &[])?;
-    assert_eq!(rt; rows.len(), ACTS.len());
-    for (row, numbers) in rows.iter().zip(&ACTS) {
-        assert!(rt; has_numbers(row, numbers));
-    }
-    Ok(())
-}
-
-/// Makes one change.
-fn changed(alloc: Global, conn: &mut Database, key: &str, change: Change) -> Result<(), Fail> {
+/// Whether the change is made.
+fn changes<S: Alter>(
+    alloc: Global,
+    conn: &mut Connection<S>,
+    key: &str,
+    change: Change,
+) -> Result<bool, AllocError> {
     let mut changes = Vec::new(alloc);
     changes.push(change)?;
-    written(alloc, conn, key, changes)
+    is_written(alloc, conn, key, changes)
 }
 
 const LATER: Cells = &[Int(3), Int(3), Int(20_276), Int(0), Text(b"Storm")];
 
 #[test]
 fn calendar_rows_go_and_their_numbers_stay(rt: HostRuntime) -> Result<(), Fail> {
-    let mut conn = made(rt.alloc())?;
-    assert!(rt; has_calendar(&mut conn, &[], 1)?);
-    let mut conn = filled(rt.alloc())?;
-    changed(rt.alloc(), &mut conn, "k3", Change::RemoveCalendar(1))?;
-    assert!(rt; has_calendar(&mut conn, &[SPAN], 3)?);
-    changed(rt.alloc(), &mut conn, "k4", storm(rt.alloc(), 3)?)?;
-    assert!(rt; has_calendar(&mut conn, &[SPAN, LATER], 4)?);
+    let alloc = rt.alloc();
+    let storm = storm(alloc, 3)?;
+    let mut conn = made(alloc)?;
+    assert!(rt; has_calendar(&mut conn, &[], 1) == Ok(true));
+    let mut conn = filled(alloc)?;
+    assert!(rt; changes(alloc, &mut conn, "k3", Change::RemoveCalendar(1)) == Ok(true));
+    assert!(rt; has_calendar(&mut conn, &[SPAN], 3) == Ok(true));
+    assert!(rt; changes(alloc, &mut conn, "k4", storm) == Ok(true));
+    assert!(rt; has_calendar(&mut conn, &[SPAN, LATER], 4) == Ok(true));
     Ok(())
 }

@@ -35,23 +35,23 @@ fn is_read(alloc: Global, kind: Kind, row: &Row) -> Result<bool, AllocError> {
 const ROWS: [(Kind, &str, bool); 26] = [
     (
         Kind::Court,
-        "SELECT 1, 'civil docket', 0, 'UTC0', 1020, 7",
+        "SELECT 1, 'civil docket', 1, 'UTC0', 1020, 7",
         true,
     ),
     // the calendar is full
     (
         Kind::Court,
-        "SELECT 1, 'civil docket', 0, 'UTC0', 1020, 4294967296",
+        "SELECT 1, 'civil docket', 1, 'UTC0', 1020, 4294967296",
         true,
     ),
     (
         Kind::Court,
-        "SELECT 1, 'civil docket', 1, 'UTC0', 1020, 7",
+        "SELECT 1, 'civil docket', 0, 'UTC0', 1020, 7",
         false,
     ),
     (
         Kind::Court,
-        "SELECT 1, 'criminal docket', 0, 'UTC0', 1020, 7",
+        "SELECT 1, 'criminal docket', 1, 'UTC0', 1020, 7",
         false,
     ),
     (Kind::Calendar, "SELECT 2, 3, 20276, 0, 'Snow'", true),

@@ -1,11 +1,14 @@
 //! What the questions are answered: the rows of plain SQL.
 use super::cells::{CASE, DEADLINES, ENTRIES, PARTIES, SPAN, STORM, are};
 use super::changes::acts_of;
-use super::{Database, filled, vacation};
+use super::{filled, vacation};
+use court_rules::Act;
 use docket_columns::{calendar_values, case_values, deadline_values, entry_values, party_values};
 use docket_core::Kept;
 use docket_tables as tables;
+use docket_tables::ReadFault;
 use docket_wire::command_text;
+use sqlite::{Alter, Connection};
 use std::alloc::Global;
 use std::test::Fail;
 
@@ -23,10 +26,14 @@ enum Question {
 }
 
 /// The number that answers it; 1 for yes, and 0 for no.
-fn number(conn: &mut Database, alloc: Global, question: Question) -> Result<u64, Fail> {
+fn number<S: Alter>(
+    alloc: Global,
+    conn: &mut Connection<S>,
+    question: Question,
+) -> Result<u64, ReadFault> {
     Ok(match question {
         Question::Court => tables::court(conn, alloc)?.next_row,
-        Question::Version => u64::from(tables::version(conn)?.ok_or("no version")?),
+        Question::Version => u64::from(tables::version(conn)?.ok_or(ReadFault::Damaged)?),
         Question::Standing(row) => u64::from(tables::is_row_standing(conn, row)?),
         Question::Cases => u64::from(tables::cases(conn)?),
         Question::Label(label) => u64::from(tables::is_label_taken(conn, label)?),
@@ -37,7 +44,7 @@ fn number(conn: &mut Database, alloc: Global, question: Question) -> Result<u64,
 
 const NUMBERS: [(Question, u64); 11] = [
     (Question::Court, 3),
-    (Question::Version, 0),
+    (Question::Version, 1),
     (Question::Standing(2), 1),
     (Question::Standing(3), 0),
     (Question::Cases, 1),
@@ -49,99 +56,116 @@ const NUMBERS: [(Question, u64); 11] = [
     (Question::Entries(2), 0),
 ];
 
-#[test]
-fn numbers(rt: HostRuntime) -> Result<(), Fail> {
-    let mut conn = filled(rt.alloc())?;
-    for (at, (question, wanted)) in NUMBERS.iter().enumerate() {
-        let found = number(&mut conn, rt.alloc(), *question)?;
-        assert_eq!(rt; found, *wanted, "question {at}");
+fn has_numbers<S: Alter>(alloc: Global, conn: &mut Connection<S>) -> Result<bool, ReadFault> {
+    for (question, wanted) in &NUMBERS {
+        if number(alloc, conn, *question)? != *wanted {
+            return Ok(false);
+        }
     }
-    Ok(())
+    Ok(true)
 }
 
-#[test]
-fn court(rt: HostRuntime) -> Result<(), Fail> {
-    let mut conn = filled(rt.alloc())?;
-    let court = tables::court(&mut conn, rt.alloc())?;
-    assert!(rt; court.zone.as_str() == "EST5EDT,M3.2.0,M11.1.0" && court.close == 1020);
-    Ok(())
+fn has_court<S: Alter>(alloc: Global, conn: &mut Connection<S>) -> Result<bool, ReadFault> {
+    let court = tables::court(conn, alloc)?;
+    Ok(court.zone.as_str() == "EST5EDT,M3.2.0,M11.1.0" && court.close == 1020)
 }
 
-#[test]
-fn calendar(rt: HostRuntime) -> Result<(), Fail> {
-    let mut conn = filled(rt.alloc())?;
-    let rows = tables::calendar(&mut conn, rt.alloc())?;
-    assert_eq!(rt; rows.len(), 2);
-    for (row, cells) in rows.iter().zip(&[STORM, SPAN]) {
-        assert!(rt; are(&calendar_values(row), cells));
-    }
-    Ok(())
+fn has_calendar<S: Alter>(alloc: Global, conn: &mut Connection<S>) -> Result<bool, ReadFault> {
+    let rows = tables::calendar(conn, alloc)?;
+    Ok(match rows.as_slice() {
+        [first, second] => {
+            are(&calendar_values(first), STORM) && are(&calendar_values(second), SPAN)
+        }
+        _ => false,
+    })
 }
 
-#[test]
-fn cases(rt: HostRuntime) -> Result<(), Fail> {
-    let mut conn = filled(rt.alloc())?;
-    let case = tables::case(&mut conn, rt.alloc(), 1)?.ok_or("no case")?;
-    assert!(rt; are(&case_values(&case), CASE));
-    assert!(rt; tables::case(&mut conn, rt.alloc(), 2)?.is_none());
-    Ok(())
+fn has_case<S: Alter>(alloc: Global, conn: &mut Connection<S>) -> Result<bool, ReadFault> {
+    let Some(case) = tables::case(conn, alloc, 1)? else {
+        return Ok(false);
+    };
+    Ok(are(&case_values(&case), CASE) && tables::case(conn, alloc, 2)?.is_none())
 }
 
-#[test]
-fn parties(rt: HostRuntime) -> Result<(), Fail> {
-    let mut conn = filled(rt.alloc())?;
-    let rows = tables::parties(&mut conn, rt.alloc(), 1)?;
-    assert_eq!(rt; rows.len(), 2);
+fn has_parties<S: Alter>(alloc: Global, conn: &mut Connection<S>) -> Result<bool, ReadFault> {
+    let rows = tables::parties(conn, alloc, 1)?;
     for (row, cells) in rows.iter().zip(&PARTIES) {
-        assert!(rt; are(&party_values(row), cells));
+        if !are(&party_values(row), cells) {
+            return Ok(false);
+        }
     }
-    assert!(rt; tables::parties(&mut conn, rt.alloc(), 2)?.is_empty());
-    Ok(())
+    Ok(rows.len() == 2 && tables::parties(conn, alloc, 2)?.is_empty())
 }
 
-#[test]
-fn entries(rt: HostRuntime) -> Result<(), Fail> {
-    let mut conn = filled(rt.alloc())?;
-    let rows = tables::entries(&mut conn, rt.alloc(), 1)?;
-    assert_eq!(rt; rows.len(), 2);
+fn has_entries<S: Alter>(alloc: Global, conn: &mut Connection<S>) -> Result<bool, ReadFault> {
+    let rows = tables::entries(conn, alloc, 1)?;
     for (row, cells) in rows.iter().zip(&ENTRIES) {
-        assert!(rt; are(&entry_values(row), cells));
+        if !are(&entry_values(row), cells) {
+            return Ok(false);
+        }
     }
-    Ok(())
+    Ok(rows.len() == 2 && tables::entries(conn, alloc, 2)?.is_empty())
 }
 
-#[test]
-fn deadlines(rt: HostRuntime) -> Result<(), Fail> {
-    let mut conn = filled(rt.alloc())?;
-    let rows = tables::deadlines(&mut conn, rt.alloc(), 1)?;
-    assert_eq!(rt; rows.len(), 3);
+fn has_deadlines<S: Alter>(alloc: Global, conn: &mut Connection<S>) -> Result<bool, ReadFault> {
+    let rows = tables::deadlines(conn, alloc, 1)?;
     for (row, cells) in rows.iter().zip(&DEADLINES) {
-        assert!(rt; are(&deadline_values(row), cells));
+        if !are(&deadline_values(row), cells) {
+            return Ok(false);
+        }
     }
-    Ok(())
+    Ok(rows.len() == 3)
 }
 
-#[test]
-fn acts(rt: HostRuntime) -> Result<(), Fail> {
-    let mut conn = filled(rt.alloc())?;
-    let mut wanted = Vec::new(rt.alloc());
+/// The acts of each deadline, in order.
+fn acts_in_order(alloc: Global) -> Result<Vec<(u32, Act)>, Fail> {
+    let mut wanted = Vec::new(alloc);
     for deadline in [1, 2, 3] {
-        for act in acts_of(rt.alloc(), deadline)? {
+        for act in acts_of(alloc, deadline)? {
             wanted.push((deadline, act))?;
         }
     }
-    let rows = tables::acts_of_case(&mut conn, rt.alloc(), 1)?;
-    assert_eq!(rt; rows.len(), wanted.len());
-    for (row, (deadline, act)) in rows.iter().zip(&wanted) {
-        assert!(rt; row.deadline == *deadline && row.act == *act);
+    Ok(wanted)
+}
+
+fn has_acts<S: Alter>(
+    alloc: Global,
+    conn: &mut Connection<S>,
+    wanted: &[(u32, Act)],
+) -> Result<bool, ReadFault> {
+    let rows = tables::acts_of_case(conn, alloc, 1)?;
+    for (row, (deadline, act)) in rows.iter().zip(wanted) {
+        if row.deadline != *deadline || row.act != *act {
+            return Ok(false);
+        }
     }
-    assert!(rt; tables::acts_of_case(&mut conn, rt.alloc(), 2)?.is_empty());
+    Ok(rows.len() == wanted.len() && tables::acts_of_case(conn, alloc, 2)?.is_empty())
+}
+
+#[test]
+fn questions(rt: HostRuntime) -> Result<(), Fail> {
+    let alloc = rt.alloc();
+    let acts = acts_in_order(alloc)?;
+    let mut conn = filled(alloc)?;
+    assert!(rt; has_numbers(alloc, &mut conn) == Ok(true));
+    assert!(rt; has_court(alloc, &mut conn) == Ok(true));
+    assert!(rt; has_calendar(alloc, &mut conn) == Ok(true));
+    assert!(rt; has_case(alloc, &mut conn) == Ok(true));
+    assert!(rt; has_parties(alloc, &mut conn) == Ok(true));
+    assert!(rt; has_entries(alloc, &mut conn) == Ok(true));
+    assert!(rt; has_deadlines(alloc, &mut conn) == Ok(true));
+    assert!(rt; has_acts(alloc, &mut conn, &acts) == Ok(true));
     Ok(())
 }
 
 /// What is kept for a vacation under the key: the number of its reply, or None where nothing is. A
 /// key that is taken by another command answers 0.
-fn kept(alloc: Global, conn: &mut Database, key: &str, deadline: u32) -> Result<Option<u32>, Fail> {
+fn kept<S: Alter>(
+    alloc: Global,
+    conn: &mut Connection<S>,
+    key: &str,
+    deadline: u32,
+) -> Result<Option<u32>, ReadFault> {
     let command = vacation(alloc, key, deadline)?;
     let body = command_text(alloc, &command)?;
     Ok(match tables::kept(conn, &command, &body)? {
@@ -153,10 +177,10 @@ fn kept(alloc: Global, conn: &mut Database, key: &str, deadline: u32) -> Result<
 
 #[test]
 fn receipts(rt: HostRuntime) -> Result<(), Fail> {
-    let mut conn = filled(rt.alloc())?;
-    for (key, deadline, wanted) in [("k1", 2, Some(2)), ("k1", 3, Some(0)), ("k3", 2, None)] {
-        let found = kept(rt.alloc(), &mut conn, key, deadline)?;
-        assert_eq!(rt; found, wanted, "{key} {deadline}");
-    }
+    let alloc = rt.alloc();
+    let mut conn = filled(alloc)?;
+    assert!(rt; kept(alloc, &mut conn, "k1", 2) == Ok(Some(2)));
+    assert!(rt; kept(alloc, &mut conn, "k1", 3) == Ok(Some(0)));
+    assert!(rt; kept(alloc, &mut conn, "k3", 2) == Ok(None));
     Ok(())
 }

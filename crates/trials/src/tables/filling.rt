@@ -9,14 +9,14 @@ use std::alloc::Global;
 /// How many rows of each table are added in one transaction.
 const AT_ONCE: u32 = 1000;
 
-/// Makes the tables.
-pub(crate) fn made<S: Alter>(alloc: Global, conn: &mut Connection<S>) -> Result<(), Error> {
+/// Makes the tables of a court, and answers it.
+pub(crate) fn made<S: Alter>(alloc: Global, conn: &mut Connection<S>) -> Result<Court, Error> {
     let court = Court::read(alloc, "UTC0", "17:00").map_err(|_| anyhow!("no court"))?;
     if !conn.is_autocommit() || !is_bare(conn.schema()) {
         return Err(anyhow!("not an empty database"));
     }
     make(conn, &court).map_err(|_| anyhow!("no tables"))?;
-    Ok(())
+    Ok(court)
 }
 
 /// Adds a case, its first party and a receipt.

@@ -1,9 +1,10 @@
 //! Mean times, in nanoseconds.
 use crate::tables::commands::{joining, key_of, opening, scattered};
 use anyhow::{Error, anyhow};
+use court_days::Court;
 use docket_command::Command;
 use docket_core::Changes;
-use docket_tables::write;
+use docket_tables::{CaseRange, write};
 use docket_wire::command_text;
 use sqlite::types::{ToSql, ValueRef};
 use sqlite::{Alter, Connection};
@@ -12,6 +13,9 @@ use std::time::Instant;
 /// How many transactions are timed.
 pub(crate) const WRITES: u32 = 500;
 
+/// A case and a party have no deadline, so the ends of no case are looked at.
+const NO_CASE: CaseRange = CaseRange { first: 1, after: 1 };
+
 /// How many reads are timed.
 const READS: u32 = 2000;
 
@@ -19,6 +23,7 @@ const READS: u32 = 2000;
 fn time_write<S: Alter>(
     rt: &HostRuntime,
     conn: &mut Connection<S>,
+    court: &Court,
     command: &Command,
     changes: &Changes,
 ) -> Result<u128, Error> {
@@ -27,7 +32,16 @@ fn time_write<S: Alter>(
         return Err(anyhow!("in a transaction"));
     }
     let start = Instant::now(rt)?;
-    write(conn, command, &body, changes)?;
+    write(
+        conn,
+        rt.alloc(),
+        court,
+        None,
+        NO_CASE,
+        command,
+        &body,
+        changes,
+    )?;
     Ok(start.elapsed(rt)?.as_nanos())
 }
 
@@ -35,12 +49,13 @@ fn time_write<S: Alter>(
 pub(crate) fn time_cases<S: Alter>(
     rt: &HostRuntime,
     conn: &mut Connection<S>,
+    court: &Court,
     rows: u32,
 ) -> Result<u128, Error> {
     let mut total = 0u128;
     for number in 1..=WRITES {
         let (command, changes) = opening(rt.alloc(), rows.saturating_add(number))?;
-        total = total.saturating_add(time_write(rt, conn, &command, &changes)?);
+        total = total.saturating_add(time_write(rt, conn, court, &command, &changes)?);
     }
     Ok(total / u128::from(WRITES))
 }
@@ -49,13 +64,14 @@ pub(crate) fn time_cases<S: Alter>(
 pub(crate) fn time_parties<S: Alter>(
     rt: &HostRuntime,
     conn: &mut Connection<S>,
+    court: &Court,
     rows: u32,
 ) -> Result<u128, Error> {
     let mut total = 0u128;
     for number in 1..=WRITES {
         let key = rows.saturating_add(WRITES).saturating_add(number);
         let (command, changes) = joining(rt.alloc(), scattered(number, rows), 2, key)?;
-        total = total.saturating_add(time_write(rt, conn, &command, &changes)?);
+        total = total.saturating_add(time_write(rt, conn, court, &command, &changes)?);
     }
     Ok(total / u128::from(WRITES))
 }

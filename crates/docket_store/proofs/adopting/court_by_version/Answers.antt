@@ -3,9 +3,9 @@ use Rattle.docket_store.specs.Applying.{docket_rows}
 use Rattle.docket_store.proofs.ApplyLemmas.{docket_orderly}
 use Rattle.docket_store.proofs.adopting.court_by_version.Goals as goal
 
-pub returns-in-Ok-Some-eq0-clause-found : goal.returns-in-Ok-Some-eq0-clause-found
-returns-in-Ok-Some-eq0-clause-found g c court h is stands =
-    let told = c.in-Ok-Some-eq0.ensures.read court (rows_of court h) (docket_orderly court h is) stands in
+pub returns-in-Ok-Some-eq1-clause-found : goal.returns-in-Ok-Some-eq1-clause-found
+returns-in-Ok-Some-eq1-clause-found g c court h is stands =
+    let told = c.in-Ok-Some-eq1.ensures.read court (rows_of court h) (docket_orderly court h is) stands in
     c.read_court.ensures.found court h is told.0
 
 pub returns-in-Ok-Some-clause-found : goal.returns-in-Ok-Some-clause-found

@@ -35,4 +35,4 @@ returns-clause-answer g c h stands =
       subst (λ (d : Decision). IsAnswer (Ok d) (outcome court h command)) c.in-Change.is (judged.1 clean).0,
       subst (λ (d : Decision). LeadsTo court h command d) c.in-Change.is (judged.1 clean).1,
     ) in
-    c.keep.ensures.kept court h judged.0 accepts
+    c.keep.ensures.kept h judged.0 accepts

@@ -12,7 +12,7 @@ use Rattle.docket_core.specs.declared.view.CaseView.{CaseView}
 use Rattle.docket_core.specs.declared.view.DeadlineView.{DeadlineView}
 use Rattle.docket_store.specs.Applying.{Stands}
 use Rattle.docket_store.specs.Dockets.{serving}
-use Rattle.docket_store.specs.Sound.{IsSoundCase}
+use Rattle.docket_tables.specs.Sound.{IsSoundCase}
 use Rattle.docket_store.proofs.AskLemmas.{asks_told, sound_case, lines_shown, deadlines_shown}
 use Rattle.docket_store.proofs.asking.lines_of_case.Goals as goal
 

@@ -30,7 +30,7 @@ returns-clause-inside g c = c.tables.invariant.1
 
 pub returns-clause-ok : goal.returns-clause-ok
 returns-clause-ok g c clean was =
-    let all : c.tables.number ≡ 8 = omega (arith, c.tables-test.false, c.tables.auto) in
+    let all : c.tables.number ≡ 9 = omega (arith, c.tables-test.false, c.tables.auto) in
     let start = state g.S.Store c.args.tx.now.conn.now in
     let end = state g.S.Store c.tables.tx.conn.now in
     sees_nothing end (subst (IsMade end) all (c.tables.invariant.2 clean (nothing_yet start was)))

@@ -4,7 +4,7 @@ use Rattle.sqlite.specs.Steps.{FailsToCommit}
 use Rattle.sqlite.specs.Held.{state}
 use Rattle.docket_tables.specs.Stands.{HoldsRows, LastsAsEither, IsEither, IsSettled}
 use Rattle.docket_tables.proofs.CommitLemmas.{LeavesCommit}
-use Rattle.docket_tables.proofs.ProbeLemmas.{nothing_done, probe_committed, probe_failed, either_from_settled, past_err, past_ok}
+use Rattle.docket_tables.proofs.ProbeLemmas.{nothing_done, probe_committed, probe_dropped, probe_failed, either_from_settled, past_err, past_ok}
 use Rattle.docket_tables.proofs.probe.is_alive.Goals as goal
 
 pub returns-clause-either : goal.returns-clause-either
@@ -51,3 +51,22 @@ returns-clause-alive g c rows next lasts alive =
     probe_committed start begun last (state g.S.Store end) rows next was begins kept inside law same (past_ok c.commit.result _ (sym c.is_ok.ensures.value ∙ alive) (c.commit.ensures.ok clean)).1 in
     let same_conn : end ≡ c.conn-2-1.given.0 = search rules in
     subst (λ h. HoldsRows g.S.Store h rows) same_conn (c.commit.ensures.ended, settled)
+
+pub returns-then-is_err-clause-either : goal.returns-then-is_err-clause-either
+returns-then-is_err-clause-either g c rows next lasts =
+    let start = state g.S.Store c.args.conn.now in
+    let begun = state g.S.Store c.transaction-tx.result.conn.now in
+    let last = state g.S.Store c.change.new.tx.conn.now in
+    let end = c.drop-tx.new.self.0 in
+    let begins = ap (state g.S.Store) c.transaction-tx.ensures.begun in
+    let inside = c.change.ensures.inside.survives in
+    let early : Survives (record start { in_transaction = true }) last (λ _. ⊥) = subst (λ s. Survives s last (λ _. ⊥)) begins inside in
+    let law : LeavesCommit (state g.S.Store end) = λ db is_open may. g.met.S.Store.settled end.store db is_open may in
+    let either : LastsAsEither g.S.Store end rows next = (
+      c.drop-tx.ensures.ended,
+      λ clean.
+          let before : HasCleanDisk last = omega (arith, c.drop-tx.ensures.survives.clean) in
+          probe_dropped start begun last (state g.S.Store end) rows next (lasts.1 (omega (arith, early.clean))) begins (c.change.ensures.inside.kept before) inside law clean c.drop-tx.ensures.survives (c.drop-tx.ensures.undone clean),
+    ) in
+    let same_conn : end ≡ c.conn-1.given.0 = search rules in
+    subst (λ h. LastsAsEither g.S.Store h rows next) same_conn either

@@ -1,8 +1,8 @@
 use Rattle.std.proofs.Common.{◌∙◌, sym, ap, length, ◌≤◌, arith}
 use Rattle.std.specs.List.{list_all}
-use Rattle.docket_store.specs.Sound.{is_entered_item}
-use Rattle.docket_store.proofs.SoundLemmas.{sound_told, items_passed, lawful_passed}
-use Rattle.docket_store.proofs.sound.is_sound.Goals as goal
+use Rattle.docket_tables.specs.Sound.{is_entered_item}
+use Rattle.docket_tables.proofs.SoundLemmas.{sound_told, items_passed, lawful_passed}
+use Rattle.docket_tables.proofs.sound.is_sound.Goals as goal
 
 pub returns-then-are_entered_items : goal.returns-then-are_entered_items
 returns-then-are_entered_items c =

@@ -19,7 +19,7 @@ use Rattle.docket_core.specs.declared.item.CalendarItem.TheVariants.{Day, Span}
 use Rattle.docket_core.specs.declared.view.DeadlineView.{DeadlineView}
 use Rattle.docket_core.specs.declared.view.View.{View}
 use Rattle.docket_core.proofs.Passed.{left_true, right_true}
-use Rattle.docket_store.specs.Sound.{is_entered_item, begins_in_time, are_acts, are_lawful, IsSoundCase}
+use Rattle.docket_tables.specs.Sound.{is_entered_item, begins_in_time, are_acts, are_lawful, IsSoundCase}
 
 both_true : (a b : Bool) → a ≡ true → b ≡ true → (a && b) ≡ true
 both_true true b e f = f

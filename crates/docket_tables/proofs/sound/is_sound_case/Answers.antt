@@ -1,6 +1,6 @@
 use Rattle.std.proofs.Common.{◌∙◌, sym}
-use Rattle.docket_store.proofs.SoundLemmas.{case_told, case_items_passed, case_acts_passed}
-use Rattle.docket_store.proofs.sound.is_sound_case.Goals as goal
+use Rattle.docket_tables.proofs.SoundLemmas.{case_told, case_items_passed, case_acts_passed}
+use Rattle.docket_tables.proofs.sound.is_sound_case.Goals as goal
 
 pub returns-then-are_entered_items : goal.returns-then-are_entered_items
 returns-then-are_entered_items c =

@@ -5,7 +5,7 @@ ghost use Rattle.court_days.specs.Court.{zone_of};
 ghost use Rattle.court_rules.specs.Acts.{is_instant, is_entered_day};
 ghost use Rattle.docket_core.specs.Decisions.{IsSoundView};
 ghost use Rattle.docket_core.specs.Views.{deadlines_in};
-ghost use Rattle.docket_store.specs.Sound.{is_entered_item, begins_in_time, are_acts, are_lawful, IsSoundCase};
+ghost use Rattle.docket_tables.specs.Sound.{is_entered_item, begins_in_time, are_acts, are_lawful, IsSoundCase};
 
 use court_days::{Court, Day, is_entered};
 use court_rules::{Act, Start, acts_ok};
@@ -97,7 +97,7 @@ fn is_lawful(court: &Court, case: &Option<CaseView>) -> bool
 }
 
 /// Whether the view is one that a history can show. What a docket shows always is.
-pub(crate) fn is_sound(court: &Court, view: &View) -> bool
+pub fn is_sound(court: &Court, view: &View) -> bool
     ensures { IsTrue result ↔ IsSoundView court.now view.now }
 {
     let items = view.calendar.as_slice();
@@ -108,11 +108,7 @@ pub(crate) fn is_sound(court: &Court, view: &View) -> bool
 }
 
 /// Whether a history can show these deadlines of a case, beside a calendar of these items.
-pub(crate) fn is_sound_case(
-    court: &Court,
-    items: &[CalendarItem],
-    deadlines: &[DeadlineView],
-) -> bool
+pub fn is_sound_case(court: &Court, items: &[CalendarItem], deadlines: &[DeadlineView]) -> bool
     ensures { IsTrue result ↔ IsSoundCase court.now items.now deadlines.now }
 {
     if items.len() > MOST_ROWS || deadlines.len() > MOST_DEADLINES {

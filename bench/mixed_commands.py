@@ -1,0 +1,37 @@
+"""Mixed commands: mixed_commands.py CASES COMMANDS prints commands that open so many cases, and so many over 1,000 of these: parties,
+entries, counterclaims that are served, and extensions of their deadlines, all accepted. The same arguments give the same ones."""
+import json
+import random
+import sys
+from datetime import date, timedelta
+
+cases, commands = int(sys.argv[1]), int(sys.argv[2])
+random.seed(6103)
+day = lambda: str(date(2025, 1, 1) + timedelta(random.randrange(300)))
+filled = [[0, []] for _ in range(1000)]  # of each of the 1,000 its number of parties and its deadlines, each with its extensions
+
+
+def command():
+    number = random.randrange(1000)
+    case, numbered = filled[number], {"case": number * (cases // 1000) + 1}
+    if case[0] == 0 or (random.random() < 0.1 and case[0] < 900):
+        case[0] += 1
+        return {"do": "add_party", **numbered, "name": "Doe", "role": "defendant"}
+    if random.random() < 0.5:
+        return {"do": "file_entry", **numbered, "day": day(), "text": "Motion to dismiss, with a memorandum of law"}
+    if len(case[1]) < 900 and random.random() < 0.6:
+        case[1].append(0)
+        return {"do": "serve_pleading", **numbered, "party": random.randint(1, case[0]), "kind": "counterclaim",
+                "basis": "private", "served": day(), "method": random.choice("ABCDEF")}
+    if case[1]:
+        deadline = random.randrange(len(case[1]))
+        if case[1][deadline] < 90:
+            case[1][deadline] += 1
+            return {"do": "extend", **numbered, "deadline": deadline + 1, "at": "2025-01-01T09:00+00:00", "neglect": True, "days": 3}
+    return {"do": "file_entry", **numbered, "day": day(), "text": "Order"}
+
+
+for number in range(cases):
+    print(json.dumps({"do": "open_case", "key": f"c{number}", "label": f"1:25-cv-{number:06}", "caption": "Roe v. Doe", "filed": "2025-06-02"}))
+for number in range(commands):
+    print(json.dumps({"key": f"k{number}", **command()}))

@@ -1,0 +1,27 @@
+use Rattle.std.proofs.Common.{◌∙◌, IfErr, sym, subst}
+use Rattle.sqlite.specs.Held.{state}
+use Rattle.sqlite.specs.State.{HasCleanDisk}
+use Rattle.docket_store.specs.Applying.{Faults, Stands}
+use Rattle.docket_store.specs.declared.fault.Fault.{Fault}
+use Rattle.docket_store.specs.declared.fault.Fault.TheVariants.{NoMemory, StoreFailed, Closed, Damaged}
+use Rattle.command_lines.specs.Ending.{StandsAs, FailsAt}
+use Rattle.command_lines.specs.Lines.{Docket, docket_with}
+use Rattle.command_lines.proofs.AnswerLemmas.{IsNoRefusal, left_by}
+use Rattle.command_lines.proofs.clerk.Clerk.apply.Goals.{in-Ok, in-Err-Refused, in-Err-NoMemory, in-Err-StoreFailed, in-Err-Closed, in-Err-Damaged}
+use Rattle.command_lines.proofs.clerk.Clerk.apply.Goals as goal
+
+pub returns-clause-fails : goal.returns-clause-fails
+returns-clause-fails g c =
+    let Left = λ (fault : Fault). (docket : Docket) → StandsAs g.S.Store c.args.self.now docket → HasCleanDisk (state g.S.Store c.apply.new.self.conn) → FailsAt g.S.Store c.apply.new.self fault docket (docket_with docket c.args.command.now) in
+    let left = λ (docket : Docket) (was : StandsAs g.S.Store c.args.self.now docket) (clean : HasCleanDisk (state g.S.Store c.apply.new.self.conn)) (fault : Fault) (plain : IsNoRefusal fault)
+    (faults : Stands g.S.Store c.self.inside.docket docket.history → Faults g.S.Store c.apply.new.self docket.history c.args.command.now fault).
+    let now : StandsAs g.S.Store c.self.inside.docket docket = subst (λ d. StandsAs g.S.Store d docket) (sym c.self.view_is) was in
+    left_by g.S.Store c.apply.new.self docket c.args.command.now (c.apply.ensures.court ∙ now.court) clean fault plain (faults now.stands) in
+    elim c.match-apply.branch [
+      | in-Ok w ↦ subst (λ r. IfErr r Left) (sym w.result-is) tt
+      | in-Err-Refused w ↦ subst (λ r. IfErr r Left) (sym w.result-is) tt
+      | in-Err-NoMemory w ↦ subst (λ r. IfErr r Left) (sym w.result-is) (λ docket was clean. left docket was clean NoMemory tt (λ stands. subst (Faults g.S.Store c.apply.new.self docket.history c.args.command.now) w.in-Err-NoMemory.field-0-is (w.in-Err-NoMemory.ensures.answer docket.history stands)))
+      | in-Err-StoreFailed w ↦ subst (λ r. IfErr r Left) (sym w.result-is) (λ docket was clean. left docket was clean StoreFailed tt (λ stands. subst (Faults g.S.Store c.apply.new.self docket.history c.args.command.now) w.in-Err-StoreFailed.field-0-is (w.in-Err-StoreFailed.ensures.answer docket.history stands)))
+      | in-Err-Closed w ↦ subst (λ r. IfErr r Left) (sym w.result-is) (λ docket was clean. left docket was clean Closed tt (λ stands. subst (Faults g.S.Store c.apply.new.self docket.history c.args.command.now) w.in-Err-Closed.field-0-is (w.in-Err-Closed.ensures.answer docket.history stands)))
+      | in-Err-Damaged w ↦ subst (λ r. IfErr r Left) (sym w.result-is) (λ docket was clean. left docket was clean Damaged tt (λ stands. subst (Faults g.S.Store c.apply.new.self docket.history c.args.command.now) w.in-Err-Damaged.field-0-is (w.in-Err-Damaged.ensures.answer docket.history stands)))
+    ]

@@ -1,0 +1,25 @@
+use Rattle.std.proofs.Common.{◌≡◌, ◌∙◌, List, [], Some, sym, ap, subst}
+use Rattle.sqlite.specs.Held.{state}
+use Rattle.sqlite.specs.State.{HasCleanDisk}
+use Rattle.docket_core.specs.CalendarItems.{calendar_of}
+use Rattle.docket_core.specs.Histories.{items_of, standing_rows}
+use Rattle.docket_core.specs.Records.{calendar}
+use Rattle.docket_core.specs.declared.item.CalendarItem.{CalendarItem}
+use Rattle.docket_tables.specs.Sound.{IsSoundCase}
+use Rattle.docket_store.specs.Applying.{Stands}
+use Rattle.docket_store.specs.Dockets.{serving}
+use Rattle.docket_store.proofs.AskLemmas.{asks_told, sound_calendar}
+use Rattle.docket_store.proofs.asking.calendar_told.Goals as goal
+
+pub returns-clause-answer : goal.returns-clause-answer
+returns-clause-answer g c h stands =
+    let court = c.args.court.now in
+    let conn = c.calendar_shown.new.conn in
+    let items : List CalendarItem = c.as_slice.result.now in
+    let asked = c.in_ok-items.ensures.answer court h stands in
+    let is_calendar : HasCleanDisk (state g.S.Store conn) → items ≡ items_of (standing_rows h) = λ clean. c.as_slice.ensures ∙ asked.1 clean in
+    let now : Stands g.S.Store (serving conn court (Some c.in_ok-items.items)) h = record { docket = stands.docket; serves = stands.serves; rows = asked.0.rows; calendar = asked.1 } in
+    let sound : HasCleanDisk (state g.S.Store conn) → IsSoundCase court items [] = λ clean.
+    subst (λ (all : List CalendarItem). IsSoundCase court all []) (sym (is_calendar clean)) (sound_calendar court h stands.docket) in
+    asks_told g.S.Store (serving conn court (Some c.in_ok-items.items)) h court items [] (λ found. found ≡ calendar_of items) (λ found. found ≡ calendar h) c.calendar_by-answer.result now sound
+    (λ clean found is. is ∙ ap calendar_of (is_calendar clean)) c.calendar_by-answer.ensures

@@ -1,0 +1,16 @@
+use Rattle.std.proofs.Common.{◌≡◌, refl, sym, subst}
+use Rattle.docket_core.specs.Records.{case_record}
+use Rattle.docket_store.specs.Applying.{Stands}
+use Rattle.docket_store.specs.Dockets.{Docket, serving}
+use Rattle.docket_store.proofs.AskLemmas.{asks_kept}
+use Rattle.docket_store.proofs.docket.Docket.case.Goals as goal
+
+pub returns-clause-answer : goal.returns-clause-answer
+returns-clause-answer g c h stands =
+    let conn = c.record_numbered-answer.new.conn in
+    let court = c.self.inside.court in
+    let kept = c.self.inside.calendar in
+    let here = subst (λ (d : Docket g.row.S.Denot). Stands g.S.Store d h) (sym c.self.view_is) stands in
+    let serves : Stands g.S.Store (serving c.self.inside.conn court kept) h = record { docket = here.docket; serves = refl; rows = here.rows; calendar = here.calendar } in
+    asks_kept g.S.Store conn court kept h (λ found. found ≡ case_record h c.args.number) c.is_store_failure-self-inside.result c.record_numbered-answer.result c.is_store_failure-self-inside.ensures.0
+    (c.record_numbered-answer.ensures.answer court kept h serves)

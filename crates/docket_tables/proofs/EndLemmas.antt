@@ -1,0 +1,114 @@
+-- The removal of the end of a deadline.
+use Rattle.std.proofs.Common.{◌≡◌, ◌∙◌, ◌==◌, ◌&&◌, ◌+◌, ◌<◌, ℕ, pos, List, [], ◌∷◌, map, not, Ok, IsPermutation, refl, sym, ap, arith, negsuc, true}
+use Rattle.std.specs.List.{AllByRecursion}
+use Rattle.std.proofs.Math.Logic.{∥∥₁_map}
+use Rattle.std.proofs.lemmas.List.Sorted.{IsPermutation-trans, IsPermutation-map}
+use Rattle.sqlite_trees.proofs.ListLemmas.{filter-map, filter_same, all_of}
+use Rattle.sqlite_schema.specs.Rules.{equal}
+use Rattle.court_days.specs.Court.{CourtSettings}
+use Rattle.docket_core.specs.EndRows.{AreRowsFrom, changed_ends, all_changed_ends}
+use Rattle.docket_core.specs.declared.end_row.EndChange.{EndChange}
+use Rattle.docket_core.proofs.EndChanges.{all_changed_ends-append}
+use Rattle.std.proofs.Common.{length, take, get_or}
+use Rattle.std.proofs.lemmas.List.{take_more}
+use Rattle.docket_core.specs.Tables.{Tables}
+use Rattle.docket_core.specs.declared.end_row.EndRow.{EndRow}
+use Rattle.docket_core.specs.declared.end_row.EndChange.TheVariants.{Remove}
+use Rattle.docket_columns.specs.Cells.{end_cells}
+use Rattle.docket_tables.specs.Contents.{rows_with, ends_of}
+use Rattle.docket_tables.specs.Orderly.{Rises}
+use Rattle.docket_tables.specs.Queries.{IsAnswer}
+use Rattle.docket_tables.specs.declared.query.Query.TheVariants as ask
+use Rattle.docket_tables.specs.declared.table.Table.{Table}
+use Rattle.docket_tables.proofs.AnswerLemmas.{in_order, equal_number}
+use Rattle.docket_tables.proofs.HoldsLemmas.{and_yes}
+use Rattle.sqlite.specs.declared.types.Value.TheVariants.{Int, Null}
+use Rattle.sqlite.specs.Collation.TheVariants.{Binary}
+use Rattle.sqlite.specs.Order.{Row, column}
+use Rattle.sqlite.specs.Term.{lit, col, op2}
+use Rattle.sqlite_sql.specs.declared.ops.BinaryOp.TheVariants.{Compare}
+use Rattle.sqlite_sql.specs.declared.ops.CompareOp.TheVariants.{Eq}
+use Rattle.sqlite.specs.State.{State, Executes, Shows as Turns}
+use Rattle.sqlite.specs.Listing.{understood}
+use Rattle.sqlite_tied.specs.Compute.{everything}
+use Rattle.docket_tables.specs.Schema.{docket_schema, due}
+use Rattle.docket_tables.specs.Statements.{delete_end_text}
+use Rattle.docket_tables.specs.Holds.{cells, has_key, without_key, plain_query, Holds}
+use Rattle.docket_tables.specs.Layouts.{Rows, with_rows, places_of, tree_of}
+use Rattle.docket_tables.specs.Stands.{Sees}
+use Rattle.docket_tables.specs.declared.table.Table.TheVariants.{Court, Calendar, Cases, Parties, Entries, Deadlines, Acts, Receipts, Ends}
+use Rattle.docket_tables.proofs.CourtLemmas.{found_by}
+use Rattle.docket_tables.proofs.DeleteLemmas.{DeletesFrom, deletes}
+use Rattle.docket_tables.proofs.LayoutLemmas.{rows_changed}
+use Rattle.docket_tables.proofs.RowidLemmas.{holds_unmatched}
+
+end_delete : DeletesFrom docket_schema delete_end_text (record due { tree = 15 })
+    (record { lets = []; body = plain_query 15 (op2 (Compare Eq Binary) (col 1 1) (col 0 0) ∷ op2 (Compare Eq Binary) (col 1 2) (col 0 1) ∷ []) (col 1 0 ∷ []) [] [] (lit (Int (negsuc 0))) })
+unfolding understood everything
+end_delete = record { at = 8; is = refl; plain = (refl, refl); place = refl; no_work = λ olds. refl }
+
+pub end_removed : (k n : ℕ) (rows : Rows) (old new : State) (count : ℕ) → Sees old rows → Executes delete_end_text (Int (pos k) ∷ Int (pos n) ∷ []) old new (Ok count)
+    → Turns old new new.now old.committed true → Sees new (with_rows Ends (without_key (0 ∷ 1 ∷ []) (Int (pos k) ∷ Int (pos n) ∷ []) (rows Ends)) rows)
+end_removed k n rows old new count sees ran turns =
+    let params = Int (pos k) ∷ Int (pos n) ∷ [] in
+    let it = deletes docket_schema delete_end_text (record due { tree = 15 }) _ end_delete params old new count sees.shows.schema ran in
+    let took = it.2 in
+    let same = found_by old.now.trees 15 (λ ps row. has_key (0 ∷ 1 ∷ []) ps (cells (places_of Ends) row)) (λ ps row. column row 0 ∷ [])
+    (op2 (Compare Eq Binary) (col 1 1) (col 0 0) ∷ op2 (Compare Eq Binary) (col 1 2) (col 0 1) ∷ []) (col 1 0 ∷ []) (λ ps row. refl) (λ ps row. refl) params took.found (took.answer.answer Null) in
+    record {
+      begun = turns.mode;
+      shows = record {
+        is_open = turns.is_open;
+        schema = it.0;
+        live = it.1;
+        holds = rows_changed Ends _ rows old.now.trees new.now.trees sees.shows.holds
+            (holds_unmatched 15 (places_of Ends) (rows Ends) (has_key (0 ∷ 1 ∷ []) params) took.found old.now.trees new.now.trees (sees.shows.holds Ends) same took.rows) took.others;
+      };
+    }
+
+-- the ends but for that of deadline n of case k
+pub kept_ends : (k n : ℕ) (ends : List EndRow) → map end_cells (changed_ends (Remove k n) ends) ≡ without_key (0 ∷ 1 ∷ []) (Int (pos k) ∷ Int (pos n) ∷ []) (map end_cells ends)
+kept_ends k n ends =
+    let params = Int (pos k) ∷ Int (pos n) ∷ [] in
+    let same = λ (row : EndRow). ap (λ b. b && (equal Binary (Int (pos row.deadline)) (Int (pos n)) && true)) (equal_number row.case k) ∙ ap (λ b. (row.case == k) && b) (and_yes _ ∙ equal_number row.deadline n) in
+    sym (filter-map (λ r. not (has_key (0 ∷ 1 ∷ []) params r)) end_cells ends ∙ ap (map end_cells) (filter_same _ _ ends (all_of _ (λ row. ap not (same row)) ends)))
+
+-- rows in the order of their deadlines
+rises_above : (k n : ℕ) (rows : List EndRow) → AreRowsFrom k (n + 1) rows → AllByRecursion (λ m. n < m) (map (λ (row : EndRow). row.deadline) rows)
+rises_above k n [] are = tt
+rises_above k n (row ∷ rows) are = (omega (arith, are.1), above_more rows (rises_above k row.deadline rows are.2))
+  where
+    above_more : (xs : List EndRow) → AllByRecursion (λ m. row.deadline < m) (map (λ (r : EndRow). r.deadline) xs) → AllByRecursion (λ m. n < m) (map (λ (r : EndRow). r.deadline) xs)
+    above_more [] h = tt
+    above_more (x ∷ xs) h = (omega (arith, h.0, are.1), above_more xs h.1)
+
+pub rises_from : (k n : ℕ) (rows : List EndRow) → AreRowsFrom k n rows → Rises (map (λ (row : EndRow). row.deadline) rows)
+rises_from k n [] are = tt
+rises_from k n (row ∷ rows) are = (rises_above k row.deadline rows are.2, rises_from k (row.deadline + 1) rows are.2)
+
+-- the ends of a case, as a question shows them
+pub ends_shown : (k : ℕ) (ends : List EndRow) (found : List Row) → AreRowsFrom k 1 (ends_of k ends) → IsAnswer ask.Ends (Int (pos k) ∷ []) (map end_cells ends) found → found ≡ map end_cells (ends_of k ends)
+ends_shown k ends found are answer =
+    in_order ask.Ends (Int (pos k) ∷ []) end_cells (λ row. row.case == k) (λ row. and_yes _ ∙ equal_number row.case k) ends found (λ row. row.deadline) (λ row. refl) refl refl (rises_from k 1 _ are) answer
+
+-- the same ends in another order
+pub sees_permuted : (s : State) (court : CourtSettings) (t : Tables) (ends others : List EndRow) → IsPermutation ends others → Sees s (rows_with court t ends) → Sees s (rows_with court t others)
+sees_permuted s court t ends others same sees = record {
+  begun = sees.begun;
+  shows = record { is_open = sees.shows.is_open; schema = sees.shows.schema; live = sees.shows.live; holds = holds };
+}
+  where
+    holds : (table : Table) → Holds (tree_of table) (places_of table) (rows_with court t others table) s.now.trees
+    holds Court = sees.shows.holds Court
+    holds Calendar = sees.shows.holds Calendar
+    holds Cases = sees.shows.holds Cases
+    holds Parties = sees.shows.holds Parties
+    holds Entries = sees.shows.holds Entries
+    holds Deadlines = sees.shows.holds Deadlines
+    holds Acts = sees.shows.holds Acts
+    holds Receipts = sees.shows.holds Receipts
+    holds Ends = ∥∥₁_map (sees.shows.holds Ends) (λ was. (IsPermutation-trans _ _ _ was.0 (IsPermutation-map end_cells ends others same), was.1))
+
+pub changed_next_end : (xs : List EndChange) (ends : List EndRow) (i : ℕ) (d : EndChange) → i < length xs → changed_ends (get_or xs i d) (all_changed_ends (take i xs) ends) ≡ all_changed_ends (take (i + 1) xs) ends
+changed_next_end xs ends i d inside =
+    sym (all_changed_ends-append (take i xs) (get_or xs i d ∷ []) ends) ∙ ap (λ ys. all_changed_ends ys ends) (sym (take_more xs i d inside))

@@ -1,0 +1,42 @@
+-- What is tested of a view that was read from a database.
+use Rattle.std.specs.Prelude.{nat_le, nat_lt, ◌≤◌, ◌&&◌, Bool, true, List, length}
+use Rattle.std.specs.List.{All, list_all}
+use Rattle.civil_time.specs.LocalTime.{local_day, seconds}
+use Rattle.civil_time.specs.Zone.{ZoneRules}
+use Rattle.court_days.specs.Court.{CourtSettings, zone_of}
+use Rattle.court_rules.specs.Acts.{acts_ok, is_entered_day, is_instant}
+use Rattle.court_rules.specs.Standings.{AreActs}
+use Rattle.court_rules.specs.declared.act.Act.{Act}
+use Rattle.court_rules.specs.declared.act.Act.TheVariants as act
+use Rattle.court_rules.specs.declared.act.Start.TheVariants as start
+use Rattle.docket_core.specs.CalendarItems.{IsEnteredItem}
+use Rattle.docket_core.specs.declared.item.CalendarItem.{CalendarItem}
+use Rattle.docket_core.specs.declared.item.CalendarItem.TheVariants.{Day, Span}
+use Rattle.docket_core.specs.declared.view.DeadlineView.{DeadlineView}
+
+-- a court may enter the item
+abbrev pub is_entered_item : CalendarItem → Bool
+is_entered_item (Day kind day) = is_entered_day day
+is_entered_item (Span start end) = nat_le 946_598_400 start && (nat_lt start end && nat_le end 4_102_531_200)
+
+-- a period of hours begins at an instant that has a local day, and a court may enter that day
+abbrev pub begins_in_time : ZoneRules → Act → Bool
+begins_in_time zone (act.Start (start.Hours hours)) =
+    is_instant hours.at && is_entered_day (local_day zone (seconds hours.at))
+begins_in_time zone _ = true
+
+-- these may be the acts of a deadline
+abbrev pub are_acts : ZoneRules → List Act → Bool
+are_acts zone acts = acts_ok acts && list_all (begins_in_time zone) acts
+
+-- each deadline has lawful acts
+abbrev pub are_lawful : ZoneRules → List DeadlineView → Bool
+are_lawful zone all = list_all (λ d. are_acts zone d.acts) all
+
+-- a court may enter each item of the calendar, at most 4,000 of them, and the deadlines of a case have lawful acts, at most 1,000
+-- deadlines
+pub record IsSoundCase (court : CourtSettings) (items : List CalendarItem) (deadlines : List DeadlineView) : Type 0 where
+  pub entered : All IsEnteredItem items
+  pub rows : length items ≤ 4000
+  pub few : length deadlines ≤ 1000
+  pub acts : All (λ d. AreActs (zone_of court) d.acts) deadlines

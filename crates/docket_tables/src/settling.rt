@@ -1,0 +1,263 @@
+//! The ends of deadlines, brought up to date inside a transaction, case by case.
+ghost use Rattle.std.specs.Prelude.{◌≡◌, ◌≤◌, ◌-◌, ◌++◌, ℕ, List, map, IfOk, IfSome, option_copied, IsPermutation};
+ghost use Rattle.std.specs.List.{AllByRecursion};
+ghost use Rattle.sqlite.specs.Held.{state};
+ghost use Rattle.sqlite.specs.View.{doubt};
+ghost use Rattle.court_days.specs.Court.{CourtSettings, zone_of};
+ghost use Rattle.docket_core.specs.EndRows.{AreRowsFrom, calendar_in, IsElsewhere, changed_ends, all_changed_ends, end_rows_from, ends_running};
+ghost use Rattle.docket_core.specs.CalendarItems.{calendar_of};
+ghost use Rattle.docket_core.specs.Histories.{deadlines_of_case, deadlines_from, items_of};
+ghost use Rattle.docket_core.specs.declared.row.CalendarRow.{CalendarRow as Entered};
+ghost use Rattle.docket_columns.specs.Cells.{calendar_cells};
+ghost use Rattle.docket_columns.specs.Fits.{IsCalendarRow};
+ghost use Rattle.docket_core.specs.Tables.{Tables};
+ghost use Rattle.docket_core.specs.declared.end_row.EndRow.{EndRow as Ended};
+ghost use Rattle.docket_tables.specs.Contents.{rows_with, ends_of};
+ghost use Rattle.docket_tables.specs.Orderly.{IsOrderly};
+ghost use Rattle.docket_tables.specs.Readings.{AreActsOf};
+ghost use Rattle.docket_tables.specs.Settling.{AreStored, settled_case, settled_cases};
+ghost use Rattle.docket_tables.specs.Stands.{Inside};
+
+use crate::fault::ReadFault;
+use crate::moving::CaseRange;
+use crate::query::Query;
+use crate::rows::{acts_in, calendar_in, deadlines_in, ends_in};
+use crate::sound::is_sound_case;
+use crate::store::{ask_inside, insert, remove_end};
+use crate::table::Table;
+use crate::viewing::{items_of, with_acts};
+use court_days::{Calendar, Court};
+use docket_columns::end_values;
+use docket_core::{
+    ActRow, CaseView, DeadlineRow, DeadlineView, Deadlines, EndChange, EndRow, calendar_of,
+    due_changes,
+};
+use sqlite::types::ToSql;
+use sqlite::{Alter, Row, Transaction};
+use std::alloc::Global;
+
+/// The ends that are stored of a case.
+fn ends_of_case<S: Alter>(
+    tx: &mut Transaction<'_, S>,
+    alloc: Global,
+    case: u32,
+) -> Result<Vec<EndRow>, ReadFault>
+    ensures same_reference { tx.new.conn.ghost_name ≡ tx.old.conn.ghost_name }
+    ensures clean { doubt (state S.Store tx.old.conn.now).is_clean ≤ doubt (state S.Store tx.new.conn.now).is_clean }
+    ensures inside { (court : CourtSettings) (t : Tables) (ends : List Ended) → AreStored case ends
+        → Inside (state S.Store tx.old.conn.now) (state S.Store tx.new.conn.now) (rows_with court t ends) (rows_with court t ends) result (λ found. found.items ≡ ends_of case ends) }
+{
+    let rows = ask_inside(tx, Query::Ends, &[case.to_sql()])?;
+    ends_in(alloc, rows.as_slice())
+}
+
+/// The deadlines of a case.
+fn deadlines_of_case<S: Alter>(
+    tx: &mut Transaction<'_, S>,
+    alloc: Global,
+    case: u32,
+) -> Result<Vec<DeadlineRow>, ReadFault>
+    ensures same_reference { tx.new.conn.ghost_name ≡ tx.old.conn.ghost_name }
+    ensures clean { doubt (state S.Store tx.old.conn.now).is_clean ≤ doubt (state S.Store tx.new.conn.now).is_clean }
+    ensures inside { (court : CourtSettings) (t : Tables) (ends : List Ended) → IsOrderly court t
+        → Inside (state S.Store tx.old.conn.now) (state S.Store tx.new.conn.now) (rows_with court t ends) (rows_with court t ends) result (λ found. found.items ≡ deadlines_of_case case t.deadlines) }
+{
+    let rows = ask_inside(tx, Query::Deadlines, &[case.to_sql()])?;
+    deadlines_in(alloc, rows.as_slice())
+}
+
+/// The acts of a case.
+fn acts_of_case<S: Alter>(
+    tx: &mut Transaction<'_, S>,
+    alloc: Global,
+    case: u32,
+) -> Result<Vec<ActRow>, ReadFault>
+    ensures same_reference { tx.new.conn.ghost_name ≡ tx.old.conn.ghost_name }
+    ensures clean { doubt (state S.Store tx.old.conn.now).is_clean ≤ doubt (state S.Store tx.new.conn.now).is_clean }
+    ensures inside { (court : CourtSettings) (t : Tables) (ends : List Ended) → IsOrderly court t
+        → Inside (state S.Store tx.old.conn.now) (state S.Store tx.new.conn.now) (rows_with court t ends) (rows_with court t ends) result (λ found. AreActsOf case t.acts found.items) }
+{
+    let rows = ask_inside(tx, Query::Acts, &[case.to_sql()])?;
+    acts_in(alloc, rows.as_slice())
+}
+
+/// The deadlines of a case, each with its acts.
+fn views_of_case<S: Alter>(
+    tx: &mut Transaction<'_, S>,
+    alloc: Global,
+    case: u32,
+) -> Result<Vec<DeadlineView>, ReadFault>
+    ensures same_reference { tx.new.conn.ghost_name ≡ tx.old.conn.ghost_name }
+    ensures clean { doubt (state S.Store tx.old.conn.now).is_clean ≤ doubt (state S.Store tx.new.conn.now).is_clean }
+    ensures inside { (court : CourtSettings) (t : Tables) (ends : List Ended) → IsOrderly court t
+        → Inside (state S.Store tx.old.conn.now) (state S.Store tx.new.conn.now) (rows_with court t ends) (rows_with court t ends) result
+        (λ found. found.items ≡ deadlines_from case 1 t.acts (deadlines_of_case case t.deadlines)) }
+{
+    let rows = deadlines_of_case(tx, alloc, case)?;
+    let acts = acts_of_case(tx, alloc, case)?;
+    Ok(with_acts(alloc, rows.as_slice(), acts.as_slice())?)
+}
+
+/// Makes a change of an end.
+fn change_end<S: Alter>(tx: &mut Transaction<'_, S>, change: &EndChange) -> Result<(), ReadFault>
+    ensures same_reference { tx.new.conn.ghost_name ≡ tx.old.conn.ghost_name }
+    ensures clean { doubt (state S.Store tx.old.conn.now).is_clean ≤ doubt (state S.Store tx.new.conn.now).is_clean }
+    ensures inside { (court : CourtSettings) (t : Tables) (ends : List Ended)
+        → Inside (state S.Store tx.old.conn.now) (state S.Store tx.new.conn.now) (rows_with court t ends) (rows_with court t (changed_ends change.now ends)) result (λ _. Unit {0}) }
+{
+    match change {
+        EndChange::Add(row) => insert(tx, Table::Ends, &end_values(row))?,
+        EndChange::Remove(case, deadline) => remove_end(tx, *case, *deadline)?,
+    }
+    Ok(())
+}
+
+/// Makes the changes of ends, one after another.
+fn change_ends<S: Alter>(
+    tx: &mut Transaction<'_, S>,
+    changes: &[EndChange],
+) -> Result<(), ReadFault>
+    ensures same_reference { tx.new.conn.ghost_name ≡ tx.old.conn.ghost_name }
+    ensures clean { doubt (state S.Store tx.old.conn.now).is_clean ≤ doubt (state S.Store tx.new.conn.now).is_clean }
+    ensures inside { (court : CourtSettings) (t : Tables) (ends : List Ended)
+        → Inside (state S.Store tx.old.conn.now) (state S.Store tx.new.conn.now) (rows_with court t ends) (rows_with court t (all_changed_ends changes.now ends)) result (λ _. Unit {0}) }
+{
+    'changes: for change in changes {
+        change_end(tx, change)?;
+    }
+    Ok(())
+}
+
+/// The changes that lead from the ends that are stored of a case to those that its deadlines have.
+fn changes_of_case(
+    alloc: Global,
+    court: &Court,
+    calendar: &Calendar,
+    case: u32,
+    deadlines: Vec<DeadlineView>,
+    stored: &[EndRow],
+) -> Result<Vec<EndChange>, ReadFault>
+    ensures { (others : List Ended) → AllByRecursion (IsElsewhere case 1) others → AreRowsFrom case 1 stored.now
+        → IfOk result (λ changes. IsPermutation (all_changed_ends changes.items (others ++ stored.now)) (others ++ end_rows_from case 1 (ends_running (zone_of court.now) calendar.now deadlines.items))) }
+{
+    if !is_sound_case(court, &[], deadlines.as_slice()) {
+        return Err(ReadFault::Damaged);
+    }
+    let view = CaseView {
+        number: case,
+        parties: 0,
+        entries: 0,
+        deadlines: Deadlines::new(deadlines),
+    };
+    Ok(due_changes(alloc, court, calendar, &view, stored)?)
+}
+
+/// Brings the ends of a case up to date.
+fn settle_case<S: Alter>(
+    tx: &mut Transaction<'_, S>,
+    alloc: Global,
+    court: &Court,
+    calendar: &Calendar,
+    case: u32,
+) -> Result<(), ReadFault>
+    ensures same_reference { tx.new.conn.ghost_name ≡ tx.old.conn.ghost_name }
+    ensures clean { doubt (state S.Store tx.old.conn.now).is_clean ≤ doubt (state S.Store tx.new.conn.now).is_clean }
+    ensures inside { (t : Tables) (ends : List Ended) → IsOrderly court.now t → AreStored case ends
+        → Inside (state S.Store tx.old.conn.now) (state S.Store tx.new.conn.now) (rows_with court.now t ends) (rows_with court.now t (settled_case court.now calendar.now t case ends)) result (λ _. Unit {0}) }
+{
+    let deadlines = views_of_case(tx, alloc, case)?;
+    let stored = ends_of_case(tx, alloc, case)?;
+    let changes = changes_of_case(alloc, court, calendar, case, deadlines, stored.as_slice())?;
+    change_ends(tx, changes.as_slice())
+}
+
+/// Brings the ends of the cases from one up to, but not with, another up to date.
+fn settle_cases<S: Alter>(
+    tx: &mut Transaction<'_, S>,
+    alloc: Global,
+    court: &Court,
+    calendar: &Calendar,
+    first: u32,
+    after: u32,
+) -> Result<(), ReadFault>
+    requires { first ≤ after }
+    ensures same_reference { tx.new.conn.ghost_name ≡ tx.old.conn.ghost_name }
+    ensures clean { doubt (state S.Store tx.old.conn.now).is_clean ≤ doubt (state S.Store tx.new.conn.now).is_clean }
+    ensures inside { (t : Tables) (ends : List Ended) → IsOrderly court.now t → ((k : ℕ) → AreStored k ends)
+        → Inside (state S.Store tx.old.conn.now) (state S.Store tx.new.conn.now) (rows_with court.now t ends) (rows_with court.now t (settled_cases court.now calendar.now t first (after - first) ends)) result (λ _. Unit {0}) }
+{
+    'cases: for case in first..after {
+        settle_case(tx, alloc, court, calendar, case)?;
+    }
+    Ok(())
+}
+
+/// The calendar of rows, which a court may enter.
+fn calendar_of_rows(alloc: Global, court: &Court, rows: &[Row]) -> Result<Calendar, ReadFault>
+    ensures { (all : List Entered) → AllByRecursion IsCalendarRow all → rows.now ≡ map calendar_cells all → IfOk result (λ calendar. calendar ≡ calendar_of (items_of all)) }
+{
+    let rows = calendar_in(alloc, rows)?;
+    let items = items_of(alloc, rows.as_slice())?;
+    if !is_sound_case(court, items.as_slice(), &[]) {
+        return Err(ReadFault::Damaged);
+    }
+    Ok(calendar_of(alloc, items.as_slice())?)
+}
+
+/// The calendar of the rows that stand.
+fn calendar_standing<S: Alter>(
+    tx: &mut Transaction<'_, S>,
+    alloc: Global,
+    court: &Court,
+) -> Result<Calendar, ReadFault>
+    ensures same_reference { tx.new.conn.ghost_name ≡ tx.old.conn.ghost_name }
+    ensures clean { doubt (state S.Store tx.old.conn.now).is_clean ≤ doubt (state S.Store tx.new.conn.now).is_clean }
+    ensures inside { (t : Tables) (ends : List Ended) → IsOrderly court.now t
+        → Inside (state S.Store tx.old.conn.now) (state S.Store tx.new.conn.now) (rows_with court.now t ends) (rows_with court.now t ends) result (λ calendar. calendar ≡ calendar_in t) }
+{
+    let rows = ask_inside(tx, Query::Calendar, &[])?;
+    calendar_of_rows(alloc, court, rows.as_slice())
+}
+
+/// Brings the ends of the cases from one up to, but not with, another up to date by the calendar that
+/// stands.
+fn settle_by_rows<S: Alter>(
+    tx: &mut Transaction<'_, S>,
+    alloc: Global,
+    court: &Court,
+    first: u32,
+    after: u32,
+) -> Result<(), ReadFault>
+    requires { first ≤ after }
+    ensures same_reference { tx.new.conn.ghost_name ≡ tx.old.conn.ghost_name }
+    ensures clean { doubt (state S.Store tx.old.conn.now).is_clean ≤ doubt (state S.Store tx.new.conn.now).is_clean }
+    ensures inside { (t : Tables) (ends : List Ended) → IsOrderly court.now t → ((k : ℕ) → AreStored k ends)
+        → Inside (state S.Store tx.old.conn.now) (state S.Store tx.new.conn.now) (rows_with court.now t ends) (rows_with court.now t (settled_cases court.now (calendar_in t) t first (after - first) ends)) result (λ _. Unit {0}) }
+{
+    let calendar = calendar_standing(tx, alloc, court)?;
+    settle_cases(tx, alloc, court, &calendar, first, after)
+}
+
+/// Brings the ends of cases up to date, by the calendar that stands: the one that is given, or where
+/// none is that of its rows.
+pub(crate) fn settle<S: Alter>(
+    tx: &mut Transaction<'_, S>,
+    alloc: Global,
+    court: &Court,
+    calendar: Option<&Calendar>,
+    cases: CaseRange,
+) -> Result<(), ReadFault>
+    requires { cases.first ≤ cases.after }
+    ensures same_reference { tx.new.conn.ghost_name ≡ tx.old.conn.ghost_name }
+    ensures clean { doubt (state S.Store tx.old.conn.now).is_clean ≤ doubt (state S.Store tx.new.conn.now).is_clean }
+    ensures inside { (t : Tables) (ends : List Ended) → IsOrderly court.now t → ((k : ℕ) → AreStored k ends) → IfSome (option_copied calendar.entry) (λ entered. entered ≡ calendar_in t)
+        → Inside (state S.Store tx.old.conn.now) (state S.Store tx.new.conn.now) (rows_with court.now t ends) (rows_with court.now t (settled_cases court.now (calendar_in t) t cases.first (cases.after - cases.first) ends)) result (λ _. Unit {0}) }
+{
+    if cases.first == cases.after {
+        return Ok(());
+    }
+    match calendar {
+        Some(calendar) => settle_cases(tx, alloc, court, calendar, cases.first, cases.after),
+        None => settle_by_rows(tx, alloc, court, cases.first, cases.after),
+    }
+}
