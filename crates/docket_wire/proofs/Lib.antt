@@ -1,5 +1,6 @@
 pub mod CanonicalLemmas
 pub mod CompactLemmas
+pub mod CsvLemmas
 pub mod DayLemmas
 pub mod FaultLemmas
 pub mod MemberLemmas

@@ -1,3 +1,5 @@
+pub mod CalendarCsv
+pub mod CsvRecords
 pub mod Faults
 pub mod FirstFaults
 pub mod Members
