@@ -1,9 +1,94 @@
-use Rattle.std.specs.Prelude.{⊤}
+-- The job that a command line asks for: that of its subcommand, with the values that clap finds in the words.
+use Rattle.std.specs.Prelude.{ℕ, ◌==◌, ◌&&◌, not, Bool, List, [], ◌∷◌, length, codes, nat_le, nat_lt, Option, Some, None, is_some, option_map, option_and_then, unwrap_or, get_or, if◌then◌else◌, ⊤}
+use Rattle.std.specs.Char.{is_ascii_digit}
 use Rattle.std.specs.Int.{IsInRange}
+use Rattle.std.specs.List.{list_all}
+use Rattle.std.specs.Str.{bytes_eq}
+use Rattle.std.specs.Str.Parse.{digits_value}
+use Rattle.clap.specs.Walk.{Row, Text, first_of}
+use Rattle.clap.specs.Simple.{subcommand_of}
+use Rattle.clap.specs.Faults.{fault_of}
+use Rattle.clap.specs.Kinds.{Kinds, or_else}
+use Rattle.clap.specs.declared.error.kind.ErrorKind.TheVariants.{ValueValidation}
+use Rattle.docket_jobs.specs.CommandLine.{docketctl}
 use Rattle.docket_jobs.specs.declared.job.Job.{Job}
-use Rattle.docket_jobs.specs.declared.job.Job.TheVariants.{Holidays}
+use Rattle.docket_jobs.specs.declared.job.Job.TheVariants as job
+
+-- what is asked for, with the texts of files, zones, closing times and keys
+pub data Asked : Type 0 where
+  to_count : Asked
+  to_create : Text → Text → Text → Asked
+  to_run : Option Text → Text → Text → Asked
+  to_import : Text → Text → Asked
+  to_tell_case : Text → ℕ → Asked
+  to_tell_holidays : ℕ → Asked
+
+abbrev pub asked : Job → Asked
+asked job.Count = to_count
+asked (job.Create file zone close) = to_create file.now zone.now close.now
+asked (job.Run file zone close) = to_run (option_map (λ f. f.now) file) zone.now close.now
+asked (job.Import file key) = to_import file.now key.now
+asked (job.Case file number) = to_tell_case file.now number
+asked (job.Holidays year) = to_tell_holidays year
+
+-- 1 to 10 digits, the first of them not 0
+abbrev pub is_number : Text → Bool
+is_number text = nat_le 1 (length text) && nat_le (length text) 10 && not (get_or text 0 0 == 48) && list_all is_ascii_digit text
+
+-- a number from 1 to 4294967295
+abbrev pub number_of : Text → Option ℕ
+number_of text = if is_number text && nat_lt (digits_value 10 text) 4_294_967_296 then Some (digits_value 10 text) else None
+
+abbrev pub year_if : ℕ → Option ℕ
+year_if n = if nat_le 2000 n && nat_le n 2099 then Some n else None
+
+-- a year from 2000 to 2099
+abbrev pub year_of : Text → Option ℕ
+year_of text = option_and_then year_if (number_of text)
+
+-- the value of an option or a place; clap asks for one, or has a default
+abbrev pub value_of : Text → List Row → Text
+value_of name found = unwrap_or (first_of name found) []
+
+abbrev pub create_asked : List Row → Asked
+create_asked found = to_create (value_of (codes "db") found) (value_of (codes "zone") found) (value_of (codes "close") found)
+
+abbrev pub run_asked : List Row → Asked
+run_asked found = to_run (first_of (codes "db") found) (value_of (codes "zone") found) (value_of (codes "close") found)
+
+abbrev pub import_asked : List Row → Asked
+import_asked found = to_import (value_of (codes "db") found) (value_of (codes "key") found)
+
+abbrev pub case_asked : List Row → Option Asked
+case_asked found = option_map (to_tell_case (value_of (codes "db") found)) (number_of (value_of (codes "number") found))
+
+abbrev pub holidays_asked : List Row → Option Asked
+holidays_asked found = option_map to_tell_holidays (year_of (value_of (codes "year") found))
+
+-- what a subcommand asks for with what was found for it; the last is `count`
+abbrev pub asked_by : Text → List Row → Option Asked
+asked_by name found =
+    if bytes_eq name (codes "create") then Some (create_asked found)
+    else (if bytes_eq name (codes "run") then Some (run_asked found)
+    else (if bytes_eq name (codes "import") then Some (import_asked found)
+    else (if bytes_eq name (codes "case") then case_asked found
+    else (if bytes_eq name (codes "holidays") then holidays_asked found
+    else Some to_count))))
+
+-- with no subcommand docketctl counts
+abbrev pub asked_in : Option (Text × List Row) → Option Asked
+asked_in None = Some to_count
+asked_in (Some met) = asked_by met.0 met.1
+
+-- what the words ask for, if they are a command line and their values lie in their limits
+abbrev pub asked_of : List Text → Option Asked
+asked_of words = asked_in (subcommand_of docketctl words)
+
+-- which kind of error the words are told, none where they have a job
+abbrev pub line_faults : List Text → Kinds
+line_faults words = or_else (fault_of docketctl words) (if is_some (asked_of words) then [] else ValueValidation ∷ [])
 
 -- a year is one from 2000 to 2099; the texts of a court may spell none
 abbrev pub IsLimited : Job → Type 0
-IsLimited (Holidays year) = IsInRange 2000 2099 year
+IsLimited (job.Holidays year) = IsInRange 2000 2099 year
 IsLimited _ = ⊤

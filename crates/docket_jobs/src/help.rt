@@ -26,6 +26,23 @@ line `bad`.
 Exit status: 0 all lines were answered, 1 one of them with `bad` or `full`, 2 bad command
 line, 3 reading, writing or memory failed.";
 
+pub(crate) const PROGRAM_HELP: &str = "\
+With no command, docketctl counts. A docket in a file is made, kept and read like this:
+  docketctl create --db court.db --zone EST5EDT,M3.2.0,M11.1.0 --close 17:00
+  docketctl import --db court.db --key holidays-2027 < holidays.csv
+  docketctl run --db court.db < commands.jsonl
+  docketctl case --db court.db 1";
+
+pub(crate) const CREATE_HELP: &str = "\
+The file must not hold a docket yet; where there is none it is made. ZONE is as
+EST5EDT,M3.2.0,M11.1.0: hours west of Greenwich, and the dates on which clocks change. HH:MM is
+from 00:00 to 23:59:
+  docketctl create --db court.db --zone EST5EDT,M3.2.0,M11.1.0 --close 17:00
+  created
+
+Exit status: 0 the docket was made, 2 bad command line, 3 it was not, which standard error
+says in one line.";
+
 pub(crate) const RUN_HELP: &str = "\
 Each line is a command, a JSON object with its name `do`, a key of the caller's own and its
 fields, and is answered by one line before the next command is applied:
@@ -35,12 +52,45 @@ A command that is sent again under its key has the reply that it had, and acts o
 refused, or a line that is no command, changes nothing:
   {\"name\":\"Exists\",\"refused\":8}
   {\"fault\":4,\"field\":\"case\",\"name\":\"MissingField\"}
-The docket is kept in a database in memory, of SQLite, and ends with the program. ZONE is as
+With --db the docket is that in the file, and an answer is written when its command stands in the
+file; zone and closing time are the docket's own:
+  docketctl run --db court.db < commands.jsonl
+Without it the docket is kept in a database in memory and ends with the program. ZONE is as
 EST5EDT,M3.2.0,M11.1.0: hours west of Greenwich, and the dates on which clocks change. HH:MM is
 from 00:00 to 23:59.
 
 Exit status: 0 all commands were accepted, 1 a line was refused or no command, 2 bad command
 line, 3 reading, writing, memory or the database failed.";
+
+pub(crate) const IMPORT_HELP: &str = "\
+Standard input is a table of comma-separated values: first the line `kind,day,name`, then at most
+1,000 days, each of the kind federal, state or closed:
+  kind,day,name
+  state,2027-04-19,Patriots' Day
+The days that do not stand yet are entered by one command under KEY, all or none; its answer tells
+how many they were, and sent again it has the same answer and acts once:
+  docketctl import --db court.db --key holidays-2027 < holidays.csv
+  {\"number\":1}
+A table that is none is told, by the number of its first bad line after the first, and nothing is
+entered:
+  bad row 1
+  bad csv
+
+Exit status: 0 the days are entered, 1 the table is bad or the command was refused, 2 bad command
+line, 3 reading, writing, memory or the database failed.";
+
+pub(crate) const CASE_HELP: &str = "\
+A case is told with its parties, its entries, and where each of its deadlines stands:
+  docketctl case --db court.db 1
+  case 1 1:25-cv-00001 filed 2025-06-02
+  Roe v. Doe
+  party 1 defendant Doe
+  entry 1 2025-06-02 Complaint
+  deadline 1 party 1 12(a)(1)(A)(i) due 2025-07-07 24:00 17:00
+NUMBER is from 1 to 4294967295, without a leading zero.
+
+Exit status: 0 the case was told, 1 there is no such case, 2 bad command line, 3 reading, writing,
+memory or the database failed.";
 
 pub(crate) const HOLIDAYS_HELP: &str = "\
 Each holiday has a line: its day, the weekday, and its name. One of a fixed date that falls on a

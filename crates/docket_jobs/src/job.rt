@@ -1,100 +1,163 @@
 //! What a command line asks for.
-ghost use Rattle.std.specs.Prelude.{IfOk};
-ghost use Rattle.docket_jobs.specs.Jobs.{IsLimited};
+ghost use Rattle.std.specs.Prelude.{◌≡◌, IfOk, MatchResult, None, Some, map, string_bytes};
+ghost use Rattle.clap.specs.Kinds.{FailsBy};
+ghost use Rattle.clap.specs.Matches.{found_of};
+ghost use Rattle.clap.specs.Simple.{subcommand_rows_of};
+ghost use Rattle.clap.specs.Walk.{rows_of};
+ghost use Rattle.docket_jobs.specs.Jobs.{IsLimited, asked, asked_by, asked_in, asked_of, case_asked, create_asked, holidays_asked, import_asked, line_faults, run_asked, value_of};
 
-use crate::help::{COUNT_HELP, HOLIDAYS_HELP, RUN_HELP};
-use clap::{Arg, ArgAction, Command, Error, value_parser};
-use std::alloc::{AllocError, Global};
+use crate::command_line::command;
+use crate::number::{read_number, read_year};
+use clap::error::ErrorKind;
+use clap::{ArgMatches, Error};
+use std::alloc::Global;
 
-/// The zone of the court of `run`, where none is given.
-const ZONE: &str = "UTC0";
-
-/// When its clerk's office closes, where no time is given.
-const CLOSE: &str = "17:00";
-
-/// What the program is to do.
+/// What the program is to do. The texts of a court, its zone and its closing time, may spell none.
 #[derive(Clone, Copy, Debug, PartialEq, Eq)]
 pub enum Job<'a> {
-    /// `count`, or no word at all: answer lines of days from standard input.
+    /// `count`, or no word at all: answer lines of days from the input.
     Count,
-    /// `run`: answer commands of the docket of a court from standard input. The texts may spell no
-    /// court.
-    Run { zone: &'a str, close: &'a str },
+    /// `create`: make the docket of a court in a file.
+    Create {
+        file: &'a str,
+        zone: &'a str,
+        close: &'a str,
+    },
+    /// `run`: answer commands from the input, of the docket in a file, or of a new docket in memory of
+    /// the court.
+    Run {
+        file: Option<&'a str>,
+        zone: &'a str,
+        close: &'a str,
+    },
+    /// `import`: enter the days of a table from the input in the calendar of the docket in a file.
+    Import {
+        file: &'a str,
+        key: &'a str,
+    },
+    /// `case`: tell a case, of a number from 1 on, of the docket in a file.
+    Case {
+        file: &'a str,
+        number: u32,
+    },
     /// `holidays`: tell the statutory holidays of a year from 2000 to 2099.
-    Holidays { year: u32 },
+    Holidays {
+        year: u32,
+    },
 }
 
-fn option<'a>(alloc: Global, id: &'a str, value: &'a str, help: &'a str) -> Arg<'a> {
-    Arg::new(alloc, id)
-        .long(id)
-        .action(ArgAction::Set)
-        .value_name(value)
-        .help(help)
+/// A value of the command line that lies outside its limits.
+#[derive(Drop)]
+enum BadValue {
+    Number,
+    Year,
 }
 
-fn count_command<'a>(alloc: Global) -> Command<'a> {
-    Command::new(alloc, "count")
-        .about("Enter days and count periods, one line of standard input after the other")
-        .after_help(COUNT_HELP)
+impl BadValue {
+    fn message(&self) -> &'static str {
+        match self {
+            BadValue::Number => "NUMBER is a number from 1 to 4294967295, without a leading zero",
+            BadValue::Year => "YEAR is a year from 2000 to 2099",
+        }
+    }
 }
 
-fn run_command<'a>(alloc: Global) -> Result<Command<'a>, AllocError> {
-    let zone = option(
-        alloc,
-        "zone",
-        "ZONE",
-        "The court's zone, as EST5EDT,M3.2.0,M11.1.0",
-    );
-    let close = option(alloc, "close", "HH:MM", "When the clerk's office closes");
-    Command::new(alloc, "run")
-        .about("Keep a docket in memory, and answer one command a line of standard input")
-        .after_help(RUN_HELP)
-        .arg(zone.default_value(ZONE))?
-        .arg(close.default_value(CLOSE))
+/// The value of an option or a place. There is one, since clap asks for it or has a default.
+#[tactic(auto, using(crate::proofs::MatchLemmas::first_value_or))]
+fn value<'a>(found: &ArgMatches<'a>, id: &str) -> &'a str
+    ensures { result.now ≡ value_of id.now (rows_of (found_of found.now)) }
+{
+    found.get_str(id).unwrap_or("")
 }
 
-fn holidays_command<'a>(alloc: Global) -> Result<Command<'a>, AllocError> {
-    let year = Arg::new(alloc, "year")
-        .action(ArgAction::Set)
-        .value_name("YEAR")
-        .required(true)
-        .value_parser(value_parser!(u32).range(2000..=2099))
-        .help("A year from 2000 to 2099");
-    Command::new(alloc, "holidays")
-        .about("Tell the statutory holidays of a year")
-        .after_help(HOLIDAYS_HELP)
-        .arg(year)
+fn create_job<'a>(found: &ArgMatches<'a>) -> Job<'a>
+    ensures { asked result ≡ create_asked (rows_of (found_of found.now)) }
+{
+    Job::Create {
+        file: value(found, "db"),
+        zone: value(found, "zone"),
+        close: value(found, "close"),
+    }
 }
 
-/// The program's command line.
-fn command<'a>(alloc: Global) -> Result<Command<'a>, AllocError> {
-    Command::new(alloc, "docketctl")
-        .bin_name("docketctl")?
-        .about("The civil docket of a United States district court, with computed filing deadlines")
-        .after_help("With no command, docketctl counts.")
-        .version("0.1.0")
-        .subcommand(count_command(alloc))?
-        .subcommand(run_command(alloc)?)?
-        .subcommand(holidays_command(alloc)?)
+#[tactic(auto, using(crate::proofs::MatchLemmas::first_value_is))]
+fn run_job<'a>(found: &ArgMatches<'a>) -> Job<'a>
+    ensures { asked result ≡ run_asked (rows_of (found_of found.now)) }
+{
+    Job::Run {
+        file: found.get_str("db"),
+        zone: value(found, "zone"),
+        close: value(found, "close"),
+    }
+}
+
+fn import_job<'a>(found: &ArgMatches<'a>) -> Job<'a>
+    ensures { asked result ≡ import_asked (rows_of (found_of found.now)) }
+{
+    Job::Import {
+        file: value(found, "db"),
+        key: value(found, "key"),
+    }
+}
+
+fn case_job<'a>(found: &ArgMatches<'a>) -> Result<Job<'a>, BadValue>
+    ensures { MatchResult result (λ job. case_asked (rows_of (found_of found.now)) ≡ Some (asked job))
+        (λ _. case_asked (rows_of (found_of found.now)) ≡ None) }
+{
+    let number = read_number(value(found, "number")).ok_or(BadValue::Number)?;
+    Ok(Job::Case {
+        file: value(found, "db"),
+        number,
+    })
+}
+
+fn holidays_job<'a>(found: &ArgMatches<'a>) -> Result<Job<'a>, BadValue>
+    ensures limited { IfOk result IsLimited }
+    ensures job { MatchResult result (λ job. holidays_asked (rows_of (found_of found.now)) ≡ Some (asked job))
+        (λ _. holidays_asked (rows_of (found_of found.now)) ≡ None) }
+{
+    let year = read_year(value(found, "year")).ok_or(BadValue::Year)?;
+    Ok(Job::Holidays { year })
+}
+
+/// The job of a subcommand, with what was found for it.
+fn job_by<'a>(name: &str, found: &ArgMatches<'a>) -> Result<Job<'a>, BadValue>
+    ensures limited { IfOk result IsLimited }
+    ensures job { MatchResult result (λ job. asked_by name.now (rows_of (found_of found.now)) ≡ Some (asked job))
+        (λ _. asked_by name.now (rows_of (found_of found.now)) ≡ None) }
+{
+    match name {
+        "create" => Ok(create_job(found)),
+        "run" => Ok(run_job(found)),
+        "import" => Ok(import_job(found)),
+        "case" => case_job(found),
+        "holidays" => holidays_job(found),
+        _ => Ok(Job::Count),
+    }
+}
+
+fn job_in<'a>(matches: &ArgMatches<'a>) -> Result<Job<'a>, BadValue>
+    ensures limited { IfOk result IsLimited }
+    ensures job { MatchResult result (λ job. asked_in (subcommand_rows_of matches.now) ≡ Some (asked job))
+        (λ _. asked_in (subcommand_rows_of matches.now) ≡ None) }
+{
+    match matches.subcommand() {
+        Some((name, found)) => job_by(name, found),
+        None => Ok(Job::Count),
+    }
 }
 
 /// What the words ask for, the first of which is the program's name. The error is what to print: a
 /// bad command line, a help text or the version.
 pub fn read_job<'a>(alloc: Global, words: &'a [String]) -> Result<Job<'a>, Error>
-    ensures { IfOk result IsLimited }
+    ensures job { IfOk result (λ job. asked_of (map string_bytes words.now) ≡ Some (asked job)) }
+    ensures fault { FailsBy (line_faults (map string_bytes words.now)) result }
+    ensures limited { IfOk result IsLimited }
 {
-    let matches = command(alloc)?.try_get_matches_from(words)?;
-    if let Some(run) = matches.subcommand_matches("run") {
-        let zone = run.get_str("zone").unwrap_or(ZONE);
-        let close = run.get_str("close").unwrap_or(CLOSE);
-        return Ok(Job::Run { zone, close });
+    let mut command = command(alloc)?;
+    let matches = command.try_get_matches_from_mut(words)?;
+    match job_in(&matches) {
+        Ok(job) => Ok(job),
+        Err(bad) => Err(command.error(ErrorKind::ValueValidation, bad.message())?),
     }
-    if let Some(holidays) = matches.subcommand_matches("holidays") {
-        // The parser takes no other year.
-        let year = holidays.get_one::<u32>("year").unwrap_or(2000);
-        return Ok(Job::Holidays {
-            year: year.max(2000).min(2099),
-        });
-    }
-    Ok(Job::Count)
 }

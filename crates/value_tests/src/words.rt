@@ -12,12 +12,13 @@ fn words_of(rt: &HostRuntime, line: &str) -> Result<Vec<String>, Fail> {
 }
 
 /// What the words ask for.
-const JOBS: [(&str, Job<'static>); 7] = [
+const JOBS: [(&str, Job<'static>); 12] = [
     ("docketctl", Job::Count),
     ("docketctl count", Job::Count),
     (
         "docketctl run",
         Job::Run {
+            file: None,
             zone: "UTC0",
             close: "17:00",
         },
@@ -25,6 +26,7 @@ const JOBS: [(&str, Job<'static>); 7] = [
     (
         "docketctl run --zone EST5EDT,M3.2.0,M11.1.0",
         Job::Run {
+            file: None,
             zone: "EST5EDT,M3.2.0,M11.1.0",
             close: "17:00",
         },
@@ -32,8 +34,46 @@ const JOBS: [(&str, Job<'static>); 7] = [
     (
         "docketctl run --close=16:30 --zone CST6",
         Job::Run {
+            file: None,
             zone: "CST6",
             close: "16:30",
+        },
+    ),
+    (
+        "docketctl run --db court.db",
+        Job::Run {
+            file: Some("court.db"),
+            zone: "UTC0",
+            close: "17:00",
+        },
+    ),
+    (
+        "docketctl create --zone CST6 --db court.db --close 16:30",
+        Job::Create {
+            file: "court.db",
+            zone: "CST6",
+            close: "16:30",
+        },
+    ),
+    (
+        "docketctl import --key k1 --db=court.db",
+        Job::Import {
+            file: "court.db",
+            key: "k1",
+        },
+    ),
+    (
+        "docketctl case --db court.db 1",
+        Job::Case {
+            file: "court.db",
+            number: 1,
+        },
+    ),
+    (
+        "docketctl case 4294967295 --db court.db",
+        Job::Case {
+            file: "court.db",
+            number: 4294967295,
         },
     ),
     ("docketctl holidays 2000", Job::Holidays { year: 2000 }),
@@ -51,11 +91,15 @@ fn jobs(rt: HostRuntime) -> Result<(), Fail> {
 }
 
 /// What is printed where the words ask for no job, and whether that is a mistake.
-const TEXTS: [(&str, &str, bool); 13] = [
+const TEXTS: [(&str, &str, bool); 19] = [
     ("docketctl --help", "Usage: docketctl [COMMAND]", false),
     ("docketctl --version", "docketctl 0.1.0", false),
     ("docketctl count --help", "forward DAY N", false),
-    ("docketctl run --help", "answer one command a line", false),
+    (
+        "docketctl run --help",
+        "Answer commands of a docket, one a line",
+        false,
+    ),
     (
         "docketctl holidays --help",
         "2027-06-18 Fri Juneteenth (observed)",
@@ -63,17 +107,17 @@ const TEXTS: [(&str, &str, bool); 13] = [
     ),
     (
         "docketctl holidays 1999",
-        "invalid value '1999' for '<YEAR>': 1999 is not in 2000..=2099",
+        "error: YEAR is a year from 2000 to 2099",
         true,
     ),
     (
         "docketctl holidays 2100",
-        "invalid value '2100' for '<YEAR>': 2100 is not in 2000..=2099",
+        "error: YEAR is a year from 2000 to 2099",
         true,
     ),
     (
         "docketctl holidays next",
-        "invalid value 'next' for '<YEAR>'",
+        "error: YEAR is a year from 2000 to 2099",
         true,
     ),
     (
@@ -81,6 +125,32 @@ const TEXTS: [(&str, &str, bool); 13] = [
         "the following required arguments were not provided",
         true,
     ),
+    (
+        "docketctl case --db court.db 0",
+        "error: NUMBER is a number from 1 to 4294967295, without a leading zero",
+        true,
+    ),
+    (
+        "docketctl case --db court.db 01",
+        "error: NUMBER is a number from 1 to 4294967295, without a leading zero",
+        true,
+    ),
+    (
+        "docketctl case --db court.db 4294967296",
+        "error: NUMBER is a number from 1 to 4294967295, without a leading zero",
+        true,
+    ),
+    (
+        "docketctl case --db court.db +1",
+        "error: NUMBER is a number from 1 to 4294967295, without a leading zero",
+        true,
+    ),
+    (
+        "docketctl create --db court.db --zone UTC0",
+        "the following required arguments were not provided",
+        true,
+    ),
+    ("docketctl import --help", "kind,day,name", false),
     (
         "docketctl dance",
         "error: unrecognized subcommand 'dance'",

@@ -1,0 +1,14 @@
+use Rattle.std.proofs.lemmas.Result.{IfOk-weaker}
+use Rattle.docket_jobs.specs.CommandLine.{docketctl}
+use Rattle.docket_jobs.proofs.LineLemmas.{subcommand_added}
+use Rattle.docket_jobs.proofs.command_line.command.Goals as goal
+
+pub returns : goal.returns
+unfolding docketctl
+returns c =
+    let counts = subcommand_added _ _ _ _ _ c.in_ok-bare_command.ensures c.count_command.ensures c.in_ok-subcommand.ensures in
+    let creates = subcommand_added _ _ _ _ _ counts c.in_ok-create_command.ensures c.in_ok-subcommand-2.ensures in
+    let runs = subcommand_added _ _ _ _ _ creates c.in_ok-run_command.ensures c.in_ok-subcommand-3.ensures in
+    let imports = subcommand_added _ _ _ _ _ runs c.in_ok-import_command.ensures c.in_ok-subcommand-4.ensures in
+    let cases = subcommand_added _ _ _ _ _ imports c.in_ok-case_command.ensures c.in_ok-subcommand-5.ensures in
+    IfOk-weaker c.subcommand-6.result _ _ (λ _ adds. subcommand_added _ _ _ _ _ cases c.in_ok-holidays_command.ensures adds) c.subcommand-6.ensures

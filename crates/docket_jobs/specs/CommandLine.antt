@@ -1,0 +1,64 @@
+-- The command line of docketctl as clap reads it: each subcommand with its options, which take one value each, and its
+-- places.
+use Rattle.std.specs.Prelude.{◌≡◌, [], ◌∷◌, Some, true, false, codes}
+use Rattle.clap.specs.Walk.{Rule, Text}
+use Rattle.clap.specs.Simple.{App, app_of, new_app, new_rule, on_top, with_rule, with_subcommand}
+use Rattle.clap.specs.declared.builder.action.ArgAction.TheVariants.{Set}
+use Rattle.clap.specs.declared.builder.command.Command.{Command}
+use Rattle.clap.specs.declared.builder.command.Command.TheViews.{out-Command as fields_of}
+
+-- --NAME VALUE
+abbrev pub option_rule : Text → Rule
+option_rule name = record (new_rule name) { long = Some name; action = Some Set; value_names = 1 }
+
+-- it has to be there
+abbrev pub required : Rule → Rule
+required rule = record rule { required = true }
+
+-- it is as if that were given, where nothing is
+abbrev pub with_default : Text → Rule → Rule
+with_default value rule = record rule { defaults = value ∷ [] }
+
+-- a value that stands alone, and has to be there
+abbrev pub place_rule : Text → Rule
+place_rule name = record (new_rule name) { action = Some Set; value_names = 1; required = true }
+
+abbrev pub file_rule : Rule
+file_rule = option_rule (codes "db")
+
+abbrev pub zone_rule : Rule
+zone_rule = option_rule (codes "zone")
+
+abbrev pub close_rule : Rule
+close_rule = option_rule (codes "close")
+
+unfoldable pub count_line : App
+count_line = new_app (codes "count")
+
+unfoldable pub create_line : App
+create_line = with_rule (with_rule (with_rule (new_app (codes "create")) (required file_rule)) (required zone_rule)) (required close_rule)
+
+unfoldable pub run_line : App
+run_line = with_rule (with_rule (with_rule (new_app (codes "run")) file_rule) (with_default (codes "UTC0") zone_rule)) (with_default (codes "17:00") close_rule)
+
+unfoldable pub import_line : App
+import_line = with_rule (with_rule (new_app (codes "import")) (required file_rule)) (required (option_rule (codes "key")))
+
+unfoldable pub case_line : App
+case_line = with_rule (with_rule (new_app (codes "case")) (required file_rule)) (place_rule (codes "number"))
+
+unfoldable pub holidays_line : App
+holidays_line = with_rule (new_app (codes "holidays")) (place_rule (codes "year"))
+
+-- docketctl with `--version` and without a subcommand yet
+unfoldable pub bare_line : App
+bare_line = on_top (λ top. record top { has_version = true }) (new_app (codes "docketctl"))
+
+unfoldable pub docketctl : App
+docketctl =
+    with_subcommand (with_subcommand (with_subcommand (with_subcommand (with_subcommand (with_subcommand
+    bare_line count_line.top) create_line.top) run_line.top) import_line.top) case_line.top) holidays_line.top
+
+-- the command has this line, and no option for its subcommands too
+abbrev pub HasLine : App → Command → Type 0
+HasLine line command = (app_of command ≡ line) × ((fields_of command).has_globals ≡ false)

@@ -1,0 +1,198 @@
+//! The command line as clap reads it.
+ghost use Rattle.std.specs.Prelude.{◌≡◌, false, IfOk};
+ghost use Rattle.clap.specs.Walk.{rule_of};
+ghost use Rattle.clap.specs.Simple.{new_app};
+ghost use Rattle.docket_jobs.specs.CommandLine.{option_rule, required, with_default, place_rule, HasLine, count_line, create_line, run_line, import_line, case_line, holidays_line, bare_line, docketctl};
+
+use crate::help::{
+    CASE_HELP, COUNT_HELP, CREATE_HELP, HOLIDAYS_HELP, IMPORT_HELP, PROGRAM_HELP, RUN_HELP,
+};
+use clap::{Arg, ArgAction, Command};
+use std::alloc::{AllocError, Global};
+
+/// The zone of the court of `run`, where none is given.
+const ZONE: &str = "UTC0";
+
+/// When its clerk's office closes, where no time is given.
+const CLOSE: &str = "17:00";
+
+const FILE_TEXT: &str = "The docket's file, of SQLite";
+
+const ZONE_TEXT: &str = "The court's zone, as EST5EDT,M3.2.0,M11.1.0";
+
+const CLOSE_TEXT: &str = "When the clerk's office closes";
+
+/// An option `--id VALUE`.
+fn option<'a>(alloc: Global, id: &'a str, value: &'a str, help: &'a str) -> Arg<'a>
+    ensures rule { rule_of result ≡ option_rule id.now }
+    ensures local { result.global ≡ false }
+{
+    Arg::new(alloc, id)
+        .long(id)
+        .action(ArgAction::Set)
+        .value_name(value)
+        .help(help)
+}
+
+/// An option that has to be there.
+fn needed_option<'a>(alloc: Global, id: &'a str, value: &'a str, help: &'a str) -> Arg<'a>
+    ensures rule { rule_of result ≡ required (option_rule id.now) }
+    ensures local { result.global ≡ false }
+{
+    option(alloc, id, value, help).required(true)
+}
+
+/// A value that stands alone, and has to be there.
+fn place<'a>(alloc: Global, id: &'a str, value: &'a str, help: &'a str) -> Arg<'a>
+    ensures rule { rule_of result ≡ place_rule id.now }
+    ensures local { result.global ≡ false }
+{
+    Arg::new(alloc, id)
+        .action(ArgAction::Set)
+        .value_name(value)
+        .help(help)
+        .required(true)
+}
+
+/// An option that is as if `default` were given, where it is not.
+fn option_or<'a>(
+    alloc: Global,
+    id: &'a str,
+    value: &'a str,
+    default: &'a str,
+    help: &'a str,
+) -> Arg<'a>
+    ensures rule { rule_of result ≡ with_default default.now (option_rule id.now) }
+    ensures local { result.global ≡ false }
+{
+    option(alloc, id, value, help).default_value(default)
+}
+
+/// A subcommand with no option or place yet.
+fn subcommand<'a>(alloc: Global, name: &'a str, about: &'a str, after_help: &'a str) -> Command<'a>
+    ensures { HasLine (new_app name.now) result }
+{
+    Command::new(alloc, name)
+        .about(about)
+        .after_help(after_help)
+}
+
+fn count_command<'a>(alloc: Global) -> Command<'a>
+    ensures { HasLine count_line result }
+{
+    subcommand(
+        alloc,
+        "count",
+        "Enter days and count periods, one line of standard input after the other",
+        COUNT_HELP,
+    )
+}
+
+fn create_command<'a>(alloc: Global) -> Result<Command<'a>, AllocError>
+    ensures { IfOk result (HasLine create_line) }
+{
+    let file = needed_option(alloc, "db", "FILE", FILE_TEXT);
+    let zone = needed_option(alloc, "zone", "ZONE", ZONE_TEXT);
+    let close = needed_option(alloc, "close", "HH:MM", CLOSE_TEXT);
+    subcommand(
+        alloc,
+        "create",
+        "Make a docket without any record in a file",
+        CREATE_HELP,
+    )
+    .arg(file)?
+    .arg(zone)?
+    .arg(close)
+}
+
+fn run_command<'a>(alloc: Global) -> Result<Command<'a>, AllocError>
+    ensures { IfOk result (HasLine run_line) }
+{
+    let file = option(alloc, "db", "FILE", FILE_TEXT);
+    let zone = option_or(alloc, "zone", "ZONE", ZONE, ZONE_TEXT);
+    let close = option_or(alloc, "close", "HH:MM", CLOSE, CLOSE_TEXT);
+    subcommand(
+        alloc,
+        "run",
+        "Answer commands of a docket, one a line of standard input",
+        RUN_HELP,
+    )
+    .arg(file)?
+    .arg(zone)?
+    .arg(close)
+}
+
+fn import_command<'a>(alloc: Global) -> Result<Command<'a>, AllocError>
+    ensures { IfOk result (HasLine import_line) }
+{
+    let file = needed_option(alloc, "db", "FILE", FILE_TEXT);
+    let key = needed_option(
+        alloc,
+        "key",
+        "KEY",
+        "The key of the command, of 1 to 64 bytes",
+    );
+    subcommand(
+        alloc,
+        "import",
+        "Enter the days of a table in the calendar of a docket",
+        IMPORT_HELP,
+    )
+    .arg(file)?
+    .arg(key)
+}
+
+fn case_command<'a>(alloc: Global) -> Result<Command<'a>, AllocError>
+    ensures { IfOk result (HasLine case_line) }
+{
+    let file = needed_option(alloc, "db", "FILE", FILE_TEXT);
+    let number = place(alloc, "number", "NUMBER", "The number of the case");
+    subcommand(
+        alloc,
+        "case",
+        "Tell a case with its parties, entries and deadlines",
+        CASE_HELP,
+    )
+    .arg(file)?
+    .arg(number)
+}
+
+fn holidays_command<'a>(alloc: Global) -> Result<Command<'a>, AllocError>
+    ensures { IfOk result (HasLine holidays_line) }
+{
+    let year = place(alloc, "year", "YEAR", "A year from 2000 to 2099");
+    subcommand(
+        alloc,
+        "holidays",
+        "Tell the statutory holidays of a year",
+        HOLIDAYS_HELP,
+    )
+    .arg(year)
+}
+
+fn bare_command<'a>(alloc: Global) -> Result<Command<'a>, AllocError>
+    ensures { IfOk result (HasLine bare_line) }
+{
+    Ok(
+        Command::new(alloc, "docketctl")
+            .bin_name("docketctl")?
+            .about(
+                "The civil docket of a United States district court, with computed filing deadlines",
+            )
+            .after_help(PROGRAM_HELP)
+            .version("0.1.0"),
+    )
+}
+
+/// The program's command line.
+pub(crate) fn command<'a>(alloc: Global) -> Result<Command<'a>, AllocError>
+    ensures { IfOk result (HasLine docketctl) }
+{
+    bare_command(alloc)?
+        .subcommand(count_command(alloc))?
+        .subcommand(create_command(alloc)?)?
+        .subcommand(run_command(alloc)?)?
+        .subcommand(import_command(alloc)?)?
+        .subcommand(case_command(alloc)?)?
+        .subcommand(holidays_command(alloc)?)
+}

@@ -1,0 +1,94 @@
+//! Commands of a docket, one a line.
+
+use crate::court::read_court;
+use crate::create::created;
+use crate::docket::{close_docket, open_docket};
+use crate::status::Status;
+use crate::telling::{failed, out_of_memory};
+use command_lines::{Clerk, RunFault, command_run};
+use court_days::Court;
+use docket_store::{CreateFault, Docket, Fault};
+use line_io::write_bytes;
+use sqlite::{Alter, Connection};
+use std::alloc::Global;
+use std::io::{Read, Write};
+
+/// The last line of the output where a docket failed.
+fn last_line(fault: RunFault) -> &'static [u8] {
+    match fault {
+        RunFault::Store(Fault::Closed) => b"{\"error\":\"closed\"}\n",
+        RunFault::Store(Fault::Damaged) => b"{\"error\":\"damaged\"}\n",
+        RunFault::Store(_) => b"{\"error\":\"store\"}\n",
+        RunFault::ReadFailed | RunFault::WriteFailed | RunFault::NoMemory => b"",
+    }
+}
+
+/// Answers the commands of the input.
+fn answer_all<R: Read, W: Write, E: Write, S: Alter>(
+    alloc: Global,
+    clerk: &mut Clerk<S>,
+    r: &mut R,
+    w: &mut W,
+    e: &mut E,
+) -> Status {
+    match command_run(alloc, r, w, clerk) {
+        Ok(end) if end.bad == 0 => Status::Done,
+        Ok(_) => Status::SomeBad,
+        Err(RunFault::NoMemory) => out_of_memory(w),
+        Err(fault) => {
+            let _ = write_bytes(w, last_line(fault));
+            failed(alloc, e, &fault)
+        }
+    }
+}
+
+fn answer_in_memory<R: Read, W: Write, E: Write>(
+    alloc: Global,
+    court: Court,
+    r: &mut R,
+    w: &mut W,
+    e: &mut E,
+) -> Status {
+    let Ok(conn) = Connection::open_in_memory(alloc) else {
+        return out_of_memory(w);
+    };
+    match created(alloc, conn, court) {
+        Ok(docket) => answer_all(alloc, &mut Clerk::new(alloc, docket), r, w, e),
+        Err(CreateFault::NoMemory) => out_of_memory(w),
+        Err(fault) => failed(alloc, e, &fault),
+    }
+}
+
+/// Answers commands of a new docket in memory, of the court that the texts spell.
+pub(crate) fn run_in_memory<R: Read, W: Write, E: Write>(
+    alloc: Global,
+    zone: &str,
+    close: &str,
+    r: &mut R,
+    w: &mut W,
+    e: &mut E,
+) -> Status {
+    match read_court(alloc, zone, close, e) {
+        Ok(court) => answer_in_memory(alloc, court, r, w, e),
+        Err(status) => status,
+    }
+}
+
+/// Answers commands of the docket in a file. Each answer is written when its command stands there.
+pub(crate) fn run_in_file<R: Read, W: Write, E: Write>(
+    rt: &HostRuntime,
+    path: &str,
+    r: &mut R,
+    w: &mut W,
+    e: &mut E,
+) -> Status {
+    match open_docket(rt, path, e) {
+        Ok(docket) => {
+            let mut clerk = Clerk::new(rt.alloc(), docket);
+            let status = answer_all(rt.alloc(), &mut clerk, r, w, e);
+            close_docket(clerk.into_docket());
+            status
+        }
+        Err(status) => status,
+    }
+}

@@ -1,0 +1,57 @@
+//! The docket that a job works on.
+
+use crate::file::open_file;
+use crate::status::Status;
+use crate::telling::failed;
+use docket_store::{AdoptFault, Docket, Returned};
+use sqlite::{Alter, Connection, File, FileStore};
+use std::alloc::Global;
+use std::fmt;
+use std::io::Write;
+
+/// A fault of the file at a path, to be told.
+#[derive(Drop)]
+pub(crate) struct AtPath<'a, F> {
+    pub(crate) path: &'a str,
+    pub(crate) fault: F,
+}
+
+impl<F: fmt::Display> fmt::Display for AtPath<'_, F> {
+    fn fmt<W: fmt::Write>(&self, f: &mut fmt::Formatter<W>) -> fmt::Result {
+        write!(f, "{:?}: {}", self.path, self.fault)
+    }
+}
+
+/// The docket that a database holds, or why there is none. The database is let go then.
+fn adopted<S: Alter + Drop>(alloc: Global, conn: Connection<S>) -> Result<Docket<S>, AdoptFault> {
+    match Docket::adopt(alloc, conn) {
+        Ok(docket) => Ok(docket),
+        Err(
+            Returned {
+                fault,
+                connection: _,
+            },
+        ) => Err(fault),
+    }
+}
+
+/// The docket in a file that is there, or how the job ends.
+pub(crate) fn open_docket<E: Write>(
+    rt: &HostRuntime,
+    path: &str,
+    e: &mut E,
+) -> Result<Docket<FileStore<File>>, Status> {
+    let conn = match open_file(rt, path) {
+        Ok(conn) => conn,
+        Err(fault) => return Err(failed(rt.alloc(), e, &AtPath { path, fault })),
+    };
+    match adopted(rt.alloc(), conn) {
+        Ok(docket) => Ok(docket),
+        Err(fault) => Err(failed(rt.alloc(), e, &AtPath { path, fault })),
+    }
+}
+
+/// Lets the docket go. Its log is copied into the file; where that fails the log keeps it.
+pub(crate) fn close_docket(docket: Docket<FileStore<File>>) {
+    let _ = docket.close().close();
+}

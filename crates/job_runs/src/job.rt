@@ -1,0 +1,51 @@
+//! A job, done.
+ghost use Rattle.docket_jobs.specs.Jobs.{IsLimited};
+
+use crate::case::tell_case;
+use crate::command::{run_in_file, run_in_memory};
+use crate::create::create_docket;
+use crate::holiday::tell_holidays;
+use crate::import::import_days;
+use crate::status::Status;
+use crate::telling::failed;
+use count_lines::count_run;
+use docket_jobs::Job;
+use std::alloc::Global;
+use std::io::{Read, Write};
+
+/// Answers lines of days.
+fn count<R: Read, W: Write, E: Write>(alloc: Global, r: &mut R, w: &mut W, e: &mut E) -> Status {
+    match count_run(alloc, r, w) {
+        Ok(end) if end.bad == 0 => Status::Done,
+        Ok(_) => Status::SomeBad,
+        Err(fault) => failed(alloc, e, &fault),
+    }
+}
+
+/// Does a job, with `r`, `w` and `e` for the standard input, output and error.
+pub fn run_job<R: Read, W: Write, E: Write>(
+    rt: &HostRuntime,
+    job: Job<'_>,
+    r: &mut R,
+    w: &mut W,
+    e: &mut E,
+) -> Status
+    requires { IsLimited job }
+{
+    match job {
+        Job::Count => count(rt.alloc(), r, w, e),
+        Job::Create { file, zone, close } => create_docket(rt, file, zone, close, w, e),
+        Job::Run {
+            file: Some(file),
+            ..
+        } => run_in_file(rt, file, r, w, e),
+        Job::Run {
+            file: None,
+            zone,
+            close,
+        } => run_in_memory(rt.alloc(), zone, close, r, w, e),
+        Job::Import { file, key } => import_days(rt, file, key, r, w, e),
+        Job::Case { file, number } => tell_case(rt, file, number, w, e),
+        Job::Holidays { year } => tell_holidays(rt.alloc(), year, w, e),
+    }
+}

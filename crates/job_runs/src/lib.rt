@@ -1,0 +1,17 @@
+//! The jobs of `docketctl`, each over any reader and writers in the place of the standard streams.
+#![tactic(auto)]
+
+mod case;
+mod command;
+mod court;
+mod create;
+mod docket;
+mod file;
+mod holiday;
+mod import;
+mod job;
+mod status;
+mod telling;
+
+pub use job::run_job;
+pub use status::Status;

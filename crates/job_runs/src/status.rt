@@ -1,0 +1,26 @@
+//! How a job ended.
+
+/// How a job ended, for the exit status of the program.
+#[derive(Clone, Copy, Debug, PartialEq, Eq)]
+pub enum Status {
+    /// It was done, and nothing was refused or bad.
+    Done,
+    /// A line was answered as bad or full, or with a refusal or a fault; or there is no such case.
+    SomeBad,
+    /// A value of the command line is none.
+    BadLine,
+    /// Reading, writing, memory or the database failed.
+    Failed,
+}
+
+impl Status {
+    /// The exit status of the program.
+    pub fn code(self) -> u8 {
+        match self {
+            Status::Done => 0,
+            Status::SomeBad => 1,
+            Status::BadLine => 2,
+            Status::Failed => 3,
+        }
+    }
+}

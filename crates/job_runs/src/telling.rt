@@ -1,0 +1,50 @@
+//! What a job tells on its writers.
+
+use crate::status::Status;
+use line_io::write_bytes;
+use std::alloc::{AllocError, Global};
+use std::fmt;
+use std::io::Write;
+
+/// Writes the text, and tells where that fails.
+pub(crate) fn write_text<W: Write, E: Write>(
+    alloc: Global,
+    text: &str,
+    done: Status,
+    w: &mut W,
+    e: &mut E,
+) -> Status {
+    match write_bytes(w, text.as_bytes()) {
+        Ok(()) => done,
+        Err(_) => failed(alloc, e, &"the output could not be written"),
+    }
+}
+
+fn line_of<F: fmt::Display>(alloc: Global, fault: &F) -> Result<String, AllocError> {
+    format!(in alloc; "docketctl: {fault}\n")
+}
+
+/// Tells in one line why a job was not done. Where it can't be told, the status alone says it.
+pub(crate) fn told<E: Write, F: fmt::Display>(
+    alloc: Global,
+    e: &mut E,
+    fault: &F,
+    status: Status,
+) -> Status {
+    let _ = match line_of(alloc, fault) {
+        Ok(line) => write_bytes(e, line.as_bytes()),
+        Err(_) => write_bytes(e, b"docketctl: there is not enough memory\n"),
+    };
+    status
+}
+
+/// Tells in one line why the program failed.
+pub(crate) fn failed<E: Write, F: fmt::Display>(alloc: Global, e: &mut E, fault: &F) -> Status {
+    told(alloc, e, fault, Status::Failed)
+}
+
+/// Tells on the output, in the place of an answer, that there is not enough memory.
+pub(crate) fn out_of_memory<W: Write>(w: &mut W) -> Status {
+    let _ = write_bytes(w, b"{\"error\":\"no-memory\"}\n");
+    Status::Failed
+}
