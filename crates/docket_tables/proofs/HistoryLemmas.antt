@@ -153,7 +153,7 @@ both_true true b e = (refl, e)
 both_true false b e = absurd (let no = e in cc)
 
 -- a number past the cases has no deadline
-no_deadlines : (court : CourtSettings) (h : History) → IsHistory court h → (j : ℕ) → (j < 1) ⊎ (length (case_rows h) < j) → deadlines_of_case j (deadline_rows h) ≡ []
+pub no_deadlines : (court : CourtSettings) (h : History) → IsHistory court h → (j : ℕ) → (j < 1) ⊎ (length (case_rows h) < j) → deadlines_of_case j (deadline_rows h) ≡ []
 no_deadlines court [] is j out = refl
 no_deadlines court (c ∷ h) is j out =
     deadlines_kept h c j (elsewhere (seen h c.action (passed court h c is.0.0 is.0.1).case)) ∙ no_deadlines court h is.1 j earlier

@@ -1,7 +1,7 @@
-mod AnswerLemmas
+pub mod AnswerLemmas
 mod CalendarLemmas
-mod CaseActs
-mod CellLemmas
+pub mod CaseActs
+pub mod CellLemmas
 mod ChangesLemmas
 mod CommitLemmas
 mod ContentsLemmas
@@ -11,10 +11,10 @@ mod DeleteLemmas
 mod FoundLemmas
 mod EndLemmas
 pub mod HistoryLemmas
-mod HoldsLemmas
+pub mod HoldsLemmas
 mod InsideLemmas
 mod InsertLemmas
-mod LayoutLemmas
+pub mod LayoutLemmas
 mod OrderlyActions
 mod OrderlyActs
 mod OrderlyCalendar
@@ -28,11 +28,11 @@ pub mod ReadLemmas
 pub mod ReopenLemmas
 mod RowLemmas
 mod RowidLemmas
-mod SelectLemmas
+pub mod SelectLemmas
 mod SettlingLemmas
 mod SoundLemmas
-mod StandsLemmas
+pub mod StandsLemmas
 mod UpdateLemmas
 mod VersionLemmas
 mod ViewLemmas
-mod WholeLemmas
+pub mod WholeLemmas

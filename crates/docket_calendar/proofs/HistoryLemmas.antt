@@ -1,0 +1,87 @@
+-- The deadlines of a history whose times run, as they can be listed.
+use Rattle.std.proofs.Common.{◌≡◌, ℕ, ◌<◌, List, length, All, refl, arith}
+use Rattle.std.specs.List.{AllByRecursion}
+use Rattle.std.proofs.lemmas.List.Elements.{All-from_recursion, recursion_from_All}
+use Rattle.std.proofs.lemmas.List.Sorted.{All-permutation, IsPermutation-sym}
+use Rattle.sqlite_keyed.proofs.ListLemmas.{all_weaker}
+use Rattle.sqlite_keyed.proofs.SortLemmas.{IsPermutation-sort_by}
+use Rattle.sqlite_trees.proofs.ListLemmas.{all-filter, all-flat_map}
+use Rattle.court_days.specs.Court.{CourtSettings, zone_of}
+use Rattle.court_days.specs.declared.filing.End.{End}
+use Rattle.court_days.proofs.CourtLemmas.{zone_of-is_zone}
+use Rattle.court_rules.specs.Standings.{standing}
+use Rattle.court_rules.specs.declared.act.Standing.{Standing}
+use Rattle.court_rules.specs.declared.act.Standing.TheVariants.{Running, Suspended, Awaiting, Done, Vacated}
+use Rattle.docket_core.specs.CalendarItems.{IsEnteredItem}
+use Rattle.docket_core.specs.EndRows.{calendar_in}
+use Rattle.docket_core.specs.Histories.{History, items_of, standing_rows, case_rows, deadlines_of_case, acts_of_deadline}
+use Rattle.docket_core.specs.Outcomes.{IsHistory}
+use Rattle.docket_core.specs.Tables.{Tables, rows_of}
+use Rattle.docket_core.specs.declared.record.DueRow.{DueRow}
+use Rattle.docket_core.specs.declared.row.DeadlineRow.{DeadlineRow}
+use Rattle.docket_core.proofs.LimitsKept.{within_limits}
+use Rattle.docket_columns.specs.Fits.{IsDeadlineRow}
+use Rattle.docket_columns.proofs.RuleLemmas.{name_utf8}
+use Rattle.docket_text.specs.CalendarOrder.{calendar_cmp, IsCalendar}
+use Rattle.docket_text.proofs.OrderLemmas.{calendar_cmp_total}
+use Rattle.docket_wire.specs.Valid.{IsCommand}
+use Rattle.docket_tables.specs.Orderly.{IsCourtSettings}
+use Rattle.docket_tables.proofs.HistoryLemmas.{no_deadlines}
+use Rattle.docket_tables.proofs.OrderlyLemmas.{orderly}
+use Rattle.docket_calendar.specs.Calendar.{row_where, due_of, running, due_within, calendar_rows}
+use Rattle.docket_calendar.specs.DueCells.{IsDueEnd, IsDue}
+use Rattle.docket_calendar.proofs.DueLemmas.{HaveEnds, all_two, few_listed}
+use Rattle.docket_calendar.proofs.EndBounds.{ends_are_due, calendar_within}
+use Rattle.docket_calendar.proofs.KeyLemmas.{Apart, IsAmong, apart, of_each, numbered_within, few_of_cases}
+use Rattle.docket_calendar.proofs.Sorting.{sorted-sort_by}
+
+-- the deadlines of the tables can be listed
+pub record IsListable (court : CourtSettings) (t : Tables) : Type 0 where
+  pub apart : Apart t.deadlines
+  pub ends : HaveEnds court (calendar_in t) t.acts t.deadlines
+  pub fit : AllByRecursion IsDeadlineRow t.deadlines
+  pub few : length t.deadlines < 4_294_967_295
+
+pub listable : (court : CourtSettings) (h : History) → IsCourtSettings court → IsHistory court h → AllByRecursion IsCommand h → IsListable court (rows_of court h)
+listable court h settings is all =
+    let t = rows_of court h in
+    let ds = t.deadlines in
+    let held = orderly court h settings is all in
+    let within = within_limits court h is in
+    let limits = calendar_within (items_of (standing_rows h)) (recursion_from_All IsEnteredItem (items_of (standing_rows h)) within.items) in
+    let count = few_of_cases (length (case_rows h)) ds within.deadlines (no_deadlines court h is) in
+    let among : AllByRecursion (λ (d : DeadlineRow). IsAmong (length (deadlines_of_case d.case ds)) d) ds =
+    of_each (λ k d. IsAmong (length (deadlines_of_case k ds)) d) ds (λ k. numbered_within 1 (length (deadlines_of_case k ds)) (deadlines_of_case k ds) (omega arith) (omega arith) (held.deadlines_run k)) in
+    record {
+      apart = apart ds held.deadlines_run;
+      ends = all_weaker _ (λ (d : DeadlineRow). (end : End) → standing (zone_of court) (calendar_in t) (acts_of_deadline d.case d.number t.acts) ≡ Running end → IsDueEnd end)
+          (λ d place end runs. ends_are_due (calendar_in t) limits (zone_of court) (zone_of-is_zone court) (acts_of_deadline d.case d.number t.acts) end (within.acts d.case d.number place.0 place.1) runs) ds among;
+      fit = held.deadlines;
+      few = omega (arith, count, within.cases);
+    }
+
+module _ (court : CourtSettings) (from to : ℕ) (t : Tables) (can : IsListable court t) where
+  one_due : (d : DeadlineRow) (s : Standing) → ((end : End) → s ≡ Running end → IsDueEnd end) → IsDeadlineRow d → AllByRecursion IsDue (row_where d s)
+  one_due d (Running end) due fit = ((due end refl, fit.0, fit.1, fit.2, name_utf8 d.rule), tt)
+  one_due d Suspended due fit = tt
+  one_due d Awaiting due fit = tt
+  one_due d Done due fit = tt
+  one_due d Vacated due fit = tt
+
+  all_due : AllByRecursion IsDue (due_within court from to t)
+  all_due =
+      all-filter _ _ (running court t) (all-flat_map IsDue (due_of (zone_of court) (calendar_in t) t.acts) t.deadlines
+      (all_two _ _ (λ d. AllByRecursion IsDue (due_of (zone_of court) (calendar_in t) t.acts d)) t.deadlines (λ d due fit. one_due d (standing (zone_of court) (calendar_in t) (acts_of_deadline d.case d.number t.acts)) due fit) can.ends can.fit))
+
+  pub listed_due : (listed : List DueRow) → IsCalendar court (due_within court from to t) listed → All IsDue listed
+  listed_due listed calendar = All-permutation IsDue (due_within court from to t) listed calendar.same (All-from_recursion IsDue _ all_due)
+
+  pub listed_few : (listed : List DueRow) → IsCalendar court (due_within court from to t) listed → length listed < 4_294_967_295
+  listed_few listed calendar = omega (arith, few_listed court from to t listed calendar, can.few)
+
+-- the calendar that is written is one of these rows
+pub is_calendar : (court : CourtSettings) (h : History) (from to : ℕ) → IsCalendar court (due_within court from to (rows_of court h)) (calendar_rows court h from to)
+is_calendar court h from to = record {
+  same = IsPermutation-sym _ _ (IsPermutation-sort_by (calendar_cmp court) (calendar_cmp_total court) (due_within court from to (rows_of court h)));
+  ordered = sorted-sort_by (calendar_cmp court) (calendar_cmp_total court) (due_within court from to (rows_of court h));
+}

@@ -1,0 +1,13 @@
+pub mod DueLemmas
+pub mod EndBounds
+pub mod HistoryLemmas
+pub mod JoinLemmas
+pub mod JoinMeans
+pub mod KeyLemmas
+pub mod ListsLemmas
+mod Fronts
+mod NextLemmas
+pub mod SendLemmas
+pub mod TellLemmas
+pub mod Sorting
+pub mod StandsLemmas

@@ -1,0 +1,67 @@
+-- What a calendar leaves of a connection that holds a docket's rows.
+use Rattle.std.proofs.Common.{◌≡◌, ◌⊎◌, ◌≤◌, ℕ, List, false, Option, Result, Ok, Err, sym, subst, arith}
+use Rattle.sqlite.specs.Given.{IsPlain}
+use Rattle.sqlite.specs.Listing.{understood}
+use Rattle.sqlite.specs.Order.{Row}
+use Rattle.sqlite.specs.Schema.{Schema}
+use Rattle.sqlite.specs.Store.{Ghosts}
+use Rattle.sqlite.specs.State.{State, HasCleanDisk, Survives, IsUnchanged, IsRolledBack, CommitsShowing}
+use Rattle.sqlite.specs.Held.{Held, state}
+use Rattle.sqlite.specs.View.{doubt}
+use Rattle.sqlite.proofs.Callers.{never_commits}
+use Rattle.sqlite.proofs.StateLemmas.{survives_weaker}
+use Rattle.court_days.specs.Court.{CourtSettings}
+use Rattle.docket_core.specs.Histories.{History}
+use Rattle.docket_core.specs.Tables.{rows_of}
+use Rattle.docket_tables.specs.Readings.{Fails}
+use Rattle.docket_tables.specs.Stands.{HoldsRows, IsSettled, IsLasting}
+use Rattle.docket_tables.specs.declared.fault.ReadFault.{ReadFault}
+use Rattle.docket_tables.specs.declared.fault.ReadFault.TheVariants.{Store, NoMemory, Damaged}
+use Rattle.docket_tables.proofs.StandsLemmas.{unchanged_settled, undone_lasting}
+use Rattle.docket_calendar.specs.Asked.{Lists}
+use Rattle.docket_calendar.specs.Calendar.{calendar_rows}
+use Rattle.docket_calendar.specs.Question.{question, days_asked}
+use Rattle.docket_calendar.specs.Sending.{LeavesAt, SendsAll}
+use Rattle.docket_calendar.specs.Telling.{IsHistoryOf, Tells, history_rows}
+use Rattle.docket_calendar.specs.declared.stop.Stop.{Stop}
+use Rattle.docket_calendar.specs.declared.stop.Stop.TheVariants.{NotBegun, Broken, WriteFailed}
+use Rattle.docket_calendar.proofs.HistoryLemmas.{listable, is_calendar}
+use Rattle.docket_calendar.proofs.JoinMeans.{asks_plainly}
+use Rattle.docket_calendar.proofs.ListsLemmas.{lists}
+
+pub reads_only : (sql : List ℕ) (params : Row) (old new : State) → IsPlain (understood old.now.schema sql) → Survives old new (CommitsShowing sql params old) → Survives old new (λ _. ⊥)
+reads_only sql params old new plain = survives_weaker old new _ _ (λ _ db. never_commits sql params old db plain)
+
+module _ {S : Type 0} (g : Ghosts S) (court : CourtSettings) (h : History) (from to : ℕ) (front : List ℕ) (u v : Option (List ℕ)) (old new : Held S) (is : IsHistoryOf court h) (was : HoldsRows g old (history_rows court h))
+    (mode : old.in_transaction ≡ false → new.in_transaction ≡ false) (early : doubt (state g old).is_clean ≤ doubt (state g new).is_clean)
+    (crash : IsPlain (understood old.schema question) → Survives (state g old) (state g new) (λ _. ⊥)) where
+  before : HasCleanDisk (state g new) → HasCleanDisk (state g old)
+  before clean = omega (arith, early)
+
+  -- the question is plain for the tables of a docket
+  plainly : HasCleanDisk (state g new) → IsPlain (understood old.schema question)
+  plainly clean = subst (λ (s : Schema). IsPlain (understood s question)) (sym (was.1 (before clean)).shows.schema) asks_plainly
+
+  settled : HasCleanDisk (state g new) → IsUnchanged (state g old) (state g new) → IsSettled (state g new) (history_rows court h)
+  settled clean same = unchanged_settled (state g old) (state g new) (history_rows court h) (crash (plainly clean)) clean (was.1 (before clean)) same
+
+  lasting : HasCleanDisk (state g new) → IsUnchanged (state g old) (state g new) ⊎ IsRolledBack (state g old) (state g new) → IsLasting (state g new) (history_rows court h)
+  lasting clean left = undone_lasting (state g old) (state g new) (history_rows court h) (crash (plainly clean)) clean (was.1 (before clean)) left
+
+  fails : (fault : ReadFault) → (HasCleanDisk (state g new) → LeavesAt g old new fault) → Fails g new (history_rows court h) fault
+  fails (Store e) left = (mode was.0, λ clean. lasting clean (left clean))
+  fails NoMemory left = (mode was.0, λ clean. settled clean (left clean))
+  fails Damaged left = left
+
+  pub tells : (res : Result ℕ Stop) → (HasCleanDisk (state g new) → SendsAll g court (calendar_rows court h from to) front u v old new res) → Tells g court h from to front u v new res
+  tells (Ok n) sends = ((mode was.0, λ clean. settled clean (sends clean).0), λ clean. ((sends clean).1, (sends clean).2))
+  tells (Err (NotBegun fault)) sends = (fails fault (λ clean. (sends clean).1), λ clean. (sends clean).0)
+  tells (Err (Broken fault)) sends = (fails fault (λ clean. (sends clean).1), λ clean. (sends clean).0)
+  tells (Err WriteFailed) sends = ((mode was.0, λ clean. settled clean (sends clean).1), λ clean. (sends clean).0)
+
+-- a connection that holds the rows answers by the calendar of the history
+pub lists_of : {S : Type 0} (g : Ghosts S) (court : CourtSettings) (h : History) (from to : ℕ) (old : Held S) → IsHistoryOf court h → HoldsRows g old (history_rows court h) → HasCleanDisk (state g old)
+    → Lists question (days_asked from to) court (state g old).now (calendar_rows court h from to)
+lists_of g court h from to old is was clean =
+    let held = was.1 clean in
+    lists court from to (rows_of court h) (calendar_rows court h from to) (state g old).now (listable court h is.settings is.history is.commands) held.shows.schema held.shows.holds (is_calendar court h from to)

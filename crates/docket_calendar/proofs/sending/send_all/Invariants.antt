@@ -1,0 +1,21 @@
+use Rattle.std.proofs.Common.{◌≡◌, ℕ, List, false}
+use Rattle.std.specs.Prelude.{IsTrue}
+use Rattle.sqlite.specs.Order.{Row}
+use Rattle.sqlite.specs.State.{HasCleanDisk, Survives}
+use Rattle.sqlite.specs.Held.{state}
+use Rattle.docket_core.specs.declared.record.DueRow.{DueRow}
+use Rattle.docket_calendar.specs.Asked.{Lists, Gave}
+use Rattle.docket_calendar.proofs.TellLemmas.{IsTold}
+use Rattle.docket_calendar.proofs.sending.send_all.Given as goal
+
+abbrev pub invariant-rows : goal.invariant-rows
+invariant-rows g l =
+    let old = l.fn.rows.conn.now in
+    let now = l.rows.conn.now in
+    record {
+      same_reference : l.rows.conn.ghost_name ≡ l.fn.rows.conn.ghost_name;
+      mode : old.in_transaction ≡ false → now.in_transaction ≡ false;
+      survives : Survives (state g.S.Store old) (state g.S.Store now) (λ _. ⊥);
+      told : HasCleanDisk (state g.S.Store now) → (sql : List ℕ) (params : Row) (listed : List DueRow) → Lists sql params l.court (state g.S.Store old).now listed → Gave g.S.Store sql params l.court listed 0 old
+          → IsTrue (state g.S.Store old).is_open → IsTold g.S.Store l.court listed l.fn.front sql params l.lines (g.W.Write.contents l.fn.writer) (g.W.Write.contents l.writer) old now;
+    }

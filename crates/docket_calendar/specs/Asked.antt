@@ -1,0 +1,48 @@
+-- A question whose answer is a list of deadlines whose time runs, and how far its rows were given.
+use Rattle.std.specs.Prelude.{◌≡◌, false, ◌⊎◌, ℕ, ◌+◌, ◌<◌, ◌≤◌, List, map, take, length, slice_get, Option, Some, None, Result, Ok, Err}
+use Rattle.std.specs.List.{AllByRecursion}
+use Rattle.sqlite.specs.Order.{Row}
+use Rattle.sqlite.specs.Command.{Command}
+use Rattle.sqlite.specs.Command.TheVariants.{Nothing}
+use Rattle.sqlite.specs.Effect.{Database, Reads, ReadsFirst}
+use Rattle.sqlite.specs.Given.{HasGiven, IsPlain}
+use Rattle.sqlite.specs.Listing.{understood, reads_listing}
+use Rattle.sqlite_resolve.specs.declared.compiled.Compiled.{Compiled}
+use Rattle.sqlite_resolve.specs.declared.error.CompileError.{CompileError}
+use Rattle.sqlite.specs.Store.{Ghosts}
+use Rattle.sqlite.specs.State.{IsUnchanged, Fails}
+use Rattle.sqlite.specs.Held.{Held, state}
+use Rattle.court_days.specs.Court.{CourtSettings}
+use Rattle.docket_core.specs.declared.record.DueRow.{DueRow}
+use Rattle.docket_tables.specs.declared.fault.ReadFault.{ReadFault}
+use Rattle.docket_tables.specs.declared.fault.ReadFault.TheVariants.{Store, NoMemory, Damaged}
+use Rattle.docket_calendar.specs.DueCells.{due_cells, IsDue}
+
+-- the command of a text
+abbrev pub command_of : Result Compiled CompileError → Command
+command_of (Ok c) = c.command
+command_of (Err e) = Nothing
+
+-- in this database the answer to the question is the rows of these due deadlines, in this order
+pub record Lists (sql : List ℕ) (params : Row) (court : CourtSettings) (db : Database) (listed : List DueRow) : Type 0 where
+  pub command : Command
+  pub is : command_of (understood db.schema sql) ≡ command
+  pub plain : IsPlain (understood db.schema sql)
+  pub unlisted : reads_listing db.schema sql ≡ false
+  pub begins : (rows : List Row) → ReadsFirst command db params rows → (length rows ≤ length listed) × (rows ≡ map (due_cells court) (take (length rows) listed))
+  pub whole : (rows : List Row) → Reads command db params rows → rows ≡ map (due_cells court) listed
+  pub sound : AllByRecursion IsDue listed
+  pub few : length listed < 4_294_967_295
+
+module _ {S : Type 0} (g : Ghosts S) where
+  -- the question is asked, and the rows of so many of the deadlines were given
+  abbrev pub Gave : List ℕ → Row → CourtSettings → List DueRow → ℕ → Held S → Type 0
+  Gave sql params court listed n h = HasGiven g sql params h (map (due_cells court) (take n listed)) × (n ≤ length listed)
+
+  -- what the next row comes to
+  abbrev pub Next : List ℕ → Row → CourtSettings → List DueRow → ℕ → Held S → Held S → Result (Option DueRow) ReadFault → Type 0
+  Next sql params court listed n old new (Ok (Some d)) = IsUnchanged (state g old) (state g new) × (slice_get listed n ≡ Some d) × Gave sql params court listed (n + 1) new
+  Next sql params court listed n old new (Ok None) = IsUnchanged (state g old) (state g new) × (length listed ≡ n)
+  Next sql params court listed n old new (Err (Store e)) = Fails (state g old) (state g new) ⊥ e ⊎ IsUnchanged (state g old) (state g new)
+  Next sql params court listed n old new (Err NoMemory) = IsUnchanged (state g old) (state g new)
+  Next sql params court listed n old new (Err Damaged) = ⊥

@@ -1,0 +1,43 @@
+-- What the writing of a calendar leaves of the connection and of the writer.
+use Rattle.std.specs.Prelude.{◌≡◌, ℕ, List, [], ◌++◌, length, Option, Result, Ok, Err}
+use Rattle.std.specs.List.{AllByRecursion}
+use Rattle.std.specs.Io.KnownBytes.{Appends}
+use Rattle.sqlite.specs.Store.{Ghosts}
+use Rattle.sqlite.specs.State.{HasCleanDisk}
+use Rattle.sqlite.specs.Held.{Held, state}
+use Rattle.court_days.specs.Court.{CourtSettings}
+use Rattle.docket_core.specs.Histories.{History}
+use Rattle.docket_core.specs.Outcomes.{IsHistory}
+use Rattle.docket_core.specs.Tables.{rows_of}
+use Rattle.docket_wire.specs.Valid.{IsCommand}
+use Rattle.docket_tables.specs.Contents.{rows_in}
+use Rattle.docket_tables.specs.Layouts.{Rows}
+use Rattle.docket_tables.specs.Orderly.{IsCourtSettings}
+use Rattle.docket_tables.specs.Readings.{Fails}
+use Rattle.docket_tables.specs.Stands.{HoldsRows}
+use Rattle.line_io.specs.Output.{HasFront}
+use Rattle.docket_calendar.specs.Calendar.{calendar_rows, text_of_calendar}
+use Rattle.docket_calendar.specs.declared.stop.Stop.{Stop}
+use Rattle.docket_calendar.specs.declared.stop.Stop.TheVariants.{NotBegun, Broken, WriteFailed}
+
+-- a history of the court, of commands whose texts can be written
+pub record IsHistoryOf (court : CourtSettings) (h : History) : Type 0 where
+  pub settings : IsCourtSettings court
+  pub history : IsHistory court h
+  pub commands : AllByRecursion IsCommand h
+
+abbrev pub history_rows : CourtSettings → History → Rows
+history_rows court h = rows_in court (rows_of court h)
+
+module _ {S : Type 0} (g : Ghosts S) (court : CourtSettings) (h : History) (from to : ℕ) (front : List ℕ) where
+  -- the bytes and the text of the calendar went out whole, with so many lines; or nothing did, or a front of it. The rows stand as they
+  -- were; where the store failed, the connection may be shut
+  abbrev pub Tells : Option (List ℕ) → Option (List ℕ) → Held S → Result ℕ Stop → Type 0
+  Tells before after new (Ok lines) =
+      HoldsRows g new (history_rows court h)
+      × (HasCleanDisk (state g new) → Appends before after (front ++ text_of_calendar court h from to) × (lines ≡ length (calendar_rows court h from to)))
+  Tells before after new (Err (NotBegun fault)) = Fails g new (history_rows court h) fault × (HasCleanDisk (state g new) → Appends before after [])
+  Tells before after new (Err (Broken fault)) =
+      Fails g new (history_rows court h) fault × (HasCleanDisk (state g new) → HasFront before after (front ++ text_of_calendar court h from to))
+  Tells before after new (Err WriteFailed) =
+      HoldsRows g new (history_rows court h) × (HasCleanDisk (state g new) → HasFront before after (front ++ text_of_calendar court h from to))

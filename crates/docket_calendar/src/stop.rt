@@ -1,0 +1,13 @@
+//! Why a calendar was not written whole.
+use docket_tables::ReadFault;
+
+/// Why a calendar was not written whole.
+#[derive(Clone, Copy, Debug, PartialEq, Eq)]
+pub enum Stop {
+    /// There was not even a first line. Nothing was written.
+    NotBegun(ReadFault),
+    /// The question failed after the first line. A front of the text went out.
+    Broken(ReadFault),
+    /// A write failed, or took nothing. A front of the text went out.
+    WriteFailed,
+}

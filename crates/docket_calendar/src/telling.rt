@@ -1,0 +1,97 @@
+//! The calendar of a docket in a database.
+ghost use Rattle.std.specs.Prelude.{◌≡◌, ◌≤◌, false, List};
+ghost use Rattle.sqlite.specs.Given.{IsPlain};
+ghost use Rattle.sqlite.specs.Held.{state};
+ghost use Rattle.sqlite.specs.Listing.{understood};
+ghost use Rattle.sqlite.specs.State.{HasCleanDisk, Survives};
+ghost use Rattle.sqlite.specs.Values.{bound};
+ghost use Rattle.sqlite.specs.View.{doubt};
+ghost use Rattle.docket_core.specs.Histories.{History};
+ghost use Rattle.docket_core.specs.declared.record.DueRow.{DueRow as Due};
+ghost use Rattle.docket_tables.specs.Stands.{HoldsRows};
+ghost use Rattle.docket_calendar.specs.Asked.{Lists};
+ghost use Rattle.docket_calendar.specs.Question.{question, days_asked};
+ghost use Rattle.docket_calendar.specs.Sending.{SendsAll};
+ghost use Rattle.docket_calendar.specs.Telling.{IsHistoryOf, Tells, history_rows};
+
+use crate::sending::send_all;
+use crate::stop::Stop;
+use court_days::{Court, Day};
+use docket_tables::ReadFault;
+use sqlite::types::ValueRef;
+use sqlite::{Alter, Connection, params};
+use std::alloc::Global;
+use std::io::Write;
+
+/// The deadlines whose time runs to a day of a range, in the order of the calendar. The index of `due`
+/// gives the range and the order, so that no row is sorted or kept.
+fn question() -> &'static str
+    ensures { result.now ≡ question }
+{
+    "SELECT due.day, due.moment, due.case_no, due.deadline_no, deadline.party, deadline.rule FROM due JOIN deadline ON deadline.case_no = due.case_no AND deadline.number = due.deadline_no WHERE due.day >= ?1 AND due.day <= ?2 ORDER BY due.day, due.moment, due.case_no, due.deadline_no"
+}
+
+/// Writes the bytes, a line for each row of a question, and then how many there are.
+fn tell<S: Alter, W: Write>(
+    conn: &mut Connection<S>,
+    alloc: Global,
+    court: &Court,
+    sql: &str,
+    values: &[ValueRef<'_>],
+    front: &[u8],
+    writer: &mut W,
+) -> Result<u32, Stop>
+    ensures mode { conn.old.in_transaction ≡ false → conn.new.in_transaction ≡ false }
+    ensures clean { doubt (state S.Store conn.old).is_clean ≤ doubt (state S.Store conn.new).is_clean }
+    ensures survives { IsPlain (understood conn.old.schema sql.now) → Survives (state S.Store conn.old) (state S.Store conn.new) (λ _. ⊥) }
+    ensures sends { (listed : List Due) → HasCleanDisk (state S.Store conn.new)
+        → Lists sql.now (bound values.now) court.now (state S.Store conn.old).now listed
+        → SendsAll S.Store court.now listed front.now (W.contents writer.old) (W.contents writer.new) conn.old conn.new result }
+{
+    match conn.query(sql, values) {
+        Ok(mut rows) => send_all(alloc, court, front, &mut rows, writer),
+        Err(error) => Err(Stop::NotBegun(ReadFault::Store(error))),
+    }
+}
+
+/// Asks the question about the days from one to another, both included, and writes its answer.
+fn tell_days<S: Alter, W: Write>(
+    conn: &mut Connection<S>,
+    alloc: Global,
+    court: &Court,
+    from: Day,
+    to: Day,
+    front: &[u8],
+    writer: &mut W,
+) -> Result<u32, Stop>
+    ensures mode { conn.old.in_transaction ≡ false → conn.new.in_transaction ≡ false }
+    ensures clean { doubt (state S.Store conn.old).is_clean ≤ doubt (state S.Store conn.new).is_clean }
+    ensures survives { IsPlain (understood conn.old.schema question) → Survives (state S.Store conn.old) (state S.Store conn.new) (λ _. ⊥) }
+    ensures sends { (listed : List Due) → HasCleanDisk (state S.Store conn.new)
+        → Lists question (days_asked from to) court.now (state S.Store conn.old).now listed
+        → SendsAll S.Store court.now listed front.now (W.contents writer.old) (W.contents writer.new) conn.old conn.new result }
+{
+    let days = params![from.epoch_day(), to.epoch_day()];
+    tell(conn, alloc, court, question(), days, front, writer)
+}
+
+/// Writes the bytes, then the calendar of the days from one to another, both included, and counts its
+/// lines. Each line is written before the next row is read, and the bytes go out with the first: where
+/// there is not even a first line, nothing does. What went out is all of it, or a front; the tables stay
+/// as they are.
+pub fn calendar<S: Alter, W: Write>(
+    conn: &mut Connection<S>,
+    alloc: Global,
+    court: &Court,
+    from: Day,
+    to: Day,
+    front: &[u8],
+    writer: &mut W,
+) -> Result<u32, Stop>
+    ensures mode { conn.old.in_transaction ≡ false → conn.new.in_transaction ≡ false }
+    ensures clean { doubt (state S.Store conn.old).is_clean ≤ doubt (state S.Store conn.new).is_clean }
+    ensures tells { (h : History) → IsHistoryOf court.now h → HoldsRows S.Store conn.old (history_rows court.now h)
+        → Tells S.Store court.now h from to front.now (W.contents writer.old) (W.contents writer.new) conn.new result }
+{
+    tell_days(conn, alloc, court, from, to, front, writer)
+}
