@@ -1,6 +1,7 @@
 mod AgainLemmas
 mod ApplyLemmas
 mod AskLemmas
+mod ListingLemmas
 mod OpeningLemmas
 mod ReopeningLemmas
 mod RunLemmas

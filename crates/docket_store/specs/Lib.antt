@@ -1,5 +1,6 @@
 pub mod Applying
 pub mod Dockets
+pub mod Listing
 pub mod Opening
 pub mod Reopening
 pub mod Sequence

@@ -1,5 +1,5 @@
 //! The docket of a court in a database.
-ghost use Rattle.std.specs.Prelude.{◌≡◌, ◌↔◌, ◌≤◌, [], true, false, Err, IfOk, OnOk, IfErr, IsErrAnd, IsTrue, MatchResult};
+ghost use Rattle.std.specs.Prelude.{◌≡◌, ◌↔◌, ◌⊎◌, ◌≤◌, [], true, false, Err, IfOk, OnOk, IfErr, IsErrAnd, IsTrue, MatchResult};
 ghost use Rattle.sqlite.specs.Held.{state};
 ghost use Rattle.sqlite.specs.View.{doubt};
 ghost use Rattle.court_days.specs.Court.{CourtSettings};
@@ -8,10 +8,13 @@ ghost use Rattle.docket_core.specs.Histories.{History};
 ghost use Rattle.docket_core.specs.Records.{case_record, deadline_lines};
 ghost use Rattle.docket_tables.specs.Recognition.{has_court, has_docket_table};
 ghost use Rattle.docket_store.specs.Applying.{IsDocket, StandsFor, Stands, Applies, Asks, docket_rows};
+ghost use Rattle.docket_store.specs.Listing.{Lists, ListsCalendar};
 ghost use Rattle.docket_store.specs.Opening.{IsAdopted, IsNotAdopted, IsNotMade};
 ghost use Rattle.docket_store.specs.declared.adopting.AdoptFault.TheVariants.{Empty};
 ghost use Rattle.docket_store.specs.declared.creating.CreateFault.TheVariants.{NotEmpty};
 ghost use Rattle.docket_store.specs.declared.fault.Fault.TheVariants as fault;
+ghost use Rattle.docket_store.specs.declared.listing.CalendarEnd.TheVariants as calendar_end;
+ghost use Rattle.docket_store.specs.declared.listing.ListingEnd.TheVariants as listing_end;
 
 use crate::adopting::{AdoptFault, find_court};
 use crate::applying::apply_to;
@@ -19,12 +22,14 @@ use crate::asking::{lines_numbered, record_numbered};
 use crate::creating::{CreateFault, make_docket};
 use crate::fault::Fault;
 use crate::laws::courts_begin_without_a_record;
+use crate::listing::{CalendarEnd, ListingEnd, is_broken_store, list_days};
 use crate::returned::Returned;
-use court_days::Court;
+use court_days::{Court, Day};
 use docket_command::{Command, Reply};
 use docket_core::{CalendarItems, CaseRecord, DeadlineLine};
 use sqlite::{Alter, Connection};
 use std::alloc::Global;
+use std::io::Write;
 use std::marker::Model;
 
 /// The docket of a court, kept in a database.
@@ -169,6 +174,61 @@ impl<S: Alter> Docket<S> {
         let answer = lines_numbered(conn, self.alloc, &self.court, kept, number);
         self.closed = is_store_failure(&answer);
         answer
+    }
+
+    /// Writes the bytes, then the calendar of the days from one to another, both included, and counts
+    /// its lines: the deadlines of the docket whose time runs to one of these days, in order. Each line
+    /// is written before the next row is read, so its memory does not grow with them, and the bytes go
+    /// out with the first: where there is not even a first line, nothing does. The docket stays as it is.
+    pub fn calendar_after<W: Write>(
+        &mut self,
+        front: &[u8],
+        from: Day,
+        to: Day,
+        writer: &mut W,
+    ) -> Result<u32, ListingEnd>
+        ensures court { self.new.court ≡ self.old.court }
+        ensures answer { (h : History) → Stands S.Store self.old h
+            → Lists S.Store self.new h from to front.now (W.contents writer.old) (W.contents writer.new) result }
+        ensures closed { self.old.closed ≡ true
+            → (result ≡ Err (listing_end.NotBegun fault.Closed)) × (self.new ≡ self.old) × (writer.new ≡ writer.old) }
+        ensures clean { doubt (state S.Store self.old.conn).is_clean ≤ doubt (state S.Store self.new.conn).is_clean }
+        ensures closes { self.old.closed ≡ false → (self.new.closed ≡ true)
+            ↔ ((result ≡ Err (listing_end.NotBegun fault.StoreFailed)) ⊎ (result ≡ Err (listing_end.Broken fault.StoreFailed))) }
+    {
+        if self.closed {
+            return Err(ListingEnd::NotBegun(Fault::Closed));
+        }
+        let conn = &mut self.conn;
+        let answer = list_days(conn, self.alloc, &self.court, from, to, front, writer);
+        self.closed = is_broken_store(&answer);
+        answer
+    }
+
+    /// Writes the calendar of the days from one to another, both included, and counts its lines, as
+    /// `calendar_after` does with no bytes in front of it.
+    pub fn calendar<W: Write>(
+        &mut self,
+        from: Day,
+        to: Day,
+        writer: &mut W,
+    ) -> Result<u32, CalendarEnd>
+        ensures court { self.new.court ≡ self.old.court }
+        ensures answer { (h : History) → Stands S.Store self.old h
+            → ListsCalendar S.Store self.new h from to (W.contents writer.old) (W.contents writer.new) result }
+        ensures closed { self.old.closed ≡ true
+            → (result ≡ Err (calendar_end.Store fault.Closed)) × (self.new ≡ self.old) × (writer.new ≡ writer.old) }
+        ensures clean { doubt (state S.Store self.old.conn).is_clean ≤ doubt (state S.Store self.new.conn).is_clean }
+        ensures closes { self.old.closed ≡ false
+            → (self.new.closed ≡ true) ↔ (result ≡ Err (calendar_end.Store fault.StoreFailed)) }
+    {
+        match self.calendar_after(&[], from, to, writer) {
+            Ok(lines) => Ok(lines),
+            Err(ListingEnd::NotBegun(fault) | ListingEnd::Broken(fault)) => {
+                Err(CalendarEnd::Store(fault))
+            }
+            Err(ListingEnd::WriteFailed) => Err(CalendarEnd::WriteFailed),
+        }
     }
 
     /// The court whose docket it is.

@@ -1,5 +1,6 @@
 //! Dockets in memory.
 mod adopting;
+mod calendar;
 mod ends;
 mod records;
 

@@ -1,0 +1,35 @@
+-- From what the writing of a calendar leaves of the tables to what it leaves of the docket.
+use Rattle.std.proofs.Common.{◌≡◌, ◌⊎◌, inl, inr, ℕ, Bool, true, false, List, [], Option, Result, Err, refl, sym, subst}
+use Rattle.std.specs.Io.KnownBytes.{Appends}
+use Rattle.sqlite.specs.Store.{Ghosts}
+use Rattle.sqlite.specs.Held.{Held}
+use Rattle.court_days.specs.Court.{CourtSettings}
+use Rattle.docket_core.specs.Histories.{History}
+use Rattle.docket_core.specs.declared.item.CalendarItem.{CalendarItem}
+use Rattle.line_io.specs.Output.{HasFront}
+use Rattle.docket_calendar.specs.Telling.{IsHistoryOf}
+use Rattle.docket_store.specs.Applying.{IsDocket}
+use Rattle.docket_store.specs.Dockets.{serving}
+use Rattle.docket_store.specs.Listing.{Lists}
+use Rattle.docket_store.specs.declared.fault.Fault.TheVariants.{StoreFailed}
+use Rattle.docket_store.specs.declared.listing.ListingEnd.{ListingEnd}
+use Rattle.docket_store.specs.declared.listing.ListingEnd.TheVariants as listing_end
+
+pub history_of : (court : CourtSettings) (h : History) → IsDocket court h → IsHistoryOf court h
+history_of court h is = record { settings = is.settings; history = is.history; commands = is.commands }
+
+pub none_out : (before after : Option (List ℕ)) (text : List ℕ) → Appends before after [] → HasFront before after text
+none_out before after text nothing = record { out = []; lost = text; whole = refl; appends = nothing }
+
+abbrev IsBroken : Result ℕ ListingEnd → Type 0
+IsBroken result = (result ≡ Err (listing_end.NotBegun StoreFailed)) ⊎ (result ≡ Err (listing_end.Broken StoreFailed))
+
+module _ {S : Type 0} (g : Ghosts S) (h : History) (from to : ℕ) (front : List ℕ) (before after : Option (List ℕ)) where
+  -- a docket is closed where its database failed, and there alone
+  pub lists_kept : (conn : Held S) (court : CourtSettings) (kept : Option (List CalendarItem)) (closed : Bool) (result : Result ℕ ListingEnd) → (closed ≡ true → IsBroken result)
+      → Lists g (serving conn court kept) h from to front before after result → Lists g (record { conn = conn; court = court; closed = closed; calendar = kept }) h from to front before after result
+  lists_kept conn court kept false result broken lists = lists
+  lists_kept conn court kept true result broken lists = elim (broken refl) [
+      | inl none ↦ subst (Lists g (record { conn = conn; court = court; closed = true; calendar = kept }) h from to front before after) (sym none) (subst (Lists g (serving conn court kept) h from to front before after) none lists)
+      | inr part ↦ subst (Lists g (record { conn = conn; court = court; closed = true; calendar = kept }) h from to front before after) (sym part) (subst (Lists g (serving conn court kept) h from to front before after) part lists)
+    ]

@@ -1,0 +1,71 @@
+//! The calendar of a docket, written row by row.
+ghost use Rattle.std.specs.Prelude.{◌≡◌, ◌≤◌, ◌⊎◌, ◌↔◌, List, Option, Err, true, false, MatchResult};
+ghost use Rattle.sqlite.specs.Held.{state};
+ghost use Rattle.sqlite.specs.View.{doubt};
+ghost use Rattle.docket_core.specs.Histories.{History};
+ghost use Rattle.docket_core.specs.declared.item.CalendarItem.{CalendarItem as Item};
+ghost use Rattle.docket_store.specs.Applying.{Stands};
+ghost use Rattle.docket_store.specs.Dockets.{serving};
+ghost use Rattle.docket_store.specs.Listing.{Lists};
+ghost use Rattle.docket_store.specs.declared.fault.Fault.TheVariants as fault;
+
+use crate::fault::{Fault, read_fault};
+use court_days::{Court, Day};
+use docket_calendar::{Stop, calendar};
+use sqlite::{Alter, Connection};
+use std::alloc::Global;
+use std::io::Write;
+
+/// Why a calendar was not written whole.
+#[derive(Clone, Copy, Debug, PartialEq, Eq)]
+pub enum CalendarEnd {
+    /// The docket gave no more of it. A front of the text went out.
+    Store(Fault),
+    /// A write failed, or took nothing. A front of the text went out.
+    WriteFailed,
+}
+
+/// Why bytes and a calendar behind them were not written whole.
+#[derive(Clone, Copy, Debug, PartialEq, Eq)]
+pub enum ListingEnd {
+    /// The docket gave not even a first line. Nothing was written.
+    NotBegun(Fault),
+    /// The docket gave no more of it. A front of the whole went out.
+    Broken(Fault),
+    /// A write failed, or took nothing. A front of the whole went out.
+    WriteFailed,
+}
+
+/// Whether the database failed.
+pub(crate) fn is_broken_store(answer: &Result<u32, ListingEnd>) -> bool
+    ensures { (result ≡ true) ↔ ((answer.now ≡ Err (ListingEnd.NotBegun fault.StoreFailed)) ⊎ (answer.now ≡ Err (ListingEnd.Broken fault.StoreFailed))) }
+{
+    matches!(
+        answer,
+        Err(ListingEnd::NotBegun(Fault::StoreFailed) | ListingEnd::Broken(Fault::StoreFailed))
+    )
+}
+
+/// Writes the bytes, and the calendar of the days from one to another behind them.
+pub(crate) fn list_days<S: Alter, W: Write>(
+    conn: &mut Connection<S>,
+    alloc: Global,
+    court: &Court,
+    from: Day,
+    to: Day,
+    front: &[u8],
+    writer: &mut W,
+) -> Result<u32, ListingEnd>
+    requires { conn.old.in_transaction ≡ false }
+    ensures idle { conn.new.in_transaction ≡ false }
+    ensures clean { doubt (state S.Store conn.old).is_clean ≤ doubt (state S.Store conn.new).is_clean }
+    ensures lists { (kept : Option (List Item)) (h : History) → Stands S.Store (serving conn.old court.now kept) h
+        → Lists S.Store (serving conn.new court.now kept) h from to front.now (W.contents writer.old) (W.contents writer.new) result }
+{
+    match calendar(conn, alloc, court, from, to, front, writer) {
+        Ok(lines) => Ok(lines),
+        Err(Stop::NotBegun(fault)) => Err(ListingEnd::NotBegun(read_fault(conn, fault))),
+        Err(Stop::Broken(fault)) => Err(ListingEnd::Broken(read_fault(conn, fault))),
+        Err(Stop::WriteFailed) => Err(ListingEnd::WriteFailed),
+    }
+}
