@@ -59,6 +59,8 @@ file; zone and closing time are the docket's own:
 Without it the docket is kept in a database in memory and ends with the program. ZONE is as
 EST5EDT,M3.2.0,M11.1.0: hours west of Greenwich, and the dates on which clocks change. HH:MM is
 from 00:00 to 23:59.
+Where the input is a file and the answers go to no terminal, a terminal that shows standard error
+is told once a second how many lines were answered.
 
 Exit status: 0 all commands were accepted, 1 a line was refused or no command, 2 bad command
 line, 3 reading, writing, memory or the database failed.";

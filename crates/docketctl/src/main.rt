@@ -3,15 +3,41 @@
 #![tactic(auto)]
 
 use docket_jobs::read_job;
-use job_runs::{Status, run_job};
+use job_runs::{Progress, Status, run_job};
+use std::io::IsTerminal;
 use std::process::ExitCode;
-use std::{env, io};
+use std::{env, fs, io};
+
+/// Whether the input is a file, and no pipe or terminal.
+fn input_is_a_file(rt: &HostRuntime) -> bool {
+    match fs::metadata(rt, "/dev/stdin") {
+        Ok(input) => input.is_file(),
+        Err(_) => false,
+    }
+}
+
+/// A run tells how far it is to a terminal that does not show the answers already, where the lines come
+/// from a file, and so as fast as they are answered.
+fn progress(rt: &HostRuntime) -> Progress {
+    if rt.stderr().is_terminal() && !rt.stdout().is_terminal() && input_is_a_file(rt) {
+        Progress::Told
+    } else {
+        Progress::Untold
+    }
+}
 
 /// Does what the words after the program's name ask for, and answers the exit status.
 fn run(rt: &HostRuntime) -> io::Result<Status> {
     let words: Vec<String> = env::args(rt)?.collect(rt.alloc())?;
     match read_job(rt.alloc(), words.as_slice()) {
-        Ok(job) => Ok(run_job(rt, job, &mut rt.stdin(), &mut rt.stdout(), &mut rt.stderr())),
+        Ok(job) => Ok(run_job(
+            rt,
+            job,
+            progress(rt),
+            &mut rt.stdin(),
+            &mut rt.stdout(),
+            &mut rt.stderr(),
+        )),
         Err(error) => {
             error.print(rt)?;
             Ok(if error.use_stderr() {

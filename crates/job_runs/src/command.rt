@@ -3,14 +3,14 @@
 use crate::court::read_court;
 use crate::create::created;
 use crate::docket::{close_docket, open_docket};
+use crate::progress::{LineCounter, Progress};
 use crate::status::Status;
 use crate::telling::{failed, out_of_memory};
-use command_lines::{Clerk, RunFault, command_run};
+use command_lines::{Clerk, CountEnd, RunFault, command_run};
 use court_days::Court;
 use docket_store::{CreateFault, Docket, Fault};
 use line_io::write_bytes;
 use sqlite::{Alter, Connection};
-use std::alloc::Global;
 use std::io::{Read, Write};
 
 /// The last line of the output where a docket failed.
@@ -23,37 +23,58 @@ fn last_line(fault: RunFault) -> &'static [u8] {
     }
 }
 
+/// Answers the commands of the input, and tells how far that is.
+fn answer_and_tell<R: Read, W: Write, E: Write, S: Alter>(
+    rt: &HostRuntime,
+    clerk: &mut Clerk<S>,
+    r: &mut R,
+    w: &mut W,
+    e: &mut E,
+) -> Result<CountEnd, RunFault> {
+    let mut counter = LineCounter::new(rt, w, e);
+    let end = command_run(rt.alloc(), r, &mut counter, clerk);
+    counter.finish();
+    end
+}
+
 /// Answers the commands of the input.
 fn answer_all<R: Read, W: Write, E: Write, S: Alter>(
-    alloc: Global,
+    rt: &HostRuntime,
+    progress: Progress,
     clerk: &mut Clerk<S>,
     r: &mut R,
     w: &mut W,
     e: &mut E,
 ) -> Status {
-    match command_run(alloc, r, w, clerk) {
+    let end = match progress {
+        Progress::Untold => command_run(rt.alloc(), r, w, clerk),
+        Progress::Told => answer_and_tell(rt, clerk, r, w, e),
+    };
+    match end {
         Ok(end) if end.bad == 0 => Status::Done,
         Ok(_) => Status::SomeBad,
         Err(RunFault::NoMemory) => out_of_memory(w),
         Err(fault) => {
             let _ = write_bytes(w, last_line(fault));
-            failed(alloc, e, &fault)
+            failed(rt.alloc(), e, &fault)
         }
     }
 }
 
 fn answer_in_memory<R: Read, W: Write, E: Write>(
-    alloc: Global,
+    rt: &HostRuntime,
+    progress: Progress,
     court: Court,
     r: &mut R,
     w: &mut W,
     e: &mut E,
 ) -> Status {
+    let alloc = rt.alloc();
     let Ok(conn) = Connection::open_in_memory(alloc) else {
         return out_of_memory(w);
     };
     match created(alloc, conn, court) {
-        Ok(docket) => answer_all(alloc, &mut Clerk::new(alloc, docket), r, w, e),
+        Ok(docket) => answer_all(rt, progress, &mut Clerk::new(alloc, docket), r, w, e),
         Err(CreateFault::NoMemory) => out_of_memory(w),
         Err(fault) => failed(alloc, e, &fault),
     }
@@ -61,15 +82,16 @@ fn answer_in_memory<R: Read, W: Write, E: Write>(
 
 /// Answers commands of a new docket in memory, of the court that the texts spell.
 pub(crate) fn run_in_memory<R: Read, W: Write, E: Write>(
-    alloc: Global,
+    rt: &HostRuntime,
+    progress: Progress,
     zone: &str,
     close: &str,
     r: &mut R,
     w: &mut W,
     e: &mut E,
 ) -> Status {
-    match read_court(alloc, zone, close, e) {
-        Ok(court) => answer_in_memory(alloc, court, r, w, e),
+    match read_court(rt.alloc(), zone, close, e) {
+        Ok(court) => answer_in_memory(rt, progress, court, r, w, e),
         Err(status) => status,
     }
 }
@@ -77,6 +99,7 @@ pub(crate) fn run_in_memory<R: Read, W: Write, E: Write>(
 /// Answers commands of the docket in a file. Each answer is written when its command stands there.
 pub(crate) fn run_in_file<R: Read, W: Write, E: Write>(
     rt: &HostRuntime,
+    progress: Progress,
     path: &str,
     r: &mut R,
     w: &mut W,
@@ -85,7 +108,7 @@ pub(crate) fn run_in_file<R: Read, W: Write, E: Write>(
     match open_docket(rt, path, e) {
         Ok(docket) => {
             let mut clerk = Clerk::new(rt.alloc(), docket);
-            let status = answer_all(rt.alloc(), &mut clerk, r, w, e);
+            let status = answer_all(rt, progress, &mut clerk, r, w, e);
             close_docket(clerk.into_docket());
             status
         }

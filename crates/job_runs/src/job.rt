@@ -7,6 +7,7 @@ use crate::command::{run_in_file, run_in_memory};
 use crate::create::create_docket;
 use crate::holiday::tell_holidays;
 use crate::import::import_days;
+use crate::progress::Progress;
 use crate::status::Status;
 use crate::telling::failed;
 use count_lines::count_run;
@@ -27,6 +28,7 @@ fn count<R: Read, W: Write, E: Write>(alloc: Global, r: &mut R, w: &mut W, e: &m
 pub fn run_job<R: Read, W: Write, E: Write>(
     rt: &HostRuntime,
     job: Job<'_>,
+    progress: Progress,
     r: &mut R,
     w: &mut W,
     e: &mut E,
@@ -39,12 +41,12 @@ pub fn run_job<R: Read, W: Write, E: Write>(
         Job::Run {
             file: Some(file),
             ..
-        } => run_in_file(rt, file, r, w, e),
+        } => run_in_file(rt, progress, file, r, w, e),
         Job::Run {
             file: None,
             zone,
             close,
-        } => run_in_memory(rt.alloc(), zone, close, r, w, e),
+        } => run_in_memory(rt, progress, zone, close, r, w, e),
         Job::Import { file, key } => import_days(rt, file, key, r, w, e),
         Job::Case { file, number } => tell_case(rt, file, number, w, e),
         Job::Calendar { file, from, to } => tell_calendar(rt, file, from, to, w, e),

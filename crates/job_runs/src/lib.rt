@@ -11,8 +11,10 @@ mod file;
 mod holiday;
 mod import;
 mod job;
+mod progress;
 mod status;
 mod telling;
 
 pub use job::run_job;
+pub use progress::Progress;
 pub use status::Status;
