@@ -1,5 +1,6 @@
-//! Tests of the parts that need no database: dates, zones, periods, rules, acts, commands,
-//! texts, lines, `count`, and the words of the command line. They stand in a crate of their own, since a crate with tests is proved twice.
+//! Tests of the parts that need no database: dates, zones, courts, rules, acts, commands, texts, lines,
+//! `count`, and the words of the command line. They stand in a crate of their own, since a crate with tests
+//! is proved twice.
 #![tactic(auto)]
 
 #[cfg(test)]
@@ -9,13 +10,11 @@ mod commands;
 #[cfg(test)]
 mod count;
 #[cfg(test)]
+mod courts;
+#[cfg(test)]
 mod dates;
 #[cfg(test)]
-mod hours;
-#[cfg(test)]
 mod lines;
-#[cfg(test)]
-mod periods;
 #[cfg(test)]
 mod rules;
 #[cfg(test)]

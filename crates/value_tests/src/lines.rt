@@ -3,8 +3,7 @@ ghost use Rattle.std.specs.Prelude.{◌≡◌, ◌<◌};
 
 use failing_ends::{Pieces, Taker};
 use line_io::{Answerer, CountEnd, LineFault, run_lines};
-use std::alloc::AllocError;
-use std::test::Fail;
+use std::alloc::{AllocError, Global};
 
 /// Answers with the last digit of the bytes in all lines so far. An empty answer is bad, and a question mark
 /// has no answer.
@@ -64,108 +63,101 @@ const INPUT: &[u8] = b"a\nbcd\r\n\nabcd\r\nabcde\nabcde\r\nabcdefghij\r\nxyz\r";
 
 const ANSWERS: &[u8] = b"1\n4\n4\n8\n-\n-\n-\n2\n";
 
+type Ended = Result<CountEnd, LineFault<AllocError>>;
+
+/// Whether the run over these ends ends so, with these answers written.
+fn is_answered(
+    alloc: Global,
+    (reader, writer): (Pieces<'_>, Taker),
+    totals: &mut Totals,
+    end: Ended,
+    answers: &[u8],
+) -> bool {
+    let (mut reader, mut writer) = (reader, writer);
+    let ended = run_lines(alloc, &mut reader, &mut writer, totals);
+    ended == end && writer.taken.as_slice() == answers
+}
+
+/// The same of a run over the input from the beginning.
+fn ends_so(alloc: Global, reader: Pieces<'_>, writer: Taker, end: Ended, answers: &[u8]) -> bool {
+    is_answered(
+        alloc,
+        (reader, writer),
+        &mut Totals { digit: 0 },
+        end,
+        answers,
+    )
+}
+
 #[test]
-fn answers_alike_in_pieces_of_any_size(rt: HostRuntime) -> Result<(), Fail> {
+fn answers_alike_in_pieces_of_any_size(rt: HostRuntime) {
+    let end = Ok(CountEnd { lines: 8, bad: 4 });
     for size in [1, 2, 3, 5, 8, 100] {
-        let mut reader = Pieces::new(INPUT, size, 100);
-        let mut writer = Taker::new(rt.alloc(), size, 100, true);
-        let end = run_lines(
-            rt.alloc(),
-            &mut reader,
-            &mut writer,
-            &mut Totals { digit: 0 },
-        );
-        assert_eq!(rt;
-            end,
-            Ok(CountEnd { lines: 8, bad: 4 }),
-            "in pieces of {size}"
-        );
-        assert_eq!(rt; writer.taken.as_slice(), ANSWERS, "in pieces of {size}");
-    }
-    Ok(())
-}
-
-#[test]
-fn tells_a_read_that_failed(rt: HostRuntime) -> Result<(), Fail> {
-    // The answers that went out when the read after so many bytes failed.
-    let rows: [(u32, &[u8]); 7] = [
-        (0, b""),
-        (1, b""),
-        (2, b"1\n"),
-        (7, b"1\n4\n"),
-        (14, b"1\n4\n4\n8\n"),
-        (38, b"1\n4\n4\n8\n-\n-\n"),
-        (43, b"1\n4\n4\n8\n-\n-\n-\n"),
-    ];
-    for (good_reads, answers) in rows {
-        let mut reader = Pieces::new(INPUT, 1, good_reads);
-        let mut writer = Taker::new(rt.alloc(), 100, 100, true);
-        let end = run_lines(
-            rt.alloc(),
-            &mut reader,
-            &mut writer,
-            &mut Totals { digit: 0 },
-        );
-        assert_eq!(rt; end, Err(LineFault::ReadFailed), "after {good_reads} reads");
-        assert_eq!(rt;
-            writer.taken.as_slice(),
-            answers,
-            "after {good_reads} reads"
-        );
-    }
-    Ok(())
-}
-
-#[test]
-fn tells_a_write_that_failed(rt: HostRuntime) -> Result<(), Fail> {
-    for (good_writes, fails) in [
-        (0, true),
-        (0, false),
-        (1, true),
-        (2, false),
-        (3, true),
-        (15, false),
-    ] {
-        let mut reader = Pieces::new(INPUT, 100, 100);
-        let mut writer = Taker::new(rt.alloc(), 1, good_writes, fails);
-        let end = run_lines(
-            rt.alloc(),
-            &mut reader,
-            &mut writer,
-            &mut Totals { digit: 0 },
-        );
-        assert_eq!(rt;
-            end,
-            Err(LineFault::WriteFailed),
-            "after {good_writes} writes"
-        );
-        assert_eq!(rt; writer.taken.len(), good_writes as usize);
+        let reader = Pieces::new(INPUT, size, 100);
+        let writer = Taker::new(rt.alloc(), size, 100, true);
         assert!(rt;
-            ANSWERS.starts_with(&writer.taken),
-            "after {good_writes} writes"
+            ends_so(rt.alloc(), reader, writer, end, ANSWERS),
+            "in pieces of {size}"
         );
     }
-    Ok(())
+}
+
+/// The answers that went out when the read after so many bytes failed.
+const READS: [(u32, &[u8]); 7] = [
+    (0, b""),
+    (1, b""),
+    (2, b"1\n"),
+    (7, b"1\n4\n"),
+    (14, b"1\n4\n4\n8\n"),
+    (38, b"1\n4\n4\n8\n-\n-\n"),
+    (43, b"1\n4\n4\n8\n-\n-\n-\n"),
+];
+
+#[test]
+fn tells_a_read_that_failed(rt: HostRuntime) {
+    let end = Err(LineFault::ReadFailed);
+    for (reads, answers) in READS {
+        let reader = Pieces::new(INPUT, 1, reads);
+        let writer = Taker::new(rt.alloc(), 100, 100, true);
+        assert!(rt;
+            ends_so(rt.alloc(), reader, writer, end, answers),
+            "after {reads} reads"
+        );
+    }
+}
+
+/// What went out of the answers by so many writes of a byte, before one that fails or takes nothing.
+const WRITES: [(u32, bool, &[u8]); 6] = [
+    (0, true, b""),
+    (0, false, b""),
+    (1, true, b"1"),
+    (2, false, b"1\n"),
+    (3, true, b"1\n4"),
+    (15, false, b"1\n4\n4\n8\n-\n-\n-\n2"),
+];
+
+#[test]
+fn tells_a_write_that_failed(rt: HostRuntime) {
+    let end = Err(LineFault::WriteFailed);
+    for (writes, fails, answers) in WRITES {
+        let reader = Pieces::new(INPUT, 100, 100);
+        let writer = Taker::new(rt.alloc(), 1, writes, fails);
+        assert!(rt;
+            ends_so(rt.alloc(), reader, writer, end, answers),
+            "after {writes} writes"
+        );
+    }
 }
 
 #[test]
-fn tells_a_line_that_has_no_answer(rt: HostRuntime) -> Result<(), Fail> {
+fn tells_a_line_that_has_no_answer(rt: HostRuntime) {
+    let end = Err(LineFault::Unanswered(AllocError));
     for size in [1, 100] {
-        let mut reader = Pieces::new(b"ab\n\nc\n?\nd\n", size, 100);
-        let mut writer = Taker::new(rt.alloc(), 100, 100, true);
+        let reader = Pieces::new(b"ab\n\nc\n?\nd\n", size, 100);
+        let writer = Taker::new(rt.alloc(), 100, 100, true);
         let mut totals = Totals { digit: 0 };
-        let end = run_lines(rt.alloc(), &mut reader, &mut writer, &mut totals);
-        assert_eq!(rt;
-            end,
-            Err(LineFault::Unanswered(AllocError)),
-            "in pieces of {size}"
-        );
-        assert_eq!(rt;
-            writer.taken.as_slice(),
-            b"2\n2\n3\n".as_slice(),
-            "in pieces of {size}"
-        );
-        assert_eq!(rt; totals.digit, 3);
+        let ends = (reader, writer);
+        assert!(rt; is_answered(rt.alloc(), ends, &mut totals, end, b"2\n2\n3\n"));
+        assert!(rt; totals.digit == 3, "in pieces of {size}");
     }
-    Ok(())
 }

@@ -1,7 +1,6 @@
-//! The printed table and worked rows.
-use court_days::{Calendar, Day, Direction, is_entered, read_day};
+//! The printed table of rules, and the methods of service.
+use court_days::Direction;
 use court_rules::*;
-use std::test::Fail;
 
 const DAYS_7: Option<Period> = Some(Period::Days(7));
 
@@ -25,8 +24,17 @@ const YES: bool = true;
 
 const NO: bool = false;
 
-// Name, period, direction, three days, responsive, extendable.
-const TABLE: [(&str, Option<Period>, Option<Direction>, bool, bool, bool); 21] = [
+/// Name, period, direction, three days, responsive, extendable.
+type Row = (
+    &'static str,
+    Option<Period>,
+    Option<Direction>,
+    bool,
+    bool,
+    bool,
+);
+
+const TABLE: [Row; 21] = [
     ("12(a)(1)(A)(i)", DAYS_21, FORWARD, NO, YES, YES),
     ("12(a)(1)(A)(ii)", DAYS_60, FORWARD, NO, YES, YES),
     ("12(a)(1)(A)(ii)*", DAYS_90, FORWARD, NO, YES, YES),
@@ -50,70 +58,44 @@ const TABLE: [(&str, Option<Period>, Option<Direction>, bool, bool, bool); 21] =
     ("order", None, None, YES, NO, YES),
 ];
 
+/// Whether a rule is as its row of the table says.
+fn is_row((name, period, direction, three, responsive, extendable): Row) -> bool {
+    match Rule::read(name) {
+        Some(rule) => {
+            rule.name() == name
+                && rule.period() == period
+                && rule.direction() == direction
+                && rule.adds_three(Method::C) == three
+                && rule.responsive() == responsive
+                && rule.extendable() == extendable
+        }
+        None => false,
+    }
+}
+
 #[test]
-fn the_table(rt: HostRuntime) -> Result<(), Fail> {
-    for (name, period, direction, three, responsive, extendable) in TABLE {
-        let rule = Rule::read(name).ok_or("no rule")?;
-        assert_eq!(rt; rule.name(), name);
-        assert_eq!(rt; rule.period(), period);
-        assert_eq!(rt; rule.direction(), direction);
-        assert_eq!(rt; rule.adds_three(Method::C), three);
-        assert_eq!(rt; rule.responsive(), responsive);
-        assert_eq!(rt; rule.extendable(), extendable);
+fn the_table(rt: HostRuntime) {
+    for row in TABLE {
+        assert!(rt; is_row(row), "{}", row.0);
     }
     assert!(rt; Rule::read("12(a)(1)").is_none());
-    Ok(())
+}
+
+/// Whether a method is named so, and adds three days or not.
+fn is_method(name: &str, adds: bool) -> bool {
+    match Method::read(name) {
+        Some(method) => method.name() == name && Rule::Ordered.adds_three(method) == adds,
+        None => false,
+    }
 }
 
 #[test]
-fn the_methods(rt: HostRuntime) -> Result<(), Fail> {
-    for (name, adds) in [
-        ("rule4", false),
-        ("A", false),
-        ("B", false),
-        ("C", true),
-        ("D", true),
-        ("E", false),
-        ("F", true),
-        ("none", false),
-    ] {
-        let method = Method::read(name).ok_or("no method")?;
-        assert_eq!(rt; method.name(), name);
-        assert_eq!(rt; Rule::Ordered.adds_three(method), adds);
+fn the_methods(rt: HostRuntime) {
+    for name in ["rule4", "A", "B", "E", "none"] {
+        assert!(rt; is_method(name, false), "{name}");
+    }
+    for name in ["C", "D", "F"] {
+        assert!(rt; is_method(name, true), "{name}");
     }
     assert!(rt; Method::read("G").is_none());
-    Ok(())
-}
-
-fn last_day(calendar: &Calendar, name: &str, trigger: &str, method: &str) -> Option<Day> {
-    let trigger = read_day(trigger.as_bytes())?;
-    let rule = Rule::read(name)?;
-    let method = Method::read(method)?;
-    if is_entered(trigger) {
-        rule.end(calendar, trigger, method)
-    } else {
-        None
-    }
-}
-
-#[test]
-fn worked_rows(rt: HostRuntime) -> Result<(), Fail> {
-    let calendar = Calendar::new(rt.alloc());
-    for (name, trigger, method, end) in [
-        ("12(a)(1)(B)", "2025-11-01", "C", "2025-11-28"),
-        ("12(a)(1)(B)", "2025-11-01", "E", "2025-11-24"),
-        ("12(a)(1)(A)(ii)", "2025-03-31", "none", "2025-05-30"),
-        ("12(a)(1)(A)(ii)*", "2025-03-31", "none", "2025-06-30"),
-        ("60(b)", "2024-02-29", "none", "2025-02-28"),
-        ("59(e)", "2024-02-29", "none", "2024-03-28"),
-        ("6(c)(1)", "2025-12-12", "none", "2025-11-28"),
-        ("6(c)(2)", "2025-12-12", "C", "2025-12-05"),
-    ] {
-        assert_eq!(rt;
-            last_day(&calendar, name, trigger, method),
-            read_day(end.as_bytes())
-        );
-    }
-    assert!(rt; last_day(&calendar, "order", "2025-12-12", "C").is_none());
-    Ok(())
 }
