@@ -2,6 +2,7 @@
 use court_days::{Direction, Way, read_day};
 use court_rules::{Act, DayPeriod, MotionKind, Period, Start, acts_ok};
 use std::alloc::{AllocError, Global};
+use std::test::Fail;
 
 /// A period that begins on the day.
 fn start(trigger: &[u8], period: Period, direction: Direction, three_days: bool) -> Option<Act> {
@@ -34,16 +35,13 @@ fn act(word: &str) -> Option<Act> {
     }
 }
 
-/// Whether a deadline may have these acts; none if one has no such name.
-fn are_acts(alloc: Global, words: &str) -> Result<Option<bool>, AllocError> {
+/// Whether a deadline may have these acts; none if one has no such name, or there is no memory.
+fn are_acts(alloc: Global, words: &str) -> Option<bool> {
     let mut acts = Vec::new(alloc);
     for word in words.split_whitespace() {
-        match act(word) {
-            Some(act) => acts.push(act)?,
-            None => return Ok(None),
-        }
+        acts.push(act(word)?).ok()?;
     }
-    Ok(Some(acts_ok(&acts)))
+    Some(acts_ok(&acts))
 }
 
 const LAWFUL: [&str; 5] = [
@@ -74,22 +72,22 @@ const UNLAWFUL: [&str; 14] = [
 #[test]
 fn orders_and_limits(rt: HostRuntime) {
     for words in LAWFUL {
-        assert!(rt; are_acts(rt.alloc(), words) == Ok(Some(true)), "{words}");
+        assert!(rt; are_acts(rt.alloc(), words) == Some(true), "{words}");
     }
     for words in UNLAWFUL {
-        assert!(rt; are_acts(rt.alloc(), words) == Ok(Some(false)), "{words}");
+        assert!(rt; are_acts(rt.alloc(), words) == Some(false), "{words}");
     }
 }
 
-/// Whether a deadline may have so many acts.
-fn are_many(alloc: Global, number: usize) -> Result<Option<bool>, AllocError> {
-    let words = " extend".repeat(alloc, number)?;
-    let words = format!(in alloc; "start{words} vacated")?;
-    are_acts(alloc, &words)
+/// The names of so many acts.
+fn many_acts(alloc: Global, number: usize) -> Result<String, AllocError> {
+    let extensions = "extend ".repeat(alloc, number)?;
+    format!(in alloc; "start {extensions}vacated")
 }
 
 #[test]
-fn a_hundred_acts(rt: HostRuntime) {
-    assert!(rt; are_many(rt.alloc(), 98) == Ok(Some(true)));
-    assert!(rt; are_many(rt.alloc(), 99) == Ok(Some(false)));
+fn a_hundred_acts(rt: HostRuntime) -> Result<(), Fail> {
+    assert!(rt; are_acts(rt.alloc(), &many_acts(rt.alloc(), 98)?) == Some(true));
+    assert!(rt; are_acts(rt.alloc(), &many_acts(rt.alloc(), 99)?) == Some(false));
+    Ok(())
 }

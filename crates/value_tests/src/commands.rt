@@ -1,9 +1,7 @@
-//! Words, moments, and copies of commands.
+//! Words and moments.
 use court_days::{DayKind, Direction, Way};
 use court_rules::{Method, MotionKind};
 use docket_command::*;
-use docket_wire::read_command;
-use std::test::Fail;
 
 /// Whether the value is spelled so, and the spelling read as the value.
 fn is_spelled<W: Word + PartialEq>(value: W, word: &str) -> bool {
@@ -83,26 +81,4 @@ fn moments(rt: HostRuntime) {
         assert!(rt; Moment::new(seconds).is_none(), "{seconds}");
     }
     assert!(rt; Moment::read(b"2025-07-07").is_none());
-}
-
-const IMPORT: &[u8] =
-    b"{\"do\":\"import_calendar\",\"key\":\"c1\",\"rows\":[{\"kind\":\"state\",\"day\":\"2025-11-28\",\"name\":\"Day after Thanksgiving\"}]}";
-
-const VACATION: &[u8] = b"{\"do\":\"vacate\",\"key\":\"c1\",\"case\":1,\"deadline\":1}";
-
-/// Whether a copy of the command is the same, and has that name.
-fn is_copied(command: &Command, name: CommandName) -> bool {
-    match command.copied() {
-        Ok(copy) => command.same(&copy) && copy.action.name() == name,
-        Err(_) => false,
-    }
-}
-
-#[test]
-fn copies(rt: HostRuntime) -> Result<(), Fail> {
-    let import = read_command(rt.alloc(), IMPORT)?;
-    assert!(rt; is_copied(&import, CommandName::ImportCalendar));
-    let vacation = read_command(rt.alloc(), VACATION)?;
-    assert!(rt; !import.same(&vacation));
-    Ok(())
 }

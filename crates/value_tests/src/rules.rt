@@ -2,72 +2,63 @@
 use court_days::Direction;
 use court_rules::*;
 
-const DAYS_7: Option<Period> = Some(Period::Days(7));
-
-const DAYS_14: Option<Period> = Some(Period::Days(14));
-
-const DAYS_21: Option<Period> = Some(Period::Days(21));
-
-const DAYS_28: Option<Period> = Some(Period::Days(28));
-
-const DAYS_60: Option<Period> = Some(Period::Days(60));
-
-const DAYS_90: Option<Period> = Some(Period::Days(90));
-
-const A_YEAR: Option<Period> = Some(Period::Months(12));
-
-const FORWARD: Option<Direction> = Some(Direction::Forward);
-
-const BACKWARD: Option<Direction> = Some(Direction::Backward);
-
-const YES: bool = true;
-
-const NO: bool = false;
-
-/// Name, period, direction, three days, responsive, extendable.
-type Row = (
-    &'static str,
-    Option<Period>,
-    Option<Direction>,
-    bool,
-    bool,
-    bool,
-);
-
-const TABLE: [Row; 21] = [
-    ("12(a)(1)(A)(i)", DAYS_21, FORWARD, NO, YES, YES),
-    ("12(a)(1)(A)(ii)", DAYS_60, FORWARD, NO, YES, YES),
-    ("12(a)(1)(A)(ii)*", DAYS_90, FORWARD, NO, YES, YES),
-    ("12(a)(1)(B)", DAYS_21, FORWARD, YES, YES, YES),
-    ("12(a)(1)(C)", DAYS_21, FORWARD, YES, YES, YES),
-    ("12(a)(2)", DAYS_60, FORWARD, YES, YES, YES),
-    ("12(a)(3)", DAYS_60, FORWARD, YES, YES, YES),
-    ("12(a)(4)(A)", DAYS_14, FORWARD, NO, YES, YES),
-    ("12(a)(4)(B)", DAYS_14, FORWARD, YES, YES, YES),
-    ("12(e)", DAYS_14, FORWARD, NO, NO, YES),
-    ("12(f)(2)", DAYS_21, FORWARD, YES, NO, YES),
-    ("6(c)(1)", DAYS_14, BACKWARD, NO, NO, YES),
-    ("6(c)(2)", DAYS_7, BACKWARD, NO, NO, YES),
-    ("50(b)", DAYS_28, FORWARD, NO, NO, NO),
-    ("50(d)", DAYS_28, FORWARD, NO, NO, NO),
-    ("52(b)", DAYS_28, FORWARD, NO, NO, NO),
-    ("59(b)", DAYS_28, FORWARD, NO, NO, NO),
-    ("59(d)", DAYS_28, FORWARD, NO, NO, NO),
-    ("59(e)", DAYS_28, FORWARD, NO, NO, NO),
-    ("60(b)", A_YEAR, FORWARD, NO, NO, NO),
-    ("order", None, None, YES, NO, YES),
+/// A rule's name, the days of its time, and its marks: whether the time is counted backward, service adds
+/// three days to it, it is that of a responsive pleading, and the court may extend it.
+const TABLE: [(&str, u32, &str); 19] = [
+    ("12(a)(1)(A)(i)", 21, "responsive extendable"),
+    ("12(a)(1)(A)(ii)", 60, "responsive extendable"),
+    ("12(a)(1)(A)(ii)*", 90, "responsive extendable"),
+    ("12(a)(1)(B)", 21, "three responsive extendable"),
+    ("12(a)(1)(C)", 21, "three responsive extendable"),
+    ("12(a)(2)", 60, "three responsive extendable"),
+    ("12(a)(3)", 60, "three responsive extendable"),
+    ("12(a)(4)(A)", 14, "responsive extendable"),
+    ("12(a)(4)(B)", 14, "three responsive extendable"),
+    ("12(e)", 14, "extendable"),
+    ("12(f)(2)", 21, "three extendable"),
+    ("6(c)(1)", 14, "backward extendable"),
+    ("6(c)(2)", 7, "backward extendable"),
+    ("50(b)", 28, ""),
+    ("50(d)", 28, ""),
+    ("52(b)", 28, ""),
+    ("59(b)", 28, ""),
+    ("59(d)", 28, ""),
+    ("59(e)", 28, ""),
 ];
 
-/// Whether a rule is as its row of the table says.
-fn is_row((name, period, direction, three, responsive, extendable): Row) -> bool {
+/// Whether the rule has the marks of these words, and no other.
+fn has_marks(rule: Rule, marks: &str) -> bool {
+    rule.adds_three(Method::C) == marks.contains("three")
+        && rule.responsive() == marks.contains("responsive")
+        && rule.extendable() == marks.contains("extendable")
+}
+
+/// Whether the rule of that name has that time and those marks.
+fn is_row(name: &str, period: Period, marks: &str) -> bool {
+    let direction = if marks.contains("backward") {
+        Direction::Backward
+    } else {
+        Direction::Forward
+    };
     match Rule::read(name) {
         Some(rule) => {
             rule.name() == name
-                && rule.period() == period
-                && rule.direction() == direction
-                && rule.adds_three(Method::C) == three
-                && rule.responsive() == responsive
-                && rule.extendable() == extendable
+                && rule.period() == Some(period)
+                && rule.direction() == Some(direction)
+                && has_marks(rule, marks)
+        }
+        None => false,
+    }
+}
+
+/// Whether the name is that of an order, which has no time of its own, with those marks.
+fn is_order(name: &str, marks: &str) -> bool {
+    match Rule::read(name) {
+        Some(rule) => {
+            rule.name() == name
+                && rule.period().is_none()
+                && rule.direction().is_none()
+                && has_marks(rule, marks)
         }
         None => false,
     }
@@ -75,9 +66,11 @@ fn is_row((name, period, direction, three, responsive, extendable): Row) -> bool
 
 #[test]
 fn the_table(rt: HostRuntime) {
-    for row in TABLE {
-        assert!(rt; is_row(row), "{}", row.0);
+    for (name, days, marks) in TABLE {
+        assert!(rt; is_row(name, Period::Days(days), marks), "{name}");
     }
+    assert!(rt; is_row("60(b)", Period::Months(12), ""));
+    assert!(rt; is_order("order", "three extendable"));
     assert!(rt; Rule::read("12(a)(1)").is_none());
 }
 
