@@ -1,6 +1,6 @@
 //! Tests of the docket in a database: what stands in the tables, what commands and lines are answered, which
 //! databases are taken for a docket's, and runs that stop at a call of a disk in memory, where the next
-//! run goes on from the docket before the command or after it.
+//! run goes on from the docket before the command or after it; and whole jobs over files.
 #![tactic(auto)]
 
 #[cfg(test)]
@@ -11,6 +11,8 @@ mod asking;
 mod crashes;
 #[cfg(test)]
 mod disks;
+#[cfg(test)]
+mod jobs;
 #[cfg(test)]
 mod memory;
 #[cfg(test)]

@@ -1,0 +1,102 @@
+//! A docket that is made, kept and read by one job after the other.
+use super::{Step, folder_with_docket, play};
+use std::fs;
+use std::test::Fail;
+
+const RUN: &str = "docketctl run --db @/court.db";
+
+const CASE: &str = "docketctl case --db @/court.db 1";
+
+/// A case, again under its key, another under that key, one with its label, one that was filed too
+/// early, and one under no key.
+const OPENING: Step<'static> = Step {
+    line: RUN,
+    input: r#"{"caption":"Roe v. Doe","do":"open_case","filed":"2025-06-02","key":"k1","label":"1:25-cv-00001"}
+{"caption":"Roe v. Doe","do":"open_case","filed":"2025-06-02","key":"k1","label":"1:25-cv-00001"}
+{"caption":"Roe v. Poe","do":"open_case","filed":"2025-06-02","key":"k1","label":"1:25-cv-00001"}
+{"caption":"Roe v. Doe","do":"open_case","filed":"2025-06-02","key":"k2","label":"1:25-cv-00001"}
+{"caption":"Roe v. Doe","do":"open_case","filed":"1999-12-31","key":"k3","label":"1:25-cv-00002"}
+{"caption":"Roe v. Doe","do":"open_case","filed":"2025-06-02","key":"","label":"1:25-cv-00002"}
+"#,
+    output: r#"{"number":1}
+{"number":1}
+{"name":"KeyReused","refused":2}
+{"name":"Exists","refused":8}
+{"field":"filed","name":"BadValue","refused":3}
+{"name":"BadKey","refused":1}
+"#,
+    errors: "",
+    status: 1,
+};
+
+const OPENED: Step<'static> = Step {
+    line: CASE,
+    input: "",
+    output: "case 1 1:25-cv-00001 filed 2025-06-02\nRoe v. Doe\n",
+    errors: "",
+    status: 0,
+};
+
+/// No refused line has made a case.
+const NO_OTHER: Step<'static> = Step {
+    line: "docketctl case --db @/court.db 2",
+    input: "",
+    output: "",
+    errors: "no such case\n",
+    status: 1,
+};
+
+const RECORDS: Step<'static> = Step {
+    line: RUN,
+    input: r#"{"do":"add_party","key":"doe","case":1,"name":"Doe","role":"defendant"}
+{"do":"file_entry","key":"complaint","case":1,"day":"2025-06-02","text":"Complaint"}
+{"do":"serve_summons","key":"served","case":1,"party":1,"basis":"private","served":"2025-06-13"}
+"#,
+    output: "{\"number\":1}\n{\"number\":1}\n{\"number\":1}\n",
+    errors: "",
+    status: 0,
+};
+
+const RECORDED: Step<'static> = Step {
+    line: CASE,
+    input: "",
+    output: "case 1 1:25-cv-00001 filed 2025-06-02
+Roe v. Doe
+party 1 defendant Doe
+entry 1 2025-06-02 Complaint
+deadline 1 party 1 12(a)(1)(A)(i) due 2025-07-07 24:00 17:00
+",
+    errors: "",
+    status: 0,
+};
+
+/// Lines that spell no command, and the last one without its end.
+const NO_COMMANDS: Step<'static> = Step {
+    line: RUN,
+    input: "[1]\n{\n{\"do\":\"dance\"}\n{\"do\":\"vacate\",\"key\":\"k\"}",
+    output: r#"{"fault":2,"name":"NotAnObject"}
+{"fault":1,"name":"NotJson"}
+{"fault":3,"name":"UnknownCommand"}
+{"fault":4,"field":"case","name":"MissingField"}
+"#,
+    errors: "",
+    status: 1,
+};
+
+const STEPS: [Step<'static>; 8] = [
+    OPENING,
+    OPENED,
+    NO_OTHER,
+    RECORDS,
+    RECORDED,
+    OPENING,
+    NO_COMMANDS,
+    RECORDED,
+];
+
+#[test]
+fn docket_is_kept_from_job_to_job(rt: HostRuntime) -> Result<(), Fail> {
+    let folder = folder_with_docket(&rt, "cases")?;
+    play(&rt, folder.as_str(), &STEPS)?;
+    Ok(fs::remove_dir_all(&rt, folder.as_str())?)
+}
