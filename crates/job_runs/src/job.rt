@@ -1,7 +1,6 @@
 //! A job, done.
 ghost use Rattle.docket_jobs.specs.Jobs.{IsLimited};
 
-use crate::calendar::tell_calendar;
 use crate::case::tell_case;
 use crate::command::{run_in_file, run_in_memory};
 use crate::create::create_docket;
@@ -49,7 +48,6 @@ pub fn run_job<R: Read, W: Write, E: Write>(
         } => run_in_memory(rt, progress, zone, close, r, w, e),
         Job::Import { file, key } => import_days(rt, file, key, r, w, e),
         Job::Case { file, number } => tell_case(rt, file, number, w, e),
-        Job::Calendar { file, from, to } => tell_calendar(rt, file, from, to, w, e),
         Job::Holidays { year } => tell_holidays(rt.alloc(), year, w, e),
     }
 }

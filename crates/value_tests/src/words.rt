@@ -1,6 +1,5 @@
 //! The words of the command line.
 
-use civil_time::Day;
 use docket_jobs::{Job, read_job};
 use std::alloc::{AllocError, Global};
 
@@ -97,34 +96,8 @@ fn jobs(rt: HostRuntime) {
     }
 }
 
-/// The calendar of days, which are told as days since 1970-01-01.
-fn calendar(from: i32, to: i32) -> Option<Job<'static>> {
-    Some(Job::Calendar {
-        file: "court.db",
-        from: Day::new(from)?,
-        to: Day::new(to)?,
-    })
-}
-
-/// Whether the words of the line ask for the calendar of these days.
-fn asks_for_days(alloc: Global, line: &str, from: i32, to: i32) -> bool {
-    match calendar(from, to) {
-        Some(wanted) => asks_for(alloc, line, wanted) == Ok(true),
-        None => false,
-    }
-}
-
-#[test]
-fn calendars(rt: HostRuntime) {
-    let alloc = rt.alloc();
-    let month = "docketctl calendar --db court.db 2025-07-01 2025-07-31";
-    assert!(rt; asks_for_days(alloc, month, 20_270, 20_300));
-    let day = "docketctl calendar 1980-01-01 1980-01-01 --db=court.db";
-    assert!(rt; asks_for_days(alloc, day, 3652, 3652));
-}
-
 /// What is printed where the words ask for no job, and whether that is a mistake.
-const TEXTS: [(&str, &str, bool); 22] = [
+const TEXTS: [(&str, &str, bool); 19] = [
     ("docketctl --help", "Usage: docketctl [COMMAND]", false),
     ("docketctl --version", "docketctl 0.1.0", false),
     ("docketctl count --help", "forward DAY N", false),
@@ -177,21 +150,6 @@ const TEXTS: [(&str, &str, bool); 22] = [
         "docketctl case --db court.db +1",
         "error: NUMBER is a number from 1 to 4294967295, without a leading zero",
         true,
-    ),
-    (
-        "docketctl calendar --db court.db 2025-07-31 2025-07-01",
-        "error: FROM is after TO",
-        true,
-    ),
-    (
-        "docketctl calendar --db court.db 2025-02-28 2025-02-30",
-        "error: FROM and TO are days from 1980-01-01 to 3999-12-31",
-        true,
-    ),
-    (
-        "docketctl calendar --help",
-        "2025-07-07 24:00 17:00       1    4 12(a)(1)(A)(i)      1",
-        false,
     ),
     (
         "docketctl create --db court.db --zone UTC0",
