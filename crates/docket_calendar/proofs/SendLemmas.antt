@@ -50,7 +50,6 @@ module _ (court : CourtSettings) (listed : List DueRow) where
       ap (λ (rows : List DueRow). flat_map (calendar_line court) rows ++ end_line (length listed)) (sym (ap (λ (k : ℕ). take k listed) (sym is) ∙ take-length listed))
       ∙ ap (λ (k : ℕ). flat_map (calendar_line court) (take n listed) ++ end_line k) is
 
-
   -- what follows the first n lines begins with the text at n
   pub follows : (n : ℕ) (due : Option DueRow) → IsAt listed n due → (rest : List ℕ) × (calendar_text court listed ≡ lines n ++ (text_at court n due ++ rest))
   follows n (Some due) at = line_follows n due at

@@ -30,6 +30,6 @@ module _ {S : Type 0} (g : Ghosts S) (h : History) (from to : ℕ) (front : List
       → Lists g (serving conn court kept) h from to front before after result → Lists g (record { conn = conn; court = court; closed = closed; calendar = kept }) h from to front before after result
   lists_kept conn court kept false result broken lists = lists
   lists_kept conn court kept true result broken lists = elim (broken refl) [
-      | inl none ↦ subst (Lists g (record { conn = conn; court = court; closed = true; calendar = kept }) h from to front before after) (sym none) (subst (Lists g (serving conn court kept) h from to front before after) none lists)
-      | inr part ↦ subst (Lists g (record { conn = conn; court = court; closed = true; calendar = kept }) h from to front before after) (sym part) (subst (Lists g (serving conn court kept) h from to front before after) part lists)
-    ]
+    | inl none ↦ subst (Lists g (record { conn = conn; court = court; closed = true; calendar = kept }) h from to front before after) (sym none) (subst (Lists g (serving conn court kept) h from to front before after) none lists)
+    | inr part ↦ subst (Lists g (record { conn = conn; court = court; closed = true; calendar = kept }) h from to front before after) (sym part) (subst (Lists g (serving conn court kept) h from to front before after) part lists)
+  ]

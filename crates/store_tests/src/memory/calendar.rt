@@ -102,8 +102,24 @@ fn calendars_list_the_times_that_run(rt: HostRuntime) -> Result<(), Fail> {
 #[test]
 fn calendars_follow_what_happens(rt: HostRuntime) -> Result<(), Fail> {
     let alloc = rt.alloc();
-    assert!(rt; lists(alloc, &[HOLIDAY], "2025-11-01", "2025-12-31", AUTUMN_WITH_HOLIDAY)?);
-    assert!(rt; lists(alloc, &[MOTION], "2025-07-01", "2025-07-31", JULY_WITHOUT_ANSWER)?);
+    assert!(rt;
+        lists(
+            alloc,
+            &[HOLIDAY],
+            "2025-11-01",
+            "2025-12-31",
+            AUTUMN_WITH_HOLIDAY
+        )?
+    );
+    assert!(rt;
+        lists(
+            alloc,
+            &[MOTION],
+            "2025-07-01",
+            "2025-07-31",
+            JULY_WITHOUT_ANSWER
+        )?
+    );
     Ok(())
 }
 

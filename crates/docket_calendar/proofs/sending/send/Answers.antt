@@ -7,6 +7,8 @@ pub returns-in-Err : goal.returns-in-Err
 returns-in-Err g c = (refl, front_of_first _ _ c.args.front.now c.args.text.now c.in-Err.ensures.front)
 
 pub returns-in-Err-write_bytes : goal.returns-in-Err-write_bytes
-returns-in-Err-write_bytes g c =
-    (refl, subst (λ (text : List ℕ). HasFront (g.W.Write.contents c.args.writer.now) (g.W.Write.contents c.write_bytes-2.new.writer) (c.args.front.now ++ text)) c.as_bytes.ensures.value
-    (front_of_second _ _ _ c.args.front.now _ c.in-Ok.ensures.whole c.in-Err-write_bytes.ensures.front))
+returns-in-Err-write_bytes g c = (
+  refl,
+  subst (λ (text : List ℕ). HasFront (g.W.Write.contents c.args.writer.now) (g.W.Write.contents c.write_bytes-2.new.writer) (c.args.front.now ++ text)) c.as_bytes.ensures.value
+      (front_of_second _ _ _ c.args.front.now _ c.in-Ok.ensures.whole c.in-Err-write_bytes.ensures.front),
+)

@@ -17,10 +17,12 @@ returns-in-Err-NotBegun-clause-lists g c kept h stands =
     let new = c.calendar.new.conn in
     let writer = c.calendar.new.writer in
     let told = subst (λ (stop : Stop). Tells g.S.Store court h c.args.from c.args.to c.args.front.now (g.W.Write.contents c.args.writer.now) (g.W.Write.contents writer) new (Err stop)) c.in-Err-NotBegun.field-0-is
-    (c.in-Err-NotBegun.ensures.tells h (history_of court h stands.docket) stands.rows) in
-    (asks_failed g.S.Store {X = ℕ} c.read_fault.new.conn court kept h (λ (lines : ℕ). ⊥) c.read_fault.result stands.docket
-    (λ clean. stands.calendar (omega (arith, c.calendar.ensures.clean, c.read_fault.ensures.clean)))
-    (c.read_fault.ensures.left (docket_rows court h) (docket_rows court h) told.0), λ clean. told.1 (omega (arith, c.read_fault.ensures.clean, clean)))
+    (c.in-Err-NotBegun.ensures.tells h (history_of court h stands.docket) stands.rows) in (
+      asks_failed g.S.Store {X = ℕ} c.read_fault.new.conn court kept h (λ (lines : ℕ). ⊥) c.read_fault.result stands.docket
+          (λ clean. stands.calendar (omega (arith, c.calendar.ensures.clean, c.read_fault.ensures.clean)))
+          (c.read_fault.ensures.left (docket_rows court h) (docket_rows court h) told.0),
+      λ clean. told.1 (omega (arith, c.read_fault.ensures.clean, clean)),
+    )
 
 pub returns-in-Err-Broken-clause-lists : goal.returns-in-Err-Broken-clause-lists
 returns-in-Err-Broken-clause-lists g c kept h stands =
@@ -29,10 +31,12 @@ returns-in-Err-Broken-clause-lists g c kept h stands =
     let writer = c.calendar.new.writer in
     let read = c.read_fault-in-Err-Broken in
     let told = subst (λ (stop : Stop). Tells g.S.Store court h c.args.from c.args.to c.args.front.now (g.W.Write.contents c.args.writer.now) (g.W.Write.contents writer) new (Err stop)) c.in-Err-Broken.field-0-is
-    (c.in-Err-Broken.ensures.tells h (history_of court h stands.docket) stands.rows) in
-    (asks_failed g.S.Store {X = ℕ} read.new.conn court kept h (λ (lines : ℕ). ⊥) read.result stands.docket
-    (λ clean. stands.calendar (omega (arith, c.calendar.ensures.clean, read.ensures.clean)))
-    (read.ensures.left (docket_rows court h) (docket_rows court h) told.0), λ clean. told.1 (omega (arith, read.ensures.clean, clean)))
+    (c.in-Err-Broken.ensures.tells h (history_of court h stands.docket) stands.rows) in (
+      asks_failed g.S.Store {X = ℕ} read.new.conn court kept h (λ (lines : ℕ). ⊥) read.result stands.docket
+          (λ clean. stands.calendar (omega (arith, c.calendar.ensures.clean, read.ensures.clean)))
+          (read.ensures.left (docket_rows court h) (docket_rows court h) told.0),
+      λ clean. told.1 (omega (arith, read.ensures.clean, clean)),
+    )
 
 pub returns-in-Err-WriteFailed-clause-lists : goal.returns-in-Err-WriteFailed-clause-lists
 returns-in-Err-WriteFailed-clause-lists g c kept h stands =
