@@ -10,6 +10,7 @@ use Rattle.clap.specs.Simple.{subcommand_of}
 use Rattle.clap.specs.Faults.{fault_of}
 use Rattle.clap.specs.Kinds.{Kinds, or_else}
 use Rattle.clap.specs.declared.error.kind.ErrorKind.TheVariants.{ValueValidation}
+use Rattle.civil_time.specs.DayText.{day_of_text}
 use Rattle.docket_jobs.specs.CommandLine.{docketctl}
 use Rattle.docket_jobs.specs.declared.job.Job.{Job}
 use Rattle.docket_jobs.specs.declared.job.Job.TheVariants as job
@@ -21,6 +22,7 @@ pub data Asked : Type 0 where
   to_run : Option Text → Text → Text → Asked
   to_import : Text → Text → Asked
   to_tell_case : Text → ℕ → Asked
+  to_tell_calendar : Text → ℕ → ℕ → Asked
   to_tell_holidays : ℕ → Asked
 
 abbrev pub asked : Job → Asked
@@ -29,6 +31,7 @@ asked (job.Create file zone close) = to_create file.now zone.now close.now
 asked (job.Run file zone close) = to_run (option_map (λ f. f.now) file) zone.now close.now
 asked (job.Import file key) = to_import file.now key.now
 asked (job.Case file number) = to_tell_case file.now number
+asked (job.Calendar file from to) = to_tell_calendar file.now from to
 asked (job.Holidays year) = to_tell_holidays year
 
 -- 1 to 10 digits, the first of them not 0
@@ -62,6 +65,15 @@ import_asked found = to_import (value_of (codes "db") found) (value_of (codes "k
 abbrev pub case_asked : List Row → Option Asked
 case_asked found = option_map (to_tell_case (value_of (codes "db") found)) (number_of (value_of (codes "number") found))
 
+-- a calendar from a day to one that is not before it
+abbrev pub calendar_if : Text → Option ℕ → Option ℕ → Option Asked
+calendar_if file (Some from) (Some to) = if nat_le from to then Some (to_tell_calendar file from to) else None
+calendar_if file _ _ = None
+
+abbrev pub calendar_asked : List Row → Option Asked
+calendar_asked found =
+    calendar_if (value_of (codes "db") found) (day_of_text (value_of (codes "from") found)) (day_of_text (value_of (codes "to") found))
+
 abbrev pub holidays_asked : List Row → Option Asked
 holidays_asked found = option_map to_tell_holidays (year_of (value_of (codes "year") found))
 
@@ -72,8 +84,9 @@ asked_by name found =
     else (if bytes_eq name (codes "run") then Some (run_asked found)
     else (if bytes_eq name (codes "import") then Some (import_asked found)
     else (if bytes_eq name (codes "case") then case_asked found
+    else (if bytes_eq name (codes "calendar") then calendar_asked found
     else (if bytes_eq name (codes "holidays") then holidays_asked found
-    else Some to_count))))
+    else Some to_count)))))
 
 -- with no subcommand docketctl counts
 abbrev pub asked_in : Option (Text × List Row) → Option Asked

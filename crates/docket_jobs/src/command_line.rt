@@ -2,10 +2,11 @@
 ghost use Rattle.std.specs.Prelude.{◌≡◌, false, IfOk};
 ghost use Rattle.clap.specs.Walk.{rule_of};
 ghost use Rattle.clap.specs.Simple.{new_app};
-ghost use Rattle.docket_jobs.specs.CommandLine.{option_rule, required, with_default, place_rule, HasLine, count_line, create_line, run_line, import_line, case_line, holidays_line, bare_line, docketctl};
+ghost use Rattle.docket_jobs.specs.CommandLine.{option_rule, required, with_default, place_rule, HasLine, count_line, create_line, run_line, import_line, case_line, calendar_line, holidays_line, bare_line, docketctl};
 
 use crate::help::{
-    CASE_HELP, COUNT_HELP, CREATE_HELP, HOLIDAYS_HELP, IMPORT_HELP, PROGRAM_HELP, RUN_HELP,
+    CALENDAR_HELP, CASE_HELP, COUNT_HELP, CREATE_HELP, HOLIDAYS_HELP, IMPORT_HELP, PROGRAM_HELP,
+    RUN_HELP,
 };
 use clap::{Arg, ArgAction, Command};
 use std::alloc::{AllocError, Global};
@@ -157,6 +158,23 @@ fn case_command<'a>(alloc: Global) -> Result<Command<'a>, AllocError>
     .arg(number)
 }
 
+fn calendar_command<'a>(alloc: Global) -> Result<Command<'a>, AllocError>
+    ensures { IfOk result (HasLine calendar_line) }
+{
+    let file = needed_option(alloc, "db", "FILE", FILE_TEXT);
+    let from = place(alloc, "from", "FROM", "The first day, as 2027-01-01");
+    let to = place(alloc, "to", "TO", "The last day");
+    subcommand(
+        alloc,
+        "calendar",
+        "Tell the deadlines that fall due from one day to another",
+        CALENDAR_HELP,
+    )
+    .arg(file)?
+    .arg(from)?
+    .arg(to)
+}
+
 fn holidays_command<'a>(alloc: Global) -> Result<Command<'a>, AllocError>
     ensures { IfOk result (HasLine holidays_line) }
 {
@@ -194,5 +212,6 @@ pub(crate) fn command<'a>(alloc: Global) -> Result<Command<'a>, AllocError>
         .subcommand(run_command(alloc)?)?
         .subcommand(import_command(alloc)?)?
         .subcommand(case_command(alloc)?)?
+        .subcommand(calendar_command(alloc)?)?
         .subcommand(holidays_command(alloc)?)
 }

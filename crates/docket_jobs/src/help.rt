@@ -31,7 +31,8 @@ With no command, docketctl counts. A docket in a file is made, kept and read lik
   docketctl create --db court.db --zone EST5EDT,M3.2.0,M11.1.0 --close 17:00
   docketctl import --db court.db --key holidays-2027 < holidays.csv
   docketctl run --db court.db < commands.jsonl
-  docketctl case --db court.db 1";
+  docketctl case --db court.db 1
+  docketctl calendar --db court.db 2027-01-01 2027-12-31";
 
 pub(crate) const CREATE_HELP: &str = "\
 The file must not hold a docket yet; where there is none it is made. ZONE is as
@@ -93,6 +94,19 @@ NUMBER is from 1 to 4294967295, without a leading zero.
 
 Exit status: 0 the case was told, 1 there is no such case, 2 bad command line, 3 reading, writing,
 memory or the database failed.";
+
+pub(crate) const CALENDAR_HELP: &str = "\
+Each deadline that runs and falls due from FROM to TO, both included, has a line: its day, its time
+of the day and the closing of the clerk's office, the case, the deadline's number there, its rule,
+and the party. A deadline of a day runs to its midnight for electronic filing, and to the closing
+for other filing; one of hours ends at an instant. The last line tells how many there are:
+  docketctl calendar --db court.db 2025-07-01 2025-07-31
+  2025-07-07 10:00 --:--       1    5 order               -
+  2025-07-07 24:00 17:00       1    4 12(a)(1)(A)(i)      1
+  end 2
+FROM and TO are days from 1980-01-01 to 3999-12-31, and TO is not before FROM.
+
+Exit status: 0 the calendar was told, 2 bad command line, 3 writing, memory or the database failed.";
 
 pub(crate) const HOLIDAYS_HELP: &str = "\
 Each holiday has a line: its day, the weekday, and its name. One of a fixed date that falls on a

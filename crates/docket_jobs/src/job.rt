@@ -4,10 +4,12 @@ ghost use Rattle.clap.specs.Kinds.{FailsBy};
 ghost use Rattle.clap.specs.Matches.{found_of};
 ghost use Rattle.clap.specs.Simple.{subcommand_rows_of};
 ghost use Rattle.clap.specs.Walk.{rows_of};
-ghost use Rattle.docket_jobs.specs.Jobs.{IsLimited, asked, asked_by, asked_in, asked_of, case_asked, create_asked, holidays_asked, import_asked, line_faults, run_asked, value_of};
+ghost use Rattle.civil_time.specs.DayText.{day_of_text};
+ghost use Rattle.docket_jobs.specs.Jobs.{IsLimited, asked, asked_by, asked_in, asked_of, calendar_asked, case_asked, create_asked, holidays_asked, import_asked, line_faults, run_asked, value_of};
 
 use crate::command_line::command;
 use crate::number::{read_number, read_year};
+use civil_time::{Day, read_day};
 use clap::error::ErrorKind;
 use clap::{ArgMatches, Error};
 use std::alloc::Global;
@@ -40,6 +42,13 @@ pub enum Job<'a> {
         file: &'a str,
         number: u32,
     },
+    /// `calendar`: tell the deadlines that fall due from one day to another, which is not before it, of
+    /// the docket in a file.
+    Calendar {
+        file: &'a str,
+        from: Day,
+        to: Day,
+    },
     /// `holidays`: tell the statutory holidays of a year from 2000 to 2099.
     Holidays {
         year: u32,
@@ -50,6 +59,8 @@ pub enum Job<'a> {
 #[derive(Drop)]
 enum BadValue {
     Number,
+    Day,
+    Range,
     Year,
 }
 
@@ -57,6 +68,8 @@ impl BadValue {
     fn message(&self) -> &'static str {
         match self {
             BadValue::Number => "NUMBER is a number from 1 to 4294967295, without a leading zero",
+            BadValue::Day => "FROM and TO are days from 1980-01-01 to 3999-12-31, as 2027-04-19",
+            BadValue::Range => "FROM is after TO",
             BadValue::Year => "YEAR is a year from 2000 to 2099",
         }
     }
@@ -111,6 +124,29 @@ fn case_job<'a>(found: &ArgMatches<'a>) -> Result<Job<'a>, BadValue>
     })
 }
 
+fn day(found: &ArgMatches<'_>, id: &str) -> Result<Day, BadValue>
+    ensures { MatchResult result (λ day. day_of_text (value_of id.now (rows_of (found_of found.now))) ≡ Some day)
+        (λ _. day_of_text (value_of id.now (rows_of (found_of found.now))) ≡ None) }
+{
+    read_day(value(found, id).as_bytes()).ok_or(BadValue::Day)
+}
+
+fn calendar_job<'a>(found: &ArgMatches<'a>) -> Result<Job<'a>, BadValue>
+    ensures { MatchResult result (λ job. calendar_asked (rows_of (found_of found.now)) ≡ Some (asked job))
+        (λ _. calendar_asked (rows_of (found_of found.now)) ≡ None) }
+{
+    let from = day(found, "from")?;
+    let to = day(found, "to")?;
+    if to < from {
+        return Err(BadValue::Range);
+    }
+    Ok(Job::Calendar {
+        file: value(found, "db"),
+        from,
+        to,
+    })
+}
+
 fn holidays_job<'a>(found: &ArgMatches<'a>) -> Result<Job<'a>, BadValue>
     ensures limited { IfOk result IsLimited }
     ensures job { MatchResult result (λ job. holidays_asked (rows_of (found_of found.now)) ≡ Some (asked job))
@@ -131,6 +167,7 @@ fn job_by<'a>(name: &str, found: &ArgMatches<'a>) -> Result<Job<'a>, BadValue>
         "run" => Ok(run_job(found)),
         "import" => Ok(import_job(found)),
         "case" => case_job(found),
+        "calendar" => calendar_job(found),
         "holidays" => holidays_job(found),
         _ => Ok(Job::Count),
     }

@@ -29,24 +29,25 @@ fn progress(rt: &HostRuntime) -> Progress {
 /// Does what the words after the program's name ask for, and answers the exit status.
 fn run(rt: &HostRuntime) -> io::Result<Status> {
     let words: Vec<String> = env::args(rt)?.collect(rt.alloc())?;
-    match read_job(rt.alloc(), words.as_slice()) {
-        Ok(job) => Ok(run_job(
-            rt,
-            job,
-            progress(rt),
-            &mut rt.stdin(),
-            &mut rt.stdout(),
-            &mut rt.stderr(),
-        )),
+    let job = match read_job(rt.alloc(), words.as_slice()) {
+        Ok(job) => job,
         Err(error) => {
             error.print(rt)?;
-            Ok(if error.use_stderr() {
+            return Ok(if error.use_stderr() {
                 Status::BadLine
             } else {
                 Status::Done
-            })
+            });
         }
-    }
+    };
+    Ok(run_job(
+        rt,
+        &job,
+        progress(rt),
+        &mut rt.stdin(),
+        &mut rt.stdout(),
+        &mut rt.stderr(),
+    ))
 }
 
 fn main(rt: HostRuntime) -> ExitCode {

@@ -1,6 +1,7 @@
 //! A job, done.
 ghost use Rattle.docket_jobs.specs.Jobs.{IsLimited};
 
+use crate::calendar::tell_calendar;
 use crate::case::tell_case;
 use crate::command::{run_in_file, run_in_memory};
 use crate::create::create_docket;
@@ -23,31 +24,41 @@ fn count<R: Read, W: Write, E: Write>(alloc: Global, r: &mut R, w: &mut W, e: &m
     }
 }
 
+/// Answers commands of the docket in a file, or of a new docket in memory of the court.
+fn run<R: Read, W: Write, E: Write>(
+    rt: &HostRuntime,
+    progress: Progress,
+    file: Option<&str>,
+    zone: &str,
+    close: &str,
+    r: &mut R,
+    w: &mut W,
+    e: &mut E,
+) -> Status {
+    match file {
+        Some(file) => run_in_file(rt, progress, file, r, w, e),
+        None => run_in_memory(rt, progress, zone, close, r, w, e),
+    }
+}
+
 /// Does a job, with `r`, `w` and `e` for the standard input, output and error.
 pub fn run_job<R: Read, W: Write, E: Write>(
     rt: &HostRuntime,
-    job: Job<'_>,
+    job: &Job<'_>,
     progress: Progress,
     r: &mut R,
     w: &mut W,
     e: &mut E,
 ) -> Status
-    requires { IsLimited job }
+    requires { IsLimited job.now }
 {
     match job {
         Job::Count => count(rt.alloc(), r, w, e),
         Job::Create { file, zone, close } => create_docket(rt, file, zone, close, w, e),
-        Job::Run {
-            file: Some(file),
-            ..
-        } => run_in_file(rt, progress, file, r, w, e),
-        Job::Run {
-            file: None,
-            zone,
-            close,
-        } => run_in_memory(rt, progress, zone, close, r, w, e),
+        Job::Run { file, zone, close } => run(rt, progress, *file, zone, close, r, w, e),
         Job::Import { file, key } => import_days(rt, file, key, r, w, e),
-        Job::Case { file, number } => tell_case(rt, file, number, w, e),
-        Job::Holidays { year } => tell_holidays(rt.alloc(), year, w, e),
+        Job::Case { file, number } => tell_case(rt, file, *number, w, e),
+        Job::Calendar { file, from, to } => tell_calendar(rt, file, *from, *to, w, e),
+        Job::Holidays { year } => tell_holidays(rt.alloc(), *year, w, e),
     }
 }

@@ -1,6 +1,7 @@
 //! The jobs of `docketctl`, each over any reader and writers in the place of the standard streams.
 #![tactic(auto)]
 
+mod calendar;
 mod case;
 mod command;
 mod court;

@@ -58,10 +58,10 @@ fn done(
     output: &mut Taker,
     errors: &mut Taker,
 ) -> Status {
-    match read_job(rt.alloc(), words) {
-        Ok(job) => run_job(rt, job, Progress::Untold, input, output, errors),
-        Err(_) => Status::BadLine,
-    }
+    let Ok(job) = read_job(rt.alloc(), words) else {
+        return Status::BadLine;
+    };
+    run_job(rt, &job, Progress::Untold, input, output, errors)
 }
 
 /// A writer that fails after so many writes.

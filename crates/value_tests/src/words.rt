@@ -1,5 +1,6 @@
 //! The words of the command line.
 
+use civil_time::Day;
 use docket_jobs::{Job, read_job};
 use std::alloc::{AllocError, Global};
 
@@ -80,24 +81,69 @@ const JOBS: [(&str, Job<'static>); 12] = [
     ("docketctl holidays 2099", Job::Holidays { year: 2099 }),
 ];
 
+fn is_same(job: &Job<'_>, wanted: &Job<'_>) -> bool {
+    *job == *wanted
+}
+
+/// Whether the words ask for that job.
+fn are_for(alloc: Global, words: &[String], wanted: &Job<'_>) -> bool {
+    let Ok(job) = read_job(alloc, words) else {
+        return false;
+    };
+    is_same(&job, wanted)
+}
+
 /// Whether the words of the line ask for that job.
-fn asks_for(alloc: Global, line: &str, wanted: Job<'_>) -> Result<bool, AllocError> {
-    let words = words_of(alloc, line)?;
-    match read_job(alloc, words.as_slice()) {
-        Ok(job) => Ok(job == wanted),
-        Err(_) => Ok(false),
+fn asks_for(alloc: Global, line: &str, wanted: &Job<'_>) -> bool {
+    match words_of(alloc, line) {
+        Ok(words) => are_for(alloc, words.as_slice(), wanted),
+        Err(_) => false,
     }
+}
+
+/// Whether each line asks for its job.
+fn ask_for(alloc: Global, jobs: &[(&str, Job<'_>)]) -> bool {
+    for (line, wanted) in jobs {
+        if !asks_for(alloc, line, wanted) {
+            return false;
+        }
+    }
+    true
 }
 
 #[test]
 fn jobs(rt: HostRuntime) {
-    for (line, wanted) in JOBS {
-        assert!(rt; asks_for(rt.alloc(), line, wanted) == Ok(true), "{line}");
+    assert!(rt; ask_for(rt.alloc(), &JOBS));
+}
+
+/// The calendar of days, which are told as days since 1970-01-01.
+fn calendar(from: i32, to: i32) -> Option<Job<'static>> {
+    Some(Job::Calendar {
+        file: "court.db",
+        from: Day::new(from)?,
+        to: Day::new(to)?,
+    })
+}
+
+/// Whether the words of the line ask for the calendar of these days.
+fn asks_for_days(alloc: Global, line: &str, from: i32, to: i32) -> bool {
+    match calendar(from, to) {
+        Some(wanted) => asks_for(alloc, line, &wanted),
+        None => false,
     }
 }
 
+#[test]
+fn calendars(rt: HostRuntime) {
+    let alloc = rt.alloc();
+    let month = "docketctl calendar --db court.db 2025-07-01 2025-07-31";
+    assert!(rt; asks_for_days(alloc, month, 20_270, 20_300));
+    let day = "docketctl calendar 1980-01-01 1980-01-01 --db=court.db";
+    assert!(rt; asks_for_days(alloc, day, 3652, 3652));
+}
+
 /// What is printed where the words ask for no job, and whether that is a mistake.
-const TEXTS: [(&str, &str, bool); 19] = [
+const TEXTS: [(&str, &str, bool); 22] = [
     ("docketctl --help", "Usage: docketctl [COMMAND]", false),
     ("docketctl --version", "docketctl 0.1.0", false),
     ("docketctl count --help", "forward DAY N", false),
@@ -150,6 +196,21 @@ const TEXTS: [(&str, &str, bool); 19] = [
         "docketctl case --db court.db +1",
         "error: NUMBER is a number from 1 to 4294967295, without a leading zero",
         true,
+    ),
+    (
+        "docketctl calendar --db court.db 2025-07-31 2025-07-01",
+        "error: FROM is after TO",
+        true,
+    ),
+    (
+        "docketctl calendar --db court.db 2025-02-28 2025-02-30",
+        "error: FROM and TO are days from 1980-01-01 to 3999-12-31",
+        true,
+    ),
+    (
+        "docketctl calendar --help",
+        "2025-07-07 24:00 17:00       1    4 12(a)(1)(A)(i)      1",
+        false,
     ),
     (
         "docketctl create --db court.db --zone UTC0",

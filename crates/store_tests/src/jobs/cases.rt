@@ -70,6 +70,14 @@ deadline 1 party 1 12(a)(1)(A)(i) due 2025-07-07 24:00 17:00
     status: 0,
 };
 
+const CALENDAR: Step<'static> = Step {
+    line: "docketctl calendar --db @/court.db 2025-07-01 2025-07-31",
+    input: "",
+    output: "2025-07-07 24:00 17:00       1    1 12(a)(1)(A)(i)      1\nend 1\n",
+    errors: "",
+    status: 0,
+};
+
 /// Lines that spell no command, and the last one without its end.
 const NO_COMMANDS: Step<'static> = Step {
     line: RUN,
