@@ -25,4 +25,4 @@ pub use listing::{CalendarEnd, ListingEnd};
 pub use recovering::{RecoverFault, apply_again, recover};
 pub use reopening::{power_failures_leave_dockets, reopen, reopen_from, stop};
 pub use returned::Returned;
-pub use sequence::apply_all;
+pub use sequence::{answer, apply_all};

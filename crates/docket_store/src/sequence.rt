@@ -1,5 +1,5 @@
 //! Commands in order, each in a transaction of its own.
-ghost use Rattle.std.specs.Prelude.{◌≡◌, ◌≤◌, IfOk, IfErr};
+ghost use Rattle.std.specs.Prelude.{◌≡◌, ◌≤◌, IfOk, IfErr, true};
 ghost use Rattle.sqlite.specs.Held.{state};
 ghost use Rattle.sqlite.specs.View.{doubt};
 ghost use Rattle.docket_core.specs.Histories.{History};
@@ -12,12 +12,13 @@ use docket_command::{Command, Refusal, Reply};
 use sqlite::Alter;
 use std::alloc::Global;
 
-/// The reply to a command, or its refusal.
-fn answer<S: Alter>(
+/// The reply to a command, or its refusal: a refusal is an answer, and no fault of the docket.
+pub fn answer<S: Alter>(
     docket: &mut Docket<S>,
     command: &Command,
 ) -> Result<Result<Reply, Refusal>, Fault>
     ensures court { docket.new.court ≡ docket.old.court }
+    ensures closed { docket.old.closed ≡ true → docket.new ≡ docket.old }
     ensures clean { doubt (state S.Store docket.old.conn).is_clean ≤ doubt (state S.Store docket.new.conn).is_clean }
     ensures answer { (h : History) → Stands S.Store docket.old h → IfOk result (Answers S.Store docket.new h command.now) }
     ensures halts { (h : History) → Stands S.Store docket.old h → IfErr result (Halts S.Store docket.new h command.now) }

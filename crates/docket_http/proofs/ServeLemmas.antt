@@ -1,0 +1,191 @@
+-- From the writing of a reply to what a connection is served.
+use Rattle.std.proofs.Common.{◌≡◌, ◌+◌, ◌++◌, [], inl, inr, ℕ, List, Option, Some, None, Result, Ok, Err, IfOk, IfErr, length, take, take_at, length-append, append-nil, refl, sym, ap, subst, ◌∙◌, arith}
+use Rattle.std.specs.Io.KnownBytes.{Appends}
+use Rattle.sqlite.specs.Store.{Ghosts}
+use Rattle.sqlite.specs.State.{HasCleanDisk}
+use Rattle.sqlite.specs.Held.{state}
+use Rattle.court_days.specs.Court.{CourtSettings}
+use Rattle.docket_calendar.specs.Calendar.{text_of_calendar}
+use Rattle.docket_core.specs.Histories.{History}
+use Rattle.docket_store.specs.Applying.{Stands}
+use Rattle.docket_store.specs.Dockets.{Docket}
+use Rattle.docket_store.specs.Listing.{Lists}
+use Rattle.docket_store.specs.declared.fault.Fault.{Fault}
+use Rattle.docket_store.specs.declared.fault.Fault.TheVariants as fault
+use Rattle.docket_store.specs.declared.listing.ListingEnd.TheVariants as listing
+use Rattle.line_io.specs.Output.{AppendsFront, HasFront}
+use Rattle.http_request.specs.declared.wish.Wish.{Wish}
+use Rattle.http_request.specs.declared.wish.Wish.TheVariants.{Calendar}
+use Rattle.docket_http.specs.Answer.{response_bytes, problem_response, head_bytes, open_text}
+use Rattle.docket_http.specs.Asking.{problem_of_fault}
+use Rattle.docket_http.specs.Reply.{reply_bytes, reply_status}
+use Rattle.docket_http.specs.Serve.{IsServed, IsCut, IsBroken, IsAsked, Serves, Fails, fault_of_broken}
+use Rattle.docket_http.specs.declared.head.Form.TheVariants.{OpenText}
+use Rattle.docket_http.specs.declared.problem.Problem.{Problem}
+use Rattle.docket_http.specs.declared.problem.Problem.TheVariants.{NoMemory}
+use Rattle.docket_http.specs.declared.reply.Reply.{Reply}
+use Rattle.docket_http.specs.declared.reply.Reply.TheVariants.{Fixed}
+use Rattle.docket_http.specs.declared.fault.ServeFault.{ServeFault}
+use Rattle.docket_http.specs.declared.fault.ServeFault.TheVariants as serve
+use Rattle.docket_http.specs.declared.sending.Served.{Served}
+use Rattle.docket_http.proofs.AskingLemmas.{Tells, problem_told, asked_replied, either_from_lasts}
+
+front_of : (a b : Option (List ℕ)) (text : List ℕ) → HasFront a b text → AppendsFront a b text
+front_of a b text f =
+    let size : length text ≡ length f.out + length f.lost = ap length f.whole ∙ length-append f.out f.lost in
+    record {
+      count = length f.out;
+      within = omega (arith, size);
+      front = subst (λ (x : List ℕ). Appends a b x) (sym (ap (λ t. take (length f.out) t) f.whole ∙ take_at f.out f.lost (length f.out) refl)) f.appends;
+    }
+
+-- what comes behind nothing
+nothing_appends : (a b c : Option (List ℕ)) (x : List ℕ) → Appends a b [] → Appends b c x → Appends a c x
+nothing_appends None b c x k h = tt
+nothing_appends (Some p) None c x k h = absurd k
+nothing_appends (Some p) (Some q) None x k h = absurd h
+nothing_appends (Some p) (Some q) (Some r) x k h = h ∙ ap (λ z. z ++ x) (k ∙ append-nil p)
+
+nothing_front : (a b c : Option (List ℕ)) (x : List ℕ) → Appends a b [] → AppendsFront b c x → AppendsFront a c x
+nothing_front a b c x k f = record { count = f.count; within = f.within; front = nothing_appends a b c (take f.count x) k f.front }
+
+module _ {S : Type 0} (g : Ghosts S) where
+  -- a reply that went out
+  pub served_by : (d : Docket S) (h : History) (wish : Wish) (body : List ℕ) (reply : Reply) (o n : Option (List ℕ)) (status : ℕ) → Tells g d h wish body reply
+      → Appends o n (reply_bytes reply) → status ≡ reply_status reply → IsServed g d h wish body o n status
+  served_by d h wish body reply o n status tells written coded = record {
+    response = tells.0;
+    answered = tells.2;
+    written = subst (λ (b : List ℕ). Appends o n b) tells.1.0 written;
+    status_told = coded ∙ tells.1.1;
+  }
+
+  pub cut_by : (d : Docket S) (h : History) (wish : Wish) (body : List ℕ) (reply : Reply) (o n : Option (List ℕ)) → Tells g d h wish body reply
+      → AppendsFront o n (reply_bytes reply) → IsCut g d h wish body o n
+  cut_by d h wish body reply o n tells front = record {
+    response = tells.0;
+    answered = tells.2;
+    front = subst (λ (b : List ℕ). AppendsFront o n b) tells.1.0 front;
+  }
+
+  -- the writing of a reply that is what is told, whatever the history
+  pub sent_whole : (d old : Docket S) (r : Result Served ServeFault) (wish : Wish) (reply : Reply) (o m n : Option (List ℕ))
+      → ((h : History) (body : List ℕ) → Stands g old h → HasCleanDisk (state g d.conn) → Tells g d h wish body reply × Appends o m [])
+      → IfOk r (λ s. Appends m n (reply_bytes reply) × (s.status ≡ reply_status reply))
+      → IfOk r (λ s. (h : History) (body : List ℕ) → Stands g old h → HasCleanDisk (state g d.conn) → IsServed g d h wish body o n s.status)
+  sent_whole d old (Err e) wish reply o m n tells whole = tt
+  sent_whole d old (Ok s) wish reply o m n tells whole = λ h body stands clean.
+      let t = tells h body stands clean in
+      served_by d h wish body reply o n s.status t.0 (nothing_appends o m n (reply_bytes reply) t.1 whole.0) whole.1
+
+  pub sent_cut : (d old : Docket S) (r : Result Served ServeFault) (wish : Wish) (reply : Reply) (o m n : Option (List ℕ))
+      → ((h : History) (body : List ℕ) → Stands g old h → HasCleanDisk (state g d.conn) → Tells g d h wish body reply × Appends o m [])
+      → IfErr r (λ e. (e ≡ serve.WriteFailed) × AppendsFront m n (reply_bytes reply))
+      → IfErr r (λ e. (h : History) (body : List ℕ) → Stands g old h → HasCleanDisk (state g d.conn) → IsBroken g d h wish body o n e)
+  sent_cut d old (Ok s) wish reply o m n tells front = tt
+  sent_cut d old (Err e) wish reply o m n tells front = λ h body stands clean.
+      let t = tells h body stands clean in
+      subst (λ (x : ServeFault). IsBroken g d h wish body o n x) (sym front.0) (cut_by d h wish body reply o n t.0 (nothing_front o m n (reply_bytes reply) t.1 front.1))
+
+  -- the same for one body
+  pub reply_whole : (d old : Docket S) (r : Result Served ServeFault) (wish : Wish) (body : List ℕ) (reply : Reply) (o n : Option (List ℕ))
+      → ((h : History) → Stands g old h → HasCleanDisk (state g d.conn) → Tells g d h wish body reply)
+      → IfOk r (λ s. Appends o n (reply_bytes reply) × (s.status ≡ reply_status reply))
+      → IfOk r (λ s. (h : History) → Stands g old h → HasCleanDisk (state g d.conn) → IsServed g d h wish body o n s.status)
+  reply_whole d old (Err e) wish body reply o n tells whole = tt
+  reply_whole d old (Ok s) wish body reply o n tells whole = λ h stands clean. served_by d h wish body reply o n s.status (tells h stands clean) whole.0 whole.1
+
+  pub reply_cut : (d old : Docket S) (r : Result Served ServeFault) (wish : Wish) (body : List ℕ) (reply : Reply) (o n : Option (List ℕ))
+      → ((h : History) → Stands g old h → HasCleanDisk (state g d.conn) → Tells g d h wish body reply)
+      → IfErr r (λ e. (e ≡ serve.WriteFailed) × AppendsFront o n (reply_bytes reply))
+      → IfErr r (λ e. (h : History) → Stands g old h → HasCleanDisk (state g d.conn) → IsBroken g d h wish body o n e)
+  reply_cut d old (Ok s) wish body reply o n tells front = tt
+  reply_cut d old (Err e) wish body reply o n tells front = λ h stands clean.
+      subst (λ (x : ServeFault). IsBroken g d h wish body o n x) (sym front.0) (cut_by d h wish body reply o n (tells h stands clean) front.1)
+
+  -- a calendar that was asked for
+  pub calendar_whole : (d old : Docket S) (r : Result Served ServeFault) (a b : Wish) (body : List ℕ) (o n : Option (List ℕ)) → b ≡ a
+      → IfOk r (λ s. (h : History) (body : List ℕ) → Stands g old h → HasCleanDisk (state g d.conn) → IsServed g d h a body o n s.status)
+      → IfOk r (λ s. (h : History) → Stands g old h → HasCleanDisk (state g d.conn) → IsServed g d h b body o n s.status)
+  calendar_whole d old (Err e) a b body o n same whole = tt
+  calendar_whole d old (Ok s) a b body o n same whole = λ h stands clean. subst (λ (w : Wish). IsServed g d h w body o n s.status) (sym same) (whole h body stands clean)
+
+  pub calendar_fails : (d old : Docket S) (r : Result Served ServeFault) (a b : Wish) (body : List ℕ) (o n : Option (List ℕ)) → b ≡ a
+      → IfErr r (λ e. (h : History) (body : List ℕ) → Stands g old h → HasCleanDisk (state g d.conn) → IsBroken g d h a body o n e)
+      → IfErr r (λ e. (h : History) → Stands g old h → HasCleanDisk (state g d.conn) → IsBroken g d h b body o n e)
+  calendar_fails d old (Ok s) a b body o n same fails = tt
+  calendar_fails d old (Err e) a b body o n same fails = λ h stands clean. subst (λ (w : Wish). IsBroken g d h w body o n e) (sym same) (fails h body stands clean)
+
+  -- a request that was read
+  pub read_whole : (d old : Docket S) (r : Result Served ServeFault) (input : Option (List ℕ)) (wish : Wish) (body : List ℕ) (o n : Option (List ℕ)) → IsAsked g input wish body
+      → IfOk r (λ s. (h : History) → Stands g old h → HasCleanDisk (state g d.conn) → IsServed g d h wish body o n s.status)
+      → IfOk r (λ s. (h : History) → Stands g old h → HasCleanDisk (state g d.conn) → Serves g input old d h o n s.status)
+  read_whole d old (Err e) input wish body o n asked whole = tt
+  read_whole d old (Ok s) input wish body o n asked whole = λ h stands clean. inl (wish, body, asked, whole h stands clean)
+
+  read_broken : (d old : Docket S) (e : ServeFault) (h : History) (input : Option (List ℕ)) (wish : Wish) (body : List ℕ) (o n : Option (List ℕ)) → IsAsked g input wish body
+      → IsBroken g d h wish body o n e → Fails g input old d h o n e
+  read_broken d old serve.ReadFailed h input wish body o n asked is = absurd is
+  read_broken d old serve.EndedEarly h input wish body o n asked is = absurd is
+  read_broken d old serve.WriteFailed h input wish body o n asked is = inl (wish, body, asked, is)
+  read_broken d old serve.NoMemory h input wish body o n asked is = (wish, body, asked, is)
+  read_broken d old serve.StoreFailed h input wish body o n asked is = (wish, body, asked, is)
+
+  pub read_fails : (d old : Docket S) (r : Result Served ServeFault) (input : Option (List ℕ)) (wish : Wish) (body : List ℕ) (o n : Option (List ℕ)) → IsAsked g input wish body
+      → IfErr r (λ e. (h : History) → Stands g old h → HasCleanDisk (state g d.conn) → IsBroken g d h wish body o n e)
+      → IfErr r (λ e. (h : History) → Stands g old h → HasCleanDisk (state g d.conn) → Fails g input old d h o n e)
+  read_fails d old (Ok s) input wish body o n asked fails = tt
+  read_fails d old (Err e) input wish body o n asked fails = λ h stands clean. read_broken d old e h input wish body o n asked (fails h stands clean)
+
+  -- memory was short before the request was read
+  pub unread_whole : (old : Docket S) (r : Result Served ServeFault) (input : Option (List ℕ)) (o n : Option (List ℕ))
+      → IfOk r (λ s. Appends o n (response_bytes (problem_response NoMemory)) × (s.status ≡ 500))
+      → IfOk r (λ s. (h : History) → Stands g old h → HasCleanDisk (state g old.conn) → Serves g input old old h o n s.status)
+  unread_whole old (Err e) input o n whole = tt
+  unread_whole old (Ok s) input o n whole = λ h stands clean. inr (record { same = refl; written = whole.0; status_told = whole.1 })
+
+  pub unread_fails : (old : Docket S) (r : Result Served ServeFault) (input : Option (List ℕ)) (o n : Option (List ℕ))
+      → IfErr r (λ e. (e ≡ serve.WriteFailed) × AppendsFront o n (response_bytes (problem_response NoMemory)))
+      → IfErr r (λ e. (h : History) → Stands g old h → HasCleanDisk (state g old.conn) → Fails g input old old h o n e)
+  unread_fails old (Ok s) input o n front = tt
+  unread_fails old (Err e) input o n front = λ h stands clean. subst (λ (x : ServeFault). Fails g input old old h o n x) (sym front.0) (inr (refl, front.1))
+
+  pub calendar_told : (d : Docket S) (h : History) (from to : ℕ) (body front : List ℕ) (o m : Option (List ℕ)) (f : Fault) (p : Problem) → p ≡ problem_of_fault f
+      → Lists g d h from to front o m (Err (listing.NotBegun f)) → HasCleanDisk (state g d.conn) → Tells g d h (Calendar from to) body (Fixed p) × Appends o m []
+  calendar_told d h from to body front o m f p e lists clean =
+      (problem_told g d h (Calendar from to) body f p e (asked_replied g d h (Calendar from to) body f (λ (lines : ℕ). ⊥) refl refl refl lists.0) clean, lists.1 clean)
+
+  -- the bytes of a calendar's answer
+  calendar_bytes : (court : CourtSettings) (h : History) (from to : ℕ) (front : List ℕ) → ((len : ℕ) → front ≡ head_bytes 200 OpenText len)
+      → front ++ text_of_calendar court h from to ≡ response_bytes (open_text (text_of_calendar court h from to))
+  calendar_bytes court h from to front head = ap (λ x. x ++ text_of_calendar court h from to) (head (length (text_of_calendar court h from to)))
+
+  pub calendar_served : (d : Docket S) (h : History) (from to : ℕ) (body front : List ℕ) (o n : Option (List ℕ)) (lines : ℕ)
+      → ((len : ℕ) → front ≡ head_bytes 200 OpenText len) → Lists g d h from to front o n (Ok lines) → HasCleanDisk (state g d.conn)
+      → IsServed g d h (Calendar from to) body o n 200
+  calendar_served d h from to body front o n lines head lists clean = record {
+    response = open_text (text_of_calendar d.court h from to);
+    answered = record { problem = None; is = refl; left = lists.0 };
+    written = subst (λ (b : List ℕ). Appends o n b) (calendar_bytes d.court h from to front head) (lists.1 clean).0;
+    status_told = refl;
+  }
+
+  pub calendar_cut : (d : Docket S) (h : History) (from to : ℕ) (body front : List ℕ) (o n : Option (List ℕ))
+      → ((len : ℕ) → front ≡ head_bytes 200 OpenText len) → Lists g d h from to front o n (Err listing.WriteFailed) → HasCleanDisk (state g d.conn)
+      → IsCut g d h (Calendar from to) body o n
+  calendar_cut d h from to body front o n head lists clean = record {
+    response = open_text (text_of_calendar d.court h from to);
+    answered = record { problem = None; is = refl; left = lists.0 };
+    front = subst (λ (b : List ℕ). AppendsFront o n b) (calendar_bytes d.court h from to front head) (front_of o n _ (lists.1 clean));
+  }
+
+  pub calendar_broken : (d : Docket S) (h : History) (from to : ℕ) (body front : List ℕ) (o n : Option (List ℕ)) (f : Fault)
+      → ((len : ℕ) → front ≡ head_bytes 200 OpenText len) → Lists g d h from to front o n (Err (listing.Broken f)) → HasCleanDisk (state g d.conn)
+      → IsBroken g d h (Calendar from to) body o n (fault_of_broken f)
+  calendar_broken d h from to body front o n fault.NoMemory head lists clean =
+      ((refl, inl lists.0), subst (λ (b : List ℕ). AppendsFront o n b) (calendar_bytes d.court h from to front head) (front_of o n _ (lists.1 clean)), λ built. built)
+  calendar_broken d h from to body front o n fault.StoreFailed head lists clean =
+      ((refl, either_from_lasts g d h lists.0), subst (λ (b : List ℕ). AppendsFront o n b) (calendar_bytes d.court h from to front head) (front_of o n _ (lists.1 clean)), λ built. built)
+  calendar_broken d h from to body front o n fault.Damaged head lists clean = absurd (lists.0 clean)
+  calendar_broken d h from to body front o n fault.Closed head lists clean = absurd lists.0
+  calendar_broken d h from to body front o n (fault.Refused r) head lists clean = absurd lists.0

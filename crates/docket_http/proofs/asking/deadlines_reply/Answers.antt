@@ -1,0 +1,18 @@
+use Rattle.std.proofs.Common.{◌∙◌, sym, ap, Some}
+use Rattle.std.specs.Option.{option_map}
+use Rattle.docket_http.proofs.AskingLemmas.{deadlines_replied, unknown_deadlines}
+use Rattle.docket_http.proofs.asking.deadlines_reply.Goals as goal
+
+pub returns-in_ok-told_deadlines-in-Some-clause-replies : goal.returns-in_ok-told_deadlines-in-Some-clause-replies
+returns-in_ok-told_deadlines-in-Some-clause-replies g c h body stands =
+    let asked = c.in_ok-lines.ensures.answer h stands in
+    deadlines_replied g.S.Store c.deadlines.new.self h c.args.number body c.deref.result.now c.court.result.now c.args.docket.now.court
+    c.in_ok-told_deadlines-in-Some.field-0 asked.0 c.court.ensures c.in_ok-lines.ensures.court
+    (λ clean. ap (λ xs. Some xs) c.deref.ensures.value ∙ ap (option_map (λ lines. lines.items)) (sym c.in-Some.is) ∙ asked.1 clean)
+    c.in_ok-told_deadlines-in-Some.ensures
+
+pub returns-in-None-clause-replies : goal.returns-in-None-clause-replies
+returns-in-None-clause-replies g c h body stands =
+    let asked = c.in_ok-lines.ensures.answer h stands in
+    unknown_deadlines g.S.Store c.deadlines.new.self h c.args.number body c.args.docket.now.court asked.0 c.in_ok-lines.ensures.court
+    (λ clean. ap (option_map (λ lines. lines.items)) (sym c.in-None.is) ∙ asked.1 clean)

@@ -1,0 +1,25 @@
+use Rattle.std.proofs.Common.{◌∙◌, ℕ, sym, ap, refl, Some}
+use Rattle.std.specs.Option.{option_map}
+use Rattle.http_request.specs.declared.wish.Wish.TheVariants.{Case}
+use Rattle.docket_http.proofs.AskingLemmas.{case_replied, case_missing, clean_before, asked_replied, passed_on}
+use Rattle.docket_http.proofs.asking.found_reply.Goals as goal
+
+pub returns-in_ok-told_case-in-Some-clause-replies : goal.returns-in_ok-told_case-in-Some-clause-replies
+returns-in_ok-told_case-in-Some-clause-replies g c h body stands recorded =
+    let asked = c.in_ok-lines.ensures.answer h stands in
+    case_replied g.S.Store c.deadlines.new.self h c.args.number body c.args.case.now c.deref.result.now c.court.result.now c.args.docket.now.court
+    c.in_ok-told_case-in-Some.field-0 asked.0 c.court.ensures c.in_ok-lines.ensures.court
+    (λ clean. ap (λ xs. Some xs) c.deref.ensures.value ∙ ap (option_map (λ lines. lines.items)) (sym c.in-Some.is) ∙ asked.1 clean)
+    (λ clean. recorded (clean_before _ _ c.in_ok-lines.ensures.clean clean))
+    c.in_ok-told_case-in-Some.ensures
+
+pub returns-in-None-clause-replies : goal.returns-in-None-clause-replies
+returns-in-None-clause-replies g c h body stands recorded =
+    let asked = c.in_ok-lines.ensures.answer h stands in
+    case_missing g.S.Store c.deadlines.new.self h c.args.number body c.args.docket.now.court asked.0 c.in_ok-lines.ensures.court
+    (λ clean. ap (option_map (λ lines. lines.items)) (sym c.in-None.is) ∙ asked.1 clean)
+
+pub returns-in_err-lines-clause-replies : goal.returns-in_err-lines-clause-replies
+returns-in_err-lines-clause-replies g c h body stands recorded =
+    passed_on g.S.Store c.deadlines.new.self h (Case c.args.number) body c.from_residual.result _ c.from_residual.ensures.1
+    (asked_replied g.S.Store c.deadlines.new.self h (Case c.args.number) body _ (λ (n : ℕ). ⊥) refl refl refl (c.in_err-lines.ensures.answer h stands))

@@ -1,0 +1,13 @@
+use Rattle.http_request.specs.declared.wish.Wish.TheVariants.{Command}
+use Rattle.docket_http.proofs.AskingLemmas.{said_replied, halted_replied, passed_on}
+use Rattle.docket_http.proofs.commands.applied_reply.Goals as goal
+
+pub returns-clause-replies : goal.returns-clause-replies
+returns-clause-replies g c h len body stands spells =
+    said_replied g.S.Store c.answer.new.docket h c.args.command.now c.in_ok-said.said len body c.in_ok-json_reply.field-0 _ _
+    (c.in_ok-said.ensures.answer h stands) spells c.status_of.ensures c.in_ok-text.ensures c.in_ok-json_reply.ensures
+
+pub returns-in_err-said-clause-replies : goal.returns-in_err-said-clause-replies
+returns-in_err-said-clause-replies g c h len body stands spells =
+    passed_on g.S.Store c.answer.new.docket h (Command len) body c.from_residual.result _ c.from_residual.ensures.1
+    (halted_replied g.S.Store c.answer.new.docket h c.args.command.now _ len body spells (c.in_err-said.ensures.halts h stands))

@@ -1,0 +1,85 @@
+-- The bytes of an answer: a status line and two or three fields, each ended by CR LF, an empty line, and the body.
+use Rattle.std.specs.Prelude.{ℕ, List, [], ◌∷◌, ◌++◌, length, codes, decimal}
+use Rattle.http.specs.StatusCode.{status_text}
+use Rattle.http_request.specs.declared.fields.Rejection.{Rejection}
+use Rattle.http_request.specs.declared.fields.Rejection.TheVariants.{HeadTooLong, BadHead, NotFound, Method, BadPathValue, LengthRequired, TooLong}
+use Rattle.docket_http.specs.declared.head.Form.{Form}
+use Rattle.docket_http.specs.declared.head.Form.TheVariants.{Json, Text, OpenText}
+use Rattle.docket_http.specs.declared.problem.Problem.{Problem}
+use Rattle.docket_http.specs.declared.problem.Problem.TheVariants.{Rejected, NoSuchCase, NoMemory, Store, Closed, Damaged}
+
+abbrev pub type_of : Form → List ℕ
+type_of Json = codes "application/json"
+type_of Text = codes "text/plain; charset=utf-8"
+type_of OpenText = codes "text/plain; charset=utf-8"
+
+-- the line of the length; an answer that ends with the connection has none
+abbrev pub length_line : Form → ℕ → List ℕ
+length_line Json len = codes "content-length: " ++ (decimal len ++ codes "\r\n")
+length_line Text len = codes "content-length: " ++ (decimal len ++ codes "\r\n")
+length_line OpenText len = []
+
+abbrev pub head_bytes : ℕ → Form → ℕ → List ℕ
+head_bytes status form len =
+    codes "HTTP/1.1 " ++ (status_text status
+    ++ (codes "\r\ncontent-type: " ++ (type_of form
+    ++ (codes "\r\n" ++ (length_line form len
+    ++ codes "connection: close\r\n\r\n")))))
+
+-- an answer
+pub record Response : Type 0 where
+  pub status : ℕ
+  pub form : Form
+  pub body : List ℕ
+
+abbrev pub response_bytes : Response → List ℕ
+response_bytes r = head_bytes r.status r.form (length r.body) ++ r.body
+
+-- JSON ends with a line feed
+abbrev pub json : ℕ → List ℕ → Response
+json status text = record { status = status; form = Json; body = text ++ 10 ∷ [] }
+
+abbrev pub text : List ℕ → Response
+text body = record { status = 200; form = Text; body = body }
+
+-- its end is told by the end of the connection
+abbrev pub open_text : List ℕ → Response
+open_text body = record { status = 200; form = OpenText; body = body }
+
+abbrev pub rejection_status : Rejection → ℕ
+rejection_status HeadTooLong = 431
+rejection_status BadHead = 400
+rejection_status NotFound = 404
+rejection_status Method = 405
+rejection_status BadPathValue = 400
+rejection_status LengthRequired = 411
+rejection_status TooLong = 413
+
+abbrev pub rejection_word : Rejection → List ℕ
+rejection_word HeadTooLong = codes "head-too-long"
+rejection_word BadHead = codes "bad-head"
+rejection_word NotFound = codes "not-found"
+rejection_word Method = codes "method"
+rejection_word BadPathValue = codes "bad-path-value"
+rejection_word LengthRequired = codes "length-required"
+rejection_word TooLong = codes "too-long"
+
+abbrev pub problem_status : Problem → ℕ
+problem_status (Rejected rejection) = rejection_status rejection
+problem_status NoSuchCase = 404
+problem_status NoMemory = 500
+problem_status Store = 503
+problem_status Closed = 503
+problem_status Damaged = 503
+
+abbrev pub problem_word : Problem → List ℕ
+problem_word (Rejected rejection) = rejection_word rejection
+problem_word NoSuchCase = codes "no-such-case"
+problem_word NoMemory = codes "no-memory"
+problem_word Store = codes "store"
+problem_word Closed = codes "closed"
+problem_word Damaged = codes "damaged"
+
+-- {"error":"not-found"}
+abbrev pub problem_response : Problem → Response
+problem_response p = json (problem_status p) (codes "{\"error\":\"" ++ problem_word p ++ codes "\"}")

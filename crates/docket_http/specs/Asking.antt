@@ -1,0 +1,133 @@
+-- What a request is answered, and what it leaves of the docket.
+use Rattle.std.specs.Prelude.{◌≡◌, ◌⊎◌, ℕ, Bool, true, false, IsTrue, List, Option, Some, None, Result, Ok, Err}
+use Rattle.sqlite.specs.Store.{Ghosts}
+use Rattle.sqlite.specs.State.{HasCleanDisk}
+use Rattle.sqlite.specs.Held.{state}
+use Rattle.court_days.specs.Court.{CourtSettings}
+use Rattle.docket_command.specs.declared.command.Command.{Command}
+use Rattle.docket_command.specs.declared.refusal.Refusal.{Refusal}
+use Rattle.docket_command.specs.declared.refusal.Reply.{Reply as Number}
+use Rattle.docket_core.specs.Histories.{History}
+use Rattle.docket_core.specs.Outcomes.{Answer, accepted, repeated, refused, outcome, after}
+use Rattle.docket_core.specs.Records.{case_record, deadline_lines}
+use Rattle.docket_core.specs.declared.record.CaseRecord.{CaseRecord}
+use Rattle.docket_core.specs.declared.record.DeadlineLine.{DeadlineLine}
+use Rattle.docket_tables.specs.Stands.{LastsAsEither}
+use Rattle.docket_store.specs.Applying.{Stands, docket_rows}
+use Rattle.docket_store.specs.Dockets.{Docket}
+use Rattle.docket_store.specs.declared.fault.Fault.{Fault}
+use Rattle.docket_store.specs.declared.fault.Fault.TheVariants as fault
+use Rattle.docket_calendar.specs.Calendar.{text_of_calendar}
+use Rattle.docket_text.specs.CaseTexts.{case_text, deadlines_text}
+use Rattle.docket_text.specs.HolidayTexts.{holiday_text}
+use Rattle.docket_wire.specs.Reading.{command_in}
+use Rattle.docket_wire.specs.Texts.{reply_text, fault_text}
+use Rattle.docket_wire.specs.declared.fault.WireFault.{WireFault}
+use Rattle.http_request.specs.declared.wish.Wish.{Wish}
+use Rattle.http_request.specs.declared.wish.Wish.TheVariants.{Reject, Command as CommandWish, Case, Deadlines, Calendar, Holidays}
+use Rattle.docket_http.specs.Answer.{Response, json, text, open_text, problem_response}
+use Rattle.docket_http.specs.Reply.{IsReply}
+use Rattle.docket_http.specs.declared.problem.Problem.{Problem}
+use Rattle.docket_http.specs.declared.problem.Problem.TheVariants.{Rejected, NoSuchCase, NoMemory, Store, Closed, Damaged}
+use Rattle.docket_http.specs.declared.reply.Reply.{Reply}
+
+-- the status of a reply, and of a refusal
+abbrev pub said_status : Result Number Refusal → ℕ
+said_status (Ok reply) = 200
+said_status (Err r) = 409
+
+-- the reply to a repeat is the one that it had
+abbrev pub outcome_response : Answer → Response
+outcome_response (accepted reply) = json 200 (reply_text (Ok reply))
+outcome_response (repeated reply) = json 200 (reply_text (Ok reply))
+outcome_response (refused r) = json 409 (reply_text (Err r))
+
+-- a body that spells no command is told its fault
+abbrev pub command_response : CourtSettings → History → Result Command WireFault → Response
+command_response court h (Ok c) = outcome_response (outcome court h c)
+command_response court h (Err fault) = json 400 (fault_text fault)
+
+abbrev pub case_response : CourtSettings → Option CaseRecord → Option (List DeadlineLine) → Response
+case_response court None lines = problem_response NoSuchCase
+case_response court (Some row) None = problem_response NoSuchCase
+case_response court (Some row) (Some lines) = text (case_text court row lines)
+
+abbrev pub deadlines_response : CourtSettings → Option (List DeadlineLine) → Response
+deadlines_response court None = problem_response NoSuchCase
+deadlines_response court (Some lines) = text (deadlines_text court lines)
+
+-- the answer to what is asked, with this body
+abbrev pub response_to : CourtSettings → History → Wish → List ℕ → Response
+response_to court h (Reject rejection) body = problem_response (Rejected rejection)
+response_to court h (CommandWish len) body = command_response court h (command_in body)
+response_to court h (Case number) body = case_response court (case_record h number) (deadline_lines court h number)
+response_to court h (Deadlines number) body = deadlines_response court (deadline_lines court h number)
+response_to court h (Calendar from to) body = open_text (text_of_calendar court h from to)
+response_to court h (Holidays year) body = text (holiday_text year)
+
+abbrev pub after_reading : CourtSettings → History → Result Command WireFault → History
+after_reading court h (Ok c) = after court h c
+after_reading court h (Err fault) = h
+
+-- the history after it: only a command that is accepted adds to it
+abbrev pub history_after : CourtSettings → History → Wish → List ℕ → History
+history_after court h (CommandWish len) body = after_reading court h (command_in body)
+history_after court h _ body = h
+
+-- whether the docket is asked
+abbrev pub asks_docket : Wish → Bool
+asks_docket (Reject rejection) = false
+asks_docket (Holidays year) = false
+asks_docket _ = true
+
+-- whether memory is taken to answer: what is told to a request that is refused by its head is a constant
+abbrev pub takes_memory : Wish → Bool
+takes_memory (Reject rejection) = false
+takes_memory _ = true
+
+-- what is told where the docket gave no reply
+abbrev pub problem_of_fault : Fault → Problem
+problem_of_fault fault.NoMemory = NoMemory
+problem_of_fault fault.StoreFailed = Store
+problem_of_fault fault.Closed = Closed
+problem_of_fault fault.Damaged = Damaged
+problem_of_fault (fault.Refused r) = Damaged
+
+-- whether its answer is built before it is written
+abbrev pub IsBuilt : Wish → Type 0
+IsBuilt (Calendar from to) = ⊥
+IsBuilt (Reject rejection) = Unit {0}
+IsBuilt (CommandWish len) = Unit {0}
+IsBuilt (Case number) = Unit {0}
+IsBuilt (Deadlines number) = Unit {0}
+IsBuilt (Holidays year) = Unit {0}
+
+-- the answer, or the problem that is told in its place
+abbrev pub told : Option Problem → Response → Response
+told None response = response
+told (Some problem) response = problem_response problem
+
+module _ {S : Type 0} (g : Ghosts S) where
+  -- what is left of the docket where this was told: with the answer, the docket that the answer reports; where memory was short, that or
+  -- the docket before; where the database failed, a power failure leaves the one or the other. No other problem is told in an answer's place
+  abbrev pub LeftBy : Option Problem → Docket S → History → Wish → List ℕ → Type 0
+  LeftBy None d h wish body = Stands g d (history_after d.court h wish body)
+  LeftBy (Some NoMemory) d h wish body = IsTrue (takes_memory wish) × (Stands g d h ⊎ Stands g d (history_after d.court h wish body))
+  LeftBy (Some Store) d h wish body =
+      IsTrue (asks_docket wish) × LastsAsEither g d.conn (docket_rows d.court h) (docket_rows d.court (history_after d.court h wish body))
+  LeftBy (Some _) d h wish body = ⊥
+
+  -- what the docket replies to what is asked, and what it leaves
+  abbrev pub Replies : Docket S → History → Wish → List ℕ → Result Reply Fault → Type 0
+  Replies d h wish body (Ok reply) =
+      HasCleanDisk (state g d.conn) → IsReply reply (response_to d.court h wish body) × LeftBy None d h wish body
+  Replies d h wish body (Err fault.NoMemory) = HasCleanDisk (state g d.conn) → LeftBy (Some NoMemory) d h wish body
+  Replies d h wish body (Err fault.StoreFailed) = LeftBy (Some Store) d h wish body
+  Replies d h wish body (Err fault.Damaged) = HasCleanDisk (state g d.conn) → ⊥
+  Replies d h wish body (Err _) = ⊥
+
+  -- a reply to what is asked, and what it leaves
+  pub record IsAnswered (d : Docket S) (h : History) (wish : Wish) (body : List ℕ) (response : Response) : Type 0 where
+    pub problem : Option Problem
+    pub is : response ≡ told problem (response_to d.court h wish body)
+    pub left : LeftBy problem d h wish body

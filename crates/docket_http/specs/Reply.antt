@@ -1,0 +1,17 @@
+-- What a reply is in bytes.
+use Rattle.std.specs.Prelude.{◌≡◌, ℕ, List, string_bytes}
+use Rattle.docket_http.specs.Answer.{Response, response_bytes, problem_response, problem_status}
+use Rattle.docket_http.specs.declared.reply.Reply.{Reply}
+use Rattle.docket_http.specs.declared.reply.Reply.TheVariants.{Built, Fixed}
+
+abbrev pub reply_bytes : Reply → List ℕ
+reply_bytes (Built status text) = string_bytes text
+reply_bytes (Fixed problem) = response_bytes (problem_response problem)
+
+abbrev pub reply_status : Reply → ℕ
+reply_status (Built status text) = status
+reply_status (Fixed problem) = problem_status problem
+
+-- the reply is this answer
+abbrev pub IsReply : Reply → Response → Type 0
+IsReply reply response = (reply_bytes reply ≡ response_bytes response) × (reply_status reply ≡ response.status)

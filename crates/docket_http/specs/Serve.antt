@@ -1,0 +1,77 @@
+-- What a connection is served, and what is left where it is not served whole.
+use Rattle.std.specs.Prelude.{◌≡◌, ◌⊎◌, ℕ, List, Option, Some, IfSome}
+use Rattle.std.specs.Io.KnownBytes.{Appends, Keeps}
+use Rattle.sqlite.specs.Store.{Ghosts}
+use Rattle.docket_core.specs.Histories.{History}
+use Rattle.docket_store.specs.Dockets.{Docket}
+use Rattle.docket_store.specs.declared.fault.Fault.{Fault}
+use Rattle.docket_store.specs.declared.fault.Fault.TheVariants as fault
+use Rattle.line_io.specs.Output.{AppendsFront}
+use Rattle.http_request.specs.Request.{IsRequest, EndsEarly}
+use Rattle.http_request.specs.declared.wish.Wish.{Wish}
+use Rattle.docket_http.specs.Answer.{Response, response_bytes, problem_response}
+use Rattle.docket_http.specs.Asking.{IsAnswered, IsBuilt, LeftBy, response_to}
+use Rattle.docket_http.specs.declared.problem.Problem.TheVariants.{NoMemory, Store}
+use Rattle.docket_http.specs.declared.fault.ServeFault.{ServeFault}
+use Rattle.docket_http.specs.declared.fault.ServeFault.TheVariants as serve
+
+-- what a calendar comes to whose docket failed in the middle
+abbrev pub fault_of_broken : Fault → ServeFault
+fault_of_broken fault.NoMemory = serve.NoMemory
+fault_of_broken fault.StoreFailed = serve.StoreFailed
+fault_of_broken fault.Closed = serve.StoreFailed
+fault_of_broken fault.Damaged = serve.StoreFailed
+fault_of_broken (fault.Refused r) = serve.StoreFailed
+
+module _ {S : Type 0} (g : Ghosts S) where
+  -- an answer went out whole, and the docket is left as it says
+  pub record IsServed (d : Docket S) (h : History) (wish : Wish) (body : List ℕ) (before after : Option (List ℕ)) (status : ℕ) : Type 0 where
+    pub response : Response
+    pub answered : IsAnswered g d h wish body response
+    pub written : Appends before after (response_bytes response)
+    pub status_told : status ≡ response.status
+
+  -- a front of an answer went out, and the docket is left as it says
+  pub record IsCut (d : Docket S) (h : History) (wish : Wish) (body : List ℕ) (before after : Option (List ℕ)) : Type 0 where
+    pub response : Response
+    pub answered : IsAnswered g d h wish body response
+    pub front : AppendsFront before after (response_bytes response)
+
+  -- what is left of a request that was read and not answered whole: only a calendar breaks off for another cause than a writer that failed
+  abbrev pub IsBroken : Docket S → History → Wish → List ℕ → Option (List ℕ) → Option (List ℕ) → ServeFault → Type 0
+  IsBroken d h wish body before after serve.WriteFailed = IsCut d h wish body before after
+  IsBroken d h wish body before after serve.NoMemory =
+      LeftBy g (Some NoMemory) d h wish body × AppendsFront before after (response_bytes (response_to d.court h wish body)) × (IsBuilt wish → ⊥)
+  IsBroken d h wish body before after serve.StoreFailed =
+      LeftBy g (Some Store) d h wish body × AppendsFront before after (response_bytes (response_to d.court h wish body)) × (IsBuilt wish → ⊥)
+  IsBroken d h wish body before after _ = ⊥
+
+  -- the input asks for this, where it is known
+  abbrev pub IsAsked : Option (List ℕ) → Wish → List ℕ → Type 0
+  IsAsked input wish body = IfSome input (λ bytes. IsRequest bytes wish body)
+
+  -- memory was short before the request was read whole, and this was told, or a front of it
+  pub record GivesUp (old new : Docket S) (before after : Option (List ℕ)) (status : ℕ) : Type 0 where
+    pub same : new ≡ old
+    pub written : Appends before after (response_bytes (problem_response NoMemory))
+    pub status_told : status ≡ 500
+
+  -- a connection was served: by the answer to what was read, or by what tells that memory was short before it was read whole
+  abbrev pub Serves : Option (List ℕ) → Docket S → Docket S → History → Option (List ℕ) → Option (List ℕ) → ℕ → Type 0
+  Serves input old new h before after status =
+      ((wish : Wish) × (body : List ℕ) × IsAsked input wish body × IsServed new h wish body before after status)
+      ⊎ GivesUp old new before after status
+
+  abbrev pub Unserved : Option (List ℕ) → Docket S → Docket S → History → Option (List ℕ) → Option (List ℕ) → ServeFault → Type 0
+  Unserved input old new h before after e =
+      (wish : Wish) × (body : List ℕ) × IsAsked input wish body × IsBroken new h wish body before after e
+
+  -- a connection was not served whole: before the request was read whole nothing was written and the docket is as it was
+  abbrev pub Fails : Option (List ℕ) → Docket S → Docket S → History → Option (List ℕ) → Option (List ℕ) → ServeFault → Type 0
+  Fails input old new h before after serve.ReadFailed = (new ≡ old) × Keeps before after
+  Fails input old new h before after serve.EndedEarly = (new ≡ old) × Keeps before after × IfSome input EndsEarly
+  Fails input old new h before after serve.WriteFailed =
+      Unserved input old new h before after serve.WriteFailed
+      ⊎ ((new ≡ old) × AppendsFront before after (response_bytes (problem_response NoMemory)))
+  Fails input old new h before after serve.NoMemory = Unserved input old new h before after serve.NoMemory
+  Fails input old new h before after serve.StoreFailed = Unserved input old new h before after serve.StoreFailed

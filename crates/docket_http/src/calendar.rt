@@ -1,0 +1,59 @@
+//! The answer that goes out while the docket is read: a calendar.
+ghost use Rattle.std.specs.Prelude.{◌≡◌, ◌≢◌, ◌≤◌, ℕ, List, IfOk, IfErr, true};
+ghost use Rattle.sqlite.specs.Held.{state};
+ghost use Rattle.sqlite.specs.State.{HasCleanDisk};
+ghost use Rattle.sqlite.specs.View.{doubt};
+ghost use Rattle.docket_core.specs.Histories.{History};
+ghost use Rattle.docket_store.specs.Applying.{Stands};
+ghost use Rattle.http_request.specs.declared.wish.Wish.TheVariants.{Calendar};
+ghost use Rattle.docket_http.specs.Serve.{IsServed, IsBroken, fault_of_broken};
+
+use crate::fault::ServeFault;
+use crate::head::open_head;
+use crate::problem::problem_of;
+use crate::reply::Reply;
+use crate::sending::{Served, send};
+use court_days::Day;
+use docket_store::{Docket, Fault, ListingEnd};
+use http::StatusCode;
+use sqlite::Alter;
+use std::io::Write;
+
+/// What a calendar comes to whose docket failed in the middle.
+fn broken(fault: Fault) -> ServeFault
+    ensures fault { result ≡ fault_of_broken fault }
+    ensures read { (result ≢ ServeFault.ReadFailed) × (result ≢ ServeFault.EndedEarly) }
+{
+    match fault {
+        Fault::NoMemory => ServeFault::NoMemory,
+        _ => ServeFault::StoreFailed,
+    }
+}
+
+/// Serves a calendar, whose answer goes out while the docket is read.
+pub(crate) fn serve_calendar<W: Write, S: Alter>(
+    docket: &mut Docket<S>,
+    from: Day,
+    to: Day,
+    writer: &mut W,
+) -> Result<Served, ServeFault>
+    ensures court { docket.new.court ≡ docket.old.court }
+    ensures clean { doubt (state S.Store docket.old.conn).is_clean ≤ doubt (state S.Store docket.new.conn).is_clean }
+    ensures closed { docket.old.closed ≡ true → docket.new ≡ docket.old }
+    ensures served { IfOk result (λ served. (h : History) (body : List ℕ) → Stands S.Store docket.old h
+        → HasCleanDisk (state S.Store docket.new.conn)
+        → IsServed S.Store docket.new h (Calendar from to) body (W.contents writer.old) (W.contents writer.new) served.status) }
+    ensures fails { IfErr result (λ e. (h : History) (body : List ℕ) → Stands S.Store docket.old h
+        → HasCleanDisk (state S.Store docket.new.conn)
+        → IsBroken S.Store docket.new h (Calendar from to) body (W.contents writer.old) (W.contents writer.new) e) }
+    ensures read { IfErr result (λ e. (e ≢ ServeFault.ReadFailed) × (e ≢ ServeFault.EndedEarly)) }
+{
+    match docket.calendar_after(open_head(), from, to, writer) {
+        Ok(_) => Ok(Served {
+            status: StatusCode::OK.as_u16(),
+        }),
+        Err(ListingEnd::NotBegun(fault)) => send(writer, &Reply::Fixed(problem_of(fault))),
+        Err(ListingEnd::Broken(fault)) => Err(broken(fault)),
+        Err(ListingEnd::WriteFailed) => Err(ServeFault::WriteFailed),
+    }
+}

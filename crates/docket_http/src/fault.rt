@@ -1,0 +1,29 @@
+//! Why a connection was not answered whole.
+use std::fmt;
+
+/// Why no answer went out, or not a whole one.
+#[derive(Clone, Copy, Debug, PartialEq, Eq)]
+pub enum ServeFault {
+    /// A read failed. Nothing was written.
+    ReadFailed,
+    /// A write failed, or took nothing. A front of the answer went out.
+    WriteFailed,
+    /// The input ended before the request did. Nothing was written.
+    EndedEarly,
+    /// A calendar stopped in the middle for want of memory.
+    NoMemory,
+    /// A calendar stopped in the middle since the database failed.
+    StoreFailed,
+}
+
+impl fmt::Display for ServeFault {
+    fn fmt<W: fmt::Write>(&self, f: &mut fmt::Formatter<W>) -> fmt::Result {
+        f.write_str(match self {
+            ServeFault::ReadFailed => "a request could not be read",
+            ServeFault::WriteFailed => "an answer could not be written",
+            ServeFault::EndedEarly => "a request ended early",
+            ServeFault::NoMemory => "there was not enough memory for the rest of an answer",
+            ServeFault::StoreFailed => "the database failed in the middle of an answer",
+        })
+    }
+}

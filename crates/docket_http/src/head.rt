@@ -1,0 +1,86 @@
+//! The heads of answers.
+ghost use Rattle.std.specs.Prelude.{◌≡◌, ℕ};
+ghost use Rattle.docket_http.specs.Answer.{head_bytes};
+ghost use Rattle.docket_http.specs.declared.head.Form.TheVariants.{OpenText};
+
+use http::StatusCode;
+use std::fmt;
+
+/// What a body is.
+#[derive(Clone, Copy, Debug, PartialEq, Eq)]
+pub(crate) enum Form {
+    Json,
+    Text,
+    /// A text that ends with the connection, so that its length need not be known when it begins.
+    OpenText,
+}
+
+/// Writes the value of the field `content-type`.
+impl fmt::Display for Form {
+    ghost use Rattle.std.specs.Prelude.{Some};
+    ghost use Rattle.docket_http.specs.Answer.{type_of};
+
+    ghost output = { λ form. Some (type_of form) };
+
+    fn fmt<W: fmt::Write>(&self, f: &mut fmt::Formatter<W>) -> fmt::Result {
+        f.write_str(match self {
+            Form::Json => "application/json",
+            Form::Text | Form::OpenText => "text/plain; charset=utf-8",
+        })
+    }
+}
+
+/// The line of the field `content-length`, where the end of a body is told by it.
+#[derive(Clone, Copy)]
+struct LengthLine {
+    form: Form,
+    len: usize,
+}
+
+impl fmt::Display for LengthLine {
+    ghost use Rattle.std.specs.Prelude.{Some};
+    ghost use Rattle.docket_http.specs.Answer.{length_line};
+
+    ghost output = { λ line. Some (length_line line.form line.len) };
+
+    fn fmt<W: fmt::Write>(&self, f: &mut fmt::Formatter<W>) -> fmt::Result {
+        let len = self.len;
+        match self.form {
+            Form::OpenText => Ok(()),
+            Form::Json | Form::Text => write!(f, "content-length: {len}\r\n"),
+        }
+    }
+}
+
+/// The head of an answer with a body of so many bytes.
+#[derive(Clone, Copy)]
+pub(crate) struct Head {
+    pub status: StatusCode,
+    pub form: Form,
+    pub len: usize,
+}
+
+impl fmt::Display for Head {
+    ghost use Rattle.std.specs.Prelude.{Some};
+    ghost use Rattle.docket_http.specs.Answer.{head_bytes};
+
+    ghost output = { λ head. Some (head_bytes head.status head.form head.len) };
+
+    fn fmt<W: fmt::Write>(&self, f: &mut fmt::Formatter<W>) -> fmt::Result {
+        let status = self.status;
+        let form = self.form;
+        let len = self.len;
+        let length = LengthLine { form, len };
+        write!(
+            f,
+            "HTTP/1.1 {status}\r\ncontent-type: {form}\r\n{length}connection: close\r\n\r\n"
+        )
+    }
+}
+
+/// The head of a text that ends with the connection. It takes no memory.
+pub(crate) fn open_head() -> &'static [u8]
+    ensures { (len : ℕ) → result.now ≡ head_bytes 200 OpenText len }
+{
+    b"HTTP/1.1 200 OK\r\ncontent-type: text/plain; charset=utf-8\r\nconnection: close\r\n\r\n"
+}

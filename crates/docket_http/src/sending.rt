@@ -1,0 +1,32 @@
+//! Writing an answer that is whole.
+ghost use Rattle.std.specs.Prelude.{◌≡◌, IfOk, IfErr};
+ghost use Rattle.std.specs.Io.KnownBytes.{Appends};
+ghost use Rattle.line_io.specs.Output.{AppendsFront};
+ghost use Rattle.docket_http.specs.Reply.{reply_bytes, reply_status};
+
+use crate::fault::ServeFault;
+use crate::reply::Reply;
+use line_io::{WriteFailed, write_bytes};
+use std::io::Write;
+
+/// What was answered.
+#[derive(Clone, Copy, Debug, PartialEq, Eq)]
+pub struct Served {
+    /// The status code.
+    pub status: u16,
+}
+
+/// Writes an answer.
+pub(crate) fn send<W: Write>(writer: &mut W, reply: &Reply) -> Result<Served, ServeFault>
+    ensures whole { IfOk result (λ served. Appends (W.contents writer.old) (W.contents writer.new) (reply_bytes reply.now)
+        × (served.status ≡ reply_status reply.now)) }
+    ensures front { IfErr result (λ e. (e ≡ ServeFault.WriteFailed)
+        × AppendsFront (W.contents writer.old) (W.contents writer.new) (reply_bytes reply.now)) }
+{
+    match write_bytes(writer, reply.bytes()) {
+        Ok(()) => Ok(Served {
+            status: reply.status().as_u16(),
+        }),
+        Err(WriteFailed) => Err(ServeFault::WriteFailed),
+    }
+}

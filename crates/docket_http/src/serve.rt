@@ -1,0 +1,97 @@
+//! One connection: a request is read, and its answer is written.
+ghost use Rattle.std.specs.Prelude.{◌≡◌, ◌≢◌, ◌⊎◌, ◌≤◌, IfOk, IfErr, MatchOption, true, vec_len};
+ghost use Rattle.std.specs.Io.KnownBytes.{Keeps};
+ghost use Rattle.sqlite.specs.Held.{state};
+ghost use Rattle.sqlite.specs.State.{HasCleanDisk};
+ghost use Rattle.sqlite.specs.View.{doubt};
+ghost use Rattle.docket_core.specs.Histories.{History};
+ghost use Rattle.docket_store.specs.Applying.{Stands};
+ghost use Rattle.http_request.specs.Request.{body_of};
+ghost use Rattle.http_request.specs.Wish.{IsWithinLimits};
+ghost use Rattle.http_request.specs.declared.wish.Wish.TheVariants.{Calendar};
+ghost use Rattle.docket_http.specs.Asking.{IsBuilt};
+ghost use Rattle.docket_http.specs.Serve.{IsServed, IsBroken, Serves, Fails};
+
+use crate::answering::reply_of;
+use crate::calendar::serve_calendar;
+use crate::fault::ServeFault;
+use crate::problem::Problem;
+use crate::reply::Reply;
+use crate::sending::{Served, send};
+use court_days::Day;
+use docket_store::Docket;
+use http_input::InputFault;
+use http_request::{Request, Wish, read_request};
+use sqlite::Alter;
+use std::alloc::Global;
+use std::io::{Read, Write};
+
+/// The days of a calendar that is asked for.
+fn days_of(wish: &Wish) -> Option<(Day, Day)>
+    ensures { MatchOption result (IsBuilt wish.now) (λ days. wish.now ≡ Calendar days.0 days.1) }
+{
+    match wish {
+        Wish::Calendar(from, to) => Some((*from, *to)),
+        _ => None,
+    }
+}
+
+/// Serves a request that was read.
+fn serve_request<W: Write, S: Alter>(
+    alloc: Global,
+    docket: &mut Docket<S>,
+    request: &Request,
+    writer: &mut W,
+) -> Result<Served, ServeFault>
+    requires limits { IsWithinLimits request.now.wish }
+    requires within { request.now.start ≤ request.now.end × request.now.end ≤ vec_len request.now.came }
+    ensures court { docket.new.court ≡ docket.old.court }
+    ensures clean { doubt (state S.Store docket.old.conn).is_clean ≤ doubt (state S.Store docket.new.conn).is_clean }
+    ensures closed { docket.old.closed ≡ true → docket.new ≡ docket.old }
+    ensures served { IfOk result (λ served. (h : History) → Stands S.Store docket.old h
+        → HasCleanDisk (state S.Store docket.new.conn)
+        → IsServed S.Store docket.new h request.now.wish (body_of request.now) (W.contents writer.old) (W.contents writer.new) served.status) }
+    ensures fails { IfErr result (λ e. (h : History) → Stands S.Store docket.old h
+        → HasCleanDisk (state S.Store docket.new.conn)
+        → IsBroken S.Store docket.new h request.now.wish (body_of request.now) (W.contents writer.old) (W.contents writer.new) e) }
+    ensures read { IfErr result (λ e. (e ≢ ServeFault.ReadFailed) × (e ≢ ServeFault.EndedEarly)) }
+{
+    match days_of(&request.wish) {
+        Some((from, to)) => serve_calendar(docket, from, to, writer),
+        None => {
+            let reply = reply_of(alloc, docket, request);
+            send(writer, &reply)
+        }
+    }
+}
+
+/// Serves one request of a connection: what is written is the answer to what was read, and the docket
+/// then stands for the history that this answer reports.
+pub fn serve_one<R: Read, W: Write, S: Alter>(
+    alloc: Global,
+    reader: &mut R,
+    writer: &mut W,
+    docket: &mut Docket<S>,
+) -> Result<Served, ServeFault>
+    ensures court { docket.new.court ≡ docket.old.court }
+    ensures clean { doubt (state S.Store docket.old.conn).is_clean ≤ doubt (state S.Store docket.new.conn).is_clean }
+    ensures closed { docket.old.closed ≡ true → docket.new ≡ docket.old }
+    ensures served { IfOk result (λ served. (h : History) → Stands S.Store docket.old h
+        → HasCleanDisk (state S.Store docket.new.conn)
+        → Serves S.Store (R.remaining reader.old) docket.old docket.new h
+        (W.contents writer.old) (W.contents writer.new) served.status) }
+    ensures fails { IfErr result (λ e. (h : History) → Stands S.Store docket.old h
+        → HasCleanDisk (state S.Store docket.new.conn)
+        → Fails S.Store (R.remaining reader.old) docket.old docket.new h
+        (W.contents writer.old) (W.contents writer.new) e) }
+    // Where no request was read, nothing was written and the docket is as it was.
+    ensures untouched { IfErr result (λ e. (e ≡ ServeFault.ReadFailed) ⊎ (e ≡ ServeFault.EndedEarly)
+        → (docket.new ≡ docket.old) × Keeps (W.contents writer.old) (W.contents writer.new)) }
+{
+    match read_request(alloc, reader) {
+        Ok(request) => serve_request(alloc, docket, &request, writer),
+        Err(InputFault::NoMemory) => send(writer, &Reply::Fixed(Problem::NoMemory)),
+        Err(InputFault::ReadFailed) => Err(ServeFault::ReadFailed),
+        Err(InputFault::EndedEarly) => Err(ServeFault::EndedEarly),
+    }
+}

@@ -1,0 +1,4 @@
+pub mod EndLemmas
+pub mod FindLemmas
+pub mod HeadLemmas
+pub mod InputLemmas
