@@ -4,10 +4,11 @@ use Rattle.std.specs.List.{AllByRecursion, Contains}
 use Rattle.std.proofs.lemmas.Bool.Decides.{nat_tests}
 use Rattle.std.proofs.lemmas.Int.{ints}
 use Rattle.std.proofs.lemmas.List.Elements.{filter-append}
+use Rattle.std.proofs.lemmas.List.{map-append}
 use Rattle.std.proofs.lemmas.List.Sorted.{IsPermutation-refl, IsPermutation-trans, IsPermutation-append_left, IsPermutation-append_right, IsPermutation-append_comm}
-use Rattle.docket_core.specs.EndRows.{end_row, end_rows_from, is_of, changed_ends, all_changed_ends, IsElsewhere, AreRowsFrom, is_same_end, end_changes, first_end, after_first, changes_from, touches}
+use Rattle.docket_core.specs.EndRows.{end_row, end_rows_from, is_of, moved_end, changed_ends, all_changed_ends, IsElsewhere, AreRowsFrom, is_same_end, end_changes, first_end, after_first, changes_from, touches}
 use Rattle.docket_core.specs.declared.end_row.EndChange.{EndChange}
-use Rattle.docket_core.specs.declared.end_row.EndChange.TheVariants.{Add, Remove}
+use Rattle.docket_core.specs.declared.end_row.EndChange.TheVariants.{Remove, Move}
 use Rattle.docket_core.specs.declared.end_row.EndRow.{EndRow}
 use Rattle.docket_core.specs.declared.end_row.EndTime.{EndTime}
 use Rattle.docket_core.proofs.Passed.{left_true, right_true}
@@ -37,6 +38,9 @@ int_itself z = ap is_eq (let same : int_cmp z z ≡ Equal = grind (arith, ints) 
 module _ (k : ℕ) where
   abbrev Elsewhere : ℕ → List EndRow → Type 0
   Elsewhere n rows = AllByRecursion (IsElsewhere k n) rows
+
+  abbrev new : ℕ → EndTime → EndRow
+  new n end = record { case = k; deadline = n; end = end }
 
   abbrev removed : ℕ → List EndRow → List EndRow
   removed n rows = filter (λ row. not (is_of k n row)) rows
@@ -92,6 +96,21 @@ module _ (k : ℕ) where
       ∙ ap₂ (λ xs ys. xs ++ ys) (spared n done a) (ap (λ b. cond (not b) (row ∷ removed n rest) (removed n rest)) is ∙ spared n rest b))
       (spared n late c)
 
+  -- only the row of that deadline moves
+  still_there : (n : ℕ) (end : EndTime) (rows : List EndRow) → AreNot n rows → map (moved_end (new n end)) rows ≡ rows
+  still_there n end [] all = refl
+  still_there n end (row ∷ rows) all = ap₂ (λ r more. r ∷ more) (ap (λ b. cond b (record row { end = end }) row) all.0) (still_there n end rows all.1)
+
+  in_place : (n : ℕ) (row : EndRow) (end : EndTime) (done rest late : List EndRow) → row.case ≡ k → row.deadline ≡ n → AreNot n done → AreNot n rest → AreNot n late
+      → map (moved_end (new n end)) ((done ++ row ∷ rest) ++ late) ≡ (done ++ new n end ∷ rest) ++ late
+  in_place n row end done rest late case deadline a b c =
+      let f : EndRow → EndRow = moved_end (new n end) in
+      let here : f row ≡ new n end = ap (λ b. cond b (record row { end = end }) row) (is_here n row case deadline) ∙ λ i. record { case = case i; deadline = deadline i; end = end } in
+      map-append f (done ++ row ∷ rest) late
+      ∙ ap₂ (λ xs ys. xs ++ ys)
+      (map-append f done (row ∷ rest) ∙ ap₂ (λ xs ys. xs ++ ys) (still_there n end done a) (ap₂ (λ r more. r ∷ more) here (still_there n end rest b)))
+      (still_there n end late c)
+
   -- rows of no deadline go
   swept : (n : ℕ) (stored done late : List EndRow) → AreRowsFrom k n stored → Elsewhere n done → Elsewhere n late
       → all_changed_ends (map (λ row. Remove row.case row.deadline) stored) ((done ++ stored) ++ late) ≡ (done ++ late) ++ []
@@ -123,9 +142,6 @@ module _ (k : ℕ) where
   abbrev Leads : ℕ → List (Option EndTime) → List EndRow → List EndRow → List EndRow → Type 0
   Leads n ends stored done late = IsPermutation (all_changed_ends (changes_from k n ends stored) ((done ++ stored) ++ late)) ((done ++ late) ++ end_rows_from k n ends)
 
-  abbrev new : ℕ → EndTime → EndRow
-  new n end = record { case = k; deadline = n; end = end }
-
   -- one deadline, by the leading of those after it
   module _ (n : ℕ) (ends : List (Option EndTime)) (rest done late : List EndRow) (more : (d l : List EndRow) → Elsewhere (n + 1) d → Elsewhere (n + 1) l → Leads (n + 1) ends rest d l)
       (off_done : Elsewhere n done) (off_late : Elsewhere n late) where
@@ -149,14 +165,9 @@ module _ (k : ℕ) where
         (subst (λ ys. IsPermutation (all_changed_ends (changes_from k (n + 1) ends rest) ((done ++ rest) ++ (late ++ last))) ys)
         (ap (λ xs. xs ++ end_rows_from k (n + 1) ends) (sym (append_assoc done late last)) ∙ append_assoc (done ++ late) last (end_rows_from k (n + 1) ends)) it)
 
-    module _ (row : EndRow) (case : row.case ≡ k) (deadline : row.deadline ≡ n) (are : AreRowsFrom k (n + 1) rest) where
-      abbrev all : List EndRow
-      all = (done ++ row ∷ rest) ++ late
-
-      taken : changed_ends (Remove k n) all ≡ (done ++ rest) ++ late
-      taken = gone n row done rest late (is_here n row case deadline) (are_not n n done (omega arith) off_done) (later n (n + 1) rest (omega arith) are) (are_not n n late (omega arith) off_late)
-
-      right : (end : EndTime) → row.end ≡ end → Then [] all (Some end)
+    module _ (row : EndRow) (case : row.case ≡ k) (deadline : row.deadline ≡ n) where
+      -- the row of the deadline is right
+      right : (end : EndTime) → row.end ≡ end → Then [] ((done ++ row ∷ rest) ++ late) (Some end)
       right end same =
           let one = row ∷ [] in
           let is : row ≡ new n end = λ i. record { case = case i; deadline = deadline i; end = same i } in
@@ -168,12 +179,31 @@ module _ (k : ℕ) where
           let whole : IsPermutation (((done ++ one) ++ late) ++ ends') ((done ++ late) ++ (row ∷ ends')) =
           subst (IsPermutation (((done ++ one) ++ late) ++ ends')) (append_assoc (done ++ late) one ends') (IsPermutation-append_left ends' _ _ moved) in
           let start : (done ++ one) ++ rest ≡ done ++ row ∷ rest = append_assoc done one rest in
-          subst (λ r. IsPermutation (all_changed_ends (changes_from k (n + 1) ends rest) all) ((done ++ late) ++ (r ∷ ends'))) is
+          subst (λ r. IsPermutation (all_changed_ends (changes_from k (n + 1) ends rest) ((done ++ row ∷ rest) ++ late)) ((done ++ late) ++ (r ∷ ends'))) is
           (subst (λ xs. IsPermutation (all_changed_ends (changes_from k (n + 1) ends rest) (xs ++ late)) ((done ++ late) ++ (row ∷ ends'))) start (IsPermutation-trans _ _ _ gives whole))
 
-      exchanged : (end : EndTime) (b : Bool) → is_same_end row.end end ≡ b → Then (cond b [] (Remove k n ∷ Add (new n end) ∷ [])) all (Some end)
-      exchanged end true e = right end (same_end row.end end e)
-      exchanged end false e = subst (λ xs. IsPermutation (all_changed_ends (changes_from k (n + 1) ends rest) (xs ++ new n end ∷ [])) ((done ++ late) ++ (new n end ∷ end_rows_from k (n + 1) ends))) (sym taken) (added end)
+    module _ (row : EndRow) (case : row.case ≡ k) (deadline : row.deadline ≡ n) (are : AreRowsFrom k (n + 1) rest) where
+      abbrev all : List EndRow
+      all = (done ++ row ∷ rest) ++ late
+
+      none_done : AreNot n done
+      none_done = are_not n n done (omega arith) off_done
+
+      none_rest : AreNot n rest
+      none_rest = later n (n + 1) rest (omega arith) are
+
+      none_late : AreNot n late
+      none_late = are_not n n late (omega arith) off_late
+
+      taken : changed_ends (Remove k n) all ≡ (done ++ rest) ++ late
+      taken = gone n row done rest late (is_here n row case deadline) none_done none_rest none_late
+
+      moved : (end : EndTime) → changed_ends (Move (new n end)) all ≡ (done ++ new n end ∷ rest) ++ late
+      moved end = in_place n row end done rest late case deadline none_done none_rest none_late
+
+      exchanged : (end : EndTime) (b : Bool) → is_same_end row.end end ≡ b → Then (cond b [] (Move (new n end) ∷ [])) all (Some end)
+      exchanged end true e = right row case deadline end (same_end row.end end e)
+      exchanged end false e = subst (λ xs. IsPermutation (all_changed_ends (changes_from k (n + 1) ends rest) xs) ((done ++ late) ++ (new n end ∷ end_rows_from k (n + 1) ends))) (sym (moved end)) (right (new n end) refl refl end refl)
 
       by_row : (end : Option EndTime) → Then (end_changes k n (Some row.end) end) all end
       by_row None = subst (λ xs. IsPermutation (all_changed_ends (changes_from k (n + 1) ends rest) xs) ((done ++ late) ++ end_rows_from k (n + 1) ends)) (sym taken) none_more
@@ -222,7 +252,7 @@ module _ (k : ℕ) where
   untouched_at n None (Some end) row off = (off, tt)
   untouched_at n (Some stored) None row off = (off, tt)
   untouched_at n (Some stored) (Some end) row off =
-      elim (is_same_end stored end) as (λ b. Untouched row (cond b [] (Remove k n ∷ Add (new n end) ∷ []))) [ true ↦ tt | false ↦ (off, (off, tt)) ]
+      elim (is_same_end stored end) as (λ b. Untouched row (cond b [] (Move (new n end) ∷ []))) [ true ↦ tt | false ↦ (off, tt) ]
 
   after_are : (n : ℕ) (stored : List EndRow) → AreRowsFrom k n stored → AreRowsFrom k (n + 1) (after_first n stored)
   after_are n stored are =
@@ -281,7 +311,7 @@ module _ (k : ℕ) where
       elim (contained (new n end) (end_rows_from k (n + 1) ends) row has) [
         | inl same ↦
             let is : is_same_end row.end end ≡ true = ap (λ (x : EndRow). is_same_end row.end x.end) same ∙ same_itself row.end in
-            subst (λ b. Untouched row (cond b [] (Remove k n ∷ Add (new n end) ∷ []))) (sym is) tt
+            subst (λ b. Untouched row (cond b [] (Move (new n end) ∷ []))) (sym is) tt
         | inr more ↦ absurd (omega (arith, deadline, wanted_from (n + 1) ends row more))
       ]
 

@@ -15,7 +15,7 @@ use Rattle.docket_core.specs.CalendarItems.{calendar_of}
 use Rattle.docket_core.specs.Histories.{items_of, acts_of_deadline}
 use Rattle.docket_core.specs.Tables.{Tables}
 use Rattle.docket_core.specs.declared.end_row.EndChange.{EndChange}
-use Rattle.docket_core.specs.declared.end_row.EndChange.TheVariants.{Add, Remove}
+use Rattle.docket_core.specs.declared.end_row.EndChange.TheVariants.{Add, Remove, Move}
 use Rattle.docket_core.specs.declared.end_row.EndRow.{EndRow}
 use Rattle.docket_core.specs.declared.end_row.EndTime.{EndTime}
 use Rattle.docket_core.specs.declared.row.ActRow.{ActRow}
@@ -75,9 +75,14 @@ end_rows_of zone entered case = end_rows_from case.number 1 (ends_running zone e
 abbrev pub is_of : ℕ → ℕ → EndRow → Bool
 is_of k n row = row.case == k && row.deadline == n
 
+-- the row of the same deadline has the end of the other
+abbrev pub moved_end : EndRow → EndRow → EndRow
+moved_end to row = if is_of to.case to.deadline row then record row { end = to.end } else row
+
 abbrev pub changed_ends : EndChange → List EndRow → List EndRow
 changed_ends (Add row) rows = rows ++ row ∷ []
 changed_ends (Remove k n) rows = filter (λ row. not (is_of k n row)) rows
+changed_ends (Move to) rows = map (moved_end to) rows
 
 -- the changes, one after another
 abbrev pub all_changed_ends : List EndChange → List EndRow → List EndRow
@@ -105,7 +110,7 @@ end_changes k n None (Some end) = Add (record { case = k; deadline = n; end = en
 end_changes k n (Some stored) None = Remove k n ∷ []
 end_changes k n (Some stored) (Some end) =
     if is_same_end stored end then []
-    else Remove k n ∷ Add (record { case = k; deadline = n; end = end }) ∷ []
+    else Move (record { case = k; deadline = n; end = end }) ∷ []
 
 -- the end of deadline n, where its row comes first, and the rows after it
 abbrev pub first_end : ℕ → List EndRow → Option EndTime
@@ -122,7 +127,8 @@ changes_from k n [] stored = map (λ row. Remove row.case row.deadline) stored
 changes_from k n (end ∷ ends) stored =
     end_changes k n (first_end n stored) end ++ changes_from k (n + 1) ends (after_first n stored)
 
--- the change takes or adds the row of that deadline
+-- the change takes, adds or moves the row of that deadline
 abbrev pub touches : EndChange → EndRow → Bool
 touches (Add new) row = is_of new.case new.deadline row
 touches (Remove k n) row = is_of k n row
+touches (Move to) row = is_of to.case to.deadline row

@@ -34,11 +34,13 @@ pub struct EndRow {
     pub end: EndTime,
 }
 
-/// A row of an end that is added, or the case and the deadline of one that is removed.
+/// A row of an end that is added, the case and the deadline of one that is removed, or one whose end
+/// moves, with its new end.
 #[derive(Clone, Copy)]
 pub enum EndChange {
     Add(EndRow),
     Remove(u32, u32),
+    Move(EndRow),
 }
 
 /// The number of the local day at an instant.
@@ -132,8 +134,8 @@ fn remove_end(
     Ok(())
 }
 
-/// Exchanges the row of a deadline, unless it is right.
-fn exchange_end(
+/// Moves the end of a deadline, unless it is right.
+fn move_end(
     changes: &mut Vec<EndChange>,
     case: u32,
     deadline: u32,
@@ -145,14 +147,11 @@ fn exchange_end(
     if is_same_end(&stored, end) {
         return Ok(());
     }
-    changes.extend_from_slice(&[
-        EndChange::Remove(case, deadline),
-        EndChange::Add(EndRow {
-            case,
-            deadline,
-            end: *end,
-        }),
-    ])?;
+    changes.extend_from_slice(&[EndChange::Move(EndRow {
+        case,
+        deadline,
+        end: *end,
+    })])?;
     Ok(())
 }
 
@@ -174,7 +173,7 @@ fn change_end(
         };
     };
     match end {
-        Some(end) => exchange_end(changes, case, deadline, stored, &end),
+        Some(end) => move_end(changes, case, deadline, stored, &end),
         None => remove_end(changes, case, deadline, stored),
     }
 }

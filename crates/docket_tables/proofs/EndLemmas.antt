@@ -1,19 +1,19 @@
--- The removal of the end of a deadline.
-use Rattle.std.proofs.Common.{◌≡◌, ◌∙◌, ◌==◌, ◌&&◌, ◌+◌, ◌<◌, ℕ, pos, List, [], ◌∷◌, map, not, Ok, IsPermutation, refl, sym, ap, arith, negsuc, true}
+-- The removal of the end of a deadline, and its move.
+use Rattle.std.proofs.Common.{◌≡◌, ◌∙◌, ◌==◌, ◌&&◌, ◌+◌, ◌<◌, ℕ, pos, List, [], ◌∷◌, map, not, Ok, IsPermutation, Bool, cond, drop, refl, sym, ap, ap₂, subst, arith, negsuc, true, false}
 use Rattle.std.specs.List.{AllByRecursion}
 use Rattle.std.proofs.Math.Logic.{∥∥₁_map}
 use Rattle.std.proofs.lemmas.List.Sorted.{IsPermutation-trans, IsPermutation-map}
 use Rattle.sqlite_trees.proofs.ListLemmas.{filter-map, filter_same, all_of}
 use Rattle.sqlite_schema.specs.Rules.{equal}
 use Rattle.court_days.specs.Court.{CourtSettings}
-use Rattle.docket_core.specs.EndRows.{AreRowsFrom, changed_ends, all_changed_ends}
+use Rattle.docket_core.specs.EndRows.{AreRowsFrom, is_of, moved_end, changed_ends, all_changed_ends}
 use Rattle.docket_core.specs.declared.end_row.EndChange.{EndChange}
 use Rattle.docket_core.proofs.EndChanges.{all_changed_ends-append}
 use Rattle.std.proofs.Common.{length, take, get_or}
 use Rattle.std.proofs.lemmas.List.{take_more}
 use Rattle.docket_core.specs.Tables.{Tables}
 use Rattle.docket_core.specs.declared.end_row.EndRow.{EndRow}
-use Rattle.docket_core.specs.declared.end_row.EndChange.TheVariants.{Remove}
+use Rattle.docket_core.specs.declared.end_row.EndChange.TheVariants.{Remove, Move}
 use Rattle.docket_columns.specs.Cells.{end_cells}
 use Rattle.docket_tables.specs.Contents.{rows_with, ends_of}
 use Rattle.docket_tables.specs.Orderly.{Rises}
@@ -29,16 +29,24 @@ use Rattle.sqlite.specs.Term.{lit, col, op2}
 use Rattle.sqlite_sql.specs.declared.ops.BinaryOp.TheVariants.{Compare}
 use Rattle.sqlite_sql.specs.declared.ops.CompareOp.TheVariants.{Eq}
 use Rattle.sqlite.specs.State.{State, Executes, Shows as Turns}
+use Rattle.sqlite.specs.Cast.{cast, cast_row}
+use Rattle.sqlite.specs.Edit.{without_all, put_all}
+use Rattle.sqlite.specs.Kind.TheVariants.{Integer}
+use Rattle.sqlite_rules.specs.Calls.{ids_of}
+use Rattle.sqlite_rules.specs.Edit.{have_rowids, are_fresh}
 use Rattle.sqlite.specs.Listing.{understood}
 use Rattle.sqlite_tied.specs.Compute.{everything}
 use Rattle.docket_tables.specs.Schema.{docket_schema, due}
-use Rattle.docket_tables.specs.Statements.{delete_end_text}
+use Rattle.docket_tables.specs.Statements.{delete_end_text, move_end_text}
 use Rattle.docket_tables.specs.Holds.{cells, has_key, without_key, plain_query, Holds}
 use Rattle.docket_tables.specs.Layouts.{Rows, with_rows, places_of, tree_of}
 use Rattle.docket_tables.specs.Stands.{Sees}
 use Rattle.docket_tables.specs.declared.table.Table.TheVariants.{Court, Calendar, Cases, Parties, Entries, Deadlines, Acts, Receipts, Ends}
 use Rattle.docket_tables.proofs.CourtLemmas.{found_by}
+use Rattle.docket_tables.proofs.CellLemmas.{cast_int}
 use Rattle.docket_tables.proofs.DeleteLemmas.{DeletesFrom, deletes}
+use Rattle.docket_tables.proofs.MoveLemmas.{numbered_given, holds_moved}
+use Rattle.docket_tables.proofs.UpdateLemmas.{UpdatesIn, updates, no_actions_on_ends}
 use Rattle.docket_tables.proofs.LayoutLemmas.{rows_changed}
 use Rattle.docket_tables.proofs.RowidLemmas.{holds_unmatched}
 
@@ -63,6 +71,63 @@ end_removed k n rows old new count sees ran turns =
         live = it.1;
         holds = rows_changed Ends _ rows old.now.trees new.now.trees sees.shows.holds
             (holds_unmatched 15 (places_of Ends) (rows Ends) (has_key (0 ∷ 1 ∷ []) params) took.found old.now.trees new.now.trees (sees.shows.holds Ends) same took.rows) took.others;
+      };
+    }
+
+end_update : UpdatesIn docket_schema move_end_text (record due { tree = 15 })
+    (record { lets = []; body = plain_query 15 (op2 (Compare Eq Binary) (col 1 1) (col 0 0) ∷ op2 (Compare Eq Binary) (col 1 2) (col 0 1) ∷ []) (col 1 0 ∷ col 1 0 ∷ col 1 1 ∷ col 1 2 ∷ col 0 2 ∷ col 0 3 ∷ []) [] [] (lit (Int (negsuc 0))) })
+unfolding understood everything
+end_update = record { at = 8; is = refl; plain = (refl, refl); place = refl; no_work = no_actions_on_ends }
+
+-- the cells of a row whose end moves, as they are written anew
+abbrev moved_cells : Row → Row → Row
+moved_cells params c = cast Integer (column c 0) ∷ cast Integer (column c 1) ∷ cast Integer (column params 2) ∷ cast Integer (column params 3) ∷ []
+
+abbrev end_shown : Row → Row → Row
+end_shown params r = column r 0 ∷ column r 0 ∷ column r 1 ∷ column r 2 ∷ column params 2 ∷ column params 3 ∷ []
+
+move_cells : (to : EndRow) (ends : List EndRow)
+    → map (λ c. cond (has_key (0 ∷ 1 ∷ []) (end_cells to) c) (moved_cells (end_cells to) c) c) (map end_cells ends) ≡ map end_cells (changed_ends (Move to) ends)
+move_cells to [] = refl
+move_cells to (row ∷ ends) = ap₂ (λ c more. c ∷ more) (at (is_of to.case to.deadline row) refl) (move_cells to ends)
+  where
+    found : has_key (0 ∷ 1 ∷ []) (end_cells to) (end_cells row) ≡ is_of to.case to.deadline row
+    found = ap (λ b. b && (equal Binary (Int (pos row.deadline)) (Int (pos to.deadline)) && true)) (equal_number row.case to.case) ∙ ap (λ b. (row.case == to.case) && b) (and_yes _ ∙ equal_number row.deadline to.deadline)
+
+    cast_as : moved_cells (end_cells to) (end_cells row) ≡ end_cells (record row { end = to.end })
+    cast_as = rw (cast_int (pos row.case), cast_int (pos row.deadline), cast_int to.end.day, cast_int to.end.moment) refl
+
+    by : (b : Bool) → cond b (moved_cells (end_cells to) (end_cells row)) (end_cells row) ≡ end_cells (cond b (record row { end = to.end }) row)
+    by true = cast_as
+    by false = refl
+
+    at : (b : Bool) → is_of to.case to.deadline row ≡ b
+        → cond (has_key (0 ∷ 1 ∷ []) (end_cells to) (end_cells row)) (moved_cells (end_cells to) (end_cells row)) (end_cells row) ≡ end_cells (moved_end to row)
+    at b is = ap (λ x. cond x (moved_cells (end_cells to) (end_cells row)) (end_cells row)) (found ∙ is) ∙ by b ∙ ap (λ x. end_cells (cond x (record row { end = to.end }) row)) (sym is)
+
+-- the end of a deadline moves
+pub end_moved : (to : EndRow) (ends : List EndRow) (rows : Rows) (old new : State) (count : ℕ) → rows Ends ≡ map end_cells ends → Sees old rows → Executes move_end_text (end_cells to) old new (Ok count)
+    → Turns old new new.now old.committed true → Sees new (with_rows Ends (map end_cells (changed_ends (Move to) ends)) rows)
+end_moved to ends rows old new count are sees ran turns =
+    let params = end_cells to in
+    let table = record due { tree = 15 } in
+    let it = updates docket_schema move_end_text table _ end_update params old new count sees.shows.schema ran in
+    let moved = it.2 in
+    let made : Row → Row = λ s. cast_row table (drop 1 s) in
+    let same = found_by old.now.trees 15 (λ ps row. has_key (0 ∷ 1 ∷ []) ps (cells (places_of Ends) row)) end_shown
+    (op2 (Compare Eq Binary) (col 1 1) (col 0 0) ∷ op2 (Compare Eq Binary) (col 1 2) (col 0 1) ∷ []) (col 1 0 ∷ col 1 0 ∷ col 1 1 ∷ col 1 2 ∷ col 0 2 ∷ col 0 3 ∷ []) (λ ps row. refl) (λ ps row. refl) params moved.found (moved.answer.answer Null) in
+    let news = numbered_given (without_all (old.now.trees 15) (ids_of moved.found)) (map made moved.found) in
+    let holds = holds_moved 15 (places_of Ends) (has_key (0 ∷ 1 ∷ []) params) (moved_cells params) made (end_shown params) (λ r. refl) (λ r. refl) moved.found old.now.trees new.now.trees same (rows Ends) (sees.shows.holds Ends)
+    (subst (λ ns. have_rowids ns ≡ true) news moved.keyed) (subst (λ ns. are_fresh (without_all (old.now.trees 15) (ids_of moved.found)) ns ≡ true) news moved.fresh)
+    (moved.rows ∙ ap (put_all (without_all (old.now.trees 15) (ids_of moved.found))) news) in
+    let shown = ap (map (λ c. cond (has_key (0 ∷ 1 ∷ []) params c) (moved_cells params c) c)) are ∙ move_cells to ends in
+    record {
+      begun = turns.mode;
+      shows = record {
+        is_open = turns.is_open;
+        schema = it.0;
+        live = it.1;
+        holds = rows_changed Ends _ rows old.now.trees new.now.trees sees.shows.holds (subst (λ cs. Holds 15 (places_of Ends) cs new.now.trees) shown holds) moved.others;
       };
     }
 

@@ -15,6 +15,7 @@ pub mod HoldsLemmas
 mod InsideLemmas
 mod InsertLemmas
 pub mod LayoutLemmas
+mod MoveLemmas
 mod OrderlyActions
 mod OrderlyActs
 mod OrderlyCalendar

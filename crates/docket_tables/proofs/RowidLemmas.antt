@@ -103,7 +103,7 @@ module _ (match : Row → Bool) where
             tail xs a.1 b.1 h.1,
           )
 
-  left : (rows found : List Row) → IsShaped shape.Table rows → IsPermutation (map (λ r. column r 0 ∷ []) (filter match rows)) found → without_all rows (ids_of found) ≡ filter (λ r. not (match r)) rows
+  pub left : (rows found : List Row) → IsShaped shape.Table rows → IsPermutation (map (λ r. column r 0 ∷ []) (filter match rows)) found → without_all rows (ids_of found) ≡ filter (λ r. not (match r)) rows
   left rows found shaped same =
       let any = λ (r : Row). any_mapped (λ i. has_rowid i r) (λ s. id_in (rowid s)) found
       ∙ any_permuted (λ s. has_id_of s r) (map (λ s. column s 0 ∷ []) (filter match rows)) found same

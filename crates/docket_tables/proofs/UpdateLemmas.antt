@@ -13,7 +13,7 @@ use Rattle.sqlite_schema.specs.declared.program.Program.{Program}
 use Rattle.sqlite.specs.Command.TheVariants.{Update}
 use Rattle.sqlite.specs.Edit.{Edit, edit_of, edited}
 use Rattle.sqlite_rules.specs.Calls.{ids_of}
-use Rattle.sqlite_rules.specs.Edit.{taken_by}
+use Rattle.sqlite_rules.specs.Edit.{taken_by, have_rowids, are_fresh, left_by}
 use Rattle.sqlite.specs.Rowids.TheVariants.{Given}
 use Rattle.sqlite.specs.Does.{Does, OnRows, AtPlace}
 use Rattle.sqlite.specs.Rows.{Written, Task, Updates}
@@ -38,6 +38,8 @@ pub record Changes (schema : Schema) (table : Table) (q : Program) (params : Row
   pub found : List Row
   pub answer : Answers (record { schema = schema; trees = old }) q params found
   pub rows : new table.tree ≡ edited old (edit_of old table (ids_of found) Given 1 found)
+  pub keyed : have_rowids (edit_of old table (ids_of found) Given 1 found).news ≡ true
+  pub fresh : are_fresh (left_by old (edit_of old table (ids_of found) Given 1 found)) (edit_of old table (ids_of found) Given 1 found).news ≡ true
   pub others : KeepsOthers schema table.tree old new
 
 changes : (task : Task) (q : Program) (db : Trees) (done : Written) → task.keys ≡ Enforced → ((olds news : List Row) → works task.schema Enforced 0 task.table.tree olds news ≡ [])
@@ -52,6 +54,8 @@ changes task q db done enforced no_work h =
       found = found.0;
       answer = found.1;
       rows = ap (λ (t : Trees). t task.table.tree) trees ∙ applied.rows;
+      keyed = applied.keyed;
+      fresh = applied.fresh;
       others = subst (KeepsOthers task.schema task.table.tree db) (sym trees) applied.tables;
     }
 
@@ -78,6 +82,11 @@ updates schema sql table q text params old new count has h =
 no_actions : (olds news : List Row) → works docket_schema Enforced 0 0 olds news ≡ []
 no_actions olds news =
     elim (length news == 0) as (λ b. flat_map (λ child. filter_map (λ ref. work_by 0 0 (pairs olds news) child ref (deed_for Enforced b ref) (parent_key docket_schema.tables ref)) child.references) docket_schema.tables ≡ [])
+    [ true ↦ refl | false ↦ refl ]
+
+pub no_actions_on_ends : (olds news : List Row) → works docket_schema Enforced 0 15 olds news ≡ []
+no_actions_on_ends olds news =
+    elim (length news == 0) as (λ b. flat_map (λ child. filter_map (λ ref. work_by 0 15 (pairs olds news) child ref (deed_for Enforced b ref) (parent_key docket_schema.tables ref)) child.references) docket_schema.tables ≡ [])
     [ true ↦ refl | false ↦ refl ]
 
 pub court_update : UpdatesIn docket_schema count_text (record court { tree = 0 })

@@ -23,6 +23,10 @@ delete_text = codes "DELETE FROM calendar WHERE row_no = ?1"
 abbrev pub delete_end_text : List ℕ
 delete_end_text = codes "DELETE FROM due WHERE case_no = ?1 AND deadline_no = ?2"
 
+-- the end of a deadline moves
+abbrev pub move_end_text : List ℕ
+move_end_text = codes "UPDATE due SET day = ?3, moment = ?4 WHERE case_no = ?1 AND deadline_no = ?2"
+
 -- a number of a calendar row is used
 abbrev pub count_text : List ℕ
 count_text = codes "UPDATE court SET next_row = next_row + 1 WHERE id = 1"

@@ -23,7 +23,7 @@ use crate::moving::CaseRange;
 use crate::query::Query;
 use crate::rows::{acts_in, calendar_in, deadlines_in, ends_in};
 use crate::sound::is_sound_case;
-use crate::store::{ask_inside, insert, remove_end};
+use crate::store::{ask_inside, insert, move_end, remove_end};
 use crate::table::Table;
 use crate::viewing::{items_of, with_acts};
 use court_days::{Calendar, Court};
@@ -108,6 +108,7 @@ fn change_end<S: Alter>(tx: &mut Transaction<'_, S>, change: &EndChange) -> Resu
     match change {
         EndChange::Add(row) => insert(tx, Table::Ends, &end_values(row))?,
         EndChange::Remove(case, deadline) => remove_end(tx, *case, *deadline)?,
+        EndChange::Move(row) => move_end(tx, row)?,
     }
     Ok(())
 }

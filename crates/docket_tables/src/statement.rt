@@ -1,6 +1,6 @@
 //! The texts of the statements.
 ghost use Rattle.std.specs.Prelude.{◌≡◌};
-ghost use Rattle.docket_tables.specs.Statements.{insert_text, delete_text, delete_end_text, count_text};
+ghost use Rattle.docket_tables.specs.Statements.{insert_text, delete_text, delete_end_text, move_end_text, count_text};
 
 use crate::table::Table;
 
@@ -49,6 +49,13 @@ pub(crate) fn delete_end_text() -> &'static str
     ensures { result.now ≡ delete_end_text }
 {
     "DELETE FROM due WHERE case_no = ?1 AND deadline_no = ?2"
+}
+
+/// Moves the end of a deadline of a case.
+pub(crate) fn move_end_text() -> &'static str
+    ensures { result.now ≡ move_end_text }
+{
+    "UPDATE due SET day = ?3, moment = ?4 WHERE case_no = ?1 AND deadline_no = ?2"
 }
 
 /// Adds one to the number of the next calendar row.

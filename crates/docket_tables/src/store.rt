@@ -1,5 +1,5 @@
 //! Calls of the database.
-ghost use Rattle.std.specs.Prelude.{◌≡◌, pos, ◌≤◌, ◌<◌, ◌^◌, ◌+◌, [], ◌∷◌, ℕ, Ok, OnOk, OnErr, IfOk, false, true};
+ghost use Rattle.std.specs.Prelude.{◌≡◌, pos, ◌≤◌, ◌<◌, ◌^◌, ◌+◌, [], ◌∷◌, ℕ, List, map, Ok, OnOk, OnErr, IfOk, false, true};
 ghost use Rattle.sqlite.specs.Given.{IsPlain};
 ghost use Rattle.sqlite.specs.Held.{state};
 ghost use Rattle.sqlite.specs.Listing.{understood};
@@ -7,7 +7,10 @@ ghost use Rattle.sqlite.specs.State.{HasCleanDisk, Shown, Executes, Shows as Tur
 ghost use Rattle.sqlite.specs.Values.{bound};
 ghost use Rattle.sqlite.specs.View.{doubt};
 ghost use Rattle.court_days.specs.Court.{CourtSettings};
-ghost use Rattle.docket_columns.specs.Cells.{court_cells};
+ghost use Rattle.docket_columns.specs.Cells.{court_cells, end_cells};
+ghost use Rattle.docket_core.specs.EndRows.{changed_ends};
+ghost use Rattle.docket_core.specs.declared.end_row.EndChange.TheVariants as end_change;
+ghost use Rattle.docket_core.specs.declared.end_row.EndRow.{EndRow as Ended};
 ghost use Rattle.docket_tables.specs.Holds.{IsKeyed, without_number, without_key};
 ghost use Rattle.sqlite.specs.declared.types.Value.TheVariants.{Int};
 ghost use Rattle.docket_tables.specs.Layouts.{Rows, Fits, with_row, with_rows};
@@ -18,8 +21,10 @@ ghost use Rattle.docket_tables.specs.Schema.{docket_schema};
 ghost use Rattle.docket_tables.specs.Stands.{HoldsRows, Lasts, Sees, StaysInside};
 
 use crate::query::{Query, select_text};
-use crate::statement::{count_text, delete_end_text, delete_text, insert_text};
+use crate::statement::{count_text, delete_end_text, delete_text, insert_text, move_end_text};
 use crate::table::Table;
+use docket_columns::end_values;
+use docket_core::EndRow;
 use sqlite::types::ValueRef;
 use sqlite::{Alter, Connection, Error, Row, Transaction, params};
 
@@ -107,6 +112,16 @@ pub(crate) fn remove_end<S: Alter>(
         → OnOk result (Sees (state S.Store tx.new.conn.now) (with_rows table.Ends (without_key (0 ∷ 1 ∷ []) (Int (pos case) ∷ Int (pos deadline) ∷ []) (rows table.Ends)) rows)) }
 {
     change(tx, delete_end_text(), params![case, deadline])
+}
+
+/// Moves the end of the deadline of the row to that of the row.
+pub(crate) fn move_end<S: Alter>(tx: &mut Transaction<'_, S>, row: &EndRow) -> Result<(), Error>
+    ensures same_reference { tx.new.conn.ghost_name ≡ tx.old.conn.ghost_name }
+    ensures inside { StaysInside (state S.Store tx.old.conn.now) (state S.Store tx.new.conn.now) }
+    ensures ok { HasCleanDisk (state S.Store tx.new.conn.now) → (ends : List Ended) (rows : Rows) → rows table.Ends ≡ map end_cells ends → Sees (state S.Store tx.old.conn.now) rows
+        → OnOk result (Sees (state S.Store tx.new.conn.now) (with_rows table.Ends (map end_cells (changed_ends (end_change.Move row.now) ends)) rows)) }
+{
+    change(tx, move_end_text(), &end_values(row))
 }
 
 /// The rows that answer a question about these values, inside a transaction.
