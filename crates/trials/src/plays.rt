@@ -1,9 +1,10 @@
 //! Stored inputs, whose outputs are stored beside them: of `count`, of `run` and of the canonical texts
-//! of commands, whose outputs an independent model of the rules and of the docket computed, and of
-//! dockets that were worked out by hand from the rules. Commands are played over the docket in SQLite's
+//! of commands, whose outputs an independent model of the rules and of the docket computed, of dockets
+//! that were worked out by hand from the rules, and of requests of HTTP with their answers. Commands are played over the docket in SQLite's
 //! tables, and once more over the docket in vectors.
 mod comparing;
 mod counting;
+mod requests;
 mod running;
 mod texts;
 mod vectors;
@@ -29,10 +30,14 @@ enum Play {
     Run,
     /// By `run`, in a court of Eastern time, with where the deadlines of case 1 stand.
     Worked,
+    /// By serving each request, which comes in pieces of so many bytes.
+    Served(usize),
+    /// By cutting each request after each of its bytes, and then serving all of them.
+    Cut,
 }
 
 /// The input is data/NAME.in, and what is to be written is data/NAME.out.
-const INPUTS: [(Play, &str); 31] = [
+const INPUTS: [(Play, &str); 35] = [
     (Play::Count, "count-days"),
     (Play::Count, "count-1"),
     (Play::Count, "count-2"),
@@ -64,6 +69,10 @@ const INPUTS: [(Play, &str); 31] = [
     (Play::Worked, "worked-again"),
     (Play::Worked, "worked-kept-calendar"),
     (Play::Worked, "worked-moving-ends"),
+    (Play::Served(1), "requests"),
+    (Play::Served(7), "requests"),
+    (Play::Served(usize::MAX), "requests"),
+    (Play::Cut, "requests-cut"),
 ];
 
 /// What is written on the input.
@@ -73,15 +82,26 @@ fn played(alloc: Global, play: Play, input: &[u8]) -> Result<Vec<u8>, Error> {
         Play::Texts => canonical(alloc, input),
         Play::Run => ran(alloc, input),
         Play::Worked => worked_out(alloc, input),
+        Play::Served(size) => requests::served(alloc, size, input),
+        Play::Cut => requests::cut(alloc, input),
     }
 }
 
 /// What is written on the input over the docket in vectors, if it is one of commands.
 fn played_in_vectors(alloc: Global, play: Play, input: &[u8]) -> Option<Result<Vec<u8>, Error>> {
     match play {
-        Play::Count | Play::Texts => None,
+        Play::Count | Play::Texts | Play::Served(_) | Play::Cut => None,
         Play::Run => Some(vectors::ran(alloc, input)),
         Play::Worked => Some(vectors::worked_out(alloc, input)),
+    }
+}
+
+/// What is told beside the name of the input.
+fn told(play: Play) -> &'static str {
+    match play {
+        Play::Served(1) => ", byte by byte",
+        Play::Served(7) => ", in pieces of 7",
+        _ => "",
     }
 }
 
@@ -90,7 +110,7 @@ pub(crate) fn play_all(rt: &HostRuntime) -> io::Result<bool> {
     let mut all = true;
     for (play, name) in INPUTS {
         let input = input(rt, name)?;
-        all &= is_as_stored(rt, name, "", played(rt.alloc(), play, &input))?;
+        all &= is_as_stored(rt, name, told(play), played(rt.alloc(), play, &input))?;
         if let Some(written) = played_in_vectors(rt.alloc(), play, &input) {
             all &= is_as_stored(rt, name, ", in vectors", written)?;
         }

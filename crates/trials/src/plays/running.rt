@@ -6,12 +6,12 @@ use docket_store::{Docket, Returned};
 use sqlite::{Connection, MemStore};
 use std::alloc::Global;
 
-/// A clerk who keeps a docket without any record, in memory, for a court of the zone.
-pub(crate) fn clerk(alloc: Global, zone: &str) -> Result<Clerk<MemStore>, Error> {
+/// A docket without any record, in memory, for a court of the zone.
+pub(crate) fn docket(alloc: Global, zone: &str) -> Result<Docket<MemStore>, Error> {
     let court = Court::read(alloc, zone, "17:00").map_err(|_| anyhow!("no court"))?;
     let connection = Connection::open_in_memory(alloc)?;
     match Docket::create(alloc, connection, court) {
-        Ok(docket) => Ok(Clerk::new(alloc, docket)),
+        Ok(docket) => Ok(docket),
         Err(
             Returned {
                 fault,
@@ -19,6 +19,11 @@ pub(crate) fn clerk(alloc: Global, zone: &str) -> Result<Clerk<MemStore>, Error>
             },
         ) => Err(anyhow!("{fault}")),
     }
+}
+
+/// A clerk who keeps such a docket.
+pub(crate) fn clerk(alloc: Global, zone: &str) -> Result<Clerk<MemStore>, Error> {
+    Ok(Clerk::new(alloc, docket(alloc, zone)?))
 }
 
 /// Appends what the clerk answers to the commands.
