@@ -113,8 +113,9 @@ class Docket:
         return {"number": number}
 
 
-docket = Docket(sys.argv[1])
-for line in sys.stdin:
-    sys.stdout.write(json.dumps(docket.apply(line), sort_keys=True, separators=(",", ":")) + "\n")
-    sys.stdout.flush()
-docket.conn.close()
+if __name__ == "__main__":
+    docket = Docket(sys.argv[1])
+    for line in sys.stdin:
+        sys.stdout.write(json.dumps(docket.apply(line), sort_keys=True, separators=(",", ":")) + "\n")
+        sys.stdout.flush()
+    docket.conn.close()

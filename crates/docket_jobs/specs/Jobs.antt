@@ -23,6 +23,7 @@ pub data Asked : Type 0 where
   to_import : Text → Text → Asked
   to_tell_case : Text → ℕ → Asked
   to_tell_calendar : Text → ℕ → ℕ → Asked
+  to_serve : Text → ℕ → ℕ → Asked
   to_tell_holidays : ℕ → Asked
 
 abbrev pub asked : Job → Asked
@@ -32,6 +33,7 @@ asked (job.Run file zone close) = to_run (option_map (λ f. f.now) file) zone.no
 asked (job.Import file key) = to_import file.now key.now
 asked (job.Case file number) = to_tell_case file.now number
 asked (job.Calendar file from to) = to_tell_calendar file.now from to
+asked (job.Serve file port count) = to_serve file.now port count
 asked (job.Holidays year) = to_tell_holidays year
 
 -- 1 to 10 digits, the first of them not 0
@@ -48,6 +50,20 @@ year_if n = if nat_le 2000 n && nat_le n 2099 then Some n else None
 -- a year from 2000 to 2099
 abbrev pub year_of : Text → Option ℕ
 year_of text = option_and_then year_if (number_of text)
+
+abbrev pub port_if : ℕ → Option ℕ
+port_if n = if nat_lt n 65_536 then Some n else None
+
+-- a port from 0 to 65535
+abbrev pub port_of : Text → Option ℕ
+port_of text = if bytes_eq text (codes "0") then Some 0 else option_and_then port_if (number_of text)
+
+abbrev pub count_if : ℕ → Option ℕ
+count_if n = if nat_le n 1_000_000 then Some n else None
+
+-- a number of connections from 1 to 1,000,000
+abbrev pub count_of : Text → Option ℕ
+count_of text = option_and_then count_if (number_of text)
 
 -- the value of an option or a place; clap asks for one, or has a default
 abbrev pub value_of : Text → List Row → Text
@@ -74,6 +90,15 @@ abbrev pub calendar_asked : List Row → Option Asked
 calendar_asked found =
     calendar_if (value_of (codes "db") found) (day_of_text (value_of (codes "from") found)) (day_of_text (value_of (codes "to") found))
 
+abbrev pub serve_if : Text → Option ℕ → Option ℕ → Option Asked
+serve_if file (Some port) (Some count) = Some (to_serve file port count)
+serve_if file _ _ = None
+
+-- so many connections at a port
+abbrev pub serve_asked : List Row → Option Asked
+serve_asked found =
+    serve_if (value_of (codes "db") found) (port_of (value_of (codes "port") found)) (count_of (value_of (codes "count") found))
+
 abbrev pub holidays_asked : List Row → Option Asked
 holidays_asked found = option_map to_tell_holidays (year_of (value_of (codes "year") found))
 
@@ -85,8 +110,9 @@ asked_by name found =
     else (if bytes_eq name (codes "import") then Some (import_asked found)
     else (if bytes_eq name (codes "case") then case_asked found
     else (if bytes_eq name (codes "calendar") then calendar_asked found
+    else (if bytes_eq name (codes "serve") then serve_asked found
     else (if bytes_eq name (codes "holidays") then holidays_asked found
-    else Some to_count)))))
+    else Some to_count))))))
 
 -- with no subcommand docketctl counts
 abbrev pub asked_in : Option (Text × List Row) → Option Asked

@@ -2,11 +2,11 @@
 ghost use Rattle.std.specs.Prelude.{◌≡◌, false, IfOk};
 ghost use Rattle.clap.specs.Walk.{rule_of};
 ghost use Rattle.clap.specs.Simple.{new_app};
-ghost use Rattle.docket_jobs.specs.CommandLine.{option_rule, required, with_default, place_rule, HasLine, count_line, create_line, run_line, import_line, case_line, calendar_line, holidays_line, bare_line, docketctl};
+ghost use Rattle.docket_jobs.specs.CommandLine.{option_rule, required, with_default, place_rule, HasLine, count_line, create_line, run_line, import_line, case_line, calendar_line, serve_line, holidays_line, bare_line, docketctl};
 
 use crate::help::{
     CALENDAR_HELP, CASE_HELP, COUNT_HELP, CREATE_HELP, HOLIDAYS_HELP, IMPORT_HELP, PROGRAM_HELP,
-    RUN_HELP,
+    RUN_HELP, SERVE_HELP,
 };
 use clap::{Arg, ArgAction, Command};
 use std::alloc::{AllocError, Global};
@@ -175,6 +175,28 @@ fn calendar_command<'a>(alloc: Global) -> Result<Command<'a>, AllocError>
     .arg(to)
 }
 
+fn serve_command<'a>(alloc: Global) -> Result<Command<'a>, AllocError>
+    ensures { IfOk result (HasLine serve_line) }
+{
+    let file = needed_option(alloc, "db", "FILE", FILE_TEXT);
+    let port = needed_option(
+        alloc,
+        "port",
+        "P",
+        "The port at 127.0.0.1, or 0 for one that is free",
+    );
+    let count = needed_option(alloc, "count", "N", "How many connections are served");
+    subcommand(
+        alloc,
+        "serve",
+        "Answer requests of HTTP from this machine, one a connection",
+        SERVE_HELP,
+    )
+    .arg(file)?
+    .arg(port)?
+    .arg(count)
+}
+
 fn holidays_command<'a>(alloc: Global) -> Result<Command<'a>, AllocError>
     ensures { IfOk result (HasLine holidays_line) }
 {
@@ -213,5 +235,6 @@ pub(crate) fn command<'a>(alloc: Global) -> Result<Command<'a>, AllocError>
         .subcommand(import_command(alloc)?)?
         .subcommand(case_command(alloc)?)?
         .subcommand(calendar_command(alloc)?)?
+        .subcommand(serve_command(alloc)?)?
         .subcommand(holidays_command(alloc)?)
 }

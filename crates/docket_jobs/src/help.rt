@@ -32,7 +32,9 @@ With no command, docketctl counts. A docket in a file is made, kept and read lik
   docketctl import --db court.db --key holidays-2027 < holidays.csv
   docketctl run --db court.db < commands.jsonl
   docketctl case --db court.db 1
-  docketctl calendar --db court.db 2027-01-01 2027-12-31";
+  docketctl calendar --db court.db 2027-01-01 2027-12-31
+It is served to programs of this machine by HTTP:
+  docketctl serve --db court.db --port 8080 --count 1000";
 
 pub(crate) const CREATE_HELP: &str = "\
 The file must not hold a docket yet; where there is none it is made. ZONE is as
@@ -107,6 +109,23 @@ for other filing; one of hours ends at an instant. The last line tells how many 
 FROM and TO are days from 1980-01-01 to 3999-12-31, and TO is not before FROM.
 
 Exit status: 0 the calendar was told, 2 bad command line, 3 writing, memory or the database failed.";
+
+pub(crate) const SERVE_HELP: &str = "\
+The docket is served at 127.0.0.1 alone, one connection after the other and one request a connection:
+  POST /commands              a command, as a line of `docketctl run`
+  GET /cases/NUMBER           a case, as of `docketctl case`
+  GET /cases/NUMBER/deadlines its deadlines
+  GET /calendar/FROM/TO       a calendar, as of `docketctl calendar`
+  GET /holidays/YEAR          the holidays of a year, as of `docketctl holidays`
+A reply to a command goes out when it stands in the file. The first line of the output is written
+when connections are taken; port 0 is one that is free:
+  docketctl serve --db court.db --port 8080 --count 1000
+  listening on 127.0.0.1:8080
+A client is waited for ten seconds in all for its request, and ten for its answer. What goes wrong
+with a connection is told in a line of standard error, and the next is served.
+
+Exit status: 0 N connections were served, 2 bad command line, 3 the docket or the port could not
+be opened, or writing, memory or the database failed.";
 
 pub(crate) const HOLIDAYS_HELP: &str = "\
 Each holiday has a line: its day, the weekday, and its name. One of a fixed date that falls on a

@@ -5,10 +5,10 @@ ghost use Rattle.clap.specs.Matches.{found_of};
 ghost use Rattle.clap.specs.Simple.{subcommand_rows_of};
 ghost use Rattle.clap.specs.Walk.{rows_of};
 ghost use Rattle.civil_time.specs.DayText.{day_of_text};
-ghost use Rattle.docket_jobs.specs.Jobs.{IsLimited, asked, asked_by, asked_in, asked_of, calendar_asked, case_asked, create_asked, holidays_asked, import_asked, line_faults, run_asked, value_of};
+ghost use Rattle.docket_jobs.specs.Jobs.{IsLimited, asked, asked_by, asked_in, asked_of, calendar_asked, case_asked, create_asked, holidays_asked, import_asked, line_faults, run_asked, serve_asked, value_of};
 
 use crate::command_line::command;
-use crate::number::{read_number, read_year};
+use crate::number::{read_count, read_number, read_port, read_year};
 use civil_time::{Day, read_day};
 use clap::error::ErrorKind;
 use clap::{ArgMatches, Error};
@@ -49,6 +49,13 @@ pub enum Job<'a> {
         from: Day,
         to: Day,
     },
+    /// `serve`: answer the requests of 1 to 1,000,000 connections, at a port of this machine alone, of the
+    /// docket in a file. Port 0 is one that the system chooses.
+    Serve {
+        file: &'a str,
+        port: u16,
+        count: u32,
+    },
     /// `holidays`: tell the statutory holidays of a year from 2000 to 2099.
     Holidays {
         year: u32,
@@ -61,6 +68,8 @@ enum BadValue {
     Number,
     Day,
     Range,
+    Port,
+    Count,
     Year,
 }
 
@@ -70,6 +79,8 @@ impl BadValue {
             BadValue::Number => "NUMBER is a number from 1 to 4294967295, without a leading zero",
             BadValue::Day => "FROM and TO are days from 1980-01-01 to 3999-12-31, as 2027-04-19",
             BadValue::Range => "FROM is after TO",
+            BadValue::Port => "P is a port from 0 to 65535, without a leading zero",
+            BadValue::Count => "N is a number from 1 to 1000000, without a leading zero",
             BadValue::Year => "YEAR is a year from 2000 to 2099",
         }
     }
@@ -147,6 +158,19 @@ fn calendar_job<'a>(found: &ArgMatches<'a>) -> Result<Job<'a>, BadValue>
     })
 }
 
+fn serve_job<'a>(found: &ArgMatches<'a>) -> Result<Job<'a>, BadValue>
+    ensures { MatchResult result (λ job. serve_asked (rows_of (found_of found.now)) ≡ Some (asked job))
+        (λ _. serve_asked (rows_of (found_of found.now)) ≡ None) }
+{
+    let port = read_port(value(found, "port")).ok_or(BadValue::Port)?;
+    let count = read_count(value(found, "count")).ok_or(BadValue::Count)?;
+    Ok(Job::Serve {
+        file: value(found, "db"),
+        port,
+        count,
+    })
+}
+
 fn holidays_job<'a>(found: &ArgMatches<'a>) -> Result<Job<'a>, BadValue>
     ensures limited { IfOk result IsLimited }
     ensures job { MatchResult result (λ job. holidays_asked (rows_of (found_of found.now)) ≡ Some (asked job))
@@ -168,6 +192,7 @@ fn job_by<'a>(name: &str, found: &ArgMatches<'a>) -> Result<Job<'a>, BadValue>
         "import" => Ok(import_job(found)),
         "case" => case_job(found),
         "calendar" => calendar_job(found),
+        "serve" => serve_job(found),
         "holidays" => holidays_job(found),
         _ => Ok(Job::Count),
     }

@@ -8,6 +8,7 @@ use crate::create::create_docket;
 use crate::holiday::tell_holidays;
 use crate::import::import_days;
 use crate::progress::Progress;
+use crate::serving::serve_docket;
 use crate::status::Status;
 use crate::telling::failed;
 use count_lines::count_run;
@@ -59,6 +60,7 @@ pub fn run_job<R: Read, W: Write, E: Write>(
         Job::Import { file, key } => import_days(rt, file, key, r, w, e),
         Job::Case { file, number } => tell_case(rt, file, *number, w, e),
         Job::Calendar { file, from, to } => tell_calendar(rt, file, *from, *to, w, e),
+        Job::Serve { file, port, count } => serve_docket(rt, file, *port, *count, w, e),
         Job::Holidays { year } => tell_holidays(rt.alloc(), *year, w, e),
     }
 }

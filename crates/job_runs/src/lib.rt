@@ -12,6 +12,7 @@ mod holiday;
 mod import;
 mod job;
 mod progress;
+mod serving;
 mod status;
 mod telling;
 

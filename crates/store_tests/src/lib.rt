@@ -17,3 +17,5 @@ mod jobs;
 mod memory;
 #[cfg(test)]
 mod rows;
+#[cfg(test)]
+mod serving;

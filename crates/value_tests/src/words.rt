@@ -13,7 +13,7 @@ fn words_of(alloc: Global, line: &str) -> Result<Vec<String>, AllocError> {
 }
 
 /// What the words ask for.
-const JOBS: [(&str, Job<'static>); 12] = [
+const JOBS: [(&str, Job<'static>); 14] = [
     ("docketctl", Job::Count),
     ("docketctl count", Job::Count),
     (
@@ -75,6 +75,22 @@ const JOBS: [(&str, Job<'static>); 12] = [
         Job::Case {
             file: "court.db",
             number: 4294967295,
+        },
+    ),
+    (
+        "docketctl serve --db court.db --port 0 --count 1",
+        Job::Serve {
+            file: "court.db",
+            port: 0,
+            count: 1,
+        },
+    ),
+    (
+        "docketctl serve --count=1000000 --db court.db --port=65535",
+        Job::Serve {
+            file: "court.db",
+            port: 65535,
+            count: 1_000_000,
         },
     ),
     ("docketctl holidays 2000", Job::Holidays { year: 2000 }),
@@ -143,7 +159,7 @@ fn calendars(rt: HostRuntime) {
 }
 
 /// What is printed where the words ask for no job, and whether that is a mistake.
-const TEXTS: [(&str, &str, bool); 22] = [
+const TEXTS: [(&str, &str, bool); 28] = [
     ("docketctl --help", "Usage: docketctl [COMMAND]", false),
     ("docketctl --version", "docketctl 0.1.0", false),
     ("docketctl count --help", "forward DAY N", false),
@@ -218,6 +234,36 @@ const TEXTS: [(&str, &str, bool); 22] = [
         true,
     ),
     ("docketctl import --help", "kind,day,name", false),
+    (
+        "docketctl serve --help",
+        "listening on 127.0.0.1:8080",
+        false,
+    ),
+    (
+        "docketctl serve --db court.db --port 65536 --count 1",
+        "error: P is a port from 0 to 65535, without a leading zero",
+        true,
+    ),
+    (
+        "docketctl serve --db court.db --port 080 --count 1",
+        "error: P is a port from 0 to 65535, without a leading zero",
+        true,
+    ),
+    (
+        "docketctl serve --db court.db --port 80 --count 0",
+        "error: N is a number from 1 to 1000000, without a leading zero",
+        true,
+    ),
+    (
+        "docketctl serve --db court.db --port 80 --count 1000001",
+        "error: N is a number from 1 to 1000000, without a leading zero",
+        true,
+    ),
+    (
+        "docketctl serve --db court.db --port 80",
+        "the following required arguments were not provided",
+        true,
+    ),
     (
         "docketctl dance",
         "error: unrecognized subcommand 'dance'",

@@ -26,9 +26,14 @@ const MISSING: &str = "docketctl: \"@/court.db\": there is no such file\n";
 
 const NO_FILE: &str = "docketctl: \"@\": it is no regular file\n";
 
-const NO_DOCKET: [Fault; 7] = [
+const NO_DOCKET: [Fault; 8] = [
     ("docketctl run --db @/court.db", MISSING, 3),
     ("docketctl case --db @/court.db 1", MISSING, 3),
+    (
+        "docketctl serve --db @/court.db --port 0 --count 1",
+        MISSING,
+        3,
+    ),
     ("docketctl run --db @", NO_FILE, 3),
     ("docketctl case --db @ 1", NO_FILE, 3),
     (

@@ -1,0 +1,11 @@
+//! A docket served on a listener: one connection after the other, one request each.
+//!
+//! No peer holds the docket: each is waited for at most ten seconds in all for its request, and as long
+//! for its answer. What goes wrong with one connection is told in a line, and the next is served.
+#![tactic(auto)]
+
+mod connection;
+mod parting;
+mod serving;
+
+pub use serving::{ServingFault, serve_run};

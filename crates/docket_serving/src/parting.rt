@@ -1,0 +1,52 @@
+//! Parting from a peer so that it has its answer.
+
+use docket_http::{ServeFault, Served};
+use patient_stream::PatientReader;
+use std::io;
+use std::io::Read;
+use std::net::{Shutdown, TcpStream};
+use std::time::Duration;
+
+/// How many seconds a peer is waited for to close its side.
+const FAREWELL: u64 = 1;
+
+/// The most pieces that are read and dropped.
+const MAX_PIECES: u32 = 1024;
+
+/// Whether an answer went out that may have come before the whole request was read.
+fn is_early(served: &Result<Served, ServeFault>) -> bool {
+    match served {
+        Ok(served) => served.status != 200 && served.status != 409,
+        Err(_) => false,
+    }
+}
+
+/// Whether bytes have come that were not read.
+fn has_unread(stream: &TcpStream) -> bool {
+    let mut first = [0u8; 1];
+    let _ = stream.set_nonblocking(true);
+    let peeked = stream.peek(&mut first);
+    let _ = stream.set_nonblocking(false);
+    matches!(peeked, Ok(1))
+}
+
+/// Reads and drops what still comes, until the peer closes its side.
+fn drop_rest(rt: &HostRuntime, stream: &TcpStream) -> io::Result<()> {
+    stream.shutdown(Shutdown::Write)?;
+    let mut rest = PatientReader::new(rt, stream, Duration::from_secs(FAREWELL));
+    let mut piece = [0u8; 4096];
+    for _ in 0..MAX_PIECES {
+        if rest.read(&mut piece)? == 0 {
+            return Ok(());
+        }
+    }
+    Ok(())
+}
+
+/// Ends a connection. To close a socket with unread bytes resets the connection, and the peer may lose
+/// its answer; so they are read and dropped for a while.
+pub(crate) fn part(rt: &HostRuntime, stream: &TcpStream, served: &Result<Served, ServeFault>) {
+    if is_early(served) || has_unread(stream) {
+        let _ = drop_rest(rt, stream);
+    }
+}
