@@ -5,3 +5,4 @@ mod ListingLemmas
 mod OpeningLemmas
 mod ReopeningLemmas
 mod RunLemmas
+mod SessionLemmas

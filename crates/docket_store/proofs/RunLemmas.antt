@@ -37,7 +37,8 @@ module _ (court : CourtSettings) (h : History) (cs : List Command) (i : ℕ) (c 
       subst P (λ j. (sym e j, (sym (answers-push court h (take i cs) c) ∙ ap (answers court h) (sym next)) j)) (replies-push rs (answers court h (take i cs)) r (outcome court (run court h (take i cs)) c) told said)
 
   module _ {S : Type 0} (g : Ghosts S) (d : Docket S) (same : d.court ≡ court) where
-    halts_more : (f : Fault) → HasCleanDisk (state g d.conn) → Halts g d (run d.court h (take i cs)) c f → after d.court (run d.court h (take i cs)) c ≡ run d.court h (take (i + 1) cs) → HaltsAfter g d h cs i f
+    -- what a command that halted the run leaves
+    pub halts_more : (f : Fault) → HasCleanDisk (state g d.conn) → Halts g d (run d.court h (take i cs)) c f → after d.court (run d.court h (take i cs)) c ≡ run d.court h (take (i + 1) cs) → HaltsAfter g d h cs i f
     halts_more (Refused r) clean halts more = halts
     halts_more NoMemory clean halts more = halts
     halts_more StoreFailed clean halts more = subst (λ (x : History). LastsAsEither g d.conn (docket_rows d.court (run d.court h (take i cs))) (docket_rows d.court x)) more halts

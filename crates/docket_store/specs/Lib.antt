@@ -4,4 +4,5 @@ pub mod Listing
 pub mod Opening
 pub mod Reopening
 pub mod Sequence
+pub mod Sessions
 pub mod Sound

@@ -15,6 +15,7 @@ mod recovering;
 mod reopening;
 mod returned;
 mod sequence;
+mod sessions;
 
 pub use adopting::AdoptFault;
 pub use creating::CreateFault;
@@ -26,3 +27,4 @@ pub use recovering::{RecoverFault, apply_again, recover};
 pub use reopening::{power_failures_leave_dockets, reopen, reopen_from, stop};
 pub use returned::Returned;
 pub use sequence::{answer, apply_all};
+pub use sessions::{SessionEnd, session};

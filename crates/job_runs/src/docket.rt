@@ -35,23 +35,37 @@ fn adopted<S: Alter + Drop>(alloc: Global, conn: Connection<S>) -> Result<Docket
     }
 }
 
+/// The database in a file that is there, or how the job ends.
+pub(crate) fn open_connection<E: Write>(
+    rt: &HostRuntime,
+    path: &str,
+    e: &mut E,
+) -> Result<Connection<FileStore<File>>, Status> {
+    match open_file(rt, path) {
+        Ok(conn) => Ok(conn),
+        Err(fault) => Err(failed(rt.alloc(), e, &AtPath { path, fault })),
+    }
+}
+
 /// The docket in a file that is there, or how the job ends.
 pub(crate) fn open_docket<E: Write>(
     rt: &HostRuntime,
     path: &str,
     e: &mut E,
 ) -> Result<Docket<FileStore<File>>, Status> {
-    let conn = match open_file(rt, path) {
-        Ok(conn) => conn,
-        Err(fault) => return Err(failed(rt.alloc(), e, &AtPath { path, fault })),
-    };
+    let conn = open_connection(rt, path, e)?;
     match adopted(rt.alloc(), conn) {
         Ok(docket) => Ok(docket),
         Err(fault) => Err(failed(rt.alloc(), e, &AtPath { path, fault })),
     }
 }
 
-/// Lets the docket go. Its log is copied into the file; where that fails the log keeps it.
+/// Lets the database go. Its log is copied into the file; where that fails the log keeps it.
+pub(crate) fn close_connection(conn: Connection<FileStore<File>>) {
+    let _ = conn.close();
+}
+
+/// Lets the docket go, with its database.
 pub(crate) fn close_docket(docket: Docket<FileStore<File>>) {
-    let _ = docket.close().close();
+    close_connection(docket.close());
 }

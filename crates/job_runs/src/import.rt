@@ -1,58 +1,87 @@
 //! A table of days, entered in the calendar of a docket by one command.
 
-use crate::docket::{close_docket, open_docket};
+use crate::docket::{AtPath, close_connection, open_connection};
 use crate::status::Status;
 use crate::telling::{failed, write_text};
-use docket_command::{Action, Command, ImportCalendar, NewDay, NewDays, Text};
-use docket_store::{Docket, Fault};
+use docket_command::{Action, Command, ImportCalendar, NewDay, NewDays, Refusal, Reply, Text};
+use docket_store::{Fault, Returned, SessionEnd, session};
 use docket_wire::{CsvFault, read_calendar_csv, reply_text};
-use sqlite::Alter;
 use std::alloc::{AllocError, Global};
 use std::io::{Read, Write};
 
-/// The command that enters the days.
-fn import_of(alloc: Global, key: &str, days: Vec<NewDay>) -> Result<Command, AllocError> {
-    Ok(Command {
+/// The one command that enters the days.
+fn import_of(alloc: Global, key: &str, days: Vec<NewDay>) -> Result<[Command; 1], AllocError> {
+    Ok([Command {
         key: Text::from_str(alloc, key)?,
         action: Action::ImportCalendar(ImportCalendar {
             rows: NewDays::new(days),
         }),
-    })
+    }])
 }
 
-/// The line that the command is answered, and whether it was accepted.
-fn answer_line<S: Alter>(
+/// The lines of the answers to commands, and whether all were accepted.
+fn answer_lines(
     alloc: Global,
-    docket: &mut Docket<S>,
-    command: &Command,
-) -> Result<(String, Status), Fault> {
-    let (answer, status) = match docket.apply(command) {
-        Ok(reply) => (Ok(reply), Status::Done),
-        Err(Fault::Refused(refusal)) => (Err(refusal), Status::SomeBad),
-        Err(fault) => return Err(fault),
-    };
-    let mut line = reply_text(alloc, &answer)?;
-    line.push('\n')?;
-    Ok((line, status))
+    answers: &[Result<Reply, Refusal>],
+) -> Result<(String, Status), AllocError> {
+    let mut lines = String::new(alloc);
+    let mut status = Status::Done;
+    for answer in answers {
+        let line = reply_text(alloc, answer)?;
+        lines.push_str(line.as_str())?;
+        lines.push('\n')?;
+        if answer.is_err() {
+            status = Status::SomeBad;
+        }
+    }
+    Ok((lines, status))
+}
+
+/// Tells the answers of a session, or why it stopped.
+fn tell_answers<W: Write, E: Write>(
+    alloc: Global,
+    answers: &[Result<Reply, Refusal>],
+    stopped_at: Option<(usize, Fault)>,
+    w: &mut W,
+    e: &mut E,
+) -> Status {
+    if let Some((_, fault)) = stopped_at {
+        return failed(alloc, e, &fault);
+    }
+    match answer_lines(alloc, answers) {
+        Ok((lines, status)) => write_text(alloc, lines.as_str(), status, w, e),
+        Err(_) => failed(alloc, e, &Fault::NoMemory),
+    }
 }
 
 fn send<W: Write, E: Write>(
     rt: &HostRuntime,
     path: &str,
-    command: &Command,
+    commands: &[Command],
     w: &mut W,
     e: &mut E,
 ) -> Status {
-    match open_docket(rt, path, e) {
-        Ok(mut docket) => {
-            let answer = answer_line(rt.alloc(), &mut docket, command);
-            close_docket(docket);
-            match answer {
-                Ok((line, status)) => write_text(rt.alloc(), line.as_str(), status, w, e),
-                Err(fault) => failed(rt.alloc(), e, &fault),
-            }
+    let conn = match open_connection(rt, path, e) {
+        Ok(conn) => conn,
+        Err(status) => return status,
+    };
+    match session(rt.alloc(), conn, commands) {
+        Ok(
+            SessionEnd {
+                replies,
+                stopped_at,
+                connection,
+            },
+        ) => {
+            close_connection(connection);
+            tell_answers(rt.alloc(), replies.as_slice(), stopped_at, w, e)
         }
-        Err(status) => status,
+        Err(
+            Returned {
+                fault,
+                connection: _,
+            },
+        ) => failed(rt.alloc(), e, &AtPath { path, fault }),
     }
 }
 
@@ -83,7 +112,7 @@ pub(crate) fn import_days<R: Read, W: Write, E: Write>(
     }
     match read_calendar_csv(rt.alloc(), table.as_slice()) {
         Ok(days) => match import_of(rt.alloc(), key, days) {
-            Ok(command) => send(rt, path, &command, w, e),
+            Ok(commands) => send(rt, path, &commands, w, e),
             Err(_) => failed(rt.alloc(), e, &"there is not enough memory"),
         },
         Err(fault) => refuse(rt.alloc(), fault, w, e),

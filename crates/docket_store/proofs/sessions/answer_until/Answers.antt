@@ -1,0 +1,56 @@
+use Rattle.std.proofs.Common.{◌≡◌, ◌+◌, ◌<◌, ℕ, [], ◌∷◌, length, take, refl, sym, ap, subst, ◌∙◌, arith}
+use Rattle.std.proofs.lemmas.List.{length-append}
+use Rattle.court_days.specs.Court.{CourtSettings}
+use Rattle.docket_core.specs.Histories.{History}
+use Rattle.docket_core.specs.Outcomes.{run, answers}
+use Rattle.docket_store.specs.Applying.{IsDocket, Stands}
+use Rattle.docket_store.specs.Sequence.{AreReplies}
+use Rattle.docket_store.proofs.RunLemmas.{run_more, replies_more, halts_more}
+use Rattle.docket_store.proofs.SessionLemmas.{answered, stopped}
+use Rattle.docket_store.proofs.sessions.answer_until.Goals as goal
+
+pub returns-in-Err-clause-ends : goal.returns-in-Err-clause-ends
+returns-in-Err-clause-ends g c h stands clean =
+    let i = c.commands.command-index in
+    let cs = c.args.commands.now in
+    let command = c.command-item.result in
+    let d = c.answer.new.docket in
+    let told = c.commands.replies.items in
+    let inside : i < length cs = omega arith in
+    let was = c.commands.invariant.answers h stands (omega (arith, c.answer.ensures.clean)) in
+    let before = subst (λ (k : CourtSettings). Stands g.S.Store c.commands.docket (run k h (take i cs)) × AreReplies told (answers k h (take i cs))) (sym c.answer.ensures.court) was in
+    let is = subst (λ (k : CourtSettings). IsDocket k (run d.court h (take i cs))) (sym c.answer.ensures.court) before.0.docket in
+    let halts = c.in-Err.ensures.halts (run d.court h (take i cs)) before.0 in
+    stopped g.S.Store d h cs told i c.len.result c.in-Err.fault (sym c.commands.invariant.count) (c.len.ensures ∙ c.commands.invariant.len) inside before.1 is
+    (halts_more d.court h cs i command inside c.command-item.is g.S.Store d refl c.in-Err.fault clean halts (run_more d.court h cs i command inside c.command-item.is))
+
+pub commands-preserved : goal.commands-preserved
+commands-preserved g c =
+    let i = c.commands.command-index in
+    let cs = c.args.commands.now in
+    let command = c.command-item.result in
+    let told = c.commands.replies.items in
+    let inside : i < length cs = omega arith in
+    record {
+      court = c.answer.ensures.court ∙ c.commands.invariant.court;
+      clean = omega (arith, c.commands.invariant.clean, c.answer.ensures.clean);
+      len = omega (arith, c.push_reserved.ensures.len, c.commands.invariant.len);
+      count = ap length c.push_reserved.ensures.items ∙ length-append told (c.in-Ok.reply ∷ []) ∙ ap (λ (n : ℕ). n + 1) c.commands.invariant.count;
+      room = omega (arith, c.push_reserved.ensures.capacity, c.commands.invariant.room);
+      answers = λ h stands clean.
+          let court = c.answer.new.docket.court in
+          let was = c.commands.invariant.answers h stands (omega (arith, c.answer.ensures.clean)) in
+          let before = subst (λ (k : CourtSettings). Stands g.S.Store c.commands.docket (run k h (take i cs)) × AreReplies told (answers k h (take i cs))) (sym c.answer.ensures.court) was in
+          let now = c.in-Ok.ensures.answer (run court h (take i cs)) before.0 clean in (
+            subst (λ (x : History). Stands g.S.Store c.answer.new.docket x) (run_more court h cs i command inside c.command-item.is) now.0,
+            replies_more court h cs i command inside c.command-item.is told c.push_reserved.new.self.items c.in-Ok.reply before.1 now.1 c.push_reserved.ensures.items,
+          );
+    }
+
+pub returns-clause-ends : goal.returns-clause-ends
+returns-clause-ends g c h stands clean =
+    let i = c.commands.command-index in
+    let cs = c.args.commands.now in
+    let all : i ≡ length cs = omega (arith, c.commands.auto.command-index-end, c.commands-test.false) in
+    let was = c.commands.invariant.answers h stands clean in
+    answered g.S.Store c.commands.docket h cs c.commands.replies.items i (sym c.commands.invariant.count) all was.0 was.1

@@ -1,0 +1,17 @@
+use Rattle.std.proofs.Common.{◌≡◌, ◌≤◌, length, take, vec_len, vec_capacity}
+use Rattle.sqlite.specs.Held.{state}
+use Rattle.sqlite.specs.View.{doubt}
+use Rattle.docket_core.specs.Histories.{History}
+use Rattle.docket_store.specs.Applying.{Stands}
+use Rattle.docket_store.specs.Sequence.{AnswersAll}
+use Rattle.docket_store.proofs.sessions.answer_until.Given as goal
+
+abbrev pub invariant-commands : goal.invariant-commands
+invariant-commands g l = record {
+  court : l.docket.court ≡ l.fn.docket.court;
+  clean : doubt (state g.S.Store l.fn.docket.conn).is_clean ≤ doubt (state g.S.Store l.docket.conn).is_clean;
+  len : vec_len l.replies ≡ l.command-index;
+  count : length l.replies.items ≡ l.command-index;
+  room : length l.commands ≤ vec_capacity l.replies;
+  answers : (h : History) → Stands g.S.Store l.fn.docket h → AnswersAll g.S.Store l.docket h (take l.command-index l.commands) l.replies.items;
+}

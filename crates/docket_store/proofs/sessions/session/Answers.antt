@@ -1,0 +1,18 @@
+use Rattle.std.proofs.Common.{◌∙◌, subst, arith}
+use Rattle.sqlite.specs.State.{HasCleanDisk}
+use Rattle.sqlite.specs.Held.{Held, state}
+use Rattle.docket_store.proofs.SessionLemmas.{ended, not_begun}
+use Rattle.docket_store.proofs.sessions.session.Goals as goal
+
+pub returns-in-Ok-clause-ends : goal.returns-in-Ok-clause-ends
+returns-in-Ok-clause-ends g c court h is stands clean =
+    let until = c.answer_until-stopped_at in
+    let d = until.new.docket in
+    let was : HasCleanDisk (state g.S.Store d.conn) = subst (λ (x : Held g.row.S.Denot). HasCleanDisk (state g.S.Store x)) c.close.ensures.conn clean in
+    let adopted = c.in_ok-docket.ensures.adopted court h is stands (omega (arith, was, until.ensures.clean)) in
+    ended g.S.Store d h c.args.commands.now until.new.replies.items until.result court c.close.result (until.ensures.court ∙ adopted.1) c.close.ensures.conn
+    (until.ensures.ends h adopted.0 was)
+
+pub returns-in-Err-clause-ends : goal.returns-in-Err-clause-ends
+returns-in-Err-clause-ends g c court h is stands =
+    (c.close-in-Err.ensures.idle, not_begun g.S.Store c.in_ok-docket.docket court h c.close-in-Err.result c.close-in-Err.ensures.conn (c.in_ok-docket.ensures.adopted court h is stands))

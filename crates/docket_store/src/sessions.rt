@@ -1,0 +1,88 @@
+//! A session: the docket of a database is adopted, commands are applied, and the connection goes back.
+ghost use Rattle.std.specs.Prelude.{◌≡◌, ◌≤◌, [], length, false, IfErr, IsErrAnd, MatchResult, vec_capacity, vec_len};
+ghost use Rattle.sqlite.specs.Held.{state};
+ghost use Rattle.sqlite.specs.View.{doubt};
+ghost use Rattle.court_days.specs.Court.{CourtSettings};
+ghost use Rattle.docket_core.specs.Histories.{History};
+ghost use Rattle.docket_tables.specs.Recognition.{has_court};
+ghost use Rattle.docket_store.specs.Applying.{IsDocket, StandsFor, Stands, docket_rows};
+ghost use Rattle.docket_store.specs.Opening.{IsNotAdopted};
+ghost use Rattle.docket_store.specs.Sessions.{EndsSession};
+ghost use Rattle.docket_store.specs.declared.adopting.AdoptFault.TheVariants.{Empty};
+
+use crate::adopting::AdoptFault;
+use crate::docket::Docket;
+use crate::fault::Fault;
+use crate::returned::Returned;
+use crate::sequence::answer;
+use docket_command::{Command, Refusal, Reply};
+use sqlite::{Alter, Connection};
+use std::alloc::Global;
+
+/// How a session ended: the answers to its first commands in order, and, where a command got none, its
+/// place and why. The connection is handed back.
+#[derive(Drop)]
+pub struct SessionEnd<S: Alter> {
+    pub replies: Vec<Result<Reply, Refusal>>,
+    pub stopped_at: Option<(usize, Fault)>,
+    pub connection: Connection<S>,
+}
+
+/// Answers commands in order, up to the first that gets no answer, and tells its place and why.
+fn answer_until<S: Alter>(
+    docket: &mut Docket<S>,
+    commands: &[Command],
+    replies: &mut Vec<Result<Reply, Refusal>>,
+) -> Option<(usize, Fault)>
+    requires fresh { replies.old.items ≡ [] }
+    requires none { vec_len replies.old ≡ 0 }
+    requires room { length commands.now ≤ vec_capacity replies.old }
+    ensures clean { doubt (state S.Store docket.old.conn).is_clean ≤ doubt (state S.Store docket.new.conn).is_clean }
+    ensures court { docket.new.court ≡ docket.old.court }
+    ensures ends { (h : History) → Stands S.Store docket.old h
+        → EndsSession S.Store docket.new.conn docket.new.court h commands.now replies.new.items result }
+{
+    'commands: for command in commands {
+        match answer(docket, command) {
+            Ok(reply) => replies.push_reserved(reply),
+            Err(fault) => return Some((replies.len(), fault)),
+        }
+    }
+    None
+}
+
+/// Adopts the docket that a database holds, and applies commands in order, each in a transaction of its
+/// own. A refusal is an answer; the first other fault stops the session, and then the commands before it
+/// stand. The memory for the answers is taken before the first command.
+pub fn session<S: Alter>(
+    alloc: Global,
+    connection: Connection<S>,
+    commands: &[Command],
+) -> Result<SessionEnd<S>, Returned<S, AdoptFault>>
+    ensures ends { (court : CourtSettings) (h : History) → IsDocket court h → StandsFor S.Store connection court h
+        → MatchResult result (λ end. EndsSession S.Store end.connection court h commands.now end.replies.items end.stopped_at)
+        (λ returned. IsNotAdopted S.Store returned.connection (docket_rows court h) returned.fault) }
+    // Without a court there is no docket, and the connection comes back as it was.
+    ensures empty { has_court connection.schema ≡ false
+        → IsErrAnd result (λ returned. (returned.fault ≡ Empty) × (returned.connection ≡ connection)) }
+    ensures court { IfErr result (λ returned. returned.fault ≡ Empty → has_court connection.schema ≡ false) }
+    ensures clean { MatchResult result
+        (λ end. doubt (state S.Store connection).is_clean ≤ doubt (state S.Store end.connection).is_clean)
+        (λ returned. doubt (state S.Store connection).is_clean ≤ doubt (state S.Store returned.connection).is_clean) }
+{
+    let mut docket = Docket::adopt(alloc, connection)?;
+    match Vec::with_capacity(alloc, commands.len()) {
+        Ok(mut replies) => {
+            let stopped_at = answer_until(&mut docket, commands, &mut replies);
+            Ok(SessionEnd {
+                replies,
+                stopped_at,
+                connection: docket.close(),
+            })
+        }
+        Err(_) => Err(Returned {
+            fault: AdoptFault::NoMemory,
+            connection: docket.close(),
+        }),
+    }
+}
