@@ -19,3 +19,5 @@ mod memory;
 mod rows;
 #[cfg(test)]
 mod serving;
+#[cfg(test)]
+mod sessions;
