@@ -1,11 +1,14 @@
 //! Opening the files that a run left, also one that a power failure stopped.
 ghost use Rattle.std.specs.Prelude.{◌≡◌, IsTrue, IfOk, IfErr, false};
 ghost use Rattle.sqlite_wal.specs.Files.{image_at};
+ghost use Rattle.sqlite_wal.specs.Reads.{AreClean};
 ghost use Rattle.sqlite_wal.specs.Recovery.{Image};
 ghost use Rattle.sqlite_store.specs.declared.store.FileStore.{FileStore};
 ghost use Rattle.sqlite_store.specs.FileStore.{view};
 ghost use Rattle.sqlite.specs.View.{IsClean};
 ghost use Rattle.sqlite.specs.Files.{over_files, image_of, IsCleanLeft, FailsToOpenFiles, LeavesFiles};
+ghost use Rattle.sqlite.specs.Held.{state};
+ghost use Rattle.sqlite.specs.State.{HasCleanDisk};
 ghost use Rattle.court_days.specs.Court.{CourtSettings};
 ghost use Rattle.docket_core.specs.Histories.{History};
 ghost use Rattle.docket_tables.specs.Stands.{LastsAsEither};
@@ -30,6 +33,7 @@ pub fn stop<D: Disk + Drop>(conn: Connection<FileStore<D>>) -> FileStore<D>
         → IsClean (view result) → LeavesEither conn.store court h h × LeavesEither result court h h }
     ensures either { (court : CourtSettings) (h next : History) → LastsAsEither over_files conn (docket_rows court h) (docket_rows court next)
         → IsClean (view result) → LeavesEither conn.store court h next × LeavesEither result court h next }
+    ensures clean { IsClean (view result) → HasCleanDisk (state over_files conn) }
 {
     conn.into_store()
 }
@@ -44,6 +48,7 @@ pub fn reopen<D: Disk + Drop>(
     requires log { IsTrue (D.Disk.is_usable files.log) }
     requires db { IsTrue (D.Disk.is_usable files.db) }
     ensures idle { IfOk result (λ conn. conn.in_transaction ≡ false) }
+    ensures clean { IfOk result (λ conn. HasCleanDisk (state over_files conn) → AreClean D.Disk files.log files.db) }
     ensures docket { (court : CourtSettings) (h : History) → HoldDocket (image_of D.Disk files) court h
         → IfOk result (λ conn. StandsFor over_files conn court h) }
     ensures either { (it : FileStore D D.Disk) (court : CourtSettings) (h next : History) → LeavesEither it court h next

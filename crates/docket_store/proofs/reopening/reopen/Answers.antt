@@ -15,3 +15,8 @@ returns-clause-either g c it court h next leaves may =
     if_ok _ _ _ _ c.open_files.result
     (λ conn new opened found. stands_for_either (image_of g.D.Disk c.args.files) conn new opened (λ clean. (found clean).holds) (settled_at conn.store g.met.D.Disk.seen_may_stay) court h next held)
     c.open_files.ensures.fresh c.open_files.ensures.opened c.open_files.ensures.found
+
+pub returns-clause-clean : goal.returns-clause-clean
+returns-clause-clean g c =
+    if_ok _ _ _ _ c.open_files.result (λ conn new opened found clean. (found clean).honest) c.open_files.ensures.fresh c.open_files.ensures.opened
+    c.open_files.ensures.found

@@ -14,3 +14,6 @@ returns-clause-either g c court h next lasts clean =
     let quiet = c.into_store.ensures.quiet in
     leaves_both c.args.conn c.into_store.result c.into_store.ensures.undone (c.into_store.ensures.numbered clean) quiet.outcomes court h next
     (lasts.1 (omega (arith, quiet.clean, clean)))
+
+pub returns-clause-clean : goal.returns-clause-clean
+returns-clause-clean g c clean = omega (arith, c.into_store.ensures.quiet.clean, clean)

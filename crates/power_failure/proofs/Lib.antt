@@ -1,0 +1,2 @@
+mod FailingLemmas
+mod HeadlineLemmas

@@ -1,0 +1,77 @@
+-- The promise of a docket over whole runs: stopped before or within any write and reopened, it is the docket that a prefix of the accepted
+-- commands defines; this prefix holds every acknowledged command, and at most the one under way besides.
+--
+-- A docket is a list of accepted commands, its history; `run court h cs` is that of h and of those of cs that are accepted, each judged
+-- in the history before it. A stop is a disk that fails from some call on; a power failure leaves of each file what its disk may leave.
+use Rattle.std.specs.Prelude.{◌≡◌, ◌+◌, ◌<◌, ◌≤◌, ℕ, List, length, take, Option, Some, None}
+use Rattle.std.specs.Io.KnownBytes.{Appends}
+use Rattle.std.specs.Option.{option_map}
+use Rattle.sqlite_disk.specs.declared.Disk.{Ghosts as Disk}
+use Rattle.sqlite_wal.specs.Reads.{AreClean}
+use Rattle.sqlite.specs.Files.{image_of, over_files}
+use Rattle.sqlite.specs.Held.{state}
+use Rattle.sqlite.specs.State.{HasCleanDisk}
+use Rattle.court_days.specs.Court.{CourtSettings}
+use Rattle.docket_command.specs.declared.command.Command.{Command}
+use Rattle.docket_core.specs.Histories.{History}
+use Rattle.docket_core.specs.Outcomes.{run}
+use Rattle.docket_core.specs.Records.{case_record, deadline_lines}
+use Rattle.docket_calendar.specs.Calendar.{calendar_rows, text_of_calendar}
+use Rattle.docket_store.specs.Applying.{IsDocket, Stands}
+use Rattle.docket_store.specs.Reopening.{HoldDocket}
+use Rattle.docket_store.specs.Sessions.{AnswersFirst}
+use Rattle.docket_store.specs.declared.fault.Fault.{Fault}
+use Rattle.power_failure.specs.declared.running.Interrupted.{Interrupted}
+use Rattle.power_failure.specs.declared.running.Reopened.{Reopened}
+use Rattle.power_failure.specs.declared.telling.Question.{Question}
+use Rattle.power_failure.specs.declared.telling.Told.{Told}
+
+-- the first n commands are those that were acknowledged, and at most one more
+pub record IsPrefix (acknowledged n : ℕ) (cs : List Command) : Type 0 where
+  pub holds : acknowledged ≤ n
+  pub one_more : n ≤ acknowledged + 1
+  pub within : n ≤ length cs
+
+-- all commands were acknowledged, or the one after those is told by its place
+abbrev pub StopsAt : List Command → ℕ → Option (ℕ × Fault) → Type 0
+StopsAt cs acknowledged None = acknowledged ≡ length cs
+StopsAt cs acknowledged (Some at) = (at.0 ≡ acknowledged) × (acknowledged < length cs)
+
+-- something holds of the docket that such a prefix defines
+abbrev pub OfPrefix : CourtSettings → History → List Command → ℕ → (History → Type 0) → Type 0
+OfPrefix court h cs acknowledged P =
+    ∥ ((n : ℕ) × IsPrefix acknowledged n cs × IsDocket court (run court h (take n cs)) × P (run court h (take n cs))) ∥₁
+
+-- the run acknowledged the first commands, each with its answer in the docket of those before it, and the files hold the docket of a prefix
+abbrev pub LeavesPrefix : {D : Type 0} → Disk D → CourtSettings → History → List Command → Interrupted D → Type 0
+LeavesPrefix g court h cs it =
+    AreClean g it.files.log it.files.db
+    → AnswersFirst court h cs it.replies.items
+    × StopsAt cs (length it.replies.items) it.stopped_at
+    × OfPrefix court h cs (length it.replies.items) (λ now. HoldDocket (image_of g it.files) court now)
+
+-- the same of the docket that is adopted then
+abbrev pub IsPrefixReopened : {D : Type 0} {g : Disk D} → CourtSettings → History → List Command → Reopened D g → Type 0
+IsPrefixReopened court h cs it =
+    HasCleanDisk (state over_files it.docket.conn)
+    → AnswersFirst court h cs it.replies.items
+    × StopsAt cs (length it.replies.items) it.stopped_at
+    × OfPrefix court h cs (length it.replies.items) (λ now. Stands over_files it.docket now × (it.docket.court ≡ court))
+
+-- what is told of a docket is what its history says: the case, with its parties and its entries; its deadlines, each with the date or the
+-- hour that the rules give by the court's whole calendar; and those that end on a day of a range, in order
+pub record Tells (court : CourtSettings) (h : History) (asked : Question) (before after : Option (List ℕ)) (told : Told) : Type 0 where
+  pub case : told.case ≡ case_record h asked.number
+  pub deadlines : option_map (λ lines. lines.items) told.deadlines ≡ deadline_lines court h asked.number
+  pub calendar : Appends before after (text_of_calendar court h asked.from asked.to)
+  pub lines : told.lines ≡ length (calendar_rows court h asked.from asked.to)
+
+-- the whole of it
+abbrev pub IsPrefixTold : {D : Type 0} {g : Disk D} → CourtSettings → History → List Command → Question → Option (List ℕ) → Option (List ℕ)
+    → Reopened D g → Told → Type 0
+IsPrefixTold court h cs asked before after it told =
+    HasCleanDisk (state over_files it.docket.conn)
+    → AnswersFirst court h cs it.replies.items
+    × StopsAt cs (length it.replies.items) it.stopped_at
+    × OfPrefix court h cs (length it.replies.items)
+    (λ now. Stands over_files it.docket now × (it.docket.court ≡ court) × Tells court now asked before after told)

@@ -1,0 +1,141 @@
+//! What the docket that is found tells.
+ghost use Rattle.std.specs.Prelude.{◌≡◌, ◌≤◌, IfOk, IsTrue};
+ghost use Rattle.std.specs.List.{AllByRecursion};
+ghost use Rattle.sqlite.specs.Files.{image_of};
+ghost use Rattle.sqlite.specs.Held.{state};
+ghost use Rattle.sqlite.specs.State.{HasCleanDisk};
+ghost use Rattle.sqlite.specs.View.{doubt};
+ghost use Rattle.court_days.specs.Court.{CourtSettings};
+ghost use Rattle.docket_core.specs.Histories.{History};
+ghost use Rattle.docket_wire.specs.Valid.{IsCommand};
+ghost use Rattle.docket_store.specs.Applying.{IsDocket, Stands};
+ghost use Rattle.docket_store.specs.Reopening.{HoldDocket};
+ghost use Rattle.power_failure.specs.Headline.{IsPrefixTold, Tells};
+
+use crate::running::{Reopened, reopen_after_power_failure};
+use court_days::Day;
+use docket_command::Command;
+use docket_core::{CaseRecord, DeadlineLine};
+use docket_store::{CalendarEnd, Docket, Fault, RecoverFault};
+use sqlite::{Alter, Files, Options};
+use sqlite_disk::{Crash, Disk};
+use std::alloc::Global;
+use std::io::Write;
+
+/// What is asked: a case and its deadlines, by its number, and the calendar of days, both included.
+#[derive(Clone, Copy)]
+pub struct Question {
+    pub number: u32,
+    pub from: Day,
+    pub to: Day,
+}
+
+/// What a docket tells: a case, its deadlines, and how many lines its calendar has, which is written.
+#[derive(Drop)]
+pub struct Told {
+    pub case: Option<CaseRecord>,
+    pub deadlines: Option<Vec<DeadlineLine>>,
+    pub lines: u32,
+}
+
+/// Why a docket was not told, or not whole.
+#[derive(Clone, Copy, Debug, PartialEq, Eq)]
+pub enum TellFault {
+    Case(Fault),
+    Calendar(CalendarEnd),
+}
+
+impl From<Fault> for TellFault {
+    ghost use Rattle.std.specs.Prelude.{◌≡◌};
+    ghost use Rattle.power_failure.specs.declared.telling.TellFault.TheVariants.{Case};
+
+    ghost from_gives = { λ e fault. fault ≡ Case e };
+
+    fn from(fault: Fault) -> TellFault {
+        TellFault::Case(fault)
+    }
+}
+
+impl From<CalendarEnd> for TellFault {
+    ghost use Rattle.std.specs.Prelude.{◌≡◌};
+    ghost use Rattle.power_failure.specs.declared.telling.TellFault.TheVariants.{Calendar};
+
+    ghost from_gives = { λ e fault. fault ≡ Calendar e };
+
+    fn from(end: CalendarEnd) -> TellFault {
+        TellFault::Calendar(end)
+    }
+}
+
+/// Why nothing was told after a power failure.
+pub enum Untold<D: Disk> {
+    NotReopened(RecoverFault<D>),
+    NotTold(TellFault),
+}
+
+impl<D: Disk> From<RecoverFault<D>> for Untold<D> {
+    ghost use Rattle.std.specs.Prelude.{◌≡◌};
+    ghost use Rattle.power_failure.specs.declared.telling.Untold.TheVariants.{NotReopened};
+
+    ghost from_gives = { λ e fault. fault ≡ NotReopened e };
+
+    fn from(fault: RecoverFault<D>) -> Untold<D> {
+        Untold::NotReopened(fault)
+    }
+}
+
+impl<D: Disk> From<TellFault> for Untold<D> {
+    ghost use Rattle.std.specs.Prelude.{◌≡◌};
+    ghost use Rattle.power_failure.specs.declared.telling.Untold.TheVariants.{NotTold};
+
+    ghost from_gives = { λ e fault. fault ≡ NotTold e };
+
+    fn from(fault: TellFault) -> Untold<D> {
+        Untold::NotTold(fault)
+    }
+}
+
+/// Asks a docket for a case, its deadlines and a calendar.
+pub fn tell<S: Alter, W: Write>(
+    docket: &mut Docket<S>,
+    asked: Question,
+    writer: &mut W,
+) -> Result<Told, TellFault>
+    ensures court { docket.new.court ≡ docket.old.court }
+    ensures clean { doubt (state S.Store docket.old.conn).is_clean ≤ doubt (state S.Store docket.new.conn).is_clean }
+    ensures told { (h : History) → Stands S.Store docket.old h
+        → IfOk result (λ told. Stands S.Store docket.new h
+        × (HasCleanDisk (state S.Store docket.new.conn) → Tells docket.new.court h asked (W.contents writer.old) (W.contents writer.new) told)) }
+{
+    let case = docket.case(asked.number)?;
+    let deadlines = docket.deadlines(asked.number)?;
+    let lines = docket.calendar(asked.from, asked.to, writer)?;
+    Ok(Told {
+        case,
+        deadlines,
+        lines,
+    })
+}
+
+/// A whole run, a power failure, and what the next run tells: each answer of the first run is the one
+/// that its command is to have, the docket that is found is the one that a prefix of the commands
+/// defines, with every one that was acknowledged and at most one more, and what is told is that
+/// docket's.
+pub fn tell_after_power_failure<D: Crash + Drop, W: Write>(
+    alloc: Global,
+    files: Files<D>,
+    options: Options,
+    commands: &[Command],
+    asked: Question,
+    writer: &mut W,
+) -> Result<(Reopened<D>, Told), Untold<D>>
+    requires log { IsTrue (D.Disk.is_usable files.log) }
+    requires db { IsTrue (D.Disk.is_usable files.db) }
+    ensures headline { (court : CourtSettings) (h : History) → IsDocket court h → AllByRecursion IsCommand commands.now
+        → HoldDocket (image_of D.Disk files) court h
+        → IfOk result (λ r. IsPrefixTold court h commands.now asked (W.contents writer.old) (W.contents writer.new) r.0 r.1) }
+{
+    let mut found = reopen_after_power_failure(alloc, files, options, commands)?;
+    let told = tell(&mut found.docket, asked, writer)?;
+    Ok((found, told))
+}
