@@ -6,6 +6,7 @@ mod going_on;
 mod making;
 mod standing;
 mod trial;
+mod whole_runs;
 
 use self::commands::{Attempt, command_with_stop};
 use self::making::{made_with_stop, prepared};

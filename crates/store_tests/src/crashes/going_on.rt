@@ -32,7 +32,7 @@ impl End {
     }
 }
 
-fn ended<D: Disk + Drop>(fault: RecoverFault<D>) -> (End, Files<D>) {
+pub(super) fn ended<D: Disk + Drop>(fault: RecoverFault<D>) -> (End, Files<D>) {
     match fault {
         RecoverFault::NotOpened(_, left) => (End::NotOpened, left.into_files()),
         RecoverFault::NotAdopted(returned) => (
