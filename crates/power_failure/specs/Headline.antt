@@ -3,7 +3,7 @@
 --
 -- A docket is a list of accepted commands, its history; `run court h cs` is that of h and of those of cs that are accepted, each judged
 -- in the history before it. A stop is a disk that fails from some call on; a power failure leaves of each file what its disk may leave.
-use Rattle.std.specs.Prelude.{◌≡◌, ◌+◌, ◌<◌, ◌≤◌, ℕ, List, length, take, Option, Some, None}
+use Rattle.std.specs.Prelude.{◌≡◌, ◌+◌, ◌<◌, ◌≤◌, ⊤, ℕ, List, length, take, Option, Some, None}
 use Rattle.std.specs.Io.KnownBytes.{Appends}
 use Rattle.std.specs.Option.{option_map}
 use Rattle.sqlite_disk.specs.declared.Disk.{Ghosts as Disk}
@@ -17,14 +17,19 @@ use Rattle.docket_core.specs.Histories.{History}
 use Rattle.docket_core.specs.Outcomes.{run}
 use Rattle.docket_core.specs.Records.{case_record, deadline_lines}
 use Rattle.docket_calendar.specs.Calendar.{calendar_rows, text_of_calendar}
-use Rattle.docket_store.specs.Applying.{IsDocket, Stands}
+use Rattle.docket_store.specs.Applying.{IsDocket, Stands, docket_rows}
+use Rattle.docket_store.specs.Opening.{IsNotAdopted}
 use Rattle.docket_store.specs.Reopening.{HoldDocket}
 use Rattle.docket_store.specs.Sessions.{AnswersFirst}
 use Rattle.docket_store.specs.declared.fault.Fault.{Fault}
+use Rattle.docket_store.specs.declared.recovering.RecoverFault.{RecoverFault}
+use Rattle.docket_store.specs.declared.recovering.RecoverFault.TheVariants.{NotOpened, NotAdopted}
 use Rattle.power_failure.specs.declared.running.Interrupted.{Interrupted}
 use Rattle.power_failure.specs.declared.running.Reopened.{Reopened}
 use Rattle.power_failure.specs.declared.telling.Question.{Question}
 use Rattle.power_failure.specs.declared.telling.Told.{Told}
+use Rattle.power_failure.specs.declared.telling.Untold.{Untold}
+use Rattle.power_failure.specs.declared.telling.Untold.TheVariants.{NotReopened, NotTold}
 
 -- the first n commands are those that were acknowledged, and at most one more
 pub record IsPrefix (acknowledged n : ℕ) (cs : List Command) : Type 0 where
@@ -58,6 +63,14 @@ IsPrefixReopened court h cs it =
     × StopsAt cs (length it.replies.items) it.stopped_at
     × OfPrefix court h cs (length it.replies.items) (λ now. Stands over_files it.docket now × (it.docket.court ≡ court))
 
+-- where no docket was found, the files could not be opened; or they were, the docket of some of the first commands stays in them, and
+-- the fault is want of memory or a failure of the database
+abbrev pub KeepsPrefix : {D : Type 0} {g : Disk D} → CourtSettings → History → List Command → RecoverFault D g → Type 0
+KeepsPrefix court h cs (NotOpened error left) = ⊤
+KeepsPrefix court h cs (NotAdopted returned) =
+    HasCleanDisk (state over_files returned.connection)
+    → ∥ ((n : ℕ) × (n ≤ length cs) × IsNotAdopted over_files returned.connection (docket_rows court (run court h (take n cs))) returned.fault) ∥₁
+
 -- what is told of a docket is what its history says: the case, with its parties and its entries; its deadlines, each with the date or the
 -- hour that the rules give by the court's whole calendar; and those that end on a day of a range, in order
 pub record Tells (court : CourtSettings) (h : History) (asked : Question) (before after : Option (List ℕ)) (told : Told) : Type 0 where
@@ -75,3 +88,8 @@ IsPrefixTold court h cs asked before after it told =
     × StopsAt cs (length it.replies.items) it.stopped_at
     × OfPrefix court h cs (length it.replies.items)
     (λ now. Stands over_files it.docket now × (it.docket.court ≡ court) × Tells court now asked before after told)
+
+-- the same where nothing was told
+abbrev pub KeepsUntold : {D : Type 0} {g : Disk D} → CourtSettings → History → List Command → Untold D g → Type 0
+KeepsUntold court h cs (NotReopened fault) = KeepsPrefix court h cs fault
+KeepsUntold court h cs (NotTold fault) = ⊤

@@ -7,7 +7,7 @@ ghost use Rattle.docket_core.specs.Histories.{History};
 ghost use Rattle.docket_wire.specs.Valid.{IsCommand};
 ghost use Rattle.docket_store.specs.Applying.{IsDocket};
 ghost use Rattle.docket_store.specs.Reopening.{HoldDocket, IsNotOpened, IsNotRecovered};
-ghost use Rattle.power_failure.specs.Headline.{LeavesPrefix, IsPrefixReopened};
+ghost use Rattle.power_failure.specs.Headline.{LeavesPrefix, IsPrefixReopened, KeepsPrefix};
 
 use crate::failing::fail_power;
 use docket_command::{Command, Refusal, Reply};
@@ -74,7 +74,7 @@ pub fn reopen_after_power_failure<D: Crash + Drop>(
     requires db { IsTrue (D.Disk.is_usable files.db) }
     ensures headline { (court : CourtSettings) (h : History) → IsDocket court h → AllByRecursion IsCommand commands.now
         → HoldDocket (image_of D.Disk files) court h
-        → IfOk result (IsPrefixReopened court h commands.now) }
+        → MatchResult result (IsPrefixReopened court h commands.now) (KeepsPrefix court h commands.now) }
 {
     let run = run_until_power_fails(alloc, files, options, commands)?;
     let conn = reopen(alloc, run.files, options)?;

@@ -1,5 +1,5 @@
 //! What the docket that is found tells.
-ghost use Rattle.std.specs.Prelude.{◌≡◌, ◌≤◌, IfOk, IsTrue};
+ghost use Rattle.std.specs.Prelude.{◌≡◌, ◌≤◌, IfOk, IsTrue, MatchResult};
 ghost use Rattle.std.specs.List.{AllByRecursion};
 ghost use Rattle.sqlite.specs.Files.{image_of};
 ghost use Rattle.sqlite.specs.Held.{state};
@@ -10,7 +10,7 @@ ghost use Rattle.docket_core.specs.Histories.{History};
 ghost use Rattle.docket_wire.specs.Valid.{IsCommand};
 ghost use Rattle.docket_store.specs.Applying.{IsDocket, Stands};
 ghost use Rattle.docket_store.specs.Reopening.{HoldDocket};
-ghost use Rattle.power_failure.specs.Headline.{IsPrefixTold, Tells};
+ghost use Rattle.power_failure.specs.Headline.{IsPrefixTold, KeepsUntold, Tells};
 
 use crate::running::{Reopened, reopen_after_power_failure};
 use court_days::Day;
@@ -133,7 +133,8 @@ pub fn tell_after_power_failure<D: Crash + Drop, W: Write>(
     requires db { IsTrue (D.Disk.is_usable files.db) }
     ensures headline { (court : CourtSettings) (h : History) → IsDocket court h → AllByRecursion IsCommand commands.now
         → HoldDocket (image_of D.Disk files) court h
-        → IfOk result (λ r. IsPrefixTold court h commands.now asked (W.contents writer.old) (W.contents writer.new) r.0 r.1) }
+        → MatchResult result (λ r. IsPrefixTold court h commands.now asked (W.contents writer.old) (W.contents writer.new) r.0 r.1)
+        (KeepsUntold court h commands.now) }
 {
     let mut found = reopen_after_power_failure(alloc, files, options, commands)?;
     let told = tell(&mut found.docket, asked, writer)?;

@@ -1,7 +1,9 @@
 use Rattle.std.proofs.Common.{◌≡◌, ◌∙◌, take, arith}
 use Rattle.std.proofs.Math.Logic.{∥∥₁_map}
 use Rattle.docket_core.specs.Outcomes.{run}
-use Rattle.power_failure.proofs.HeadlineLemmas.{told_by_court}
+use Rattle.power_failure.specs.Headline.{IsPrefixTold, KeepsUntold}
+use Rattle.power_failure.specs.declared.telling.Untold.TheVariants.{NotTold}
+use Rattle.power_failure.proofs.HeadlineLemmas.{match_told, told_by_court}
 use Rattle.power_failure.proofs.telling.tell_after_power_failure.Goals as goal
 
 pub returns : goal.returns
@@ -20,4 +22,11 @@ returns g c = record {
               (answer.0, same, told_by_court now c.args.asked c.in_ok-told.told same (answer.1 clean)),
             )),
       );
+}
+
+pub returns-in_err-told : goal.returns-in_err-told
+returns-in_err-told g c = record {
+  headline = λ court h is lawful held.
+      match_told (λ r. IsPrefixTold court h c.args.commands.now c.args.asked _ _ r.0 r.1) (KeepsUntold court h c.args.commands.now)
+      c.from_residual-in_err-told.result (NotTold c.in_err-told.field-0.0) c.from_residual-in_err-told.ensures.1 tt;
 }
