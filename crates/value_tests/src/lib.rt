@@ -1,5 +1,5 @@
 //! Tests of the parts that need no database: dates, zones, courts, rules, acts, commands, texts, lines,
-//! `count`, and the words of the command line. They stand in a crate of their own, since a crate with tests
+//! `count`, the checks of tables, and the words of the command line. They stand in a crate of their own, since a crate with tests
 //! is proved twice.
 #![tactic(auto)]
 
@@ -17,6 +17,8 @@ mod dates;
 mod lines;
 #[cfg(test)]
 mod rules;
+#[cfg(test)]
+mod tables;
 #[cfg(test)]
 mod texts;
 #[cfg(test)]

@@ -1,0 +1,49 @@
+-- The receipts of a history, by an induction on it.
+use Rattle.std.proofs.Common.{◌≡◌, ◌≢◌, ◌∙◌, ℕ, Bool, true, false, cond, Some, None, List, [], ◌∷◌, map, refl, sym, subst}
+use Rattle.std.proofs.lemmas.Bool.{false≢true}
+use Rattle.std.proofs.lemmas.List.{map-append}
+use Rattle.std.proofs.lemmas.Slice.Eq.{bytes_eq-Decides}
+use Rattle.std.specs.Prelude.{bytes_eq, find}
+use Rattle.std.specs.List.{AllByRecursion}
+use Rattle.court_days.specs.Court.{CourtSettings}
+use Rattle.docket_command.specs.declared.command.Command.{Command}
+use Rattle.docket_core.specs.Histories.{History}
+use Rattle.docket_core.specs.Outcomes.{IsHistory, receipts, reply_to, replied, shown_fresh}
+use Rattle.docket_core.specs.declared.row.Receipt.{Receipt}
+use Rattle.docket_wire.specs.Valid.{IsCommand}
+use Rattle.docket_sound.specs.Cases.{AreApart}
+use Rattle.docket_sound.specs.Receipts.{IsSoundReceipt, receipt_row, key_of}
+use Rattle.docket_sound.proofs.AcceptedLemmas.{is_lawful, no_receipt}
+use Rattle.docket_sound.proofs.CaseLemmas.{apart_more}
+use Rattle.docket_sound.proofs.NumberLemmas.{all_both}
+
+-- the receipt of a command, after a history
+abbrev receipt_after : CourtSettings → History → Command → Receipt
+receipt_after court h c = record { command = c; reply = replied (reply_to court (shown_fresh h c.action) c.action) }
+
+pub sound_receipts : (court : CourtSettings) (h : History) → IsHistory court h → AllByRecursion IsCommand h → AllByRecursion IsSoundReceipt (map receipt_row (receipts court h))
+sound_receipts court [] is all = tt
+sound_receipts court (c ∷ h) is all =
+    let this : IsSoundReceipt (receipt_row (receipt_after court h c)) = record {
+      key = (is_lawful court h c is.0.0 is.0.1).key;
+      body = record { command = c; lawful = all.0; named = refl; written = refl };
+    } in
+    subst (AllByRecursion IsSoundReceipt) (sym (map-append receipt_row (receipts court h) (receipt_after court h c ∷ [])))
+    (all_both IsSoundReceipt (map receipt_row (receipts court h)) (receipt_row (receipt_after court h c) ∷ []) (sound_receipts court h is.1 all.1) (this, tt))
+
+-- no other receipt has the key
+none_under : (key : List ℕ) (rows : List Receipt) → find (λ r. bytes_eq r.command.key key) rows ≡ None → AllByRecursion (λ other. key ≢ other) (map key_of rows)
+none_under key [] none = tt
+none_under key (row ∷ rows) none = at (bytes_eq row.command.key key) refl none (none_under key rows)
+  where
+    at : (b : Bool) → bytes_eq row.command.key key ≡ b → cond b (Some row) (find (λ r. bytes_eq r.command.key key) rows) ≡ None
+        → (find (λ r. bytes_eq r.command.key key) rows ≡ None → AllByRecursion (λ other. key ≢ other) (map key_of rows))
+        → AllByRecursion (λ other. key ≢ other) (map key_of (row ∷ rows))
+    at true is none rest = absurd cc
+    at false is none rest = ((λ same. false≢true (sym is ∙ (bytes_eq-Decides row.command.key key).1 (sym same))), rest none)
+
+pub keys_apart : (court : CourtSettings) (h : History) → IsHistory court h → AreApart (map key_of (receipts court h))
+keys_apart court [] is = tt
+keys_apart court (c ∷ h) is =
+    subst AreApart (sym (map-append key_of (receipts court h) (receipt_after court h c ∷ [])))
+    (apart_more (map key_of (receipts court h)) c.key (keys_apart court h is.1) (none_under c.key (receipts court h) (no_receipt court h c is.0.0 is.0.1)))

@@ -1,0 +1,13 @@
+pub mod AcceptedLemmas
+pub mod ActLemmas
+pub mod CalendarLemmas
+pub mod CaseLemmas
+pub mod DeadlineLemmas
+pub mod DueLemmas
+pub mod HistoryCalendar
+pub mod HistoryDeadlines
+pub mod HistoryLemmas
+pub mod HistoryReceipts
+pub mod Made
+pub mod NumberLemmas
+pub mod ReceiptLemmas

@@ -1,0 +1,76 @@
+-- When the rows of a calendar are sound.
+use Rattle.std.specs.Prelude.{◌≡◌, ℕ, ◌<◌, ◌≤◌, nat_lt, Bool, true, false, ◌&&◌, List, [], ◌∷◌, ◌++◌, map, length, nat_eq, Result, Ok, Err, IsTrue}
+use Rattle.std.specs.List.{AllByRecursion}
+use Rattle.std.specs.FinSet.{contains}
+use Rattle.court_days.specs.Calendar.{Entered, days_of, rows_of}
+use Rattle.court_days.specs.Court.{CourtSettings}
+use Rattle.court_days.specs.declared.calendar.CalendarFault.{CalendarFault}
+use Rattle.court_days.specs.declared.calendar.CalendarFault.TheVariants.{OutOfRange, Full, NoMemory}
+use Rattle.docket_core.specs.CalendarItems.{stands_among, with_item, calendar_of, IsEnteredItem}
+use Rattle.docket_core.specs.Histories.{items_of}
+use Rattle.docket_core.specs.Values.{is_entered, is_entered_at, is_text}
+use Rattle.docket_core.specs.declared.item.CalendarItem.{CalendarItem}
+use Rattle.docket_core.specs.declared.item.CalendarItem.TheVariants.{Day, Span}
+use Rattle.docket_core.specs.declared.row.CalendarRow.{CalendarRow}
+use Rattle.docket_sound.specs.Numbers.{Rises}
+use Rattle.docket_sound.specs.declared.calendar.CalendarCheck.{CalendarCheck}
+
+-- a day that the court may enter; a span begins before it ends, each on such a local day
+abbrev pub is_sound_item : CourtSettings → CalendarItem → Bool
+is_sound_item court (Day kind day) = is_entered day
+is_sound_item court (Span start end) = is_entered_at court start && is_entered_at court end && nat_lt start end
+
+-- the name of a day has 1 to 100 bytes, that of a span none
+abbrev pub is_well_named : CalendarItem → List ℕ → Bool
+is_well_named (Day kind day) name = is_text 100 name
+is_well_named (Span start end) name = nat_eq (length name) 0
+
+abbrev pub is_sound_row : CourtSettings → CalendarRow → Bool
+is_sound_row court row = is_sound_item court row.item && is_well_named row.item row.name
+
+-- no item is there twice: none is among those before it
+abbrev pub EachIsNew : List CalendarItem → List CalendarItem → Type 0
+EachIsNew before [] = Unit {0}
+EachIsNew before (item ∷ more) = (stands_among before item ≡ false) × EachIsNew (before ++ item ∷ []) more
+
+-- the number is one of those that were given to rows
+abbrev pub IsGiven : ℕ → ℕ → Type 0
+IsGiven next_row number = (1 ≤ number) × (number < next_row)
+
+-- the rows have rising numbers below the number of the next row, no two enter the same, and there are at most 4,000
+pub record AreSoundCalendarRows (court : CourtSettings) (next_row : ℕ) (rows : List CalendarRow) : Type 0 where
+  pub rising : Rises (map (λ row. row.number) rows)
+  pub given : AllByRecursion (λ row. IsGiven next_row row.number) rows
+  pub apart : EachIsNew [] (items_of rows)
+  pub few : length rows ≤ 4000
+  pub within : AllByRecursion (λ row. IsTrue (is_sound_row court row)) rows
+
+-- the item stands
+abbrev pub stands : Entered → CalendarItem → Bool
+stands entered (Day kind day) = contains (days_of entered kind) day
+stands entered (Span start end) = contains entered.spans (record { start = start; end = end })
+
+-- what the entering of an item comes to
+abbrev pub Enters : Entered → CalendarItem → Entered → Result Bool CalendarFault → Type 0
+Enters old item new (Ok true) = (stands old item ≡ false) × (new ≡ with_item old item) × (rows_of new ≤ 4000)
+Enters old item new (Ok false) = stands old item ≡ true
+Enters old item new (Err OutOfRange) = IsEnteredItem item → ⊥
+Enters old item new (Err Full) = rows_of old ≡ 4000
+Enters old item new (Err NoMemory) = Unit {0}
+
+-- the row may come next, but for what it enters
+abbrev pub may_come : CalendarCheck → CalendarRow → Bool
+may_come check row = nat_lt check.last row.number && nat_lt row.number check.next_row && is_sound_row check.court row
+
+-- the last of the numbers, or n
+abbrev pub last_of : ℕ → List ℕ → ℕ
+last_of n [] = n
+last_of n (m ∷ more) = last_of m more
+
+-- these rows were taken
+pub record HasTakenCalendarRows (check : CalendarCheck) (rows : List CalendarRow) : Type 0 where
+  pub last : check.last ≡ last_of 0 (map (λ row. row.number) rows)
+  pub calendar : check.calendar ≡ calendar_of (items_of rows)
+  pub standing : (item : CalendarItem) → stands check.calendar item ≡ stands_among (items_of rows) item
+  pub counted : rows_of check.calendar ≡ length rows
+  pub sound : AreSoundCalendarRows check.court check.next_row rows

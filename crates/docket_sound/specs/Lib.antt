@@ -1,0 +1,13 @@
+pub mod Acts
+pub mod Calendars
+pub mod Cases
+pub mod Counted
+pub mod Courts
+pub mod Deadlines
+pub mod Dues
+pub mod Entries
+pub mod Labels
+pub mod Numbers
+pub mod Parties
+pub mod Receipts
+pub mod Runs

@@ -1,0 +1,56 @@
+-- When the rows of receipts are sound.
+use Rattle.std.specs.Prelude.{◌≡◌, ℕ, Bool, true, List, [], ◌∷◌, map, Option, Some, None}
+use Rattle.std.specs.List.{AllByRecursion}
+use Rattle.std.specs.Ordering.{is_lt, nat_cmp}
+use Rattle.std.specs.Cmp.Lexicographic.{slice_cmp}
+use Rattle.docket_command.specs.declared.command.Command.{Command}
+use Rattle.docket_core.specs.Values.{is_word}
+use Rattle.docket_core.specs.declared.row.Receipt.{Receipt}
+use Rattle.docket_wire.specs.Valid.{IsCommand}
+use Rattle.docket_wire.specs.Writing.{canonical}
+use Rattle.docket_sound.specs.declared.receipt.ReceiptRecord.{ReceiptRecord}
+use Rattle.docket_sound.specs.declared.receipt.ReceiptCheck.{ReceiptCheck}
+
+abbrev pub key_of : Receipt → List ℕ
+key_of receipt = receipt.command.key
+
+-- a receipt as it is kept: the key of the command, and its canonical text
+abbrev pub receipt_row : Receipt → ReceiptRecord
+receipt_row receipt = record { key = key_of receipt; body = canonical receipt.command }
+
+-- the body is the canonical text of a command under the key
+pub record IsBodyUnder (key body : List ℕ) : Type 0 where
+  pub command : Command
+  pub lawful : IsCommand command
+  pub named : command.key ≡ key
+  pub written : canonical command ≡ body
+
+-- the key has 1 to 64 bytes that show; the command's values and the reply are not judged
+pub record IsSoundReceipt (r : ReceiptRecord) : Type 0 where
+  pub key : is_word 64 r.key ≡ true
+  pub body : IsBodyUnder r.key r.body
+
+-- the key comes after the one before it, byte by byte
+abbrev pub follows_key : Option (List ℕ) → List ℕ → Bool
+follows_key None key = true
+follows_key (Some before) key = is_lt (slice_cmp nat_cmp before key)
+
+-- no key repeats: each comes after the one before it
+abbrev pub KeysAscend : Option (List ℕ) → List (List ℕ) → Type 0
+KeysAscend before [] = Unit {0}
+KeysAscend before (key ∷ more) = (follows_key before key ≡ true) × KeysAscend (Some key) more
+
+-- the keys rise, and each receipt is sound
+pub record AreSoundReceipts (rows : List ReceiptRecord) : Type 0 where
+  pub apart : KeysAscend None (map (λ row. row.key) rows)
+  pub within : AllByRecursion IsSoundReceipt rows
+
+-- the last key
+abbrev pub key_before : Option (List ℕ) → List (List ℕ) → Option (List ℕ)
+key_before before [] = before
+key_before before (key ∷ more) = key_before (Some key) more
+
+-- these rows were taken
+pub record HasTakenReceipts (check : ReceiptCheck) (rows : List ReceiptRecord) : Type 0 where
+  pub last : check.last ≡ key_before None (map (λ row. row.key) rows)
+  pub sound : AreSoundReceipts rows

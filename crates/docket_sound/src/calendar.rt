@@ -1,0 +1,137 @@
+//! The table of the calendar.
+ghost use Rattle.std.specs.Prelude.{◌≡◌, ◌≢◌, ℕ, ◌++◌, ◌∷◌, [], List, Ok, true, false, not};
+ghost use Rattle.court_days.specs.declared.calendar.CalendarFault.TheVariants.{NoMemory};
+ghost use Rattle.docket_core.specs.CalendarItems.{with_item, calendar_of, IsEnteredItem};
+ghost use Rattle.docket_core.specs.Histories.{items_of};
+ghost use Rattle.docket_core.specs.Values.{is_entered_at};
+ghost use Rattle.docket_core.specs.declared.row.CalendarRow.{CalendarRow as Entered};
+ghost use Rattle.docket_sound.specs.Calendars.{is_sound_item, is_well_named, is_sound_row, AreSoundCalendarRows, HasTakenCalendarRows, may_come, Enters};
+
+use crate::text::{is_entered, is_text};
+use court_days::{Calendar, CalendarFault, Court};
+use docket_command::{Moment, Text};
+use docket_core::{CalendarItem, CalendarRow};
+use std::alloc::{AllocError, Global};
+
+/// Whether a court may enter the local day of the moment.
+fn is_entered_at(court: &Court, at: Moment) -> bool
+    ensures { result ≡ is_entered_at court.now at }
+{
+    let (day, _) = court.local(at.seconds());
+    is_entered(day)
+}
+
+/// Whether the court may enter the item.
+fn is_sound_item(court: &Court, item: CalendarItem) -> bool
+    ensures { result ≡ is_sound_item court.now item }
+{
+    match item {
+        CalendarItem::Day(_, day) => is_entered(day),
+        CalendarItem::Span(start, end) => {
+            is_entered_at(court, start)
+                && is_entered_at(court, end)
+                && start.seconds() < end.seconds()
+        }
+    }
+}
+
+/// Whether the item may have the name: that of a span is empty.
+fn is_well_named(item: CalendarItem, name: &Text) -> bool
+    ensures { result ≡ is_well_named item name.now }
+{
+    match item {
+        CalendarItem::Day(_, _) => is_text(100, name),
+        CalendarItem::Span(_, _) => name.as_str().is_empty(),
+    }
+}
+
+/// Whether the values of the row are within their limits.
+fn is_sound_row(court: &Court, row: &CalendarRow) -> bool
+    ensures { result ≡ is_sound_row court.now row.now }
+{
+    is_sound_item(court, row.item) && is_well_named(row.item, &row.name)
+}
+
+/// The check of the rows of a court's calendar. It keeps the calendar.
+#[derive(Drop)]
+pub struct CalendarCheck {
+    pub(crate) court: Court,
+    pub(crate) next_row: u64,
+    pub(crate) last: u32,
+    pub(crate) calendar: Calendar,
+}
+
+/// Enters the item. `false`: it stands already.
+fn enter(calendar: &mut Calendar, item: CalendarItem) -> Result<bool, CalendarFault>
+    ensures { Enters calendar.old item calendar.new result }
+{
+    match item {
+        CalendarItem::Day(kind, day) => calendar.add_day(kind, day),
+        CalendarItem::Span(start, end) => calendar.add_span(start.seconds(), end.seconds()),
+    }
+}
+
+/// What a fault tells: the row is unsound, or memory is short.
+fn told_by(fault: CalendarFault) -> Result<bool, AllocError>
+    ensures taken { result ≢ Ok true }
+    ensures refused { result ≡ Ok false → fault ≢ NoMemory }
+{
+    match fault {
+        CalendarFault::NoMemory => Err(AllocError),
+        CalendarFault::OutOfRange | CalendarFault::Full => Ok(false),
+    }
+}
+
+impl CalendarCheck {
+    /// It takes no memory yet.
+    pub fn new(alloc: Global, court: Court, next_row: u64) -> CalendarCheck
+        ensures none { HasTakenCalendarRows result [] }
+        ensures court { result.court ≡ court }
+        ensures next_row { result.next_row ≡ next_row }
+    {
+        CalendarCheck {
+            court,
+            next_row,
+            last: 0,
+            calendar: Calendar::new(alloc),
+        }
+    }
+
+    /// Whether the row may come next, but for what it enters.
+    fn may_come(&self, row: &CalendarRow) -> bool
+        ensures { result ≡ may_come self.now row.now }
+    {
+        self.last < row.number
+            && u64::from(row.number) < self.next_row
+            && is_sound_row(&self.court, row)
+    }
+
+    /// Takes the next row, unless the table is unsound by it.
+    pub fn take(&mut self, row: &CalendarRow) -> Result<bool, AllocError>
+        ensures taken { (rows : List Entered) → HasTakenCalendarRows self.old rows → result ≡ Ok true
+            → HasTakenCalendarRows self.new (rows ++ row.now ∷ []) }
+        ensures refused { (rows more : List Entered) → HasTakenCalendarRows self.old rows → result ≡ Ok false
+            → AreSoundCalendarRows self.old.court self.old.next_row (rows ++ row.now ∷ more) → ⊥ }
+        ensures court { self.new.court ≡ self.old.court }
+        ensures next_row { self.new.next_row ≡ self.old.next_row }
+    {
+        if !self.may_come(row) {
+            return Ok(false);
+        }
+        match enter(&mut self.calendar, row.item) {
+            Ok(is_new) => {
+                self.last = row.number;
+                Ok(is_new)
+            }
+            Err(fault) => told_by(fault),
+        }
+    }
+
+    /// The court, and the calendar of the rows that were taken.
+    pub fn finish(self) -> (Court, Calendar)
+        ensures court { result.0 ≡ self.court }
+        ensures calendar { (rows : List Entered) → HasTakenCalendarRows self rows → result.1 ≡ calendar_of (items_of rows) }
+    {
+        (self.court, self.calendar)
+    }
+}

@@ -1,0 +1,131 @@
+//! The table of the ends of running deadlines.
+ghost use Rattle.std.specs.Prelude.{◌≡◌, ◌↔◌, pos, ◌++◌, ◌∷◌, [], List, true, false, OnOk, IsTrue, slice_get};
+ghost use Rattle.civil_time.specs.LocalTime.{local_day, seconds};
+ghost use Rattle.court_days.specs.Court.{zone_of};
+ghost use Rattle.court_days.specs.Hours.{IsNearEntered};
+ghost use Rattle.court_rules.specs.Standings.{IsEndAfter, StandsAfter};
+ghost use Rattle.docket_core.specs.EndRows.{time_of, end_running};
+ghost use Rattle.docket_core.specs.declared.end_row.EndRow.{EndRow as Stored};
+ghost use Rattle.docket_sound.specs.Acts.{are_lawful};
+ghost use Rattle.docket_sound.specs.Dues.{due_of_acts, HasTakenDues};
+
+use court_days::{Calendar, Court, End};
+use court_rules::{Act, Standing, due};
+use docket_core::{EndRow, EndTime};
+use std::alloc::AllocError;
+
+/// What stands in place of an instant where the time runs to the end of its last day.
+const WHOLE_DAY: i64 = 9_999_999_999_999;
+
+/// The number of the local day at an instant.
+fn local_day(court: &Court, at: i64) -> i64
+    requires { IsNearEntered (seconds at) }
+    ensures { result ≡ pos (local_day (zone_of court.now) (seconds at)) }
+{
+    i64::from(court.local(at).0.epoch_day())
+}
+
+fn time_of(court: &Court, end: End) -> EndTime
+    requires { IsEndAfter 100 end }
+    ensures { result ≡ time_of (zone_of court.now) end }
+{
+    match end {
+        End::LastDay(day) => EndTime {
+            day: i64::from(day.epoch_day()),
+            moment: WHOLE_DAY,
+        },
+        End::Moment(at) => EndTime {
+            day: local_day(court, at),
+            moment: at,
+        },
+    }
+}
+
+/// The end of a time that runs.
+fn end_running(court: &Court, standing: Standing) -> Option<EndTime>
+    requires { StandsAfter 100 standing }
+    ensures { result ≡ end_running (zone_of court.now) standing }
+{
+    match standing {
+        Standing::Running(end) => Some(time_of(court, end)),
+        _ => None,
+    }
+}
+
+/// Adds the row of a deadline with these acts, if its time runs by the calendar.
+pub(crate) fn push_due(
+    dues: &mut Vec<EndRow>,
+    court: &Court,
+    calendar: &Calendar,
+    case: u32,
+    deadline: u32,
+    acts: &[Act],
+) -> Result<(), AllocError>
+    requires lawful { are_lawful (zone_of court.now) acts.now ≡ true }
+    ensures { OnOk result (dues.new.items ≡ dues.old.items ++ due_of_acts (zone_of court.now) calendar.now case deadline acts.now) }
+{
+    let Some(end) = end_running(court, due(court, calendar, acts)) else {
+        return Ok(());
+    };
+    dues.extend_from_slice(&[EndRow {
+        case,
+        deadline,
+        end,
+    }])?;
+    Ok(())
+}
+
+fn is_same_due(due: EndRow, other: EndRow) -> bool
+    ensures { IsTrue result ↔ (due ≡ other) }
+{
+    due.case == other.case
+        && due.deadline == other.deadline
+        && due.end.day == other.end.day
+        && due.end.moment == other.end.moment
+}
+
+/// The check of these rows, which are those of the running deadlines in the order of their keys.
+#[derive(Drop)]
+pub struct DueCheck {
+    pub(crate) expected: Vec<EndRow>,
+    pub(crate) at: usize,
+}
+
+impl DueCheck {
+    pub fn new(expected: Vec<EndRow>) -> DueCheck
+        ensures none { HasTakenDues result [] }
+        ensures expected { result.expected ≡ expected }
+    {
+        DueCheck { expected, at: 0 }
+    }
+
+    /// The row that comes next.
+    fn next_row(&self) -> Option<EndRow>
+        ensures { result ≡ slice_get self.now.expected.items self.now.at }
+    {
+        self.expected.get(self.at).copied()
+    }
+
+    /// Takes the next row, unless the table is unsound by it.
+    pub fn take(&mut self, row: EndRow) -> bool
+        ensures taken { (rows : List Stored) → HasTakenDues self.old rows → result ≡ true → HasTakenDues self.new (rows ++ row ∷ []) }
+        ensures refused { (rows more : List Stored) → HasTakenDues self.old rows → result ≡ false
+            → rows ++ row ∷ more ≡ self.old.expected.items → ⊥ }
+        ensures expected { self.new.expected ≡ self.old.expected }
+    {
+        match self.next_row() {
+            Some(expected) if is_same_due(expected, row) => {
+                self.at += 1;
+                true
+            }
+            _ => false,
+        }
+    }
+
+    /// Whether all rows were taken.
+    pub fn is_sound(&self) -> bool
+        ensures { (rows : List Stored) → HasTakenDues self.now rows → IsTrue result ↔ (rows ≡ self.now.expected.items) }
+    {
+        self.at == self.expected.len()
+    }
+}

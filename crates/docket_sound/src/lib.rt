@@ -1,0 +1,34 @@
+//! Whether the rows of a docket's tables are sound, whatever database they come from.
+//!
+//! There is a check for each table. It takes the rows one after another, in the order of their keys,
+//! and keeps what it needs of them: how many rows each case has, the labels of cases, the calendar,
+//! the acts of one deadline, the ends of the deadlines whose time runs. A check that refuses a row
+//! tells that no table with the rows so far, and that row next, is sound. One that took all rows tells
+//! that they are; those of acts and of ends are asked for it at the end, since a row may be missing.
+#![tactic(auto)]
+
+mod act;
+mod calendar;
+mod cases;
+mod court;
+mod deadline;
+mod due;
+mod entry;
+mod labels;
+mod laws;
+mod numbering;
+mod party;
+mod receipt;
+mod text;
+
+pub use act::ActCheck;
+pub use calendar::CalendarCheck;
+pub use cases::CaseCheck;
+pub use court::{CourtRecord, sound_court};
+pub use deadline::DeadlineCheck;
+pub use due::DueCheck;
+pub use entry::EntryCheck;
+pub use laws::histories_are_sound;
+pub use numbering::{Key, Numbering};
+pub use party::PartyCheck;
+pub use receipt::{ReceiptCheck, ReceiptRecord};
