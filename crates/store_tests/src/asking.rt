@@ -1,6 +1,5 @@
 //! What is asked of a docket, as lines of JSON, and what is answered.
-use court_days::{Court, Day, End, read_day};
-use court_rules::Standing;
+use court_days::{Court, Day, read_day};
 use docket_command::{Command, Reply};
 use docket_store::{Docket, Fault};
 use docket_wire::{read_command, reply_text};
@@ -64,20 +63,6 @@ pub(crate) fn answers<S: Alter>(alloc: Global, docket: &mut Docket<S>, steps: &[
         }
     }
     true
-}
-
-/// Whether the deadlines of case 1 run, and end on these days, in order.
-pub(crate) fn ends_on<S: Alter>(docket: &mut Docket<S>, ends: &[&str]) -> Result<bool, Fault> {
-    let Some(lines) = docket.deadlines(1)? else {
-        return Ok(false);
-    };
-    for (line, end) in lines.iter().zip(ends) {
-        if !matches!(line.standing, Standing::Running(End::LastDay(last)) if Some(last) == day(end))
-        {
-            return Ok(false);
-        }
-    }
-    Ok(lines.len() == ends.len())
 }
 
 /// A case with a defendant and a plaintiff.

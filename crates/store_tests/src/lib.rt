@@ -1,16 +1,11 @@
 //! Tests of the docket in a database: what stands in the tables, what commands and lines are answered, which
-//! databases are taken for a docket's, and runs that stop at a call of a disk in memory, where the next
-//! run goes on from the docket before the command or after it; and whole jobs over files.
+//! databases are taken for a docket's, and whole jobs over files.
 #![tactic(auto)]
 
 #[cfg(test)]
 mod answering;
 #[cfg(test)]
 mod asking;
-#[cfg(test)]
-mod crashes;
-#[cfg(test)]
-mod disks;
 #[cfg(test)]
 mod jobs;
 #[cfg(test)]

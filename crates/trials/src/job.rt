@@ -11,6 +11,8 @@ pub(crate) enum Job<'a> {
     Text { rows: u32 },
     /// Tables with so many rows, in the file of that path or in memory.
     Tables { rows: u32, path: Option<&'a str> },
+    /// Playing the inputs that are stopped, and telling how many stops there were.
+    Stops,
 }
 
 fn word_at(words: &[String], place: usize) -> Option<&str> {
@@ -33,6 +35,7 @@ pub(crate) fn read_job(words: &[String]) -> Option<Job<'_>> {
     }
     match word_at(words, 1)? {
         "wire" if words.len() == 2 => Some(Job::Wire),
+        "stops" if words.len() == 2 => Some(Job::Stops),
         "text" if words.len() == 3 => Some(Job::Text {
             rows: read_rows(word_at(words, 2)?, 0)?,
         }),

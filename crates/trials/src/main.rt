@@ -4,16 +4,20 @@
 //!     trials wire
 //!     trials text ROWS
 //!     trials tables ROWS [FILE]
+//!     trials stops
 //!
 //! With no word it plays the stored inputs and compares what is written with the stored outputs. It
 //! prints a line for each input, and exits with 1 where one differs. `wire` writes the canonical text of
 //! each command of standard input, or the fault of its line. `text` writes a calendar of so many lines.
 //! `tables` fills the docket's tables with so many rows, 500 or more, in the file or in memory, and times
-//! transactions on them and reads. Times go to standard error, in nanoseconds.
+//! transactions on them and reads. Times go to standard error, in nanoseconds. `stops` plays the inputs that
+//! are stopped at each call of a disk, and tells how many stops there were.
 #![tactic(auto)]
 
+mod disks;
 mod job;
 mod plays;
+mod stops;
 mod tables;
 mod text;
 mod wire;
@@ -23,6 +27,7 @@ use job::{Job, read_job};
 use plays::play_all;
 use std::env;
 use std::process::ExitCode;
+use stops::write_stops;
 use tables::{WRITES, time_tables};
 use text::time_text;
 use wire::write_texts;
@@ -39,6 +44,7 @@ fn done(rt: &HostRuntime, job: Job<'_>) -> Result<u8, Error> {
         Job::Wire => write_texts(rt)?,
         Job::Text { rows } => time_text(rt, rows)?,
         Job::Tables { rows, path } => time_tables(rt, rows, path)?,
+        Job::Stops => write_stops(rt)?,
     }
     Ok(0)
 }
@@ -47,7 +53,7 @@ fn main(rt: HostRuntime) -> Result<ExitCode, Error> {
     let words: Vec<String> = env::args(&rt)?.collect(rt.alloc())?;
     let Some(job) = read_job(&words) else {
         eprintln!(rt;
-            "usage: trials, trials wire, trials text ROWS, or trials tables ROWS [FILE], with {WRITES} ROWS or more"
+            "usage: trials, trials wire, trials text ROWS, trials stops, or trials tables ROWS [FILE], with {WRITES} ROWS or more"
         )?;
         return Ok(ExitCode::from(BAD_LINE));
     };

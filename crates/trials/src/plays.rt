@@ -1,23 +1,27 @@
 //! Stored inputs, whose outputs are stored beside them: of `count`, of `run` and of the canonical texts
 //! of commands, whose outputs an independent model of the rules and of the docket computed, of dockets
-//! that were worked out by hand from the rules, and of requests of HTTP with their answers. Commands are played over the docket in SQLite's
-//! tables, and once more over the docket in vectors.
+//! that were worked out by hand from the rules, and of requests of HTTP with their answers. Commands are
+//! played over the docket in SQLite's tables, and once more over the docket in vectors; some are stopped at
+//! each call of a disk.
 mod comparing;
 mod counting;
 mod requests;
 mod running;
 mod texts;
-mod vectors;
+pub(crate) mod vectors;
 mod worked;
 
+use crate::stops::{sessions, stopped};
 use anyhow::Error;
-use comparing::{input, is_as_stored};
+pub(crate) use comparing::input;
+use comparing::is_as_stored;
 use counting::counted;
 use running::ran;
 use std::alloc::Global;
 use std::io;
 use texts::canonical;
 use worked::worked_out;
+pub(crate) use worked::{ASKED, ZONE, eastern_court};
 
 /// How an input is played.
 #[derive(Clone, Copy)]
@@ -34,10 +38,14 @@ enum Play {
     Served(usize),
     /// By cutting each request after each of its bytes, and then serving all of them.
     Cut,
+    /// By stopping each command behind the line `?` on the docket of the lines before it.
+    Stopped,
+    /// By stopping the commands as one session.
+    Session,
 }
 
 /// The input is data/NAME.in, and what is to be written is data/NAME.out.
-const INPUTS: [(Play, &str); 35] = [
+const INPUTS: [(Play, &str); 37] = [
     (Play::Count, "count-days"),
     (Play::Count, "count-1"),
     (Play::Count, "count-2"),
@@ -73,6 +81,8 @@ const INPUTS: [(Play, &str); 35] = [
     (Play::Served(7), "requests"),
     (Play::Served(usize::MAX), "requests"),
     (Play::Cut, "requests-cut"),
+    (Play::Stopped, "stops"),
+    (Play::Session, "session"),
 ];
 
 /// What is written on the input.
@@ -84,13 +94,16 @@ fn played(alloc: Global, play: Play, input: &[u8]) -> Result<Vec<u8>, Error> {
         Play::Worked => worked_out(alloc, input),
         Play::Served(size) => requests::served(alloc, size, input),
         Play::Cut => requests::cut(alloc, input),
+        Play::Stopped => stopped(alloc, input),
+        Play::Session => Ok(sessions(alloc, input)?.0),
     }
 }
 
 /// What is written on the input over the docket in vectors, if it is one of commands.
 fn played_in_vectors(alloc: Global, play: Play, input: &[u8]) -> Option<Result<Vec<u8>, Error>> {
     match play {
-        Play::Count | Play::Texts | Play::Served(_) | Play::Cut => None,
+        Play::Count | Play::Texts | Play::Served(_) | Play::Cut | Play::Stopped | Play::Session =>
+            None,
         Play::Run => Some(vectors::ran(alloc, input)),
         Play::Worked => Some(vectors::worked_out(alloc, input)),
     }

@@ -4,7 +4,7 @@ use crate::plays::worked::ZONE;
 use anyhow::{Error, anyhow};
 use docket_http::{ServeFault, serve_one};
 use docket_store::Docket;
-use failing_ends::Pieces;
+use failing_ends::{Pieces, Taker};
 use serde_json::Value;
 use sqlite::MemStore;
 use std::alloc::Global;
@@ -77,7 +77,56 @@ fn ends_early(alloc: Global, docket: &mut Docket<MemStore>, request: &[u8]) -> b
     true
 }
 
-/// Whether each request ends early wherever it is cut.
+/// How many bytes there are; none here has more than a `u32` counts.
+fn length(bytes: &[u8]) -> u32 {
+    u32::try_from(bytes.len()).unwrap_or(u32::MAX)
+}
+
+/// Whether a read that fails after any of its bytes is told as that, with nothing written.
+fn tells_reads(alloc: Global, docket: &mut Docket<MemStore>, request: &[u8]) -> bool {
+    for good_reads in 0..length(request) {
+        let mut reader = Pieces::new(request, 1, good_reads);
+        let mut answer = Vec::new(alloc);
+        let served = serve_one(alloc, &mut reader, &mut answer, docket);
+        if served != Err(ServeFault::ReadFailed) || !answer.is_empty() {
+            return false;
+        }
+    }
+    true
+}
+
+/// Whether a write that fails, or takes nothing, after any byte of the answer is told as that, with the
+/// bytes before it written.
+fn tells_writes(alloc: Global, docket: &mut Docket<MemStore>, request: &[u8]) -> bool {
+    let mut reader = request;
+    let mut answer = Vec::new(alloc);
+    if serve_one(alloc, &mut reader, &mut answer, docket).is_err() {
+        return false;
+    }
+    for good_writes in 0..length(&answer) {
+        let mut reader = request;
+        let mut writer = Taker::new(alloc, 1, good_writes, good_writes % 2 == 0);
+        let served = serve_one(alloc, &mut reader, &mut writer, docket);
+        let front = answer.iter().take(good_writes as usize);
+        if served != Err(ServeFault::WriteFailed) || !writer.taken.iter().eq(front) {
+            return false;
+        }
+    }
+    true
+}
+
+/// Appends a line of these words, or of `not` and them.
+fn push_told(out: &mut Vec<u8>, holds: bool, words: &str) -> Result<(), Error> {
+    if !holds {
+        out.extend_from_slice(b"not: ")?;
+    }
+    out.extend_from_slice(words.as_bytes())?;
+    out.push(b'\n')?;
+    Ok(())
+}
+
+/// Appends for each request whether it ends early wherever it is cut, and whether a read that fails is
+/// told; and then the answers to all of them.
 fn push_cuts(
     alloc: Global,
     docket: &mut Docket<MemStore>,
@@ -86,22 +135,47 @@ fn push_cuts(
 ) -> Result<(), Error> {
     for line in requests.split_inclusive(|byte| *byte == b'\n') {
         let request = request_of(alloc, line)?;
-        let told = if ends_early(alloc, docket, &request) {
-            "each cut ends early\n"
-        } else {
-            "not each cut ends early\n"
-        };
-        out.extend_from_slice(told.as_bytes())?;
+        push_told(
+            out,
+            ends_early(alloc, docket, &request),
+            "each cut ends early",
+        )?;
+        push_told(
+            out,
+            tells_reads(alloc, docket, &request),
+            "each read that fails is told",
+        )?;
     }
     push_answers(alloc, docket, usize::MAX, requests, out)
 }
 
-/// Whether each cut of each request ends early, and then what is answered to all of them, uncut.
+/// Appends for each request whether a write that fails is told.
+fn push_failing_writes(
+    alloc: Global,
+    docket: &mut Docket<MemStore>,
+    requests: &[u8],
+    out: &mut Vec<u8>,
+) -> Result<(), Error> {
+    for line in requests.split_inclusive(|byte| *byte == b'\n') {
+        let request = request_of(alloc, line)?;
+        push_told(
+            out,
+            tells_writes(alloc, docket, &request),
+            "each write that fails is told",
+        )?;
+    }
+    Ok(())
+}
+
+/// Whether each cut and each failing read of each request is told, what is answered to all of them,
+/// uncut, and whether each failing write is told.
 pub(crate) fn cut(alloc: Global, requests: &[u8]) -> Result<Vec<u8>, Error> {
     let mut docket = docket(alloc, ZONE)?;
     let mut written = Vec::new(alloc);
-    let pushed = push_cuts(alloc, &mut docket, requests, &mut written);
+    let cut = push_cuts(alloc, &mut docket, requests, &mut written);
+    let failing = push_failing_writes(alloc, &mut docket, requests, &mut written);
     let _ = docket.close();
-    pushed?;
+    cut?;
+    failing?;
     Ok(written)
 }

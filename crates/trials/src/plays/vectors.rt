@@ -1,5 +1,5 @@
 //! The same commands, over the docket in vectors.
-use crate::plays::worked::{ASKED, CASE, ZONE, push_deadlines};
+use crate::plays::worked::{ASKED, CASE, ZONE, eastern_court, push_deadlines};
 use anyhow::{Error, anyhow};
 use court_days::Court;
 use docket_core::DecideFault;
@@ -7,13 +7,14 @@ use docket_plain::Plain;
 use docket_wire::{read_command, reply_text, wire_fault_text};
 use std::alloc::Global;
 
-fn docket(alloc: Global, zone: &str) -> Result<Plain, Error> {
+/// A docket without any record for a court of the zone.
+pub(crate) fn docket(alloc: Global, zone: &str) -> Result<Plain, Error> {
     let court = Court::read(alloc, zone, "17:00").map_err(|_| anyhow!("no court"))?;
     Ok(Plain::new(alloc, court))
 }
 
 /// What is answered to the command on the line.
-fn answer(alloc: Global, docket: &mut Plain, line: &[u8]) -> Result<String, Error> {
+pub(crate) fn answer(alloc: Global, docket: &mut Plain, line: &[u8]) -> Result<String, Error> {
     let command = match read_command(alloc, line) {
         Ok(command) => command,
         Err(fault) => return Ok(wire_fault_text(alloc, &fault)?),
@@ -63,7 +64,7 @@ pub(crate) fn ran(alloc: Global, commands: &[u8]) -> Result<Vec<u8>, Error> {
 
 /// What is answered to the commands, with where the deadlines stand in the end.
 pub(crate) fn worked_out(alloc: Global, commands: &[u8]) -> Result<Vec<u8>, Error> {
-    let court = Court::read(alloc, ZONE, "17:00").map_err(|_| anyhow!("no court"))?;
+    let court = eastern_court(alloc)?;
     let mut docket = docket(alloc, ZONE)?;
     let mut written = Vec::new(alloc);
     for line in commands.split_inclusive(|byte| *byte == b'\n') {

@@ -12,6 +12,11 @@ use std::alloc::{AllocError, Global};
 /// The court's zone, Eastern time.
 pub(crate) const ZONE: &str = "EST5EDT,M3.2.0,M11.1.0";
 
+/// The court, which closes at five.
+pub(crate) fn eastern_court(alloc: Global) -> Result<Court, Error> {
+    Court::read(alloc, ZONE, "17:00").map_err(|_| anyhow!("no court"))
+}
+
 /// The case whose deadlines are shown.
 pub(crate) const CASE: u32 = 1;
 

@@ -1,16 +1,18 @@
-//! A run over the two files: what it finds, or why it ends, and the files.
-use super::errand::{Errand, Found, run};
-use crate::asking::court;
+//! A run over the two files that a run before it left.
 use crate::disks::options;
-use docket_command::Command;
+use crate::plays::eastern_court;
+use crate::stops::telling::told;
+use anyhow::{Error, anyhow};
+use docket_command::{Command, Reply};
 use docket_store::{
     AdoptFault, CreateFault, Docket, Fault, RecoverFault, apply_again, recover, reopen, stop,
 };
-use sqlite::Files;
+use docket_wire::read_command;
+use sqlite::{Alter, Files};
 use sqlite_disk::Disk;
 use std::alloc::Global;
 
-/// Why a run ends.
+/// Why a run has nothing to tell of a docket.
 #[derive(Clone, Copy, PartialEq)]
 pub(super) enum End {
     NoCourt,
@@ -18,6 +20,7 @@ pub(super) enum End {
     NotOpened,
     NotMade(CreateFault),
     NotAdopted(AdoptFault),
+    NotTold,
 }
 
 impl End {
@@ -32,6 +35,7 @@ impl End {
     }
 }
 
+/// The end of a run that found no docket, and its files.
 pub(super) fn ended<D: Disk + Drop>(fault: RecoverFault<D>) -> (End, Files<D>) {
     match fault {
         RecoverFault::NotOpened(_, left) => (End::NotOpened, left.into_files()),
@@ -42,14 +46,24 @@ pub(super) fn ended<D: Disk + Drop>(fault: RecoverFault<D>) -> (End, Files<D>) {
     }
 }
 
+/// Applies the commands of the lines, each of which is to be accepted.
+fn apply_lines<S: Alter>(alloc: Global, docket: &mut Docket<S>, lines: &[u8]) -> Result<(), Error> {
+    for line in lines.split_inclusive(|byte| *byte == b'\n') {
+        let command = read_command(alloc, line).map_err(|_| anyhow!("a line is no command"))?;
+        docket
+            .apply(&command)
+            .map_err(|_| anyhow!("a command is not accepted"))?;
+    }
+    Ok(())
+}
+
 /// Makes a docket.
 pub(super) fn created<D: Disk + Drop>(
     alloc: Global,
     files: Files<D>,
     frames: usize,
-    errand: Errand<'_>,
-) -> (Result<Found, End>, Files<D>) {
-    let Some(court) = court(alloc) else {
+) -> (Result<(), End>, Files<D>) {
+    let Ok(court) = eastern_court(alloc) else {
         return (Err(End::NoCourt), files);
     };
     if !files.may_be_used() {
@@ -60,10 +74,7 @@ pub(super) fn created<D: Disk + Drop>(
         Err((_, left)) => return (Err(End::NotOpened), left.into_files()),
     };
     match Docket::create(alloc, conn, court) {
-        Ok(docket) => {
-            let (found, store) = run(alloc, docket, errand);
-            (Ok(found), store.close())
-        }
+        Ok(docket) => (Ok(()), docket.close().into_store().close()),
         Err(returned) => (
             Err(End::NotMade(returned.fault)),
             stop(returned.connection).close(),
@@ -71,20 +82,43 @@ pub(super) fn created<D: Disk + Drop>(
     }
 }
 
-/// Goes on from the docket.
-pub(super) fn recovered<D: Disk + Drop>(
+/// Goes on from the docket, and applies the commands of the lines.
+pub(super) fn filled<D: Disk + Drop>(
     alloc: Global,
     files: Files<D>,
     frames: usize,
-    errand: Errand<'_>,
-) -> (Result<Found, End>, Files<D>) {
+    lines: &[u8],
+) -> Result<Files<D>, Error> {
+    if !files.may_be_used() {
+        return Err(anyhow!("the disks may not be used"));
+    }
+    match recover(alloc, files, options(frames)) {
+        Ok(mut docket) => {
+            let applied = apply_lines(alloc, &mut docket, lines);
+            let files = docket.close().into_store().close();
+            applied?;
+            Ok(files)
+        }
+        Err(fault) => {
+            ended(fault);
+            Err(anyhow!("no docket was found"))
+        }
+    }
+}
+
+/// What the docket tells from which the run goes on.
+pub(super) fn found<D: Disk + Drop>(
+    alloc: Global,
+    files: Files<D>,
+    frames: usize,
+) -> (Result<Vec<u8>, End>, Files<D>) {
     if !files.may_be_used() {
         return (Err(End::NotUsable), files);
     }
     match recover(alloc, files, options(frames)) {
-        Ok(docket) => {
-            let (found, store) = run(alloc, docket, errand);
-            (Ok(found), store.close())
+        Ok(mut docket) => {
+            let told = told(alloc, &mut docket).map_err(|_| End::NotTold);
+            (told, docket.close().into_store().close())
         }
         Err(fault) => {
             let (end, files) = ended(fault);
@@ -93,30 +127,18 @@ pub(super) fn recovered<D: Disk + Drop>(
     }
 }
 
-/// What a command was answered, and what the run then found.
-#[derive(Clone, Copy)]
-pub(super) struct Answered {
-    pub(super) answer: Result<u32, Fault>,
-    pub(super) found: Found,
-}
-
-/// Goes on from the docket, and gives the command.
+/// What is answered to the command where the run goes on from the docket.
 pub(super) fn given<D: Disk + Drop>(
     alloc: Global,
     files: Files<D>,
     frames: usize,
     command: &Command,
-    errand: Errand<'_>,
-) -> (Result<Answered, End>, Files<D>) {
+) -> (Result<Result<Reply, Fault>, End>, Files<D>) {
     if !files.may_be_used() {
         return (Err(End::NotUsable), files);
     }
     match apply_again(alloc, files, options(frames), command) {
-        Ok((docket, answer)) => {
-            let (found, store) = run(alloc, docket, errand);
-            let answer = answer.map(|reply| reply.number);
-            (Ok(Answered { answer, found }), store.close())
-        }
+        Ok((docket, answer)) => (Ok(answer), docket.close().into_store().close()),
         Err(fault) => {
             let (end, files) = ended(fault);
             (Err(end), files)

@@ -1,0 +1,93 @@
+//! The making of a docket, stopped after each number of calls of each disk until it meets no stop.
+use crate::disks::{Bytes, Fused, LOSSES, NO_STOP, Stop, Tried, calls_of, files_with, left};
+use crate::stops::going_on::{End, created, found};
+use crate::stops::stopping::{EACH, Stopping, Tally};
+use crate::stops::{CALLS, FRAMES};
+use anyhow::{Error, anyhow};
+use docket_store::AdoptFault;
+use sqlite::Files;
+use std::alloc::Global;
+
+/// What a docket without any record tells.
+const NOTHING: &[u8] = b"end 0\n";
+
+/// Makes a docket in files that hold none.
+fn made_now<D: Tried>(alloc: Global, files: Files<D>, frames: usize) -> Result<(), Error> {
+    let (made, files) = created(alloc, files, frames);
+    if made.is_err() {
+        return Err(anyhow!("no docket is made"));
+    }
+    let (told, _) = found(alloc, files, frames);
+    match told {
+        Ok(told) if told.as_slice() == NOTHING => Ok(()),
+        _ => Err(anyhow!("the docket that is made is not found")),
+    }
+}
+
+/// Goes on from what is left. There is a docket without any record or none, and one where it was
+/// acknowledged; where there is none it is made.
+fn goes_on<D: Tried>(
+    alloc: Global,
+    frames: usize,
+    bytes: &Bytes,
+    acknowledged: bool,
+) -> Result<(), Error> {
+    let files = files_with::<D>(alloc, bytes, NO_STOP)?;
+    let (told, files) = found(alloc, files, frames);
+    match told {
+        Ok(told) if told.as_slice() == NOTHING => Ok(()),
+        Err(End::NotAdopted(AdoptFault::Empty)) if !acknowledged => made_now(alloc, files, frames),
+        _ => Err(anyhow!("neither a docket nor nothing")),
+    }
+}
+
+/// Makes a docket with a stop, and goes on from what each power failure leaves. Whether a disk stopped.
+fn stopped_once<D: Tried>(alloc: Global, frames: usize, stop: Stop) -> Result<bool, Error> {
+    let files = files_with::<D>(alloc, &Bytes::none(alloc), stop)?;
+    let (made, files) = created(alloc, files, frames);
+    let is_stopped = calls_of(&files).are_past(stop);
+    let left = left(alloc, files)?;
+    let acknowledged = match made {
+        Ok(()) => true,
+        Err(end) if is_stopped && end.is_by_a_disk() => false,
+        Err(_) => return Err(anyhow!("another fault")),
+    };
+    for loss in LOSSES {
+        let bytes = left.after(alloc, loss)?;
+        goes_on::<D>(alloc, frames, &bytes, acknowledged)?;
+    }
+    Ok(is_stopped)
+}
+
+/// Stops the disk after each number of calls, until it does not stop. How many stops there were.
+fn stops_of<D: Tried>(alloc: Global, frames: usize, stopping: Stopping) -> Result<u64, Error> {
+    for calls in 0..CALLS {
+        if !stopped_once::<D>(alloc, frames, stopping.after(calls))? {
+            return Ok(calls);
+        }
+    }
+    Err(anyhow!("no end of the stops"))
+}
+
+/// Stops each disk. Each sweep ends with a run that meets no stop.
+fn swept<D: Tried>(alloc: Global, frames: usize) -> Result<Tally, Error> {
+    let mut tally = Tally::NONE;
+    for stopping in EACH {
+        let stops = stops_of::<D>(alloc, frames, stopping)?;
+        tally = tally.with(Tally {
+            stops,
+            reopenings: stops.saturating_add(1).saturating_mul(LOSSES.len() as u64),
+        });
+    }
+    Ok(tally)
+}
+
+/// How many stops there are of the making of a docket, which is made whole or not at all wherever it is
+/// stopped.
+pub(super) fn made(alloc: Global) -> Result<Tally, Error> {
+    let mut tally = Tally::NONE;
+    for frames in FRAMES {
+        tally = tally.with(swept::<Fused>(alloc, frames)?);
+    }
+    Ok(tally)
+}
