@@ -2,9 +2,10 @@
 //! under the Federal Rules of Civil Procedure.
 #![tactic(auto)]
 
+use clap::error::ErrorKind;
 use docket_jobs::read_job;
 use job_runs::{Progress, Status, run_job};
-use std::io::IsTerminal;
+use std::io::{IsTerminal, Write};
 use std::process::ExitCode;
 use std::{env, fs, io};
 
@@ -26,19 +27,33 @@ fn progress(rt: &HostRuntime) -> Progress {
     }
 }
 
+/// Tells that there is not enough memory, which takes none.
+fn out_of_memory(rt: &HostRuntime) -> Status {
+    let _ = rt
+        .stderr()
+        .write_all(b"docketctl: there is not enough memory\n");
+    Status::Failed
+}
+
+/// Tells what is wrong with words that are no job, or the help that they ask for.
+fn told(rt: &HostRuntime, error: &clap::Error) -> io::Result<Status> {
+    if error.kind() == ErrorKind::OutOfMemory {
+        return Ok(out_of_memory(rt));
+    }
+    error.print(rt)?;
+    Ok(if error.use_stderr() {
+        Status::BadLine
+    } else {
+        Status::Done
+    })
+}
+
 /// Does what the words after the program's name ask for, and answers the exit status.
 fn run(rt: &HostRuntime) -> io::Result<Status> {
     let words: Vec<String> = env::args(rt)?.collect(rt.alloc())?;
     let job = match read_job(rt.alloc(), words.as_slice()) {
         Ok(job) => job,
-        Err(error) => {
-            error.print(rt)?;
-            return Ok(if error.use_stderr() {
-                Status::BadLine
-            } else {
-                Status::Done
-            });
-        }
+        Err(error) => return told(rt, &error),
     };
     Ok(run_job(
         rt,
@@ -51,8 +66,10 @@ fn run(rt: &HostRuntime) -> io::Result<Status> {
 }
 
 fn main(rt: HostRuntime) -> ExitCode {
-    match run(&rt) {
-        Ok(status) => ExitCode::from(status.code()),
-        Err(_) => ExitCode::from(Status::Failed.code()),
-    }
+    let status = match run(&rt) {
+        Ok(status) => status,
+        Err(fault) if fault.kind() == io::ErrorKind::OutOfMemory => out_of_memory(&rt),
+        Err(_) => Status::Failed,
+    };
+    ExitCode::from(status.code())
 }
