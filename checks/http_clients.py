@@ -13,7 +13,8 @@ import time
 JSON = "application/json"
 TEXT = "text/plain; charset=utf-8"
 PHRASES = {200: "OK", 400: "Bad Request", 404: "Not Found", 405: "Method Not Allowed", 409: "Conflict", 411: "Length Required",
-           413: "Payload Too Large", 431: "Request Header Fields Too Large", 503: "Service Unavailable"}
+           413: "Payload Too Large", 431: "Request Header Fields Too Large", 500: "Internal Server Error",
+           503: "Service Unavailable"}
 PATIENCE = 60  # seconds that a check waits for what should come sooner
 RESET, SILENCE = b"<reset>", b"<no end>"
 
@@ -102,11 +103,11 @@ class Server:
 
     begun_so_far = []
 
-    def __init__(self, program, file, count, port=0, most=None):
+    def __init__(self, program, file, count, port=0, most=None, surroundings=None):
         self.left, self.seen, self.errors = count, 0, tempfile.TemporaryFile()
         words = [program, "serve", "--db", file, "--port", str(port), "--count", str(count)]
         self.process = subprocess.Popen(words, stdin=subprocess.DEVNULL, stdout=subprocess.PIPE, stderr=self.errors,
-                                        preexec_fn=limited(most) if most else None)
+                                        preexec_fn=limited(most) if most else None, env=surroundings)
         self.begun_so_far.append(self)
         ready = select.select([self.process.stdout], [], [], PATIENCE)[0]
         self.line = self.process.stdout.readline() if ready else b""
@@ -166,3 +167,9 @@ class Server:
         if self.process.poll() is None:
             self.process.kill()
             self.process.communicate()
+
+    def let_go(self):
+        """Closes what is still open of a run that ended, and forgets it."""
+        self.process.stdout.close()
+        self.errors.close()
+        self.begun_so_far.remove(self)
