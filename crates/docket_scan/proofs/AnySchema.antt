@@ -1,0 +1,121 @@
+-- What a SELECT means under any schema: a query with no parameters, or nothing at all.
+use Rattle.std.proofs.Common.{◌≡◌, ◌∙◌, ◌≤◌, ◌+◌, ℕ, nat_le, Bool, List, [], length, Ok, Err, Option, None, true, false, refl, sym, subst, if◌then◌else◌, arith}
+use Rattle.std.proofs.lemmas.Bool.Decides.{nat_tests}
+use Rattle.sqlite_ast.specs.declared.Select.{Select}
+use Rattle.sqlite_ast.specs.declared.Statement.{Statement}
+use Rattle.sqlite_ast.specs.declared.Statement.TheVariants as written
+use Rattle.sqlite_syntax.specs.declared.statement.Parsed.{Parsed}
+use Rattle.sqlite_schema.specs.declared.schema.Schema.{Schema}
+use Rattle.sqlite_schema.specs.declared.command.Command.{Command}
+use Rattle.sqlite_schema.specs.declared.command.Command.TheVariants.{Select as Run}
+use Rattle.sqlite_schema.specs.declared.command.Returning.{Returning}
+use Rattle.sqlite_schema.specs.declared.program.Program.{Program}
+use Rattle.sqlite_schema.specs.declared.program.Table.{Table as Let}
+use Rattle.sqlite_resolve.specs.Compile.{first, compiled, planned, meaning, returning, timed, command, read, with_command, small}
+use Rattle.sqlite_resolve.specs.Lowering.{Checked, and_then}
+use Rattle.sqlite_resolve.specs.declared.compiled.Compiled.{Compiled}
+use Rattle.sqlite_resolve.specs.declared.error.CompileError.TheVariants.{NoSuchTable}
+use Rattle.sqlite_resolve.specs.Program.{query, program, Shown}
+use Rattle.sqlite.specs.Effect.{is_query}
+use Rattle.sqlite.specs.Listing.{understood, reads_listing, listing_schema, if_select}
+use Rattle.sqlite_tied.specs.Compute.{everything}
+use Rattle.docket_scan.specs.Statements.{scan_text}
+use Rattle.docket_tables.specs.declared.table.Table.{Table}
+use Rattle.docket_tables.specs.declared.table.Table.TheVariants as table
+
+abbrev is_select_statement : Statement → Bool
+is_select_statement (written.Select s) = true
+is_select_statement _ = false
+
+-- the text is one query, with no parameters, which does not read the time
+abbrev pub IsQueryText : List ℕ → Checked Parsed → Type 0
+IsQueryText sql (Ok p) = (is_select_statement p.statement ≡ true) × (p.names ≡ []) × (p.formats ≡ []) × (nat_le (length sql) p.tail ≡ true)
+IsQueryText sql (Err e) = ⊥
+
+pub text_is_query : (t : Table) → IsQueryText (scan_text t) (first (scan_text t))
+unfolding everything
+text_is_query table.Court = (refl, refl, refl, refl)
+text_is_query table.Calendar = (refl, refl, refl, refl)
+text_is_query table.Cases = (refl, refl, refl, refl)
+text_is_query table.Parties = (refl, refl, refl, refl)
+text_is_query table.Entries = (refl, refl, refl, refl)
+text_is_query table.Deadlines = (refl, refl, refl, refl)
+text_is_query table.Acts = (refl, refl, refl, refl)
+text_is_query table.Receipts = (refl, refl, refl, refl)
+text_is_query table.Ends = (refl, refl, refl, refl)
+
+-- nor is it one on the listing of the schema
+pub text_lists_nothing : (t : Table) → if_select (compiled listing_schema (scan_text t)) ≡ Err NoSuchTable
+unfolding everything listing_schema
+text_lists_nothing table.Court = refl
+text_lists_nothing table.Calendar = refl
+text_lists_nothing table.Cases = refl
+text_lists_nothing table.Parties = refl
+text_lists_nothing table.Entries = refl
+text_lists_nothing table.Deadlines = refl
+text_lists_nothing table.Acts = refl
+text_lists_nothing table.Receipts = refl
+text_lists_nothing table.Ends = refl
+
+-- what such a text comes to under a schema that understands it: a query that writes nothing
+pub record IsPlainQuery (sql : List ℕ) (c : Compiled) : Type 0 where
+  pub returning : c.returning ≡ None
+  pub formats : c.formats ≡ []
+  pub names : c.names ≡ []
+  pub query : is_query c.command ≡ true
+  pub whole : length sql ≤ c.tail
+
+the_select : (statement : Statement) → is_select_statement statement ≡ true → (s : Select) × (statement ≡ written.Select s)
+the_select (written.Select s) is = (s, refl)
+the_select _ is = absurd cc
+
+read_is_query : (schema : Schema) (s : Select) (k : Command) → read schema s ≡ Ok k → is_query k ≡ true
+unfolding read
+read_is_query schema s k = at (query schema s)
+  where
+    second : (names : List (List ℕ)) (r : Checked Program) → and_then r (λ p. Ok (Run p names)) ≡ Ok k → is_query k ≡ true
+    second names (Ok p) is = let same : Run p names ≡ k = cc in subst (λ x. is_query x ≡ true) same refl
+    second names (Err e) is = absurd cc
+
+    at : (r : Checked (Shown × List Let)) → and_then r (λ q. and_then (program schema q.1 q.0.0) (λ p. Ok (Run p q.0.1))) ≡ Ok k → is_query k ≡ true
+    at (Ok q) is = second q.0.1 (program schema q.1 q.0.0) is
+    at (Err e) is = absurd cc
+
+abbrev plan_of : Schema → ℕ → Statement → List (List ℕ) → Checked (List (List ℕ) × (Command × Option Returning))
+plan_of schema names statement formats =
+    let times = timed schema formats statement in
+    and_then (and_then (returning schema (names + small times) statement) (λ shown. and_then (command schema formats (names + small times) statement) (λ k. Ok (k, shown)))) (λ found. Ok (times, found))
+
+compiled_plain : (schema : Schema) (sql : List ℕ) (c : Compiled) → IsQueryText sql (first sql) → compiled schema sql ≡ Ok c → IsPlainQuery sql c
+unfolding compiled planned meaning returning timed command
+compiled_plain schema sql c = at (first sql)
+  where
+    within : (m n : ℕ) → nat_le m n ≡ true → m ≤ n
+    within m n e = grind (arith, nat_tests)
+
+    last : (p : Parsed) (r : Checked Command) (s : Select) → ((k : Command) → r ≡ Ok k → is_query k ≡ true) → p.names ≡ [] → length sql ≤ p.tail
+        → and_then (and_then (and_then r (λ k. Ok (k, None))) (λ found. Ok ([], found))) (λ plan. Ok (with_command p plan)) ≡ Ok c → IsPlainQuery sql c
+    last p (Ok k) s queries unnamed whole is =
+        let same : with_command p ([], (k, None)) ≡ c = cc in
+        subst (IsPlainQuery sql) same (record { returning = refl; formats = refl; names = unnamed; query = queries k refl; whole = whole })
+    last p (Err e) s queries unnamed whole is = absurd cc
+
+    here : (p : Parsed) (s : Select) → p.statement ≡ written.Select s → p.names ≡ [] → p.formats ≡ [] → length sql ≤ p.tail → and_then (planned schema p) (λ plan. Ok (with_command p plan)) ≡ Ok c → IsPlainQuery sql c
+    here p s statement unnamed untimed whole is =
+        let as_select = subst (λ st. and_then (plan_of schema (small p.names) st p.formats) (λ plan. Ok (with_command p plan)) ≡ Ok c) statement is in
+        let plain = subst (λ fs. and_then (plan_of schema (small p.names) (written.Select s) fs) (λ plan. Ok (with_command p plan)) ≡ Ok c) untimed as_select in
+        last p (read schema s) s (read_is_query schema s) unnamed whole plain
+
+    at : (r : Checked Parsed) → IsQueryText sql r → and_then r (λ p. and_then (planned schema p) (λ plan. Ok (with_command p plan))) ≡ Ok c → IsPlainQuery sql c
+    at (Ok p) text is = let select = the_select p.statement text.0 in here p select.0 select.1 text.1 text.2 (within (length sql) p.tail text.3) is
+    at (Err e) text is = absurd text
+
+-- under any schema the statement of a table is a query that writes nothing, or nothing at all
+pub understood_plain : (t : Table) (schema : Schema) (c : Compiled) → understood schema (scan_text t) ≡ Ok c → IsPlainQuery (scan_text t) c × (reads_listing schema (scan_text t) ≡ false)
+unfolding understood
+understood_plain t schema c = at (reads_listing schema (scan_text t)) refl
+  where
+    at : (b : Bool) → reads_listing schema (scan_text t) ≡ b → (if b then if_select (compiled listing_schema (scan_text t)) else compiled schema (scan_text t)) ≡ Ok c
+        → IsPlainQuery (scan_text t) c × (reads_listing schema (scan_text t) ≡ false)
+    at true reads is = absurd (let e = sym (text_lists_nothing t) ∙ is in cc)
+    at false reads is = (compiled_plain schema (scan_text t) c (text_is_query t) is, reads)

@@ -1,0 +1,69 @@
+-- Tables that are judged one after another.
+use Rattle.std.proofs.Common.{◌≡◌, ℕ, List, [], ◌∷◌, ◌++◌, map, Result, Ok, Err, true, IsErrAnd, sym, subst, refl}
+use Rattle.std.specs.List.{AllByRecursion}
+use Rattle.sqlite.specs.Effect.{Database}
+use Rattle.sqlite.specs.Order.{Row}
+use Rattle.sqlite.specs.State.{State, IsUnchanged}
+use Rattle.sqlite.proofs.Callers.{unchanged_then}
+use Rattle.court_days.specs.Court.{CourtSettings}
+use Rattle.docket_tables.specs.declared.table.Table.{Table}
+use Rattle.docket_tables.specs.declared.table.Table.TheVariants as table
+use Rattle.docket_scan.specs.Judging.{IsSoundIn, IsUnsoundIn, IsTold, JudgedTo, FailsAt, Holds, Rows, AreSoundBy, before}
+use Rattle.docket_scan.specs.Records.{IsTable}
+use Rattle.docket_scan.specs.Scans.{AreRowsOf}
+use Rattle.docket_scan.specs.Shapes.{has_table}
+use Rattle.docket_scan.specs.Taken.{IsRead}
+use Rattle.docket_scan.specs.declared.fault.TableFault.{TableFault}
+use Rattle.docket_scan.specs.declared.fault.TableFault.TheVariants.{Damaged, NoMemory, StoreFailed}
+
+-- what is read of a database alone holds of each state that shows it
+abbrev with_now : State → Database → State
+with_now s d = record s { now = d }
+
+module _ (first old : State) (same : IsUnchanged first old) where
+  pub unsound_before : (t : Table) (AreSound : List Row → Type 0) → IsUnsoundIn t old AreSound → IsUnsoundIn t first AreSound
+  unsound_before t AreSound h = subst (λ (d : Database). IsUnsoundIn t (with_now first d) AreSound) same.0.now_is h
+
+  pub sound_before : (t : Table) (AreSound : List Row → Type 0) → IsSoundIn t old AreSound → IsSoundIn t first AreSound
+  sound_before t AreSound h = subst (λ (d : Database). IsSoundIn t (with_now first d) AreSound) same.0.now_is h
+
+  -- a table that is told to be unsound, after those before it
+  pub failed : (t : Table) (court : CourtSettings) (next : ℕ) (new : State) (r : Rows) (AreSound : List Row → Type 0) (fault : TableFault)
+      → AreSound ≡ AreSoundBy t court next r → AllByRecursion (Holds first court next r) (before t) → IsTold t old new AreSound fault → FailsAt court next first new fault
+  failed t court next new r AreSound (Damaged at) is all told =
+      subst (λ u. FailsAt court next first new (Damaged u)) (sym told.0)
+      (λ opened. unchanged_then first old new same (told.1 same.0.is_open), r, all, unsound_before t (AreSoundBy t court next r) (subst (IsUnsoundIn t old) is told.2))
+  failed t court next new r AreSound NoMemory is all told = tt
+  failed t court next new r AreSound StoreFailed is all told = tt
+
+-- the same of the first table
+pub failed_first : (court : CourtSettings) (next : ℕ) (old new : State) (r : Rows) (AreSound : List Row → Type 0) (fault : TableFault)
+    → AreSound ≡ AreSoundBy table.Calendar court next r → IsTold table.Calendar old new AreSound fault → FailsAt court next old new fault
+failed_first court next old new r AreSound (Damaged at) is told =
+    subst (λ u. FailsAt court next old new (Damaged u)) (sym told.0) (told.1, r, tt, subst (IsUnsoundIn table.Calendar old) is told.2)
+failed_first court next old new r AreSound NoMemory is told = tt
+failed_first court next old new r AreSound StoreFailed is told = tt
+
+-- a fault that is handed on
+pub handed : {X : Type 0} (t : Table) (court : CourtSettings) (next : ℕ) (old new : State) (says : Rows → X → Type 0) (r : Result X TableFault) (fault : TableFault)
+    → IsErrAnd r (λ f. f ≡ fault) → FailsAt court next old new fault → JudgedTo t court next old new says r
+handed t court next old new says (Ok x) fault same told = absurd same
+handed t court next old new says (Err f) fault same told = subst (FailsAt court next old new) (sym same) told
+
+-- the rows that were read stand in the table, and are sound
+pub read_rows : {R : Type 0} (t : Table) (s : State) (Is : R → Type 0) (cells : R → Row) (Has AreSound : List R → Type 0) (h : IsSoundIn t s (IsRead Is cells Has))
+    → AreSound h.3.records → (has_table s.now.schema t ≡ true) × AreRowsOf t s (map cells h.3.records) × IsTable Is cells AreSound (map cells h.3.records)
+read_rows t s Is cells Has AreSound h sound = (
+  h.0,
+  subst (AreRowsOf t s) h.3.are.same h.2,
+  record { records = h.3.records; are = record { held = h.3.are.held; same = refl }; sound = sound },
+)
+
+-- nothing was read yet
+pub no_rows : Rows
+no_rows = record { calendar = []; cases = []; parties = []; entries = []; deadlines = []; acts = []; receipts = []; ends = [] }
+
+-- the tables before one, and it, are those before the next
+pub all_more : (Is : Table → Type 0) (ts : List Table) (t : Table) → AllByRecursion Is ts → Is t → AllByRecursion Is (ts ++ t ∷ [])
+all_more Is [] t all is = (is, tt)
+all_more Is (u ∷ ts) t all is = (all.0, all_more Is ts t all.1 is)

@@ -1,0 +1,5 @@
+pub mod AnySchema
+mod CountLemmas
+mod JudgingLemmas
+pub mod RecordLemmas
+mod ScanLemmas

@@ -1,0 +1,135 @@
+-- What is told of the tables of any database, in their order.
+use Rattle.std.specs.Prelude.{◌≡◌, ◌⊎◌, ℕ, false, true, IsTrue, List, [], ◌∷◌, ◌++◌, length, map, Result, Ok, Err}
+use Rattle.std.specs.List.{AllByRecursion}
+use Rattle.sqlite.specs.Order.{Row}
+use Rattle.sqlite.specs.State.{State, IsUnchanged}
+use Rattle.sqlite.specs.declared.error.Error.{Error}
+use Rattle.sqlite.specs.declared.error.Error.TheVariants.{SqliteFailure, SqlInputError}
+use Rattle.sqlite.specs.declared.error.ErrorCode.TheVariants.{TypeMismatch, IntegerOverflow, OutOfMemory}
+use Rattle.court_days.specs.Court.{CourtSettings, zone_of}
+use Rattle.docket_core.specs.CalendarItems.{calendar_of}
+use Rattle.docket_core.specs.Histories.{items_of}
+use Rattle.docket_core.specs.declared.end_row.EndRow.{EndRow}
+use Rattle.docket_core.specs.declared.row.ActRow.{ActRow}
+use Rattle.docket_core.specs.declared.row.CalendarRow.{CalendarRow}
+use Rattle.docket_core.specs.declared.row.CaseRow.{CaseRow}
+use Rattle.docket_core.specs.declared.row.DeadlineRow.{DeadlineRow}
+use Rattle.docket_core.specs.declared.row.EntryRow.{EntryRow}
+use Rattle.docket_core.specs.declared.row.PartyRow.{PartyRow}
+use Rattle.docket_columns.specs.Cells.{calendar_cells, case_cells, party_cells, entry_cells, deadline_cells, act_cells, end_cells}
+use Rattle.docket_sound.specs.Deadlines.{deadline_key}
+use Rattle.docket_sound.specs.Dues.{dues_of}
+use Rattle.docket_sound.specs.Parties.{party_key}
+use Rattle.docket_scan.specs.Records.{count_in, receipt_cells, AreCalendarRows, AreCaseRows, ArePartyRows, AreEntryRows, AreDeadlineRows, AreActRows, AreReceiptRows, AreEndRows}
+use Rattle.docket_scan.specs.Scans.{IsUnreadable, AreRowsOf, AreFirstRowsOf}
+use Rattle.docket_scan.specs.Shapes.{has_table}
+use Rattle.docket_scan.specs.declared.fault.TableFault.{TableFault}
+use Rattle.docket_scan.specs.declared.fault.TableFault.TheVariants.{Damaged, NoMemory, StoreFailed}
+use Rattle.docket_scan.specs.declared.receipt.StoredReceipt.{StoredReceipt}
+use Rattle.docket_tables.specs.declared.table.Table.{Table}
+use Rattle.docket_tables.specs.declared.table.Table.TheVariants.{Court, Calendar, Cases, Parties, Entries, Deadlines, Acts, Receipts, Ends}
+
+abbrev pub fault_in : Table → Error → TableFault
+fault_in t (SqlInputError why) = Damaged t
+fault_in t (SqliteFailure TypeMismatch) = Damaged t
+fault_in t (SqliteFailure IntegerOverflow) = Damaged t
+fault_in t (SqliteFailure OutOfMemory) = NoMemory
+fault_in t _ = StoreFailed
+
+-- one table
+
+-- the table is there with its columns, and this holds of its rows
+abbrev pub IsSoundIn : Table → State → (List Row → Type 0) → Type 0
+IsSoundIn t s Holds = (has_table s.now.schema t ≡ true) × (rows : List Row) × AreRowsOf t s rows × Holds rows
+
+-- its rows are unsound, or its first rows are, however they go on
+abbrev pub HasUnsoundRows : Table → State → (List Row → Type 0) → Type 0
+HasUnsoundRows t s AreSound =
+    ((first : List Row) × AreFirstRowsOf t s first × ((more : List Row) → AreSound (first ++ more) → ⊥))
+    ⊎ ((rows : List Row) × AreRowsOf t s rows × (AreSound rows → ⊥))
+
+-- it is missing, lacks a column, can't be read, or its rows are unsound
+abbrev pub IsUnsoundIn : Table → State → (List Row → Type 0) → Type 0
+IsUnsoundIn t s AreSound = (has_table s.now.schema t ≡ false) ⊎ (IsUnreadable t s ⊎ HasUnsoundRows t s AreSound)
+
+-- a connection that is open stays so, and sees the same
+abbrev pub StaysOpen : State → State → Type 0
+StaysOpen old new = IsTrue old.is_open → IsUnchanged old new
+
+-- a fault in the reading of one table: it is told to be unsound where it is
+abbrev pub IsTold : Table → State → State → (List Row → Type 0) → TableFault → Type 0
+IsTold t old new AreSound (Damaged at) = (at ≡ t) × StaysOpen old new × IsUnsoundIn t old AreSound
+IsTold t old new AreSound NoMemory = Unit {0}
+IsTold t old new AreSound StoreFailed = Unit {0}
+
+-- the reading of one table
+abbrev pub Judged : {X : Type 0} → Table → State → State → (X → Type 0) → (List Row → Type 0) → Result X TableFault → Type 0
+Judged t old new found AreSound (Ok x) = IsUnchanged old new × found x
+Judged t old new found AreSound (Err fault) = IsTold t old new AreSound fault
+
+-- all tables
+
+-- what stands in the tables, but for the court
+pub record Rows : Type 0 where
+  pub calendar : List CalendarRow
+  pub cases : List CaseRow
+  pub parties : List PartyRow
+  pub entries : List EntryRow
+  pub deadlines : List DeadlineRow
+  pub acts : List ActRow
+  pub receipts : List StoredReceipt
+  pub ends : List EndRow
+
+abbrev pub cells_in : Table → Rows → List Row
+cells_in Court r = []
+cells_in Calendar r = map calendar_cells r.calendar
+cells_in Cases r = map case_cells r.cases
+cells_in Parties r = map party_cells r.parties
+cells_in Entries r = map entry_cells r.entries
+cells_in Deadlines r = map deadline_cells r.deadlines
+cells_in Acts r = map act_cells r.acts
+cells_in Receipts r = map receipt_cells r.receipts
+cells_in Ends r = map end_cells r.ends
+
+-- rows of SQL are those of a sound table, by what stands in the tables before it; the ends are those of the running deadlines by the
+-- court's whole calendar
+abbrev pub AreSoundBy : Table → CourtSettings → ℕ → Rows → List Row → Type 0
+AreSoundBy Court court next r = λ rows. Unit {0}
+AreSoundBy Calendar court next r = AreCalendarRows court next
+AreSoundBy Cases court next r = AreCaseRows
+AreSoundBy Parties court next r = ArePartyRows (length r.cases)
+AreSoundBy Entries court next r = AreEntryRows (length r.cases)
+AreSoundBy Deadlines court next r = AreDeadlineRows (length r.cases) (count_in (map party_key r.parties))
+AreSoundBy Acts court next r = AreActRows court (length r.cases) (count_in (map deadline_key r.deadlines))
+AreSoundBy Receipts court next r = AreReceiptRows
+AreSoundBy Ends court next r = AreEndRows (dues_of (zone_of court) (calendar_of (items_of r.calendar)) r.acts)
+
+-- the table is there and holds these rows, which are sound
+abbrev pub Holds : State → CourtSettings → ℕ → Rows → Table → Type 0
+Holds s court next r t =
+    (has_table s.now.schema t ≡ true) × AreRowsOf t s (cells_in t r) × AreSoundBy t court next r (cells_in t r)
+
+-- the tables before one, in their order; that of the court is read before them all
+abbrev pub before : Table → List Table
+before Court = []
+before Calendar = []
+before Cases = Calendar ∷ []
+before Parties = Calendar ∷ Cases ∷ []
+before Entries = Calendar ∷ Cases ∷ Parties ∷ []
+before Deadlines = Calendar ∷ Cases ∷ Parties ∷ Entries ∷ []
+before Acts = Calendar ∷ Cases ∷ Parties ∷ Entries ∷ Deadlines ∷ []
+before Receipts = Calendar ∷ Cases ∷ Parties ∷ Entries ∷ Deadlines ∷ Acts ∷ []
+before Ends = Calendar ∷ Cases ∷ Parties ∷ Entries ∷ Deadlines ∷ Acts ∷ Receipts ∷ []
+
+-- the first table that is unsound is told, where those before it hold these rows
+abbrev pub FailsAt : CourtSettings → ℕ → State → State → TableFault → Type 0
+FailsAt court next old new (Damaged t) =
+    StaysOpen old new × (r : Rows) × AllByRecursion (Holds old court next r) (before t) × IsUnsoundIn t old (AreSoundBy t court next r)
+FailsAt court next old new NoMemory = Unit {0}
+FailsAt court next old new StoreFailed = Unit {0}
+
+-- the tables hold these rows, up to that one
+abbrev pub JudgedTo : {X : Type 0} → Table → CourtSettings → ℕ → State → State → (Rows → X → Type 0) → Result X TableFault → Type 0
+JudgedTo t court next old new says (Ok x) =
+    IsUnchanged old new × (r : Rows) × AllByRecursion (Holds old court next r) (before t) × Holds old court next r t × says r x
+JudgedTo t court next old new says (Err fault) = FailsAt court next old new fault

@@ -1,0 +1,69 @@
+-- The rows of each table as typed records, and when they are sound by the tables before theirs.
+use Rattle.std.specs.Prelude.{◌≡◌, ℕ, List, length, map}
+use Rattle.std.specs.List.{AllByRecursion}
+use Rattle.std.specs.Str.{IsUtf8}
+use Rattle.sqlite.specs.Order.{Row}
+use Rattle.court_days.specs.Court.{CourtSettings}
+use Rattle.docket_core.specs.declared.end_row.EndRow.{EndRow}
+use Rattle.docket_columns.specs.Cells.{calendar_cells, case_cells, party_cells, entry_cells, deadline_cells, act_cells, end_cells, stored_cells}
+use Rattle.docket_columns.specs.Fits.{IsCount, IsCalendarRow, IsCaseRow, IsPartyRow, IsEntryRow, IsDeadlineRow, IsActRow, IsEndRow}
+use Rattle.docket_sound.specs.Acts.{AreSoundActs}
+use Rattle.docket_sound.specs.Calendars.{AreSoundCalendarRows}
+use Rattle.docket_sound.specs.Cases.{AreSoundCases}
+use Rattle.docket_sound.specs.Deadlines.{AreSoundDeadlines}
+use Rattle.docket_sound.specs.Entries.{AreSoundEntries}
+use Rattle.docket_sound.specs.Numbers.{numbers_in}
+use Rattle.docket_sound.specs.Parties.{AreSoundParties}
+use Rattle.docket_sound.specs.Receipts.{AreSoundReceipts}
+use Rattle.docket_sound.specs.declared.numbering.Key.{Key}
+use Rattle.docket_scan.specs.declared.receipt.StoredReceipt.{StoredReceipt}
+
+abbrev pub receipt_cells : StoredReceipt → Row
+receipt_cells r = stored_cells r.receipt.key r.receipt.body r.reply.number
+
+abbrev pub IsStoredReceipt : StoredReceipt → Type 0
+IsStoredReceipt r = IsUtf8 r.receipt.key × IsUtf8 r.receipt.body × IsCount r.reply.number
+
+-- the rows hold these records, each of which its type holds
+pub record AreRecords {R : Type 0} (Is : R → Type 0) (cells : R → Row) (records : List R) (rows : List Row) : Type 0 where
+  pub held : AllByRecursion Is records
+  pub same : rows ≡ map cells records
+
+-- the rows of the table are records of which this holds
+pub record IsTable {R : Type 0} (Is : R → Type 0) (cells : R → Row) (Holds : List R → Type 0) (rows : List Row) : Type 0 where
+  pub records : List R
+  pub are : AreRecords Is cells records rows
+  pub sound : Holds records
+
+-- how many of the keys are of a case
+abbrev pub count_in : List Key → ℕ → ℕ
+count_in keys k = length (numbers_in k keys)
+
+abbrev pub AreCalendarRows : CourtSettings → ℕ → List Row → Type 0
+AreCalendarRows court next_row = IsTable IsCalendarRow calendar_cells (AreSoundCalendarRows court next_row)
+
+abbrev pub AreCaseRows : List Row → Type 0
+AreCaseRows = IsTable IsCaseRow case_cells AreSoundCases
+
+abbrev pub ArePartyRows : ℕ → List Row → Type 0
+ArePartyRows cases = IsTable IsPartyRow party_cells (AreSoundParties cases)
+
+abbrev pub AreEntryRows : ℕ → List Row → Type 0
+AreEntryRows cases = IsTable IsEntryRow entry_cells (AreSoundEntries cases)
+
+abbrev pub AreDeadlineRows : ℕ → (ℕ → ℕ) → List Row → Type 0
+AreDeadlineRows cases parties = IsTable IsDeadlineRow deadline_cells (AreSoundDeadlines cases parties)
+
+abbrev pub AreActRows : CourtSettings → ℕ → (ℕ → ℕ) → List Row → Type 0
+AreActRows court cases deadlines = IsTable IsActRow act_cells (AreSoundActs court cases deadlines)
+
+-- the replies are not looked at
+abbrev pub AreSoundStored : List StoredReceipt → Type 0
+AreSoundStored records = AreSoundReceipts (map (λ (r : StoredReceipt). r.receipt) records)
+
+abbrev pub AreReceiptRows : List Row → Type 0
+AreReceiptRows = IsTable IsStoredReceipt receipt_cells AreSoundStored
+
+-- the ends are these, in this order
+abbrev pub AreEndRows : List EndRow → List Row → Type 0
+AreEndRows expected = IsTable IsEndRow end_cells (λ records. records ≡ expected)

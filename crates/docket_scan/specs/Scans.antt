@@ -1,0 +1,52 @@
+-- What is read of a table, in a database of any schema.
+use Rattle.std.specs.Prelude.{◌≡◌, ◌⊎◌, ◌++◌, Bool, true, false, IsTrue, List, [], None, Result, Ok, Err}
+use Rattle.sqlite_resolve.specs.declared.compiled.Compiled.{Compiled}
+use Rattle.sqlite_resolve.specs.declared.error.CompileError.{CompileError}
+use Rattle.sqlite.specs.Effect.{Reads, ReadsFirst, RefusesToRead}
+use Rattle.sqlite.specs.Listing.{understood}
+use Rattle.sqlite.specs.Order.{Row}
+use Rattle.sqlite.specs.State.{State, IsUnchanged}
+use Rattle.sqlite.specs.declared.error.Error.{Error}
+use Rattle.sqlite.specs.declared.error.Error.TheVariants.{SqliteFailure, SqlInputError}
+use Rattle.sqlite.specs.declared.error.ErrorCode.TheVariants.{TypeMismatch, IntegerOverflow}
+use Rattle.docket_scan.specs.Statements.{scan_text}
+use Rattle.docket_tables.specs.declared.table.Table.{Table}
+
+-- the schema understands the statement of the table
+abbrev pub IsUnderstood : Table → State → Compiled → Type 0
+IsUnderstood t s c = understood s.now.schema (scan_text t) ≡ Ok c
+
+-- the rows of a table are what its statement answers
+abbrev pub AreRowsOf : Table → State → List Row → Type 0
+AreRowsOf t s rows = (c : Compiled) × IsUnderstood t s c × Reads c.command s.now [] rows
+
+-- its rows begin with these
+abbrev pub AreFirstRowsOf : Table → State → List Row → Type 0
+AreFirstRowsOf t s rows = (c : Compiled) × IsUnderstood t s c × ReadsFirst c.command s.now [] rows
+
+-- no statement reads the table: the schema has no such table or lacks a column of it, or what is in it can't be told
+abbrev pub IsUnreadable : Table → State → Type 0
+IsUnreadable t s =
+    ((fault : CompileError) × (understood s.now.schema (scan_text t) ≡ Err fault))
+    ⊎ ((c : Compiled) × (e : Error) × IsUnderstood t s c × RefusesToRead None c.command s.now [] e)
+
+-- the database refuses the statement for what it says
+abbrev pub is_refusal : Error → Bool
+is_refusal (SqlInputError fault) = true
+is_refusal (SqliteFailure TypeMismatch) = true
+is_refusal (SqliteFailure IntegerOverflow) = true
+is_refusal _ = false
+
+-- the check took all rows of the table, or no rows that begin as they do are sound
+abbrev pub Scans : Table → State → (List Row → Type 0) → (List Row → Type 0) → Bool → Type 0
+Scans t s HasTaken IsSound true = (rows : List Row) × AreRowsOf t s rows × HasTaken rows
+Scans t s HasTaken IsSound false = (first : List Row) × AreFirstRowsOf t s first × ((more : List Row) → IsSound (first ++ more) → ⊥)
+
+-- the database refused the statement, or failed
+abbrev pub FailsToScan : Table → State → State → Error → Type 0
+FailsToScan t old new e = IsTrue (is_refusal e) → IsUnreadable t old × IsUnchanged old new
+
+-- what the reading of a table comes to: it writes nothing, and the database stays as it was
+abbrev pub Scanned : Table → State → State → (List Row → Type 0) → (List Row → Type 0) → Result Bool Error → Type 0
+Scanned t old new HasTaken IsSound (Ok sound) = IsUnchanged old new × Scans t old HasTaken IsSound sound
+Scanned t old new HasTaken IsSound (Err e) = FailsToScan t old new e

@@ -1,0 +1,85 @@
+-- What the checks of tables have taken, as rows of SQL, and what they refer to.
+use Rattle.std.specs.Prelude.{◌≡◌, ℕ, List, map}
+use Rattle.sqlite.specs.Order.{Row}
+use Rattle.court_days.specs.Calendar.{Entered}
+use Rattle.court_days.specs.Court.{CourtSettings}
+use Rattle.docket_core.specs.declared.end_row.EndRow.{EndRow}
+use Rattle.docket_columns.specs.Cells.{calendar_cells, case_cells, party_cells, entry_cells, deadline_cells, act_cells, end_cells}
+use Rattle.docket_columns.specs.Fits.{IsCalendarRow, IsCaseRow, IsPartyRow, IsEntryRow, IsDeadlineRow, IsActRow, IsEndRow}
+use Rattle.docket_sound.specs.Acts.{HasTakenActs}
+use Rattle.docket_sound.specs.Calendars.{HasTakenCalendarRows}
+use Rattle.docket_sound.specs.Cases.{HasTakenCases}
+use Rattle.docket_sound.specs.Counted.{cases_of, counts_of}
+use Rattle.docket_sound.specs.Deadlines.{HasTakenDeadlines, deadlines_checked, parties_of}
+use Rattle.docket_sound.specs.Dues.{HasTakenDues}
+use Rattle.docket_sound.specs.Entries.{HasTakenEntries}
+use Rattle.docket_sound.specs.Parties.{HasTakenParties}
+use Rattle.docket_sound.specs.Receipts.{HasTakenReceipts}
+use Rattle.docket_sound.specs.declared.act.ActCheck.{ActCheck}
+use Rattle.docket_sound.specs.declared.calendar.CalendarCheck.{CalendarCheck}
+use Rattle.docket_sound.specs.declared.cases.CaseCheck.{CaseCheck}
+use Rattle.docket_sound.specs.declared.deadline.DeadlineCheck.{DeadlineCheck}
+use Rattle.docket_sound.specs.declared.due.DueCheck.{DueCheck}
+use Rattle.docket_sound.specs.declared.entry.EntryCheck.{EntryCheck}
+use Rattle.docket_sound.specs.declared.party.PartyCheck.{PartyCheck}
+use Rattle.docket_sound.specs.declared.receipt.ReceiptCheck.{ReceiptCheck}
+use Rattle.docket_scan.specs.Records.{AreRecords, IsStoredReceipt, receipt_cells}
+use Rattle.docket_scan.specs.declared.receipt.StoredReceipt.{StoredReceipt}
+
+-- the rows were read as records, which alone have these cells, and of which this holds
+pub record IsRead {R : Type 0} (Is : R → Type 0) (cells : R → Row) (Holds : List R → Type 0) (rows : List Row) : Type 0 where
+  pub records : List R
+  pub are : AreRecords Is cells records rows
+  pub only : (others : List R) → AreRecords Is cells others rows → others ≡ records
+  pub taken : Holds records
+
+-- the court, and the number of the next calendar row
+abbrev pub CalendarContext : Type 0
+CalendarContext = CourtSettings × ℕ
+
+abbrev pub calendar_context : CalendarCheck → CalendarContext
+calendar_context check = (check.court, check.next_row)
+
+-- how many cases there are, and how many parties each has
+abbrev pub DeadlineContext : Type 0
+DeadlineContext = ℕ × (ℕ → ℕ)
+
+abbrev pub deadline_context : DeadlineCheck → DeadlineContext
+deadline_context check = (deadlines_checked check, parties_of check.parties)
+
+-- the court, how many cases there are, how many deadlines each has, and the calendar
+abbrev pub ActContext : Type 0
+ActContext = CourtSettings × ℕ × (ℕ → ℕ) × Entered
+
+abbrev pub act_context : ActCheck → ActContext
+act_context check = (check.court, cases_of check.deadlines, counts_of check.deadlines, check.calendar)
+
+abbrev pub ends_expected : DueCheck → List EndRow
+ends_expected check = check.expected.items
+
+abbrev pub HasTakenCalendarTable : CalendarCheck → List Row → Type 0
+HasTakenCalendarTable check = IsRead IsCalendarRow calendar_cells (HasTakenCalendarRows check)
+
+abbrev pub HasTakenCaseTable : CaseCheck → List Row → Type 0
+HasTakenCaseTable check = IsRead IsCaseRow case_cells (HasTakenCases check)
+
+abbrev pub HasTakenPartyTable : PartyCheck → List Row → Type 0
+HasTakenPartyTable check = IsRead IsPartyRow party_cells (HasTakenParties check)
+
+abbrev pub HasTakenEntryTable : EntryCheck → List Row → Type 0
+HasTakenEntryTable check = IsRead IsEntryRow entry_cells (HasTakenEntries check)
+
+abbrev pub HasTakenDeadlineTable : DeadlineCheck → List Row → Type 0
+HasTakenDeadlineTable check = IsRead IsDeadlineRow deadline_cells (HasTakenDeadlines check)
+
+abbrev pub HasTakenActTable : ActCheck → List Row → Type 0
+HasTakenActTable check = IsRead IsActRow act_cells (HasTakenActs check)
+
+abbrev pub HasTakenStored : ReceiptCheck → List StoredReceipt → Type 0
+HasTakenStored check records = HasTakenReceipts check (map (λ (r : StoredReceipt). r.receipt) records)
+
+abbrev pub HasTakenReceiptTable : ReceiptCheck → List Row → Type 0
+HasTakenReceiptTable check = IsRead IsStoredReceipt receipt_cells (HasTakenStored check)
+
+abbrev pub HasTakenEndTable : DueCheck → List Row → Type 0
+HasTakenEndTable check = IsRead IsEndRow end_cells (HasTakenDues check)

@@ -1,0 +1,56 @@
+//! Rows of the table of receipts, whatever their bodies say.
+ghost use Rattle.std.specs.Prelude.{◌≡◌, List, ℕ, Some, option_copied, IfOk, IfSome};
+ghost use Rattle.std.specs.Str.{IsUtf8};
+ghost use Rattle.sqlite_value.specs.Order.{column};
+ghost use Rattle.sqlite_value.specs.declared.value.Value.TheVariants.{Text as Words};
+ghost use Rattle.docket_scan.specs.Records.{IsStoredReceipt, receipt_cells};
+ghost use Rattle.docket_scan.specs.declared.receipt.StoredReceipt.{StoredReceipt as Stored};
+
+use docket_columns::reply_of;
+use docket_command::{Reply, Text};
+use docket_sound::ReceiptRecord;
+use sqlite::Row;
+use sqlite::types::ValueRef;
+use std::alloc::{AllocError, Global};
+
+/// A receipt, and the reply of its command.
+#[derive(Drop)]
+pub struct StoredReceipt {
+    pub receipt: ReceiptRecord,
+    pub reply: Reply,
+}
+
+fn text_at(row: &Row, at: usize) -> Option<&str>
+    ensures reads { (t : List ℕ) → IsUtf8 t → column row.now at ≡ Words t → option_copied result ≡ Some t }
+    ensures sound { IfSome result (λ text. column row.now at ≡ Words text.now) }
+    ensures utf8 { IfSome result (λ text. IsUtf8 text.now) }
+{
+    match row.get_ref(at) {
+        Ok(ValueRef::Text(text)) => str::from_utf8(text).ok(),
+        _ => None,
+    }
+}
+
+/// The receipt of a row. `None`: it is no row of a receipt.
+pub(crate) fn receipt_of(alloc: Global, row: &Row) -> Result<Option<StoredReceipt>, AllocError>
+    ensures reads { (r : Stored) → IsStoredReceipt r → row.now ≡ receipt_cells r → IfOk result (λ found. found ≡ Some r) }
+    ensures sound { IfOk result (λ found. IfSome found (λ r. row.now ≡ receipt_cells r)) }
+    ensures fits { IfOk result (λ found. IfSome found IsStoredReceipt) }
+{
+    let Some(reply) = reply_of(row) else {
+        return Ok(None);
+    };
+    let Some(key) = text_at(row, 0) else {
+        return Ok(None);
+    };
+    let Some(body) = text_at(row, 1) else {
+        return Ok(None);
+    };
+    Ok(Some(StoredReceipt {
+        receipt: ReceiptRecord {
+            key: Text::from_str(alloc, key)?,
+            body: Text::from_str(alloc, body)?,
+        },
+        reply,
+    }))
+}

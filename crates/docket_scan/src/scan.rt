@@ -1,0 +1,36 @@
+//! Reading a table row by row.
+ghost use Rattle.std.specs.Prelude.{◌≡◌, [], false};
+ghost use Rattle.sqlite.specs.Held.{state};
+ghost use Rattle.sqlite.specs.State.{HasCleanDisk, Survives};
+ghost use Rattle.docket_scan.specs.Scans.{Scanned};
+
+use crate::statement::scan_text;
+use crate::taker::Taker;
+use docket_tables::Table;
+use sqlite::{Alter, Connection, Error, ErrorCode};
+use std::alloc::Global;
+
+/// Reads the table row by row. `true`: the check took all its rows. `false`: it refused one.
+pub(crate) fn scan<S: Alter, C: Taker>(
+    conn: &mut Connection<S>,
+    alloc: Global,
+    table: Table,
+    check: &mut C,
+) -> Result<bool, Error>
+    ensures writes_nothing { Survives (state S.Store conn.old) (state S.Store conn.new) (λ _. ⊥) }
+    ensures mode { conn.old.in_transaction ≡ false → conn.new.in_transaction ≡ false }
+    ensures told { HasCleanDisk (state S.Store conn.new) → C.HasTaken check.old []
+        → Scanned table (state S.Store conn.old) (state S.Store conn.new) (C.HasTaken check.new) (C.IsSound (C.context check.old)) result }
+    ensures context { C.context check.new ≡ C.context check.old }
+{
+    let mut rows = conn.query(scan_text(table), &[])?;
+    'rows: for _ in 0..u64::MAX {
+        let Some(row) = rows.next()? else {
+            return Ok(true);
+        };
+        if !check.take(alloc, row)? {
+            return Ok(false);
+        }
+    }
+    Err(Error::SqliteFailure(ErrorCode::OperationInterrupted))
+}
