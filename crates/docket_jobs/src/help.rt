@@ -33,6 +33,7 @@ With no command, docketctl counts. A docket in a file is made, kept and read lik
   docketctl run --db court.db < commands.jsonl
   docketctl case --db court.db 1
   docketctl calendar --db court.db 2027-01-01 2027-12-31
+  docketctl check --db court.db
 It is served to programs of this machine by HTTP:
   docketctl serve --db court.db --port 8080 --count 1000";
 
@@ -109,6 +110,19 @@ for other filing; one of hours ends at an instant. The last line tells how many 
 FROM and TO are days from 1980-01-01 to 3999-12-31, and TO is not before FROM.
 
 Exit status: 0 the calendar was told, 2 bad command line, 3 writing, memory or the database failed.";
+
+pub(crate) const CHECK_HELP: &str = "\
+A file that comes from a backup or from another program is read whole, table by table, and nothing
+is written. Where each table is sound, that is told:
+  docketctl check --db court.db
+  sound
+Otherwise a line of standard error names the first table that is not: one that is missing or lacks a
+column, or whose rows have gaps in their numbers, refer to what is not there, hold values past their
+limits, or store an end of a deadline other than the rules give:
+  docketctl: \"court.db\": the table due is not sound
+
+Exit status: 0 the tables are sound, 2 bad command line, 3 they are not, or there is no docket, or
+writing, memory or the database failed.";
 
 pub(crate) const SERVE_HELP: &str = "\
 The docket is served at 127.0.0.1 alone, one connection after the other and one request a connection:

@@ -5,7 +5,7 @@ ghost use Rattle.clap.specs.Matches.{found_of};
 ghost use Rattle.clap.specs.Simple.{subcommand_rows_of};
 ghost use Rattle.clap.specs.Walk.{rows_of};
 ghost use Rattle.civil_time.specs.DayText.{day_of_text};
-ghost use Rattle.docket_jobs.specs.Jobs.{IsLimited, asked, asked_by, asked_in, asked_of, calendar_asked, case_asked, create_asked, holidays_asked, import_asked, line_faults, run_asked, serve_asked, value_of};
+ghost use Rattle.docket_jobs.specs.Jobs.{IsLimited, asked, asked_by, asked_in, asked_of, calendar_asked, case_asked, check_asked, create_asked, holidays_asked, import_asked, line_faults, run_asked, serve_asked, value_of};
 
 use crate::command_line::command;
 use crate::number::{read_count, read_number, read_port, read_year};
@@ -48,6 +48,10 @@ pub enum Job<'a> {
         file: &'a str,
         from: Day,
         to: Day,
+    },
+    /// `check`: tell whether the tables of the docket in a file are sound.
+    Check {
+        file: &'a str,
     },
     /// `serve`: answer the requests of 1 to 1,000,000 connections, at a port of this machine alone, of the
     /// docket in a file. Port 0 is one that the system chooses.
@@ -158,6 +162,14 @@ fn calendar_job<'a>(found: &ArgMatches<'a>) -> Result<Job<'a>, BadValue>
     })
 }
 
+fn check_job<'a>(found: &ArgMatches<'a>) -> Job<'a>
+    ensures { asked result ≡ check_asked (rows_of (found_of found.now)) }
+{
+    Job::Check {
+        file: value(found, "db"),
+    }
+}
+
 fn serve_job<'a>(found: &ArgMatches<'a>) -> Result<Job<'a>, BadValue>
     ensures { MatchResult result (λ job. serve_asked (rows_of (found_of found.now)) ≡ Some (asked job))
         (λ _. serve_asked (rows_of (found_of found.now)) ≡ None) }
@@ -192,6 +204,7 @@ fn job_by<'a>(name: &str, found: &ArgMatches<'a>) -> Result<Job<'a>, BadValue>
         "import" => Ok(import_job(found)),
         "case" => case_job(found),
         "calendar" => calendar_job(found),
+        "check" => Ok(check_job(found)),
         "serve" => serve_job(found),
         "holidays" => holidays_job(found),
         _ => Ok(Job::Count),

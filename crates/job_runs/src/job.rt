@@ -3,6 +3,7 @@ ghost use Rattle.docket_jobs.specs.Jobs.{IsLimited};
 
 use crate::calendar::tell_calendar;
 use crate::case::tell_case;
+use crate::check::check_docket;
 use crate::command::{run_in_file, run_in_memory};
 use crate::create::create_docket;
 use crate::holiday::tell_holidays;
@@ -60,6 +61,7 @@ pub fn run_job<R: Read, W: Write, E: Write>(
         Job::Import { file, key } => import_days(rt, file, key, r, w, e),
         Job::Case { file, number } => tell_case(rt, file, *number, w, e),
         Job::Calendar { file, from, to } => tell_calendar(rt, file, *from, *to, w, e),
+        Job::Check { file } => check_docket(rt, file, w, e),
         Job::Serve { file, port, count } => serve_docket(rt, file, *port, *count, w, e),
         Job::Holidays { year } => tell_holidays(rt.alloc(), *year, w, e),
     }

@@ -3,6 +3,7 @@
 
 mod calendar;
 mod case;
+mod check;
 mod command;
 mod court;
 mod create;

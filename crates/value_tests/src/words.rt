@@ -13,7 +13,11 @@ fn words_of(alloc: Global, line: &str) -> Result<Vec<String>, AllocError> {
 }
 
 /// What the words ask for.
-const JOBS: [(&str, Job<'static>); 14] = [
+const JOBS: [(&str, Job<'static>); 15] = [
+    (
+        "docketctl check --db court.db",
+        Job::Check { file: "court.db" },
+    ),
     ("docketctl", Job::Count),
     ("docketctl count", Job::Count),
     (

@@ -78,6 +78,15 @@ const CALENDAR: Step<'static> = Step {
     status: 0,
 };
 
+/// The tables are read whole.
+const CHECKED: Step<'static> = Step {
+    line: "docketctl check --db @/court.db",
+    input: "",
+    output: "sound\n",
+    errors: "",
+    status: 0,
+};
+
 /// Lines that spell no command, and the last one without its end.
 const NO_COMMANDS: Step<'static> = Step {
     line: RUN,
@@ -91,15 +100,17 @@ const NO_COMMANDS: Step<'static> = Step {
     status: 1,
 };
 
-const STEPS: [Step<'static>; 8] = [
+const STEPS: [Step<'static>; 10] = [
     OPENING,
     OPENED,
     NO_OTHER,
     RECORDS,
     RECORDED,
+    CALENDAR,
     OPENING,
     NO_COMMANDS,
     RECORDED,
+    CHECKED,
 ];
 
 #[test]

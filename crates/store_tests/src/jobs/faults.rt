@@ -26,8 +26,9 @@ const MISSING: &str = "docketctl: \"@/court.db\": there is no such file\n";
 
 const NO_FILE: &str = "docketctl: \"@\": it is no regular file\n";
 
-const NO_DOCKET: [Fault; 8] = [
+const NO_DOCKET: [Fault; 9] = [
     ("docketctl run --db @/court.db", MISSING, 3),
+    ("docketctl check --db @/court.db", MISSING, 3),
     ("docketctl case --db @/court.db 1", MISSING, 3),
     (
         "docketctl serve --db @/court.db --port 0 --count 1",

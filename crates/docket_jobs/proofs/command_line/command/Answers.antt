@@ -12,5 +12,6 @@ returns c =
     let imports = subcommand_added _ _ _ _ _ runs c.in_ok-import_command.ensures c.in_ok-subcommand-4.ensures in
     let cases = subcommand_added _ _ _ _ _ imports c.in_ok-case_command.ensures c.in_ok-subcommand-5.ensures in
     let calendars = subcommand_added _ _ _ _ _ cases c.in_ok-calendar_command.ensures c.in_ok-subcommand-6.ensures in
-    let serves = subcommand_added _ _ _ _ _ calendars c.in_ok-serve_command.ensures c.in_ok-subcommand-7.ensures in
-    IfOk-weaker c.subcommand-8.result _ _ (λ _ adds. subcommand_added _ _ _ _ _ serves c.in_ok-holidays_command.ensures adds) c.subcommand-8.ensures
+    let checks = subcommand_added _ _ _ _ _ calendars c.in_ok-check_command.ensures c.in_ok-subcommand-7.ensures in
+    let serves = subcommand_added _ _ _ _ _ checks c.in_ok-serve_command.ensures c.in_ok-subcommand-8.ensures in
+    IfOk-weaker c.subcommand-9.result _ _ (λ _ adds. subcommand_added _ _ _ _ _ serves c.in_ok-holidays_command.ensures adds) c.subcommand-9.ensures
