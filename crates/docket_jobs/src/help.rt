@@ -112,8 +112,8 @@ FROM and TO are days from 1980-01-01 to 3999-12-31, and TO is not before FROM.
 Exit status: 0 the calendar was told, 2 bad command line, 3 writing, memory or the database failed.";
 
 pub(crate) const CHECK_HELP: &str = "\
-A file that comes from a backup or from another program is read whole, table by table, and nothing
-is written. Where each table is sound, that is told:
+A file that comes from a backup or from another program is read whole, table by table, and its rows
+stay as they are. Where each table is sound, that is told:
   docketctl check --db court.db
   sound
 Otherwise a line of standard error names the first table that is not: one that is missing or lacks a
