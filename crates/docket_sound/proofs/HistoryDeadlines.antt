@@ -1,9 +1,9 @@
 -- The deadlines of a history, by an induction on it.
-use Rattle.std.proofs.Common.{◌≡◌, ◌∙◌, ℕ, zero, suc, ◌+◌, ◌≤◌, ◌==◌, ◌&&◌, ◌||◌, nat_le, Bool, true, false, cond, IsTrue, Option, Some, None, List, [], ◌∷◌, ◌++◌, map, length, refl, sym, ap, subst, arith, inl, inr, ⊎_elim}
+use Rattle.std.proofs.Common.{◌≡◌, ◌∙◌, ℕ, zero, suc, ◌+◌, ◌≤◌, ◌==◌, ◌&&◌, ◌||◌, nat_le, Bool, true, false, IsTrue, Option, Some, None, List, [], ◌∷◌, ◌++◌, map, length, refl, sym, ap, subst, arith, inl, inr, ⊎_elim}
 use Rattle.std.proofs.lemmas.Bool.Decides.{nat_tests}
 use Rattle.std.proofs.lemmas.List.{length-append, length-map}
 use Rattle.std.proofs.lemmas.List.Elements.{filter-append}
-use Rattle.std.specs.Prelude.{filter, nat_lt, is_none, is_some, unwrap_or, option_to_list, ◌⊎◌}
+use Rattle.std.specs.Prelude.{nat_lt, is_none, is_some, unwrap_or, option_to_list, ◌⊎◌}
 use Rattle.std.specs.List.{AllByRecursion, list_any}
 use Rattle.std.specs.Option.{option_and_then, option_map}
 use Rattle.court_days.specs.Court.{CourtSettings}
@@ -37,12 +37,11 @@ use Rattle.docket_core.proofs.Leading.{seen, none_made}
 use Rattle.docket_core.proofs.LimitsKept.{within_limits}
 use Rattle.docket_core.proofs.Passed.{IsFree}
 use Rattle.docket_sound.specs.Deadlines.{is_sound_deadline, has_party, deadline_key, AreSoundDeadlines}
-use Rattle.docket_sound.specs.Numbers.{RunsFrom, IsOfCase, numbers_in}
-use Rattle.docket_sound.specs.declared.numbering.Key.{Key}
+use Rattle.docket_sound.specs.Numbers.{RunsFrom, IsOfCase}
 use Rattle.docket_sound.proofs.AcceptedLemmas.{IsLawful, freed, is_lawful}
 use Rattle.docket_sound.proofs.HistoryLemmas.{is_case, no_fewer_cases}
 use Rattle.docket_sound.proofs.Made.{NewDeadline}
-use Rattle.docket_sound.proofs.NumberLemmas.{all_both}
+use Rattle.docket_sound.proofs.NumberLemmas.{all_both, numbers_are}
 
 -- how many parties each case of a history has
 abbrev pub parties_at : History → ℕ → ℕ
@@ -170,17 +169,6 @@ all_at court (c ∷ h) is =
     wider (length (case_rows h)) (length (case_rows (c ∷ h))) (parties_at h) (parties_at (c ∷ h)) (no_fewer_cases h c) (no_fewer_parties h c) (deadline_rows h ++ new)
     (all_both (IsSoundAt (length (case_rows h)) (parties_at h)) (deadline_rows h) new (all_at court h is.1) here)
 
--- the numbers of the deadlines of a case
-numbers_kept : (k : ℕ) (rows : List DeadlineRow) → numbers_in k (map deadline_key rows) ≡ map (λ (r : DeadlineRow). r.number) (deadlines_of_case k rows)
-numbers_kept k [] = refl
-numbers_kept k (row ∷ rows) = at (row.case == k) (numbers_kept k rows)
-  where
-    at : (b : Bool) → numbers_in k (map deadline_key rows) ≡ map (λ (r : DeadlineRow). r.number) (deadlines_of_case k rows)
-        → map (λ (x : Key). x.number) (cond b (deadline_key row ∷ filter (λ x. x.case == k) (map deadline_key rows)) (filter (λ x. x.case == k) (map deadline_key rows)))
-        ≡ map (λ (r : DeadlineRow). r.number) (cond b (row ∷ deadlines_of_case k rows) (deadlines_of_case k rows))
-    at true e = ap (λ ns. row.number ∷ ns) e
-    at false e = e
-
 made_runs : (k n : ℕ) (ds : List NewDeadline) → RunsFrom n (map (λ (r : DeadlineRow). r.number) (deadline_rows_from k n ds))
 made_runs k n [] = tt
 made_runs k n (d ∷ ds) =
@@ -207,8 +195,8 @@ sound_deadlines court h is =
     record {
       numbered = record {
         met = of_cases cases (parties_at h) (deadline_rows h) all;
-        run = λ k. subst (RunsFrom 1) (sym (numbers_kept k (deadline_rows h) ∙ ap (map (λ (r : DeadlineRow). r.number)) (deadlines_in_order k h))) (made_runs k 1 (gathered (made_in k) (in_order h)));
-        few = λ k. omega (arith, ap length (numbers_kept k (deadline_rows h)), length-map (deadlines_of_case k (deadline_rows h)) (λ (r : DeadlineRow). r.number), (within_limits court h is).deadlines k);
+        run = λ k. subst (RunsFrom 1) (sym (numbers_are deadline_key k (deadline_rows h) ∙ ap (map (λ (r : DeadlineRow). r.number)) (deadlines_in_order k h))) (made_runs k 1 (gathered (made_in k) (in_order h)));
+        few = λ k. omega (arith, ap length (numbers_are deadline_key k (deadline_rows h)), length-map (deadlines_of_case k (deadline_rows h)) (λ (r : DeadlineRow). r.number), (within_limits court h is).deadlines k);
       };
       met = have_parties cases (parties_at h) (deadline_rows h) all;
       within = are_within cases (parties_at h) (deadline_rows h) all;

@@ -10,4 +10,6 @@ pub mod HistoryLemmas
 pub mod HistoryReceipts
 pub mod Made
 pub mod NumberLemmas
+pub mod OrderLemmas
 pub mod ReceiptLemmas
+pub mod SortedRows

@@ -6,6 +6,7 @@ use Rattle.std.proofs.lemmas.List.{length-append, length-set, get_or-set_same, g
 use Rattle.std.proofs.lemmas.Option.{slice_get_past, slice_get-get_or}
 use Rattle.std.specs.Prelude.{filter}
 use Rattle.std.specs.List.{AllByRecursion}
+use Rattle.sqlite_trees.proofs.ListLemmas.{filter-map, map-map}
 use Rattle.docket_sound.specs.Numbers.{RunsFrom, numbers_in, IsOfCase, AreNumbered}
 use Rattle.docket_sound.specs.Counted.{HasNumbered, cases_of, most_of, count_at, follows, is_next}
 use Rattle.docket_sound.specs.declared.numbering.Key.{Key}
@@ -59,6 +60,11 @@ numbers_with_elsewhere k xs key there = numbers_both k xs (key ∷ []) ∙ ap (�
 
 same_case : (k : ℕ) → (k == k) ≡ true
 same_case k = grind (arith, nat_tests)
+
+-- the numbers of the rows of a case
+pub numbers_are : {R : Type 0} (key : R → Key) (k : ℕ) (rows : List R) → numbers_in k (map key rows) ≡ map (λ r. (key r).number) (filter (λ r. (key r).case == k) rows)
+numbers_are key k rows =
+    ap (map (λ (x : Key). x.number)) (filter-map (λ (x : Key). x.case == k) key rows) ∙ map-map (λ (x : Key). x.number) key (filter (λ r. (key r).case == k) rows)
 
 -- what it asks of a row that it comes next
 pub record IsNext (cases most : ℕ) (keys : List Key) (key : Key) : Type 0 where

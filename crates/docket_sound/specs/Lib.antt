@@ -8,6 +8,7 @@ pub mod Dues
 pub mod Entries
 pub mod Labels
 pub mod Numbers
+pub mod Orders
 pub mod Parties
 pub mod Receipts
 pub mod Runs

@@ -1,15 +1,22 @@
 //! What the definitions of specs/ say, with nothing to run.
-ghost use Rattle.std.specs.Prelude.{length, map, ℕ};
+ghost use Rattle.std.specs.Prelude.{◌≡◌, List, length, map, ℕ};
 ghost use Rattle.std.specs.List.{AllByRecursion};
 ghost use Rattle.court_days.specs.Court.{CourtSettings};
-ghost use Rattle.docket_core.specs.Histories.{History, standing_rows, next_row, case_rows, party_rows, parties_of_case, entry_rows, deadline_rows};
+ghost use Rattle.docket_core.specs.Histories.{History, standing_rows, next_row, case_rows, party_rows, parties_of_case, entry_rows, deadline_rows, deadlines_of_case};
 ghost use Rattle.docket_core.specs.Outcomes.{IsHistory, receipts};
+ghost use Rattle.docket_core.specs.declared.row.CalendarRow.{CalendarRow};
+ghost use Rattle.docket_core.specs.declared.row.CaseRow.{CaseRow};
+ghost use Rattle.docket_core.specs.declared.row.DeadlineRow.{DeadlineRow};
+ghost use Rattle.docket_core.specs.declared.row.EntryRow.{EntryRow};
+ghost use Rattle.docket_core.specs.declared.row.PartyRow.{PartyRow};
 ghost use Rattle.docket_wire.specs.Valid.{IsCommand};
 ghost use Rattle.docket_sound.specs.Calendars.{AreSoundCalendarRows};
 ghost use Rattle.docket_sound.specs.Cases.{AreApart, AreSoundCases};
-ghost use Rattle.docket_sound.specs.Deadlines.{AreSoundDeadlines};
+ghost use Rattle.docket_sound.specs.Deadlines.{AreSoundDeadlines, deadline_key};
 ghost use Rattle.docket_sound.specs.Entries.{AreSoundEntries};
-ghost use Rattle.docket_sound.specs.Parties.{AreSoundParties};
+ghost use Rattle.docket_sound.specs.Numbers.{numbers_in};
+ghost use Rattle.docket_sound.specs.Orders.{AreInOrder, calendar_order, case_order, party_order, entry_order, deadline_order};
+ghost use Rattle.docket_sound.specs.Parties.{AreSoundParties, party_key};
 ghost use Rattle.docket_sound.specs.Receipts.{IsSoundReceipt, receipt_row, key_of};
 
 /// The tables of every history are sound: the calendar, cases, parties, entries and deadlines. The
@@ -27,4 +34,27 @@ pub fn histories_are_sound()
     ensures receipts { (court : CourtSettings) (h : History) → IsHistory court h → AllByRecursion IsCommand h
         → AllByRecursion IsSoundReceipt (map receipt_row (receipts court h)) }
     ensures keys { (court : CourtSettings) (h : History) → IsHistory court h → AreApart (map key_of (receipts court h)) }
+{}
+
+/// So are the rows of each table of a history as they are read, in the order of their keys: none of the
+/// checks refuses a table of a docket. What the checks count of the rows of parties and deadlines, by which
+/// the tables after them are judged, is what the history has.
+pub fn sorted_histories_are_sound()
+    ensures calendar { (court : CourtSettings) (h : History) (rows : List CalendarRow) → IsHistory court h
+        → AreInOrder calendar_order (standing_rows h) rows → AreSoundCalendarRows court (next_row h) rows }
+    ensures cases { (court : CourtSettings) (h : History) (rows : List CaseRow) → IsHistory court h
+        → AreInOrder case_order (case_rows h) rows → AreSoundCases rows }
+    ensures parties { (court : CourtSettings) (h : History) (rows : List PartyRow) → IsHistory court h
+        → AreInOrder party_order (party_rows h) rows → AreSoundParties (length (case_rows h)) rows }
+    ensures party_counts { (court : CourtSettings) (h : History) (rows : List PartyRow) → IsHistory court h
+        → AreInOrder party_order (party_rows h) rows
+        → (k : ℕ) → length (numbers_in k (map party_key rows)) ≡ length (parties_of_case k (party_rows h)) }
+    ensures entries { (court : CourtSettings) (h : History) (rows : List EntryRow) → IsHistory court h
+        → AreInOrder entry_order (entry_rows h) rows → AreSoundEntries (length (case_rows h)) rows }
+    ensures deadlines { (court : CourtSettings) (h : History) (rows : List DeadlineRow) → IsHistory court h
+        → AreInOrder deadline_order (deadline_rows h) rows
+        → AreSoundDeadlines (length (case_rows h)) (λ k. length (parties_of_case k (party_rows h))) rows }
+    ensures deadline_counts { (court : CourtSettings) (h : History) (rows : List DeadlineRow) → IsHistory court h
+        → AreInOrder deadline_order (deadline_rows h) rows
+        → (k : ℕ) → length (numbers_in k (map deadline_key rows)) ≡ length (deadlines_of_case k (deadline_rows h)) }
 {}

@@ -1,0 +1,13 @@
+use Rattle.docket_sound.proofs.SortedRows.{sorted_calendar, sorted_cases, sorted_parties, party_counts, sorted_entries, sorted_deadlines, deadline_counts}
+use Rattle.docket_sound.proofs.laws.sorted_histories_are_sound.Goals as goal
+
+pub returns : goal.returns
+returns c = record {
+  calendar = λ court h rows is order. sorted_calendar court h is rows order;
+  cases = λ court h rows is order. sorted_cases court h is rows order;
+  parties = λ court h rows is order. sorted_parties court h is rows order;
+  party_counts = λ court h rows is order. party_counts court h is rows order;
+  entries = λ court h rows is order. sorted_entries court h is rows order;
+  deadlines = λ court h rows is order. sorted_deadlines court h is rows order;
+  deadline_counts = λ court h rows is order. deadline_counts court h is rows order;
+}
