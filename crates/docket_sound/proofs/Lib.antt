@@ -4,6 +4,7 @@ pub mod CalendarLemmas
 pub mod CaseLemmas
 pub mod DeadlineLemmas
 pub mod DueLemmas
+pub mod HistoryActs
 pub mod HistoryCalendar
 pub mod HistoryDeadlines
 pub mod HistoryLemmas
@@ -12,4 +13,5 @@ pub mod Made
 pub mod NumberLemmas
 pub mod OrderLemmas
 pub mod ReceiptLemmas
+pub mod SortedActs
 pub mod SortedRows

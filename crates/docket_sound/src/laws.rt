@@ -2,20 +2,22 @@
 ghost use Rattle.std.specs.Prelude.{◌≡◌, List, length, map, ℕ};
 ghost use Rattle.std.specs.List.{AllByRecursion};
 ghost use Rattle.court_days.specs.Court.{CourtSettings};
-ghost use Rattle.docket_core.specs.Histories.{History, standing_rows, next_row, case_rows, party_rows, parties_of_case, entry_rows, deadline_rows, deadlines_of_case};
+ghost use Rattle.docket_core.specs.Histories.{History, standing_rows, next_row, case_rows, party_rows, parties_of_case, entry_rows, deadline_rows, deadlines_of_case, act_rows};
 ghost use Rattle.docket_core.specs.Outcomes.{IsHistory, receipts};
+ghost use Rattle.docket_core.specs.declared.row.ActRow.{ActRow};
 ghost use Rattle.docket_core.specs.declared.row.CalendarRow.{CalendarRow};
 ghost use Rattle.docket_core.specs.declared.row.CaseRow.{CaseRow};
 ghost use Rattle.docket_core.specs.declared.row.DeadlineRow.{DeadlineRow};
 ghost use Rattle.docket_core.specs.declared.row.EntryRow.{EntryRow};
 ghost use Rattle.docket_core.specs.declared.row.PartyRow.{PartyRow};
 ghost use Rattle.docket_wire.specs.Valid.{IsCommand};
+ghost use Rattle.docket_sound.specs.Acts.{AreSoundActs};
 ghost use Rattle.docket_sound.specs.Calendars.{AreSoundCalendarRows};
 ghost use Rattle.docket_sound.specs.Cases.{AreApart, AreSoundCases};
 ghost use Rattle.docket_sound.specs.Deadlines.{AreSoundDeadlines, deadline_key};
 ghost use Rattle.docket_sound.specs.Entries.{AreSoundEntries};
 ghost use Rattle.docket_sound.specs.Numbers.{numbers_in};
-ghost use Rattle.docket_sound.specs.Orders.{AreInOrder, calendar_order, case_order, party_order, entry_order, deadline_order};
+ghost use Rattle.docket_sound.specs.Orders.{AreInOrder, calendar_order, case_order, party_order, entry_order, deadline_order, act_order};
 ghost use Rattle.docket_sound.specs.Parties.{AreSoundParties, party_key};
 ghost use Rattle.docket_sound.specs.Receipts.{IsSoundReceipt, receipt_row, key_of};
 
@@ -57,4 +59,7 @@ pub fn sorted_histories_are_sound()
     ensures deadline_counts { (court : CourtSettings) (h : History) (rows : List DeadlineRow) → IsHistory court h
         → AreInOrder deadline_order (deadline_rows h) rows
         → (k : ℕ) → length (numbers_in k (map deadline_key rows)) ≡ length (deadlines_of_case k (deadline_rows h)) }
+    ensures acts { (court : CourtSettings) (h : History) (rows : List ActRow) → IsHistory court h
+        → AreInOrder act_order (act_rows h) rows
+        → AreSoundActs court (length (case_rows h)) (λ k. length (deadlines_of_case k (deadline_rows h))) rows }
 {}
