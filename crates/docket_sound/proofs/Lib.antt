@@ -14,4 +14,5 @@ pub mod NumberLemmas
 pub mod OrderLemmas
 pub mod ReceiptLemmas
 pub mod SortedActs
+pub mod SortedEnds
 pub mod SortedRows

@@ -1,9 +1,13 @@
 //! What the definitions of specs/ say, with nothing to run.
 ghost use Rattle.std.specs.Prelude.{◌≡◌, List, length, map, ℕ};
 ghost use Rattle.std.specs.List.{AllByRecursion};
-ghost use Rattle.court_days.specs.Court.{CourtSettings};
-ghost use Rattle.docket_core.specs.Histories.{History, standing_rows, next_row, case_rows, party_rows, parties_of_case, entry_rows, deadline_rows, deadlines_of_case, act_rows};
+ghost use Rattle.court_days.specs.Court.{CourtSettings, zone_of};
+ghost use Rattle.docket_core.specs.CalendarItems.{calendar_of};
+ghost use Rattle.docket_core.specs.EndRows.{end_rows};
+ghost use Rattle.docket_core.specs.Histories.{History, items_of, standing_rows, next_row, case_rows, party_rows, parties_of_case, entry_rows, deadline_rows, deadlines_of_case, act_rows};
 ghost use Rattle.docket_core.specs.Outcomes.{IsHistory, receipts};
+ghost use Rattle.docket_core.specs.Tables.{rows_of};
+ghost use Rattle.docket_core.specs.declared.end_row.EndRow.{EndRow};
 ghost use Rattle.docket_core.specs.declared.row.ActRow.{ActRow};
 ghost use Rattle.docket_core.specs.declared.row.CalendarRow.{CalendarRow};
 ghost use Rattle.docket_core.specs.declared.row.CaseRow.{CaseRow};
@@ -15,9 +19,10 @@ ghost use Rattle.docket_sound.specs.Acts.{AreSoundActs};
 ghost use Rattle.docket_sound.specs.Calendars.{AreSoundCalendarRows};
 ghost use Rattle.docket_sound.specs.Cases.{AreApart, AreSoundCases};
 ghost use Rattle.docket_sound.specs.Deadlines.{AreSoundDeadlines, deadline_key};
+ghost use Rattle.docket_sound.specs.Dues.{dues_of};
 ghost use Rattle.docket_sound.specs.Entries.{AreSoundEntries};
 ghost use Rattle.docket_sound.specs.Numbers.{numbers_in};
-ghost use Rattle.docket_sound.specs.Orders.{AreInOrder, calendar_order, case_order, party_order, entry_order, deadline_order, act_order};
+ghost use Rattle.docket_sound.specs.Orders.{AreInOrder, calendar_order, case_order, party_order, entry_order, deadline_order, act_order, end_order};
 ghost use Rattle.docket_sound.specs.Parties.{AreSoundParties, party_key};
 ghost use Rattle.docket_sound.specs.Receipts.{IsSoundReceipt, receipt_row, key_of};
 
@@ -62,4 +67,17 @@ pub fn sorted_histories_are_sound()
     ensures acts { (court : CourtSettings) (h : History) (rows : List ActRow) → IsHistory court h
         → AreInOrder act_order (act_rows h) rows
         → AreSoundActs court (length (case_rows h)) (λ k. length (deadlines_of_case k (deadline_rows h))) rows }
+{}
+
+/// The ends that are expected of the acts of a history, by its calendar, are those of its running deadlines
+/// in the order of their keys. So the ends that are stored of a history are the expected ones.
+pub fn stored_ends_are_expected()
+    ensures in_order { (court : CourtSettings) (h : History) (days : List CalendarRow) (acts : List ActRow)
+        → IsHistory court h → AreInOrder calendar_order (standing_rows h) days → AreInOrder act_order (act_rows h) acts
+        → AreInOrder end_order (end_rows court (rows_of court h))
+        (dues_of (zone_of court) (calendar_of (items_of days)) acts) }
+    ensures stored { (court : CourtSettings) (h : History) (days : List CalendarRow) (acts : List ActRow) (ends : List EndRow)
+        → IsHistory court h → AreInOrder calendar_order (standing_rows h) days → AreInOrder act_order (act_rows h) acts
+        → AreInOrder end_order (end_rows court (rows_of court h)) ends
+        → ends ≡ dues_of (zone_of court) (calendar_of (items_of days)) acts }
 {}

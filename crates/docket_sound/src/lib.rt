@@ -28,7 +28,7 @@ pub use court::{CourtRecord, sound_court};
 pub use deadline::DeadlineCheck;
 pub use due::DueCheck;
 pub use entry::EntryCheck;
-pub use laws::{histories_are_sound, sorted_histories_are_sound};
+pub use laws::{histories_are_sound, sorted_histories_are_sound, stored_ends_are_expected};
 pub use numbering::{Key, Numbering};
 pub use party::PartyCheck;
 pub use receipt::{ReceiptCheck, ReceiptRecord};
