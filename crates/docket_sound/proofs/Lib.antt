@@ -15,4 +15,5 @@ pub mod OrderLemmas
 pub mod ReceiptLemmas
 pub mod SortedActs
 pub mod SortedEnds
+pub mod SortedReceipts
 pub mod SortedRows

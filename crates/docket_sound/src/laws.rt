@@ -14,6 +14,7 @@ ghost use Rattle.docket_core.specs.declared.row.CaseRow.{CaseRow};
 ghost use Rattle.docket_core.specs.declared.row.DeadlineRow.{DeadlineRow};
 ghost use Rattle.docket_core.specs.declared.row.EntryRow.{EntryRow};
 ghost use Rattle.docket_core.specs.declared.row.PartyRow.{PartyRow};
+ghost use Rattle.docket_core.specs.declared.row.Receipt.{Receipt};
 ghost use Rattle.docket_wire.specs.Valid.{IsCommand};
 ghost use Rattle.docket_sound.specs.Acts.{AreSoundActs};
 ghost use Rattle.docket_sound.specs.Calendars.{AreSoundCalendarRows};
@@ -22,9 +23,9 @@ ghost use Rattle.docket_sound.specs.Deadlines.{AreSoundDeadlines, deadline_key};
 ghost use Rattle.docket_sound.specs.Dues.{dues_of};
 ghost use Rattle.docket_sound.specs.Entries.{AreSoundEntries};
 ghost use Rattle.docket_sound.specs.Numbers.{numbers_in};
-ghost use Rattle.docket_sound.specs.Orders.{AreInOrder, calendar_order, case_order, party_order, entry_order, deadline_order, act_order, end_order};
+ghost use Rattle.docket_sound.specs.Orders.{AreInOrder, calendar_order, case_order, party_order, entry_order, deadline_order, act_order, end_order, receipt_order};
 ghost use Rattle.docket_sound.specs.Parties.{AreSoundParties, party_key};
-ghost use Rattle.docket_sound.specs.Receipts.{IsSoundReceipt, receipt_row, key_of};
+ghost use Rattle.docket_sound.specs.Receipts.{AreSoundReceipts, IsSoundReceipt, receipt_row, key_of};
 
 /// The tables of every history are sound: the calendar, cases, parties, entries and deadlines. The
 /// receipts are, too, where the values of the commands are those of a program; no two have one key.
@@ -67,6 +68,9 @@ pub fn sorted_histories_are_sound()
     ensures acts { (court : CourtSettings) (h : History) (rows : List ActRow) → IsHistory court h
         → AreInOrder act_order (act_rows h) rows
         → AreSoundActs court (length (case_rows h)) (λ k. length (deadlines_of_case k (deadline_rows h))) rows }
+    ensures receipts { (court : CourtSettings) (h : History) (rows : List Receipt) → IsHistory court h
+        → AllByRecursion IsCommand h
+        → AreInOrder receipt_order (receipts court h) rows → AreSoundReceipts (map receipt_row rows) }
 {}
 
 /// The ends that are expected of the acts of a history, by its calendar, are those of its running deadlines

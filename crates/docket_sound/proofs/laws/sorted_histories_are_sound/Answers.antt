@@ -1,4 +1,5 @@
 use Rattle.docket_sound.proofs.SortedActs.{sorted_acts}
+use Rattle.docket_sound.proofs.SortedReceipts.{sorted_receipts}
 use Rattle.docket_sound.proofs.SortedRows.{sorted_calendar, sorted_cases, sorted_parties, party_counts, sorted_entries, sorted_deadlines, deadline_counts}
 use Rattle.docket_sound.proofs.laws.sorted_histories_are_sound.Goals as goal
 
@@ -12,4 +13,5 @@ returns c = record {
   deadlines = λ court h rows is order. sorted_deadlines court h is rows order;
   deadline_counts = λ court h rows is order. deadline_counts court h is rows order;
   acts = λ court h rows is order. sorted_acts court h is rows order;
+  receipts = λ court h rows is all order. sorted_receipts court h is all rows order;
 }
