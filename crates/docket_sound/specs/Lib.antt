@@ -11,3 +11,4 @@ pub mod Numbers
 pub mod Parties
 pub mod Receipts
 pub mod Runs
+pub mod Standings
