@@ -1,5 +1,6 @@
 -- Tables that are judged one after another.
-use Rattle.std.proofs.Common.{◌≡◌, ℕ, List, [], ◌∷◌, ◌++◌, map, Result, Ok, Err, true, IsErrAnd, sym, subst, refl}
+use Rattle.std.proofs.Common.{◌≡◌, ◌∙◌, ℕ, List, [], ◌∷◌, ◌++◌, map, length, Result, Ok, Err, true, IsErrAnd, ap, sym, subst, refl}
+use Rattle.std.proofs.lemmas.List.{length-map}
 use Rattle.std.specs.List.{AllByRecursion}
 use Rattle.sqlite.specs.Effect.{Database}
 use Rattle.sqlite.specs.Order.{Row}
@@ -10,7 +11,7 @@ use Rattle.docket_tables.specs.declared.table.Table.{Table}
 use Rattle.docket_tables.specs.declared.table.Table.TheVariants as table
 use Rattle.docket_scan.specs.Judging.{IsSoundIn, IsUnsoundIn, IsTold, JudgedTo, FailsAt, Holds, Rows, AreSoundBy, before}
 use Rattle.docket_scan.specs.Records.{IsTable}
-use Rattle.docket_scan.specs.Scans.{AreRowsOf}
+use Rattle.docket_scan.specs.Scans.{AreRowsOf, OfSoMany}
 use Rattle.docket_scan.specs.Shapes.{has_table}
 use Rattle.docket_scan.specs.Taken.{IsRead}
 use Rattle.docket_scan.specs.declared.fault.TableFault.{TableFault}
@@ -50,18 +51,18 @@ pub handed : {X : Type 0} (t : Table) (court : CourtSettings) (next : ℕ) (old 
 handed t court next old new says (Ok x) fault same told = absurd same
 handed t court next old new says (Err f) fault same told = subst (FailsAt court next old new) (sym same) told
 
--- the rows that were read stand in the table, and are sound
-pub read_rows : {R : Type 0} (t : Table) (s : State) (Is : R → Type 0) (cells : R → Row) (Has AreSound : List R → Type 0) (h : IsSoundIn t s (IsRead Is cells Has))
-    → AreSound h.3.records → (has_table s.now.schema t ≡ true) × AreRowsOf t s (map cells h.3.records) × IsTable Is cells AreSound (map cells h.3.records)
-read_rows t s Is cells Has AreSound h sound = (
-  h.0,
-  subst (AreRowsOf t s) h.3.are.same h.2,
-  record { records = h.3.records; are = record { held = h.3.are.held; same = refl }; sound = sound },
-)
+-- the rows that were read stand in the table, and are sound; so many records they are
+module _ {R : Type 0} (t : Table) (s : State) (Is : R → Type 0) (cells : R → Row) (Has : List R → Type 0) (count : ℕ) (h : IsSoundIn t s (OfSoMany count (IsRead Is cells Has))) where
+  pub read_rows : (AreSound : List R → Type 0) → AreSound h.3.1.records
+      → (has_table s.now.schema t ≡ true) × AreRowsOf t s (map cells h.3.1.records) × IsTable Is cells AreSound (map cells h.3.1.records)
+  read_rows AreSound sound = (
+    h.0,
+    subst (AreRowsOf t s) h.3.1.are.same h.2,
+    record { records = h.3.1.records; are = record { held = h.3.1.are.held; same = refl }; sound = sound },
+  )
 
--- nothing was read yet
-pub no_rows : Rows
-no_rows = record { calendar = []; cases = []; parties = []; entries = []; deadlines = []; acts = []; receipts = []; ends = [] }
+  pub so_many : count ≡ length h.3.1.records
+  so_many = h.3.0 ∙ ap length h.3.1.are.same ∙ length-map h.3.1.records cells
 
 -- the tables before one, and it, are those before the next
 pub all_more : (Is : Table → Type 0) (ts : List Table) (t : Table) → AllByRecursion Is ts → Is t → AllByRecursion Is (ts ++ t ∷ [])

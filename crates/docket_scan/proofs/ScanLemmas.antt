@@ -1,5 +1,5 @@
 -- What the statement of a table does to any database: it shows rows, or is refused.
-use Rattle.std.proofs.Common.{◌≡◌, ◌⊎◌, inl, inr, ℕ, List, [], Bool, true, false, IsTrue, IsSome, Some, None, Option, Ok, Err, Result, IsErrAnd, refl, sym, ap, subst, subst₂}
+use Rattle.std.proofs.Common.{◌≡◌, ◌⊎◌, inl, inr, ℕ, List, [], true, false, IsTrue, IsSome, Some, None, Option, Ok, Err, Result, IsErrAnd, refl, sym, ap, subst, subst₂}
 use Rattle.sqlite.specs.Order.{Row}
 use Rattle.sqlite.specs.Store.{Ghosts}
 use Rattle.sqlite.specs.Tree.{Trees}
@@ -112,6 +112,6 @@ module _ (t : Table) where
         (subst (λ (d : Database). ((fault : CompileError) × (understood d.schema (scan_text t) ≡ Err fault)) ⊎ ((c : Compiled) × (x : Error) × (understood d.schema (scan_text t) ≡ Ok c) × RefusesToRead None c.command d [] x)) same.0.now_is it.0, unchanged_then first old new same it.1)
 
 -- an error that is handed on
-pub err_scanned : (t : Table) (old new : State) (HasTaken IsSound : List Row → Type 0) (r : Result Bool Error) (e : Error) → IsErrAnd r (λ f. f ≡ e) → FailsToScan t old new e → Scanned t old new HasTaken IsSound r
-err_scanned t old new HasTaken IsSound (Ok b) e same fails = absurd same
+pub err_scanned : (t : Table) (old new : State) (HasTaken IsSound : List Row → Type 0) (r : Result (Option ℕ) Error) (e : Error) → IsErrAnd r (λ f. f ≡ e) → FailsToScan t old new e → Scanned t old new HasTaken IsSound r
+err_scanned t old new HasTaken IsSound (Ok count) e same fails = absurd same
 err_scanned t old new HasTaken IsSound (Err f) e same fails = subst (FailsToScan t old new) (sym same) fails

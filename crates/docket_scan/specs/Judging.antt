@@ -80,6 +80,10 @@ pub record Rows : Type 0 where
   pub receipts : List StoredReceipt
   pub ends : List EndRow
 
+-- nothing stands in them
+abbrev pub no_rows : Rows
+no_rows = record { calendar = []; cases = []; parties = []; entries = []; deadlines = []; acts = []; receipts = []; ends = [] }
+
 abbrev pub cells_in : Table → Rows → List Row
 cells_in Court r = []
 cells_in Calendar r = map calendar_cells r.calendar

@@ -1,3 +1,4 @@
+pub mod Holdings
 pub mod Judging
 pub mod Passing
 pub mod Records

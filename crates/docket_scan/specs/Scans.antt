@@ -1,5 +1,5 @@
 -- What is read of a table, in a database of any schema.
-use Rattle.std.specs.Prelude.{◌≡◌, ◌⊎◌, ◌++◌, Bool, true, false, IsTrue, List, [], None, Result, Ok, Err}
+use Rattle.std.specs.Prelude.{◌≡◌, ◌⊎◌, ◌++◌, ℕ, Bool, true, false, IsTrue, List, [], length, Option, Some, None, Result, Ok, Err}
 use Rattle.sqlite_resolve.specs.declared.compiled.Compiled.{Compiled}
 use Rattle.sqlite_resolve.specs.declared.error.CompileError.{CompileError}
 use Rattle.sqlite.specs.Effect.{Reads, ReadsFirst, RefusesToRead}
@@ -37,16 +37,20 @@ is_refusal (SqliteFailure TypeMismatch) = true
 is_refusal (SqliteFailure IntegerOverflow) = true
 is_refusal _ = false
 
--- the check took all rows of the table, or no rows that begin as they do are sound
-abbrev pub Scans : Table → State → (List Row → Type 0) → (List Row → Type 0) → Bool → Type 0
-Scans t s HasTaken IsSound true = (rows : List Row) × AreRowsOf t s rows × HasTaken rows
-Scans t s HasTaken IsSound false = (first : List Row) × AreFirstRowsOf t s first × ((more : List Row) → IsSound (first ++ more) → ⊥)
+-- this holds of the rows, and so many they are
+abbrev pub OfSoMany : ℕ → (List Row → Type 0) → List Row → Type 0
+OfSoMany count Holds rows = (count ≡ length rows) × Holds rows
+
+-- the check took all rows of the table, which are so many, or no rows that begin as they do are sound
+abbrev pub Scans : Table → State → (List Row → Type 0) → (List Row → Type 0) → Option ℕ → Type 0
+Scans t s HasTaken IsSound (Some count) = (rows : List Row) × AreRowsOf t s rows × OfSoMany count HasTaken rows
+Scans t s HasTaken IsSound None = (first : List Row) × AreFirstRowsOf t s first × ((more : List Row) → IsSound (first ++ more) → ⊥)
 
 -- the database refused the statement, or failed
 abbrev pub FailsToScan : Table → State → State → Error → Type 0
 FailsToScan t old new e = IsTrue (is_refusal e) → IsUnreadable t old × IsUnchanged old new
 
 -- what the reading of a table comes to: it writes nothing, and the database stays as it was
-abbrev pub Scanned : Table → State → State → (List Row → Type 0) → (List Row → Type 0) → Result Bool Error → Type 0
-Scanned t old new HasTaken IsSound (Ok sound) = IsUnchanged old new × Scans t old HasTaken IsSound sound
+abbrev pub Scanned : Table → State → State → (List Row → Type 0) → (List Row → Type 0) → Result (Option ℕ) Error → Type 0
+Scanned t old new HasTaken IsSound (Ok count) = IsUnchanged old new × Scans t old HasTaken IsSound count
 Scanned t old new HasTaken IsSound (Err e) = FailsToScan t old new e

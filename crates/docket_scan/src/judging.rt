@@ -1,65 +1,83 @@
 //! Which table of a database is the first that is unsound.
-ghost use Rattle.std.specs.Prelude.{◌≡◌, [], false, ⊤};
+ghost use Rattle.std.specs.Prelude.{◌≡◌, ◌↔◌, ◌<◌, ◌^◌, [], List, length, false, IfOk, IfSome, IsSome};
 ghost use Rattle.sqlite.specs.Held.{state};
 ghost use Rattle.sqlite.specs.State.{HasCleanDisk, Survives};
 ghost use Rattle.docket_scan.specs.Judging.{IsSoundIn, Judged, JudgedTo};
+ghost use Rattle.court_days.specs.Court.{zone_of};
+ghost use Rattle.docket_core.specs.declared.row.ActRow.{ActRow as OnDeadline};
+ghost use Rattle.docket_sound.specs.Acts.{AreSoundActs, HasTakenActs};
+ghost use Rattle.docket_sound.specs.Counted.{cases_of, counts_of};
+ghost use Rattle.docket_sound.specs.Dues.{dues_of};
+ghost use Rattle.docket_sound.specs.Standings.{counts_of_standings, standings_of};
+ghost use Rattle.docket_scan.specs.Holdings.{holdings_of};
 ghost use Rattle.docket_scan.specs.Passing.{SaysCalendar, SaysCases, SaysParties, SaysDeadlines, SaysEnds};
+ghost use Rattle.docket_scan.specs.Scans.{OfSoMany};
 ghost use Rattle.docket_tables.specs.declared.table.Table.TheVariants as table;
 
 use crate::fault::{TableFault, fault_in};
-use crate::passing::{CasesRead, DeadlinesRead, PartiesRead};
+use crate::holdings::Holdings;
+use crate::passing::{CalendarRead, CasesRead, DeadlinesRead, EndsRead, PartiesRead};
 use crate::scan::scan;
 use crate::shape::has_table;
 use crate::taker::Taker;
-use court_days::{Calendar, Court};
+use court_days::Court;
 use docket_core::EndRow;
 use docket_sound::{
     ActCheck, CalendarCheck, CaseCheck, DeadlineCheck, DueCheck, EntryCheck, Numbering, PartyCheck,
-    ReceiptCheck,
+    ReceiptCheck, Standings,
 };
 use docket_tables::Table;
 use sqlite::{Alter, Connection};
-use std::alloc::Global;
+use std::alloc::{AllocError, Global};
 
-/// Has the check take the rows of its table, if the table is there.
+/// Has the check take the rows of its table, if the table is there. How many they are.
 fn judge<S: Alter, C: Taker>(
     conn: &mut Connection<S>,
     alloc: Global,
     table: Table,
     check: &mut C,
-) -> Result<(), TableFault>
+) -> Result<u64, TableFault>
     ensures writes_nothing { Survives (state S.Store conn.old) (state S.Store conn.new) (λ _. ⊥) }
     ensures mode { conn.old.in_transaction ≡ false → conn.new.in_transaction ≡ false }
     ensures context { C.context check.new ≡ C.context check.old }
+    ensures limit { IfOk result (λ count. count < 2 ^ 64) }
     ensures told { HasCleanDisk (state S.Store conn.new) → C.HasTaken check.old []
-        → Judged table (state S.Store conn.old) (state S.Store conn.new) (λ _. IsSoundIn table (state S.Store conn.old) (C.HasTaken check.new))
+        → Judged table (state S.Store conn.old) (state S.Store conn.new) (λ count. IsSoundIn table (state S.Store conn.old) (OfSoMany count (C.HasTaken check.new)))
         (C.IsSound (C.context check.old)) result }
 {
     if !has_table(conn.schema(), table) {
         return Err(TableFault::Damaged(table));
     }
     match scan(conn, alloc, table, check) {
-        Ok(true) => Ok(()),
-        Ok(false) => Err(TableFault::Damaged(table)),
+        Ok(Some(count)) => Ok(count),
+        Ok(None) => Err(TableFault::Damaged(table)),
         Err(error) => Err(fault_in(table, error)),
     }
 }
 
-/// Judges the table of the calendar. Gives the court back, with the calendar of the rows.
+/// Judges the table of the calendar.
 fn judge_calendar<S: Alter>(
     conn: &mut Connection<S>,
     alloc: Global,
     court: Court,
     next_row: u64,
-) -> Result<(Court, Calendar), TableFault>
+) -> Result<CalendarRead, TableFault>
     ensures writes_nothing { Survives (state S.Store conn.old) (state S.Store conn.new) (λ _. ⊥) }
     ensures mode { conn.old.in_transaction ≡ false → conn.new.in_transaction ≡ false }
     ensures told { HasCleanDisk (state S.Store conn.new)
         → JudgedTo table.Calendar court next_row (state S.Store conn.old) (state S.Store conn.new) (SaysCalendar court) result }
 {
     let mut check = CalendarCheck::new(alloc, court, next_row);
-    judge(conn, alloc, Table::Calendar, &mut check)?;
-    Ok(check.finish())
+    let count = judge(conn, alloc, Table::Calendar, &mut check)?;
+    let (court, calendar) = check.finish();
+    Ok(CalendarRead {
+        court,
+        calendar,
+        held: Holdings {
+            calendar_rows: count,
+            ..Holdings::none()
+        },
+    })
 }
 
 /// Judges the tables up to that of cases.
@@ -74,14 +92,22 @@ fn judge_cases<S: Alter>(
     ensures told { HasCleanDisk (state S.Store conn.new)
         → JudgedTo table.Cases court next_row (state S.Store conn.old) (state S.Store conn.new) (SaysCases court) result }
 {
-    let (court, calendar) = judge_calendar(conn, alloc, court, next_row)?;
+    let CalendarRead {
+        court,
+        calendar,
+        held,
+    } = judge_calendar(conn, alloc, court, next_row)?;
     let mut check = CaseCheck::new(alloc);
-    judge(conn, alloc, Table::Cases, &mut check)?;
+    let count = judge(conn, alloc, Table::Cases, &mut check)?;
     let cases = check.cases();
     Ok(CasesRead {
         court,
         calendar,
         cases,
+        held: Holdings {
+            cases: count,
+            ..held
+        },
     })
 }
 
@@ -101,14 +127,19 @@ fn judge_parties<S: Alter>(
         court,
         calendar,
         cases,
+        held,
     } = judge_cases(conn, alloc, court, next_row)?;
     let mut check = PartyCheck::new(alloc, cases)?;
-    judge(conn, alloc, Table::Parties, &mut check)?;
+    let count = judge(conn, alloc, Table::Parties, &mut check)?;
     Ok(PartiesRead {
         court,
         calendar,
         cases,
         parties: check.counts(),
+        held: Holdings {
+            parties: count,
+            ..held
+        },
     })
 }
 
@@ -126,8 +157,12 @@ fn judge_entries<S: Alter>(
 {
     let read = judge_parties(conn, alloc, court, next_row)?;
     let mut check = EntryCheck::new(alloc, read.cases)?;
-    judge(conn, alloc, Table::Entries, &mut check)?;
-    Ok(read)
+    let count = judge(conn, alloc, Table::Entries, &mut check)?;
+    let held = Holdings {
+        entries: count,
+        ..read.held
+    };
+    Ok(PartiesRead { held, ..read })
 }
 
 /// Judges the tables up to that of deadlines.
@@ -147,14 +182,38 @@ fn judge_deadlines<S: Alter>(
         calendar,
         cases,
         parties,
+        held,
     } = judge_entries(conn, alloc, court, next_row)?;
     let mut check = DeadlineCheck::new(alloc, cases, parties)?;
-    judge(conn, alloc, Table::Deadlines, &mut check)?;
+    let count = judge(conn, alloc, Table::Deadlines, &mut check)?;
     Ok(DeadlinesRead {
         court,
         calendar,
         deadlines: check.counts(),
+        held: Holdings {
+            deadlines: count,
+            ..held
+        },
     })
+}
+
+/// The ends of the deadlines whose time runs, and how many deadlines stand where. `None`: the acts that
+/// were taken are unsound.
+fn finish(check: ActCheck) -> Result<Option<(Vec<EndRow>, Standings)>, AllocError>
+    ensures ends { (rows : List OnDeadline) → HasTakenActs check rows
+        → IfOk result (λ found. IfSome found (λ both. both.0.items ≡ dues_of (zone_of check.court) check.calendar rows)) }
+    ensures standings { (rows : List OnDeadline) → HasTakenActs check rows → length rows < 2 ^ 64
+        → IfOk result (λ found. IfSome found (λ both. both.1 ≡ counts_of_standings (standings_of (zone_of check.court) check.calendar rows))) }
+    ensures sound { (rows : List OnDeadline) → HasTakenActs check rows
+        → IfOk result (λ found. IsSome found ↔ AreSoundActs check.court (cases_of check.deadlines) (counts_of check.deadlines) rows) }
+{
+    let Some(standings) = check.standings() else {
+        return Ok(None);
+    };
+    match check.dues()? {
+        Some(ends) => Ok(Some((ends, standings))),
+        None => Ok(None),
+    }
 }
 
 /// Judges the tables up to that of acts. Gives the ends of the deadlines whose time runs, by their acts
@@ -164,21 +223,25 @@ fn judge_acts<S: Alter>(
     alloc: Global,
     court: Court,
     next_row: u64,
-) -> Result<Vec<EndRow>, TableFault>
+) -> Result<EndsRead, TableFault>
     ensures writes_nothing { Survives (state S.Store conn.old) (state S.Store conn.new) (λ _. ⊥) }
     ensures mode { conn.old.in_transaction ≡ false → conn.new.in_transaction ≡ false }
     ensures told { HasCleanDisk (state S.Store conn.new)
-        → JudgedTo table.Acts court next_row (state S.Store conn.old) (state S.Store conn.new) (λ r ends. SaysEnds court r ends.items) result }
+        → JudgedTo table.Acts court next_row (state S.Store conn.old) (state S.Store conn.new) (SaysEnds court) result }
 {
     let DeadlinesRead {
         court,
         calendar,
         deadlines,
+        held,
     } = judge_deadlines(conn, alloc, court, next_row)?;
     let mut check = ActCheck::new(alloc, court, calendar, deadlines)?;
     judge(conn, alloc, Table::Acts, &mut check)?;
-    match check.dues()? {
-        Some(ends) => Ok(ends),
+    match finish(check)? {
+        Some((ends, standings)) => Ok(EndsRead {
+            ends,
+            held: Holdings { standings, ..held },
+        }),
         None => Err(TableFault::Damaged(Table::Acts)),
     }
 }
@@ -189,20 +252,26 @@ fn judge_receipts<S: Alter>(
     alloc: Global,
     court: Court,
     next_row: u64,
-) -> Result<Vec<EndRow>, TableFault>
+) -> Result<EndsRead, TableFault>
     ensures writes_nothing { Survives (state S.Store conn.old) (state S.Store conn.new) (λ _. ⊥) }
     ensures mode { conn.old.in_transaction ≡ false → conn.new.in_transaction ≡ false }
     ensures told { HasCleanDisk (state S.Store conn.new)
-        → JudgedTo table.Receipts court next_row (state S.Store conn.old) (state S.Store conn.new) (λ r ends. SaysEnds court r ends.items) result }
+        → JudgedTo table.Receipts court next_row (state S.Store conn.old) (state S.Store conn.new) (SaysEnds court) result }
 {
-    let ends = judge_acts(conn, alloc, court, next_row)?;
+    let EndsRead { ends, held } = judge_acts(conn, alloc, court, next_row)?;
     let mut check = ReceiptCheck::new();
-    judge(conn, alloc, Table::Receipts, &mut check)?;
-    Ok(ends)
+    let count = judge(conn, alloc, Table::Receipts, &mut check)?;
+    Ok(EndsRead {
+        ends,
+        held: Holdings {
+            receipts: count,
+            ..held
+        },
+    })
 }
 
 /// Judges the tables of a court's docket, but for that of the court itself, which says that the next row
-/// of the calendar has that number. An error tells the first of them, in their order, that is missing,
+/// of the calendar has that number. Tells what they hold. An error tells the first of them, in their order, that is missing,
 /// lacks a column, can't be read or is unsound by those before it; want of memory and a failure of the
 /// database may come at any point. Nothing is written.
 pub fn judge_tables<S: Alter>(
@@ -210,17 +279,17 @@ pub fn judge_tables<S: Alter>(
     alloc: Global,
     court: Court,
     next_row: u64,
-) -> Result<(), TableFault>
+) -> Result<Holdings, TableFault>
     ensures writes_nothing { Survives (state S.Store conn.old) (state S.Store conn.new) (λ _. ⊥) }
     ensures mode { conn.old.in_transaction ≡ false → conn.new.in_transaction ≡ false }
     ensures told { HasCleanDisk (state S.Store conn.new)
-        → JudgedTo table.Ends court next_row (state S.Store conn.old) (state S.Store conn.new) (λ r done. ⊤) result }
+        → JudgedTo table.Ends court next_row (state S.Store conn.old) (state S.Store conn.new) (λ r held. held ≡ holdings_of court r) result }
 {
-    let expected = judge_receipts(conn, alloc, court, next_row)?;
-    let mut check = DueCheck::new(expected);
+    let EndsRead { ends, held } = judge_receipts(conn, alloc, court, next_row)?;
+    let mut check = DueCheck::new(ends);
     judge(conn, alloc, Table::Ends, &mut check)?;
     if check.is_sound() {
-        Ok(())
+        Ok(held)
     } else {
         Err(TableFault::Damaged(Table::Ends))
     }

@@ -10,13 +10,14 @@ use docket_tables::Table;
 use sqlite::{Alter, Connection, Error, ErrorCode};
 use std::alloc::Global;
 
-/// Reads the table row by row. `true`: the check took all its rows. `false`: it refused one.
+/// Reads the table row by row. How many rows it has, where the check took them all; `None`: it refused
+/// one.
 pub(crate) fn scan<S: Alter, C: Taker>(
     conn: &mut Connection<S>,
     alloc: Global,
     table: Table,
     check: &mut C,
-) -> Result<bool, Error>
+) -> Result<Option<u64>, Error>
     ensures writes_nothing { Survives (state S.Store conn.old) (state S.Store conn.new) (λ _. ⊥) }
     ensures mode { conn.old.in_transaction ≡ false → conn.new.in_transaction ≡ false }
     ensures told { HasCleanDisk (state S.Store conn.new) → C.HasTaken check.old []
@@ -24,12 +25,12 @@ pub(crate) fn scan<S: Alter, C: Taker>(
     ensures context { C.context check.new ≡ C.context check.old }
 {
     let mut rows = conn.query(scan_text(table), &[])?;
-    'rows: for _ in 0..u64::MAX {
+    'rows: for count in 0..u64::MAX {
         let Some(row) = rows.next()? else {
-            return Ok(true);
+            return Ok(Some(count));
         };
         if !check.take(alloc, row)? {
-            return Ok(false);
+            return Ok(None);
         }
     }
     Err(Error::SqliteFailure(ErrorCode::OperationInterrupted))

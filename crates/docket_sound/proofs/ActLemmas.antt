@@ -1,5 +1,5 @@
 -- Acts that come one after another.
-use Rattle.std.proofs.Common.{◌≡◌, ◌∙◌, ℕ, suc, ◌+◌, ◌≤◌, ◌==◌, ◌&&◌, ◌||◌, not, nat_lt, nat_le, nat_eq, Bool, true, false, cond, List, [], ◌∷◌, ◌++◌, map, length, get_or, refl, sym, ap, subst, arith, inl, inr, append-nil}
+use Rattle.std.proofs.Common.{◌≡◌, ◌∙◌, ℕ, suc, ◌+◌, ◌-◌, ◌^◌, ◌<◌, ◌≤◌, ◌==◌, ◌&&◌, ◌||◌, not, nat_lt, nat_le, nat_eq, Bool, true, false, cond, List, [], ◌∷◌, ◌++◌, map, length, get_or, refl, sym, ap, subst, arith, inl, inr, append-nil}
 use Rattle.std.proofs.lemmas.Bool.{cases_Bool, false≢true}
 use Rattle.std.proofs.lemmas.Bool.Decides.{nat_tests}
 use Rattle.std.proofs.lemmas.List.{length-append, map-append, append_assoc, length-map}
@@ -14,6 +14,10 @@ use Rattle.docket_sound.specs.Acts.{are_lawful, is_on_entered_day, IsSoundRun, A
 use Rattle.docket_sound.specs.Counted.{counts_of, HasNumbered, cases_of, most_of}
 use Rattle.docket_sound.specs.Dues.{last_dues, due_of_acts, dues_of_runs, dues_of}
 use Rattle.docket_sound.specs.Runs.{Run, alone, is_on, with_row, runs_from, runs_of, run_key, closed_after, open_after}
+use Rattle.docket_sound.specs.Standings.{counts_of_standings, last_standings, standing_of_run, standings_of_runs, standings_of}
+use Rattle.docket_sound.specs.declared.standings.Standings.{Standings}
+use Rattle.court_rules.specs.Standings.{standing}
+use Rattle.court_rules.specs.declared.act.Standing.{Standing}
 use Rattle.court_days.specs.Calendar.{Entered}
 use Rattle.std.specs.Prelude.{Vec}
 use Rattle.std.specs.declared.alloc.Global.{Global}
@@ -115,6 +119,21 @@ dues_both zone entered (x ∷ xs) ys =
     ap (λ l. due_of_acts zone entered x.case x.deadline (map (λ (r : ActRow). r.act) x.rows) ++ l) (dues_both zone entered xs ys)
     ∙ sym (append_assoc (due_of_acts zone entered x.case x.deadline (map (λ (r : ActRow). r.act) x.rows)) (dues_of_runs zone entered xs) (dues_of_runs zone entered ys))
 
+-- the closed runs are fewer than the rows
+few_closed : (run : Run) (xs : List ActRow) → length (closed_after run xs) ≤ length xs
+few_closed run [] = omega arith
+few_closed run (x ∷ xs) = at (is_on run x) (few_closed (with_row run x) xs) (few_closed (alone x) xs)
+  where
+    at : (b : Bool) → length (closed_after (with_row run x) xs) ≤ length xs → length (closed_after (alone x) xs) ≤ length xs
+        → length (cond b (closed_after (with_row run x) xs) (run ∷ closed_after (alone x) xs)) ≤ length (x ∷ xs)
+    at true same other = omega (arith, same)
+    at false same other = omega (arith, other)
+
+-- what comes of the counts of standings with the run under way
+abbrev pub CountsLast : ActCheck → Standings → Type 0
+CountsLast check new =
+    (l : List Standing) → check.standings ≡ counts_of_standings l → length l < 2 ^ 64 - 1 → new ≡ counts_of_standings (l ++ last_standings check)
+
 -- what follows of rows that were taken
 module _ (check : ActCheck) (r : ActRow) (rs : List ActRow) (row : ActRow) (has : HasTakenActs check (r ∷ rs)) where
   abbrev last : Run
@@ -143,6 +162,18 @@ module _ (check : ActCheck) (r : ActRow) (rs : List ActRow) (row : ActRow) (has 
       ∙ ap (λ n. due_of_acts (zone_of check.court) check.calendar last.case n check.acts.items) has.deadline
       ∙ ap (due_of_acts (zone_of check.court) check.calendar last.case last.deadline) has.acts
       ∙ sym (append-nil (due_of_acts (zone_of check.court) check.calendar last.case last.deadline (map (λ (x : ActRow). x.act) last.rows)))
+
+  last_stands : last_standings check ≡ standings_of_runs (zone_of check.court) check.calendar (last ∷ [])
+  last_stands =
+      ap (λ b. cond b [] (standing (zone_of check.court) check.calendar check.acts.items ∷ [])) not_empty
+      ∙ ap (λ (acts : List Act). standing (zone_of check.court) check.calendar acts ∷ []) has.acts
+
+  pub stand_all : (new : Standings) → CountsLast check new → length (r ∷ rs) < 2 ^ 64 → new ≡ counts_of_standings (standings_of_runs (zone_of check.court) check.calendar (closed ++ last ∷ []))
+  stand_all new more few =
+      let before = standings_of_runs (zone_of check.court) check.calendar closed in
+      let short : length before < 2 ^ 64 - 1 = omega (arith, few, few_closed (alone r) rs, length-map closed (standing_of_run (zone_of check.court) check.calendar)) in
+      more before (has.standings few) short ∙ ap (λ l. counts_of_standings (before ++ l)) last_stands
+      ∙ ap counts_of_standings (sym (map-append (standing_of_run (zone_of check.court) check.calendar) closed (last ∷ [])))
 
   pub closes : may_close check ≡ are_lawful (zone_of check.court) (map (λ (x : ActRow). x.act) last.rows)
   closes = ap (λ b. b || are_lawful (zone_of check.court) check.acts.items) not_empty ∙ ap (are_lawful (zone_of check.court)) has.acts
@@ -197,9 +228,9 @@ module _ (check : ActCheck) (r : ActRow) (rs : List ActRow) (row : ActRow) (has 
       let keys = keys_off more there ∙ ap (λ l. map run_key (runs_of (r ∷ rs)) ++ map run_key l) first.is in
       fails (map run_key first.rest) (subst (AreNumbered (cases_of check.deadlines) 1000) keys all.numbered)
 
-  pub act_taken : (new : ActCheck) → new.court ≡ check.court → new.deadlines ≡ check.deadlines → new.runs ≡ check.runs → new.case ≡ check.case → new.deadline ≡ check.deadline → new.calendar ≡ check.calendar → new.dues ≡ check.dues
+  pub act_taken : (new : ActCheck) → new.court ≡ check.court → new.deadlines ≡ check.deadlines → new.runs ≡ check.runs → new.case ≡ check.case → new.deadline ≡ check.deadline → new.calendar ≡ check.calendar → new.dues ≡ check.dues → new.standings ≡ check.standings
       → new.acts.items ≡ check.acts.items ++ row.act ∷ [] → continues check row ≡ true → may_go_on check row ≡ true → HasTakenActs new (r ∷ (rs ++ row ∷ []))
-  act_taken new court deadlines runs case deadline calendar dues acts on goes =
+  act_taken new court deadlines runs case deadline calendar dues standings acts on goes =
       let here = sym on_last ∙ on in
       let now : open_after (alone r) (rs ++ row ∷ []) ≡ with_row last row = open_split (alone r) rs (row ∷ []) ∙ ap (λ b. cond b (with_row last row) (alone row)) here in
       let shut : closed_after (alone r) (rs ++ row ∷ []) ≡ closed = closed_split (alone r) rs (row ∷ []) ∙ ap (λ b. closed ++ cond b [] (last ∷ [])) here ∙ append-nil closed in
@@ -221,12 +252,16 @@ module _ (check : ActCheck) (r : ActRow) (rs : List ActRow) (row : ActRow) (has 
         dues = ap (λ (v : Vec EndRow Global). v.items) dues ∙ has.dues ∙ ap (dues_of_runs (zone_of check.court) check.calendar) (sym shut)
             ∙ ap (λ (k : CourtSettings). dues_of_runs (zone_of k) check.calendar (closed_after (alone r) (rs ++ row ∷ []))) (sym court)
             ∙ ap (λ (e : Entered). dues_of_runs (zone_of new.court) e (closed_after (alone r) (rs ++ row ∷ []))) (sym calendar);
+        standings = λ few. standings ∙ has.standings (omega (arith, few, length-append rs (row ∷ [])))
+            ∙ ap (λ l. counts_of_standings (standings_of_runs (zone_of check.court) check.calendar l)) (sym shut)
+            ∙ ap (λ (k : CourtSettings). counts_of_standings (standings_of_runs (zone_of k) check.calendar (closed_after (alone r) (rs ++ row ∷ [])))) (sym court)
+            ∙ ap (λ (e : Entered). counts_of_standings (standings_of_runs (zone_of new.court) e (closed_after (alone r) (rs ++ row ∷ [])))) (sym calendar);
       }
 
   pub begin_taken : (new : ActCheck) → new.court ≡ check.court → new.deadlines ≡ check.deadlines → most_of new.runs ≡ most_of check.runs → cases_of new.runs ≡ cases_of check.runs
       → HasNumbered new.runs (map run_key (runs_of (r ∷ rs)) ++ run_key (alone row) ∷ []) → new.case ≡ row.case → new.deadline ≡ row.deadline → new.calendar ≡ check.calendar → new.dues.items ≡ check.dues.items ++ last_dues check
-      → new.acts.items ≡ row.act ∷ [] → continues check row ≡ false → may_close check ≡ true → begins row ≡ true → HasTakenActs new (r ∷ (rs ++ row ∷ []))
-  begin_taken new court deadlines most cases runs case deadline calendar dues acts off closed_well one =
+      → CountsLast check new.standings → new.acts.items ≡ row.act ∷ [] → continues check row ≡ false → may_close check ≡ true → begins row ≡ true → HasTakenActs new (r ∷ (rs ++ row ∷ []))
+  begin_taken new court deadlines most cases runs case deadline calendar dues standings acts off closed_well one =
       let there = sym on_last ∙ off in
       let now : open_after (alone r) (rs ++ row ∷ []) ≡ alone row = open_split (alone r) rs (row ∷ []) ∙ ap (λ b. cond b (with_row last row) (alone row)) there in
       let shut : closed_after (alone r) (rs ++ row ∷ []) ≡ closed ++ last ∷ [] = closed_split (alone r) rs (row ∷ []) ∙ ap (λ b. closed ++ cond b [] (last ∷ [])) there in
@@ -247,6 +282,10 @@ module _ (check : ActCheck) (r : ActRow) (rs : List ActRow) (row : ActRow) (has 
             ∙ sym (dues_both (zone_of check.court) check.calendar closed (last ∷ [])) ∙ ap (dues_of_runs (zone_of check.court) check.calendar) (sym shut)
             ∙ ap (λ (k : CourtSettings). dues_of_runs (zone_of k) check.calendar (closed_after (alone r) (rs ++ row ∷ []))) (sym court)
             ∙ ap (λ (e : Entered). dues_of_runs (zone_of new.court) e (closed_after (alone r) (rs ++ row ∷ []))) (sym calendar);
+        standings = λ few. stand_all new.standings standings (omega (arith, few, length-append rs (row ∷ [])))
+            ∙ ap (λ l. counts_of_standings (standings_of_runs (zone_of check.court) check.calendar l)) (sym shut)
+            ∙ ap (λ (k : CourtSettings). counts_of_standings (standings_of_runs (zone_of k) check.calendar (closed_after (alone r) (rs ++ row ∷ [])))) (sym court)
+            ∙ ap (λ (e : Entered). counts_of_standings (standings_of_runs (zone_of new.court) e (closed_after (alone r) (rs ++ row ∷ [])))) (sym calendar);
       }
 
 -- the same, also where no row was taken yet
@@ -285,17 +324,20 @@ key_refused check [] row more has off fails all =
 key_refused check (r ∷ rs) row more has off fails all = key_fails check r rs row has more off fails all
 
 pub go_taken : (check : ActCheck) (rows : List ActRow) (row : ActRow) (new : ActCheck) → HasTakenActs check rows → new.court ≡ check.court → new.deadlines ≡ check.deadlines → new.runs ≡ check.runs
-    → new.case ≡ check.case → new.deadline ≡ check.deadline → new.calendar ≡ check.calendar → new.dues ≡ check.dues → new.acts.items ≡ check.acts.items ++ row.act ∷ [] → continues check row ≡ true → may_go_on check row ≡ true → HasTakenActs new (rows ++ row ∷ [])
-go_taken check [] row new has court deadlines runs case deadline calendar dues acts on goes = absurd (false≢true (sym (none_continues check row has) ∙ on))
-go_taken check (r ∷ rs) row new has court deadlines runs case deadline calendar dues acts on goes = act_taken check r rs row has new court deadlines runs case deadline calendar dues acts on goes
+    → new.case ≡ check.case → new.deadline ≡ check.deadline → new.calendar ≡ check.calendar → new.dues ≡ check.dues → new.standings ≡ check.standings → new.acts.items ≡ check.acts.items ++ row.act ∷ [] → continues check row ≡ true → may_go_on check row ≡ true → HasTakenActs new (rows ++ row ∷ [])
+go_taken check [] row new has court deadlines runs case deadline calendar dues standings acts on goes = absurd (false≢true (sym (none_continues check row has) ∙ on))
+go_taken check (r ∷ rs) row new has court deadlines runs case deadline calendar dues standings acts on goes = act_taken check r rs row has new court deadlines runs case deadline calendar dues standings acts on goes
 
 none_yet : (check : ActCheck) → check.acts.items ≡ [] → last_dues check ≡ []
 none_yet check empty = ap (λ (acts : List Act). cond (nat_eq (length acts) 0) [] (due_of_acts (zone_of check.court) check.calendar check.case check.deadline acts)) empty
 
+none_stands : (check : ActCheck) → check.acts.items ≡ [] → last_standings check ≡ []
+none_stands check empty = ap (λ (acts : List Act). cond (nat_eq (length acts) 0) [] (standing (zone_of check.court) check.calendar acts ∷ [])) empty
+
 pub new_taken : (check : ActCheck) (rows : List ActRow) (row : ActRow) (new : ActCheck) → HasTakenActs check rows → new.court ≡ check.court → new.deadlines ≡ check.deadlines → most_of new.runs ≡ most_of check.runs
     → cases_of new.runs ≡ cases_of check.runs → HasNumbered new.runs (map run_key (runs_of rows) ++ run_key (alone row) ∷ []) → new.case ≡ row.case → new.deadline ≡ row.deadline → new.calendar ≡ check.calendar → new.dues.items ≡ check.dues.items ++ last_dues check
-    → new.acts.items ≡ row.act ∷ [] → continues check row ≡ false → (may_close check && begins row) ≡ true → HasTakenActs new (rows ++ row ∷ [])
-new_taken check [] row new has court deadlines most cases runs case deadline calendar dues acts off passes =
+    → CountsLast check new.standings → new.acts.items ≡ row.act ∷ [] → continues check row ≡ false → (may_close check && begins row) ≡ true → HasTakenActs new (rows ++ row ∷ [])
+new_taken check [] row new has court deadlines most cases runs case deadline calendar dues standings acts off passes =
     let first : row.number ≡ 1 = grind (arith, nat_tests, (both (may_close check) (begins row) passes).1) in
     record {
       most = most ∙ has.most;
@@ -308,10 +350,11 @@ new_taken check [] row new has court deadlines most cases runs case deadline cal
       runs = runs;
       lawful = tt;
       dues = dues ∙ ap (λ l. l ++ last_dues check) has.dues ∙ none_yet check has.acts;
+      standings = λ few. standings [] (has.standings (omega arith)) (omega arith) ∙ ap counts_of_standings (none_stands check has.acts);
     }
-new_taken check (r ∷ rs) row new has court deadlines most cases runs case deadline calendar dues acts off passes =
+new_taken check (r ∷ rs) row new has court deadlines most cases runs case deadline calendar dues standings acts off passes =
     let parts = both (may_close check) (begins row) passes in
-    begin_taken check r rs row has new court deadlines most cases runs case deadline calendar dues acts off parts.0 parts.1
+    begin_taken check r rs row has new court deadlines most cases runs case deadline calendar dues standings acts off parts.0 parts.1
 
 -- where all rows were taken
 same_items : (xs ys : List ℕ) → length xs ≡ length ys → ((k : ℕ) → get_or xs k 0 ≡ get_or ys k 0) → xs ≡ ys
@@ -353,3 +396,8 @@ module _ (check : ActCheck) where
   all_dues (r ∷ rs) has =
       ap (λ l. l ++ last_dues check) has.dues ∙ ap (λ l. dues_of_runs (zone_of check.court) check.calendar (closed_after (alone r) rs) ++ l) (last_is check r rs r has)
       ∙ sym (dues_both (zone_of check.court) check.calendar (closed_after (alone r) rs) (open_after (alone r) rs ∷ [])) ∙ ap (dues_of_runs (zone_of check.court) check.calendar) (sym (runs_whole (alone r) rs))
+
+  pub all_standings : (rows : List ActRow) → HasTakenActs check rows → length rows < 2 ^ 64 → (new : Standings) → CountsLast check new → new ≡ counts_of_standings (standings_of (zone_of check.court) check.calendar rows)
+  all_standings [] has few new more = more [] (has.standings few) (omega arith) ∙ ap counts_of_standings (none_stands check has.acts)
+  all_standings (r ∷ rs) has few new more =
+      stand_all check r rs r has new more few ∙ ap (λ l. counts_of_standings (standings_of_runs (zone_of check.court) check.calendar l)) (sym (runs_whole (alone r) rs))

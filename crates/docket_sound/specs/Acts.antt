@@ -1,5 +1,5 @@
 -- When the rows of acts are sound.
-use Rattle.std.specs.Prelude.{◌≡◌, ℕ, ℤ, ◌+◌, ◌==◌, nat_lt, Bool, true, not, ◌&&◌, ◌||◌, List, map, length, nat_eq}
+use Rattle.std.specs.Prelude.{◌≡◌, ◌<◌, ℕ, ℤ, ◌+◌, ◌^◌, ◌==◌, nat_lt, Bool, true, not, ◌&&◌, ◌||◌, List, map, length, nat_eq}
 use Rattle.std.specs.List.{AllByRecursion, list_all}
 use Rattle.civil_time.specs.LocalTime.{local_day, seconds}
 use Rattle.civil_time.specs.Zone.{ZoneRules}
@@ -13,6 +13,7 @@ use Rattle.docket_sound.specs.Counted.{HasNumbered, cases_of, most_of}
 use Rattle.docket_sound.specs.Dues.{dues_of_runs}
 use Rattle.docket_sound.specs.Numbers.{RunsFrom, AreNumbered, numbers_in}
 use Rattle.docket_sound.specs.Runs.{Run, runs_of, run_key, closed_of, open_of}
+use Rattle.docket_sound.specs.Standings.{counts_of_standings, standings_of_runs}
 use Rattle.docket_sound.specs.declared.act.ActCheck.{ActCheck}
 
 -- the local day of the instant is one that a court may enter
@@ -69,3 +70,6 @@ pub record HasTakenActs (check : ActCheck) (rows : List ActRow) : Type 0 where
   pub runs : HasNumbered check.runs (map run_key (runs_of rows))
   pub lawful : AllByRecursion (IsSoundRun (zone_of check.court)) (closed_of rows)
   pub dues : check.dues.items ≡ dues_of_runs (zone_of check.court) check.calendar (closed_of rows)
+  pub standings :
+      length rows < 2 ^ 64
+      → check.standings ≡ counts_of_standings (standings_of_runs (zone_of check.court) check.calendar (closed_of rows))

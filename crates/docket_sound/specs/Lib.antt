@@ -12,3 +12,4 @@ pub mod Orders
 pub mod Parties
 pub mod Receipts
 pub mod Runs
+pub mod Standings

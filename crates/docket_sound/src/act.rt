@@ -1,20 +1,23 @@
 //! The table of acts.
-ghost use Rattle.std.specs.Prelude.{◌≡◌, ◌↔◌, ◌++◌, ◌∷◌, [], List, true, false, Ok, IfOk, IfSome, IsSome, OnOk, IsTrue, ◌&&◌, ◌+◌, length};
+ghost use Rattle.std.specs.Prelude.{◌≡◌, ◌↔◌, ◌++◌, ◌∷◌, [], List, true, false, Ok, IfOk, IfSome, IsSome, OnOk, IsTrue, ◌&&◌, ◌+◌, ◌-◌, ◌^◌, ◌<◌, length};
 ghost use Rattle.std.specs.List.{list_all};
 ghost use Rattle.court_days.specs.Court.{zone_of};
 ghost use Rattle.court_rules.specs.Acts.{is_instant};
+ghost use Rattle.court_rules.specs.declared.act.Standing.{Standing as Stood};
 ghost use Rattle.docket_core.specs.declared.row.ActRow.{ActRow as OnDeadline};
 ghost use Rattle.docket_sound.specs.Acts.{is_entered_at, is_on_entered_day, are_lawful, continues, begins, may_close, may_go_on, AreSoundActs, HasTakenActs};
 ghost use Rattle.docket_sound.specs.Counted.{HasNumbered, cases_of, counts_of};
 ghost use Rattle.docket_sound.specs.Dues.{last_dues, dues_of};
 ghost use Rattle.docket_sound.specs.Runs.{run_key, alone};
+ghost use Rattle.docket_sound.specs.Standings.{counts_of_standings, last_standings, standings_of};
 ghost use Rattle.docket_sound.specs.declared.numbering.Key.{Key as Place};
 
-use crate::due::push_due;
+use crate::due::{push_due, standing_of};
 use crate::numbering::{Key, Numbering};
+use crate::standings::Standings;
 use crate::text::is_entered;
 use court_days::{Calendar, Court};
-use court_rules::{Act, Start, acts_ok};
+use court_rules::{Act, Standing, Start, acts_ok};
 use docket_core::{ActRow, EndRow};
 use std::alloc::{AllocError, Global};
 
@@ -77,6 +80,8 @@ pub struct ActCheck {
     pub(crate) acts: Vec<Act>,
     /// The ends of those before it.
     pub(crate) dues: Vec<EndRow>,
+    /// How many of those before it stand where.
+    pub(crate) standings: Standings,
 }
 
 impl ActCheck {
@@ -102,6 +107,7 @@ impl ActCheck {
             deadline: 0,
             acts: Vec::new(alloc),
             dues: Vec::new(alloc),
+            standings: Standings::none(),
         })
     }
 
@@ -143,6 +149,7 @@ impl ActCheck {
         ensures runs { self.new.runs ≡ self.old.runs }
         ensures calendar { self.new.calendar ≡ self.old.calendar }
         ensures dues { self.new.dues ≡ self.old.dues }
+        ensures standings { self.new.standings ≡ self.old.standings }
     {
         self.acts.clear();
         self.acts.extend_from_slice(&[row.act])?;
@@ -151,23 +158,27 @@ impl ActCheck {
         Ok(())
     }
 
-    /// Adds the row of the deadline that came last, if one did and its time runs.
+    /// Adds the row of the deadline that came last, if one did and its time runs, and counts it.
     fn close(&mut self) -> Result<(), AllocError>
         requires { may_close self.old ≡ true }
         ensures dues { OnOk result (self.new.dues.items ≡ self.old.dues.items ++ last_dues self.old) }
-        ensures same { self.new ≡ record self.old { dues = self.new.dues } }
+        ensures standings { (standings : List Stood) → self.old.standings ≡ counts_of_standings standings → length standings < 2 ^ 64 - 1
+            → OnOk result (self.new.standings ≡ counts_of_standings (standings ++ last_standings self.old)) }
+        ensures same { self.new ≡ record self.old { dues = self.new.dues; standings = self.new.standings } }
     {
         if self.acts.is_empty() {
             return Ok(());
         }
+        let standing = standing_of(&self.court, &self.calendar, self.acts.as_slice());
         push_due(
             &mut self.dues,
             &self.court,
-            &self.calendar,
             self.case,
             self.deadline,
-            self.acts.as_slice(),
-        )
+            &standing,
+        )?;
+        self.standings.count(&standing);
+        Ok(())
     }
 
     /// Takes the next row, unless the table is unsound by it.
@@ -209,6 +220,25 @@ impl ActCheck {
                 self.runs.counts.as_slice(),
                 self.deadlines.counts.as_slice(),
             )
+    }
+
+    /// How many deadlines stand where. `None`: the acts are unsound.
+    pub fn standings(&self) -> Option<Standings>
+        ensures some { (rows : List OnDeadline) → HasTakenActs self.now rows → length rows < 2 ^ 64
+            → IfSome result (λ counts. counts ≡ counts_of_standings (standings_of (zone_of self.now.court) self.now.calendar rows)) }
+        ensures sound { (rows : List OnDeadline) → HasTakenActs self.now rows
+            → IsSome result ↔ AreSoundActs self.now.court (cases_of self.now.deadlines) (counts_of self.now.deadlines) rows }
+    {
+        if !self.is_sound() {
+            return None;
+        }
+        let mut counts = self.standings;
+        if self.acts.is_empty() {
+            return Some(counts);
+        }
+        let standing = standing_of(&self.court, &self.calendar, self.acts.as_slice());
+        counts.count(&standing);
+        Some(counts)
     }
 
     /// The rows of the running deadlines. `None`: the acts are unsound.

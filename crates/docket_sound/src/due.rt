@@ -3,11 +3,11 @@ ghost use Rattle.std.specs.Prelude.{◌≡◌, ◌↔◌, pos, ◌++◌, ◌∷�
 ghost use Rattle.civil_time.specs.LocalTime.{local_day, seconds};
 ghost use Rattle.court_days.specs.Court.{zone_of};
 ghost use Rattle.court_days.specs.Hours.{IsNearEntered};
-ghost use Rattle.court_rules.specs.Standings.{IsEndAfter, StandsAfter};
-ghost use Rattle.docket_core.specs.EndRows.{time_of, end_running};
+ghost use Rattle.court_rules.specs.Standings.{IsEndAfter, StandsAfter, standing};
+ghost use Rattle.docket_core.specs.EndRows.{time_of, end_row, end_running};
 ghost use Rattle.docket_core.specs.declared.end_row.EndRow.{EndRow as Stored};
 ghost use Rattle.docket_sound.specs.Acts.{are_lawful};
-ghost use Rattle.docket_sound.specs.Dues.{due_of_acts, HasTakenDues};
+ghost use Rattle.docket_sound.specs.Dues.{HasTakenDues};
 
 use court_days::{Calendar, Court, End};
 use court_rules::{Act, Standing, due};
@@ -42,29 +42,37 @@ fn time_of(court: &Court, end: End) -> EndTime
 }
 
 /// The end of a time that runs.
-fn end_running(court: &Court, standing: Standing) -> Option<EndTime>
-    requires { StandsAfter 100 standing }
-    ensures { result ≡ end_running (zone_of court.now) standing }
+fn end_running(court: &Court, standing: &Standing) -> Option<EndTime>
+    requires { StandsAfter 100 standing.now }
+    ensures { result ≡ end_running (zone_of court.now) standing.now }
 {
     match standing {
-        Standing::Running(end) => Some(time_of(court, end)),
+        Standing::Running(end) => Some(time_of(court, *end)),
         _ => None,
     }
 }
 
-/// Adds the row of a deadline with these acts, if its time runs by the calendar.
+/// Where a deadline with these acts stands by the calendar.
+pub(crate) fn standing_of(court: &Court, calendar: &Calendar, acts: &[Act]) -> Standing
+    requires lawful { are_lawful (zone_of court.now) acts.now ≡ true }
+    ensures value { result ≡ standing (zone_of court.now) calendar.now acts.now }
+    ensures near { StandsAfter 100 result }
+{
+    due(court, calendar, acts)
+}
+
+/// Adds the row of a deadline that stands so, if its time runs.
 pub(crate) fn push_due(
     dues: &mut Vec<EndRow>,
     court: &Court,
-    calendar: &Calendar,
     case: u32,
     deadline: u32,
-    acts: &[Act],
+    standing: &Standing,
 ) -> Result<(), AllocError>
-    requires lawful { are_lawful (zone_of court.now) acts.now ≡ true }
-    ensures { OnOk result (dues.new.items ≡ dues.old.items ++ due_of_acts (zone_of court.now) calendar.now case deadline acts.now) }
+    requires { StandsAfter 100 standing.now }
+    ensures { OnOk result (dues.new.items ≡ dues.old.items ++ end_row case deadline (end_running (zone_of court.now) standing.now)) }
 {
-    let Some(end) = end_running(court, due(court, calendar, acts)) else {
+    let Some(end) = end_running(court, standing) else {
         return Ok(());
     };
     dues.extend_from_slice(&[EndRow {

@@ -19,6 +19,7 @@ mod laws;
 mod numbering;
 mod party;
 mod receipt;
+mod standings;
 mod text;
 
 pub use act::ActCheck;
@@ -32,3 +33,4 @@ pub use laws::{histories_are_sound, sorted_histories_are_sound, stored_ends_are_
 pub use numbering::{Key, Numbering};
 pub use party::PartyCheck;
 pub use receipt::{ReceiptCheck, ReceiptRecord};
+pub use standings::Standings;

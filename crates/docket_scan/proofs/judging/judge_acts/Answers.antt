@@ -1,4 +1,4 @@
-use Rattle.std.proofs.Common.{◌≡◌, ◌∙◌, ap, arith, inr, length, map, refl, subst, sym}
+use Rattle.std.proofs.Common.{◌≡◌, ◌∙◌, ◌<◌, ◌^◌, ap, arith, inr, length, map, refl, subst, sym}
 use Rattle.std.proofs.lemmas.Bool.{false≢true}
 use Rattle.sqlite.specs.Held.{state}
 use Rattle.sqlite.specs.State.{HasCleanDisk}
@@ -12,14 +12,16 @@ use Rattle.docket_sound.specs.Acts.{AreSoundActs, HasTakenActs}
 use Rattle.docket_sound.specs.Counted.{cases_of, counts_of}
 use Rattle.docket_sound.specs.Deadlines.{deadline_key}
 use Rattle.docket_sound.specs.Dues.{dues_of}
+use Rattle.docket_sound.specs.Standings.{counts_of_standings, standings_of}
 use Rattle.docket_tables.specs.declared.table.Table.TheVariants as table
 use Rattle.docket_scan.specs.Judging.{Holds, before}
 use Rattle.docket_scan.specs.Passing.{SaysEnds}
 use Rattle.docket_scan.specs.Records.{AreActRows, count_in}
+use Rattle.docket_scan.specs.Scans.{OfSoMany}
 use Rattle.docket_scan.specs.Taken.{ActContext, HasTakenActTable, act_context}
 use Rattle.docket_scan.specs.declared.fault.TableFault.TheVariants.{NoMemory}
 use Rattle.docket_scan.proofs.CountLemmas.{counted}
-use Rattle.docket_scan.proofs.JudgingLemmas.{all_more, failed, handed, read_rows, sound_before}
+use Rattle.docket_scan.proofs.JudgingLemmas.{all_more, failed, handed, read_rows, so_many, sound_before}
 use Rattle.docket_scan.proofs.RecordLemmas.{all_read, none_read}
 use Rattle.docket_scan.proofs.judging.judge_acts.Goals as goal
 
@@ -27,7 +29,7 @@ pub returns-in_err-check-clause-told : goal.returns-in_err-check-clause-told
 returns-in_err-check-clause-told g c clean =
     let old = state g.S.Store c.args.conn.now in
     let mid = state g.S.Store c.judge_deadlines.new.conn in
-    handed table.Acts c.args.court c.args.next_row old mid (λ r ends. SaysEnds c.args.court r ends.items) c.from_residual-in_err-check.result NoMemory c.from_residual-in_err-check.ensures.1 tt
+    handed table.Acts c.args.court c.args.next_row old mid (SaysEnds c.args.court) c.from_residual-in_err-check.result NoMemory c.from_residual-in_err-check.ensures.1 tt
 
 pub returns-in_err-judge-clause-told : goal.returns-in_err-judge-clause-told
 returns-in_err-judge-clause-told g c clean =
@@ -46,7 +48,7 @@ returns-in_err-judge-clause-told g c clean =
     let all = all_more (Holds old c.args.court c.args.next_row prev.1) (before table.Deadlines) table.Deadlines prev.2 prev.3 in
     let fault = c.in_err-judge.field-0.0 in
     let told = rw c.in_err-judge.was at (c.judge.ensures.told clean (none_read IsActRow act_cells (HasTakenActs c.in_ok-check.check) (made.none keys prev.4.2))) in
-    handed table.Acts c.args.court c.args.next_row old new (λ r ends. SaysEnds c.args.court r ends.items) c.from_residual-in_err-judge.result fault c.from_residual-in_err-judge.ensures.1
+    handed table.Acts c.args.court c.args.next_row old new (SaysEnds c.args.court) c.from_residual-in_err-judge.result fault c.from_residual-in_err-judge.ensures.1
     (failed old mid prev.0 table.Acts c.args.court c.args.next_row new prev.1
     (AreActRows c.in_ok-check.check.court (cases_of c.in_ok-check.check.deadlines) (counts_of c.in_ok-check.check.deadlines)) fault
     (ap (λ (k : ActContext). AreActRows k.0 k.1 k.2) begun) all told)
@@ -55,7 +57,7 @@ pub returns-in_err-ends-clause-told : goal.returns-in_err-ends-clause-told
 returns-in_err-ends-clause-told g c clean =
     let old = state g.S.Store c.args.conn.now in
     let new = state g.S.Store c.judge.new.conn in
-    handed table.Acts c.args.court c.args.next_row old new (λ r ends. SaysEnds c.args.court r ends.items) c.from_residual-in_err-ends.result NoMemory c.from_residual-in_err-ends.ensures.1 tt
+    handed table.Acts c.args.court c.args.next_row old new (SaysEnds c.args.court) c.from_residual-in_err-ends.result NoMemory c.from_residual-in_err-ends.ensures.1 tt
 
 pub returns-in-Some-clause-told : goal.returns-in-Some-clause-told
 returns-in-Some-clause-told g c clean =
@@ -74,16 +76,21 @@ returns-in-Some-clause-told g c clean =
     let all = all_more (Holds old c.args.court c.args.next_row prev.1) (before table.Deadlines) table.Deadlines prev.2 prev.3 in
     let given = c.judge.ensures.context ∙ begun in
     let told = rw c.in_ok-judge.was at (c.judge.ensures.told clean (none_read IsActRow act_cells (HasTakenActs c.in_ok-check.check) (made.none keys prev.4.2))) in
-    let held = sound_before old mid prev.0 table.Acts (HasTakenActTable c.judge.new.check) told.1 in
-    let read = held.3 in
+    let held = sound_before old mid prev.0 table.Acts (OfSoMany c.in_ok-judge.field-0 (HasTakenActTable c.judge.new.check)) told.1 in
+    let read = held.3.1 in
     let exact = c.in_ok-ends.ensures.sound read.records read.taken in
     let sound = subst (λ (k : ActContext). AreSoundActs k.0 k.1 k.2 read.records) given ((rw c.in-Some.is at exact).0 refl) in
-    let ends = rw c.in-Some.is at (c.in_ok-ends.ensures.some read.records read.taken) in (
+    let ends = rw c.in-Some.is at (c.in_ok-ends.ensures.ends read.records read.taken) in
+    let few : length read.records < 2 ^ 64 = omega (arith, c.in_ok-judge.ensures.limit, so_many table.Acts old IsActRow act_cells (HasTakenActs c.judge.new.check) c.in_ok-judge.field-0 held) in
+    let stands = rw c.in-Some.is at (c.in_ok-ends.ensures.standings read.records read.taken few) in (
       unchanged_then old mid new prev.0 told.0,
       record prev.1 { acts = read.records },
       all,
-      read_rows table.Acts old IsActRow act_cells (HasTakenActs c.judge.new.check) (AreSoundActs c.args.court (length prev.1.cases) (count_in keys)) held sound,
-      ends ∙ ap (λ (k : ActContext). dues_of (zone_of k.0) k.3 read.records) given,
+      read_rows table.Acts old IsActRow act_cells (HasTakenActs c.judge.new.check) c.in_ok-judge.field-0 held (AreSoundActs c.args.court (length prev.1.cases) (count_in keys)) sound,
+      (
+        ends ∙ ap (λ (k : ActContext). dues_of (zone_of k.0) k.3 read.records) given,
+        λ i. record (prev.4.3 i) { standings = (stands ∙ ap (λ (k : ActContext). counts_of_standings (standings_of (zone_of k.0) k.3 read.records)) given) i },
+      ),
     )
 
 pub returns-in-None-clause-told : goal.returns-in-None-clause-told
@@ -103,8 +110,8 @@ returns-in-None-clause-told g c clean =
     let all = all_more (Holds old c.args.court c.args.next_row prev.1) (before table.Deadlines) table.Deadlines prev.2 prev.3 in
     let given = c.judge.ensures.context ∙ begun in
     let told = rw c.in_ok-judge.was at (c.judge.ensures.told clean (none_read IsActRow act_cells (HasTakenActs c.in_ok-check.check) (made.none keys prev.4.2))) in
-    let held = sound_before old mid prev.0 table.Acts (HasTakenActTable c.judge.new.check) told.1 in
-    let read = held.3 in
+    let held = sound_before old mid prev.0 table.Acts (OfSoMany c.in_ok-judge.field-0 (HasTakenActTable c.judge.new.check)) told.1 in
+    let read = held.3.1 in
     let exact = c.in_ok-ends.ensures.sound read.records read.taken in (
       λ opened. unchanged_then old mid new prev.0 told.0,
       prev.1,

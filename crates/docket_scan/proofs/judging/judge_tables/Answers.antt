@@ -10,8 +10,10 @@ use Rattle.docket_columns.specs.Cells.{end_cells}
 use Rattle.docket_columns.specs.Fits.{IsEndRow}
 use Rattle.docket_sound.specs.Dues.{HasTakenDues, dues_of}
 use Rattle.docket_tables.specs.declared.table.Table.TheVariants as table
+use Rattle.docket_scan.specs.Holdings.{holdings_of}
 use Rattle.docket_scan.specs.Judging.{Holds, before}
 use Rattle.docket_scan.specs.Records.{AreEndRows}
+use Rattle.docket_scan.specs.Scans.{OfSoMany}
 use Rattle.docket_scan.specs.Taken.{HasTakenEndTable, ends_expected}
 use Rattle.docket_scan.proofs.JudgingLemmas.{all_more, failed, handed, read_rows, sound_before}
 use Rattle.docket_scan.proofs.RecordLemmas.{all_read, none_read}
@@ -23,14 +25,14 @@ returns-in_err-judge-clause-told g c clean =
     let mid = state g.S.Store c.judge_receipts.new.conn in
     let new = state g.S.Store c.judge.new.conn in
     let early : HasCleanDisk mid = omega (arith, clean, c.judge.ensures.writes_nothing.clean) in
-    let prev = rw c.in_ok-expected.was at (c.judge_receipts.ensures.told early) in
+    let prev = rw c.in_ok-ends.was at (c.judge_receipts.ensures.told early) in
     let made = c.new-check.ensures in
     let wanted = dues_of (zone_of c.args.court) (calendar_of (items_of prev.1.calendar)) prev.1.acts in
-    let begun : ends_expected c.new-check.result ≡ wanted = ap (λ l. l.items) made.expected ∙ prev.4 in
+    let begun : ends_expected c.new-check.result ≡ wanted = ap (λ l. l.items) made.expected ∙ prev.4.0 in
     let all = all_more (Holds old c.args.court c.args.next_row prev.1) (before table.Receipts) table.Receipts prev.2 prev.3 in
     let fault = c.in_err-judge.field-0.0 in
     let told = rw c.in_err-judge.was at (c.judge.ensures.told clean (none_read IsEndRow end_cells (HasTakenDues c.new-check.result) made.none)) in
-    handed table.Ends c.args.court c.args.next_row old new (λ r done. Unit {0}) c.from_residual-in_err-judge.result fault c.from_residual-in_err-judge.ensures.1
+    handed table.Ends c.args.court c.args.next_row old new (λ r held. held ≡ holdings_of c.args.court r) c.from_residual-in_err-judge.result fault c.from_residual-in_err-judge.ensures.1
     (failed old mid prev.0 table.Ends c.args.court c.args.next_row new prev.1 (AreEndRows (ends_expected c.new-check.result)) fault
     (ap AreEndRows begun) all told)
 
@@ -40,22 +42,22 @@ returns-then-is_sound-clause-told g c clean =
     let mid = state g.S.Store c.judge_receipts.new.conn in
     let new = state g.S.Store c.judge.new.conn in
     let early : HasCleanDisk mid = omega (arith, clean, c.judge.ensures.writes_nothing.clean) in
-    let prev = rw c.in_ok-expected.was at (c.judge_receipts.ensures.told early) in
+    let prev = rw c.in_ok-ends.was at (c.judge_receipts.ensures.told early) in
     let made = c.new-check.ensures in
     let wanted = dues_of (zone_of c.args.court) (calendar_of (items_of prev.1.calendar)) prev.1.acts in
-    let begun : ends_expected c.new-check.result ≡ wanted = ap (λ l. l.items) made.expected ∙ prev.4 in
+    let begun : ends_expected c.new-check.result ≡ wanted = ap (λ l. l.items) made.expected ∙ prev.4.0 in
     let all = all_more (Holds old c.args.court c.args.next_row prev.1) (before table.Receipts) table.Receipts prev.2 prev.3 in
     let given = c.judge.ensures.context ∙ begun in
     let told = rw c.in_ok-judge.was at (c.judge.ensures.told clean (none_read IsEndRow end_cells (HasTakenDues c.new-check.result) made.none)) in
-    let held = sound_before old mid prev.0 table.Ends (HasTakenEndTable c.judge.new.check) told.1 in
-    let read = held.3 in
+    let held = sound_before old mid prev.0 table.Ends (OfSoMany c.in_ok-judge.field-0 (HasTakenEndTable c.judge.new.check)) told.1 in
+    let read = held.3.1 in
     let exact = c.is_sound.ensures read.records read.taken in
     let same : read.records ≡ wanted = exact.0 c.if-is_sound.true ∙ given in (
       unchanged_then old mid new prev.0 told.0,
       record prev.1 { ends = read.records },
       all,
-      read_rows table.Ends old IsEndRow end_cells (HasTakenDues c.judge.new.check) (λ records. records ≡ wanted) held same,
-      tt,
+      read_rows table.Ends old IsEndRow end_cells (HasTakenDues c.judge.new.check) c.in_ok-judge.field-0 held (λ records. records ≡ wanted) same,
+      prev.4.1,
     )
 
 pub returns-clause-told : goal.returns-clause-told
@@ -64,15 +66,15 @@ returns-clause-told g c clean =
     let mid = state g.S.Store c.judge_receipts.new.conn in
     let new = state g.S.Store c.judge.new.conn in
     let early : HasCleanDisk mid = omega (arith, clean, c.judge.ensures.writes_nothing.clean) in
-    let prev = rw c.in_ok-expected.was at (c.judge_receipts.ensures.told early) in
+    let prev = rw c.in_ok-ends.was at (c.judge_receipts.ensures.told early) in
     let made = c.new-check.ensures in
     let wanted = dues_of (zone_of c.args.court) (calendar_of (items_of prev.1.calendar)) prev.1.acts in
-    let begun : ends_expected c.new-check.result ≡ wanted = ap (λ l. l.items) made.expected ∙ prev.4 in
+    let begun : ends_expected c.new-check.result ≡ wanted = ap (λ l. l.items) made.expected ∙ prev.4.0 in
     let all = all_more (Holds old c.args.court c.args.next_row prev.1) (before table.Receipts) table.Receipts prev.2 prev.3 in
     let given = c.judge.ensures.context ∙ begun in
     let told = rw c.in_ok-judge.was at (c.judge.ensures.told clean (none_read IsEndRow end_cells (HasTakenDues c.new-check.result) made.none)) in
-    let held = sound_before old mid prev.0 table.Ends (HasTakenEndTable c.judge.new.check) told.1 in
-    let read = held.3 in
+    let held = sound_before old mid prev.0 table.Ends (OfSoMany c.in_ok-judge.field-0 (HasTakenEndTable c.judge.new.check)) told.1 in
+    let read = held.3.1 in
     let exact = c.is_sound.ensures read.records read.taken in (
       λ opened. unchanged_then old mid new prev.0 told.0,
       prev.1,

@@ -18,7 +18,7 @@ returns-then-not-may_go_on-clause-refused c rows more has refused all =
 pub returns-then-continues-clause-taken : goal.returns-then-continues-clause-taken
 returns-then-continues-clause-taken c rows has taken =
     let items : c.extend_from_slice.new.self.items ≡ c.args.self.now.acts.items ++ c.args.row.now.act ∷ [] = search rules in
-    go_taken c.args.self.now rows c.args.row.now _ has refl refl refl refl refl refl refl items (sym c.continues.ensures ∙ c.if-continues.true) (sym c.may_go_on.ensures ∙ c.if-not-may_go_on.false)
+    go_taken c.args.self.now rows c.args.row.now _ has refl refl refl refl refl refl refl refl items (sym c.continues.ensures ∙ c.if-continues.true) (sym c.may_go_on.ensures ∙ c.if-not-may_go_on.false)
 
 pub returns-then-not-may_begin-clause-refused : goal.returns-then-not-may_begin-clause-refused
 returns-then-not-may_begin-clause-refused c rows more has refused all =
@@ -44,5 +44,5 @@ returns-clause-taken c rows has taken =
     let runs = subst (λ (n : Numbering). HasNumbered n (old ++ run_key (alone c.args.row.now) ∷ [])) (sym same) keyed in
     new_taken c.args.self.now rows c.args.row.now c.begin.new.self has (begun.court ∙ ap (λ (k : ActCheck). k.court) closed.same) (begun.deadlines ∙ ap (λ (k : ActCheck). k.deadlines) closed.same)
     (ap most_of same ∙ c.take.ensures.most) (ap cases_of same ∙ c.take.ensures.cases) runs begun.case begun.deadline (begun.calendar ∙ ap (λ (k : ActCheck). k.calendar) closed.same)
-    (ap (λ (v : Vec EndRow Global). v.items) begun.dues ∙ closed.dues) begun.acts
+    (ap (λ (v : Vec EndRow Global). v.items) begun.dues ∙ closed.dues) (λ l is few. begun.standings ∙ closed.standings l is few) begun.acts
     (sym c.continues.ensures ∙ c.if-continues.false) (sym c.may_begin.ensures ∙ c.if-not-may_begin.false)

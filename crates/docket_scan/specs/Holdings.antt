@@ -1,0 +1,20 @@
+-- What the tables of a court's docket hold, counted.
+use Rattle.std.specs.Prelude.{length}
+use Rattle.court_days.specs.Court.{CourtSettings, zone_of}
+use Rattle.docket_core.specs.CalendarItems.{calendar_of}
+use Rattle.docket_core.specs.Histories.{items_of}
+use Rattle.docket_sound.specs.Standings.{counts_of_standings, standings_of}
+use Rattle.docket_scan.specs.Judging.{Rows}
+use Rattle.docket_scan.specs.declared.holdings.Holdings.{Holdings}
+
+-- deadlines are counted by where they stand, by their acts and the whole calendar
+abbrev pub holdings_of : CourtSettings → Rows → Holdings
+holdings_of court r = record {
+  calendar_rows = length r.calendar;
+  cases = length r.cases;
+  parties = length r.parties;
+  entries = length r.entries;
+  deadlines = length r.deadlines;
+  standings = counts_of_standings (standings_of (zone_of court) (calendar_of (items_of r.calendar)) r.acts);
+  receipts = length r.receipts;
+}
