@@ -142,7 +142,7 @@ seen_if true x e = refl
 seen_if false x e = absurd (cc)
 
 module _ (h : History) (a : Action) where
-  abbrev case_numbered : ℕ → CaseView
+  abbrev pub case_numbered : ℕ → CaseView
   case_numbered k = case_shown k (length (parties_of_case k (party_rows h))) (length (entries_of_case k (entry_rows h))) (deadlines k h) a
 
   case_seen : (o : Option ℕ) → case_named a ≡ o → is_some o && is_none (option_and_then (case_of_number h a) o) ≡ false → (case_named a ≡ None) ⊎ (option_and_then (case_of_number h a) o ≡ Some (case_numbered (unwrap_or o 0)))

@@ -110,6 +110,10 @@ is_case_in t k = nat_le 1 k && nat_le k (length t.cases)
 abbrev pub deadlines_in : Tables → ℕ → List DeadlineView
 deadlines_in t k = deadlines_from k 1 t.acts (deadlines_of_case k t.deadlines)
 
+-- those of the case of a number, if there is one
+abbrev pub case_deadlines : Tables → ℕ → Option (List DeadlineView)
+case_deadlines t k = if is_case_in t k then Some (deadlines_in t k) else None
+
 -- the case of a number, if there is one, as it is shown about an action
 abbrev pub case_in : Tables → Action → ℕ → Option CaseView
 case_in t a k =

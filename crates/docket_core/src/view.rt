@@ -57,35 +57,6 @@ pub struct DeadlineView {
     pub acts: Acts,
 }
 
-/// The deadlines of a case, in the order of their numbers, seen as the list of them.
-#[derive(Drop)]
-pub struct Deadlines {
-    items: Vec<DeadlineView>,
-}
-
-impl Model for Deadlines {
-    ghost use Rattle.std.specs.Prelude.{List};
-    ghost use Rattle.docket_core.specs.declared.view.DeadlineView.{DeadlineView};
-
-    ghost Value = { List DeadlineView };
-
-    ghost view = { λ a. a.items.items };
-}
-
-impl Deadlines {
-    pub fn new(items: Vec<DeadlineView>) -> Deadlines
-        ensures { result ≡ items.items }
-    {
-        Deadlines { items }
-    }
-
-    pub fn as_slice(&self) -> &[DeadlineView]
-        ensures { result.now ≡ self.now }
-    {
-        self.items.as_slice()
-    }
-}
-
 /// What the standing rows of the calendar enter, in the order of their numbers, seen as the list of
 /// it.
 #[derive(Drop)]
@@ -146,8 +117,9 @@ fn has_initial(deadlines: &[DeadlineView], party: u32) -> bool
     deadlines.iter().any(|d| d.party == party && (d.initial && !is_vacated(d.acts.as_slice())))
 }
 
-/// Whether the party that is served, or whose waiver is filed, has one.
-fn is_served_among(deadlines: &[DeadlineView], action: &Action) -> bool
+/// Whether the party that is served with a summons, or whose waiver is filed, has an initial deadline
+/// among these that is not vacated.
+pub fn is_served_among(deadlines: &[DeadlineView], action: &Action) -> bool
     ensures { result ≡ is_served_among deadlines.now action.now }
 {
     match action {
@@ -247,7 +219,7 @@ impl View {
     }
 
     /// The deadline that the command names.
-    pub(crate) fn deadline_named(&self) -> Option<&DeadlineView>
+    pub fn deadline_named(&self) -> Option<&DeadlineView>
         ensures { option_copied result ≡ deadline_shown self.now }
     {
         match &self.case {
