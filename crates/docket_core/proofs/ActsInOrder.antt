@@ -8,18 +8,18 @@ use Rattle.court_days.specs.Court.{CourtSettings, zone_of}
 use Rattle.court_rules.specs.declared.act.Act.{Act}
 use Rattle.docket_command.specs.declared.command.Action.{Action}
 use Rattle.docket_core.specs.Actions.{case_named, deadline_named, deadlines_made, acts_made}
-use Rattle.docket_core.specs.Histories.{History, first_acts_from, act_rows_on, act_rows, deadline_rows, deadlines_of_case, acts_of_deadline, first_acts, case_number, deadline_number}
+use Rattle.docket_core.specs.Histories.{History, first_acts_from, act_rows_on, act_rows, deadline_rows, deadlines, deadlines_of_case, acts_of_deadline, first_acts, case_number, deadline_number}
 use Rattle.docket_core.specs.InOrder.{in_order, gathered, is_number, made_in, acts_on}
 use Rattle.docket_core.specs.Outcomes.{IsHistory, shown_fresh}
 use Rattle.docket_core.specs.Times.{standing_shown}
-use Rattle.docket_core.specs.Views.{acts_in, deadlines_in, deadline_at, deadline_shown}
+use Rattle.docket_core.specs.Views.{acts_in, deadline_at, deadline_shown}
 use Rattle.docket_core.specs.declared.deadline.NewDeadline.{NewDeadline}
 use Rattle.docket_core.specs.declared.row.ActRow.{ActRow}
 use Rattle.docket_core.proofs.ActsKept.{acts_more}
 use Rattle.docket_core.proofs.InOrderLemmas.{deadlines_in_order, gathered-append, length-from, same_number}
 use Rattle.docket_core.proofs.Leading.{seen, none_made, none_acted, none_acted_in}
 use Rattle.docket_core.proofs.LaterActs.{IsNextOf, may_follow}
-use Rattle.docket_core.proofs.LimitsKept.{all_kept, passed, there_is, IsPassed}
+use Rattle.docket_core.proofs.LimitsKept.{all_kept, passed, there_is, named_there, IsPassed}
 
 -- the acts of deadline n, where these were made, and those the later acts on it
 record IsTold (n : ℕ) (made : List NewDeadline) (later acts : List Act) : Type 0 where
@@ -218,14 +218,13 @@ module _ (court : CourtSettings) (h : History) (is : IsHistory court h) (k n : �
       ⊎_elim
       (λ off. absurd (let clash : [] ≡ new ∷ [] = sym (none_acted_in a off) ∙ e in cc))
       (λ case_is.
-      let named : is_none (deadline_at (deadlines_in (shown_fresh h a).case) m) ≡ false =
-      subst (λ d. is_some d && is_none (option_and_then (deadline_at (deadlines_in (shown_fresh h a).case)) d) ≡ false) on_deadline p.deadline in
+      let named : is_none (deadline_at (deadlines (case_number a) h) m) ≡ false = named_there h a m on_deadline case_is p.deadline in
       let number_is : case_number a ≡ j = ap (λ d. unwrap_or d 0) of_case in
-      let place = there_is h (case_number a) m (shown_fresh h a).case _ _ case_is named in
+      let place = there_is h (case_number a) m named in
       one_act new j m of_case on_deadline (place.0, subst (λ (i : ℕ). m ≤ length (deadlines_of_case i (deadline_rows h))) number_is place.1))
       (seen h a p.case)
 
-  by_acts : (news : List Act) → acts_made a ≡ news → IsNextOf (zone_of court) (standing_shown court (shown_fresh h a) a) (acts_in (deadline_shown (shown_fresh h a) a)) news → ToldAfter k n h a (acts_made a)
+  by_acts : (news : List Act) → acts_made a ≡ news → IsNextOf (zone_of court) (standing_shown court (shown_fresh h a)) (acts_in (deadline_shown (shown_fresh h a))) news → ToldAfter k n h a (acts_made a)
   by_acts [] e follows = subst (ToldAfter k n h a) (sym e) plain
   by_acts (new ∷ []) e follows = subst (ToldAfter k n h a) (sym e) (by_names new e (case_named a) refl (deadline_named a) refl)
   by_acts (new ∷ other ∷ more) e follows = absurd follows

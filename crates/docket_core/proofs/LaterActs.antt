@@ -25,7 +25,7 @@ use Rattle.docket_core.specs.Actions.{deadline_named, deadlines_made, acts_made,
 use Rattle.docket_core.specs.Refusals.{is_running, is_suspended, is_awaiting, is_over, is_not_open, is_not_awaiting, is_full, has_too_many_acts}
 use Rattle.docket_core.specs.Times.{standing_shown}
 use Rattle.docket_core.specs.Values.{first_bad, bad_values, bad_choice, bad_days, bad_until, is_entered, is_entered_at}
-use Rattle.docket_core.specs.Views.{acts_in, deadlines_in, deadline_shown}
+use Rattle.docket_core.specs.Views.{acts_in, count_deadlines, deadline_shown}
 use Rattle.docket_core.specs.declared.view.View.{View}
 use Rattle.docket_core.proofs.ActsKept.{AreSound, more_sound}
 use Rattle.docket_core.proofs.GoodValues.{all_good, not_false, or_off, entered_instant}
@@ -105,10 +105,10 @@ ruled_begins zone Postponed notice None = refl
 ruled_begins zone Postponed notice (Some day) = refl
 
 -- there is room where the action is not refused as full
-few : (v : View) (a : Action) (made : Bool) → is_some (deadline_named a) ≡ true → (has_too_many_acts v a || made) ≡ false → length (acts_in (deadline_shown v a)) < 99
+few : (v : View) (a : Action) (made : Bool) → is_some (deadline_named a) ≡ true → (has_too_many_acts v a || made) ≡ false → length (acts_in (deadline_shown v)) < 99
 few v a made named e =
     let off = (or_off (has_too_many_acts v a) made e).0 in
-    let short : nat_le 99 (length (acts_in (deadline_shown v a))) ≡ false = ap (λ b. b && nat_le 99 (length (acts_in (deadline_shown v a)))) (sym named) ∙ off in
+    let short : nat_le 99 (length (acts_in (deadline_shown v))) ≡ false = ap (λ b. b && nat_le 99 (length (acts_in (deadline_shown v)))) (sym named) ∙ off in
     grind (arith, nat_tests, short)
 
 -- an action adds at most one act
@@ -125,47 +125,47 @@ extension_next zone s acts None None d u running short = tt
 
 -- where no refusal applies to an action, the act that it adds may come
 pub may_follow : (court : CourtSettings) (v : View) (a : Action) → first_bad (bad_values court a) ≡ None → is_not_open court v a ≡ false → is_not_awaiting court v a ≡ false → is_full v a ≡ false
-    → IsNextOf (zone_of court) (standing_shown court v a) (acts_in (deadline_shown v a)) (acts_made a)
+    → IsNextOf (zone_of court) (standing_shown court v) (acts_in (deadline_shown v)) (acts_made a)
 may_follow court v (action.RuleMotion a) good opened awaited room =
     let fields = all_good (bad_values court (action.RuleMotion a)) good in
     record {
       within = not_false (is_entered a.served) fields.0;
       begins = refl;
-      may = motion_may (standing_shown court v (action.RuleMotion a)) a.served a.kind opened;
-      room = inr (few v (action.RuleMotion a) (nat_lt 1000 (length (deadlines_in v.case) + length (deadlines_made (action.RuleMotion a)))) refl room);
+      may = motion_may (standing_shown court v) a.served a.kind opened;
+      room = inr (few v (action.RuleMotion a) (nat_lt 1000 (count_deadlines v.case + length (deadlines_made (action.RuleMotion a)))) refl room);
     }
 may_follow court v (action.Dispose a) good opened awaited room =
     let fields = all_good (bad_values court (action.Dispose a)) good in
     record {
       within = ruled_within a.outcome a.notice a.due field.Due (not_false (is_entered a.notice) fields.0) fields.1.1.0;
       begins = ruled_begins (zone_of court) a.outcome a.notice a.due;
-      may = ruling_may (standing_shown court v (action.Dispose a)) a.outcome a.notice a.due awaited;
-      room = inr (few v (action.Dispose a) (nat_lt 1000 (length (deadlines_in v.case) + length (deadlines_made (action.Dispose a)))) refl room);
+      may = ruling_may (standing_shown court v) a.outcome a.notice a.due awaited;
+      room = inr (few v (action.Dispose a) (nat_lt 1000 (count_deadlines v.case + length (deadlines_made (action.Dispose a)))) refl room);
     }
 may_follow court v (action.StatementServed a) good opened awaited room =
     let fields = all_good (bad_values court (action.StatementServed a)) good in
     record {
       within = not_false (is_entered a.served) fields.0;
       begins = refl;
-      may = resume_may (standing_shown court v (action.StatementServed a)) a.served _ awaited;
-      room = inr (few v (action.StatementServed a) (nat_lt 1000 (length (deadlines_in v.case) + length (deadlines_made (action.StatementServed a)))) refl room);
+      may = resume_may (standing_shown court v) a.served _ awaited;
+      room = inr (few v (action.StatementServed a) (nat_lt 1000 (count_deadlines v.case + length (deadlines_made (action.StatementServed a)))) refl room);
     }
 may_follow court v (action.Extend a) good opened awaited room =
     let fields = all_good (bad_values court (action.Extend a)) good in
-    extension_next (zone_of court) (standing_shown court v (action.Extend a)) _ a.days a.until fields.1.0 fields.1.1.0 opened (few v (action.Extend a) (nat_lt 1000 (length (deadlines_in v.case) + length (deadlines_made (action.Extend a)))) refl room)
+    extension_next (zone_of court) (standing_shown court v) _ a.days a.until fields.1.0 fields.1.1.0 opened (few v (action.Extend a) (nat_lt 1000 (count_deadlines v.case + length (deadlines_made (action.Extend a)))) refl room)
 may_follow court v (action.Satisfy a) good opened awaited room =
     let fields = all_good (bad_values court (action.Satisfy a)) good in
     let near = entered_instant court a.at (not_false (is_entered_at court a.at) fields.0) in
     record {
       within = done_within a.at a.way near.0 near.1;
       begins = refl;
-      may = (end_may (standing_shown court v (action.Satisfy a)) (pos a.at) a.way opened).0;
+      may = (end_may (standing_shown court v) (pos a.at) a.way opened).0;
       room = inl ((λ t e. refl), opened);
     }
 may_follow court v (action.Vacate a) good opened awaited room = record {
   within = refl;
   begins = refl;
-  may = (end_may (standing_shown court v (action.Vacate a)) (pos 0) Electronic opened).1;
+  may = (end_may (standing_shown court v) (pos 0) Electronic opened).1;
   room = inl ((λ t e. refl), opened);
 }
 may_follow court v _ good opened awaited room = tt

@@ -1,5 +1,5 @@
 -- The changes of a command lead from the tables of a history to those with the command.
-use Rattle.std.proofs.Common.{◌≡◌, ℕ, suc, zero, ◌+◌, Bool, true, false, Option, Some, None, List, [], ◌∷◌, ◌++◌, map, length, refl, sym, ap, ◌∙◌, append_assoc, append-nil, add-zero, arith, inl, inr, ⊎_elim}
+use Rattle.std.proofs.Common.{◌≡◌, ℕ, suc, zero, ◌+◌, Bool, true, false, Option, Some, None, List, [], ◌∷◌, ◌++◌, map, length, refl, sym, ap, ◌∙◌, append_assoc, append-nil, add-zero, arith, inl, inr, ⊎_elim, subst}
 use Rattle.std.specs.Prelude.{slice_get, unwrap_or, is_some, is_none, nat_le, ◌&&◌, ◌⊎◌, if◌then◌else◌, IfOk, Result, Ok, Err}
 use Rattle.std.specs.Option.{option_and_then}
 use Rattle.court_days.specs.Court.{CourtSettings}
@@ -14,7 +14,7 @@ use Rattle.docket_core.specs.Histories.{History, standing_rows, next_row, items_
 use Rattle.docket_core.specs.Outcomes.{reply_to, replied, shown, shown_fresh, case_of_number, answer_kept, answer_by, answer_of, repeated, refused, accepted}
 use Rattle.docket_core.specs.Refusals.{lacks_case, lacks_deadline, refusal_of}
 use Rattle.docket_core.specs.Tables.{Tables, rows_of, changed, all_changed, withdrawal, action_changes, with_receipt}
-use Rattle.docket_core.specs.Views.{parties_in, entries_in, deadlines_in, deadline_at, deadline_shown, acts_in}
+use Rattle.docket_core.specs.Views.{parties_in, entries_in, count_deadlines, named_in, deadline_at, deadline_shown, acts_in, case_shown}
 use Rattle.docket_core.specs.declared.deadline.NewDeadline.{NewDeadline}
 use Rattle.docket_core.specs.declared.decision.Decision.{Decision}
 use Rattle.docket_core.specs.declared.decision.Decision.TheVariants as decision
@@ -29,6 +29,7 @@ use Rattle.docket_core.specs.declared.row.PartyRow.{PartyRow}
 use Rattle.docket_core.specs.declared.row.EntryRow.{EntryRow}
 use Rattle.docket_core.specs.declared.row.DeadlineRow.{DeadlineRow}
 use Rattle.docket_core.specs.declared.row.ActRow.{ActRow}
+use Rattle.docket_core.specs.declared.view.CaseView.{CaseView}
 use Rattle.docket_core.specs.declared.view.DeadlineView.{DeadlineView}
 use Rattle.docket_core.specs.declared.view.Kept.{Kept}
 use Rattle.docket_core.specs.declared.view.Kept.TheVariants.{Fresh, Same, Other}
@@ -141,14 +142,17 @@ seen_if true x e = refl
 seen_if false x e = absurd (cc)
 
 module _ (h : History) (a : Action) where
-  v : View
-  v = shown_fresh h a
+  abbrev pub case_numbered : ℕ → CaseView
+  case_numbered k = case_shown k (length (parties_of_case k (party_rows h))) (length (entries_of_case k (entry_rows h))) (deadlines k h) a
 
-  case_seen : (o : Option ℕ) → case_named a ≡ o → is_some o && is_none (option_and_then (case_of_number h) o) ≡ false → (case_named a ≡ None) ⊎ (option_and_then (case_of_number h) o ≡ Some (record { number = unwrap_or o 0; parties = length (parties_of_case (unwrap_or o 0) (party_rows h)); entries = length (entries_of_case (unwrap_or o 0) (entry_rows h)); deadlines = deadlines (unwrap_or o 0) h }))
+  case_seen : (o : Option ℕ) → case_named a ≡ o → is_some o && is_none (option_and_then (case_of_number h a) o) ≡ false → (case_named a ≡ None) ⊎ (option_and_then (case_of_number h a) o ≡ Some (case_numbered (unwrap_or o 0)))
   case_seen None e free = inl e
   case_seen (Some k) e free = inr (seen_if (nat_le 1 k && nat_le k (length (case_rows h))) _ free)
 
-pub seen : (h : History) (a : Action) → lacks_case (shown_fresh h a) a ≡ false → (case_named a ≡ None) ⊎ ((shown_fresh h a).case ≡ Some (record { number = case_number a; parties = length (parties_of_case (case_number a) (party_rows h)); entries = length (entries_of_case (case_number a) (entry_rows h)); deadlines = deadlines (case_number a) h }))
+abbrev pub seen_of : History → Action → CaseView
+seen_of h a = case_numbered h a (case_number a)
+
+pub seen : (h : History) (a : Action) → lacks_case (shown_fresh h a) a ≡ false → (case_named a ≡ None) ⊎ ((shown_fresh h a).case ≡ Some (seen_of h a))
 seen h a free = case_seen h a (case_named a) refl free
 
 party_same : (h : History) (a : Action) → lacks_case (shown_fresh h a) a ≡ false → new_party (parties_in (shown_fresh h a).case) a ≡ new_party (length (parties_of_case (case_number a) (party_rows h))) a
@@ -158,21 +162,21 @@ entry_same : (h : History) (a : Action) → lacks_case (shown_fresh h a) a ≡ f
 entry_same h a free = ⊎_elim (λ e. no_entry a _ _ e) (λ e. ap (λ o. new_entry (entries_in o) a) e) (seen h a free)
 
 -- what is made of new deadlines, by how many there are
-counted : {R : Type 0} (make : ℕ → List NewDeadline → List R) (h : History) (a : Action) → ((m n : ℕ) → make m [] ≡ make n []) → lacks_case (shown_fresh h a) a ≡ false → make (length (deadlines_in (shown_fresh h a).case)) (deadlines_made a) ≡ make (length (deadlines_of_case (case_number a) (deadline_rows h))) (deadlines_made a)
+counted : {R : Type 0} (make : ℕ → List NewDeadline → List R) (h : History) (a : Action) → ((m n : ℕ) → make m [] ≡ make n []) → lacks_case (shown_fresh h a) a ≡ false → make (count_deadlines (shown_fresh h a).case) (deadlines_made a) ≡ make (length (deadlines_of_case (case_number a) (deadline_rows h))) (deadlines_made a)
 counted make h a none free =
     ⊎_elim
     (λ e. ap (make _) (none_made a e) ∙ none _ _ ∙ ap (make _) (sym (none_made a e)))
-    (λ e. ap (λ o. make (length (deadlines_in o)) (deadlines_made a)) e ∙ ap (λ n. make n (deadlines_made a)) (length-deadlines_from (case_number a) 1 (act_rows h) (deadlines_of_case (case_number a) (deadline_rows h))))
+    (λ e. ap (λ o. make (count_deadlines o) (deadlines_made a)) e ∙ ap (λ n. make n (deadlines_made a)) (length-deadlines_from (case_number a) 1 (act_rows h) (deadlines_of_case (case_number a) (deadline_rows h))))
     (seen h a free)
 
-pub deadline_seen : (ds : List DeadlineView) (k n : ℕ) (h : History) → ds ≡ deadlines k h → is_none (deadline_at ds n) ≡ false → acts_in (deadline_at ds n) ≡ acts_of_deadline k n (act_rows h)
-deadline_seen ds k zero h e free = absurd (cc)
-deadline_seen ds k (suc n) h e free = found (slice_get ds n) refl free
+pub deadline_seen : (k n : ℕ) (h : History) → is_none (deadline_at (deadlines k h) n) ≡ false → acts_in (deadline_at (deadlines k h) n) ≡ acts_of_deadline k n (act_rows h)
+deadline_seen k zero h free = absurd (cc)
+deadline_seen k (suc n) h free = found (slice_get (deadlines k h) n) refl free
   where
-    found : (o : Option DeadlineView) → slice_get ds n ≡ o → is_none o ≡ false → acts_in o ≡ acts_of_deadline k (suc n) (act_rows h)
+    found : (o : Option DeadlineView) → slice_get (deadlines k h) n ≡ o → is_none o ≡ false → acts_in o ≡ acts_of_deadline k (suc n) (act_rows h)
     found None is no_none = absurd (cc)
     found (Some d) is no_none =
-        acts_at k 1 (act_rows h) (deadlines_of_case k (deadline_rows h)) n d (ap (λ xs. slice_get xs n) (sym e) ∙ is)
+        acts_at k 1 (act_rows h) (deadlines_of_case k (deadline_rows h)) n d is
         ∙ (let same : 1 + n ≡ suc n = omega arith in ap (λ m. acts_of_deadline k m (act_rows h)) same)
 
 -- an action that names no case names no deadline
@@ -185,15 +189,18 @@ none_acted_in (Satisfy a) e = absurd (cc)
 none_acted_in (Vacate a) e = absurd (cc)
 none_acted_in _ e = refl
 
-later_from : (h : History) (a : Action) (o : Option ℕ) → deadline_named a ≡ o → (ds : List DeadlineView) → ds ≡ deadlines (case_number a) h → is_some o && is_none (option_and_then (deadline_at ds) o) ≡ false → later_acts (length (acts_in (option_and_then (deadline_at ds) o))) a ≡ later_acts (length (acts_of_deadline (case_number a) (unwrap_or o 0) (act_rows h))) a
-later_from h a None is ds e free = ap (act_rows_on _ _ _) (none_acted a is) ∙ sym (ap (act_rows_on _ _ _) (none_acted a is))
-later_from h a (Some n) is ds e free = ap (λ acts. later_acts (length acts) a) (deadline_seen ds (case_number a) n h e free)
+later_from : (h : History) (a : Action) (o : Option ℕ) → deadline_named a ≡ o → is_some o && is_none (option_and_then (deadline_at (deadlines (case_number a) h)) o) ≡ false
+    → later_acts (length (acts_in (option_and_then (deadline_at (deadlines (case_number a) h)) o))) a ≡ later_acts (length (acts_of_deadline (case_number a) (unwrap_or o 0) (act_rows h))) a
+later_from h a None is free = ap (act_rows_on _ _ _) (none_acted a is) ∙ sym (ap (act_rows_on _ _ _) (none_acted a is))
+later_from h a (Some n) is free = ap (λ acts. later_acts (length acts) a) (deadline_seen (case_number a) n h free)
 
-later_same : (h : History) (a : Action) → lacks_case (shown_fresh h a) a ≡ false → lacks_deadline (shown_fresh h a) a ≡ false → later_acts (length (acts_in (deadline_shown (shown_fresh h a) a))) a ≡ later_acts (length (acts_of_deadline (case_number a) (deadline_number a) (act_rows h))) a
+later_same : (h : History) (a : Action) → lacks_case (shown_fresh h a) a ≡ false → lacks_deadline (shown_fresh h a) a ≡ false → later_acts (length (acts_in (deadline_shown (shown_fresh h a)))) a ≡ later_acts (length (acts_of_deadline (case_number a) (deadline_number a) (act_rows h))) a
 later_same h a free there =
     ⊎_elim
     (λ e. ap (act_rows_on _ _ _) (none_acted_in a e) ∙ sym (ap (act_rows_on _ _ _) (none_acted_in a e)))
-    (λ e. later_from h a (deadline_named a) refl (deadlines_in (shown_fresh h a).case) (ap deadlines_in e) there)
+    (λ e.
+    ap (λ c. later_acts (length (acts_in (named_in c))) a) e
+    ∙ later_from h a (deadline_named a) refl (subst (λ c. is_some (deadline_named a) && is_none (named_in c) ≡ false) e there))
     (seen h a free)
 
 -- the changes of a command lead to the tables with it

@@ -1,6 +1,6 @@
 -- What every history keeps to, by an induction on it.
 use Rattle.std.proofs.Common.{◌≡◌, ◌≢◌, ℕ, zero, suc, ◌+◌, ◌≤◌, ◌<◌, Bool, true, false, ◌&&◌, cond, Option, Some, None, List, [], ◌∷◌, ◌++◌, length, not, refl, sym, ap, subst, ◌∙◌, arith, length-append, append-nil, append_assoc, ⊎_elim}
-use Rattle.std.specs.Prelude.{filter, ◌==◌, nat_lt, nat_le, slice_get, is_some, is_none, unwrap_or, if◌then◌else◌}
+use Rattle.std.specs.Prelude.{filter, ◌==◌, nat_lt, nat_le, slice_get, is_some, is_none, unwrap_or, if◌then◌else◌, IfSome}
 use Rattle.std.specs.List.{All}
 use Rattle.std.specs.Option.{option_and_then}
 use Rattle.std.proofs.lemmas.Bool.Decides.{nat_tests}
@@ -24,7 +24,7 @@ use Rattle.docket_core.specs.Outcomes.{IsHistory, outcome, accepted, shown, show
 use Rattle.docket_core.specs.Refusals.{is_full, is_not_open, is_not_awaiting, is_calendar_full, lacks_case, lacks_deadline, count_added}
 use Rattle.docket_core.specs.Values.{first_bad, bad_values}
 use Rattle.docket_core.specs.Times.{standing_shown}
-use Rattle.docket_core.specs.Views.{parties_in, entries_in, deadlines_in, deadline_at, deadline_shown, acts_in}
+use Rattle.docket_core.specs.Views.{parties_in, entries_in, count_deadlines, named_in, deadline_at, deadline_shown, acts_in}
 use Rattle.docket_core.specs.declared.deadline.NewDeadline.{NewDeadline}
 use Rattle.docket_core.specs.declared.item.CalendarItem.{CalendarItem}
 use Rattle.docket_core.specs.declared.row.ActRow.{ActRow}
@@ -39,11 +39,11 @@ use Rattle.docket_core.proofs.ActsKept.{AreSound, IsKept, with_firsts, with_late
 use Rattle.docket_core.proofs.FirstActs.{made_first}
 use Rattle.docket_core.proofs.LaterActs.{IsNext, IsNextOf, next_sound, may_follow}
 use Rattle.docket_core.proofs.GoodValues.{or_off, asked_entered, fresh_entered, numbered_entered}
-use Rattle.docket_core.proofs.Leading.{is_accepted, seen, none_made, none_acted, none_acted_in, deadline_seen, length-deadlines_from, added_same, length-numbered}
-use Rattle.docket_core.proofs.Passed.{is_free, rows_fit, deadlines_fit, not_above, not_at}
+use Rattle.docket_core.proofs.Leading.{is_accepted, seen, seen_of, none_made, none_acted, none_acted_in, deadline_seen, length-deadlines_from, added_same, length-numbered}
+use Rattle.docket_core.proofs.Passed.{is_free, rows_fit, deadlines_fit, not_above, not_at, one_of_all}
 
 -- the deadline that is named is there, with these acts
-module _ (h : History) (k n : ℕ) (shown_case : Option CaseView) (parties entries : ℕ) (is : shown_case ≡ Some (record { number = k; parties = parties; entries = entries; deadlines = deadlines k h })) (there : is_none (deadline_at (deadlines_in shown_case) n) ≡ false) where
+module _ (h : History) (k n : ℕ) (there : is_none (deadline_at (deadlines k h) n) ≡ false) where
   found : (m : ℕ) → n ≡ m → is_none (deadline_at (deadlines k h) m) ≡ false → (1 ≤ n) × (n ≤ length (deadlines_of_case k (deadline_rows h)))
   found zero e free = absurd (cc)
   found (suc m) e free = at (slice_get (deadlines k h) m) refl free
@@ -56,10 +56,17 @@ module _ (h : History) (k n : ℕ) (shown_case : Option CaseView) (parties entri
           (omega (arith, e), omega (arith, e, within, count))
 
   pub there_is : (1 ≤ n) × (n ≤ length (deadlines_of_case k (deadline_rows h)))
-  there_is = found n refl (subst (λ (c : Option CaseView). is_none (deadline_at (deadlines_in c) n) ≡ false) is there)
+  there_is = found n refl there
 
-  pub acts_are : acts_in (deadline_at (deadlines_in shown_case) n) ≡ acts_of_deadline k n (act_rows h)
-  acts_are = deadline_seen (deadlines_in shown_case) k n h (ap deadlines_in is) there
+  pub acts_are : acts_in (deadline_at (deadlines k h) n) ≡ acts_of_deadline k n (act_rows h)
+  acts_are = deadline_seen k n h there
+
+-- the deadline that an action names is one of its case
+pub named_there : (h : History) (a : Action) (m : ℕ) → deadline_named a ≡ Some m → (shown_fresh h a).case ≡ Some (seen_of h a) → lacks_deadline (shown_fresh h a) a ≡ false
+    → is_none (deadline_at (deadlines (case_number a) h) m) ≡ false
+named_there h a m named case_is there =
+    subst (λ o. is_some o && is_none (option_and_then (deadline_at (deadlines (case_number a) h)) o) ≡ false) named
+    (subst (λ c. is_some (deadline_named a) && is_none (named_in c) ≡ false) case_is there)
 
 -- every deadline of a history is kept
 abbrev AllKept : CourtSettings → History → Type 0
@@ -93,29 +100,28 @@ firsts_kept court h a was good j m =
 
 -- and with the act on the deadline that it names
 module _ (court : CourtSettings) (h : History) (a : Action) (was : AllKept court h) (good : first_bad (bad_values court a) ≡ None) (m : ℕ) (named : deadline_named a ≡ Some m)
-    (case_is : (shown_fresh h a).case ≡ Some (record { number = case_number a; parties = length (parties_of_case (case_number a) (party_rows h)); entries = length (entries_of_case (case_number a) (entry_rows h)); deadlines = deadlines (case_number a) h }))
+    (case_is : (shown_fresh h a).case ≡ Some (seen_of h a))
     (there : lacks_deadline (shown_fresh h a) a ≡ false) (new : Act)
-    (follows : IsNext (zone_of court) (standing_shown court (shown_fresh h a) a) (acts_in (deadline_shown (shown_fresh h a) a)) new) where
+    (follows : IsNext (zone_of court) (standing_shown court (shown_fresh h a)) (acts_in (deadline_shown (shown_fresh h a))) new) where
   abbrev zone : ZoneRules
   zone = zone_of court
 
   abbrev of_case : ℕ
   of_case = case_number a
 
-  abbrev shown_case : Option CaseView
-  shown_case = (shown_fresh h a).case
-
-  at_named : is_none (deadline_at (deadlines_in shown_case) m) ≡ false
-  at_named = subst (λ o. is_some o && is_none (option_and_then (deadline_at (deadlines_in shown_case)) o) ≡ false) named there
+  at_named : is_none (deadline_at (deadlines of_case h) m) ≡ false
+  at_named = named_there h a m named case_is there
 
   number_is : deadline_number a ≡ m
   number_is = ap (λ o. unwrap_or o 0) named
 
   place : (1 ≤ m) × (m ≤ length (deadlines_of_case of_case (deadline_rows h)))
-  place = there_is h of_case m shown_case _ _ case_is at_named
+  place = there_is h of_case m at_named
 
-  acts_shown : acts_in (deadline_shown (shown_fresh h a) a) ≡ acts_of_deadline of_case m (act_rows h)
-  acts_shown = ap (λ o. acts_in (option_and_then (deadline_at (deadlines_in shown_case)) o)) named ∙ acts_are h of_case m shown_case _ _ case_is at_named
+  acts_shown : acts_in (deadline_shown (shown_fresh h a)) ≡ acts_of_deadline of_case m (act_rows h)
+  acts_shown =
+      ap (λ c. acts_in (named_in c)) case_is ∙ ap (λ o. acts_in (option_and_then (deadline_at (deadlines of_case h)) o)) named
+      ∙ acts_are h of_case m at_named
 
   longer : AreSound zone (acts_of_deadline of_case m (act_rows h) ++ new ∷ [])
   longer =
@@ -147,7 +153,7 @@ KeptWith court h a k n news =
 acts_step : (court : CourtSettings) (h : History) (a : Action) → AllKept court h → IsPassed court h a → (k n : ℕ) → KeptAfter court h a k n
 acts_step court h a was is k n = by_acts (acts_made a) refl (may_follow court (shown_fresh h a) a is.values is.opened is.awaited is.room)
   where
-    by_named : (new : Act) → acts_made a ≡ new ∷ [] → IsNext (zone_of court) (standing_shown court (shown_fresh h a) a) (acts_in (deadline_shown (shown_fresh h a) a)) new → (o : Option ℕ) → deadline_named a ≡ o → KeptWith court h a k n (new ∷ [])
+    by_named : (new : Act) → acts_made a ≡ new ∷ [] → IsNext (zone_of court) (standing_shown court (shown_fresh h a)) (acts_in (deadline_shown (shown_fresh h a))) new → (o : Option ℕ) → deadline_named a ≡ o → KeptWith court h a k n (new ∷ [])
     by_named new e follows None named = absurd (let clash : [] ≡ new ∷ [] = sym (none_acted a named) ∙ e in cc)
     by_named new e follows (Some m) named =
         ⊎_elim
@@ -155,7 +161,7 @@ acts_step court h a was is k n = by_acts (acts_made a) refl (may_follow court (s
         (λ case_is. later_kept court h a was is.values m named case_is is.deadline new follows _ k n)
         (seen h a is.case)
 
-    by_acts : (news : List Act) → acts_made a ≡ news → IsNextOf (zone_of court) (standing_shown court (shown_fresh h a) a) (acts_in (deadline_shown (shown_fresh h a) a)) news → KeptAfter court h a k n
+    by_acts : (news : List Act) → acts_made a ≡ news → IsNextOf (zone_of court) (standing_shown court (shown_fresh h a)) (acts_in (deadline_shown (shown_fresh h a))) news → KeptAfter court h a k n
     by_acts [] e follows =
         subst (KeptWith court h a k n) (sym e)
         (subst (λ (rows : List ActRow). IsKept (zone_of court) (deadline_rows h ++ new_deadlines (length (deadlines_of_case (case_number a) (deadline_rows h))) a) (act_rows h ++ rows) k n)
@@ -235,7 +241,7 @@ deadlines_step court h a k is few = by_made (deadlines_made a) refl
         (λ off. absurd (some (none_made a off)))
         (λ found.
         let all = length-deadlines_from (case_number a) 1 (act_rows h) (deadlines_of_case (case_number a) (deadline_rows h)) in
-        let shown_count : length (deadlines_in (shown_fresh h a).case) ≡ length (deadlines_of_case (case_number a) (deadline_rows h)) = ap (λ o. length (deadlines_in o)) found ∙ all in
+        let shown_count : count_deadlines (shown_fresh h a).case ≡ length (deadlines_of_case (case_number a) (deadline_rows h)) = ap count_deadlines found ∙ all in
         let fit = deadlines_fit (shown_fresh h a) a is.room some in
         let made_count : length (deadlines_made a) ≡ length made = ap length e in
         let same_case : case_number a ≡ k = grind (arith, nat_tests) in
@@ -326,18 +332,27 @@ module _ (court : CourtSettings) (h : History) (within : IsWithinLimits court h)
   pub lawful_deadlines : (k : ℕ) → All IsLawful (deadlines k h)
   lawful_deadlines k = all_from k 1 (deadlines_of_case k (deadline_rows h)) (λ i lt. within.acts k (1 + i) (omega arith) (omega (arith, lt)))
 
-  lawful_if : (b : Bool) (case : CaseView) → All IsLawful case.deadlines → All IsLawful (deadlines_in (if b then Some case else None))
-  lawful_if true case all = all
-  lawful_if false case all = All-nil IsLawful
+  lawful_got : (ds : List DeadlineView) (n : ℕ) (o : Option DeadlineView) → slice_get ds n ≡ o → All IsLawful ds → IfSome o IsLawful
+  lawful_got ds n None e all = tt
+  lawful_got ds n (Some d) e all = one_of_all IsLawful ds n d all e
 
-  lawful_in : (o : Option ℕ) → All IsLawful (deadlines_in (option_and_then (case_of_number h) o))
-  lawful_in None = All-nil IsLawful
-  lawful_in (Some k) = lawful_if (nat_le 1 k && nat_le k (length (case_rows h))) _ (lawful_deadlines k)
+  lawful_of : (ds : List DeadlineView) (o : Option ℕ) → All IsLawful ds → IfSome (option_and_then (deadline_at ds) o) IsLawful
+  lawful_of ds None all = tt
+  lawful_of ds (Some zero) all = tt
+  lawful_of ds (Some (suc n)) all = lawful_got ds n (slice_get ds n) refl all
+
+  lawful_if : (b : Bool) (case : CaseView) → IfSome case.named IsLawful → IfSome (named_in (if b then Some case else None)) IsLawful
+  lawful_if true case lawful = lawful
+  lawful_if false case lawful = tt
+
+  lawful_in : (a : Action) (o : Option ℕ) → IfSome (named_in (option_and_then (case_of_number h a) o)) IsLawful
+  lawful_in a None = tt
+  lawful_in a (Some k) = lawful_if (nat_le 1 k && nat_le k (length (case_rows h))) _ (lawful_of (deadlines k h) (deadline_named a) (lawful_deadlines k))
 
   pub sound_view : (c : Command) → IsSoundView court (shown court h c)
   sound_view c = record {
     items = items_shown (asks_calendar c.action) (items_of (standing_rows h)) within.items;
     rows = count_shown (asks_calendar c.action) (items_of (standing_rows h)) (omega (arith, length-map (standing_rows h) (λ (row : CalendarRow). row.item), within.rows));
     next_row = within.next_row;
-    acts = lawful_in (case_named c.action);
+    acts = lawful_in c.action (case_named c.action);
   }

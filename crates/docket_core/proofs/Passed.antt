@@ -1,6 +1,6 @@
 -- Where no refusal applies, no refusal's sentence is true; and what follows from it.
 use Rattle.std.proofs.Common.{◌≡◌, ◌≢◌, ℕ, zero, suc, ◌+◌, ◌≤◌, ◌<◌, Bool, true, false, ◌||◌, Option, Some, None, List, [], ◌∷◌, length, refl, subst, arith}
-use Rattle.std.specs.Prelude.{nat_lt, nat_le, slice_get, ◌&&◌}
+use Rattle.std.specs.Prelude.{nat_lt, nat_le, slice_get, ◌&&◌, IfSome}
 use Rattle.std.specs.List.{All, list_all}
 use Rattle.std.specs.Option.{option_and_then}
 use Rattle.std.proofs.lemmas.Bool.Decides.{nat_tests}
@@ -19,7 +19,7 @@ use Rattle.docket_core.specs.Actions.{deadline_named, deadlines_made}
 use Rattle.docket_core.specs.Decisions.{IsSoundView}
 use Rattle.docket_core.specs.Refusals.{on, on_value, first_some, refusals, refusal_of, lacks_case, lacks_deadline, is_there, is_not_open, is_not_awaiting, is_full, has_too_many_acts, count_added}
 use Rattle.docket_core.specs.Values.{first_bad, bad_values}
-use Rattle.docket_core.specs.Views.{deadline_at, deadlines_in, deadline_shown, acts_in}
+use Rattle.docket_core.specs.Views.{count_deadlines, deadline_shown, acts_in}
 use Rattle.docket_core.specs.declared.view.DeadlineView.{DeadlineView}
 use Rattle.docket_core.specs.declared.view.View.{View}
 
@@ -82,7 +82,7 @@ rows_fit v (action.ImportCalendar a) e was = not_above _ _ (or_right_off _ _ e)
 rows_fit v _ e was = omega arith
 
 -- so do those of new deadlines
-pub deadlines_fit : (v : View) (a : Action) → is_full v a ≡ false → deadlines_made a ≢ [] → length (deadlines_in v.case) + length (deadlines_made a) ≤ 1000
+pub deadlines_fit : (v : View) (a : Action) → is_full v a ≡ false → deadlines_made a ≢ [] → count_deadlines v.case + length (deadlines_made a) ≤ 1000
 deadlines_fit v (action.DeclareDay a) e some = absurd (some refl)
 deadlines_fit v (action.CloseDay a) e some = absurd (some refl)
 deadlines_fit v (action.CloseSpan a) e some = absurd (some refl)
@@ -119,17 +119,9 @@ few_acts acts e =
 
 -- the acts of a deadline that is shown
 module _ (court : CourtSettings) (v : View) (sound : IsSoundView court v) where
-  lawful_at : (n : ℕ) (d : DeadlineView) → deadline_at (deadlines_in v.case) n ≡ Some d → AreActs (zone_of court) d.acts
-  lawful_at zero d e = absurd (cc)
-  lawful_at (suc n) d e = one_of_all (λ (x : DeadlineView). AreActs (zone_of court) x.acts) (deadlines_in v.case) n d sound.acts e
+  few_in : (o : Option DeadlineView) → IfSome o (λ d. AreActs (zone_of court) d.acts) → length (acts_in o) ≤ 100
+  few_in None lawful = omega arith
+  few_in (Some d) lawful = few_acts d.acts lawful.0
 
-  few_in : (n : ℕ) (o : Option DeadlineView) → deadline_at (deadlines_in v.case) n ≡ o → length (acts_in o) ≤ 100
-  few_in n None e = omega arith
-  few_in n (Some d) e = few_acts d.acts (lawful_at n d e).0
-
-  few_by : (o : Option ℕ) → length (acts_in (option_and_then (deadline_at (deadlines_in v.case)) o)) ≤ 100
-  few_by None = omega arith
-  few_by (Some n) = few_in n (deadline_at (deadlines_in v.case) n) refl
-
-  pub few_shown : (a : Action) → length (acts_in (deadline_shown v a)) ≤ 100
-  few_shown a = few_by (deadline_named a)
+  pub few_shown : length (acts_in (deadline_shown v)) ≤ 100
+  few_shown = few_in (deadline_shown v) sound.acts

@@ -1,5 +1,5 @@
 -- What `decide` says.
-use Rattle.std.specs.Prelude.{◌≡◌, ◌≤◌, ◌^◌, List, ◌∷◌, length, Result, Ok, Err}
+use Rattle.std.specs.Prelude.{◌≡◌, ◌≤◌, ◌^◌, List, ◌∷◌, length, IfSome, Result, Ok, Err}
 use Rattle.std.specs.List.{All}
 use Rattle.court_days.specs.Court.{CourtSettings, zone_of}
 use Rattle.court_rules.specs.Standings.{AreActs, StandsAfter}
@@ -13,7 +13,7 @@ use Rattle.docket_core.specs.Actions.{deadlines_made}
 use Rattle.docket_core.specs.Refusals.{count_added}
 use Rattle.docket_core.specs.Times.{standing_shown}
 use Rattle.docket_core.specs.declared.refusals.Matter.{Matter}
-use Rattle.docket_core.specs.Views.{deadlines_in}
+use Rattle.docket_core.specs.Views.{deadline_shown}
 use Rattle.docket_core.specs.declared.row.Change.{Change}
 use Rattle.docket_core.specs.declared.decision.Decision.{Decision}
 use Rattle.docket_core.specs.declared.decision.Decision.TheVariants as decision
@@ -23,17 +23,17 @@ use Rattle.docket_core.specs.declared.view.DeadlineView.{DeadlineView}
 use Rattle.docket_core.specs.declared.view.View.{View}
 
 -- a view that a history can show: its calendar holds what a court may enter, at most 4,000 rows, rows have numbers up to
--- 4,294,967,295, and the acts of each deadline are lawful
+-- 4,294,967,295, and the acts of the deadline that the command names are lawful
 pub record IsSoundView (court : CourtSettings) (v : View) : Type 0 where
   pub items : All IsEnteredItem v.calendar
   pub rows : length v.calendar ≤ 4000
   pub next_row : v.next_row ≤ 2 ^ 32
-  pub acts : All (λ (d : DeadlineView). AreActs (zone_of court) d.acts) (deadlines_in v.case)
+  pub acts : IfSome (deadline_shown v) (λ (d : DeadlineView). AreActs (zone_of court) d.acts)
 
 -- what an action is judged by beside its view
 pub record IsMatter (matter : Matter) (v : View) (a : Action) : Type 0 where
   pub calendar : matter.calendar.now ≡ calendar_of v.calendar
-  pub standing : matter.standing ≡ standing_shown matter.court.now v a
+  pub standing : matter.standing ≡ standing_shown matter.court.now v
   pub near : StandsAfter 100 matter.standing
   pub added : matter.added ≡ count_added v a
   pub made : matter.made ≡ length (deadlines_made a)

@@ -20,7 +20,6 @@ use Rattle.docket_core.specs.declared.end_row.EndRow.{EndRow}
 use Rattle.docket_core.specs.declared.end_row.EndTime.{EndTime}
 use Rattle.docket_core.specs.declared.row.ActRow.{ActRow}
 use Rattle.docket_core.specs.declared.row.DeadlineRow.{DeadlineRow}
-use Rattle.docket_core.specs.declared.view.CaseView.{CaseView}
 use Rattle.docket_core.specs.declared.view.DeadlineView.{DeadlineView}
 
 -- what stands in place of an instant where the time runs to the end of its last day
@@ -66,8 +65,8 @@ abbrev pub end_rows_from : ℕ → ℕ → List (Option EndTime) → List EndRow
 end_rows_from k n [] = []
 end_rows_from k n (end ∷ ends) = end_row k n end ++ end_rows_from k (n + 1) ends
 
-abbrev pub end_rows_of : ZoneRules → Entered → CaseView → List EndRow
-end_rows_of zone entered case = end_rows_from case.number 1 (ends_running zone entered case.deadlines)
+abbrev pub end_rows_of : ZoneRules → Entered → ℕ → List DeadlineView → List EndRow
+end_rows_of zone entered k deadlines = end_rows_from k 1 (ends_running zone entered deadlines)
 
 -- changes of these rows
 

@@ -14,7 +14,7 @@ use Rattle.docket_core.specs.Actions.{case_named, asks_calendar}
 use Rattle.docket_core.specs.Histories.{History, standing_rows, items_of, next_row, case_rows, party_rows, parties_of_case, entry_rows, entries_of_case, deadlines}
 use Rattle.docket_core.specs.Refusals.{refusal_of, count_added, wants_statement}
 use Rattle.docket_core.specs.Times.{standing_shown, is_in_time}
-use Rattle.docket_core.specs.Views.{parties_in, entries_in, deadlines_in}
+use Rattle.docket_core.specs.Views.{parties_in, entries_in, count_deadlines, case_shown}
 use Rattle.docket_core.specs.declared.row.CalendarRow.{CalendarRow}
 use Rattle.docket_core.specs.declared.row.CaseRow.{CaseRow}
 use Rattle.docket_core.specs.declared.row.Receipt.{Receipt}
@@ -33,16 +33,11 @@ abbrev pub is_row_standing : Action → List CalendarRow → Bool
 is_row_standing (WithdrawCalendar a) rows = list_any (λ row. row.number == a.row) rows
 is_row_standing _ rows = false
 
--- the case of a number, if there is one
-abbrev pub case_of_number : History → ℕ → Option CaseView
-case_of_number h k =
+-- the case of a number, if there is one, as it is shown about an action
+abbrev pub case_of_number : History → Action → ℕ → Option CaseView
+case_of_number h a k =
     if nat_le 1 k && nat_le k (length (case_rows h))
-    then Some (record {
-      number = k;
-      parties = length (parties_of_case k (party_rows h));
-      entries = length (entries_of_case k (entry_rows h));
-      deadlines = deadlines k h;
-    })
+    then Some (case_shown k (length (parties_of_case k (party_rows h))) (length (entries_of_case k (entry_rows h))) (deadlines k h) a)
     else None
 
 -- what a history shows about an action, under a key that is fresh
@@ -51,7 +46,7 @@ shown_fresh h a = record {
   kept = Fresh;
   cases = length (case_rows h);
   label_taken = is_label_taken a (case_rows h);
-  case = option_and_then (case_of_number h) (case_named a);
+  case = option_and_then (case_of_number h a) (case_named a);
   row_stands = is_row_standing a (standing_rows h);
   calendar = if asks_calendar a then items_of (standing_rows h) else [];
   next_row = next_row h;
@@ -68,13 +63,13 @@ reply_to court v (OpenCase a) = v.cases + 1
 reply_to court v (AddParty a) = parties_in v.case + 1
 reply_to court v (FileEntry a) = entries_in v.case + 1
 reply_to court v (RuleMotion a) = a.deadline
-reply_to court v (Dispose a) = if wants_statement a.outcome then length (deadlines_in v.case) + 1 else a.deadline
+reply_to court v (Dispose a) = if wants_statement a.outcome then count_deadlines v.case + 1 else a.deadline
 reply_to court v (StatementServed a) = a.deadline
 reply_to court v (Extend a) = a.deadline
-reply_to court v (Satisfy a) = if is_in_time court (standing_shown court v (Satisfy a)) a.at a.way then 1 else 0
+reply_to court v (Satisfy a) = if is_in_time court (standing_shown court v) a.at a.way then 1 else 0
 reply_to court v (Vacate a) = a.deadline
 -- every other command makes deadlines: the reply is the number of the first
-reply_to court v _ = length (deadlines_in v.case) + 1
+reply_to court v _ = count_deadlines v.case + 1
 
 abbrev pub replied : ℕ → Reply
 replied n = record { number = n }

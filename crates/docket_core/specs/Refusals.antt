@@ -29,7 +29,7 @@ use Rattle.docket_core.specs.CalendarItems.{stands_among, calendar_of}
 use Rattle.docket_core.specs.Histories.{rows_added}
 use Rattle.docket_core.specs.Times.{standing_shown, is_in_time}
 use Rattle.docket_core.specs.Values.{is_word, first_bad, bad_values}
-use Rattle.docket_core.specs.Views.{parties_in, entries_in, deadlines_in, deadline_shown, acts_in}
+use Rattle.docket_core.specs.Views.{parties_in, entries_in, count_deadlines, deadline_shown, acts_in, last_act, served_in}
 use Rattle.docket_core.specs.declared.item.CalendarItem.TheVariants.{Day, Span}
 use Rattle.docket_core.specs.declared.view.DeadlineView.{DeadlineView}
 use Rattle.docket_core.specs.declared.view.Kept.{Kept}
@@ -55,7 +55,7 @@ lacks_party v a = list_any (is_no_party v) (parties_named a)
 
 -- the deadline that is named is none of the case
 abbrev pub lacks_deadline : View → Action → Bool
-lacks_deadline v a = is_some (deadline_named a) && is_none (deadline_shown v a)
+lacks_deadline v a = is_some (deadline_named a) && is_none (deadline_shown v)
 
 -- the calendar row that is to be withdrawn does not stand
 abbrev pub lacks_row : View → Action → Bool
@@ -93,16 +93,16 @@ is_over _ = false
 
 -- a motion or an extension is about a time that runs; only what is over can't be done or vacated
 abbrev pub is_not_open : CourtSettings → View → Action → Bool
-is_not_open court v (RuleMotion a) = not (is_running (standing_shown court v (RuleMotion a)))
-is_not_open court v (Extend a) = not (is_running (standing_shown court v (Extend a)))
-is_not_open court v (Satisfy a) = is_over (standing_shown court v (Satisfy a))
-is_not_open court v (Vacate a) = is_over (standing_shown court v (Vacate a))
+is_not_open court v (RuleMotion a) = not (is_running (standing_shown court v))
+is_not_open court v (Extend a) = not (is_running (standing_shown court v))
+is_not_open court v (Satisfy a) = is_over (standing_shown court v)
+is_not_open court v (Vacate a) = is_over (standing_shown court v)
 is_not_open court v _ = false
 
 -- the court rules on a motion that suspends the time; a statement is served on who awaits it
 abbrev pub is_not_awaiting : CourtSettings → View → Action → Bool
-is_not_awaiting court v (Dispose a) = not (is_suspended (standing_shown court v (Dispose a)))
-is_not_awaiting court v (StatementServed a) = not (is_awaiting (standing_shown court v (StatementServed a)))
+is_not_awaiting court v (Dispose a) = not (is_suspended (standing_shown court v))
+is_not_awaiting court v (StatementServed a) = not (is_awaiting (standing_shown court v))
 is_not_awaiting court v _ = false
 
 abbrev pub rule_shown : Option DeadlineView → Rule
@@ -111,11 +111,8 @@ rule_shown (Some deadline) = deadline.rule
 
 -- a rule 12 motion suspends the time of a responsive pleading alone (Fed. R. Civ. P. 12(a)(4))
 abbrev pub is_not_responsive : View → Action → Bool
-is_not_responsive v (RuleMotion a) = not (is_responsive (rule_shown (deadline_shown v (RuleMotion a))))
+is_not_responsive v (RuleMotion a) = not (is_responsive (rule_shown (deadline_shown v)))
 is_not_responsive v _ = false
-
-abbrev pub last_act : List Act → Option Act
-last_act acts = slice_get acts (length acts - 1)
 
 -- the last act is a motion for a more definite statement
 abbrev pub is_by_e : Option Act → Bool
@@ -130,7 +127,7 @@ wants_statement _ = false
 
 abbrev pub is_wrong_motion : View → Action → Bool
 is_wrong_motion v (Dispose a) =
-    wants_statement a.outcome && not (is_by_e (last_act (acts_in (deadline_shown v (Dispose a)))))
+    wants_statement a.outcome && not (is_by_e (last_act (acts_in (deadline_shown v))))
 is_wrong_motion v _ = false
 
 -- the last day of a time that runs is before the day
@@ -140,25 +137,12 @@ is_past court _ day = false
 
 -- the motion was served after the last day
 abbrev pub is_after : CourtSettings → View → Action → Bool
-is_after court v (RuleMotion a) = is_past court (standing_shown court v (RuleMotion a)) a.served
+is_after court v (RuleMotion a) = is_past court (standing_shown court v) a.served
 is_after court v _ = false
 
--- the deadline is vacated: its last act says so
-abbrev pub is_vacated_by : Option Act → Bool
-is_vacated_by (Some act.Vacated) = true
-is_vacated_by _ = false
-
-abbrev pub is_vacated : List Act → Bool
-is_vacated acts = is_vacated_by (last_act acts)
-
--- the party has an initial deadline that is not vacated
-abbrev pub has_initial : List DeadlineView → ℕ → Bool
-has_initial all party = list_any (λ d. d.party == party && (d.initial && not (is_vacated d.acts))) all
-
-abbrev pub is_served : View → Action → Bool
-is_served v (ServeSummons a) = has_initial (deadlines_in v.case) a.party
-is_served v (FileWaiver a) = has_initial (deadlines_in v.case) a.party
-is_served v _ = false
+-- the party that is served, or whose waiver is filed, has an initial deadline that is not vacated
+abbrev pub is_served : View → Bool
+is_served v = served_in v.case
 
 -- a request for a waiver allows at least 30 days after it was sent, or at least 60 outside any judicial district (4(d)(1)(F))
 abbrev pub least_allowed : Bool → ℕ
@@ -176,12 +160,12 @@ is_late_waiver v _ = false
 
 -- the times after judgment may not be extended (6(b)(2))
 abbrev pub may_not_extend : View → Action → Bool
-may_not_extend v (Extend a) = not (is_extendable (rule_shown (deadline_shown v (Extend a))))
+may_not_extend v (Extend a) = not (is_extendable (rule_shown (deadline_shown v)))
 may_not_extend v _ = false
 
 -- the court acts, or the request is made, before the time expires, or there was excusable neglect (6(b)(1))
 abbrev pub is_expired : CourtSettings → View → Action → Bool
-is_expired court v (Extend a) = not a.neglect && not (is_in_time court (standing_shown court v (Extend a)) a.at Electronic)
+is_expired court v (Extend a) = not a.neglect && not (is_in_time court (standing_shown court v) a.at Electronic)
 is_expired court v _ = false
 
 -- an extension to a day goes past the last day
@@ -190,7 +174,7 @@ reaches court standing None = true
 reaches court standing (Some day) = is_past court standing day
 
 abbrev pub is_not_later : CourtSettings → View → Action → Bool
-is_not_later court v (Extend a) = not (reaches court (standing_shown court v (Extend a)) a.until)
+is_not_later court v (Extend a) = not (reaches court (standing_shown court v) a.until)
 is_not_later court v _ = false
 
 -- how many calendar rows the action would add
@@ -203,7 +187,7 @@ is_calendar_full v added = nat_lt 4000 (length v.calendar + added) || nat_lt 4_2
 
 -- a deadline has room for the act that ends it: 99 acts are the most before that
 abbrev pub has_too_many_acts : View → Action → Bool
-has_too_many_acts v a = is_some (deadline_named a) && nat_le 99 (length (acts_in (deadline_shown v a)))
+has_too_many_acts v a = is_some (deadline_named a) && nat_le 99 (length (acts_in (deadline_shown v)))
 
 -- a limit would be passed: 100,000 cases; 1,000 parties, 10,000 entries and 1,000 deadlines a case; 100 acts a deadline
 abbrev pub is_full : View → Action → Bool
@@ -217,7 +201,7 @@ is_full v (FileEntry a) = nat_le 10_000 (entries_in v.case)
 is_full v (Satisfy a) = false
 is_full v (Vacate a) = false
 is_full v (WithdrawCalendar a) = false
-is_full v a = has_too_many_acts v a || nat_lt 1000 (length (deadlines_in v.case) + length (deadlines_made a))
+is_full v a = has_too_many_acts v a || nat_lt 1000 (count_deadlines v.case + length (deadlines_made a))
 
 -- a refusal where its sentence is true
 abbrev pub on : Bool → Refusal → Option Refusal
@@ -245,7 +229,7 @@ state_refusals court v a =
     ∷ on (is_not_responsive v a) refusal.NotResponsive
     ∷ on (is_wrong_motion v a) refusal.WrongMotion
     ∷ on (is_after court v a) refusal.AfterDeadline
-    ∷ on (is_served v a) refusal.AlreadyServed
+    ∷ on (is_served v) refusal.AlreadyServed
     ∷ on (is_short_waiver a) refusal.ShortWaiver
     ∷ on (is_late_waiver v a) refusal.LateWaiver
     ∷ on (may_not_extend v a) refusal.MayNotExtend

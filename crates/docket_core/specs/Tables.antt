@@ -1,5 +1,5 @@
 -- The tables of a history, and changes of their rows.
-use Rattle.std.specs.Prelude.{ℕ, ◌+◌, ◌==◌, not, ◌&&◌, if◌then◌else◌, nat_le, List, [], ◌∷◌, ◌++◌, length, filter, map, Option, Some, None}
+use Rattle.std.specs.Prelude.{ℕ, Bool, ◌+◌, ◌==◌, not, ◌&&◌, if◌then◌else◌, nat_le, List, [], ◌∷◌, ◌++◌, length, filter, map, Option, Some, None}
 use Rattle.std.specs.Option.{option_and_then}
 use Rattle.court_days.specs.Court.{CourtSettings}
 use Rattle.docket_command.specs.declared.command.Command.{Command}
@@ -8,7 +8,7 @@ use Rattle.docket_command.specs.declared.refusal.Reply.{Reply}
 use Rattle.docket_core.specs.Actions.{case_named, row_withdrawn, asks_calendar}
 use Rattle.docket_core.specs.Histories.{History, standing_rows, next_row, items_of, numbered, rows_added, case_rows, party_rows, entry_rows, deadline_rows, act_rows, new_case, new_party, new_entry, new_deadlines, first_acts, later_acts, parties_of_case, entries_of_case, deadlines_of_case, deadlines_from}
 use Rattle.docket_core.specs.Outcomes.{receipts, kept, is_label_taken, is_row_standing}
-use Rattle.docket_core.specs.Views.{parties_in, entries_in, deadlines_in, deadline_shown, acts_in}
+use Rattle.docket_core.specs.Views.{parties_in, entries_in, count_deadlines, deadline_shown, acts_in, case_shown}
 use Rattle.docket_core.specs.declared.row.Change.{Change}
 use Rattle.docket_core.specs.declared.row.Change.TheVariants.{AddCalendar, RemoveCalendar, AddCase, AddParty, AddEntry, AddDeadline, AddAct}
 use Rattle.docket_core.specs.declared.row.CalendarRow.{CalendarRow}
@@ -19,6 +19,7 @@ use Rattle.docket_core.specs.declared.row.DeadlineRow.{DeadlineRow}
 use Rattle.docket_core.specs.declared.row.ActRow.{ActRow}
 use Rattle.docket_core.specs.declared.row.Receipt.{Receipt}
 use Rattle.docket_core.specs.declared.view.CaseView.{CaseView}
+use Rattle.docket_core.specs.declared.view.DeadlineView.{DeadlineView}
 use Rattle.docket_core.specs.declared.view.View.{View}
 
 pub record Tables : Type 0 where
@@ -80,13 +81,13 @@ abbrev pub entry_changes : View → Action → List Change
 entry_changes v a = map AddEntry (new_entry (entries_in v.case) a)
 
 abbrev pub deadline_changes : View → Action → List Change
-deadline_changes v a = map AddDeadline (new_deadlines (length (deadlines_in v.case)) a)
+deadline_changes v a = map AddDeadline (new_deadlines (count_deadlines v.case) a)
 
 abbrev pub first_act_changes : View → Action → List Change
-first_act_changes v a = map AddAct (first_acts (length (deadlines_in v.case)) a)
+first_act_changes v a = map AddAct (first_acts (count_deadlines v.case) a)
 
 abbrev pub act_changes : View → Action → List Change
-act_changes v a = map AddAct (later_acts (length (acts_in (deadline_shown v a))) a)
+act_changes v a = map AddAct (later_acts (length (acts_in (deadline_shown v))) a)
 
 -- the changes of an action, but for the receipt
 abbrev pub action_changes : View → Action → List Change
@@ -102,15 +103,22 @@ action_changes v a =
 
 -- what tables show
 
-abbrev pub case_in : Tables → ℕ → Option CaseView
-case_in t k =
-    if nat_le 1 k && nat_le k (length t.cases)
-    then Some (record {
-      number = k;
-      parties = length (parties_of_case k t.parties);
-      entries = length (entries_of_case k t.entries);
-      deadlines = deadlines_from k 1 t.acts (deadlines_of_case k t.deadlines);
-    })
+abbrev pub is_case_in : Tables → ℕ → Bool
+is_case_in t k = nat_le 1 k && nat_le k (length t.cases)
+
+-- the deadlines of a case, in order, each with its acts
+abbrev pub deadlines_in : Tables → ℕ → List DeadlineView
+deadlines_in t k = deadlines_from k 1 t.acts (deadlines_of_case k t.deadlines)
+
+-- those of the case of a number, if there is one
+abbrev pub case_deadlines : Tables → ℕ → Option (List DeadlineView)
+case_deadlines t k = if is_case_in t k then Some (deadlines_in t k) else None
+
+-- the case of a number, if there is one, as it is shown about an action
+abbrev pub case_in : Tables → Action → ℕ → Option CaseView
+case_in t a k =
+    if is_case_in t k
+    then Some (case_shown k (length (parties_of_case k t.parties)) (length (entries_of_case k t.entries)) (deadlines_in t k) a)
     else None
 
 abbrev pub view_in : Tables → Command → View
@@ -118,7 +126,7 @@ view_in t c = record {
   kept = kept t.receipts c;
   cases = length t.cases;
   label_taken = is_label_taken c.action t.cases;
-  case = option_and_then (case_in t) (case_named c.action);
+  case = option_and_then (case_in t c.action) (case_named c.action);
   row_stands = is_row_standing c.action t.calendar;
   calendar = if asks_calendar c.action then items_of t.calendar else [];
   next_row = t.next_row;

@@ -6,14 +6,13 @@ use Rattle.court_days.specs.declared.filing.Way.{Way}
 use Rattle.court_rules.specs.Standings.{standing}
 use Rattle.court_rules.specs.declared.act.Standing.{Standing}
 use Rattle.court_rules.specs.declared.act.Standing.TheVariants.{Running}
-use Rattle.docket_command.specs.declared.command.Action.{Action}
 use Rattle.docket_core.specs.CalendarItems.{calendar_of}
 use Rattle.docket_core.specs.Views.{acts_in, deadline_shown}
 use Rattle.docket_core.specs.declared.view.View.{View}
 
--- where the deadline that an action names stands, by the calendar that is shown
-abbrev pub standing_shown : CourtSettings → View → Action → Standing
-standing_shown court v a = standing (zone_of court) (calendar_of v.calendar) (acts_in (deadline_shown v a))
+-- where the deadline that the command names stands, by the calendar that is shown
+abbrev pub standing_shown : CourtSettings → View → Standing
+standing_shown court v = standing (zone_of court) (calendar_of v.calendar) (acts_in (deadline_shown v))
 
 -- a filing at the instant is in time, or no time was running
 abbrev pub is_in_time : CourtSettings → Standing → ℕ → Way → Bool

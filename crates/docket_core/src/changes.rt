@@ -4,7 +4,7 @@ ghost use Rattle.docket_core.specs.Actions.{row_withdrawn, deadlines_made, acts_
 ghost use Rattle.docket_core.specs.Histories.{numbered, deadline_rows_from, first_acts_from, act_rows_on, rows_added};
 ghost use Rattle.docket_core.specs.Refusals.{is_full};
 ghost use Rattle.docket_core.specs.Tables.{withdrawal, case_changes, party_changes, entry_changes, deadline_changes, first_act_changes, act_changes, action_changes};
-ghost use Rattle.docket_core.specs.Views.{acts_in, deadlines_in, deadline_shown};
+ghost use Rattle.docket_core.specs.Views.{acts_in, count_deadlines, deadline_shown};
 ghost use Rattle.docket_core.specs.declared.row.Change.TheVariants as Change;
 
 use crate::deadline::{NewDeadline, act_made};
@@ -152,7 +152,7 @@ fn push_made(
 ) -> Result<(), AllocError>
     requires made { made.now ≡ deadlines_made action.now }
     requires room { deadlines_made action.now ≢ []
-        → length (deadlines_in view.now.case) + length (deadlines_made action.now) ≤ 1000 }
+        → count_deadlines view.now.case + length (deadlines_made action.now) ≤ 1000 }
     ensures { OnOk result (changes.new.items
         ≡ changes.old.items ++ deadline_changes view.now action.now ++ first_act_changes view.now action.now) }
 {
@@ -160,19 +160,19 @@ fn push_made(
         return Ok(());
     }
     let case = case_named(action).unwrap_or(0);
-    let first = view.deadlines().len() as u32 + 1;
+    let first = view.deadlines() + 1;
     push_deadlines(changes, case, first, made)?;
     push_first_acts(changes, case, first, made)
 }
 
 /// Adds an act to the deadline that the action names.
 fn push_act(changes: &mut Vec<Change>, view: &View, action: &Action) -> Result<(), AllocError>
-    requires { length (acts_in (deadline_shown view.now action.now)) ≤ 100 }
+    requires { length (acts_in (deadline_shown view.now)) ≤ 100 }
     ensures { OnOk result (changes.new.items ≡ changes.old.items ++ act_changes view.now action.now) }
 {
     let case = case_named(action).unwrap_or(0);
     let deadline = deadline_named(action).unwrap_or(0);
-    let number = view.acts_named(action).len() as u32 + 1;
+    let number = view.acts_named().len() as u32 + 1;
     if let Some(act) = act_made(action) {
         changes.push(Change::AddAct(ActRow {
             case,
@@ -198,8 +198,8 @@ pub(crate) fn changes_of_action(
     requires room { is_full view.now action.now ≡ false }
     requires made { made.items ≡ deadlines_made action.now }
     requires deadlines { deadlines_made action.now ≢ []
-        → length (deadlines_in view.now.case) + length (deadlines_made action.now) ≤ 1000 }
-    requires acts { length (acts_in (deadline_shown view.now action.now)) ≤ 100 }
+        → count_deadlines view.now.case + length (deadlines_made action.now) ≤ 1000 }
+    requires acts { length (acts_in (deadline_shown view.now)) ≤ 100 }
     ensures { IfOk result (λ changes. changes.items ≡ action_changes view.now action.now) }
 {
     let mut changes = Vec::new(alloc);

@@ -62,14 +62,14 @@ impl<T: Drop> From<AllocFailed<T>> for DecideFault {
     }
 }
 
-/// Where the deadline that an action names stands, by the calendar that is shown.
-fn standing_shown(court: &Court, calendar: &Calendar, view: &View, action: &Action) -> Standing
+/// Where the deadline that the command names stands, by the calendar that is shown.
+fn standing_shown(court: &Court, calendar: &Calendar, view: &View) -> Standing
     requires sound { IsSoundView court.now view.now }
     requires calendar { calendar.now ≡ calendar_of view.now.calendar }
-    ensures value { result ≡ standing_shown court.now view.now action.now }
+    ensures value { result ≡ standing_shown court.now view.now }
     ensures near { StandsAfter 100 result }
 {
-    match view.deadline_named(action) {
+    match view.deadline_named() {
         Some(deadline) => due(court, calendar, deadline.acts.as_slice()),
         None => Standing::Vacated,
     }
@@ -92,14 +92,14 @@ fn reply(matter: &Matter<'_>, view: &View, action: &Action) -> u32
         Action::FileEntry(_) => view.entries() + 1,
         Action::RuleMotion(a) => a.deadline,
         Action::Dispose(a) => match a.outcome {
-            Ruling::Statement => view.deadlines().len() as u32 + 1,
+            Ruling::Statement => view.deadlines() + 1,
             Ruling::Denied | Ruling::Postponed => a.deadline,
         },
         Action::StatementServed(a) => a.deadline,
         Action::Extend(a) => a.deadline,
         Action::Satisfy(a) => u32::from(is_in_time(matter.court, matter.standing, a.at, a.way)),
         Action::Vacate(a) => a.deadline,
-        _ => view.deadlines().len() as u32 + 1,
+        _ => view.deadlines() + 1,
     }
 }
 
@@ -141,7 +141,7 @@ fn decide_by_view(
     let matter = Matter {
         court,
         calendar: &calendar,
-        standing: standing_shown(court, &calendar, view, action),
+        standing: standing_shown(court, &calendar, view),
         added: added.len(),
         made: made.len(),
     };

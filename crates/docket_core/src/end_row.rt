@@ -10,7 +10,7 @@ ghost use Rattle.docket_core.specs.EndRows.{time_of, end_running, end_rows_of, e
 ghost use Rattle.docket_core.specs.declared.end_row.EndRow.{EndRow as Stored};
 ghost use Rattle.docket_core.specs.declared.end_row.EndChange.TheVariants as change;
 
-use crate::view::CaseView;
+use crate::view::DeadlineView;
 use court_days::{Calendar, Court, End};
 use court_rules::{Standing, due};
 use std::alloc::{AllocError, Global};
@@ -193,21 +193,22 @@ fn changes_of_case(
     alloc: Global,
     court: &Court,
     calendar: &Calendar,
-    case: &CaseView,
+    case: u32,
+    deadlines: &[DeadlineView],
     stored: &[EndRow],
 ) -> Result<Vec<EndChange>, AllocError>
-    requires few { length case.now.deadlines ≤ 1000 }
-    requires acts { All (λ d. AreActs (zone_of court.now) d.acts) case.now.deadlines }
-    ensures { IfOk result (λ changes. changes.items ≡ changes_from case.now.number 1 (ends_running (zone_of court.now) calendar.now case.now.deadlines) stored.now) }
+    requires few { length deadlines.now ≤ 1000 }
+    requires acts { All (λ d. AreActs (zone_of court.now) d.acts) deadlines.now }
+    ensures { IfOk result (λ changes. changes.items ≡ changes_from case 1 (ends_running (zone_of court.now) calendar.now deadlines.now) stored.now) }
 {
     let mut changes = Vec::new(alloc);
     let mut rest = stored;
     let mut number = 1;
-    for deadline in case.deadlines.as_slice() {
+    for deadline in deadlines {
         let end = end_running(court, due(court, calendar, deadline.acts.as_slice()));
         change_end(
             &mut changes,
-            case.number,
+            case,
             number,
             first_end(rest, number),
             end,
@@ -225,17 +226,18 @@ pub fn due_changes(
     alloc: Global,
     court: &Court,
     calendar: &Calendar,
-    case: &CaseView,
+    case: u32,
+    deadlines: &[DeadlineView],
     stored: &[EndRow],
 ) -> Result<Vec<EndChange>, AllocError>
-    requires few { length case.now.deadlines ≤ 1000 }
-    requires acts { All (λ d. AreActs (zone_of court.now) d.acts) case.now.deadlines }
+    requires few { length deadlines.now ≤ 1000 }
+    requires acts { All (λ d. AreActs (zone_of court.now) d.acts) deadlines.now }
     // Among the rows of all cases they give the case's rows, and leave those of other cases.
-    ensures rows { (others : List Stored) → AllByRecursion (IsElsewhere case.now.number 1) others → AreRowsFrom case.now.number 1 stored.now
-        → IfOk result (λ changes. IsPermutation (all_changed_ends changes.items (others ++ stored.now)) (others ++ end_rows_of (zone_of court.now) calendar.now case.now)) }
+    ensures rows { (others : List Stored) → AllByRecursion (IsElsewhere case 1) others → AreRowsFrom case 1 stored.now
+        → IfOk result (λ changes. IsPermutation (all_changed_ends changes.items (others ++ stored.now)) (others ++ end_rows_of (zone_of court.now) calendar.now case deadlines.now)) }
     // A row that is right is not touched.
-    ensures kept { AreRowsFrom case.now.number 1 stored.now → IfOk result (λ changes. (row : Stored) → Contains stored.now row
-        → Contains (end_rows_of (zone_of court.now) calendar.now case.now) row → AllByRecursion (λ change. touches change row ≡ false) changes.items) }
+    ensures kept { AreRowsFrom case 1 stored.now → IfOk result (λ changes. (row : Stored) → Contains stored.now row
+        → Contains (end_rows_of (zone_of court.now) calendar.now case deadlines.now) row → AllByRecursion (λ change. touches change row ≡ false) changes.items) }
 {
-    changes_of_case(alloc, court, calendar, case, stored)
+    changes_of_case(alloc, court, calendar, case, deadlines, stored)
 }

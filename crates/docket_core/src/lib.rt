@@ -26,7 +26,7 @@ pub use laws::{
     worked_dockets,
 };
 pub use lines::deadline_lines;
-pub use named::{asks_calendar, case_named};
+pub use named::{asks_calendar, case_named, deadline_named};
 pub use record::{CaseRecord, DeadlineLine, DueRow, EntryRows, PartyRows};
 pub use row::{ActRow, CalendarRow, CaseRow, Change, DeadlineRow, EntryRow, PartyRow, Receipt};
-pub use view::{Acts, CalendarItems, CaseView, DeadlineView, Deadlines, Kept, View};
+pub use view::{Acts, CalendarItems, CaseView, DeadlineView, Kept, View, is_served_among};

@@ -31,7 +31,7 @@ pub fn case_named(action: &Action) -> Option<u32>
 }
 
 /// The deadline that it names.
-pub(crate) fn deadline_named(action: &Action) -> Option<u32>
+pub fn deadline_named(action: &Action) -> Option<u32>
     ensures { result ≡ deadline_named action.now }
 {
     match action {
@@ -91,7 +91,7 @@ pub(crate) fn lacks_party(view: &View, action: &Action) -> bool
 pub(crate) fn lacks_deadline(view: &View, action: &Action) -> bool
     ensures { result ≡ lacks_deadline view.now action.now }
 {
-    deadline_named(action).is_some() && view.deadline_named(action).is_none()
+    deadline_named(action).is_some() && view.deadline_named().is_none()
 }
 
 pub(crate) fn lacks_row(view: &View, action: &Action) -> bool

@@ -1,6 +1,5 @@
 //! When each refusal applies, and in which order they are looked for.
-ghost use Rattle.std.specs.Prelude.{◌≡◌, ◌==◌, ◌&&◌, None, length, map, not};
-ghost use Rattle.std.specs.List.{list_any};
+ghost use Rattle.std.specs.Prelude.{◌≡◌, None, length, map};
 ghost use Rattle.court_days.specs.Court.{CourtSettings, zone_of};
 ghost use Rattle.court_rules.specs.Standings.{IsEndAfter, StandsAfter, last_day};
 ghost use Rattle.docket_core.specs.Actions.{deadlines_made};
@@ -8,13 +7,13 @@ ghost use Rattle.docket_core.specs.CalendarItems.{calendar_of};
 ghost use Rattle.docket_core.specs.Decisions.{IsMatter};
 ghost use Rattle.docket_core.specs.Times.{standing_shown, is_in_time};
 ghost use Rattle.docket_core.specs.Values.{first_bad, bad_values};
-ghost use Rattle.docket_core.specs.Refusals.{on, first_some, is_reused, is_there, is_running, is_suspended, is_awaiting, is_over, is_not_open, is_not_awaiting, rule_shown, is_not_responsive, last_act, is_by_e, wants_statement, is_wrong_motion, is_past, is_after, is_vacated, has_initial, is_served, is_short_waiver, is_late_waiver, may_not_extend, is_expired, is_not_later, has_too_many_acts, count_added, is_calendar_full, is_full, state_refusals, refusal_of};
-ghost use Rattle.docket_core.specs.Views.{ViewOf, deadline_shown};
+ghost use Rattle.docket_core.specs.Refusals.{on, first_some, is_reused, is_there, is_running, is_suspended, is_awaiting, is_over, is_not_open, is_not_awaiting, rule_shown, is_not_responsive, is_by_e, wants_statement, is_wrong_motion, is_past, is_after, is_served, is_short_waiver, is_late_waiver, may_not_extend, is_expired, is_not_later, has_too_many_acts, count_added, is_calendar_full, is_full, state_refusals, refusal_of};
+ghost use Rattle.docket_core.specs.Views.{ViewOf, deadline_shown, last_act};
 
 use crate::item::{CalendarItem, stands_among};
 use crate::named::{deadline_named, lacks_case, lacks_deadline, lacks_party, lacks_row};
 use crate::value::{bad_field, is_word};
-use crate::view::{DeadlineView, Kept, View};
+use crate::view::{Kept, View};
 use court_days::{Calendar, Court, Day, DayKind, Direction, End, Way, count_days, timely};
 use court_rules::{Act, MotionKind, Rule, Standing};
 use docket_command::{Action, Command, Moment, Refusal, Ruling};
@@ -67,7 +66,7 @@ fn is_awaiting(standing: Standing) -> bool
 }
 
 fn is_not_open(action: &Action, standing: Standing) -> bool
-    ensures { (court : CourtSettings) (v : ViewOf) → standing ≡ standing_shown court v action.now
+    ensures { (court : CourtSettings) (v : ViewOf) → standing ≡ standing_shown court v
         → result ≡ is_not_open court v action.now }
 {
     match action {
@@ -78,7 +77,7 @@ fn is_not_open(action: &Action, standing: Standing) -> bool
 }
 
 fn is_not_awaiting(action: &Action, standing: Standing) -> bool
-    ensures { (court : CourtSettings) (v : ViewOf) → standing ≡ standing_shown court v action.now
+    ensures { (court : CourtSettings) (v : ViewOf) → standing ≡ standing_shown court v
         → result ≡ is_not_awaiting court v action.now }
 {
     match action {
@@ -88,11 +87,11 @@ fn is_not_awaiting(action: &Action, standing: Standing) -> bool
     }
 }
 
-/// The rule of the deadline that an action names.
-fn rule_named(view: &View, action: &Action) -> Rule
-    ensures { result ≡ rule_shown (deadline_shown view.now action.now) }
+/// The rule of the deadline that the command names.
+fn rule_named(view: &View) -> Rule
+    ensures { result ≡ rule_shown (deadline_shown view.now) }
 {
-    match view.deadline_named(action) {
+    match view.deadline_named() {
         Some(deadline) => deadline.rule,
         None => Rule::Ordered,
     }
@@ -102,7 +101,7 @@ fn is_not_responsive(view: &View, action: &Action) -> bool
     ensures { result ≡ is_not_responsive view.now action.now }
 {
     match action {
-        Action::RuleMotion(_) => !rule_named(view, action).responsive(),
+        Action::RuleMotion(_) => !rule_named(view).responsive(),
         _ => false,
     }
 }
@@ -127,7 +126,7 @@ fn is_wrong_motion(view: &View, action: &Action) -> bool
     ensures { result ≡ is_wrong_motion view.now action.now }
 {
     match action {
-        Action::Dispose(a) => wants_statement(a.outcome) && !is_by_e(view.acts_named(action)),
+        Action::Dispose(a) => wants_statement(a.outcome) && !is_by_e(view.acts_named()),
         _ => false,
     }
 }
@@ -156,36 +155,10 @@ fn is_past(court: &Court, standing: Standing, day: Day) -> bool
 
 fn is_after(court: &Court, action: &Action, standing: Standing) -> bool
     requires { StandsAfter 100 standing }
-    ensures { (v : ViewOf) → standing ≡ standing_shown court.now v action.now → result ≡ is_after court.now v action.now }
+    ensures { (v : ViewOf) → standing ≡ standing_shown court.now v → result ≡ is_after court.now v action.now }
 {
     match action {
         Action::RuleMotion(a) => is_past(court, standing, a.served),
-        _ => false,
-    }
-}
-
-/// Whether a deadline with these acts is vacated.
-fn is_vacated(acts: &[Act]) -> bool
-    ensures { result ≡ is_vacated acts.now }
-{
-    match acts.last() {
-        Some(Act::Vacated) => true,
-        _ => false,
-    }
-}
-
-fn has_initial(deadlines: &[DeadlineView], party: u32) -> bool
-    ensures { result ≡ has_initial deadlines.now party }
-{
-    deadlines.iter().any(|d| d.party == party && (d.initial && !is_vacated(d.acts.as_slice())))
-}
-
-fn is_served(view: &View, action: &Action) -> bool
-    ensures { result ≡ is_served view.now action.now }
-{
-    match action {
-        Action::ServeSummons(a) => has_initial(view.deadlines(), a.party),
-        Action::FileWaiver(a) => has_initial(view.deadlines(), a.party),
         _ => false,
     }
 }
@@ -217,7 +190,7 @@ fn may_not_extend(view: &View, action: &Action) -> bool
     ensures { result ≡ may_not_extend view.now action.now }
 {
     match action {
-        Action::Extend(_) => !rule_named(view, action).extendable(),
+        Action::Extend(_) => !rule_named(view).extendable(),
         _ => false,
     }
 }
@@ -233,7 +206,7 @@ pub(crate) fn is_in_time(court: &Court, standing: Standing, at: Moment, way: Way
 }
 
 fn is_expired(court: &Court, action: &Action, standing: Standing) -> bool
-    ensures { (v : ViewOf) → standing ≡ standing_shown court.now v action.now → result ≡ is_expired court.now v action.now }
+    ensures { (v : ViewOf) → standing ≡ standing_shown court.now v → result ≡ is_expired court.now v action.now }
 {
     match action {
         Action::Extend(a) => !a.neglect && !is_in_time(court, standing, a.at, Way::Electronic),
@@ -243,7 +216,7 @@ fn is_expired(court: &Court, action: &Action, standing: Standing) -> bool
 
 fn is_not_later(court: &Court, action: &Action, standing: Standing) -> bool
     requires { StandsAfter 100 standing }
-    ensures { (v : ViewOf) → standing ≡ standing_shown court.now v action.now → result ≡ is_not_later court.now v action.now }
+    ensures { (v : ViewOf) → standing ≡ standing_shown court.now v → result ≡ is_not_later court.now v action.now }
 {
     match action {
         Action::Extend(a) => match a.until {
@@ -266,7 +239,7 @@ fn is_calendar_full(view: &View, added: usize) -> bool
 fn has_too_many_acts(view: &View, action: &Action) -> bool
     ensures { result ≡ has_too_many_acts view.now action.now }
 {
-    deadline_named(action).is_some() && view.acts_named(action).len() >= 99
+    deadline_named(action).is_some() && view.acts_named().len() >= 99
 }
 
 fn is_full(view: &View, added: usize, made: usize, action: &Action) -> bool
@@ -282,7 +255,7 @@ fn is_full(view: &View, added: usize, made: usize, action: &Action) -> bool
         Action::FileEntry(_) => view.entries() >= 10_000,
         Action::WithdrawCalendar(_) | Action::Satisfy(_) | Action::Vacate(_) => false,
         _ => {
-            has_too_many_acts(view, action) || view.deadlines().len().saturating_add(made) > 1000
+            has_too_many_acts(view, action) || (view.deadlines() as usize).saturating_add(made) > 1000
         }
     }
 }
@@ -334,7 +307,7 @@ fn state_refusal(matter: &Matter<'_>, view: &View, action: &Action) -> Option<Re
             is_after(court, action, matter.standing),
             Refusal::AfterDeadline,
         ),
-        (is_served(view, action), Refusal::AlreadyServed),
+        (view.is_served(), Refusal::AlreadyServed),
         (is_short_waiver(action), Refusal::ShortWaiver),
         (is_late_waiver(matter.calendar, action), Refusal::LateWaiver),
         (may_not_extend(view, action), Refusal::MayNotExtend),

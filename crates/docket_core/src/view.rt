@@ -1,6 +1,7 @@
 //! What a docket shows about a command.
-ghost use Rattle.std.specs.Prelude.{◌≡◌, option_copied};
-ghost use Rattle.docket_core.specs.Views.{parties_in, entries_in, deadlines_in, deadline_shown, acts_in};
+ghost use Rattle.std.specs.Prelude.{◌≡◌, ◌<◌, ◌^◌, length, option_copied};
+ghost use Rattle.std.specs.List.{list_any};
+ghost use Rattle.docket_core.specs.Views.{parties_in, entries_in, count_deadlines, deadline_shown, acts_in, served_in, deadline_at, deadline_of, is_vacated, has_initial, is_served_among, case_shown};
 
 use crate::item::CalendarItem;
 use crate::named::deadline_named;
@@ -56,35 +57,6 @@ pub struct DeadlineView {
     pub acts: Acts,
 }
 
-/// The deadlines of a case, in the order of their numbers, seen as the list of them.
-#[derive(Drop)]
-pub struct Deadlines {
-    items: Vec<DeadlineView>,
-}
-
-impl Model for Deadlines {
-    ghost use Rattle.std.specs.Prelude.{List};
-    ghost use Rattle.docket_core.specs.declared.view.DeadlineView.{DeadlineView};
-
-    ghost Value = { List DeadlineView };
-
-    ghost view = { λ a. a.items.items };
-}
-
-impl Deadlines {
-    pub fn new(items: Vec<DeadlineView>) -> Deadlines
-        ensures { result ≡ items.items }
-    {
-        Deadlines { items }
-    }
-
-    pub fn as_slice(&self) -> &[DeadlineView]
-        ensures { result.now ≡ self.now }
-    {
-        self.items.as_slice()
-    }
-}
-
 /// What the standing rows of the calendar enter, in the order of their numbers, seen as the list of
 /// it.
 #[derive(Drop)]
@@ -115,14 +87,89 @@ impl CalendarItems {
     }
 }
 
-/// The case that a command names: its number, how many parties and entries it has, and its
-/// deadlines.
+/// The case that a command names, as far as the command asks about it: its number, how many parties,
+/// entries and deadlines it has, the deadline that the command names, and whether the party that is
+/// served with a summons, or whose waiver is filed, has a first answer due.
 #[derive(Drop)]
 pub struct CaseView {
     pub number: u32,
     pub parties: u32,
     pub entries: u32,
-    pub deadlines: Deadlines,
+    pub deadlines: u32,
+    pub named: Option<DeadlineView>,
+    pub is_served: bool,
+}
+
+/// Whether a deadline with these acts is vacated.
+fn is_vacated(acts: &[Act]) -> bool
+    ensures { result ≡ is_vacated acts.now }
+{
+    match acts.last() {
+        Some(Act::Vacated) => true,
+        _ => false,
+    }
+}
+
+/// Whether the party has an initial deadline that is not vacated.
+fn has_initial(deadlines: &[DeadlineView], party: u32) -> bool
+    ensures { result ≡ has_initial deadlines.now party }
+{
+    deadlines.iter().any(|d| d.party == party && (d.initial && !is_vacated(d.acts.as_slice())))
+}
+
+/// Whether the party that is served with a summons, or whose waiver is filed, has an initial deadline
+/// among these that is not vacated.
+pub fn is_served_among(deadlines: &[DeadlineView], action: &Action) -> bool
+    ensures { result ≡ is_served_among deadlines.now action.now }
+{
+    match action {
+        Action::ServeSummons(a) => has_initial(deadlines, a.party),
+        Action::FileWaiver(a) => has_initial(deadlines, a.party),
+        _ => false,
+    }
+}
+
+/// The deadline of a number, from 1.
+fn deadline_at(deadlines: Vec<DeadlineView>, number: u32) -> Option<DeadlineView>
+    ensures { result ≡ deadline_at deadlines.items number }
+{
+    if number == 0 {
+        return None;
+    }
+    deadlines.into_iter().nth(number as usize - 1)
+}
+
+/// The deadline that an action names.
+fn deadline_of(deadlines: Vec<DeadlineView>, action: &Action) -> Option<DeadlineView>
+    ensures { result ≡ deadline_of deadlines.items action.now }
+{
+    match deadline_named(action) {
+        Some(number) => deadline_at(deadlines, number),
+        None => None,
+    }
+}
+
+impl CaseView {
+    /// A case with so many parties and entries, and these deadlines, as it is shown about an action.
+    pub fn new(
+        number: u32,
+        parties: u32,
+        entries: u32,
+        deadlines: Vec<DeadlineView>,
+        action: &Action,
+    ) -> CaseView
+        requires { length deadlines.items < 2 ^ 32 }
+        ensures { result ≡ case_shown number parties entries deadlines.items action.now }
+    {
+        CaseView {
+            number,
+            parties,
+            entries,
+            deadlines: deadlines.len() as u32,
+            is_served: is_served_among(deadlines.as_slice(), action),
+            named: deadline_of(deadlines, action),
+        }
+    }
 }
 
 /// What a docket shows about a command: what stands under its key, how many cases there are, whether
@@ -161,34 +208,43 @@ impl View {
         }
     }
 
-    /// The deadlines of the case.
-    pub(crate) fn deadlines(&self) -> &[DeadlineView]
-        ensures { result.now ≡ deadlines_in self.now.case }
+    /// How many deadlines the case has.
+    pub(crate) fn deadlines(&self) -> u32
+        ensures { result ≡ count_deadlines self.now.case }
     {
         match &self.case {
-            Some(case) => case.deadlines.as_slice(),
-            None => &[],
+            Some(case) => case.deadlines,
+            None => 0,
         }
     }
 
-    /// The deadline that an action names.
-    pub(crate) fn deadline_named(&self, action: &Action) -> Option<&DeadlineView>
-        ensures { option_copied result ≡ deadline_shown self.now action.now }
+    /// The deadline that the command names.
+    pub fn deadline_named(&self) -> Option<&DeadlineView>
+        ensures { option_copied result ≡ deadline_shown self.now }
     {
-        let number = deadline_named(action)?;
-        if number == 0 {
-            return None;
+        match &self.case {
+            Some(case) => case.named.as_ref(),
+            None => None,
         }
-        self.deadlines().get(number as usize - 1)
     }
 
-    /// The acts of the deadline that an action names.
-    pub(crate) fn acts_named(&self, action: &Action) -> &[Act]
-        ensures { result.now ≡ acts_in (deadline_shown self.now action.now) }
+    /// The acts of the deadline that the command names.
+    pub fn acts_named(&self) -> &[Act]
+        ensures { result.now ≡ acts_in (deadline_shown self.now) }
     {
-        match self.deadline_named(action) {
+        match self.deadline_named() {
             Some(deadline) => deadline.acts.as_slice(),
             None => &[],
+        }
+    }
+
+    /// Whether the party that is served, or whose waiver is filed, has a first answer due.
+    pub(crate) fn is_served(&self) -> bool
+        ensures { result ≡ served_in self.now.case }
+    {
+        match &self.case {
+            Some(case) => case.is_served,
+            None => false,
         }
     }
 }

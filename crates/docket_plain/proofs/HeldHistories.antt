@@ -3,7 +3,7 @@ use Rattle.std.proofs.Common.{◌≡◌, List, [], ◌∷◌, ◌++◌, length, 
 use Rattle.std.proofs.lemmas.List.{map-append, reverse-append}
 use Rattle.court_days.specs.Court.{CourtSettings}
 use Rattle.docket_core.proofs.LimitsKept.{within_limits}
-use Rattle.docket_core.specs.Histories.{History, parties_of_case, entries_of_case}
+use Rattle.docket_core.specs.Histories.{History, parties_of_case, entries_of_case, deadlines_of_case}
 use Rattle.docket_core.specs.Outcomes.{receipts, IsHistory}
 use Rattle.docket_core.specs.Tables.{rows_of}
 use Rattle.docket_core.specs.declared.row.Receipt.{Receipt}
@@ -37,4 +37,5 @@ small court v is =
       cases = omega (arith, limits.cases, ap (λ t. length t.cases) is.same, v.cases.ok.0);
       parties = λ k. omega (arith, limits.parties k, ap (λ t. length (parties_of_case k t.parties)) is.same);
       entries = λ k. omega (arith, limits.entries k, ap (λ t. length (entries_of_case k t.entries)) is.same);
+      deadlines = λ k. omega (arith, limits.deadlines k, ap (λ t. length (deadlines_of_case k t.deadlines)) is.same);
     }

@@ -1,6 +1,6 @@
 -- The tables as vectors hold them.
 use Rattle.std.specs.Prelude.{ℕ, ◌+◌, ◌<◌, ◌≤◌, ◌^◌, [], length, vec_len, vec_capacity}
-use Rattle.docket_core.specs.Histories.{parties_of_case, entries_of_case}
+use Rattle.docket_core.specs.Histories.{parties_of_case, entries_of_case, deadlines_of_case}
 use Rattle.docket_core.specs.Tables.{Tables}
 use Rattle.docket_plain.specs.declared.vectors.Vectors.{Vectors}
 
@@ -37,3 +37,4 @@ pub record AreSmall (v : Vectors) : Type 0 where
   pub cases : vec_len v.cases < 2 ^ 31
   pub parties : (k : ℕ) → length (parties_of_case k v.parties.items) < 2 ^ 31
   pub entries : (k : ℕ) → length (entries_of_case k v.entries.items) < 2 ^ 31
+  pub deadlines : (k : ℕ) → length (deadlines_of_case k v.deadlines.items) < 2 ^ 31

@@ -14,7 +14,7 @@ use court_rules::Act;
 use docket_command::{Action, Command, Text};
 use docket_core::{
     ActRow, Acts, CalendarItem, CalendarItems, CalendarRow, CaseRow, CaseView, DeadlineView,
-    Deadlines, EntryRow, Kept, PartyRow, Receipt, View, asks_calendar, case_named,
+    EntryRow, Kept, PartyRow, Receipt, View, asks_calendar, case_named,
 };
 use std::alloc::{AllocError, Global};
 
@@ -138,20 +138,26 @@ fn items_for(
     }
 }
 
-/// The case of a number.
-fn case_of(alloc: Global, tables: &Vectors, number: u32) -> Result<Option<CaseView>, AllocError>
+/// The case of a number, as it is shown about an action.
+fn case_of(
+    alloc: Global,
+    tables: &Vectors,
+    number: u32,
+    action: &Action,
+) -> Result<Option<CaseView>, AllocError>
     requires { AreSmall tables.now }
-    ensures { IfOk result (λ case. case ≡ case_in (lists_of tables.now) number) }
+    ensures { IfOk result (λ case. case ≡ case_in (lists_of tables.now) action.now number) }
 {
     if number < 1 || tables.cases.len() < number as usize {
         return Ok(None);
     }
-    Ok(Some(CaseView {
+    Ok(Some(CaseView::new(
         number,
-        parties: count_parties(tables.parties.as_slice(), number) as u32,
-        entries: count_entries(tables.entries.as_slice(), number) as u32,
-        deadlines: Deadlines::new(deadlines_of(alloc, tables, number)?),
-    }))
+        count_parties(tables.parties.as_slice(), number) as u32,
+        count_entries(tables.entries.as_slice(), number) as u32,
+        deadlines_of(alloc, tables, number)?,
+        action,
+    )))
 }
 
 fn case_for(
@@ -160,10 +166,10 @@ fn case_for(
     action: &Action,
 ) -> Result<Option<CaseView>, AllocError>
     requires { AreSmall tables.now }
-    ensures { IfOk result (λ case. case ≡ option_and_then (case_in (lists_of tables.now)) (case_named action.now)) }
+    ensures { IfOk result (λ case. case ≡ option_and_then (case_in (lists_of tables.now) action.now) (case_named action.now)) }
 {
     match case_named(action) {
-        Some(number) => case_of(alloc, tables, number),
+        Some(number) => case_of(alloc, tables, number, action),
         None => Ok(None),
     }
 }

@@ -134,9 +134,9 @@ wider old new were are low more (row ∷ rows) all =
     (record { of_case = (all.0.of_case.0, omega (arith, all.0.of_case.1, low)); party = grind (arith, nat_tests, few, within); within = all.0.within }, wider old new were are low more rows all.1)
 
 -- the case that is named, if one is
-place : (h : History) (o : Option ℕ) → (is_some o && is_none (option_and_then (case_of_number h) o)) ≡ false → (o ≡ None) ⊎ ((1 ≤ unwrap_or o 0) × (unwrap_or o 0 ≤ length (case_rows h)))
-place h None there = inl refl
-place h (Some k) there = inr (is_case h k there)
+place : (h : History) (a : Action) (o : Option ℕ) → (is_some o && is_none (option_and_then (case_of_number h a) o)) ≡ false → (o ≡ None) ⊎ ((1 ≤ unwrap_or o 0) × (unwrap_or o 0 ≤ length (case_rows h)))
+place h a None there = inl refl
+place h a (Some k) there = inr (is_case h a k there)
 
 module _ (court : CourtSettings) (h : History) (c : Command) (free : IsFree court (shown court h c) c) (lawful : IsLawful (shown court h c) c) where
   abbrev count : ℕ
@@ -154,7 +154,7 @@ module _ (court : CourtSettings) (h : History) (c : Command) (free : IsFree cour
       (λ found. rows_at (length (case_rows h)) (parties_at h) (case_number c.action) (count + 1) (deadlines_made c.action) there
       (subst (λ (m : ℕ). AreSoundMade m (deadlines_made c.action)) (ap parties_in found) (made_sound (shown_fresh h c.action) c.action lawful.parties)))
       (seen h c.action free.case))
-      (place h (case_named c.action) free.case)
+      (place h c.action (case_named c.action) free.case)
 
 no_fewer_parties : (h : History) (c : Command) (k : ℕ) → parties_at h k ≤ parties_at (c ∷ h) k
 no_fewer_parties h c k =

@@ -18,7 +18,7 @@ use Rattle.docket_core.specs.declared.row.EntryRow.{EntryRow}
 use Rattle.docket_core.specs.declared.row.PartyRow.{PartyRow}
 use Rattle.docket_core.specs.declared.view.CaseView.{CaseView}
 use Rattle.docket_core.proofs.GoodValues.{all_good, not_false}
-use Rattle.docket_core.proofs.Leading.{seen}
+use Rattle.docket_core.proofs.Leading.{seen, case_numbered}
 use Rattle.docket_core.proofs.Passed.{IsFree, not_at}
 use Rattle.docket_sound.specs.Numbers.{RunsFrom, AreNumbered, IsOfCase, numbers_in}
 use Rattle.docket_sound.specs.Cases.{AreApart, is_sound_case, AreSoundCases}
@@ -60,11 +60,11 @@ sound_cases court [] is = record { numbered = tt; few = omega arith; apart = tt;
 sound_cases court (c ∷ h) is = case_step court h c c.action refl (freed court h c is.0.0 is.0.1) (sound_cases court h is.1)
 
 -- the case that a command names is one of them
-pub is_case : (h : History) (k : ℕ) → is_none (case_of_number h k) ≡ false → (1 ≤ k) × (k ≤ length (case_rows h))
-is_case h k there = at (nat_le 1 k) (nat_le k (length (case_rows h))) refl refl there
+pub is_case : (h : History) (a : Action) (k : ℕ) → is_none (case_of_number h a k) ≡ false → (1 ≤ k) × (k ≤ length (case_rows h))
+is_case h a k there = at (nat_le 1 k) (nat_le k (length (case_rows h))) refl refl there
   where
     found : CaseView
-    found = record { number = k; parties = length (parties_of_case k (party_rows h)); entries = length (entries_of_case k (entry_rows h)); deadlines = deadlines k h }
+    found = case_numbered h a k
 
     at : (a b : Bool) → nat_le 1 k ≡ a → nat_le k (length (case_rows h)) ≡ b → is_none (cond (a && b) (Some found) None) ≡ false → (1 ≤ k) × (k ≤ length (case_rows h))
     at true true low high there = (grind (arith, nat_tests, low), grind (arith, nat_tests, high))
@@ -102,8 +102,8 @@ party_step : (court : CourtSettings) (h : History) (c : Command) (a : Action) �
     → AreSoundParties (length (case_rows h)) (party_rows h ++ new_party (length (parties_of_case (case_number a) (party_rows h))) a)
 party_step court h c (action.AddParty a) is free sound =
     let good = all_good (bad_values court (action.AddParty a)) (rw is at free.values) in
-    let there : is_none (case_of_number h a.case) ≡ false = rw is at free.case in
-    let of_case = is_case h a.case there in
+    let there : is_none (case_of_number h (action.AddParty a) a.case) ≡ false = rw is at free.case in
+    let of_case = is_case h (action.AddParty a) a.case there in
     let room = rw is at free.room in
     let same : parties_in (shown_fresh h (action.AddParty a)).case ≡ length (parties_of_case a.case (party_rows h)) = ⊎_elim (λ off. absurd (cc)) (λ found. ap parties_in found) (seen h (action.AddParty a) there) in
     let row : PartyRow = record { case = a.case; number = length (parties_of_case a.case (party_rows h)) + 1; name = a.name; role = a.role } in
@@ -124,8 +124,8 @@ entry_step : (court : CourtSettings) (h : History) (c : Command) (a : Action) �
     → AreSoundEntries (length (case_rows h)) (entry_rows h ++ new_entry (length (entries_of_case (case_number a) (entry_rows h))) a)
 entry_step court h c (action.FileEntry a) is free sound =
     let good = all_good (bad_values court (action.FileEntry a)) (rw is at free.values) in
-    let there : is_none (case_of_number h a.case) ≡ false = rw is at free.case in
-    let of_case = is_case h a.case there in
+    let there : is_none (case_of_number h (action.FileEntry a) a.case) ≡ false = rw is at free.case in
+    let of_case = is_case h (action.FileEntry a) a.case there in
     let room = rw is at free.room in
     let same : entries_in (shown_fresh h (action.FileEntry a)).case ≡ length (entries_of_case a.case (entry_rows h)) = ⊎_elim (λ off. absurd (cc)) (λ found. ap entries_in found) (seen h (action.FileEntry a) there) in
     let row : EntryRow = record { case = a.case; number = length (entries_of_case a.case (entry_rows h)) + 1; day = a.day; text = a.text } in

@@ -11,10 +11,9 @@ use Rattle.docket_command.specs.declared.command.Command.{Command}
 use Rattle.docket_command.specs.declared.refusal.Reply.{Reply}
 use Rattle.docket_core.specs.Histories.{History, items_of, standing_rows, case_rows, act_rows, deadline_rows, deadlines, deadlines_of_case}
 use Rattle.docket_core.specs.Records.{calendar, deadline_lines, lines_from}
-use Rattle.docket_core.specs.Tables.{case_in, rows_of}
+use Rattle.docket_core.specs.Tables.{case_deadlines, rows_of}
 use Rattle.docket_core.specs.declared.item.CalendarItem.{CalendarItem}
 use Rattle.docket_core.specs.declared.row.CalendarRow.{CalendarRow}
-use Rattle.docket_core.specs.declared.view.CaseView.{CaseView}
 use Rattle.docket_core.specs.declared.view.DeadlineView.{DeadlineView}
 use Rattle.docket_core.proofs.Leading.{length-deadlines_from}
 use Rattle.docket_core.proofs.LimitsKept.{within_limits, lawful_deadlines}
@@ -101,9 +100,9 @@ if_some : {X : Type 0} (b : Bool) (x y : X) → (if b then Some x else None) ≡
 if_some true x y e = ap (λ o. unwrap_or o y) (sym e)
 if_some false x y e = absurd (cc)
 
--- the deadlines of the case that is shown are those that are told
-pub lines_shown : (court : CourtSettings) (h : History) (k : ℕ) → option_map (λ (v : CaseView). lines_from (zone_of court) (calendar h) 1 v.deadlines) (case_in (rows_of court h) k) ≡ deadline_lines court h k
-lines_shown court h k = if_mapped (λ (v : CaseView). lines_from (zone_of court) (calendar h) 1 v.deadlines) (nat_le 1 k && nat_le k (length (case_rows h))) _
+-- the deadlines of the case that are shown are those that are told
+pub lines_shown : (court : CourtSettings) (h : History) (k : ℕ) → option_map (lines_from (zone_of court) (calendar h) 1) (case_deadlines (rows_of court h) k) ≡ deadline_lines court h k
+lines_shown court h k = if_mapped (lines_from (zone_of court) (calendar h) 1) (nat_le 1 k && nat_le k (length (case_rows h))) _
 
-pub deadlines_shown : (court : CourtSettings) (h : History) (k : ℕ) (v : CaseView) → case_in (rows_of court h) k ≡ Some v → v.deadlines ≡ deadlines k h
-deadlines_shown court h k v e = ap (λ (w : CaseView). w.deadlines) (if_some (nat_le 1 k && nat_le k (length (case_rows h))) _ v e)
+pub deadlines_shown : (court : CourtSettings) (h : History) (k : ℕ) (ds : List DeadlineView) → case_deadlines (rows_of court h) k ≡ Some ds → ds ≡ deadlines k h
+deadlines_shown court h k ds e = if_some (nat_le 1 k && nat_le k (length (case_rows h))) _ ds e

@@ -8,7 +8,7 @@ ghost use Rattle.court_days.specs.Court.{CourtSettings, zone_of};
 ghost use Rattle.docket_core.specs.CalendarItems.{calendar_of};
 ghost use Rattle.docket_core.specs.Histories.{History, items_of, standing_rows};
 ghost use Rattle.docket_core.specs.Records.{calendar, case_record, deadline_lines, lines_from};
-ghost use Rattle.docket_core.specs.Tables.{case_in, rows_of};
+ghost use Rattle.docket_core.specs.Tables.{case_deadlines, rows_of};
 ghost use Rattle.docket_core.specs.declared.item.CalendarItem.{CalendarItem as Item};
 ghost use Rattle.docket_tables.specs.Settling.{changes_calendar};
 ghost use Rattle.docket_store.specs.Applying.{Stands, Asks};
@@ -20,10 +20,10 @@ use crate::judging::take_calendar;
 use court_days::{Calendar, Court};
 use docket_command::Action;
 use docket_core::{
-    CalendarItem, CalendarItems, CaseRecord, CaseView, DeadlineLine, DeadlineView, calendar_of,
+    CalendarItem, CalendarItems, CaseRecord, DeadlineLine, DeadlineView, calendar_of,
     deadline_lines,
 };
-use docket_tables::{case_moved, case_record, case_view, is_sound_case};
+use docket_tables::{case_deadlines, case_moved, case_record, is_sound_case};
 use sqlite::{Alter, Connection};
 use std::alloc::Global;
 
@@ -45,19 +45,19 @@ pub(crate) fn record_numbered<S: Alter>(
     }
 }
 
-/// The case of a number, with its deadlines.
-fn case_shown<S: Alter>(
+/// The deadlines of the case of a number, each with its acts.
+fn deadlines_shown<S: Alter>(
     conn: &mut Connection<S>,
     alloc: Global,
     number: u32,
-) -> Result<Option<CaseView>, Fault>
+) -> Result<Option<Vec<DeadlineView>>, Fault>
     requires { conn.old.in_transaction ≡ false }
     ensures idle { conn.new.in_transaction ≡ false }
     ensures clean { doubt (state S.Store conn.old).is_clean ≤ doubt (state S.Store conn.new).is_clean }
     ensures answer { (court : CourtSettings) (kept : Option (List Item)) (h : History) → Stands S.Store (serving conn.old court kept) h
-        → Asks S.Store (serving conn.new court kept) h (λ found. found ≡ case_in (rows_of court h) number) result }
+        → Asks S.Store (serving conn.new court kept) h (λ found. option_map (λ deadlines. deadlines.items) found ≡ case_deadlines (rows_of court h) number) result }
 {
-    match case_view(conn, alloc, number) {
+    match case_deadlines(conn, alloc, number) {
         Ok(found) => Ok(found),
         Err(fault) => Err(read_fault(conn, fault)),
     }
@@ -148,23 +148,23 @@ fn lines_by(
     Ok(deadline_lines(alloc, court, &calendar, deadlines)?)
 }
 
-/// The deadlines of the case, with where each stands by the calendar, which is kept.
+/// The deadlines of a case, with where each stands by the calendar, which is kept.
 fn lines_of_case<S: Alter>(
     conn: &mut Connection<S>,
     alloc: Global,
     court: &Court,
     kept: &mut Option<CalendarItems>,
-    case: &CaseView,
+    deadlines: &[DeadlineView],
 ) -> Result<Vec<DeadlineLine>, Fault>
     requires { conn.old.in_transaction ≡ false }
     ensures idle { conn.new.in_transaction ≡ false }
     ensures clean { doubt (state S.Store conn.old).is_clean ≤ doubt (state S.Store conn.new).is_clean }
     ensures answer { (number : ℕ) (h : History) → Stands S.Store (serving conn.old court.now kept.old) h
-        → (HasCleanDisk (state S.Store conn.old) → case_in (rows_of court.now h) number ≡ Some case.now)
+        → (HasCleanDisk (state S.Store conn.old) → case_deadlines (rows_of court.now h) number ≡ Some deadlines.now)
         → Asks S.Store (serving conn.new court.now kept.new) h (λ lines. Some lines.items ≡ deadline_lines court.now h number) result }
 {
     let items = calendar_shown(conn, alloc, kept)?;
-    let answer = lines_by(alloc, court, items.as_slice(), case.deadlines.as_slice());
+    let answer = lines_by(alloc, court, items.as_slice(), deadlines);
     *kept = Some(items);
     answer
 }
@@ -183,8 +183,11 @@ pub(crate) fn lines_numbered<S: Alter>(
     ensures answer { (h : History) → Stands S.Store (serving conn.old court.now kept.old) h
         → Asks S.Store (serving conn.new court.now kept.new) h (λ found. option_map (λ lines. lines.items) found ≡ deadline_lines court.now h number) result }
 {
-    match case_shown(conn, alloc, number)? {
-        Some(case) => Ok(Some(lines_of_case(conn, alloc, court, kept, &case)?)),
+    match deadlines_shown(conn, alloc, number)? {
+        Some(deadlines) => {
+            let lines = lines_of_case(conn, alloc, court, kept, deadlines.as_slice())?;
+            Ok(Some(lines))
+        }
         None => Ok(None),
     }
 }

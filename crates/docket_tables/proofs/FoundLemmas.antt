@@ -1,50 +1,83 @@
 -- The case of a number, and what stands under a key.
-use Rattle.std.proofs.Common.{◌≡◌, ◌∙◌, ◌==◌, ◌+◌, ◌≤◌, ◌⊎◌, inl, inr, ℕ, zero, suc, pos, List, [], ◌∷◌, map, filter, length, slice_get, Some, None, Option, Result, Ok, refl, sym, ap, subst, arith}
+use Rattle.std.proofs.Common.{◌≡◌, ◌∙◌, ◌==◌, ◌+◌, ◌≤◌, ◌⊎◌, inl, inr, ℕ, zero, suc, pos, Bool, true, ◌&&◌, ap₂, List, [], ◌∷◌, map, filter, length, slice_get, Some, None, Option, Result, Ok, refl, sym, ap, subst, arith}
 use Rattle.std.specs.List.{AllByRecursion}
 use Rattle.std.specs.Str.{bytes_eq}
 use Rattle.sqlite.specs.declared.types.Value.TheVariants.{Int, Text}
+use Rattle.sqlite.specs.Collation.TheVariants.{Binary}
 use Rattle.sqlite.specs.Order.{Row}
+use Rattle.sqlite_schema.specs.Rules.{equal}
 use Rattle.sqlite_trees.proofs.ListLemmas.{all-filter}
 use Rattle.docket_command.specs.declared.command.Command.{Command}
 use Rattle.docket_core.specs.Outcomes.{kept, kept_by}
 use Rattle.docket_core.specs.Records.{case_at}
+use Rattle.docket_core.specs.Histories.{deadlines_of_case}
 use Rattle.docket_core.specs.declared.row.CaseRow.{CaseRow}
+use Rattle.docket_core.specs.declared.row.DeadlineRow.{DeadlineRow}
 use Rattle.docket_core.specs.declared.row.Receipt.{Receipt}
 use Rattle.docket_core.specs.declared.view.Kept.{Kept}
 use Rattle.docket_core.specs.declared.view.Kept.TheVariants.{Fresh}
-use Rattle.docket_columns.specs.Cells.{case_cells, receipt_cells}
-use Rattle.docket_columns.specs.Fits.{IsCaseRow, IsReceipt}
+use Rattle.docket_columns.specs.Cells.{case_cells, deadline_cells, receipt_cells}
+use Rattle.docket_columns.specs.Fits.{IsCaseRow, IsDeadlineRow, IsReceipt}
 use Rattle.docket_tables.specs.Orderly.{RunsFrom, receipts_under}
 use Rattle.docket_tables.specs.Queries.{IsAnswer}
-use Rattle.docket_tables.specs.Readings.{IsReadAs}
+use Rattle.docket_tables.specs.Readings.{IsReadAs, row_at}
 use Rattle.docket_tables.specs.declared.fault.ReadFault.{ReadFault}
 use Rattle.docket_tables.specs.declared.query.Query.TheVariants as ask
 use Rattle.docket_tables.proofs.AnswerLemmas.{the_one, equal_number}
+use Rattle.docket_tables.proofs.CaseActs.{passing_both}
 use Rattle.docket_tables.proofs.CellLemmas.{equal_text}
 use Rattle.docket_tables.proofs.HoldsLemmas.{and_yes}
 use Rattle.docket_tables.proofs.ReadLemmas.{read_ok, first_kept, numbered_at, none_below}
 
--- a case of that number, or none
-case_split : (k : ℕ) (cases : List CaseRow) → RunsFrom 1 (map (λ row. row.number) cases)
-    → ((case_at cases k ≡ None) × (filter (λ row. row.number == k) cases ≡ [])) ⊎ ((row : CaseRow) × (case_at cases k ≡ Some row) × (filter (λ row. row.number == k) cases ≡ row ∷ []))
-case_split zero cases runs = inl (refl, none_below (λ row. row.number) 1 0 cases (omega arith) runs)
-case_split (suc i) cases runs =
+-- an element of that number, or none, where the numbers run from 1
+numbered_split : {X : Type 0} (number : X → ℕ) (k : ℕ) (xs : List X) → RunsFrom 1 (map number xs)
+    → ((row_at xs k ≡ None) × (filter (λ x. number x == k) xs ≡ [])) ⊎ ((x : X) × (row_at xs k ≡ Some x) × (filter (λ y. number y == k) xs ≡ x ∷ []))
+numbered_split number zero xs runs = inl (refl, none_below number 1 0 xs (omega arith) runs)
+numbered_split {X} number (suc i) xs runs =
     let same : 1 + i ≡ suc i = omega arith in
-    subst (λ k. ((slice_get cases i ≡ None) × (filter (λ row. row.number == k) cases ≡ [])) ⊎ ((row : CaseRow) × (slice_get cases i ≡ Some row) × (filter (λ row. row.number == k) cases ≡ row ∷ []))) same
-    (numbered_at (λ row. row.number) 1 i cases runs)
+    subst (λ k. ((slice_get xs i ≡ None) × (filter (λ x. number x == k) xs ≡ [])) ⊎ ((x : X) × (slice_get xs i ≡ Some x) × (filter (λ y. number y == k) xs ≡ x ∷ []))) same
+    (numbered_at number 1 i xs runs)
+
+case_there : (cases : List CaseRow) (k : ℕ) → case_at cases k ≡ row_at cases k
+case_there cases zero = refl
+case_there cases (suc n) = refl
 
 pub case_read : (k : ℕ) (result : Result (Option CaseRow) ReadFault) (found : List Row) (cases : List CaseRow) → AllByRecursion IsCaseRow cases → RunsFrom 1 (map (λ row. row.number) cases)
     → IsAnswer ask.CaseNumbered (Int (pos k) ∷ []) (map case_cells cases) found
     → (found ≡ [] → IsReadAs (λ c. c ≡ None) result) → ((row : CaseRow) → IsCaseRow row → found ≡ case_cells row ∷ [] → IsReadAs (λ c. c ≡ Some row) result)
     → IsReadAs (λ c. c ≡ case_at cases k) result
 case_read k result found cases each runs answer none one =
-    elim (case_split k cases runs) [
-      | inl absent ↦ subst (λ o. IsReadAs (λ c. c ≡ o) result) (sym absent.0) (none (is (omega (arith, ap length absent.1)) ∙ ap (map case_cells) absent.1))
-      | inr it ↦ subst (λ o. IsReadAs (λ c. c ≡ o) result) (sym it.1) (one it.0 (subst (AllByRecursion IsCaseRow) it.2 (all-filter _ _ cases each)).0 (is (omega (arith, ap length it.2)) ∙ ap (map case_cells) it.2))
+    elim (numbered_split (λ (row : CaseRow). row.number) k cases runs) [
+      | inl absent ↦ subst (λ o. IsReadAs (λ c. c ≡ o) result) (sym (case_there cases k ∙ absent.0)) (none (is (omega (arith, ap length absent.1)) ∙ ap (map case_cells) absent.1))
+      | inr it ↦ subst (λ o. IsReadAs (λ c. c ≡ o) result) (sym (case_there cases k ∙ it.1)) (one it.0 (subst (AllByRecursion IsCaseRow) it.2 (all-filter _ _ cases each)).0 (is (omega (arith, ap length it.2)) ∙ ap (map case_cells) it.2))
     ]
   where
     is : length (filter (λ row. row.number == k) cases) ≤ 1 → found ≡ map case_cells (filter (λ row. row.number == k) cases)
     is few = the_one ask.CaseNumbered (Int (pos k) ∷ []) case_cells (λ row. row.number == k) (λ row. and_yes _ ∙ equal_number row.number k) cases found refl few answer
+
+-- two numbers are those that were given
+pub equal_numbers : (m k i n : ℕ) → (equal Binary (Int (pos m)) (Int (pos k)) && (equal Binary (Int (pos i)) (Int (pos n)) && true)) ≡ (m == k && i == n)
+equal_numbers m k i n = ap₂ (λ a b. a && b) (equal_number m k) (and_yes _ ∙ equal_number i n)
+
+pub deadline_read : (k n : ℕ) (result : Result (Option DeadlineRow) ReadFault) (found : List Row) (rows : List DeadlineRow) → AllByRecursion IsDeadlineRow rows → RunsFrom 1 (map (λ row. row.number) (deadlines_of_case k rows))
+    → IsAnswer ask.Deadline (Int (pos k) ∷ Int (pos n) ∷ []) (map deadline_cells rows) found
+    → (found ≡ [] → IsReadAs (λ d. d ≡ None) result) → ((row : DeadlineRow) → IsDeadlineRow row → found ≡ deadline_cells row ∷ [] → IsReadAs (λ d. d ≡ Some row) result)
+    → IsReadAs (λ d. d ≡ row_at (deadlines_of_case k rows) n) result
+deadline_read k n result found rows each runs answer none one =
+    elim (numbered_split (λ (row : DeadlineRow). row.number) n (deadlines_of_case k rows) runs) [
+      | inl absent ↦ subst (λ o. IsReadAs (λ d. d ≡ o) result) (sym absent.0) (none (is (omega (arith, ap length (both ∙ absent.1))) ∙ ap (map deadline_cells) (both ∙ absent.1)))
+      | inr it ↦ subst (λ o. IsReadAs (λ d. d ≡ o) result) (sym it.1)
+          (one it.0 (subst (AllByRecursion IsDeadlineRow) (both ∙ it.2) (all-filter IsDeadlineRow passes rows each)).0 (is (omega (arith, ap length (both ∙ it.2))) ∙ ap (map deadline_cells) (both ∙ it.2)))
+    ]
+  where
+    passes : DeadlineRow → Bool
+    passes row = row.case == k && row.number == n
+
+    both : filter passes rows ≡ filter (λ (row : DeadlineRow). row.number == n) (deadlines_of_case k rows)
+    both = sym (passing_both (λ (row : DeadlineRow). row.case == k) (λ row. row.number == n) rows)
+
+    is : length (filter passes rows) ≤ 1 → found ≡ map deadline_cells (filter passes rows)
+    is few = the_one ask.Deadline (Int (pos k) ∷ Int (pos n) ∷ []) deadline_cells passes (λ row. equal_numbers row.case k row.number n) rows found refl few answer
 
 alone : {X : Type 0} (x : X) (rest : List X) → length (x ∷ rest) ≤ 1 → x ∷ rest ≡ x ∷ []
 alone x [] few = refl

@@ -144,7 +144,7 @@ range_of h a x is = at (case_named a) is
     within k true y e f = e
     within k false y e f = absurd (let no = f in cc)
 
-    at : (o : Option ℕ) → option_and_then (case_of_number h) o ≡ Some x → (nat_le 1 (unwrap_or o 0) && nat_le (unwrap_or o 0) (length (case_rows h))) ≡ true
+    at : (o : Option ℕ) → option_and_then (case_of_number h a) o ≡ Some x → (nat_le 1 (unwrap_or o 0) && nat_le (unwrap_or o 0) (length (case_rows h))) ≡ true
     at None e = absurd (let no = e in cc)
     at (Some k) e = within k (nat_le 1 k && nat_le k (length (case_rows h))) _ refl e
 

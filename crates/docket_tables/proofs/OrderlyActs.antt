@@ -13,11 +13,11 @@ use Rattle.docket_command.specs.declared.command.Action.{Action}
 use Rattle.docket_core.specs.Actions.{deadline_named, deadlines_made, acts_made}
 use Rattle.docket_core.specs.Histories.{History, case_number, deadline_number, deadline_rows, deadlines_of_case, act_rows, acts_of_deadline, first_acts, first_acts_from, later_acts, act_rows_on}
 use Rattle.docket_core.specs.Outcomes.{IsHistory, shown_fresh}
-use Rattle.docket_core.specs.Views.{deadline_at, deadlines_in}
+use Rattle.docket_core.specs.Views.{deadline_at}
 use Rattle.docket_core.specs.declared.row.ActRow.{ActRow}
 use Rattle.docket_core.proofs.InOrderLemmas.{same_number}
 use Rattle.docket_core.proofs.Leading.{seen, none_acted, none_acted_in}
-use Rattle.docket_core.proofs.LimitsKept.{IsPassed, passed, all_kept, there_is, within_limits}
+use Rattle.docket_core.proofs.LimitsKept.{IsPassed, passed, all_kept, there_is, named_there, within_limits}
 use Rattle.docket_core.proofs.Passed.{left_true, right_true}
 use Rattle.docket_wire.specs.Valid.{IsCommand}
 use Rattle.docket_columns.specs.Fits.{IsCount, IsAct, IsActRow}
@@ -137,10 +137,8 @@ named court h a new more p e = by_name (deadline_named a) refl
         ⊎_elim
         (λ off. absurd (let clash : [] ≡ new ∷ more = sym (none_acted_in a off) ∙ e in cc))
         (λ case_is.
-        let found : is_none (deadline_at (deadlines_in (shown_fresh h a).case) m) ≡ false =
-        subst (λ d. is_some d && is_none (option_and_then (deadline_at (deadlines_in (shown_fresh h a).case)) d) ≡ false) is p.deadline in
         let number_is : deadline_number a ≡ m = ap (λ d. unwrap_or d 0) is in
-        let place = there_is h (case_number a) m (shown_fresh h a).case _ _ case_is found in
+        let place = there_is h (case_number a) m (named_there h a m is case_is p.deadline) in
         (omega (arith, place.0, number_is), omega (arith, place.1, number_is)))
         (seen h a p.case)
 

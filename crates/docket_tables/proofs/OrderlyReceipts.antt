@@ -21,7 +21,7 @@ use Rattle.docket_core.specs.Limits.{IsWithinLimits}
 use Rattle.docket_core.specs.Outcomes.{IsHistory, accepted, answer_kept, answer_by, repeated, refused, case_of_number, kept, kept_by, receipts, reply_to, replied, shown, shown_fresh}
 use Rattle.docket_core.specs.Refusals.{on, on_value, first_some, is_reused, is_there, is_full, count_added, wants_statement, refusal_of, state_refusals}
 use Rattle.docket_core.specs.Times.{standing_shown, is_in_time}
-use Rattle.docket_core.specs.Views.{parties_in, entries_in, deadlines_in}
+use Rattle.docket_core.specs.Views.{parties_in, entries_in, count_deadlines}
 use Rattle.docket_core.specs.Values.{is_word, first_bad, bad_values}
 use Rattle.docket_core.specs.declared.item.CalendarItem.TheVariants.{Span}
 use Rattle.docket_core.specs.declared.row.Receipt.{Receipt}
@@ -29,7 +29,7 @@ use Rattle.docket_core.specs.declared.view.Kept.{Kept}
 use Rattle.docket_core.specs.declared.view.Kept.TheVariants.{Fresh, Same, Other}
 use Rattle.docket_core.specs.declared.view.View.{View}
 use Rattle.docket_core.proofs.GoodValues.{or_off}
-use Rattle.docket_core.proofs.Leading.{is_accepted, length-deadlines_from}
+use Rattle.docket_core.proofs.Leading.{is_accepted, case_numbered, length-deadlines_from}
 use Rattle.docket_core.proofs.LimitsKept.{within_limits}
 use Rattle.docket_core.proofs.Passed.{is_free, rows_fit, not_above, not_at}
 use Rattle.docket_wire.specs.Valid.{IsAction, IsCommand}
@@ -89,13 +89,13 @@ one_receipt court (c ∷ h) is key =
     (none_under c.key (receipts court h) (none_found _ c fresh)) (one_receipt court h is.1 key)
 
 -- replies are counts
-some_deadlines : (h : History) (k : ℕ) (b : Bool) → length (deadlines_of_case k (deadline_rows h)) ≤ 1000 → length (deadlines_in (if b then Some (record { number = k; parties = length (parties_of_case k (party_rows h)); entries = length (entries_of_case k (entry_rows h)); deadlines = deadlines k h }) else None)) ≤ 1000
-some_deadlines h k true few = omega (arith, few, length-deadlines_from k 1 (act_rows h) (deadlines_of_case k (deadline_rows h)))
-some_deadlines h k false few = omega arith
+some_deadlines : (h : History) (a : Action) (k : ℕ) (b : Bool) → length (deadlines_of_case k (deadline_rows h)) ≤ 1000 → count_deadlines (if b then Some (case_numbered h a k) else None) ≤ 1000
+some_deadlines h a k true few = omega (arith, few, length-deadlines_from k 1 (act_rows h) (deadlines_of_case k (deadline_rows h)))
+some_deadlines h a k false few = omega arith
 
-few_deadlines : (h : History) (o : Option ℕ) → ((k : ℕ) → length (deadlines_of_case k (deadline_rows h)) ≤ 1000) → length (deadlines_in (option_and_then (case_of_number h) o)) ≤ 1000
-few_deadlines h None few = omega arith
-few_deadlines h (Some k) few = some_deadlines h k (nat_le 1 k && nat_le k (length (case_rows h))) (few k)
+few_deadlines : (h : History) (a : Action) (o : Option ℕ) → ((k : ℕ) → length (deadlines_of_case k (deadline_rows h)) ≤ 1000) → count_deadlines (option_and_then (case_of_number h a) o) ≤ 1000
+few_deadlines h a None few = omega arith
+few_deadlines h a (Some k) few = some_deadlines h a k (nat_le 1 k && nat_le k (length (case_rows h))) (few k)
 
 -- a calendar row that doesn't stand is added
 one_row : (b : Bool) (new : NewRow) → b ≡ false → length (if b then [] else new ∷ []) ≡ 1
@@ -124,13 +124,13 @@ reply_counts court h (action.AddParty a) within is new room = let few = not_at 1
 reply_counts court h (action.FileEntry a) within is new room = let few = not_at 10_000 (entries_in (shown_fresh h (action.FileEntry a)).case) room in omega (arith, few)
 reply_counts court h (action.RuleMotion a) within is new room = is.1.0
 reply_counts court h (action.Dispose a) within is new room =
-    either (wants_statement a.outcome) _ a.deadline (omega (arith, few_deadlines h (Some a.case) within.deadlines)) is.1.0
+    either (wants_statement a.outcome) _ a.deadline (omega (arith, few_deadlines h (action.Dispose a) (Some a.case) within.deadlines)) is.1.0
 reply_counts court h (action.StatementServed a) within is new room = is.1.0
 reply_counts court h (action.Extend a) within is new room = is.1.0
 reply_counts court h (action.Satisfy a) within is new room =
-    either (is_in_time court (standing_shown court (shown_fresh h (action.Satisfy a)) (action.Satisfy a)) a.at a.way) 1 0 (omega arith) (omega arith)
+    either (is_in_time court (standing_shown court (shown_fresh h (action.Satisfy a))) a.at a.way) 1 0 (omega arith) (omega arith)
 reply_counts court h (action.Vacate a) within is new room = is.1.0
-reply_counts court h a within is new room = omega (arith, few_deadlines h (case_named a) within.deadlines)
+reply_counts court h a within is new room = omega (arith, few_deadlines h a (case_named a) within.deadlines)
 
 pub receipts_held : (court : CourtSettings) (h : History) → IsHistory court h → AllByRecursion IsCommand h → AllByRecursion IsReceipt (receipts court h)
 receipts_held court [] is all = tt

@@ -57,8 +57,11 @@ select_means ask.LastParty = record { keeps = has 1 0 ∷ []; shows = shows_of t
 select_means ask.Parties = record { keeps = has 1 0 ∷ []; shows = shows_of table.Parties; collations = []; order = (col 1 2, record { collation = Binary; descending = false }) ∷ []; limit = lit (Int (negsuc 0)); names = names_of table.Parties; is = refl; plain = (refl, refl); unlisted = refl; kept = λ params row. refl; shown = λ params row. refl; sorted = λ params row. refl; keyed = refl; limited_to = λ params. refl }
 select_means ask.LastEntry = record { keeps = has 1 0 ∷ []; shows = shows_of table.Entries; collations = []; order = (col 1 2, record { collation = Binary; descending = true }) ∷ []; limit = lit (Int (pos 1)); names = names_of table.Entries; is = refl; plain = (refl, refl); unlisted = refl; kept = λ params row. refl; shown = λ params row. refl; sorted = λ params row. refl; keyed = refl; limited_to = λ params. refl }
 select_means ask.Entries = record { keeps = has 1 0 ∷ []; shows = shows_of table.Entries; collations = []; order = (col 1 2, record { collation = Binary; descending = false }) ∷ []; limit = lit (Int (negsuc 0)); names = names_of table.Entries; is = refl; plain = (refl, refl); unlisted = refl; kept = λ params row. refl; shown = λ params row. refl; sorted = λ params row. refl; keyed = refl; limited_to = λ params. refl }
+select_means ask.LastDeadline = record { keeps = has 1 0 ∷ []; shows = shows_of table.Deadlines; collations = []; order = (col 1 2, record { collation = Binary; descending = true }) ∷ []; limit = lit (Int (pos 1)); names = names_of table.Deadlines; is = refl; plain = (refl, refl); unlisted = refl; kept = λ params row. refl; shown = λ params row. refl; sorted = λ params row. refl; keyed = refl; limited_to = λ params. refl }
+select_means ask.Deadline = record { keeps = has 1 0 ∷ has 2 1 ∷ []; shows = shows_of table.Deadlines; collations = []; order = []; limit = lit (Int (negsuc 0)); names = names_of table.Deadlines; is = refl; plain = (refl, refl); unlisted = refl; kept = λ params row. refl; shown = λ params row. refl; sorted = λ params row. refl; keyed = refl; limited_to = λ params. refl }
 select_means ask.Deadlines = record { keeps = has 1 0 ∷ []; shows = shows_of table.Deadlines; collations = []; order = (col 1 2, record { collation = Binary; descending = false }) ∷ []; limit = lit (Int (negsuc 0)); names = names_of table.Deadlines; is = refl; plain = (refl, refl); unlisted = refl; kept = λ params row. refl; shown = λ params row. refl; sorted = λ params row. refl; keyed = refl; limited_to = λ params. refl }
 select_means ask.Acts = record { keeps = has 1 0 ∷ []; shows = shows_of table.Acts; collations = []; order = (col 1 2, record { collation = Binary; descending = false }) ∷ (col 1 3, record { collation = Binary; descending = false }) ∷ []; limit = lit (Int (negsuc 0)); names = names_of table.Acts; is = refl; plain = (refl, refl); unlisted = refl; kept = λ params row. refl; shown = λ params row. refl; sorted = λ params row. refl; keyed = refl; limited_to = λ params. refl }
+select_means ask.DeadlineActs = record { keeps = has 1 0 ∷ has 2 1 ∷ []; shows = shows_of table.Acts; collations = []; order = (col 1 3, record { collation = Binary; descending = false }) ∷ []; limit = lit (Int (negsuc 0)); names = names_of table.Acts; is = refl; plain = (refl, refl); unlisted = refl; kept = λ params row. refl; shown = λ params row. refl; sorted = λ params row. refl; keyed = refl; limited_to = λ params. refl }
 select_means ask.Ends = record { keeps = has 1 0 ∷ []; shows = shows_of table.Ends; collations = []; order = (col 1 2, record { collation = Binary; descending = false }) ∷ []; limit = lit (Int (negsuc 0)); names = names_of table.Ends; is = refl; plain = (refl, refl); unlisted = refl; kept = λ params row. refl; shown = λ params row. refl; sorted = λ params row. refl; keyed = refl; limited_to = λ params. refl }
 select_means ask.Receipt = record { keeps = has 1 0 ∷ []; shows = shows_of table.Receipts; collations = []; order = []; limit = lit (Int (negsuc 0)); names = names_of table.Receipts; is = refl; plain = (refl, refl); unlisted = refl; kept = λ params row. refl; shown = λ params row. refl; sorted = λ params row. refl; keyed = refl; limited_to = λ params. refl }
 

@@ -1,6 +1,6 @@
 -- What is tested of a view makes it sound, and a sound view passes.
-use Rattle.std.proofs.Common.{◌≡◌, ◌≤◌, Bool, true, false, List, [], ◌∷◌, length, refl, arith}
-use Rattle.std.specs.Prelude.{nat_lt, nat_le, ◌&&◌}
+use Rattle.std.proofs.Common.{◌≡◌, ◌≤◌, Bool, true, false, Option, Some, None, List, [], ◌∷◌, length, refl, arith}
+use Rattle.std.specs.Prelude.{nat_lt, nat_le, ◌&&◌, IfSome}
 use Rattle.std.specs.List.{All, list_all}
 use Rattle.std.proofs.lemmas.Bool.Decides.{nat_tests}
 use Rattle.std.proofs.lemmas.List.Elements.{All-nil, All-cons, All-head, All-tail}
@@ -13,13 +13,13 @@ use Rattle.court_rules.specs.declared.act.Act.TheVariants as act
 use Rattle.court_rules.specs.declared.act.Start.TheVariants as start
 use Rattle.docket_core.specs.CalendarItems.{IsEnteredItem}
 use Rattle.docket_core.specs.Decisions.{IsSoundView}
-use Rattle.docket_core.specs.Views.{deadlines_in}
+use Rattle.docket_core.specs.Views.{deadline_shown}
 use Rattle.docket_core.specs.declared.item.CalendarItem.{CalendarItem}
 use Rattle.docket_core.specs.declared.item.CalendarItem.TheVariants.{Day, Span}
 use Rattle.docket_core.specs.declared.view.DeadlineView.{DeadlineView}
 use Rattle.docket_core.specs.declared.view.View.{View}
 use Rattle.docket_core.proofs.Passed.{left_true, right_true}
-use Rattle.docket_tables.specs.Sound.{is_entered_item, begins_in_time, are_acts, are_lawful, IsSoundCase}
+use Rattle.docket_tables.specs.Sound.{is_entered_item, begins_in_time, are_acts, are_lawful, is_lawful, IsSoundCase}
 
 both_true : (a b : Bool) → a ≡ true → b ≡ true → (a && b) ≡ true
 both_true true b e f = f
@@ -83,19 +83,27 @@ module _ (zone : ZoneRules) where
   acts_passed : (d : DeadlineView) → AreActs zone d.acts → are_acts zone d.acts ≡ true
   acts_passed d is = both_true (acts_ok d.acts) (list_all (begins_in_time zone) d.acts) is.0 (begin_passed d.acts (all_within d.acts is.0) is.1)
 
-pub sound_told : (court : CourtSettings) (v : View) → length v.calendar ≤ 4000 → v.next_row ≤ 4_294_967_296 → list_all is_entered_item v.calendar ≡ true → are_lawful (zone_of court) (deadlines_in v.case) ≡ true → IsSoundView court v
+  lawful_told : (o : Option DeadlineView) → is_lawful zone o ≡ true → IfSome o (λ d. AreActs zone d.acts)
+  lawful_told None e = tt
+  lawful_told (Some d) e = acts_told d e
+
+  passed_if : (o : Option DeadlineView) → IfSome o (λ d. AreActs zone d.acts) → is_lawful zone o ≡ true
+  passed_if None is = refl
+  passed_if (Some d) is = acts_passed d is
+
+pub sound_told : (court : CourtSettings) (v : View) → length v.calendar ≤ 4000 → v.next_row ≤ 4_294_967_296 → list_all is_entered_item v.calendar ≡ true → is_lawful (zone_of court) (deadline_shown v) ≡ true → IsSoundView court v
 sound_told court v few next items lawful = record {
   items = all_told is_entered_item IsEnteredItem item_told v.calendar items;
   rows = few;
   next_row = next;
-  acts = all_told (λ (d : DeadlineView). are_acts (zone_of court) d.acts) (λ (d : DeadlineView). AreActs (zone_of court) d.acts) (acts_told (zone_of court)) (deadlines_in v.case) lawful;
+  acts = lawful_told (zone_of court) (deadline_shown v) lawful;
 }
 
 pub items_passed : (court : CourtSettings) (v : View) → IsSoundView court v → list_all is_entered_item v.calendar ≡ true
 items_passed court v is = all_passed is_entered_item IsEnteredItem item_passed v.calendar is.items
 
-pub lawful_passed : (court : CourtSettings) (v : View) → IsSoundView court v → are_lawful (zone_of court) (deadlines_in v.case) ≡ true
-lawful_passed court v is = all_passed (λ (d : DeadlineView). are_acts (zone_of court) d.acts) (λ (d : DeadlineView). AreActs (zone_of court) d.acts) (acts_passed (zone_of court)) (deadlines_in v.case) is.acts
+pub lawful_passed : (court : CourtSettings) (v : View) → IsSoundView court v → is_lawful (zone_of court) (deadline_shown v) ≡ true
+lawful_passed court v is = passed_if (zone_of court) (deadline_shown v) is.acts
 
 module _ (court : CourtSettings) (items : List CalendarItem) (ds : List DeadlineView) where
   pub case_told : length items ≤ 4000 → length ds ≤ 1000 → list_all is_entered_item items ≡ true → are_lawful (zone_of court) ds ≡ true → IsSoundCase court items ds

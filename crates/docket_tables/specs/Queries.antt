@@ -22,8 +22,11 @@ select_text ask.LastParty = codes "SELECT case_no, number, name, role FROM party
 select_text ask.Parties = codes "SELECT case_no, number, name, role FROM party WHERE case_no = ?1 ORDER BY number"
 select_text ask.LastEntry = codes "SELECT case_no, number, day, body FROM entry WHERE case_no = ?1 ORDER BY number DESC LIMIT 1"
 select_text ask.Entries = codes "SELECT case_no, number, day, body FROM entry WHERE case_no = ?1 ORDER BY number"
+select_text ask.LastDeadline = codes "SELECT case_no, number, party, rule, initial FROM deadline WHERE case_no = ?1 ORDER BY number DESC LIMIT 1"
+select_text ask.Deadline = codes "SELECT case_no, number, party, rule, initial FROM deadline WHERE case_no = ?1 AND number = ?2"
 select_text ask.Deadlines = codes "SELECT case_no, number, party, rule, initial FROM deadline WHERE case_no = ?1 ORDER BY number"
 select_text ask.Acts = codes "SELECT case_no, deadline_no, number, kind, p1, p2, p3, p4, p5 FROM act WHERE case_no = ?1 ORDER BY deadline_no, number"
+select_text ask.DeadlineActs = codes "SELECT case_no, deadline_no, number, kind, p1, p2, p3, p4, p5 FROM act WHERE case_no = ?1 AND deadline_no = ?2 ORDER BY number"
 select_text ask.Receipt = codes "SELECT command_key, body, reply FROM receipt WHERE command_key = ?1"
 select_text ask.Ends = codes "SELECT case_no, deadline_no, day, moment FROM due WHERE case_no = ?1 ORDER BY deadline_no"
 
@@ -39,8 +42,11 @@ table_of ask.LastParty = table.Parties
 table_of ask.Parties = table.Parties
 table_of ask.LastEntry = table.Entries
 table_of ask.Entries = table.Entries
+table_of ask.LastDeadline = table.Deadlines
+table_of ask.Deadline = table.Deadlines
 table_of ask.Deadlines = table.Deadlines
 table_of ask.Acts = table.Acts
+table_of ask.DeadlineActs = table.Acts
 table_of ask.Receipt = table.Receipts
 table_of ask.Ends = table.Ends
 
@@ -56,8 +62,11 @@ keys_of ask.LastParty = 0 ∷ []
 keys_of ask.Parties = 0 ∷ []
 keys_of ask.LastEntry = 0 ∷ []
 keys_of ask.Entries = 0 ∷ []
+keys_of ask.LastDeadline = 0 ∷ []
+keys_of ask.Deadline = 0 ∷ 1 ∷ []
 keys_of ask.Deadlines = 0 ∷ []
 keys_of ask.Acts = 0 ∷ []
+keys_of ask.DeadlineActs = 0 ∷ 1 ∷ []
 keys_of ask.Receipt = 0 ∷ []
 keys_of ask.Ends = 0 ∷ []
 
@@ -73,8 +82,11 @@ order_of ask.LastParty = 1 ∷ []
 order_of ask.Parties = 1 ∷ []
 order_of ask.LastEntry = 1 ∷ []
 order_of ask.Entries = 1 ∷ []
+order_of ask.LastDeadline = 1 ∷ []
+order_of ask.Deadline = []
 order_of ask.Deadlines = 1 ∷ []
 order_of ask.Acts = 1 ∷ 2 ∷ []
+order_of ask.DeadlineActs = 2 ∷ []
 order_of ask.Receipt = []
 order_of ask.Ends = 1 ∷ []
 
@@ -90,8 +102,11 @@ is_last ask.LastParty = true
 is_last ask.Parties = false
 is_last ask.LastEntry = true
 is_last ask.Entries = false
+is_last ask.LastDeadline = true
+is_last ask.Deadline = false
 is_last ask.Deadlines = false
 is_last ask.Acts = false
+is_last ask.DeadlineActs = false
 is_last ask.Receipt = false
 is_last ask.Ends = false
 
@@ -107,8 +122,11 @@ most_of ask.LastParty = Some 1
 most_of ask.Parties = None
 most_of ask.LastEntry = Some 1
 most_of ask.Entries = None
+most_of ask.LastDeadline = Some 1
+most_of ask.Deadline = None
 most_of ask.Deadlines = None
 most_of ask.Acts = None
+most_of ask.DeadlineActs = None
 most_of ask.Receipt = None
 most_of ask.Ends = None
 

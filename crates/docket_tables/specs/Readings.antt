@@ -1,5 +1,5 @@
 -- What a question to a connection gives.
-use Rattle.std.specs.Prelude.{◌≡◌, ◌==◌, ℕ, List, filter, Result, Ok, Err}
+use Rattle.std.specs.Prelude.{◌≡◌, ◌==◌, ℕ, zero, suc, List, filter, slice_get, Option, None, Result, Ok, Err}
 use Rattle.std.specs.List.Sorted.{IsNonDecreasingBy}
 use Rattle.sqlite.specs.Store.{Ghosts}
 use Rattle.sqlite.specs.State.{HasCleanDisk}
@@ -19,6 +19,11 @@ abbrev pub IsReadAs : {X : Type 0} → (X → Type 0) → Result X ReadFault →
 IsReadAs answer (Ok x) = answer x
 IsReadAs answer (Err NoMemory) = Unit {0}
 IsReadAs answer (Err _) = ⊥
+
+-- the row of a number, from 1
+abbrev pub row_at : {R : Type 0} → List R → ℕ → Option R
+row_at rows zero = None
+row_at rows (suc n) = slice_get rows n
 
 -- the rows are the acts of case k, by their deadlines: of each deadline its acts, in their order
 abbrev pub AreActsOf : ℕ → List ActRow → List ActRow → Type 0

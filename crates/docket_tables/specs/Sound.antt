@@ -1,5 +1,5 @@
 -- What is tested of a view that was read from a database.
-use Rattle.std.specs.Prelude.{nat_le, nat_lt, ◌≤◌, ◌&&◌, Bool, true, List, length}
+use Rattle.std.specs.Prelude.{nat_le, nat_lt, ◌≤◌, ◌&&◌, Bool, true, List, length, Option, Some, None}
 use Rattle.std.specs.List.{All, list_all}
 use Rattle.civil_time.specs.LocalTime.{local_day, seconds}
 use Rattle.civil_time.specs.Zone.{ZoneRules}
@@ -32,6 +32,11 @@ are_acts zone acts = acts_ok acts && list_all (begins_in_time zone) acts
 -- each deadline has lawful acts
 abbrev pub are_lawful : ZoneRules → List DeadlineView → Bool
 are_lawful zone all = list_all (λ d. are_acts zone d.acts) all
+
+-- the deadline, if there is one, has lawful acts
+abbrev pub is_lawful : ZoneRules → Option DeadlineView → Bool
+is_lawful zone None = true
+is_lawful zone (Some d) = are_acts zone d.acts
 
 -- a court may enter each item of the calendar, at most 4,000 of them, and the deadlines of a case have lawful acts, at most 1,000
 -- deadlines

@@ -32,12 +32,13 @@ pub use moving::{CaseRange, case_moved, cases_moved};
 pub use probe::fault_of;
 pub use query::Query;
 pub use reading::{
-    acts_of_case, calendar, case, cases, count_entries, count_parties, court, deadlines, entries,
-    is_label_taken, is_row_standing, kept, parties, version,
+    acts_of_case, acts_of_deadline, calendar, case, cases, count_deadlines, count_entries,
+    count_parties, court, deadline, deadlines, entries, is_label_taken, is_row_standing, kept,
+    parties, version,
 };
 pub use recognition::{has_court, has_court_columns, has_docket_table, is_bare};
 pub use sound::{is_sound, is_sound_case};
 pub use table::Table;
 pub use telling::case_record;
-pub use viewing::{calendar_items, case_view, view};
+pub use viewing::{calendar_items, case_deadlines, view};
 pub use writing::write;

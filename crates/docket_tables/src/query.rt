@@ -25,10 +25,16 @@ pub enum Query {
     LastEntry,
     /// The entries of a case, in the order of their numbers.
     Entries,
+    /// The deadline with the highest number in a case.
+    LastDeadline,
+    /// The deadline of a case and a number.
+    Deadline,
     /// The deadlines of a case, in the order of their numbers.
     Deadlines,
     /// The acts of a case, in the order of their deadlines and numbers.
     Acts,
+    /// The acts of a deadline of a case, in the order of their numbers.
+    DeadlineActs,
     /// The receipt under a key.
     Receipt,
     /// The ends of the deadlines of a case, in the order of the deadlines.
@@ -64,11 +70,20 @@ pub(crate) fn select_text(query: Query) -> &'static str
         Query::Entries => {
             "SELECT case_no, number, day, body FROM entry WHERE case_no = ?1 ORDER BY number"
         }
+        Query::LastDeadline => {
+            "SELECT case_no, number, party, rule, initial FROM deadline WHERE case_no = ?1 ORDER BY number DESC LIMIT 1"
+        }
+        Query::Deadline => {
+            "SELECT case_no, number, party, rule, initial FROM deadline WHERE case_no = ?1 AND number = ?2"
+        }
         Query::Deadlines => {
             "SELECT case_no, number, party, rule, initial FROM deadline WHERE case_no = ?1 ORDER BY number"
         }
         Query::Acts => {
             "SELECT case_no, deadline_no, number, kind, p1, p2, p3, p4, p5 FROM act WHERE case_no = ?1 ORDER BY deadline_no, number"
+        }
+        Query::DeadlineActs => {
+            "SELECT case_no, deadline_no, number, kind, p1, p2, p3, p4, p5 FROM act WHERE case_no = ?1 AND deadline_no = ?2 ORDER BY number"
         }
         Query::Ends => {
             "SELECT case_no, deadline_no, day, moment FROM due WHERE case_no = ?1 ORDER BY deadline_no"

@@ -4,13 +4,13 @@ ghost use Rattle.std.specs.List.{list_any};
 ghost use Rattle.std.specs.Str.{bytes_eq};
 ghost use Rattle.sqlite.specs.Held.{state};
 ghost use Rattle.sqlite.specs.View.{doubt};
-ghost use Rattle.docket_core.specs.Histories.{parties_of_case, entries_of_case, deadlines_of_case};
+ghost use Rattle.docket_core.specs.Histories.{parties_of_case, entries_of_case, deadlines_of_case, acts_of_deadline};
 ghost use Rattle.docket_core.specs.Outcomes.{kept};
 ghost use Rattle.docket_core.specs.Records.{case_at};
 ghost use Rattle.docket_wire.specs.Valid.{IsCommand};
 ghost use Rattle.docket_wire.specs.Writing.{canonical};
 ghost use Rattle.docket_tables.specs.Layouts.{Rows};
-ghost use Rattle.docket_tables.specs.Readings.{AreActsOf, Gives, Reads};
+ghost use Rattle.docket_tables.specs.Readings.{AreActsOf, Gives, Reads, row_at};
 ghost use Rattle.docket_tables.specs.Recognition.{TellsVersion};
 ghost use Rattle.docket_tables.specs.Stands.{HoldsRows};
 ghost use Rattle.docket_tables.specs.declared.table.Table.TheVariants as table;
@@ -18,10 +18,11 @@ ghost use Rattle.docket_tables.specs.declared.table.Table.TheVariants as table;
 use crate::fault::ReadFault;
 use crate::query::Query;
 use crate::rows::{
-    acts_in, calendar_in, case_in, court_in, deadlines_in, entries_in, kept_in, number_in,
-    parties_in, version_in,
+    acts_alone_in, acts_in, calendar_in, case_in, court_in, deadline_in, deadlines_in, entries_in,
+    kept_in, number_in, parties_in, version_in,
 };
 use crate::store::ask;
+use court_rules::Act;
 use docket_columns::CourtRow;
 use docket_command::Command;
 use docket_core::{ActRow, CalendarRow, CaseRow, DeadlineRow, EntryRow, Kept, PartyRow};
@@ -154,6 +155,49 @@ pub fn entries<S: Alter>(
 {
     let rows = ask(conn, Query::Entries, &[case.to_sql()])?;
     entries_in(alloc, rows.as_slice())
+}
+
+/// How many deadlines a case has.
+pub fn count_deadlines<S: Alter>(conn: &mut Connection<S>, case: u32) -> Result<u32, ReadFault>
+    ensures read { Reads S.Store conn.old conn.new result (λ _ t found. found ≡ length (deadlines_of_case case t.deadlines)) }
+    ensures clean { doubt (state S.Store conn.old).is_clean ≤ doubt (state S.Store conn.new).is_clean }
+    ensures mode { conn.old.in_transaction ≡ false → conn.new.in_transaction ≡ false }
+{
+    let rows = ask(conn, Query::LastDeadline, &[case.to_sql()])?;
+    number_in(rows.as_slice(), 1)
+}
+
+/// The deadline of a case and a number.
+pub fn deadline<S: Alter>(
+    conn: &mut Connection<S>,
+    case: u32,
+    number: u32,
+) -> Result<Option<DeadlineRow>, ReadFault>
+    ensures read { Reads S.Store conn.old conn.new result (λ _ t found. found ≡ row_at (deadlines_of_case case t.deadlines) number) }
+    ensures clean { doubt (state S.Store conn.old).is_clean ≤ doubt (state S.Store conn.new).is_clean }
+    ensures mode { conn.old.in_transaction ≡ false → conn.new.in_transaction ≡ false }
+{
+    let rows = ask(conn, Query::Deadline, &[case.to_sql(), number.to_sql()])?;
+    deadline_in(rows.as_slice())
+}
+
+/// The acts of a deadline of a case, in the order of their numbers.
+pub fn acts_of_deadline<S: Alter>(
+    conn: &mut Connection<S>,
+    alloc: Global,
+    case: u32,
+    deadline: u32,
+) -> Result<Vec<Act>, ReadFault>
+    ensures read { Reads S.Store conn.old conn.new result (λ _ t found. found.items ≡ acts_of_deadline case deadline t.acts) }
+    ensures clean { doubt (state S.Store conn.old).is_clean ≤ doubt (state S.Store conn.new).is_clean }
+    ensures mode { conn.old.in_transaction ≡ false → conn.new.in_transaction ≡ false }
+{
+    let rows = ask(
+        conn,
+        Query::DeadlineActs,
+        &[case.to_sql(), deadline.to_sql()],
+    )?;
+    acts_alone_in(alloc, rows.as_slice())
 }
 
 /// The deadlines of a case, in the order of their numbers.

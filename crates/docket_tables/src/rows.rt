@@ -103,6 +103,35 @@ pub(crate) fn acts_in(alloc: Global, rows: &[Row]) -> Result<Vec<ActRow>, ReadFa
     Ok(found)
 }
 
+/// These acts, without their places.
+fn acts_alone(alloc: Global, rows: &[ActRow]) -> Result<Vec<Act>, AllocError>
+    ensures { IfOk result (λ found. found.items ≡ map (λ row. row.act) rows.now) }
+{
+    rows.iter().map(|row| row.act).collect(alloc)
+}
+
+/// The acts of rows, without their places.
+pub(crate) fn acts_alone_in(alloc: Global, rows: &[Row]) -> Result<Vec<Act>, ReadFault>
+    ensures { (all : List OnDeadline) → AllByRecursion IsActRow all → rows.now ≡ map act_cells all → IsReadAs (λ found. found.items ≡ map (λ row. row.act) all) result }
+{
+    let acts = acts_in(alloc, rows)?;
+    Ok(acts_alone(alloc, acts.as_slice())?)
+}
+
+/// The deadline of the first row, if there is one.
+pub(crate) fn deadline_in(rows: &[Row]) -> Result<Option<DeadlineRow>, ReadFault>
+    ensures none { rows.now ≡ [] → IsReadAs (λ found. found ≡ None) result }
+    ensures one { (d : Deadline) → IsDeadlineRow d → rows.now ≡ deadline_cells d ∷ [] → IsReadAs (λ found. found ≡ Some d) result }
+{
+    let Some(row) = rows.first() else {
+        return Ok(None);
+    };
+    match deadline_of(row) {
+        Some(deadline) => Ok(Some(deadline)),
+        None => Err(ReadFault::Damaged),
+    }
+}
+
 /// How many acts, by their deadlines, come up to the deadline.
 pub(crate) fn count_up_to(rows: &[ActRow], deadline: u32) -> usize
     ensures bound { result ≤ length rows.now }

@@ -29,8 +29,7 @@ use crate::viewing::{items_of, with_acts};
 use court_days::{Calendar, Court};
 use docket_columns::end_values;
 use docket_core::{
-    ActRow, CaseView, DeadlineRow, DeadlineView, Deadlines, EndChange, EndRow, calendar_of,
-    due_changes,
+    ActRow, DeadlineRow, DeadlineView, EndChange, EndRow, calendar_of, due_changes,
 };
 use sqlite::types::ToSql;
 use sqlite::{Alter, Row, Transaction};
@@ -135,22 +134,18 @@ fn changes_of_case(
     court: &Court,
     calendar: &Calendar,
     case: u32,
-    deadlines: Vec<DeadlineView>,
+    deadlines: &[DeadlineView],
     stored: &[EndRow],
 ) -> Result<Vec<EndChange>, ReadFault>
     ensures { (others : List Ended) → AllByRecursion (IsElsewhere case 1) others → AreRowsFrom case 1 stored.now
-        → IfOk result (λ changes. IsPermutation (all_changed_ends changes.items (others ++ stored.now)) (others ++ end_rows_from case 1 (ends_running (zone_of court.now) calendar.now deadlines.items))) }
+        → IfOk result (λ changes. IsPermutation (all_changed_ends changes.items (others ++ stored.now)) (others ++ end_rows_from case 1 (ends_running (zone_of court.now) calendar.now deadlines.now))) }
 {
-    if !is_sound_case(court, &[], deadlines.as_slice()) {
+    if !is_sound_case(court, &[], deadlines) {
         return Err(ReadFault::Damaged);
     }
-    let view = CaseView {
-        number: case,
-        parties: 0,
-        entries: 0,
-        deadlines: Deadlines::new(deadlines),
-    };
-    Ok(due_changes(alloc, court, calendar, &view, stored)?)
+    Ok(due_changes(
+        alloc, court, calendar, case, deadlines, stored,
+    )?)
 }
 
 /// Brings the ends of a case up to date.
@@ -168,7 +163,14 @@ fn settle_case<S: Alter>(
 {
     let deadlines = views_of_case(tx, alloc, case)?;
     let stored = ends_of_case(tx, alloc, case)?;
-    let changes = changes_of_case(alloc, court, calendar, case, deadlines, stored.as_slice())?;
+    let changes = changes_of_case(
+        alloc,
+        court,
+        calendar,
+        case,
+        deadlines.as_slice(),
+        stored.as_slice(),
+    )?;
     change_ends(tx, changes.as_slice())
 }
 

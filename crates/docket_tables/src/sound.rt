@@ -4,12 +4,12 @@ ghost use Rattle.std.specs.List.{list_all};
 ghost use Rattle.court_days.specs.Court.{zone_of};
 ghost use Rattle.court_rules.specs.Acts.{is_instant, is_entered_day};
 ghost use Rattle.docket_core.specs.Decisions.{IsSoundView};
-ghost use Rattle.docket_core.specs.Views.{deadlines_in};
-ghost use Rattle.docket_tables.specs.Sound.{is_entered_item, begins_in_time, are_acts, are_lawful, IsSoundCase};
+ghost use Rattle.docket_core.specs.Views.{deadline_shown};
+ghost use Rattle.docket_tables.specs.Sound.{is_entered_item, begins_in_time, are_acts, are_lawful, is_lawful, IsSoundCase};
 
 use court_days::{Court, Day, is_entered};
 use court_rules::{Act, Start, acts_ok};
-use docket_core::{CalendarItem, CaseView, DeadlineView, View};
+use docket_core::{CalendarItem, DeadlineView, View};
 
 /// How many rows a calendar holds at most.
 const MOST_ROWS: usize = 4000;
@@ -86,12 +86,12 @@ fn are_lawful(court: &Court, deadlines: &[DeadlineView]) -> bool
         .all(|deadline| are_acts(court, deadline.acts.as_slice()))
 }
 
-/// Whether each deadline of the case, if there is one, has lawful acts.
-fn is_lawful(court: &Court, case: &Option<CaseView>) -> bool
-    ensures { result ≡ are_lawful (zone_of court.now) (deadlines_in case.now) }
+/// Whether the deadline that the command names, if there is one, has lawful acts.
+fn is_lawful(court: &Court, view: &View) -> bool
+    ensures { result ≡ is_lawful (zone_of court.now) (deadline_shown view.now) }
 {
-    match case {
-        Some(case) => are_lawful(court, case.deadlines.as_slice()),
+    match view.deadline_named() {
+        Some(deadline) => are_acts(court, deadline.acts.as_slice()),
         None => true,
     }
 }
@@ -104,7 +104,7 @@ pub fn is_sound(court: &Court, view: &View) -> bool
     if items.len() > MOST_ROWS || view.next_row > LAST_ROW {
         return false;
     }
-    are_entered_items(items) && is_lawful(court, &view.case)
+    are_entered_items(items) && is_lawful(court, view)
 }
 
 /// Whether a history can show these deadlines of a case, beside a calendar of these items.

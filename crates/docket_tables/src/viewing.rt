@@ -1,12 +1,13 @@
 //! What a docket's tables show about a command.
 ghost use Rattle.std.specs.Prelude.{◌≡◌, ◌≤◌, ℕ, List, map, false, ◌&&◌, nat_le, IfOk};
-ghost use Rattle.std.specs.Option.{option_and_then};
+ghost use Rattle.std.specs.Option.{option_and_then, option_map};
 ghost use Rattle.sqlite.specs.Held.{state};
 ghost use Rattle.sqlite.specs.View.{doubt};
 ghost use Rattle.docket_core.specs.Actions.{case_named};
 ghost use Rattle.docket_core.specs.Histories.{deadlines_of_case, deadlines_from, items_of};
 ghost use Rattle.docket_core.specs.Outcomes.{is_label_taken, is_row_standing};
-ghost use Rattle.docket_core.specs.Tables.{case_in, view_in};
+ghost use Rattle.docket_core.specs.Tables.{case_in, case_deadlines, deadlines_in, view_in};
+ghost use Rattle.docket_core.specs.Views.{deadline_at, deadline_of, is_served_among};
 ghost use Rattle.docket_wire.specs.Valid.{IsCommand};
 ghost use Rattle.docket_wire.specs.Writing.{canonical};
 ghost use Rattle.docket_core.specs.declared.row.ActRow.{ActRow as OnDeadline};
@@ -15,14 +16,14 @@ ghost use Rattle.docket_tables.specs.Readings.{AreActsOf, Reads, IsReadAs};
 
 use crate::fault::ReadFault;
 use crate::reading::{
-    acts_of_case, calendar, cases, count_entries, count_parties, court, deadlines, is_label_taken,
-    is_row_standing, kept,
+    acts_of_case, acts_of_deadline, calendar, cases, count_deadlines, count_entries, count_parties,
+    court, deadline, deadlines, is_label_taken, is_row_standing, kept,
 };
 use crate::rows::{acts_among, count_up_to};
 use docket_command::{Action, Command};
 use docket_core::{
     ActRow, Acts, CalendarItem, CalendarItems, CalendarRow, CaseView, DeadlineRow, DeadlineView,
-    Deadlines, View, case_named,
+    View, case_named, deadline_named, is_served_among,
 };
 use sqlite::{Alter, Connection};
 use std::alloc::{AllocError, Global};
@@ -124,13 +125,74 @@ fn is_among(number: u32, count: u32) -> bool
     1 <= number && number <= count
 }
 
-/// The case of a number, if there is one.
-pub fn case_view<S: Alter>(
+/// The deadline of a case and a number, with its acts.
+fn deadline_view<S: Alter>(
+    conn: &mut Connection<S>,
+    alloc: Global,
+    case: u32,
+    number: u32,
+) -> Result<Option<DeadlineView>, ReadFault>
+    ensures read { Reads S.Store conn.old conn.new result (λ _ t found. found ≡ deadline_at (deadlines_in t case) number) }
+    ensures clean { doubt (state S.Store conn.old).is_clean ≤ doubt (state S.Store conn.new).is_clean }
+    ensures mode { conn.old.in_transaction ≡ false → conn.new.in_transaction ≡ false }
+{
+    let Some(row) = deadline(conn, case, number)? else {
+        return Ok(None);
+    };
+    let acts = acts_of_deadline(conn, alloc, case, number)?;
+    Ok(Some(DeadlineView {
+        party: row.party,
+        rule: row.rule,
+        initial: row.initial,
+        acts: Acts::new(acts),
+    }))
+}
+
+/// The deadline that an action names, in a case.
+fn deadline_asked<S: Alter>(
+    conn: &mut Connection<S>,
+    alloc: Global,
+    case: u32,
+    action: &Action,
+) -> Result<Option<DeadlineView>, ReadFault>
+    ensures read { Reads S.Store conn.old conn.new result (λ _ t found. found ≡ deadline_of (deadlines_in t case) action.now) }
+    ensures clean { doubt (state S.Store conn.old).is_clean ≤ doubt (state S.Store conn.new).is_clean }
+    ensures mode { conn.old.in_transaction ≡ false → conn.new.in_transaction ≡ false }
+{
+    match deadline_named(action) {
+        Some(number) => deadline_view(conn, alloc, case, number),
+        None => Ok(None),
+    }
+}
+
+/// Whether the party that an action serves with a summons, or whose waiver it files, has an initial
+/// deadline that is not vacated. No other action has a deadline looked at.
+fn is_served<S: Alter>(
+    conn: &mut Connection<S>,
+    alloc: Global,
+    case: u32,
+    action: &Action,
+) -> Result<bool, ReadFault>
+    ensures read { Reads S.Store conn.old conn.new result (λ _ t found. found ≡ is_served_among (deadlines_in t case) action.now) }
+    ensures clean { doubt (state S.Store conn.old).is_clean ≤ doubt (state S.Store conn.new).is_clean }
+    ensures mode { conn.old.in_transaction ≡ false → conn.new.in_transaction ≡ false }
+{
+    match action {
+        Action::ServeSummons(_) | Action::FileWaiver(_) => {}
+        _ => return Ok(false),
+    }
+    let deadlines = deadline_views(conn, alloc, case)?;
+    Ok(is_served_among(deadlines.as_slice(), action))
+}
+
+/// The case of a number, if there is one, as it is shown about an action.
+fn case_view<S: Alter>(
     conn: &mut Connection<S>,
     alloc: Global,
     number: u32,
+    action: &Action,
 ) -> Result<Option<CaseView>, ReadFault>
-    ensures read { Reads S.Store conn.old conn.new result (λ _ t found. found ≡ case_in t number) }
+    ensures read { Reads S.Store conn.old conn.new result (λ _ t found. found ≡ case_in t action.now number) }
     ensures clean { doubt (state S.Store conn.old).is_clean ≤ doubt (state S.Store conn.new).is_clean }
     ensures mode { conn.old.in_transaction ≡ false → conn.new.in_transaction ≡ false }
 {
@@ -140,12 +202,16 @@ pub fn case_view<S: Alter>(
     }
     let parties = count_parties(conn, number)?;
     let entries = count_entries(conn, number)?;
-    let deadlines = deadline_views(conn, alloc, number)?;
+    let deadlines = count_deadlines(conn, number)?;
+    let named = deadline_asked(conn, alloc, number, action)?;
+    let is_served = is_served(conn, alloc, number, action)?;
     Ok(Some(CaseView {
         number,
         parties,
         entries,
-        deadlines: Deadlines::new(deadlines),
+        deadlines,
+        named,
+        is_served,
     }))
 }
 
@@ -154,14 +220,31 @@ fn case_asked<S: Alter>(
     alloc: Global,
     action: &Action,
 ) -> Result<Option<CaseView>, ReadFault>
-    ensures read { Reads S.Store conn.old conn.new result (λ _ t found. found ≡ option_and_then (case_in t) (case_named action.now)) }
+    ensures read { Reads S.Store conn.old conn.new result (λ _ t found. found ≡ option_and_then (case_in t action.now) (case_named action.now)) }
     ensures clean { doubt (state S.Store conn.old).is_clean ≤ doubt (state S.Store conn.new).is_clean }
     ensures mode { conn.old.in_transaction ≡ false → conn.new.in_transaction ≡ false }
 {
     match case_named(action) {
-        Some(number) => case_view(conn, alloc, number),
+        Some(number) => case_view(conn, alloc, number, action),
         None => Ok(None),
     }
+}
+
+/// The deadlines of the case of a number, if there is one, each with its acts.
+pub fn case_deadlines<S: Alter>(
+    conn: &mut Connection<S>,
+    alloc: Global,
+    number: u32,
+) -> Result<Option<Vec<DeadlineView>>, ReadFault>
+    ensures read { Reads S.Store conn.old conn.new result (λ _ t found. option_map (λ deadlines. deadlines.items) found ≡ case_deadlines t number) }
+    ensures clean { doubt (state S.Store conn.old).is_clean ≤ doubt (state S.Store conn.new).is_clean }
+    ensures mode { conn.old.in_transaction ≡ false → conn.new.in_transaction ≡ false }
+{
+    let count = cases(conn)?;
+    if !is_among(number, count) {
+        return Ok(None);
+    }
+    Ok(Some(deadline_views(conn, alloc, number)?))
 }
 
 /// What a docket's tables show about a command, beside the calendar, which the caller gives. `body` is

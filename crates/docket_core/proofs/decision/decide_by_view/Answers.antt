@@ -21,7 +21,7 @@ pub changes_of_action-requires-clause-room : goal.changes_of_action-requires-cla
 changes_of_action-requires-clause-room c = (is_free c.args.court.now c.args.view.now c.args.command.now (sym c.refusal.ensures ∙ c.in-None.is)).room
 
 pub changes_of_action-requires-clause-acts : goal.changes_of_action-requires-clause-acts
-changes_of_action-requires-clause-acts c = few_shown c.args.court.now c.args.view.now c.requires c.args.command.now.action
+changes_of_action-requires-clause-acts c = few_shown c.args.court.now c.args.view.now c.requires
 
 pub changes_of_action-requires-clause-deadlines : goal.changes_of_action-requires-clause-deadlines
 changes_of_action-requires-clause-deadlines c =

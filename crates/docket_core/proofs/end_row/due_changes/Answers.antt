@@ -8,17 +8,19 @@ use Rattle.docket_core.proofs.end_row.due_changes.Goals as goal
 
 pub returns-clause-rows : goal.returns-clause-rows
 returns-clause-rows c others apart are =
-    let case = c.args.case.now in
+    let case = c.args.case in
+    let deadlines = c.args.deadlines.now in
     let stored = c.args.stored.now in
-    let ends = ends_running (zone_of c.args.court.now) c.args.calendar.now case.deadlines in
+    let ends = ends_running (zone_of c.args.court.now) c.args.calendar.now deadlines in
     IfOk-weaker c.changes_of_case.result _ _ (λ changes made.
-    subst (λ xs. IsPermutation (all_changed_ends xs (others ++ stored)) (others ++ end_rows_of (zone_of c.args.court.now) c.args.calendar.now case)) (sym made)
-    (leads_beside case.number ends stored others are apart)) c.changes_of_case.ensures
+    subst (λ xs. IsPermutation (all_changed_ends xs (others ++ stored)) (others ++ end_rows_of (zone_of c.args.court.now) c.args.calendar.now case deadlines)) (sym made)
+    (leads_beside case ends stored others are apart)) c.changes_of_case.ensures
 
 pub returns-clause-kept : goal.returns-clause-kept
 returns-clause-kept c are =
-    let case = c.args.case.now in
+    let case = c.args.case in
+    let deadlines = c.args.deadlines.now in
     let stored = c.args.stored.now in
-    let ends = ends_running (zone_of c.args.court.now) c.args.calendar.now case.deadlines in
+    let ends = ends_running (zone_of c.args.court.now) c.args.calendar.now deadlines in
     IfOk-weaker c.changes_of_case.result _ _ (λ changes made row has right.
-    subst (λ xs. AllByRecursion (λ change. touches change row ≡ false) xs) (sym made) (untouched case.number 1 ends stored row are has right)) c.changes_of_case.ensures
+    subst (λ xs. AllByRecursion (λ change. touches change row ≡ false) xs) (sym made) (untouched case 1 ends stored row are has right)) c.changes_of_case.ensures

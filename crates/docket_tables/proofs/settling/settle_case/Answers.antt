@@ -50,9 +50,9 @@ returns-clause-inside g c t ends orderly are =
     let Shown = deadlines ≡ deadlines_from k 1 t.acts (deadlines_of_case k t.deadlines) in
     let Stored = stored ≡ ends_of k ends in
     let both = went_after start mid read rows rows rows Shown Stored (Shown × Stored) (c.in_ok-deadlines.ensures.inside court t ends orderly) (c.in_ok-stored.ensures.inside court t ends are) (λ shown held. (shown, held)) in
-    let step = rw c.as_slice-2.ensures.value at (c.change_ends.ensures.inside court t (others_of k ends ++ ends_of k ends)) in
+    let step = rw c.as_slice-3.ensures.value at (c.change_ends.ensures.inside court t (others_of k ends ++ ends_of k ends)) in
     inside_with start read new rows rows (rows_with court t (settled_case court entered t k ends)) (Shown × Stored) c.change_ends.result (λ _. Unit {0}) both
     (λ sees. (step (λ clean. sees_permuted read court t ends (others_of k ends ++ ends_of k ends) (parted k ends) (sees clean))).0)
     (λ clean facts sees.
     settling_ends court entered t k ends are read new c.change_ends.result c.in_ok-changes.changes.items stored deadlines step
-    (rw c.as_slice.ensures.value at (c.in_ok-changes.ensures (others_of k ends) (others_apart k ends) (subst (AreRowsFrom k 1) (sym (c.as_slice.ensures.value ∙ facts.1)) are.rows))) facts.0 facts.1 clean sees)
+    (rw (c.as_slice.ensures.value, c.as_slice-2.ensures.value) at (c.in_ok-changes.ensures (others_of k ends) (others_apart k ends) (subst (AreRowsFrom k 1) (sym (c.as_slice-2.ensures.value ∙ facts.1)) are.rows))) facts.0 facts.1 clean sees)

@@ -1,7 +1,8 @@
 use Rattle.std.proofs.Common.{◌≡◌, ◌∙◌, ◌&&◌, true, false, nat_le, length, ap, sym, arith}
-use Rattle.docket_tables.specs.Contents.{rows_in}
 use Rattle.sqlite.specs.Held.{state}
 use Rattle.sqlite.specs.State.{HasCleanDisk}
+use Rattle.docket_core.specs.Tables.{is_case_in}
+use Rattle.docket_tables.specs.Contents.{rows_in}
 use Rattle.docket_tables.proofs.ReadLemmas.{err_given}
 use Rattle.docket_tables.proofs.ViewLemmas.{no_case, one_case}
 use Rattle.docket_tables.proofs.viewing.case_view.Goals as goal
@@ -12,45 +13,66 @@ returns-in_err-count-clause-read g c court t orderly holds =
 
 pub returns-then-not-is_among-clause-read : goal.returns-then-not-is_among-clause-read
 returns-then-not-is_among-clause-read g c court t orderly holds =
-    let first = c.in_ok-count.ensures.read court t orderly holds in (
-      first.0,
+    let read0 = c.in_ok-count.ensures.read court t orderly holds in (
+      read0.0,
       λ clean.
-          let out : (nat_le 1 c.args.number && nat_le c.args.number (length t.cases)) ≡ false =
-          ap (λ n. nat_le 1 c.args.number && nat_le c.args.number n) (sym (first.1 clean)) ∙ sym c.is_among.ensures ∙ c.if-not-is_among.true in
-          sym (no_case t c.args.number out),
+          let out : is_case_in t c.args.number ≡ false =
+          ap (λ n. nat_le 1 c.args.number && nat_le c.args.number n) (sym (read0.1 clean)) ∙ sym c.is_among.ensures ∙ c.if-not-is_among.true in
+          sym (no_case t c.args.action.now c.args.number out),
     )
 
 pub returns-in_err-parties-clause-read : goal.returns-in_err-parties-clause-read
 returns-in_err-parties-clause-read g c court t orderly holds =
-    let first = c.in_ok-count.ensures.read court t orderly holds in
-    err_given g.S.Store c.count_parties.new.conn (rows_in court t) _ c.in_err-parties.field-0.0 c.from_residual-in_err-parties.result c.from_residual-in_err-parties.ensures.1 (c.in_err-parties.ensures.read court t orderly first.0)
+    let read0 = c.in_ok-count.ensures.read court t orderly holds in
+    err_given g.S.Store c.count_parties.new.conn (rows_in court t) _ c.in_err-parties.field-0.0 c.from_residual-in_err-parties.result c.from_residual-in_err-parties.ensures.1 (c.in_err-parties.ensures.read court t orderly read0.0)
 
 pub returns-in_err-entries-clause-read : goal.returns-in_err-entries-clause-read
 returns-in_err-entries-clause-read g c court t orderly holds =
-    let first = c.in_ok-count.ensures.read court t orderly holds in
-    let second = c.in_ok-parties.ensures.read court t orderly first.0 in
-    err_given g.S.Store c.count_entries.new.conn (rows_in court t) _ c.in_err-entries.field-0.0 c.from_residual-in_err-entries.result c.from_residual-in_err-entries.ensures.1 (c.in_err-entries.ensures.read court t orderly second.0)
+    let read0 = c.in_ok-count.ensures.read court t orderly holds in
+    let read1 = c.in_ok-parties.ensures.read court t orderly read0.0 in
+    err_given g.S.Store c.count_entries.new.conn (rows_in court t) _ c.in_err-entries.field-0.0 c.from_residual-in_err-entries.result c.from_residual-in_err-entries.ensures.1 (c.in_err-entries.ensures.read court t orderly read1.0)
 
 pub returns-in_err-deadlines-clause-read : goal.returns-in_err-deadlines-clause-read
 returns-in_err-deadlines-clause-read g c court t orderly holds =
-    let first = c.in_ok-count.ensures.read court t orderly holds in
-    let second = c.in_ok-parties.ensures.read court t orderly first.0 in
-    let third = c.in_ok-entries.ensures.read court t orderly second.0 in
-    err_given g.S.Store c.deadline_views.new.conn (rows_in court t) _ c.in_err-deadlines.field-0.0 c.from_residual-in_err-deadlines.result c.from_residual-in_err-deadlines.ensures.1 (c.in_err-deadlines.ensures.read court t orderly third.0)
+    let read0 = c.in_ok-count.ensures.read court t orderly holds in
+    let read1 = c.in_ok-parties.ensures.read court t orderly read0.0 in
+    let read2 = c.in_ok-entries.ensures.read court t orderly read1.0 in
+    err_given g.S.Store c.count_deadlines.new.conn (rows_in court t) _ c.in_err-deadlines.field-0.0 c.from_residual-in_err-deadlines.result c.from_residual-in_err-deadlines.ensures.1 (c.in_err-deadlines.ensures.read court t orderly read2.0)
+
+pub returns-in_err-named-clause-read : goal.returns-in_err-named-clause-read
+returns-in_err-named-clause-read g c court t orderly holds =
+    let read0 = c.in_ok-count.ensures.read court t orderly holds in
+    let read1 = c.in_ok-parties.ensures.read court t orderly read0.0 in
+    let read2 = c.in_ok-entries.ensures.read court t orderly read1.0 in
+    let read3 = c.in_ok-deadlines.ensures.read court t orderly read2.0 in
+    err_given g.S.Store c.deadline_asked.new.conn (rows_in court t) _ c.in_err-named.field-0.0 c.from_residual-in_err-named.result c.from_residual-in_err-named.ensures.1 (c.in_err-named.ensures.read court t orderly read3.0)
+
+pub returns-in_err-is_served-clause-read : goal.returns-in_err-is_served-clause-read
+returns-in_err-is_served-clause-read g c court t orderly holds =
+    let read0 = c.in_ok-count.ensures.read court t orderly holds in
+    let read1 = c.in_ok-parties.ensures.read court t orderly read0.0 in
+    let read2 = c.in_ok-entries.ensures.read court t orderly read1.0 in
+    let read3 = c.in_ok-deadlines.ensures.read court t orderly read2.0 in
+    let read4 = c.in_ok-named.ensures.read court t orderly read3.0 in
+    err_given g.S.Store c.is_served.new.conn (rows_in court t) _ c.in_err-is_served.field-0.0 c.from_residual-in_err-is_served.result c.from_residual-in_err-is_served.ensures.1 (c.in_err-is_served.ensures.read court t orderly read4.0)
 
 pub returns-clause-read : goal.returns-clause-read
 returns-clause-read g c court t orderly holds =
     let k = c.args.number in
-    let first = c.in_ok-count.ensures.read court t orderly holds in
-    let second = c.in_ok-parties.ensures.read court t orderly first.0 in
-    let third = c.in_ok-entries.ensures.read court t orderly second.0 in
-    let fourth = c.in_ok-deadlines.ensures.read court t orderly third.0 in (
-      fourth.0,
-      λ clean.
-          let clean3 : HasCleanDisk (state g.S.Store c.count_entries.new.conn) = omega (arith, c.deadline_views.ensures.clean) in
-          let clean2 : HasCleanDisk (state g.S.Store c.count_parties.new.conn) = omega (arith, c.count_entries.ensures.clean) in
-          let clean1 : HasCleanDisk (state g.S.Store c.cases.new.conn) = omega (arith, c.count_parties.ensures.clean) in
-          let among : (nat_le 1 k && nat_le k (length t.cases)) ≡ true =
-          ap (λ n. nat_le 1 k && nat_le k n) (sym (first.1 clean1)) ∙ sym c.is_among.ensures ∙ c.if-not-is_among.false in
-          sym (one_case t k _ _ _ among (second.1 clean2) (third.1 clean3) (c.new.ensures ∙ fourth.1 clean)),
+    let read0 = c.in_ok-count.ensures.read court t orderly holds in
+    let read1 = c.in_ok-parties.ensures.read court t orderly read0.0 in
+    let read2 = c.in_ok-entries.ensures.read court t orderly read1.0 in
+    let read3 = c.in_ok-deadlines.ensures.read court t orderly read2.0 in
+    let read4 = c.in_ok-named.ensures.read court t orderly read3.0 in
+    let read5 = c.in_ok-is_served.ensures.read court t orderly read4.0 in (
+      read5.0,
+      λ clean5.
+          let clean4 : HasCleanDisk (state g.S.Store c.deadline_asked.new.conn) = omega (arith, c.is_served.ensures.clean) in
+          let clean3 : HasCleanDisk (state g.S.Store c.count_deadlines.new.conn) = omega (arith, c.deadline_asked.ensures.clean) in
+          let clean2 : HasCleanDisk (state g.S.Store c.count_entries.new.conn) = omega (arith, c.count_deadlines.ensures.clean) in
+          let clean1 : HasCleanDisk (state g.S.Store c.count_parties.new.conn) = omega (arith, c.count_entries.ensures.clean) in
+          let clean0 : HasCleanDisk (state g.S.Store c.cases.new.conn) = omega (arith, c.count_parties.ensures.clean) in
+          let among : is_case_in t k ≡ true =
+          ap (λ n. nat_le 1 k && nat_le k n) (sym (read0.1 clean0)) ∙ sym c.is_among.ensures ∙ c.if-not-is_among.false in
+          sym (one_case t c.args.action.now k _ _ _ _ _ among (read1.1 clean1) (read2.1 clean2) (read3.1 clean3) (read4.1 clean4) (read5.1 clean5)),
     )

@@ -1,0 +1,25 @@
+use Rattle.std.proofs.Common.{◌≡◌, ◌∙◌, ◌==◌, ◌&&◌, [], ◌∷◌, pos, map, refl, ap}
+use Rattle.sqlite.specs.declared.types.Value.TheVariants.{Int}
+use Rattle.sqlite_trees.proofs.ListLemmas.{all-filter}
+use Rattle.docket_core.specs.declared.row.ActRow.{ActRow}
+use Rattle.docket_columns.specs.Cells.{act_cells}
+use Rattle.docket_columns.specs.Fits.{IsActRow}
+use Rattle.docket_tables.specs.Contents.{rows_in}
+use Rattle.docket_tables.specs.Orderly.{acts_on}
+use Rattle.docket_tables.specs.declared.query.Query.TheVariants as ask
+use Rattle.docket_tables.proofs.AnswerLemmas.{in_order, rises_running}
+use Rattle.docket_tables.proofs.FoundLemmas.{equal_numbers}
+use Rattle.docket_tables.proofs.ReadLemmas.{gives}
+use Rattle.docket_tables.proofs.reading.acts_of_deadline.Goals as goal
+
+pub returns-clause-read : goal.returns-clause-read
+returns-clause-read g c court t orderly holds =
+    let asked = c.in_ok-rows.ensures.ok (rows_in court t) holds in
+    let rows = c.in_ok-rows.rows.items in
+    let k = c.args.case in
+    let n = c.args.deadline in
+    gives g.S.Store c.ask.new.conn (rows_in court t) _ c.acts_alone_in.result asked.0 (λ clean.
+    let answer = rw (c.to_sql.ensures, c.to_sql-2.ensures) at (asked.1 clean) in
+    let are = in_order ask.DeadlineActs (Int (pos k) ∷ Int (pos n) ∷ []) act_cells (λ (row : ActRow). row.case == k && row.deadline == n) (λ row. equal_numbers row.case k row.deadline n) t.acts rows (λ row. row.number) (λ row. refl) refl refl
+    (rises_running 1 _ (orderly.acts_run k n)) answer in
+    c.acts_alone_in.ensures (acts_on k n t.acts) (all-filter IsActRow _ t.acts orderly.acts) (c.as_slice.ensures.value ∙ are))

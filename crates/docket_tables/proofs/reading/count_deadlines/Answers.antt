@@ -1,0 +1,24 @@
+use Rattle.std.proofs.Common.{◌∙◌, ◌==◌, [], ◌∷◌, pos, inl, inr, refl, sym}
+use Rattle.sqlite.specs.declared.types.Value.TheVariants.{Int}
+use Rattle.sqlite_trees.proofs.ListLemmas.{all-filter}
+use Rattle.docket_columns.specs.Cells.{deadline_cells}
+use Rattle.docket_columns.specs.Fits.{IsDeadlineRow}
+use Rattle.docket_tables.specs.Contents.{rows_in}
+use Rattle.docket_tables.specs.declared.query.Query.TheVariants as ask
+use Rattle.docket_tables.proofs.AnswerLemmas.{the_last, equal_number}
+use Rattle.docket_tables.proofs.HoldsLemmas.{and_yes}
+use Rattle.docket_tables.proofs.ReadLemmas.{gives, read_ok}
+use Rattle.docket_tables.proofs.reading.count_deadlines.Goals as goal
+
+pub returns-clause-read : goal.returns-clause-read
+returns-clause-read g c court t orderly holds =
+    let asked = c.in_ok-rows.ensures.ok (rows_in court t) holds in
+    let rows = c.in_ok-rows.rows.items in
+    let k = c.args.case in
+    gives g.S.Store c.ask.new.conn (rows_in court t) _ c.number_in.result asked.0 (λ clean.
+    let answer = rw c.to_sql.ensures at (asked.1 clean) in
+    elim (the_last ask.LastDeadline (Int (pos k) ∷ []) deadline_cells (λ row. row.case == k) (λ row. and_yes _ ∙ equal_number row.case k) t.deadlines rows (λ row. row.number) (λ row. refl)
+    IsDeadlineRow refl refl (orderly.deadlines_run k) (all-filter _ _ t.deadlines orderly.deadlines) answer) [
+      | inl none ↦ read_ok _ c.number_in.result 0 (c.number_in.ensures.none (c.as_slice.ensures.value ∙ none.1)) (sym none.0)
+      | inr one ↦ read_ok _ c.number_in.result one.0.number (c.number_in.ensures.first (deadline_cells one.0) one.0.number one.2.1 (c.as_slice.ensures.value ∙ one.3) refl) one.1
+    ])

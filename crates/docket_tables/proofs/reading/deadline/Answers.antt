@@ -1,0 +1,14 @@
+use Rattle.std.proofs.Common.{◌∙◌}
+use Rattle.docket_tables.specs.Contents.{rows_in}
+use Rattle.docket_tables.proofs.ReadLemmas.{gives}
+use Rattle.docket_tables.proofs.FoundLemmas.{deadline_read}
+use Rattle.docket_tables.proofs.reading.deadline.Goals as goal
+
+pub returns-clause-read : goal.returns-clause-read
+returns-clause-read g c court t orderly holds =
+    let asked = c.in_ok-rows.ensures.ok (rows_in court t) holds in
+    let rows = c.in_ok-rows.rows.items in
+    gives g.S.Store c.ask.new.conn (rows_in court t) _ c.deadline_in.result asked.0 (λ clean.
+    let answer = rw (c.to_sql.ensures, c.to_sql-2.ensures) at (asked.1 clean) in
+    deadline_read c.args.case c.args.number c.deadline_in.result rows t.deadlines orderly.deadlines (orderly.deadlines_run c.args.case) answer (λ none. c.deadline_in.ensures.none (c.as_slice.ensures.value ∙ none))
+    (λ row typed one. c.deadline_in.ensures.one row typed (c.as_slice.ensures.value ∙ one)))
