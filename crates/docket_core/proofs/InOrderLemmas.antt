@@ -91,7 +91,7 @@ pub gathered-append : {A B : Type 0} (give : A → List B) (xs ys : List A) → 
 gathered-append give [] ys = refl
 gathered-append give (x ∷ xs) ys = ap (λ rest. give x ++ rest) (gathered-append give xs ys) ∙ sym (append_assoc (give x) (gathered give xs) (gathered give ys))
 
-of_case : (k j n : ℕ) (xs : List NewDeadline) (b : Bool) → (j == k) ≡ b → deadlines_of_case k (deadline_rows_from j n xs) ≡ cond b (deadline_rows_from j n xs) []
+pub of_case : (k j n : ℕ) (xs : List NewDeadline) (b : Bool) → (j == k) ≡ b → deadlines_of_case k (deadline_rows_from j n xs) ≡ cond b (deadline_rows_from j n xs) []
 of_case k j n [] true e = refl
 of_case k j n [] false e = refl
 of_case k j n (x ∷ xs) true e =

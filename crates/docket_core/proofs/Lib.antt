@@ -1,5 +1,6 @@
 pub mod ActsInOrder
 pub mod ActsKept
+pub mod AddedActs
 pub mod CalendarLemmas
 pub mod EndChanges
 pub mod FirstActs
@@ -8,5 +9,7 @@ pub mod InOrderLemmas
 pub mod LaterActs
 pub mod Leading
 pub mod LimitsKept
+pub mod MovedEnds
+pub mod OneDeadline
 pub mod Passed
 pub mod Runs

@@ -1,6 +1,7 @@
 pub mod Actions
 pub mod CalendarItems
 pub mod Decisions
+pub mod EndMoves
 pub mod EndRows
 pub mod Histories
 pub mod Outcomes

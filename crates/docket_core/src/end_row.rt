@@ -68,7 +68,7 @@ fn time_of(court: &Court, end: End) -> EndTime
 }
 
 /// The end of a time that runs.
-fn end_running(court: &Court, standing: Standing) -> Option<EndTime>
+pub(crate) fn end_running(court: &Court, standing: Standing) -> Option<EndTime>
     requires { StandsAfter 100 standing }
     ensures { result ≡ end_running (zone_of court.now) standing }
 {
@@ -157,7 +157,7 @@ fn move_end(
 
 /// Adds the changes of the row of a deadline, by the end that is stored and the one that its time
 /// has.
-fn change_end(
+pub(crate) fn change_end(
     changes: &mut Vec<EndChange>,
     case: u32,
     deadline: u32,

@@ -10,6 +10,7 @@ mod end_row;
 mod item;
 mod laws;
 mod lines;
+mod moving;
 mod named;
 mod record;
 mod refusals;
@@ -26,6 +27,7 @@ pub use laws::{
     worked_dockets,
 };
 pub use lines::deadline_lines;
+pub use moving::{acts_named, acts_with, end_moves};
 pub use named::{asks_calendar, case_named, deadline_named};
 pub use record::{CaseRecord, DeadlineLine, DueRow, EntryRows, PartyRows};
 pub use row::{ActRow, CalendarRow, CaseRow, Change, DeadlineRow, EntryRow, PartyRow, Receipt};

@@ -229,7 +229,7 @@ impl View {
     }
 
     /// The acts of the deadline that the command names.
-    pub fn acts_named(&self) -> &[Act]
+    pub(crate) fn acts_named(&self) -> &[Act]
         ensures { result.now ≡ acts_in (deadline_shown self.now) }
     {
         match self.deadline_named() {

@@ -1,6 +1,6 @@
 -- From what the tables' functions leave to what a command leaves.
-use Rattle.std.proofs.Common.{◌≡◌, ◌⊎◌, inl, inr, ◌∷◌, ℕ, ◌+◌, ◌-◌, length, ◌<◌, ◌^◌, List, Option, false, refl, sym, ap, subst, ◌∙◌, arith}
-use Rattle.std.specs.Prelude.{IfSome}
+use Rattle.std.proofs.Common.{◌≡◌, ◌⊎◌, inl, inr, ◌∷◌, ℕ, ◌+◌, length, ◌<◌, ◌^◌, List, Option, false, refl, sym, ap, subst, ◌∙◌, arith}
+use Rattle.std.specs.Prelude.{true, Err}
 use Rattle.court_days.specs.Calendar.{Entered}
 use Rattle.sqlite.specs.Store.{Ghosts}
 use Rattle.sqlite.specs.Tree.{Trees}
@@ -9,8 +9,10 @@ use Rattle.sqlite.specs.Held.{Held, state}
 use Rattle.court_days.specs.Court.{CourtSettings}
 use Rattle.docket_command.specs.declared.command.Command.{Command}
 use Rattle.docket_command.specs.declared.refusal.Reply.{Reply}
+use Rattle.court_rules.specs.declared.act.Act.{Act}
 use Rattle.docket_core.specs.Decisions.{IsSoundView}
-use Rattle.docket_core.specs.Histories.{History, next_row}
+use Rattle.docket_core.specs.EndMoves.{Follows}
+use Rattle.docket_core.specs.Histories.{History, next_row, case_rows}
 use Rattle.docket_core.specs.Outcomes.{Answer, repeated, refused, accepted, shown, outcome, after, after_answer}
 use Rattle.docket_core.specs.Records.{calendar}
 use Rattle.docket_core.specs.Tables.{Tables, rows_of, with_receipt, all_changed}
@@ -22,11 +24,16 @@ use Rattle.docket_tables.specs.Contents.{rows_in}
 use Rattle.docket_tables.specs.Layouts.{Rows}
 use Rattle.docket_tables.specs.Orderly.{IsOrderly}
 use Rattle.docket_tables.specs.Stands.{HoldsRows, IsImage, Lasts, LastsAsEither, IsSettled, IsEither}
-use Rattle.docket_tables.specs.Settling.{IsMoved, IsSettling, case_moved, changes_calendar}
-use Rattle.docket_tables.proofs.HistoryLemmas.{settling}
+use Rattle.docket_tables.specs.Settling.{IsUpdate, changes_calendar}
+use Rattle.docket_tables.specs.Readings.{IsReadAs, Fails}
+use Rattle.docket_tables.specs.declared.fault.ReadFault.{ReadFault}
+use Rattle.docket_tables.specs.declared.fault.ReadFault.TheVariants.{Store, NoMemory as ReadNoMemory, Damaged as ReadDamaged}
+use Rattle.docket_tables.specs.declared.moving.EndUpdate.{EndUpdate}
+use Rattle.docket_tables.specs.declared.moving.EndUpdate.TheVariants.{Calendar}
+use Rattle.docket_tables.proofs.HistoryLemmas.{settling, follows}
 use Rattle.docket_tables.proofs.OrderlyLemmas.{orderly}
 use Rattle.docket_core.specs.declared.item.CalendarItem.{CalendarItem}
-use Rattle.docket_store.specs.Applying.{IsDocket, IsAccepted, docket_rows, Keeps, FailsAs, Faults}
+use Rattle.docket_store.specs.Applying.{IsDocket, IsAccepted, AreNamed, docket_rows, Keeps, FailsAs, Faults}
 use Rattle.docket_store.specs.Dockets.{serving}
 use Rattle.docket_store.specs.declared.fault.Fault.{Fault}
 use Rattle.docket_store.specs.declared.fault.Fault.TheVariants.{Refused, NoMemory, StoreFailed, Closed, Damaged}
@@ -60,14 +67,22 @@ pub rows_after : (court : CourtSettings) (h : History) (c : Command) (changes : 
     → rows_in court (with_receipt c changes.reply (all_changed changes.rows.items (rows_of court h))) ≡ docket_rows court (after court h c)
 rows_after court h c changes is = ap (rows_in court) (is.1 ∙ ap (rows_of court) (sym (after_accepted court h c changes.reply is.0)))
 
--- the ends that an accepted command may move
-pub settles_accepted : (court : CourtSettings) (h : History) (c : Command) (changes : Changes) (given : Option Entered) (first after_last : ℕ) → IsDocket court h → IsCommand c → IsAccepted court h c changes
-    → IfSome given (λ found. (found ≡ calendar h) × (changes_calendar c.action ≡ false))
-    → IsMoved c.action (length (rows_of court h).cases) (case_moved c.action) first after_last
-    → IsSettling court given first (after_last - first) (rows_of court h) (with_receipt c changes.reply (all_changed changes.rows.items (rows_of court h)))
-settles_accepted court h c changes given first after_last is lawful accepted_is shown moved =
-    subst (λ (next : Tables). IsSettling court given first (after_last - first) (rows_of court h) next) (sym accepted_is.1)
-    (settling court h c is.settings ((changes.reply, accepted_is.0), is.history) (lawful, is.commands) given first after_last shown moved)
+-- what is done about the ends with an accepted command
+
+pub update_written : (court : CourtSettings) (h : History) (c : Command) (changes : Changes) (update : EndUpdate) → IsAccepted court h c changes
+    → IsUpdate court update (rows_of court h) (rows_of court (c ∷ h)) → IsUpdate court update (rows_of court h) (with_receipt c changes.reply (all_changed changes.rows.items (rows_of court h)))
+update_written court h c changes update accepts is = subst (λ (next : Tables). IsUpdate court update (rows_of court h) next) (sym accepts.1) is
+
+pub calendar_accepted : (court : CourtSettings) (h : History) (c : Command) (changes : Changes) (update : EndUpdate) → IsDocket court h → IsCommand c → IsAccepted court h c changes → changes_calendar c.action ≡ true
+    → update ≡ Calendar (length (case_rows h)) → IsUpdate court update (rows_of court h) (rows_of court (c ∷ h))
+calendar_accepted court h c changes update is lawful accepts changing same =
+    subst (λ (u : EndUpdate). IsUpdate court u (rows_of court h) (rows_of court (c ∷ h))) (sym same)
+    (settling court h c is.settings ((changes.reply, accepts.0), is.history) (lawful, is.commands) changing)
+
+pub follows_accepted : (court : CourtSettings) (h : History) (c : Command) (changes : Changes) (entered : Entered) (acts : List Act) → IsDocket court h → IsAccepted court h c changes → AreNamed h c acts
+    → (entered ≡ calendar h) × (changes_calendar c.action ≡ false) → Follows court entered acts changes.rows.items h c
+follows_accepted court h c changes entered acts is accepts named known =
+    follows court entered acts changes.rows.items h c changes.reply ((changes.reply, accepts.0), is.history) known.0 known.1 named accepts.1
 
 module _ {S : Type 0} (g : Ghosts S) (conn : Held S) where
   pub either_from_lasts : (rows next : Rows) → Lasts g conn rows → LastsAsEither g conn rows next
@@ -95,3 +110,9 @@ module _ {S : Type 0} (g : Ghosts S) (conn : Held S) where
       same : (db : Trees) → IsImage rows db ⊎ IsImage rows db → IsImage rows db
       same db (inl a) = a
       same db (inr b) = b
+
+  -- a fault that no question to the database made
+  pub fails_apart : {X : Type 0} (rows : Rows) (P : X → Type 0) (fault : ReadFault) → HoldsRows g conn rows → (HasCleanDisk (state g conn) → IsReadAs P (Err fault)) → Fails g conn rows fault
+  fails_apart rows P (Store e) holds read = (holds.0, λ clean. absurd (read clean))
+  fails_apart rows P ReadNoMemory holds read = holds
+  fails_apart rows P ReadDamaged holds read = λ clean. read clean

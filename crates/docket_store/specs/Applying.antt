@@ -9,11 +9,11 @@ use Rattle.court_days.specs.Court.{CourtSettings}
 use Rattle.docket_command.specs.declared.command.Command.{Command}
 use Rattle.docket_command.specs.declared.refusal.Reply.{Reply}
 use Rattle.docket_core.specs.Decisions.{IsAnswer, LeadsTo}
-use Rattle.docket_core.specs.Histories.{History, standing_rows, items_of}
+use Rattle.court_rules.specs.declared.act.Act.{Act}
+use Rattle.docket_core.specs.Histories.{History, standing_rows, items_of, case_number, deadline_number, act_rows, acts_of_deadline}
 use Rattle.docket_core.specs.Outcomes.{IsHistory, shown, outcome, after, repeated, refused, accepted}
 use Rattle.docket_core.specs.Tables.{rows_of}
 use Rattle.docket_core.specs.declared.decision.Changes.{Changes}
-use Rattle.docket_core.specs.declared.decision.Decision.{Decision}
 use Rattle.docket_core.specs.declared.decision.Decision.TheVariants.{Change}
 use Rattle.docket_core.specs.declared.item.CalendarItem.{CalendarItem}
 use Rattle.docket_core.specs.declared.view.View.{View}
@@ -24,6 +24,7 @@ use Rattle.docket_tables.specs.Orderly.{IsCourtSettings}
 use Rattle.docket_tables.specs.Stands.{HoldsRows, Lasts, LastsAsEither}
 use Rattle.docket_store.specs.Dockets.{Docket}
 use Rattle.docket_store.specs.declared.fault.Fault.{Fault}
+use Rattle.docket_store.specs.declared.judging.Judged.{Judged}
 use Rattle.docket_store.specs.declared.fault.Fault.TheVariants.{Refused, NoMemory, StoreFailed, Damaged}
 
 -- a history of the court, of commands whose texts can be written; the text of the court's zone spells one
@@ -46,6 +47,10 @@ Keeps (Some items) h = items ≡ items_of (standing_rows h)
 abbrev pub IsAccepted : CourtSettings → History → Command → Changes → Type 0
 IsAccepted court h c changes =
     (outcome court h c ≡ accepted changes.reply) × LeadsTo court h c (Change changes)
+
+-- the acts of the deadline that the command names, before it
+abbrev pub AreNamed : History → Command → List Act → Type 0
+AreNamed h c acts = acts ≡ acts_of_deadline (case_number c.action) (deadline_number c.action) (act_rows h)
 
 module _ {S : Type 0} (g : Ghosts S) where
   -- the connection holds the rows of the docket, and so does each database that a power failure may leave
@@ -88,10 +93,11 @@ module _ {S : Type 0} (g : Ghosts S) where
   Shows d h c (Err fault) = Faults d h c fault
 
   -- what judging the command gives: nothing is written yet
-  abbrev pub Judges : Docket S → History → Command → Result Decision Fault → Type 0
-  Judges d h c (Ok decision) =
+  abbrev pub Judges : Docket S → History → Command → Result Judged Fault → Type 0
+  Judges d h c (Ok judged) =
       Stands d h
-      × (HasCleanDisk (state g d.conn) → IsAnswer (Ok decision) (outcome d.court h c) × LeadsTo d.court h c decision)
+      × (HasCleanDisk (state g d.conn) → IsAnswer (Ok judged.decision) (outcome d.court h c) × LeadsTo d.court h c judged.decision
+      × ((reply : Reply) → outcome d.court h c ≡ accepted reply → AreNamed h c judged.named.items))
   Judges d h c (Err fault) = Faults d h c fault
 
   -- what a question gives: the docket stays, and so does what a power failure may leave; where the database failed the connection may be shut

@@ -1,22 +1,28 @@
 //! One command, in one transaction.
-ghost use Rattle.std.specs.Prelude.{◌≡◌, ◌≤◌, ◌<◌, ◌^◌, ◌∷◌, length, false};
+ghost use Rattle.std.specs.Prelude.{◌≡◌, ◌≤◌, ◌<◌, ◌^◌, ◌∷◌, List, Option, length, false};
 ghost use Rattle.sqlite.specs.Held.{state};
 ghost use Rattle.sqlite.specs.State.{HasCleanDisk};
 ghost use Rattle.sqlite.specs.View.{doubt};
+ghost use Rattle.court_days.specs.Court.{CourtSettings};
 ghost use Rattle.docket_command.specs.declared.command.Command.{Command as Asked};
-ghost use Rattle.docket_core.specs.Histories.{History};
+ghost use Rattle.docket_core.specs.Histories.{History, case_rows};
+ghost use Rattle.docket_core.specs.Tables.{rows_of};
+ghost use Rattle.docket_core.specs.declared.item.CalendarItem.{CalendarItem as Item};
+ghost use Rattle.docket_tables.specs.Settling.{IsUpdate, changes_calendar};
+ghost use Rattle.docket_tables.specs.declared.moving.EndUpdate.TheVariants as update;
 ghost use Rattle.docket_wire.specs.Valid.{IsCommand};
 ghost use Rattle.docket_wire.specs.Writing.{canonical};
-ghost use Rattle.docket_store.specs.Applying.{IsDocket, StandsFor, Keeps, Stands, IsAccepted, Applies};
+ghost use Rattle.docket_store.specs.Applying.{IsDocket, StandsFor, Keeps, Stands, IsAccepted, AreNamed, Applies, Asks};
 ghost use Rattle.docket_store.specs.Dockets.{serving};
 
-use crate::asking::calendar_for;
+use crate::asking::calendar_told;
 use crate::fault::{Fault, read_fault, store_fault};
-use crate::judging::judge;
+use crate::judging::{Judged, judge};
 use court_days::Court;
+use court_rules::Act;
 use docket_command::{Action, Command, Reply};
 use docket_core::{CalendarItems, Changes, Decision};
-use docket_tables::{cases_moved, write};
+use docket_tables::{EndUpdate, case_moved, cases, changes_calendar, moves, write};
 use docket_wire::command_text;
 use sqlite::{Alter, Connection};
 use std::alloc::Global;
@@ -40,7 +46,74 @@ fn keep_calendar(kept: &mut Option<CalendarItems>, action: &Action)
     }
 }
 
-/// Writes what an accepted command changes.
+/// What is done about the stored ends, where the command changes the calendar.
+fn calendar_update<S: Alter>(conn: &mut Connection<S>) -> Result<EndUpdate, Fault>
+    requires { conn.old.in_transaction ≡ false }
+    ensures idle { conn.new.in_transaction ≡ false }
+    ensures clean { doubt (state S.Store conn.old).is_clean ≤ doubt (state S.Store conn.new).is_clean }
+    ensures update { (court : CourtSettings) (kept : Option (List Item)) (h : History) → Stands S.Store (serving conn.old court kept) h
+        → Asks S.Store (serving conn.new court kept) h (λ found. found ≡ update.Calendar (length (case_rows h))) result }
+{
+    match cases(conn) {
+        Ok(cases) => Ok(EndUpdate::Calendar { cases }),
+        Err(fault) => Err(read_fault(conn, fault)),
+    }
+}
+
+/// What is done about the stored ends, where the command leaves the calendar as it is.
+fn case_update<S: Alter>(
+    conn: &mut Connection<S>,
+    alloc: Global,
+    court: &Court,
+    kept: &mut Option<CalendarItems>,
+    command: &Command,
+    named: &[Act],
+    changes: &Changes,
+) -> Result<EndUpdate, Fault>
+    requires idle { conn.old.in_transaction ≡ false }
+    requires calm { changes_calendar command.now.action ≡ false }
+    ensures idle { conn.new.in_transaction ≡ false }
+    ensures clean { doubt (state S.Store conn.old).is_clean ≤ doubt (state S.Store conn.new).is_clean }
+    ensures update { (h : History) → Stands S.Store (serving conn.old court.now kept.old) h
+        → (HasCleanDisk (state S.Store conn.old) → IsAccepted court.now h command.now changes.now × AreNamed h command.now named.now)
+        → Asks S.Store (serving conn.new court.now kept.new) h (λ found. IsUpdate court.now found (rows_of court.now h) (rows_of court.now (command.now ∷ h))) result }
+{
+    let calendar = calendar_told(conn, alloc, court, kept)?;
+    match moves(alloc, court, &calendar, named, changes.rows.as_slice()) {
+        Ok(update) => Ok(update),
+        Err(fault) => Err(read_fault(conn, fault)),
+    }
+}
+
+/// What is done about the stored ends, with an accepted command. One that makes no deadline and no act
+/// reads no calendar.
+fn end_update<S: Alter>(
+    conn: &mut Connection<S>,
+    alloc: Global,
+    court: &Court,
+    kept: &mut Option<CalendarItems>,
+    command: &Command,
+    named: &[Act],
+    changes: &Changes,
+) -> Result<EndUpdate, Fault>
+    requires idle { conn.old.in_transaction ≡ false }
+    requires lawful { IsCommand command.now }
+    ensures idle { conn.new.in_transaction ≡ false }
+    ensures clean { doubt (state S.Store conn.old).is_clean ≤ doubt (state S.Store conn.new).is_clean }
+    ensures update { (h : History) → Stands S.Store (serving conn.old court.now kept.old) h
+        → (HasCleanDisk (state S.Store conn.old) → IsAccepted court.now h command.now changes.now × AreNamed h command.now named.now)
+        → Asks S.Store (serving conn.new court.now kept.new) h (λ found. IsUpdate court.now found (rows_of court.now h) (rows_of court.now (command.now ∷ h))) result }
+{
+    if changes_calendar(&command.action) {
+        return calendar_update(conn);
+    }
+    match case_moved(&command.action) {
+        Some(_) => case_update(conn, alloc, court, kept, command, named, changes),
+        None => Ok(EndUpdate::Moves(Vec::new(alloc))),
+    }
+}
+
+/// Writes what an accepted command changes. `named` are the acts of the deadline that it names.
 fn keep<S: Alter>(
     conn: &mut Connection<S>,
     alloc: Global,
@@ -48,6 +121,7 @@ fn keep<S: Alter>(
     kept: &mut Option<CalendarItems>,
     command: &Command,
     body: &str,
+    named: &[Act],
     changes: &Changes,
 ) -> Result<Reply, Fault>
     requires idle { conn.old.in_transaction ≡ false }
@@ -56,26 +130,13 @@ fn keep<S: Alter>(
     ensures idle { conn.new.in_transaction ≡ false }
     ensures clean { doubt (state S.Store conn.old).is_clean ≤ doubt (state S.Store conn.new).is_clean }
     ensures kept { (h : History) → Stands S.Store (serving conn.old court.now kept.old) h
-        → (HasCleanDisk (state S.Store conn.old) → IsAccepted court.now h command.now changes.now)
+        → (HasCleanDisk (state S.Store conn.old) → IsAccepted court.now h command.now changes.now × AreNamed h command.now named.now)
         → Applies S.Store (serving conn.new court.now kept.new) h command.now result }
 {
     changes_fit(changes);
-    let calendar = calendar_for(conn, alloc, court, kept, &command.action)?;
-    let cases = match cases_moved(conn, &command.action) {
-        Ok(cases) => cases,
-        Err(fault) => return Err(read_fault(conn, fault)),
-    };
+    let update = end_update(conn, alloc, court, kept, command, named, changes)?;
     keep_calendar(kept, &command.action);
-    match write(
-        conn,
-        alloc,
-        court,
-        calendar.as_ref(),
-        cases,
-        command,
-        body,
-        changes,
-    ) {
+    match write(conn, alloc, court, &update, command, body, changes) {
         Ok(()) => Ok(changes.reply),
         Err(error) => Err(store_fault(conn, error)),
     }
@@ -96,10 +157,18 @@ pub(crate) fn apply_to<S: Alter>(
         → Applies S.Store (serving conn.new court.now kept.new) h command.now result }
 {
     let body = command_text(alloc, command)?;
-    match judge(conn, alloc, court, kept, command, body.as_str())? {
+    let Judged { decision, named } = judge(conn, alloc, court, kept, command, body.as_str())?;
+    match decision {
         Decision::Repeat(reply) => Ok(reply),
-        Decision::Change(changes) => {
-            keep(conn, alloc, court, kept, command, body.as_str(), &changes)
-        }
+        Decision::Change(changes) => keep(
+            conn,
+            alloc,
+            court,
+            kept,
+            command,
+            body.as_str(),
+            named.as_slice(),
+            &changes,
+        ),
     }
 }

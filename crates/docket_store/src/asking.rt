@@ -1,5 +1,5 @@
 //! What the docket that the tables hold tells of a case.
-ghost use Rattle.std.specs.Prelude.{◌≡◌, ◌≤◌, ℕ, List, Option, Some, [], false, IfSome, MatchResult};
+ghost use Rattle.std.specs.Prelude.{◌≡◌, ◌≤◌, ℕ, List, Option, Some, [], false, MatchResult};
 ghost use Rattle.std.specs.Option.{option_map};
 ghost use Rattle.sqlite.specs.Held.{state};
 ghost use Rattle.sqlite.specs.State.{HasCleanDisk};
@@ -10,7 +10,6 @@ ghost use Rattle.docket_core.specs.Histories.{History, items_of, standing_rows};
 ghost use Rattle.docket_core.specs.Records.{calendar, case_record, deadline_lines, lines_from};
 ghost use Rattle.docket_core.specs.Tables.{case_deadlines, rows_of};
 ghost use Rattle.docket_core.specs.declared.item.CalendarItem.{CalendarItem as Item};
-ghost use Rattle.docket_tables.specs.Settling.{changes_calendar};
 ghost use Rattle.docket_store.specs.Applying.{Stands, Asks};
 ghost use Rattle.docket_store.specs.Dockets.{serving};
 ghost use Rattle.docket_store.specs.Sound.{IsNotTold};
@@ -18,12 +17,11 @@ ghost use Rattle.docket_store.specs.Sound.{IsNotTold};
 use crate::fault::{Fault, read_fault};
 use crate::judging::take_calendar;
 use court_days::{Calendar, Court};
-use docket_command::Action;
 use docket_core::{
     CalendarItem, CalendarItems, CaseRecord, DeadlineLine, DeadlineView, calendar_of,
     deadline_lines,
 };
-use docket_tables::{case_deadlines, case_moved, case_record, is_sound_case};
+use docket_tables::{case_deadlines, case_record, is_sound_case};
 use sqlite::{Alter, Connection};
 use std::alloc::Global;
 
@@ -92,7 +90,7 @@ fn calendar_by(alloc: Global, court: &Court, items: &[CalendarItem]) -> Result<C
 }
 
 /// The calendar, which is kept.
-fn calendar_told<S: Alter>(
+pub(crate) fn calendar_told<S: Alter>(
     conn: &mut Connection<S>,
     alloc: Global,
     court: &Court,
@@ -108,27 +106,6 @@ fn calendar_told<S: Alter>(
     let answer = calendar_by(alloc, court, items.as_slice());
     *kept = Some(items);
     answer
-}
-
-/// The calendar, where the action may make a deadline or an act in a case. It leaves the calendar as it
-/// is.
-pub(crate) fn calendar_for<S: Alter>(
-    conn: &mut Connection<S>,
-    alloc: Global,
-    court: &Court,
-    kept: &mut Option<CalendarItems>,
-    action: &Action,
-) -> Result<Option<Calendar>, Fault>
-    requires { conn.old.in_transaction ≡ false }
-    ensures idle { conn.new.in_transaction ≡ false }
-    ensures clean { doubt (state S.Store conn.old).is_clean ≤ doubt (state S.Store conn.new).is_clean }
-    ensures answer { (h : History) → Stands S.Store (serving conn.old court.now kept.old) h
-        → Asks S.Store (serving conn.new court.now kept.new) h (λ found. IfSome found (λ found. (found ≡ calendar h) × (changes_calendar action.now ≡ false))) result }
-{
-    if case_moved(action).is_none() {
-        return Ok(None);
-    }
-    Ok(Some(calendar_told(conn, alloc, court, kept)?))
 }
 
 /// The deadlines, with where each stands by the calendar of the items.

@@ -15,8 +15,9 @@ ghost use Rattle.docket_store.specs.Dockets.{serving};
 
 use crate::fault::{Fault, read_fault};
 use court_days::Court;
+use court_rules::Act;
 use docket_command::{Action, Command};
-use docket_core::{CalendarItems, DecideFault, Decision, View, asks_calendar, decide};
+use docket_core::{CalendarItems, DecideFault, Decision, View, acts_named, asks_calendar, decide};
 use docket_tables::{ReadFault, calendar_items, is_sound, view};
 use sqlite::{Alter, Connection};
 use std::alloc::Global;
@@ -100,6 +101,13 @@ fn look<S: Alter>(
     }
 }
 
+/// What is done with a command, and the acts of the deadline that it names, before it.
+#[derive(Drop)]
+pub(crate) struct Judged {
+    pub(crate) decision: Decision,
+    pub(crate) named: Vec<Act>,
+}
+
 /// What is done with the command. Nothing is written yet.
 pub(crate) fn judge<S: Alter>(
     conn: &mut Connection<S>,
@@ -108,7 +116,7 @@ pub(crate) fn judge<S: Alter>(
     kept: &mut Option<CalendarItems>,
     command: &Command,
     body: &str,
-) -> Result<Decision, Fault>
+) -> Result<Judged, Fault>
     requires idle { conn.old.in_transaction ≡ false }
     requires body { body.now ≡ canonical command.now }
     requires lawful { IsCommand command.now }
@@ -121,12 +129,13 @@ pub(crate) fn judge<S: Alter>(
     if !is_sound(court, &view) {
         return Err(Fault::Damaged);
     }
+    let named = acts_named(alloc, &view, command)?;
     let decided = decide(alloc, &view, court, command);
     if asks_calendar(&command.action) {
         *kept = Some(view.calendar);
     }
     match decided {
-        Ok(decision) => Ok(decision),
+        Ok(decision) => Ok(Judged { decision, named }),
         Err(DecideFault::Refused(refusal)) => Err(Fault::Refused(refusal)),
         Err(DecideFault::NoMemory) => Err(Fault::NoMemory),
     }

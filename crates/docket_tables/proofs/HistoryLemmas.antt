@@ -1,7 +1,7 @@
 -- Which ends an accepted command may move.
-use Rattle.std.proofs.Common.{◌≡◌, ◌∙◌, ◌≤◌, ◌<◌, ◌⊎◌, inl, inr, ◌==◌, ◌&&◌, ◌+◌, ◌-◌, ℕ, Bool, true, false, cond, nat_lt, List, [], ◌∷◌, ◌++◌, map, filter, length, Option, Some, None, refl, sym, ap, ap₂, arith, append-nil}
-use Rattle.std.specs.Prelude.{nat_le, unwrap_or, IfSome}
-use Rattle.std.specs.List.{AllByRecursion}
+use Rattle.std.proofs.Common.{◌≡◌, ◌∙◌, ◌≤◌, ◌<◌, ◌⊎◌, inl, inr, ◌==◌, ◌&&◌, ◌+◌, ℕ, Bool, true, false, cond, List, [], ◌∷◌, ◌++◌, length, Option, Some, None, refl, sym, ap, ap₂, arith, append-nil}
+use Rattle.std.specs.Prelude.{nat_le, unwrap_or}
+use Rattle.std.specs.List.{AllByRecursion, flat_map}
 use Rattle.std.specs.Option.{option_and_then}
 use Rattle.std.proofs.lemmas.Bool.Decides.{nat_tests}
 use Rattle.std.proofs.lemmas.List.{length-append}
@@ -14,20 +14,22 @@ use Rattle.docket_command.specs.declared.command.Action.{Action}
 use Rattle.docket_command.specs.declared.command.Action.TheVariants.{DeclareDay, CloseDay, CloseSpan, WithdrawCalendar, ImportCalendar, AddParty, FileEntry, ServeSummons, FileWaiver, ServePleading, OrderReply, RuleMotion, Dispose, StatementServed, NoticeHearing, OrderPeriod, EnterJudgment, Extend, Satisfy, Vacate}
 use Rattle.docket_core.specs.Actions.{case_named, row_withdrawn, rows_asked, deadlines_made, acts_made}
 use Rattle.docket_core.specs.CalendarItems.{fresh, calendar_of}
-use Rattle.docket_core.specs.EndRows.{calendar_in, end_rows, ends_running, end_rows_from}
-use Rattle.docket_core.specs.Histories.{History, standing_rows, next_row, items_of, numbered, without_row, case_number, case_rows, new_case, deadline_rows, deadlines_of_case, deadline_rows_from, new_deadlines, act_rows, acts_of_deadline, first_acts, first_acts_from, later_acts, act_rows_on, deadlines_from, deadline_number}
+use Rattle.docket_core.specs.EndRows.{calendar_in, end_rows, ends_running, end_rows_from, row_of_deadline}
+use Rattle.docket_core.specs.Histories.{History, standing_rows, next_row, items_of, numbered, without_row, case_number, case_rows, new_case, deadline_rows, deadlines_of_case, deadline_rows_from, new_deadlines, act_rows, acts_of_deadline, first_acts_from, act_rows_on, deadlines_from, deadline_number}
 use Rattle.docket_core.specs.Outcomes.{IsHistory, shown_fresh, case_of_number}
-use Rattle.docket_core.specs.Tables.{Tables, rows_of}
+use Rattle.docket_core.specs.Tables.{Tables, rows_of, all_changed, with_receipt}
+use Rattle.docket_core.specs.EndMoves.{Follows}
+use Rattle.docket_core.specs.Records.{calendar}
+use Rattle.docket_core.specs.declared.row.Change.{Change}
+use Rattle.docket_command.specs.declared.refusal.Reply.{Reply}
 use Rattle.docket_tables.proofs.OrderlyActions.{NewDeadline}
-use Rattle.docket_core.specs.declared.row.ActRow.{ActRow}
 use Rattle.docket_core.specs.declared.row.DeadlineRow.{DeadlineRow}
 use Rattle.docket_core.specs.declared.view.CaseView.{CaseView}
 use Rattle.docket_core.proofs.Leading.{seen, none_made, none_acted_in}
-use Rattle.docket_core.proofs.LimitsKept.{passed, within_limits}
+use Rattle.docket_core.proofs.LimitsKept.{passed}
 use Rattle.docket_wire.specs.Valid.{IsCommand}
-use Rattle.docket_tables.specs.Contents.{ends_of}
-use Rattle.docket_tables.specs.Orderly.{IsCourtSettings}
-use Rattle.docket_tables.specs.Settling.{IsSettling, ends_in_case, changes_calendar, case_moved, after_case, last_moved, IsMoved}
+use Rattle.docket_tables.specs.Orderly.{IsCourtSettings, IsOrderly}
+use Rattle.docket_tables.specs.Settling.{IsSettling, changes_calendar, case_moved}
 use Rattle.docket_tables.proofs.OrderlyLemmas.{orderly}
 use Rattle.docket_tables.proofs.WholeLemmas.{ends_of_all}
 
@@ -86,21 +88,6 @@ deadlines_elsewhere j k n (d ∷ made) off =
     ap (λ b. cond b (record { case = k; number = n; party = d.party; rule = d.rule; initial = d.initial } ∷ deadlines_of_case j (deadline_rows_from k (n + 1) made)) (deadlines_of_case j (deadline_rows_from k (n + 1) made))) off
     ∙ deadlines_elsewhere j k (n + 1) made off
 
-abbrev on : ℕ → ℕ → List ActRow → List ActRow
-on j m rows = filter (λ row. row.case == j && row.deadline == m) rows
-
-firsts_elsewhere : (j m k n : ℕ) (made : List NewDeadline) → (k == j) ≡ false → on j m (first_acts_from k n made) ≡ []
-firsts_elsewhere j m k n [] off = refl
-firsts_elsewhere j m k n (d ∷ made) off =
-    ap (λ b. cond (b && n == m) (record { case = k; deadline = n; number = 1; act = d.first } ∷ on j m (first_acts_from k (n + 1) made)) (on j m (first_acts_from k (n + 1) made))) off
-    ∙ firsts_elsewhere j m k (n + 1) made off
-
-later_elsewhere : (j m k d n : ℕ) (acts : List Act) → (k == j) ≡ false → on j m (act_rows_on k d n acts) ≡ []
-later_elsewhere j m k d n [] off = refl
-later_elsewhere j m k d n (act ∷ acts) off =
-    ap (λ b. cond (b && d == m) (record { case = k; deadline = d; number = n; act = act } ∷ on j m (act_rows_on k d (n + 1) acts)) (on j m (act_rows_on k d (n + 1) acts))) off
-    ∙ later_elsewhere j m k d (n + 1) acts off
-
 -- the action makes nothing in case j
 abbrev IsElsewhere : ℕ → Action → Type 0
 IsElsewhere j a = MakesNothing a ⊎ ((case_number a == j) ≡ false)
@@ -113,28 +100,6 @@ deadlines_kept : (h : History) (c : Command) (j : ℕ) → IsElsewhere j c.actio
 deadlines_kept h c j off =
     filter-append (λ (row : DeadlineRow). row.case == j) (deadline_rows h) (new_deadlines (length (deadlines_of_case (case_number c.action) (deadline_rows h))) c.action)
     ∙ ap (λ xs. deadlines_of_case j (deadline_rows h) ++ xs) (new_elsewhere j _ c.action off) ∙ append-nil _
-
-firsts_new : (j m n : ℕ) (a : Action) → IsElsewhere j a → on j m (first_acts_from (case_number a) n (deadlines_made a)) ≡ []
-firsts_new j m n a (inl none) = ap (λ made. on j m (first_acts_from (case_number a) n made)) none.0
-firsts_new j m n a (inr off) = firsts_elsewhere j m (case_number a) n (deadlines_made a) off
-
-later_new : (j m n : ℕ) (a : Action) → IsElsewhere j a → on j m (act_rows_on (case_number a) (deadline_number a) n (acts_made a)) ≡ []
-later_new j m n a (inl none) = ap (λ made. on j m (act_rows_on (case_number a) (deadline_number a) n made)) none.1
-later_new j m n a (inr off) = later_elsewhere j m (case_number a) (deadline_number a) n (acts_made a) off
-
-acts_kept : (h : History) (c : Command) (j m : ℕ) → IsElsewhere j c.action → on j m (act_rows (c ∷ h)) ≡ on j m (act_rows h)
-acts_kept h c j m off =
-    let a = c.action in
-    let firsts = first_acts (length (deadlines_of_case (case_number a) (deadline_rows h))) a in
-    let later = later_acts (length (acts_of_deadline (case_number a) (deadline_number a) (act_rows h))) a in
-    let test : ActRow → Bool = λ row. row.case == j && row.deadline == m in
-    filter-append test (act_rows h) (firsts ++ later)
-    ∙ ap (λ xs. on j m (act_rows h) ++ xs) (filter-append test firsts later ∙ ap₂ (λ xs ys. xs ++ ys) (firsts_new j m _ a off) (later_new j m _ a off)) ∙ append-nil _
-
-views_kept : (j n : ℕ) (acts others : List ActRow) (ds : List DeadlineRow) → ((m : ℕ) → on j m others ≡ on j m acts) → deadlines_from j n others ds ≡ deadlines_from j n acts ds
-views_kept j n acts others [] same = refl
-views_kept j n acts others (d ∷ ds) same =
-    ap₂ (λ rows more. record { party = d.party; rule = d.rule; initial = d.initial; acts = map (λ (row : ActRow). row.act) rows } ∷ more) (same n) (views_kept j (n + 1) acts others ds same)
 
 -- a case that is named is there
 range_of : (h : History) (a : Action) (x : CaseView) → (shown_fresh h a).case ≡ Some x → (nat_le 1 (case_number a) && nat_le (case_number a) (length (case_rows h))) ≡ true
@@ -172,78 +137,62 @@ no_deadlines court (c ∷ h) is j out =
         let high : case_number c.action ≤ length (case_rows h) = grind (arith, nat_tests, range.1) in
         inr (elim earlier [ inl under ↦ grind (arith, nat_tests, under, low) | inr over ↦ grind (arith, nat_tests, over, high) ])
 
-module _ (court : CourtSettings) (h : History) (c : Command) (settings : IsCourtSettings court) (is : IsHistory court (c ∷ h)) (all : AllByRecursion IsCommand (c ∷ h)) where
-  abbrev t : Tables
-  t = rows_of court h
+moves_none : (a : Action) → changes_calendar a ≡ true → case_moved a ≡ None
+moves_none a e = at (case_moved a) refl
+  where
+    at : (o : Option ℕ) → case_moved a ≡ o → case_moved a ≡ None
+    at None is = is
+    at (Some k) is = absurd (let no = sym (named_quiet a k is) ∙ e in cc)
 
-  abbrev next : Tables
-  next = rows_of court (c ∷ h)
+-- a command that changes the calendar moves the ends of the cases that there are
+pub settling : (court : CourtSettings) (h : History) (c : Command) → IsCourtSettings court → IsHistory court (c ∷ h) → AllByRecursion IsCommand (c ∷ h)
+    → changes_calendar c.action ≡ true → IsSettling court (length (case_rows h)) (rows_of court h) (rows_of court (c ∷ h))
+settling court h c settings is all changes = record {
+  orderly = now;
+  next_orderly = then;
+  untouched = λ j out.
+      let none = no_deadlines court h is.1 j out in
+      let off : IsElsewhere j c.action = inl (makes_nothing c.action (moves_none c.action changes)) in
+      ends_of_all court t j now
+      ∙ ap (λ ds. end_rows_from j 1 (ends_running (zone_of court) (calendar_in t) (deadlines_from j 1 (act_rows h) ds))) none
+      ∙ sym (ap (λ ds. end_rows_from j 1 (ends_running (zone_of court) (calendar_in next) (deadlines_from j 1 (act_rows (c ∷ h)) ds))) (deadlines_kept h c j off ∙ none))
+      ∙ sym (ends_of_all court next j then);
+}
+  where
+    t : Tables
+    t = rows_of court h
 
-  by_cases : (j : ℕ) → ends_in_case court (calendar_in t) t j ≡ ends_in_case court (calendar_in next) next j → ends_of j (end_rows court t) ≡ ends_of j (end_rows court next)
-  by_cases j same = ends_of_all court t j (orderly court h settings is.1 all.1) ∙ same ∙ sym (ends_of_all court next j (orderly court (c ∷ h) settings is all))
+    next : Tables
+    next = rows_of court (c ∷ h)
 
-  -- where the calendar stays and nothing is made in the case
-  kept_quietly : (j : ℕ) → changes_calendar c.action ≡ false → IsElsewhere j c.action → ends_of j (end_rows court t) ≡ ends_of j (end_rows court next)
-  kept_quietly j calm off =
-      by_cases j (sym (ap₂ (λ items views. end_rows_from j 1 (ends_running (zone_of court) (calendar_of items) views)) (calendar_kept h c calm)
-      (views_kept j 1 (act_rows h) (act_rows (c ∷ h)) (deadlines_of_case j (deadline_rows (c ∷ h))) (λ m. acts_kept h c j m off) ∙ ap (deadlines_from j 1 (act_rows h)) (deadlines_kept h c j off))))
+    now : IsOrderly court (rows_of court h)
+    now = orderly court h settings is.1 all.1
 
-  -- where the case has no deadline
-  kept_empty : (j : ℕ) → deadlines_of_case j (deadline_rows h) ≡ [] → IsElsewhere j c.action → ends_of j (end_rows court t) ≡ ends_of j (end_rows court next)
-  kept_empty j none off =
-      by_cases j (ap (λ ds. end_rows_from j 1 (ends_running (zone_of court) (calendar_in t) (deadlines_from j 1 (act_rows h) ds))) none
-      ∙ sym (ap (λ ds. end_rows_from j 1 (ends_running (zone_of court) (calendar_in next) (deadlines_from j 1 (act_rows (c ∷ h)) ds))) (deadlines_kept h c j off ∙ none)))
+    then : IsOrderly court (rows_of court (c ∷ h))
+    then = orderly court (c ∷ h) settings is all
 
-  untouched_named : (k first after j : ℕ) → case_moved c.action ≡ Some k → first ≡ k → after ≡ after_case k → (j < first) ⊎ (first + (after - first) ≤ j) → ends_of j (end_rows court t) ≡ ends_of j (end_rows court next)
-  untouched_named k first after j named a b out =
-      let number : case_number c.action ≡ k = ap (λ o. unwrap_or o 0) (moved_named c.action k named) in
-      kept_quietly j (named_quiet c.action k named) (inr (off number))
-    where
-      room : k ≤ 100_000
-      room = at (seen h c.action (passed court h c is.0.0 is.0.1).case)
-        where
-          at : {x : CaseView} → (case_named c.action ≡ None) ⊎ ((shown_fresh h c.action).case ≡ Some x) → k ≤ 100_000
-          at (inl none) = absurd (let no = none in let yes = moved_named c.action k named in cc)
-          at {x} (inr found) =
-              let range = both_true (nat_le 1 (case_number c.action)) (nat_le (case_number c.action) (length (case_rows h))) (range_of h c.action x found) in
-              let number : case_number c.action ≡ k = ap (λ o. unwrap_or o 0) (moved_named c.action k named) in
-              let high : case_number c.action ≤ length (case_rows h) = grind (arith, nat_tests, range.1) in
-              omega (arith, high, number, (within_limits court h is.1).cases)
+-- where nothing is made and the calendar stays, so do the ends
+pub ends_kept : (court : CourtSettings) (h : History) (c : Command) → case_moved c.action ≡ None → changes_calendar c.action ≡ false → end_rows court (rows_of court h) ≡ end_rows court (rows_of court (c ∷ h))
+unfolding end_rows
+ends_kept court h c none calm =
+    let makes = makes_nothing c.action none in
+    let k = case_number c.action in
+    let deadlines : deadline_rows (c ∷ h) ≡ deadline_rows h =
+    ap (λ made. deadline_rows h ++ deadline_rows_from k (length (deadlines_of_case k (deadline_rows h)) + 1) made) makes.0 ∙ append-nil _ in
+    let acts : act_rows (c ∷ h) ≡ act_rows h =
+    ap₂ (λ made news. act_rows h ++ (first_acts_from k (length (deadlines_of_case k (deadline_rows h)) + 1) made
+    ++ act_rows_on k (deadline_number c.action) (length (acts_of_deadline k (deadline_number c.action) (act_rows h)) + 1) news)) makes.0 makes.1 ∙ append-nil _ in
+    sym (λ i. flat_map (row_of_deadline (zone_of court) (calendar_of (calendar_kept h c calm i)) (acts i)) (deadlines i))
 
-      off : case_number c.action ≡ k → (case_number c.action == j) ≡ false
-      off number =
-          let small : nat_lt k 4_294_967_295 ≡ true = grind (arith, nat_tests, room) in
-          let past : after ≡ k + 1 = b ∙ ap (λ x. cond x (k + 1) k) small in
-          elim out [ inl low ↦ grind (arith, nat_tests, low, a, number) | inr high ↦ grind (arith, nat_tests, high, a, past, number) ]
-
-  untouched_other : (first after j : ℕ) → case_moved c.action ≡ None → first ≡ 1 → after ≡ last_moved c.action (length (case_rows h)) → (j < first) ⊎ (first + (after - first) ≤ j) → ends_of j (end_rows court t) ≡ ends_of j (end_rows court next)
-  untouched_other first after j none a b out = at (changes_calendar c.action) refl
-    where
-      few : length (case_rows h) ≤ 100_000
-      few = (within_limits court h is.1).cases
-
-      at : (x : Bool) → changes_calendar c.action ≡ x → ends_of j (end_rows court t) ≡ ends_of j (end_rows court next)
-      at false e = kept_quietly j e (inl (makes_nothing c.action none))
-      at true e =
-          let small : nat_lt (length (case_rows h)) 4_294_967_295 ≡ true = grind (arith, nat_tests, few) in
-          let past : after ≡ length (case_rows h) + 1 = b ∙ ap (λ x. cond x (after_case (length (case_rows h))) 1) e ∙ ap (λ x. cond x (length (case_rows h) + 1) (length (case_rows h))) small in
-          let outside : (j < 1) ⊎ (length (case_rows h) < j) = elim out [ inl low ↦ inl (omega (arith, low, a)) | inr high ↦ inr (omega (arith, high, a, past)) ] in
-          kept_empty j (no_deadlines court h is.1 j outside) (inl (makes_nothing c.action none))
-
-  -- a calendar that is given stands afterwards, where the action leaves it as it is
-  still_given : (given : Option Entered) → IfSome given (λ entered. (entered ≡ calendar_in t) × (changes_calendar c.action ≡ false)) → IfSome given (λ entered. entered ≡ calendar_in next)
-  still_given None shown = tt
-  still_given (Some entered) shown = shown.0 ∙ ap calendar_of (sym (calendar_kept h c shown.1))
-
-  pub settling : (given : Option Entered) (first after : ℕ) → IfSome given (λ entered. (entered ≡ calendar_in t) × (changes_calendar c.action ≡ false))
-      → IsMoved c.action (length (case_rows h)) (case_moved c.action) first after → IsSettling court given first (after - first) t next
-  settling given first after shown moved = record {
-    orderly = orderly court h settings is.1 all.1;
-    next_orderly = orderly court (c ∷ h) settings is all;
-    calendar = still_given given shown;
-    untouched = λ j out. by_name (case_moved c.action) refl moved j out;
-  }
-    where
-      by_name : (o : Option ℕ) → case_moved c.action ≡ o → IsMoved c.action (length (case_rows h)) o first after → (j : ℕ) → (j < first) ⊎ (first + (after - first) ≤ j) → ends_of j (end_rows court t) ≡ ends_of j (end_rows court next)
-      by_name (Some k) e m j out = untouched_named k first after j e m.0 m.1 out
-      by_name None e m j out = untouched_other first after j e m.0 m.1 out
+-- a command on a case leaves the calendar as it is
+pub follows : (court : CourtSettings) (entered : Entered) (acts : List Act) (changes : List Change) (h : History) (c : Command) (reply : Reply) → IsHistory court (c ∷ h)
+    → entered ≡ calendar h → changes_calendar c.action ≡ false → acts ≡ acts_of_deadline (case_number c.action) (deadline_number c.action) (act_rows h)
+    → with_receipt c reply (all_changed changes (rows_of court h)) ≡ rows_of court (c ∷ h) → Follows court entered acts changes h c
+follows court entered acts changes h c reply is stands calm named leads = record {
+  history = is;
+  stands = stands;
+  stays = stands ∙ ap calendar_of (sym (calendar_kept h c calm));
+  named = named;
+  reply = reply;
+  leads = leads;
+}

@@ -1,5 +1,5 @@
 -- The ends of cases brought up to date, one case after another.
-use Rattle.std.proofs.Common.{◌≡◌, ◌∙◌, ◌≤◌, ◌≢◌, ◌==◌, ◌&&◌, ◌+◌, ℕ, zero, suc, not, Bool, true, false, cond, List, [], ◌∷◌, ◌++◌, filter, Option, Some, None, IsPermutation, refl, sym, ap, subst, arith, append-nil}
+use Rattle.std.proofs.Common.{◌≡◌, ◌∙◌, ◌<◌, ◌≢◌, ◌==◌, ◌&&◌, ◌+◌, ℕ, zero, suc, not, Bool, true, false, cond, List, [], ◌∷◌, ◌++◌, filter, Option, Some, None, IsPermutation, refl, sym, ap, subst, arith, append-nil}
 use Rattle.std.specs.List.{AllByRecursion}
 use Rattle.std.proofs.lemmas.Bool.Decides.{nat_tests}
 use Rattle.std.proofs.lemmas.List.Elements.{filter-append}
@@ -73,18 +73,18 @@ module _ (court : CourtSettings) (entered : Entered) (t : Tables) where
           at true e = let off : (c == k) ≡ false = grind (arith, nat_tests, e, other) in ap (λ b. not b && c == j) off
           at false e = elim (c == k) as (λ b. (not b && c == j) ≡ (c == j)) [ true ↦ sym e | false ↦ refl ]
 
-  pub settled_before : (j first n : ℕ) (ends : List EndRow) → first + n ≤ j → ends_of j (settled_cases court entered t first n ends) ≡ ends_of j ends
-  settled_before j first zero ends past = refl
-  settled_before j first (suc n) ends past =
-      let other : j ≢ first + n = λ e. omega (arith, e, past) in
-      settled_other j (first + n) (settled_cases court entered t first n ends) other ∙ settled_before j first n ends (omega (arith, past))
+  pub settled_before : (j n : ℕ) (ends : List EndRow) → n < j → ends_of j (settled_cases court entered t n ends) ≡ ends_of j ends
+  settled_before j zero ends past = refl
+  settled_before j (suc n) ends past =
+      let other : j ≢ n + 1 = λ e. omega (arith, e, past) in
+      settled_other j (n + 1) (settled_cases court entered t n ends) other ∙ settled_before j n ends (omega (arith, past))
 
-  pub still_stored : (first n : ℕ) (ends : List EndRow) → ((k : ℕ) → AreStored k ends) → AreStored (first + n) (settled_cases court entered t first n ends)
-  still_stored first n ends are =
-      let same = settled_before (first + n) first n ends (omega arith) in
+  pub still_stored : (n : ℕ) (ends : List EndRow) → ((k : ℕ) → AreStored k ends) → AreStored (n + 1) (settled_cases court entered t n ends)
+  still_stored n ends are =
+      let same = settled_before (n + 1) n ends (omega arith) in
       record {
-        fit = subst (λ rows. AllByRecursion Rattle.docket_columns.specs.Fits.IsEndRow rows) (sym same) (are (first + n)).fit;
-        rows = subst (λ rows. Rattle.docket_core.specs.EndRows.AreRowsFrom (first + n) 1 rows) (sym same) (are (first + n)).rows;
+        fit = subst (λ rows. AllByRecursion Rattle.docket_columns.specs.Fits.IsEndRow rows) (sym same) (are (n + 1)).fit;
+        rows = subst (λ rows. Rattle.docket_core.specs.EndRows.AreRowsFrom (n + 1) 1 rows) (sym same) (are (n + 1)).rows;
       }
 
 -- the changes of the ends of case k, in a database that has those of all cases

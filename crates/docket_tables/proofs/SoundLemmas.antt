@@ -1,5 +1,5 @@
 -- What is tested of a view makes it sound, and a sound view passes.
-use Rattle.std.proofs.Common.{◌≡◌, ◌≤◌, Bool, true, false, Option, Some, None, List, [], ◌∷◌, length, refl, arith}
+use Rattle.std.proofs.Common.{◌≡◌, ◌≤◌, ◌⊎◌, Bool, true, false, Option, Some, None, List, [], ◌∷◌, length, refl, arith}
 use Rattle.std.specs.Prelude.{nat_lt, nat_le, ◌&&◌, IfSome}
 use Rattle.std.specs.List.{All, list_all}
 use Rattle.std.proofs.lemmas.Bool.Decides.{nat_tests}
@@ -16,10 +16,13 @@ use Rattle.docket_core.specs.Decisions.{IsSoundView}
 use Rattle.docket_core.specs.Views.{deadline_shown}
 use Rattle.docket_core.specs.declared.item.CalendarItem.{CalendarItem}
 use Rattle.docket_core.specs.declared.item.CalendarItem.TheVariants.{Day, Span}
+use Rattle.docket_core.specs.EndMoves.{acts_with, MayCome, AreLawful}
+use Rattle.docket_core.specs.declared.row.Change.{Change}
+use Rattle.docket_core.specs.declared.row.Change.TheVariants.{AddAct}
 use Rattle.docket_core.specs.declared.view.DeadlineView.{DeadlineView}
 use Rattle.docket_core.specs.declared.view.View.{View}
 use Rattle.docket_core.proofs.Passed.{left_true, right_true}
-use Rattle.docket_tables.specs.Sound.{is_entered_item, begins_in_time, are_acts, are_lawful, is_lawful, IsSoundCase}
+use Rattle.docket_tables.specs.Sound.{is_entered_item, begins_in_time, are_acts, are_lawful, is_lawful, may_come, IsSoundCase}
 
 both_true : (a b : Bool) → a ≡ true → b ≡ true → (a && b) ≡ true
 both_true true b e f = f
@@ -77,11 +80,32 @@ module _ (zone : ZoneRules) where
       let counted = nat_le 1 (length acts) && nat_le (length acts) 100 in
       right_true counted (list_all is_within acts) (left_true (counted && list_all is_within acts) _ e)
 
+  pub list_told : (acts : List Act) → are_acts zone acts ≡ true → AreActs zone acts
+  list_told acts e = (left_true (acts_ok acts) _ e, begin_told acts (right_true (acts_ok acts) _ e))
+
+  pub list_passed : (acts : List Act) → AreActs zone acts → are_acts zone acts ≡ true
+  list_passed acts is = both_true (acts_ok acts) (list_all (begins_in_time zone) acts) is.0 (begin_passed acts (all_within acts is.0) is.1)
+
   acts_told : (d : DeadlineView) → are_acts zone d.acts ≡ true → AreActs zone d.acts
-  acts_told d e = (left_true (acts_ok d.acts) _ e, begin_told d.acts (right_true (acts_ok d.acts) _ e))
+  acts_told d e = list_told d.acts e
 
   acts_passed : (d : DeadlineView) → AreActs zone d.acts → are_acts zone d.acts ≡ true
-  acts_passed d is = both_true (acts_ok d.acts) (list_all (begins_in_time zone) d.acts) is.0 (begin_passed d.acts (all_within d.acts is.0) is.1)
+  acts_passed d is = list_passed d.acts is
+
+  -- an act that is tested may come on its deadline
+  change_told : (named : List Act) (change : Change) → may_come zone named change ≡ true → MayCome zone named change
+  change_told named (AddAct row) e = list_told (acts_with named row) e
+  change_told named _ e = tt
+
+  change_passed : (named : List Act) (change : Change) → MayCome zone named change → may_come zone named change ≡ true
+  change_passed named (AddAct row) is = list_passed (acts_with named row) is
+  change_passed named _ is = refl
+
+  pub changes_told : (named : List Act) (changes : List Change) → (named ≡ []) ⊎ AreActs zone named → list_all (may_come zone named) changes ≡ true → AreLawful zone named changes
+  changes_told named changes lawful e = record { named = lawful; after = all_told (may_come zone named) (MayCome zone named) (change_told named) changes e }
+
+  pub changes_passed : (named : List Act) (changes : List Change) → AreLawful zone named changes → list_all (may_come zone named) changes ≡ true
+  changes_passed named changes is = all_passed (may_come zone named) (MayCome zone named) (change_passed named) changes is.after
 
   lawful_told : (o : Option DeadlineView) → is_lawful zone o ≡ true → IfSome o (λ d. AreActs zone d.acts)
   lawful_told None e = tt

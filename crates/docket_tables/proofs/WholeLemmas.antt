@@ -18,7 +18,9 @@ use Rattle.docket_core.specs.declared.row.DeadlineRow.{DeadlineRow}
 use Rattle.docket_columns.specs.Fits.{IsEndRow, IsDeadlineRow}
 use Rattle.docket_tables.specs.Contents.{ends_of}
 use Rattle.docket_tables.specs.Orderly.{IsOrderly, RunsFrom}
-use Rattle.docket_tables.specs.Settling.{AreStored, AreUntouched, ends_in_case, settled_case, settled_cases}
+use Rattle.docket_tables.specs.Settling.{AreStored, AreUntouched, IsUpdate, MayUpdate, ends_in_case, settled_case, settled_cases, updated_ends}
+use Rattle.docket_tables.specs.declared.moving.EndUpdate.{EndUpdate}
+use Rattle.docket_tables.specs.declared.moving.EndUpdate.TheVariants.{Moves, Calendar}
 use Rattle.docket_tables.proofs.SettlingLemmas.{others_of, settled_other, settled_before}
 
 -- the ends of a case among all
@@ -92,7 +94,7 @@ all_fit court entered acts [] fits = tt
 all_fit court entered acts (d ∷ ds) fits = all_append IsEndRow _ _ (row_fits d _ fits.0) (all_fit court entered acts ds fits.1)
 
 -- the ends of an orderly docket are stored so that a question shows those of a case
-pub all_stored : (court : CourtSettings) (t : Tables) → IsOrderly court t → (k : ℕ) → AreStored k (end_rows court t)
+all_stored : (court : CourtSettings) (t : Tables) → IsOrderly court t → (k : ℕ) → AreStored k (end_rows court t)
 unfolding end_rows
 all_stored court t orderly k = record {
   fit = all-filter _ _ (end_rows court t) (all_fit court (calendar_in t) t.acts t.deadlines orderly.deadlines);
@@ -174,40 +176,48 @@ module _ (court : CourtSettings) (entered : Entered) (t : Tables) where
       filter-append (λ (row : EndRow). row.case == k) (others_of k ends) (ends_in_case court entered t k)
       ∙ ap₂ (λ xs ys. xs ++ ys) (no_own k ends) (own_kept k 1 (ends_running (zone_of court) entered (deadlines_from k 1 t.acts (deadlines_of_case k t.deadlines))))
 
-  settled_among : (j first n : ℕ) (ends : List EndRow) → first ≤ j → j < first + n → ends_of j (settled_cases court entered t first n ends) ≡ ends_in_case court entered t j
-  settled_among j first zero ends low high = absurd (omega (arith, low, high))
-  settled_among j first (suc n) ends low high = at (j == first + n) refl (λ h. settled_among j first n ends low h)
+  settled_among : (j n : ℕ) (ends : List EndRow) → 1 ≤ j → j ≤ n → ends_of j (settled_cases court entered t n ends) ≡ ends_in_case court entered t j
+  settled_among j zero ends low high = absurd (omega (arith, low, high))
+  settled_among j (suc n) ends low high = at (j == n + 1) refl (λ h. settled_among j n ends low h)
     where
-      at : (b : Bool) → (j == first + n) ≡ b → (j < first + n → ends_of j (settled_cases court entered t first n ends) ≡ ends_in_case court entered t j)
-          → ends_of j (settled_cases court entered t first (suc n) ends) ≡ ends_in_case court entered t j
+      at : (b : Bool) → (j == n + 1) ≡ b → (j ≤ n → ends_of j (settled_cases court entered t n ends) ≡ ends_in_case court entered t j)
+          → ends_of j (settled_cases court entered t (suc n) ends) ≡ ends_in_case court entered t j
       at true e next =
-          let is : j ≡ first + n = grind (arith, nat_tests, e) in
-          subst (λ k. ends_of k (settled_case court entered t (first + n) (settled_cases court entered t first n ends)) ≡ ends_in_case court entered t k) (sym is)
-          (settled_here (first + n) (settled_cases court entered t first n ends))
+          let is : j ≡ n + 1 = grind (arith, nat_tests, e) in
+          subst (λ k. ends_of k (settled_case court entered t (n + 1) (settled_cases court entered t n ends)) ≡ ends_in_case court entered t k) (sym is)
+          (settled_here (n + 1) (settled_cases court entered t n ends))
       at false e next =
-          let other : j ≢ first + n = λ same. let no : (j == first + n) ≡ true = grind (arith, nat_tests, same) in (let a = no in let b = e in cc) in
-          settled_other court entered t j (first + n) (settled_cases court entered t first n ends) other ∙ next (omega (arith, high, other))
+          let other : j ≢ n + 1 = λ same. let no : (j == n + 1) ≡ true = grind (arith, nat_tests, same) in (let a = no in let b = e in cc) in
+          settled_other court entered t j (n + 1) (settled_cases court entered t n ends) other ∙ next (omega (arith, high, other))
 
-  settled_past : (j first n : ℕ) (ends : List EndRow) → j < first → ends_of j (settled_cases court entered t first n ends) ≡ ends_of j ends
-  settled_past j first zero ends low = refl
-  settled_past j first (suc n) ends low =
-      let other : j ≢ first + n = λ e. omega (arith, e, low) in
-      settled_other court entered t j (first + n) (settled_cases court entered t first n ends) other ∙ settled_past j first n ends low
+  settled_none : (n : ℕ) (ends : List EndRow) → ends_of 0 (settled_cases court entered t n ends) ≡ ends_of 0 ends
+  settled_none zero ends = refl
+  settled_none (suc n) ends =
+      let other : 0 ≢ n + 1 = λ e. omega (arith, e) in
+      settled_other court entered t 0 (n + 1) (settled_cases court entered t n ends) other ∙ settled_none n ends
 
 -- where all cases whose ends may have moved were brought up to date, the ends are those of the tables
-pub settled_all : (court : CourtSettings) (t next : Tables) (first n : ℕ) → IsOrderly court next → AreUntouched court first n t next
-    → IsPermutation (settled_cases court (calendar_in next) next first n (end_rows court t)) (end_rows court next)
-settled_all court t next first n orderly untouched = same_by_case _ _ each
+settled_all : (court : CourtSettings) (t next : Tables) (n : ℕ) → IsOrderly court next → AreUntouched court n t next
+    → IsPermutation (settled_cases court (calendar_in next) next n (end_rows court t)) (end_rows court next)
+settled_all court t next n orderly untouched = same_by_case _ _ each
   where
-    each : (j : ℕ) → ends_of j (settled_cases court (calendar_in next) next first n (end_rows court t)) ≡ ends_of j (end_rows court next)
-    each j = at (Rattle.std.proofs.Common.nat_lt j first) (Rattle.std.proofs.Common.nat_lt j (first + n)) refl refl
+    each : (j : ℕ) → ends_of j (settled_cases court (calendar_in next) next n (end_rows court t)) ≡ ends_of j (end_rows court next)
+    each zero = settled_none court (calendar_in next) next n (end_rows court t) ∙ untouched 0 (inl (omega arith))
+    each (suc i) = at (Rattle.std.proofs.Common.nat_lt n (suc i)) refl
       where
-        at : (a b : Bool) → Rattle.std.proofs.Common.nat_lt j first ≡ a → Rattle.std.proofs.Common.nat_lt j (first + n) ≡ b → ends_of j (settled_cases court (calendar_in next) next first n (end_rows court t)) ≡ ends_of j (end_rows court next)
-        at true b low high =
-            let below : j < first = grind (arith, nat_tests, low) in
-            settled_past court (calendar_in next) next j first n (end_rows court t) below ∙ untouched j (inl below)
-        at false true low high =
-            settled_among court (calendar_in next) next j first n (end_rows court t) (grind (arith, nat_tests, low)) (grind (arith, nat_tests, high)) ∙ sym (ends_of_all court next j orderly)
-        at false false low high =
-            let above : first + n ≤ j = grind (arith, nat_tests, high) in
-            settled_before court (calendar_in next) next j first n (end_rows court t) above ∙ untouched j (inr above)
+        at : (b : Bool) → Rattle.std.proofs.Common.nat_lt n (suc i) ≡ b → ends_of (suc i) (settled_cases court (calendar_in next) next n (end_rows court t)) ≡ ends_of (suc i) (end_rows court next)
+        at true past =
+            let above : n < suc i = grind (arith, nat_tests, past) in
+            settled_before court (calendar_in next) next (suc i) n (end_rows court t) above ∙ untouched (suc i) (inr above)
+        at false among =
+            settled_among court (calendar_in next) next (suc i) n (end_rows court t) (omega arith) (grind (arith, nat_tests, among)) ∙ sym (ends_of_all court next (suc i) orderly)
+
+-- what is done about the ends may be done, and leaves those of the tables
+
+pub may_update : (court : CourtSettings) (update : EndUpdate) (t next : Tables) → IsUpdate court update t next → MayUpdate court update next (end_rows court t)
+may_update court (Moves moves) t next is = tt
+may_update court (Calendar cases) t next is = (is.next_orderly, all_stored court t is.orderly)
+
+pub updated : (court : CourtSettings) (update : EndUpdate) (t next : Tables) → IsUpdate court update t next → IsPermutation (updated_ends court update next (end_rows court t)) (end_rows court next)
+updated court (Moves moves) t next is = is
+updated court (Calendar cases) t next is = settled_all court t next cases is.next_orderly is.untouched

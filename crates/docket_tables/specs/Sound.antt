@@ -10,8 +10,11 @@ use Rattle.court_rules.specs.declared.act.Act.{Act}
 use Rattle.court_rules.specs.declared.act.Act.TheVariants as act
 use Rattle.court_rules.specs.declared.act.Start.TheVariants as start
 use Rattle.docket_core.specs.CalendarItems.{IsEnteredItem}
+use Rattle.docket_core.specs.EndMoves.{acts_with}
 use Rattle.docket_core.specs.declared.item.CalendarItem.{CalendarItem}
 use Rattle.docket_core.specs.declared.item.CalendarItem.TheVariants.{Day, Span}
+use Rattle.docket_core.specs.declared.row.Change.{Change}
+use Rattle.docket_core.specs.declared.row.Change.TheVariants.{AddAct}
 use Rattle.docket_core.specs.declared.view.DeadlineView.{DeadlineView}
 
 -- a court may enter the item
@@ -28,6 +31,11 @@ begins_in_time zone _ = true
 -- these may be the acts of a deadline
 abbrev pub are_acts : ZoneRules → List Act → Bool
 are_acts zone acts = acts_ok acts && list_all (begins_in_time zone) acts
+
+-- the act may come on its deadline, where those of the deadline that its command names are given
+abbrev pub may_come : ZoneRules → List Act → Change → Bool
+may_come zone named (AddAct row) = are_acts zone (acts_with named row)
+may_come zone named _ = true
 
 -- each deadline has lawful acts
 abbrev pub are_lawful : ZoneRules → List DeadlineView → Bool

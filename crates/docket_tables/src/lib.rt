@@ -28,7 +28,7 @@ mod writing;
 pub use creation::make;
 pub use fault::{ReadFault, StoreFault};
 pub use laws::{dockets_are_orderly, dockets_are_recognized};
-pub use moving::{CaseRange, case_moved, cases_moved};
+pub use moving::{EndUpdate, case_moved, changes_calendar, moves};
 pub use probe::fault_of;
 pub use query::Query;
 pub use reading::{

@@ -1,24 +1,34 @@
-//! Which cases' ends a command may move.
-ghost use Rattle.std.specs.Prelude.{◌≡◌, ◌≤◌, false, length, IfOk};
-ghost use Rattle.sqlite.specs.Held.{state};
-ghost use Rattle.sqlite.specs.View.{doubt};
-ghost use Rattle.docket_tables.specs.Readings.{Reads};
-ghost use Rattle.docket_tables.specs.Settling.{changes_calendar, case_moved, after_case, last_moved, IsMoved};
+//! What a command does about the stored ends.
+ghost use Rattle.std.specs.Prelude.{◌≡◌, ◌↔◌, ◌∷◌, ◌⊎◌, [], IsTrue, IfOk};
+ghost use Rattle.std.specs.List.{list_all};
+ghost use Rattle.court_days.specs.Court.{zone_of};
+ghost use Rattle.court_rules.specs.Standings.{AreActs};
+ghost use Rattle.docket_command.specs.declared.command.Command.{Command};
+ghost use Rattle.docket_core.specs.EndMoves.{AreLawful, Follows};
+ghost use Rattle.docket_core.specs.Histories.{History};
+ghost use Rattle.docket_core.specs.Tables.{rows_of};
+ghost use Rattle.docket_tables.specs.Readings.{IsReadAs};
+ghost use Rattle.docket_tables.specs.Settling.{changes_calendar, case_moved, IsUpdate};
+ghost use Rattle.docket_tables.specs.Sound.{may_come};
 
 use crate::fault::ReadFault;
-use crate::reading::cases;
+use crate::sound::are_acts;
+use court_days::{Calendar, Court};
+use court_rules::Act;
 use docket_command::Action;
-use docket_core::case_named;
-use sqlite::{Alter, Connection};
+use docket_core::{Change, EndChange, acts_with, case_named, end_moves};
+use std::alloc::{AllocError, Global};
 
-/// Cases from one up to, but not with, another.
-#[derive(Clone, Copy)]
-pub struct CaseRange {
-    pub first: u32,
-    pub after: u32,
+/// What is done about the stored ends: these changes are made, or, where the calendar changed, the ends
+/// of the first so many cases are brought up to date by the rows that then stand.
+#[derive(Drop)]
+pub enum EndUpdate {
+    Moves(Vec<EndChange>),
+    Calendar { cases: u32 },
 }
 
-fn changes_calendar(action: &Action) -> bool
+/// Whether an action changes the calendar.
+pub fn changes_calendar(action: &Action) -> bool
     ensures { result ≡ changes_calendar action.now }
 {
     match action {
@@ -38,41 +48,78 @@ pub fn case_moved(action: &Action) -> Option<u32>
     }
 }
 
-/// The number after a case's. There is none after the greatest.
-fn after_case(case: u32) -> u32
-    ensures value { result ≡ after_case case }
-    ensures order { case ≤ result }
-    ensures one { 1 ≤ result }
+/// Whether the act of the change, if it adds one, may come on its deadline.
+fn may_come(
+    alloc: Global,
+    court: &Court,
+    named: &[Act],
+    change: &Change,
+) -> Result<bool, AllocError>
+    ensures { IfOk result (λ may. may ≡ may_come (zone_of court.now) named.now change.now) }
 {
-    if case < u32::MAX { case + 1 } else { case }
+    let Change::AddAct(row) = change else {
+        return Ok(true);
+    };
+    let acts = acts_with(alloc, named, row)?;
+    Ok(are_acts(court, acts.as_slice()))
 }
 
-/// The cases whose ends an action may move: the case in which it may make a deadline or an act;
-/// where it changes the calendar, all; and else none.
-pub fn cases_moved<S: Alter>(
-    conn: &mut Connection<S>,
-    action: &Action,
-) -> Result<CaseRange, ReadFault>
-    ensures read { Reads S.Store conn.old conn.new result (λ _ t range. IsMoved action.now (length t.cases) (case_moved action.now) range.first range.after) }
-    ensures order { IfOk result (λ range. range.first ≤ range.after) }
-    ensures clean { doubt (state S.Store conn.old).is_clean ≤ doubt (state S.Store conn.new).is_clean }
-    ensures mode { conn.old.in_transaction ≡ false → conn.new.in_transaction ≡ false }
+fn all_may_come(
+    alloc: Global,
+    court: &Court,
+    named: &[Act],
+    changes: &[Change],
+) -> Result<bool, AllocError>
+    ensures { IfOk result (λ may. may ≡ list_all (may_come (zone_of court.now) named.now) changes.now) }
 {
-    match case_moved(action) {
-        Some(case) => {
-            return Ok(CaseRange {
-                first: case,
-                after: after_case(case),
-            });
+    for change in changes {
+        if !may_come(alloc, court, named, change)? {
+            return Ok(false);
         }
-        None => {}
     }
-    if !changes_calendar(action) {
-        return Ok(CaseRange { first: 1, after: 1 });
+    Ok(true)
+}
+
+/// Whether these are the acts of a deadline, or there are none.
+fn may_stand(court: &Court, acts: &[Act]) -> bool
+    ensures { IsTrue result ↔ ((acts.now ≡ []) ⊎ AreActs (zone_of court.now) acts.now) }
+{
+    if acts.is_empty() {
+        return true;
     }
-    let count = cases(conn)?;
-    Ok(CaseRange {
-        first: 1,
-        after: after_case(count),
-    })
+    are_acts(court, acts)
+}
+
+/// Whether the acts of each deadline that the changes speak of are lawful, before them and after.
+fn are_lawful(
+    alloc: Global,
+    court: &Court,
+    named: &[Act],
+    changes: &[Change],
+) -> Result<bool, AllocError>
+    ensures { IfOk result (λ lawful. IsTrue lawful ↔ AreLawful (zone_of court.now) named.now changes.now) }
+{
+    if !may_stand(court, named) {
+        return Ok(false);
+    }
+    all_may_come(alloc, court, named, changes)
+}
+
+/// What the changes of a command, which leaves the calendar as it is, do to the stored ends. `named` are
+/// the acts of the deadline that it names, before it.
+pub fn moves(
+    alloc: Global,
+    court: &Court,
+    calendar: &Calendar,
+    named: &[Act],
+    changes: &[Change],
+) -> Result<EndUpdate, ReadFault>
+    ensures { (h : History) (c : Command) → Follows court.now calendar.now named.now changes.now h c
+        → IsReadAs (λ update. IsUpdate court.now update (rows_of court.now h) (rows_of court.now (c ∷ h))) result }
+{
+    if !are_lawful(alloc, court, named, changes)? {
+        return Err(ReadFault::Damaged);
+    }
+    let moves = end_moves(alloc, court, calendar, named, changes)?;
+    Ok(EndUpdate::Moves(moves))
 }

@@ -1,5 +1,5 @@
-//! The ends of deadlines, brought up to date inside a transaction, case by case.
-ghost use Rattle.std.specs.Prelude.{◌≡◌, ◌≤◌, ◌-◌, ◌++◌, ℕ, List, map, IfOk, IfSome, option_copied, IsPermutation};
+//! The stored ends of deadlines, changed inside a transaction: by changes, or case by case.
+ghost use Rattle.std.specs.Prelude.{◌≡◌, ◌≤◌, ◌++◌, ℕ, List, map, IfOk, IsPermutation};
 ghost use Rattle.std.specs.List.{AllByRecursion};
 ghost use Rattle.sqlite.specs.Held.{state};
 ghost use Rattle.sqlite.specs.View.{doubt};
@@ -15,11 +15,11 @@ ghost use Rattle.docket_core.specs.declared.end_row.EndRow.{EndRow as Ended};
 ghost use Rattle.docket_tables.specs.Contents.{rows_with, ends_of};
 ghost use Rattle.docket_tables.specs.Orderly.{IsOrderly};
 ghost use Rattle.docket_tables.specs.Readings.{AreActsOf};
-ghost use Rattle.docket_tables.specs.Settling.{AreStored, settled_case, settled_cases};
+ghost use Rattle.docket_tables.specs.Settling.{AreStored, MayUpdate, settled_case, settled_cases, updated_ends};
 ghost use Rattle.docket_tables.specs.Stands.{Inside};
 
 use crate::fault::ReadFault;
-use crate::moving::CaseRange;
+use crate::moving::EndUpdate;
 use crate::query::Query;
 use crate::rows::{acts_in, calendar_in, deadlines_in, ends_in};
 use crate::sound::is_sound_case;
@@ -174,23 +174,21 @@ fn settle_case<S: Alter>(
     change_ends(tx, changes.as_slice())
 }
 
-/// Brings the ends of the cases from one up to, but not with, another up to date.
+/// Brings the ends of the first cases up to date.
 fn settle_cases<S: Alter>(
     tx: &mut Transaction<'_, S>,
     alloc: Global,
     court: &Court,
     calendar: &Calendar,
-    first: u32,
-    after: u32,
+    cases: u32,
 ) -> Result<(), ReadFault>
-    requires { first ≤ after }
     ensures same_reference { tx.new.conn.ghost_name ≡ tx.old.conn.ghost_name }
     ensures clean { doubt (state S.Store tx.old.conn.now).is_clean ≤ doubt (state S.Store tx.new.conn.now).is_clean }
     ensures inside { (t : Tables) (ends : List Ended) → IsOrderly court.now t → ((k : ℕ) → AreStored k ends)
-        → Inside (state S.Store tx.old.conn.now) (state S.Store tx.new.conn.now) (rows_with court.now t ends) (rows_with court.now t (settled_cases court.now calendar.now t first (after - first) ends)) result (λ _. Unit {0}) }
+        → Inside (state S.Store tx.old.conn.now) (state S.Store tx.new.conn.now) (rows_with court.now t ends) (rows_with court.now t (settled_cases court.now calendar.now t cases ends)) result (λ _. Unit {0}) }
 {
-    'cases: for case in first..after {
-        settle_case(tx, alloc, court, calendar, case)?;
+    'cases: for done in 0..cases {
+        settle_case(tx, alloc, court, calendar, done + 1)?;
     }
     Ok(())
 }
@@ -222,45 +220,36 @@ fn calendar_standing<S: Alter>(
     calendar_of_rows(alloc, court, rows.as_slice())
 }
 
-/// Brings the ends of the cases from one up to, but not with, another up to date by the calendar that
-/// stands.
+/// Brings the ends of the first cases up to date by the calendar that stands.
 fn settle_by_rows<S: Alter>(
     tx: &mut Transaction<'_, S>,
     alloc: Global,
     court: &Court,
-    first: u32,
-    after: u32,
+    cases: u32,
 ) -> Result<(), ReadFault>
-    requires { first ≤ after }
     ensures same_reference { tx.new.conn.ghost_name ≡ tx.old.conn.ghost_name }
     ensures clean { doubt (state S.Store tx.old.conn.now).is_clean ≤ doubt (state S.Store tx.new.conn.now).is_clean }
     ensures inside { (t : Tables) (ends : List Ended) → IsOrderly court.now t → ((k : ℕ) → AreStored k ends)
-        → Inside (state S.Store tx.old.conn.now) (state S.Store tx.new.conn.now) (rows_with court.now t ends) (rows_with court.now t (settled_cases court.now (calendar_in t) t first (after - first) ends)) result (λ _. Unit {0}) }
+        → Inside (state S.Store tx.old.conn.now) (state S.Store tx.new.conn.now) (rows_with court.now t ends) (rows_with court.now t (settled_cases court.now (calendar_in t) t cases ends)) result (λ _. Unit {0}) }
 {
     let calendar = calendar_standing(tx, alloc, court)?;
-    settle_cases(tx, alloc, court, &calendar, first, after)
+    settle_cases(tx, alloc, court, &calendar, cases)
 }
 
-/// Brings the ends of cases up to date, by the calendar that stands: the one that is given, or where
-/// none is that of its rows.
-pub(crate) fn settle<S: Alter>(
+/// Does what is to be done about the stored ends.
+pub(crate) fn update_ends<S: Alter>(
     tx: &mut Transaction<'_, S>,
     alloc: Global,
     court: &Court,
-    calendar: Option<&Calendar>,
-    cases: CaseRange,
+    update: &EndUpdate,
 ) -> Result<(), ReadFault>
-    requires { cases.first ≤ cases.after }
     ensures same_reference { tx.new.conn.ghost_name ≡ tx.old.conn.ghost_name }
     ensures clean { doubt (state S.Store tx.old.conn.now).is_clean ≤ doubt (state S.Store tx.new.conn.now).is_clean }
-    ensures inside { (t : Tables) (ends : List Ended) → IsOrderly court.now t → ((k : ℕ) → AreStored k ends) → IfSome (option_copied calendar.entry) (λ entered. entered ≡ calendar_in t)
-        → Inside (state S.Store tx.old.conn.now) (state S.Store tx.new.conn.now) (rows_with court.now t ends) (rows_with court.now t (settled_cases court.now (calendar_in t) t cases.first (cases.after - cases.first) ends)) result (λ _. Unit {0}) }
+    ensures inside { (t : Tables) (ends : List Ended) → MayUpdate court.now update.now t ends
+        → Inside (state S.Store tx.old.conn.now) (state S.Store tx.new.conn.now) (rows_with court.now t ends) (rows_with court.now t (updated_ends court.now update.now t ends)) result (λ _. Unit {0}) }
 {
-    if cases.first == cases.after {
-        return Ok(());
-    }
-    match calendar {
-        Some(calendar) => settle_cases(tx, alloc, court, calendar, cases.first, cases.after),
-        None => settle_by_rows(tx, alloc, court, cases.first, cases.after),
+    match update {
+        EndUpdate::Moves(moves) => change_ends(tx, moves.as_slice()),
+        EndUpdate::Calendar { cases } => settle_by_rows(tx, alloc, court, *cases),
     }
 }

@@ -72,7 +72,7 @@ fn begin_in_time(court: &Court, acts: &[Act]) -> bool
 }
 
 /// Whether these may be the acts of a deadline of the court.
-fn are_acts(court: &Court, acts: &[Act]) -> bool
+pub(crate) fn are_acts(court: &Court, acts: &[Act]) -> bool
     ensures { result ≡ are_acts (zone_of court.now) acts.now }
 {
     acts_ok(acts) && begin_in_time(court, acts)

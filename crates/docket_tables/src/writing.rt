@@ -1,7 +1,6 @@
 //! Changes of rows, in one transaction.
-ghost use Rattle.std.specs.Prelude.{◌≡◌, ◌<◌, ◌≤◌, ◌+◌, ◌-◌, ◌^◌, ℕ, List, length, false, OnOk, IfSome, option_copied, MatchResult};
+ghost use Rattle.std.specs.Prelude.{◌≡◌, ◌<◌, ◌≤◌, ◌+◌, ◌^◌, List, length, false, OnOk, MatchResult};
 ghost use Rattle.court_days.specs.Court.{CourtSettings};
-ghost use Rattle.docket_core.specs.EndRows.{calendar_in};
 ghost use Rattle.docket_core.specs.Tables.{Tables, changed, all_changed, with_receipt};
 ghost use Rattle.docket_core.specs.declared.row.Change.TheVariants as change;
 ghost use Rattle.docket_wire.specs.Writing.{canonical};
@@ -11,15 +10,14 @@ ghost use Rattle.sqlite.specs.View.{doubt};
 ghost use Rattle.docket_core.specs.declared.end_row.EndRow.{EndRow as Ended};
 ghost use Rattle.docket_tables.specs.Contents.{rows_in, rows_with};
 ghost use Rattle.docket_tables.specs.Stands.{HoldsRows, Inside, LastsAsEither, Sees, StaysInside};
-ghost use Rattle.docket_tables.specs.Orderly.{IsOrderly};
-ghost use Rattle.docket_tables.specs.Settling.{AreStored, IsSettling, settled_cases};
+ghost use Rattle.docket_tables.specs.Settling.{IsUpdate, MayUpdate, updated_ends};
 
 use crate::fault::ReadFault;
-use crate::moving::CaseRange;
-use crate::settling::settle;
+use crate::moving::EndUpdate;
+use crate::settling::update_ends;
 use crate::store::{count_calendar_row, insert, remove_calendar_row};
 use crate::table::Table;
-use court_days::{Calendar, Court};
+use court_days::Court;
 use docket_columns::{
     act_values, calendar_values, case_values, deadline_values, entry_values, party_values,
     receipt_values,
@@ -103,61 +101,54 @@ fn store_error(fault: ReadFault) -> Error {
     }
 }
 
-/// Makes the changes of a command, adds its receipt, and brings the ends of cases up to date.
+/// Makes the changes of a command, adds its receipt, and does what is to be done about the stored ends.
 fn fill<S: Alter>(
     tx: &mut Transaction<'_, S>,
     alloc: Global,
     court: &Court,
-    calendar: Option<&Calendar>,
-    cases: CaseRange,
+    update: &EndUpdate,
     command: &Command,
     body: &str,
     changes: &Changes,
 ) -> Result<(), Error>
-    requires order { cases.first ≤ cases.after }
     requires body { body.now ≡ canonical command.now }
     ensures same_reference { tx.new.conn.ghost_name ≡ tx.old.conn.ghost_name }
     ensures clean { doubt (state S.Store tx.old.conn.now).is_clean ≤ doubt (state S.Store tx.new.conn.now).is_clean }
     ensures inside { (t : Tables) (ends : List Ended) → t.next_row + length changes.now.rows.items < 2 ^ 63
-        → IsOrderly court.now (with_receipt command.now changes.now.reply (all_changed changes.now.rows.items t)) → ((k : ℕ) → AreStored k ends)
-        → IfSome (option_copied calendar.entry) (λ entered. entered ≡ calendar_in (with_receipt command.now changes.now.reply (all_changed changes.now.rows.items t)))
+        → MayUpdate court.now update.now (with_receipt command.now changes.now.reply (all_changed changes.now.rows.items t)) ends
         → Inside (state S.Store tx.old.conn.now) (state S.Store tx.new.conn.now) (rows_with court.now t ends)
-        (rows_with court.now (with_receipt command.now changes.now.reply (all_changed changes.now.rows.items t)) (settled_cases court.now (calendar_in (with_receipt command.now changes.now.reply (all_changed changes.now.rows.items t))) (with_receipt command.now changes.now.reply (all_changed changes.now.rows.items t)) cases.first (cases.after - cases.first) ends)) result (λ _. Unit {0}) }
+        (rows_with court.now (with_receipt command.now changes.now.reply (all_changed changes.now.rows.items t)) (updated_ends court.now update.now (with_receipt command.now changes.now.reply (all_changed changes.now.rows.items t)) ends)) result (λ _. Unit {0}) }
 {
     record(tx, command, body, changes)?;
-    match settle(tx, alloc, court, calendar, cases) {
+    match update_ends(tx, alloc, court, update) {
         Ok(()) => Ok(()),
         Err(fault) => Err(store_error(fault)),
     }
 }
 
-/// Makes the changes of an accepted command, adds its receipt, and brings the ends of `cases` up to
-/// date, in one transaction: all of it, or nothing. `body` is the canonical text of the command, and
-/// `calendar` the calendar that stands afterwards; where none is given it is read from its rows. On an error nothing of it stands, but that a
-/// power failure after a commit that failed may leave either; the connection is as it was, or shut.
+/// Makes the changes of an accepted command, adds its receipt, and does `update` to the stored ends, in
+/// one transaction: all of it, or nothing. `body` is the canonical text of the command. On an error
+/// nothing of it stands, but that a power failure after a commit that failed may leave either; the
+/// connection is as it was, or shut.
 pub fn write<S: Alter>(
     conn: &mut Connection<S>,
     alloc: Global,
     court: &Court,
-    calendar: Option<&Calendar>,
-    cases: CaseRange,
+    update: &EndUpdate,
     command: &Command,
     body: &str,
     changes: &Changes,
 ) -> Result<(), Error>
     requires idle { conn.old.in_transaction ≡ false }
-    requires order { cases.first ≤ cases.after }
     requires body { body.now ≡ canonical command.now }
     ensures idle { conn.new.in_transaction ≡ false }
     ensures clean { doubt (state S.Store conn.old).is_clean ≤ doubt (state S.Store conn.new).is_clean }
     ensures either { (t : Tables) → t.next_row + length changes.now.rows.items < 2 ^ 63 → HoldsRows S.Store conn.old (rows_in court.now t)
-        → (HasCleanDisk (state S.Store conn.old) → IsSettling court.now (option_copied calendar.entry) cases.first (cases.after - cases.first) t (with_receipt command.now changes.now.reply (all_changed changes.now.rows.items t)))
+        → (HasCleanDisk (state S.Store conn.old) → IsUpdate court.now update.now t (with_receipt command.now changes.now.reply (all_changed changes.now.rows.items t)))
         → MatchResult result (λ _. HoldsRows S.Store conn.new (rows_in court.now (with_receipt command.now changes.now.reply (all_changed changes.now.rows.items t))))
         (λ _. LastsAsEither S.Store conn.new (rows_in court.now t) (rows_in court.now (with_receipt command.now changes.now.reply (all_changed changes.now.rows.items t)))) }
 {
     let mut tx = conn.transaction();
-    fill(
-        &mut tx, alloc, court, calendar, cases, command, body, changes,
-    )?;
+    fill(&mut tx, alloc, court, update, command, body, changes)?;
     tx.commit()
 }

@@ -10,7 +10,7 @@ use self::changes::{acts, of_each};
 use crate::asking::court;
 use docket_command::{Action, Command, Reply, Text, Vacate};
 use docket_core::{Change, Changes};
-use docket_tables::{CaseRange, is_bare, make, write};
+use docket_tables::{EndUpdate, is_bare, make, write};
 use docket_wire::command_text;
 use sqlite::{Alter, Connection, MemStore};
 use std::alloc::{AllocError, Global};
@@ -66,9 +66,9 @@ fn is_written<S: Alter>(
         rows,
         reply: Reply { number: 2 },
     };
-    // No end is looked at: the range holds no case.
-    let none = CaseRange { first: 1, after: 1 };
-    Ok(write(conn, alloc, &court, None, none, &command, &body, &changes).is_ok())
+    // No end is moved.
+    let none = EndUpdate::Moves(Vec::new(alloc));
+    Ok(write(conn, alloc, &court, &none, &command, &body, &changes).is_ok())
 }
 
 /// Whether it writes a row of each table, acts of each kind, and the receipts of k1 and k2.

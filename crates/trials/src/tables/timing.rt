@@ -4,7 +4,7 @@ use anyhow::{Error, anyhow};
 use court_days::Court;
 use docket_command::Command;
 use docket_core::Changes;
-use docket_tables::{CaseRange, write};
+use docket_tables::{EndUpdate, write};
 use docket_wire::command_text;
 use sqlite::types::{ToSql, ValueRef};
 use sqlite::{Alter, Connection};
@@ -12,9 +12,6 @@ use std::time::Instant;
 
 /// How many transactions are timed.
 pub(crate) const WRITES: u32 = 500;
-
-/// A case and a party have no deadline, so the ends of no case are looked at.
-const NO_CASE: CaseRange = CaseRange { first: 1, after: 1 };
 
 /// How many reads are timed.
 const READS: u32 = 2000;
@@ -31,17 +28,10 @@ fn time_write<S: Alter>(
     if !conn.is_autocommit() {
         return Err(anyhow!("in a transaction"));
     }
+    // A case and a party have no deadline, so no end moves.
+    let none = EndUpdate::Moves(Vec::new(rt.alloc()));
     let start = Instant::now(rt)?;
-    write(
-        conn,
-        rt.alloc(),
-        court,
-        None,
-        NO_CASE,
-        command,
-        &body,
-        changes,
-    )?;
+    write(conn, rt.alloc(), court, &none, command, &body, changes)?;
     Ok(start.elapsed(rt)?.as_nanos())
 }
 

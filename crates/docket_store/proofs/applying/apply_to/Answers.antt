@@ -1,4 +1,4 @@
-use Rattle.std.proofs.Common.{◌≡◌, Ok, inr, sym, ap, subst}
+use Rattle.std.proofs.Common.{◌≡◌, ◌∙◌, Ok, inr, sym, ap, subst}
 use Rattle.sqlite.specs.Held.{state}
 use Rattle.sqlite.specs.State.{HasCleanDisk}
 use Rattle.docket_core.specs.Decisions.{IsAnswer, LeadsTo}
@@ -13,7 +13,7 @@ pub returns-in-Repeat-clause-answer : goal.returns-in-Repeat-clause-answer
 returns-in-Repeat-clause-answer g c h stands =
     let court = c.args.court.now in
     let command = c.args.command.now in
-    let judged = c.in_ok-reply.ensures.judged h stands in
+    let judged = c.in_ok-decision.ensures.judged h stands in
     let answer : HasCleanDisk (state g.S.Store c.judge.new.conn) → outcome court h command ≡ repeated c.in-Repeat.reply =
     λ clean. subst (λ (d : Decision). IsAnswer (Ok d) (outcome court h command)) c.in-Repeat.is (judged.1 clean).0 in (
       record {
@@ -29,10 +29,10 @@ pub returns-clause-answer : goal.returns-clause-answer
 returns-clause-answer g c h stands =
     let court = c.args.court.now in
     let command = c.args.command.now in
-    let judged = c.in_ok-reply.ensures.judged h stands in
+    let judged = c.in_ok-decision.ensures.judged h stands in
     let accepts : HasCleanDisk (state g.S.Store c.judge.new.conn) → IsAccepted court h command c.in-Change.changes =
     λ clean. (
       subst (λ (d : Decision). IsAnswer (Ok d) (outcome court h command)) c.in-Change.is (judged.1 clean).0,
       subst (λ (d : Decision). LeadsTo court h command d) c.in-Change.is (judged.1 clean).1,
     ) in
-    c.keep.ensures.kept h judged.0 accepts
+    c.keep.ensures.kept h judged.0 (λ clean. (accepts clean, c.as_slice.ensures.value ∙ (judged.1 clean).2 _ (accepts clean).0))

@@ -1,4 +1,4 @@
-use Rattle.std.proofs.Common.{◌≡◌, ◌-◌, subst}
+use Rattle.std.proofs.Common.{◌≡◌, subst}
 use Rattle.std.proofs.lemmas.Result.{IfOk-weaker}
 use Rattle.sqlite.specs.Held.{state}
 use Rattle.docket_core.specs.EndRows.{calendar_in}
@@ -21,9 +21,9 @@ returns-clause-inside g c t ends orderly stored =
     let mid = state g.S.Store c.calendar_standing.new.tx.conn.now in
     let new = state g.S.Store c.settle_cases.new.tx.conn.now in
     let entered = c.in_ok-calendar.calendar in
-    let n = c.args.after - c.args.first in
+    let n = c.args.cases in
     let Same = entered ≡ calendar_in t in
-    inside_with start mid new rows rows (rows_with court t (settled_cases court (calendar_in t) t c.args.first n ends)) Same c.settle_cases.result _ (c.in_ok-calendar.ensures.inside t ends orderly)
+    inside_with start mid new rows rows (rows_with court t (settled_cases court (calendar_in t) t n ends)) Same c.settle_cases.result _ (c.in_ok-calendar.ensures.inside t ends orderly)
     (λ sees. (c.settle_cases.ensures.inside t ends orderly stored sees).0)
     (λ clean same sees.
-    IfOk-weaker c.settle_cases.result _ _ (λ u h. (subst (λ e. Sees new (rows_with court t (settled_cases court e t c.args.first n ends))) same h.0, h.1)) ((c.settle_cases.ensures.inside t ends orderly stored (λ _. sees)).1 clean))
+    IfOk-weaker c.settle_cases.result _ _ (λ u h. (subst (λ e. Sees new (rows_with court t (settled_cases court e t n ends))) same h.0, h.1)) ((c.settle_cases.ensures.inside t ends orderly stored (λ _. sees)).1 clean))

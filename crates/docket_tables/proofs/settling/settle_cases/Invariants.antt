@@ -1,4 +1,4 @@
-use Rattle.std.proofs.Common.{◌≡◌, ◌≤◌, ◌-◌, ℕ, List}
+use Rattle.std.proofs.Common.{◌≡◌, ◌≤◌, ℕ, List}
 use Rattle.sqlite.specs.Held.{state}
 use Rattle.sqlite.specs.View.{doubt}
 use Rattle.docket_core.specs.Tables.{Tables}
@@ -13,5 +13,5 @@ abbrev pub invariant-cases : goal.invariant-cases
 invariant-cases g l =
     (l.tx.conn.ghost_name ≡ l.fn.tx.conn.ghost_name)
     × ((t : Tables) (ends : List EndRow) → IsOrderly l.court t → ((k : ℕ) → AreStored k ends)
-    → Went (state g.S.Store l.fn.tx.conn.now) (state g.S.Store l.tx.conn.now) (rows_with l.court t ends) (rows_with l.court t (settled_cases l.court l.calendar t l.first (l.case - l.first) ends)) (Unit {0}))
+    → Went (state g.S.Store l.fn.tx.conn.now) (state g.S.Store l.tx.conn.now) (rows_with l.court t ends) (rows_with l.court t (settled_cases l.court l.calendar t l.done ends)) (Unit {0}))
     × (doubt (state g.S.Store l.fn.tx.conn.now).is_clean ≤ doubt (state g.S.Store l.tx.conn.now).is_clean)

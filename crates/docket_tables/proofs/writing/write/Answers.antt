@@ -1,16 +1,16 @@
-use Rattle.std.proofs.Common.{◌≡◌, ◌-◌, [], IsTrue, false, Ok, Err, MatchResult, IfErr, OnOk, IsPermutation, ap, subst, arith, rules}
+use Rattle.std.proofs.Common.{◌≡◌, [], IsTrue, false, Ok, Err, MatchResult, IfErr, OnOk, ap, subst, arith, rules}
 use Rattle.sqlite.specs.State.{HasCleanDisk, KeepsCounts, Shows as Turns}
 use Rattle.sqlite.specs.Steps.{FailsToCommit}
 use Rattle.sqlite.specs.Held.{state}
-use Rattle.docket_core.specs.EndRows.{calendar_in, end_rows}
+use Rattle.docket_core.specs.EndRows.{end_rows}
 use Rattle.docket_core.specs.Tables.{Tables, all_changed, with_receipt}
 use Rattle.docket_tables.specs.Contents.{rows_in}
 use Rattle.docket_tables.specs.Layouts.{Rows}
-use Rattle.docket_tables.specs.Settling.{settled_cases}
+use Rattle.docket_tables.specs.Settling.{updated_ends}
 use Rattle.docket_tables.specs.Stands.{Sees, HoldsRows, LastsAsEither, StaysInside}
 use Rattle.docket_tables.proofs.CommitLemmas.{begins_seeing, when_err, LeavesCommit, dropped, committed, not_committed}
 use Rattle.docket_tables.proofs.EndLemmas.{sees_permuted}
-use Rattle.docket_tables.proofs.WholeLemmas.{all_stored, settled_all}
+use Rattle.docket_tables.proofs.WholeLemmas.{may_update, updated}
 use Rattle.docket_tables.proofs.writing.write.Goals as goal
 
 pub returns-in_err-fill-clause-either : goal.returns-in_err-fill-clause-either
@@ -32,7 +32,7 @@ returns-in_err-fill-clause-either g c t small holds ready =
           let at_start : HasCleanDisk start = subst HasCleanDisk begins at_begin in
           let facts = ready at_start in
           let was = holds.1 at_start in
-          let inside : StaysInside begun last = (c.fill.ensures.inside t (end_rows court t) small facts.next_orderly (all_stored court t facts.orderly) facts.calendar (λ _. begins_seeing start begun rows was begins)).0 in
+          let inside : StaysInside begun last = (c.fill.ensures.inside t (end_rows court t) small (may_update court c.args.update.now t then facts) (λ _. begins_seeing start begun rows was begins)).0 in
           dropped start begun last (state g.S.Store end) rows next was begins (inside.kept before) inside.survives (λ db is_open may. g.met.S.Store.settled end.store db is_open may) clean
           c.drop-tx.ensures.survives (c.drop-tx.ensures.undone clean),
     ) in
@@ -58,12 +58,9 @@ returns-clause-either g c t small holds ready =
     subst HasCleanDisk begins at_begin in
     let was = λ (clean : HasCleanDisk (state g.S.Store end)). holds.1 (at_start clean) in
     let done = λ (clean : HasCleanDisk (state g.S.Store end)). let facts = ready (at_start clean) in
-    c.in_ok-fill.ensures.inside t (end_rows court t) small facts.next_orderly (all_stored court t facts.orderly) facts.calendar (λ _. begins_seeing start begun rows (was clean) begins) in
+    c.in_ok-fill.ensures.inside t (end_rows court t) small (may_update court c.args.update.now t then facts) (λ _. begins_seeing start begun rows (was clean) begins) in
     let sees : HasCleanDisk (state g.S.Store end) → Sees last next = λ clean.
-    let facts = ready (at_start clean) in
-    let n = c.args.cases.after - c.args.cases.first in
-    let moved : IsPermutation (settled_cases court (calendar_in then) then c.args.cases.first n (end_rows court t)) (end_rows court then) = settled_all court t then c.args.cases.first n facts.next_orderly facts.untouched in
-    sees_permuted last court then (settled_cases court (calendar_in then) then c.args.cases.first n (end_rows court t)) (end_rows court then) moved ((done clean).1 (before clean)).0 in
+    sees_permuted last court then (updated_ends court c.args.update.now then (end_rows court t)) (end_rows court then) (updated court c.args.update.now t then (ready (at_start clean))) ((done clean).1 (before clean)).0 in
     let same : end ≡ c.conn-2-1.given.0 = search rules in
     let ended = elim c.commit.result as (λ r. (HasCleanDisk (state g.S.Store end) → OnOk r (IsTrue last.in_transaction × Turns last (state g.S.Store end) last.now last.now false × KeepsCounts last (state g.S.Store end) × ((state g.S.Store end).marks ≡ []))) → (HasCleanDisk (state g.S.Store end) → IfErr r (FailsToCommit last (state g.S.Store end))) → MatchResult r (λ _. HoldsRows g.S.Store end next) (λ _. LastsAsEither g.S.Store end rows next)) [
       | Ok u ↦ λ ok err. (c.commit.ensures.ended, λ clean. committed start begun last (state g.S.Store end) rows next (was clean) begins ((done clean).0.kept (before clean)) (done clean).0.survives law (sees clean) (ok clean).1)

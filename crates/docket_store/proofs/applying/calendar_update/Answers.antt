@@ -1,0 +1,23 @@
+use Rattle.std.proofs.Common.{◌≡◌, ap, arith, length}
+use Rattle.docket_core.specs.Histories.{case_rows}
+use Rattle.docket_core.specs.Tables.{rows_of}
+use Rattle.docket_tables.specs.declared.moving.EndUpdate.{EndUpdate}
+use Rattle.docket_tables.specs.declared.moving.EndUpdate.TheVariants.{Calendar}
+use Rattle.docket_store.specs.Applying.{docket_rows}
+use Rattle.docket_store.proofs.ApplyLemmas.{docket_orderly}
+use Rattle.docket_store.proofs.AskLemmas.{asks_failed}
+use Rattle.docket_store.proofs.applying.calendar_update.Goals as goal
+
+pub returns-in-Ok-clause-update : goal.returns-in-Ok-clause-update
+returns-in-Ok-clause-update g c court kept h stands =
+    let read = c.in-Ok.ensures.read court (rows_of court h) (docket_orderly court h stands.docket) stands.rows in (
+      record { docket = stands.docket; serves = stands.serves; rows = read.0; calendar = λ clean. stands.calendar (omega (arith, c.cases.ensures.clean)) },
+      λ clean. ap Calendar (read.1 clean),
+    )
+
+pub returns-in-Err-clause-update : goal.returns-in-Err-clause-update
+returns-in-Err-clause-update g c court kept h stands =
+    let fails = c.in-Err.ensures.read court (rows_of court h) (docket_orderly court h stands.docket) stands.rows in
+    asks_failed g.S.Store {X = EndUpdate} c.read_fault.new.conn court kept h (λ found. found ≡ Calendar (length (case_rows h))) c.read_fault.result stands.docket
+    (λ clean. stands.calendar (omega (arith, c.cases.ensures.clean, c.read_fault.ensures.clean)))
+    (c.read_fault.ensures.left (docket_rows court h) (docket_rows court h) fails)

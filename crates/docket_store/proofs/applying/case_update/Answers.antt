@@ -1,0 +1,42 @@
+use Rattle.std.proofs.Common.{◌∷◌, List, sym, subst, arith}
+use Rattle.sqlite.specs.Held.{state}
+use Rattle.sqlite.specs.State.{HasCleanDisk}
+use Rattle.docket_core.specs.EndMoves.{Follows}
+use Rattle.docket_core.specs.Tables.{rows_of}
+use Rattle.docket_core.specs.declared.row.Change.{Change}
+use Rattle.docket_tables.specs.Settling.{IsUpdate}
+use Rattle.docket_tables.specs.declared.moving.EndUpdate.{EndUpdate}
+use Rattle.docket_store.specs.Applying.{docket_rows}
+use Rattle.docket_store.proofs.ApplyLemmas.{fails_apart, follows_accepted}
+use Rattle.docket_store.proofs.AskLemmas.{asks_failed}
+use Rattle.docket_store.proofs.applying.case_update.Goals as goal
+
+pub returns-in-Ok-clause-update : goal.returns-in-Ok-clause-update
+returns-in-Ok-clause-update g c h stands accepts =
+    let court = c.args.court.now in
+    let command = c.args.command.now in
+    let named = c.args.named.now in
+    let asked = c.in_ok-calendar.ensures.answer h stands in (
+      asked.0,
+      λ clean.
+          let accepted = accepts (omega (arith, c.calendar_told.ensures.clean)) in
+          let follows = follows_accepted court h command c.args.changes.now c.in_ok-calendar.calendar named stands.docket accepted.0 accepted.1 (asked.1 clean, c.requires.calm) in
+          c.in-Ok.ensures h command (subst (λ (changes : List Change). Follows court c.in_ok-calendar.calendar named changes h command) (sym c.as_slice.ensures.value) follows),
+    )
+
+pub returns-clause-update : goal.returns-clause-update
+returns-clause-update g c h stands accepts =
+    let court = c.args.court.now in
+    let command = c.args.command.now in
+    let named = c.args.named.now in
+    let asked = c.in_ok-calendar.ensures.answer h stands in
+    let told = c.calendar_told.new.conn in
+    let follows = λ (clean : HasCleanDisk (state g.S.Store told)).
+    let accepted = accepts (omega (arith, c.calendar_told.ensures.clean)) in
+    subst (λ (changes : List Change). Follows court c.in_ok-calendar.calendar named changes h command) (sym c.as_slice.ensures.value)
+    (follows_accepted court h command c.args.changes.now c.in_ok-calendar.calendar named stands.docket accepted.0 accepted.1 (asked.1 clean, c.requires.calm)) in
+    let answer = λ (found : EndUpdate). IsUpdate court found (rows_of court h) (rows_of court (command ∷ h)) in
+    let fails = fails_apart g.S.Store told (docket_rows court h) answer c.in-Err.fault asked.0.rows (λ clean. c.in-Err.ensures h command (follows clean)) in
+    asks_failed g.S.Store {X = EndUpdate} c.read_fault.new.conn court c.calendar_told.new.kept h answer c.read_fault.result stands.docket
+    (λ clean. asked.0.calendar (omega (arith, c.read_fault.ensures.clean)))
+    (c.read_fault.ensures.left (docket_rows court h) (docket_rows court h) fails)
