@@ -206,13 +206,7 @@ fn changes_of_case(
     let mut number = 1;
     for deadline in deadlines {
         let end = end_running(court, due(court, calendar, deadline.acts.as_slice()));
-        change_end(
-            &mut changes,
-            case,
-            number,
-            first_end(rest, number),
-            end,
-        )?;
+        change_end(&mut changes, case, number, first_end(rest, number), end)?;
         rest = after_first(rest, number);
         number += 1;
     }

@@ -255,7 +255,8 @@ fn is_full(view: &View, added: usize, made: usize, action: &Action) -> bool
         Action::FileEntry(_) => view.entries() >= 10_000,
         Action::WithdrawCalendar(_) | Action::Satisfy(_) | Action::Vacate(_) => false,
         _ => {
-            has_too_many_acts(view, action) || (view.deadlines() as usize).saturating_add(made) > 1000
+            has_too_many_acts(view, action)
+                || (view.deadlines() as usize).saturating_add(made) > 1000
         }
     }
 }

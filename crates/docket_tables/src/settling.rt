@@ -28,9 +28,7 @@ use crate::table::Table;
 use crate::viewing::{items_of, with_acts};
 use court_days::{Calendar, Court};
 use docket_columns::end_values;
-use docket_core::{
-    ActRow, DeadlineRow, DeadlineView, EndChange, EndRow, calendar_of, due_changes,
-};
+use docket_core::{ActRow, DeadlineRow, DeadlineView, EndChange, EndRow, calendar_of, due_changes};
 use sqlite::types::ToSql;
 use sqlite::{Alter, Row, Transaction};
 use std::alloc::Global;
@@ -143,9 +141,7 @@ fn changes_of_case(
     if !is_sound_case(court, &[], deadlines) {
         return Err(ReadFault::Damaged);
     }
-    Ok(due_changes(
-        alloc, court, calendar, case, deadlines, stored,
-    )?)
+    Ok(due_changes(alloc, court, calendar, case, deadlines, stored)?)
 }
 
 /// Brings the ends of a case up to date.
