@@ -49,11 +49,6 @@ module _ {S : Type 0} (g : Ghosts S) where
   fault_of_other d h P Q Closed asks = absurd asks
   fault_of_other d h P Q Damaged asks = asks
 
-  -- a fault of one question is a fault of the whole
-  pub asks_err : {X Y : Type 0} (d : Docket S) (h : History) (P : X → Type 0) (Q : Y → Type 0) (f : Fault) (result : Result Y Fault) → IsErrAnd result (λ e. e ≡ f) → Asks g d h P (Err f) → Asks g d h Q result
-  asks_err d h P Q f (Ok y) same asks = absurd same
-  asks_err d h P Q f (Err e) same asks = subst (λ (k : Fault). Asks g d h Q (Err k)) (sym same) (fault_of_other d h P Q f asks)
-
   -- what the answer says says more
   pub asks_weaker : {X : Type 0} (d : Docket S) (h : History) (P Q : X → Type 0) (result : Result X Fault) → (HasCleanDisk (state g d.conn) → (x : X) → P x → Q x) → Asks g d h P result → Asks g d h Q result
   asks_weaker d h P Q (Ok x) tells asks = (asks.0, λ clean. tells clean x (asks.1 clean))

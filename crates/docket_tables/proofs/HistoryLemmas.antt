@@ -49,11 +49,6 @@ named_quiet (WithdrawCalendar a) k e = absurd (let no = e in cc)
 named_quiet (ImportCalendar a) k e = absurd (let no = e in cc)
 named_quiet _ k e = refl
 
-moved_named : (a : Action) (k : ℕ) → case_moved a ≡ Some k → case_named a ≡ Some k
-moved_named (AddParty a) k e = absurd (let no = e in cc)
-moved_named (FileEntry a) k e = absurd (let no = e in cc)
-moved_named _ k e = e
-
 -- the action makes no deadline and no act
 abbrev MakesNothing : Action → Type 0
 MakesNothing a = (deadlines_made a ≡ []) × (acts_made a ≡ [])
