@@ -113,9 +113,17 @@ Exit status: 0 the calendar was told, 2 bad command line, 3 writing, memory or t
 
 pub(crate) const CHECK_HELP: &str = "\
 A file that comes from a backup or from another program is read whole, table by table, and its rows
-stay as they are. Where each table is sound, that is told:
+stay as they are. Where each table is sound, that is told, and how much each holds: the rows of the
+calendar that stand, the deadlines by where they stand, and a receipt for each accepted command:
   docketctl check --db court.db
   sound
+  court EST5EDT,M3.2.0,M11.1.0 closes 17:00
+  calendar rows 1
+  cases 1
+  parties 2
+  entries 0
+  deadlines 2: running 1, suspended 0, awaiting 0, done 1, vacated 0
+  receipts 7
 Otherwise a line of standard error names the first table that is not: one that is missing or lacks a
 column, or whose rows have gaps in their numbers, refer to what is not there, hold values past their
 limits, or store an end of a deadline other than the rules give:

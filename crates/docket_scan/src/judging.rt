@@ -271,9 +271,9 @@ fn judge_receipts<S: Alter>(
 }
 
 /// Judges the tables of a court's docket, but for that of the court itself, which says that the next row
-/// of the calendar has that number. Tells what they hold. An error tells the first of them, in their order, that is missing,
-/// lacks a column, can't be read or is unsound by those before it; want of memory and a failure of the
-/// database may come at any point. Nothing is written.
+/// of the calendar has that number. Tells how much they hold. An error tells the first of them, in their
+/// order, that is missing, lacks a column, can't be read or is unsound by those before it; want of memory
+/// and a failure of the database may come at any point. Nothing is written.
 pub fn judge_tables<S: Alter>(
     conn: &mut Connection<S>,
     alloc: Global,

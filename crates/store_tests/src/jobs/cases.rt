@@ -78,11 +78,19 @@ const CALENDAR: Step<'static> = Step {
     status: 0,
 };
 
-/// The tables are read whole.
+/// The tables are read whole, and counted.
 const CHECKED: Step<'static> = Step {
     line: "docketctl check --db @/court.db",
     input: "",
-    output: "sound\n",
+    output: "sound
+court EST5EDT,M3.2.0,M11.1.0 closes 17:00
+calendar rows 0
+cases 1
+parties 1
+entries 1
+deadlines 1: running 1, suspended 0, awaiting 0, done 0, vacated 0
+receipts 4
+",
     errors: "",
     status: 0,
 };
