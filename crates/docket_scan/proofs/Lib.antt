@@ -1,5 +1,11 @@
 pub mod AnySchema
 mod CountLemmas
+pub mod DocketCells
+pub mod DocketOrders
+pub mod DocketReads
+pub mod DocketReceipts
+pub mod DocketStatements
+pub mod DocketTables
 mod JudgingLemmas
 pub mod RecordLemmas
 mod ScanLemmas
