@@ -26,7 +26,7 @@ use Rattle.docket_core.specs.declared.row.CalendarRow.{CalendarRow}
 use Rattle.docket_core.specs.declared.row.DeadlineRow.{DeadlineRow}
 use Rattle.docket_core.specs.declared.row.PartyRow.{PartyRow}
 use Rattle.docket_columns.specs.Cells.{calendar_cells, party_cells, deadline_cells, act_cells}
-use Rattle.docket_columns.specs.Codes.{item_code, act_code, unit_number, unit_count, direction_number, flag_number, way_number, motion_number}
+use Rattle.docket_columns.specs.Codes.{item_code, act_code, unit_number, unit_count, direction_number, flag_number}
 use Rattle.docket_sound.specs.Deadlines.{deadline_key}
 use Rattle.docket_sound.specs.Parties.{party_key}
 use Rattle.docket_sound.specs.declared.numbering.Key.{Key}

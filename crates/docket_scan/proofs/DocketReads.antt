@@ -1,5 +1,5 @@
 -- A docket's tables as they are read: all their rows, in the order of their keys.
-use Rattle.std.proofs.Common.{◌≡◌, ◌∙◌, inl, inr, List, [], ◌∷◌, ◌++◌, map, length, true, false, IsTrue, None, IsPermutation, IsSorted, refl, sym, ap, subst}
+use Rattle.std.proofs.Common.{◌≡◌, ◌∙◌, inl, inr, List, [], ◌++◌, map, length, true, IsTrue, None, IsPermutation, IsSorted, refl, sym, ap, subst}
 use Rattle.std.proofs.Math.Logic.{∥∥₁_map}
 use Rattle.std.proofs.lemmas.Bool.{false≢true}
 use Rattle.std.specs.Ordering.{on}
@@ -9,7 +9,6 @@ use Rattle.sqlite.specs.Listing.{understood, reads_listing, IsSourceOf}
 use Rattle.sqlite.specs.Order.{Row}
 use Rattle.sqlite.specs.Query.{key_cmp}
 use Rattle.sqlite.specs.State.{State, IsUnchanged, IsStatement, Shown, Begins}
-use Rattle.sqlite.specs.declared.error.Error.{Error}
 use Rattle.sqlite.specs.declared.types.Value.TheVariants.{Null}
 use Rattle.sqlite.proofs.Callers.{command_of, begins_shown, EndsIn}
 use Rattle.sqlite_resolve.specs.declared.compiled.Compiled.{Compiled}

@@ -1,3 +1,4 @@
+pub mod Dockets
 pub mod Holdings
 pub mod Judging
 pub mod Passing

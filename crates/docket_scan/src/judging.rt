@@ -1,18 +1,27 @@
 //! Which table of a database is the first that is unsound.
 ghost use Rattle.std.specs.Prelude.{◌≡◌, ◌↔◌, ◌<◌, ◌^◌, [], List, length, false, IfOk, IfSome, IsSome};
+ghost use Rattle.std.specs.List.{AllByRecursion};
 ghost use Rattle.sqlite.specs.Held.{state};
 ghost use Rattle.sqlite.specs.State.{HasCleanDisk, Survives};
 ghost use Rattle.docket_scan.specs.Judging.{IsSoundIn, Judged, JudgedTo};
 ghost use Rattle.court_days.specs.Court.{zone_of};
+ghost use Rattle.docket_core.specs.Histories.{History, next_row as next_number};
+ghost use Rattle.docket_core.specs.Outcomes.{IsHistory};
+ghost use Rattle.docket_core.specs.Tables.{rows_of};
 ghost use Rattle.docket_core.specs.declared.row.ActRow.{ActRow as OnDeadline};
 ghost use Rattle.docket_sound.specs.Acts.{AreSoundActs, HasTakenActs};
 ghost use Rattle.docket_sound.specs.Counted.{cases_of, counts_of};
 ghost use Rattle.docket_sound.specs.Dues.{dues_of};
 ghost use Rattle.docket_sound.specs.Standings.{counts_of_standings, standings_of};
+ghost use Rattle.docket_scan.specs.Dockets.{TellsNoneUnsound};
 ghost use Rattle.docket_scan.specs.Holdings.{holdings_of};
 ghost use Rattle.docket_scan.specs.Passing.{SaysCalendar, SaysCases, SaysParties, SaysDeadlines, SaysEnds};
 ghost use Rattle.docket_scan.specs.Scans.{OfSoMany};
+ghost use Rattle.docket_tables.specs.Contents.{rows_in};
+ghost use Rattle.docket_tables.specs.Orderly.{IsCourtSettings};
+ghost use Rattle.docket_tables.specs.Stands.{HoldsRows};
 ghost use Rattle.docket_tables.specs.declared.table.Table.TheVariants as table;
+ghost use Rattle.docket_wire.specs.Valid.{IsCommand};
 
 use crate::fault::{TableFault, fault_in};
 use crate::holdings::Holdings;
@@ -284,6 +293,9 @@ pub fn judge_tables<S: Alter>(
     ensures mode { conn.old.in_transaction ≡ false → conn.new.in_transaction ≡ false }
     ensures told { HasCleanDisk (state S.Store conn.new)
         → JudgedTo table.Ends court next_row (state S.Store conn.old) (state S.Store conn.new) (λ r held. held ≡ holdings_of court r) result }
+    ensures docket { HasCleanDisk (state S.Store conn.new)
+        → (h : History) → IsCourtSettings court → IsHistory court h → AllByRecursion IsCommand h → next_row ≡ next_number h
+        → HoldsRows S.Store conn.old (rows_in court (rows_of court h)) → TellsNoneUnsound result }
 {
     let EndsRead { ends, held } = judge_receipts(conn, alloc, court, next_row)?;
     let mut check = DueCheck::new(ends);
