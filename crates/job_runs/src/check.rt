@@ -1,6 +1,7 @@
-//! Whether the docket in a file is sound.
+//! Whether the docket in a file is sound, and what it holds.
 
 use crate::docket::{AtPath, close_connection, open_docket};
+use crate::holdings::{court_line, holdings_text};
 use crate::status::Status;
 use crate::telling::{failed, write_text};
 use docket_columns::CourtRow;
@@ -21,26 +22,30 @@ fn court_row<S: Alter>(alloc: Global, conn: &mut Connection<S>) -> Result<CourtR
     }
 }
 
-/// Judges the tables of a docket, that of the court first.
-fn judged<S: Alter>(alloc: Global, conn: &mut Connection<S>) -> Result<(), TableFault> {
+/// Judges the tables of a docket, that of the court first. What is told of them where they are sound.
+fn judged<S: Alter>(alloc: Global, conn: &mut Connection<S>) -> Result<String, TableFault> {
     let CourtRow {
         zone,
         close,
         next_row,
     } = court_row(alloc, conn)?;
+    let line = court_line(alloc, zone.as_str(), close)?;
     let record = CourtRecord {
         id: 1,
         zone,
         close,
         next_row,
     };
-    match sound_court(alloc, &record)? {
-        Some(court) => judge_tables(conn, alloc, court, next_row),
-        None => Err(TableFault::Damaged(Table::Court)),
-    }
+    let Some(court) = sound_court(alloc, &record)? else {
+        return Err(TableFault::Damaged(Table::Court));
+    };
+    let held = judge_tables(conn, alloc, court, next_row)?;
+    let held = holdings_text(alloc, &held)?;
+    Ok(format!(in alloc; "sound\n{line}{held}")?)
 }
 
-/// Tells whether the tables of the docket in a file are sound, or which is the first that is not.
+/// Tells that the tables of the docket in a file are sound and what they hold, or which is the first
+/// that is not.
 pub(crate) fn check_docket<W: Write, E: Write>(
     rt: &HostRuntime,
     path: &str,
@@ -53,7 +58,7 @@ pub(crate) fn check_docket<W: Write, E: Write>(
             let judged = judged(rt.alloc(), &mut conn);
             close_connection(conn);
             match judged {
-                Ok(()) => write_text(rt.alloc(), "sound\n", Status::Done, w, e),
+                Ok(text) => write_text(rt.alloc(), text.as_str(), Status::Done, w, e),
                 Err(fault) => failed(rt.alloc(), e, &AtPath { path, fault }),
             }
         }

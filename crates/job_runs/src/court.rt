@@ -1,7 +1,7 @@
 //! The court of a command line.
 
 use crate::status::Status;
-use crate::telling::{failed, told};
+use crate::telling::{no_memory, told};
 use court_days::{Court, CourtFault};
 use std::alloc::Global;
 use std::fmt;
@@ -42,7 +42,7 @@ pub(crate) fn read_court<E: Write>(
 ) -> Result<Court, Status> {
     match Court::read(alloc, zone, close) {
         Ok(court) => Ok(court),
-        Err(CourtFault::NoMemory) => Err(failed(alloc, e, &"there is not enough memory")),
+        Err(CourtFault::NoMemory) => Err(no_memory(e)),
         Err(fault) => {
             let bad = BadCourt { fault, zone, close };
             Err(told(alloc, e, &bad, Status::BadLine))

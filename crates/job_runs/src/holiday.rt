@@ -2,7 +2,7 @@
 ghost use Rattle.std.specs.Int.{IsInRange};
 
 use crate::status::Status;
-use crate::telling::{failed, write_text};
+use crate::telling::{no_memory, write_text};
 use docket_text::holiday_text;
 use std::alloc::Global;
 use std::io::Write;
@@ -18,6 +18,6 @@ pub(crate) fn tell_holidays<W: Write, E: Write>(
 {
     match holiday_text(alloc, year) {
         Ok(text) => write_text(alloc, text.as_str(), Status::Done, w, e),
-        Err(_) => failed(alloc, e, &"there is not enough memory"),
+        Err(_) => no_memory(e),
     }
 }

@@ -2,7 +2,7 @@
 
 use crate::docket::{AtPath, close_connection, open_connection};
 use crate::status::Status;
-use crate::telling::{failed, write_text};
+use crate::telling::{failed, failed_by, no_memory, write_text};
 use docket_command::{Action, Command, ImportCalendar, NewDay, NewDays, Refusal, Reply, Text};
 use docket_store::{Fault, Returned, SessionEnd, session};
 use docket_wire::{CsvFault, read_calendar_csv, reply_text};
@@ -50,7 +50,7 @@ fn tell_answers<W: Write, E: Write>(
     }
     match answer_lines(alloc, answers) {
         Ok((lines, status)) => write_text(alloc, lines.as_str(), status, w, e),
-        Err(_) => failed(alloc, e, &Fault::NoMemory),
+        Err(_) => no_memory(e),
     }
 }
 
@@ -88,10 +88,10 @@ fn send<W: Write, E: Write>(
 /// Tells why the input is no table.
 fn refuse<W: Write, E: Write>(alloc: Global, fault: CsvFault, w: &mut W, e: &mut E) -> Status {
     match fault {
-        CsvFault::NoMemory => failed(alloc, e, &fault),
+        CsvFault::NoMemory => no_memory(e),
         CsvFault::BadRow(_) | CsvFault::BadCsv => match format!(in alloc; "{fault}\n") {
             Ok(line) => write_text(alloc, line.as_str(), Status::SomeBad, w, e),
-            Err(_) => failed(alloc, e, &CsvFault::NoMemory),
+            Err(_) => no_memory(e),
         },
     }
 }
@@ -107,13 +107,13 @@ pub(crate) fn import_days<R: Read, W: Write, E: Write>(
     e: &mut E,
 ) -> Status {
     let mut table = Vec::new(rt.alloc());
-    if r.read_to_end(&mut table).is_err() {
-        return failed(rt.alloc(), e, &"the input could not be read");
+    if let Err(error) = r.read_to_end(&mut table) {
+        return failed_by(rt.alloc(), e, &error, "the input could not be read");
     }
     match read_calendar_csv(rt.alloc(), table.as_slice()) {
         Ok(days) => match import_of(rt.alloc(), key, days) {
             Ok(commands) => send(rt, path, &commands, w, e),
-            Err(_) => failed(rt.alloc(), e, &"there is not enough memory"),
+            Err(_) => no_memory(e),
         },
         Err(fault) => refuse(rt.alloc(), fault, w, e),
     }

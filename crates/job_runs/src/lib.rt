@@ -9,6 +9,7 @@ mod court;
 mod create;
 mod docket;
 mod file;
+mod holdings;
 mod holiday;
 mod import;
 mod job;

@@ -2,15 +2,14 @@
 
 use crate::docket::{close_docket, open_docket};
 use crate::status::Status;
-use crate::telling::failed;
+use crate::telling::{failed, failed_by};
 use docket_serving::serve_run;
 use docket_store::Docket;
-use line_io::write_bytes;
 use sqlite::Alter;
 use std::alloc::Global;
-use std::fmt;
 use std::io::{ErrorKind, Write};
 use std::net::TcpListener;
+use std::{fmt, io};
 
 /// Why nobody listens at a port.
 #[derive(Drop)]
@@ -24,21 +23,19 @@ impl fmt::Display for NotListening {
         let why = match self.kind {
             ErrorKind::AddrInUse => "it is in use",
             ErrorKind::PermissionDenied => "it may not be used",
+            ErrorKind::OutOfMemory => "there is not enough memory",
             _ => "it can't be listened at",
         };
         write!(f, "port {} of 127.0.0.1: {why}", self.port)
     }
 }
 
-/// Tells where connections are taken. Whether that went out.
-fn announce<W: Write>(alloc: Global, listener: &TcpListener, w: &mut W) -> bool {
-    let Ok(address) = listener.local_addr() else {
-        return false;
-    };
-    let Ok(line) = format!(in alloc; "listening on {address}\n") else {
-        return false;
-    };
-    write_bytes(w, line.as_bytes()).is_ok() && w.flush().is_ok()
+/// Tells where connections are taken.
+fn announce<W: Write>(alloc: Global, listener: &TcpListener, w: &mut W) -> io::Result<()> {
+    let address = listener.local_addr()?;
+    let line = format!(in alloc; "listening on {address}\n")?;
+    w.write_all(line.as_bytes())?;
+    w.flush()
 }
 
 /// Serves so many connections of a listener.
@@ -50,8 +47,8 @@ fn serve_all<W: Write, E: Write, S: Alter>(
     w: &mut W,
     e: &mut E,
 ) -> Status {
-    if !announce(rt.alloc(), listener, w) {
-        return failed(rt.alloc(), e, &"the output could not be written");
+    if let Err(error) = announce(rt.alloc(), listener, w) {
+        return failed_by(rt.alloc(), e, &error, "the output could not be written");
     }
     match serve_run(rt, listener, count, docket, e) {
         Ok(()) => Status::Done,

@@ -4,7 +4,9 @@ use crate::status::Status;
 use line_io::write_bytes;
 use std::alloc::{AllocError, Global};
 use std::fmt;
-use std::io::Write;
+use std::io::{Error, ErrorKind, Write};
+
+const NO_MEMORY: &[u8] = b"docketctl: there is not enough memory\n";
 
 /// Writes the text, and tells where that fails.
 pub(crate) fn write_text<W: Write, E: Write>(
@@ -33,7 +35,7 @@ pub(crate) fn told<E: Write, F: fmt::Display>(
 ) -> Status {
     let _ = match line_of(alloc, fault) {
         Ok(line) => write_bytes(e, line.as_bytes()),
-        Err(_) => write_bytes(e, b"docketctl: there is not enough memory\n"),
+        Err(_) => write_bytes(e, NO_MEMORY),
     };
     status
 }
@@ -41,6 +43,20 @@ pub(crate) fn told<E: Write, F: fmt::Display>(
 /// Tells in one line why the program failed.
 pub(crate) fn failed<E: Write, F: fmt::Display>(alloc: Global, e: &mut E, fault: &F) -> Status {
     told(alloc, e, fault, Status::Failed)
+}
+
+/// Tells in one line that there is not enough memory, which takes none.
+pub(crate) fn no_memory<E: Write>(e: &mut E) -> Status {
+    let _ = write_bytes(e, NO_MEMORY);
+    Status::Failed
+}
+
+/// Tells in one line that this could not be done, or that it lacked memory.
+pub(crate) fn failed_by<E: Write>(alloc: Global, e: &mut E, error: &Error, what: &str) -> Status {
+    match error.kind() {
+        ErrorKind::OutOfMemory => no_memory(e),
+        _ => failed(alloc, e, &what),
+    }
 }
 
 /// Tells on the output, in the place of an answer, that there is not enough memory.
