@@ -18,7 +18,6 @@ use Rattle.docket_columns.specs.Cells.{calendar_cells, case_cells, party_cells, 
 use Rattle.docket_wire.specs.Valid.{IsCommand}
 use Rattle.docket_tables.specs.Contents.{rows_in}
 use Rattle.docket_tables.specs.Layouts.{Rows as Stored}
-use Rattle.docket_tables.specs.Orderly.{IsCourtSettings}
 use Rattle.docket_tables.specs.Stands.{Shows, HoldsRows}
 use Rattle.docket_tables.specs.declared.table.Table.{Table}
 use Rattle.docket_tables.specs.declared.table.Table.TheVariants as table
@@ -52,7 +51,7 @@ module _ (s : State) (rows : Stored) (shows : Shows s rows) where
 cases_counted : (all rows : List CaseRow) → AreSorted table.Cases (map case_cells all) (map case_cells rows) → length rows ≡ length all
 cases_counted all rows sorted = sym (length-map rows case_cells) ∙ length_permutation _ _ sorted.same ∙ length-map all case_cells
 
-module _ (s : State) (court : CourtSettings) (h : History) (settings : IsCourtSettings court) (is : IsHistory court h) (commands : AllByRecursion IsCommand h) (shows : Shows s (rows_in court (rows_of court h))) (r : Rows) where
+module _ (s : State) (court : CourtSettings) (h : History) (is : IsHistory court h) (commands : AllByRecursion IsCommand h) (shows : Shows s (rows_in court (rows_of court h))) (r : Rows) where
   abbrev all : Stored
   all = rows_in court (rows_of court h)
 
@@ -66,51 +65,51 @@ module _ (s : State) (court : CourtSettings) (h : History) (settings : IsCourtSe
   parties_never stand unsound =
       in_order s all shows table.Cases (map case_cells r.cases) stand.1.0.1 (λ cases.
       let count = cases_counted (case_rows h) r.cases cases in
-      never_unsound s all shows table.Parties _ (parties_sound court h settings is commands) (subst (λ n. IsUnsoundIn table.Parties s (ArePartyRows n)) count unsound))
+      never_unsound s all shows table.Parties _ (parties_sound court h is commands) (subst (λ n. IsUnsoundIn table.Parties s (ArePartyRows n)) count unsound))
 
   entries_never : Stand table.Entries → IsUnsound table.Entries → ⊥
   entries_never stand unsound =
       in_order s all shows table.Cases (map case_cells r.cases) stand.1.0.1 (λ cases.
       let count = cases_counted (case_rows h) r.cases cases in
-      never_unsound s all shows table.Entries _ (entries_sound court h settings is commands) (subst (λ n. IsUnsoundIn table.Entries s (AreEntryRows n)) count unsound))
+      never_unsound s all shows table.Entries _ (entries_sound court h is commands) (subst (λ n. IsUnsoundIn table.Entries s (AreEntryRows n)) count unsound))
 
   deadlines_never : Stand table.Deadlines → IsUnsound table.Deadlines → ⊥
   deadlines_never stand unsound =
       in_order s all shows table.Cases (map case_cells r.cases) stand.1.0.1 (λ cases.
       in_order s all shows table.Parties (map party_cells r.parties) stand.1.1.0.1 (λ parties.
-      let judged = ap₂ AreDeadlineRows (cases_counted (case_rows h) r.cases cases) (parties_counted court h settings is commands r.parties parties) in
-      never_unsound s all shows table.Deadlines _ (deadlines_sound court h settings is commands) (subst (IsUnsoundIn table.Deadlines s) judged unsound)))
+      let judged = ap₂ AreDeadlineRows (cases_counted (case_rows h) r.cases cases) (parties_counted court h is commands r.parties parties) in
+      never_unsound s all shows table.Deadlines _ (deadlines_sound court h is commands) (subst (IsUnsoundIn table.Deadlines s) judged unsound)))
 
   acts_never : Stand table.Acts → IsUnsound table.Acts → ⊥
   acts_never stand unsound =
       in_order s all shows table.Cases (map case_cells r.cases) stand.1.0.1 (λ cases.
       in_order s all shows table.Deadlines (map deadline_cells r.deadlines) stand.1.1.1.1.0.1 (λ deadlines.
-      let judged = ap₂ (AreActRows court) (cases_counted (case_rows h) r.cases cases) (deadlines_counted court h settings is commands r.deadlines deadlines) in
-      never_unsound s all shows table.Acts _ (acts_sound court h settings is commands) (subst (IsUnsoundIn table.Acts s) judged unsound)))
+      let judged = ap₂ (AreActRows court) (cases_counted (case_rows h) r.cases cases) (deadlines_counted court h is commands r.deadlines deadlines) in
+      never_unsound s all shows table.Acts _ (acts_sound court h is commands) (subst (IsUnsoundIn table.Acts s) judged unsound)))
 
   ends_never : Stand table.Ends → IsUnsound table.Ends → ⊥
   ends_never stand unsound =
       in_order s all shows table.Calendar (map calendar_cells r.calendar) stand.0.1 (λ days.
       in_order s all shows table.Acts (map act_cells r.acts) stand.1.1.1.1.1.0.1 (λ acts.
-      never_unsound s all shows table.Ends _ (ends_sound court h settings is commands r.calendar r.acts days acts) unsound))
+      never_unsound s all shows table.Ends _ (ends_sound court h is commands r.calendar r.acts days acts) unsound))
 
   never : (t : Table) → Stand t → IsUnsound t → ⊥
   never table.Court stand = never_unsound s all shows table.Court _ (λ found sorted. tt)
-  never table.Calendar stand = never_unsound s all shows table.Calendar _ (calendar_sound court h settings is commands)
-  never table.Cases stand = never_unsound s all shows table.Cases _ (cases_sound court h settings is commands)
+  never table.Calendar stand = never_unsound s all shows table.Calendar _ (calendar_sound court h is commands)
+  never table.Cases stand = never_unsound s all shows table.Cases _ (cases_sound court h is commands)
   never table.Parties stand = parties_never stand
   never table.Entries stand = entries_never stand
   never table.Deadlines stand = deadlines_never stand
   never table.Acts stand = acts_never stand
-  never table.Receipts stand = never_unsound s all shows table.Receipts _ (receipts_sound court h settings is commands)
+  never table.Receipts stand = never_unsound s all shows table.Receipts _ (receipts_sound court h is commands)
   never table.Ends stand = ends_never stand
 
 -- so no table is told to be unsound
 pub none_damaged : {S X : Type 0} (g : Ghosts S) (old : Held S) (new : State) (court : CourtSettings) (next : ℕ) (says : Rows → X → Type 0) (result : Result X TableFault)
     → HasCleanDisk (state g old) → JudgedTo table.Ends court next (state g old) new says result
-    → (h : History) → IsCourtSettings court → IsHistory court h → AllByRecursion IsCommand h → next ≡ next_row h → HoldsRows g old (rows_in court (rows_of court h))
+    → (h : History) → IsHistory court h → AllByRecursion IsCommand h → next ≡ next_row h → HoldsRows g old (rows_in court (rows_of court h))
     → (t : Table) → result ≢ Err (Damaged t)
-none_damaged g old new court next says result clean told h settings is commands numbered holds t damaged =
+none_damaged g old new court next says result clean told h is commands numbered holds t damaged =
     let s = state g old in
     let fails : FailsAt court (next_row h) s new (Damaged t) = subst (λ n. FailsAt court n s new (Damaged t)) numbered (subst (JudgedTo table.Ends court next s new says) damaged told) in
-    never s court h settings is commands (holds.1 clean).shows fails.1 t fails.2 fails.3
+    never s court h is commands (holds.1 clean).shows fails.1 t fails.2 fails.3

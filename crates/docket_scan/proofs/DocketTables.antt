@@ -16,6 +16,7 @@ use Rattle.docket_core.specs.declared.row.ActRow.{ActRow}
 use Rattle.docket_core.specs.declared.row.CalendarRow.{CalendarRow}
 use Rattle.docket_core.specs.declared.row.DeadlineRow.{DeadlineRow}
 use Rattle.docket_core.specs.declared.row.PartyRow.{PartyRow}
+use Rattle.docket_core.proofs.LimitsKept.{within_limits}
 use Rattle.docket_columns.specs.Cells.{calendar_cells, case_cells, party_cells, entry_cells, deadline_cells, act_cells, receipt_cells, end_cells}
 use Rattle.docket_columns.specs.Fits.{IsCount, IsCalendarRow, IsCaseRow, IsPartyRow, IsEntryRow, IsDeadlineRow, IsActRow, IsReceipt, IsEndRow}
 use Rattle.docket_wire.specs.Valid.{IsCommand}
@@ -28,10 +29,12 @@ use Rattle.docket_sound.proofs.SortedActs.{sorted_acts}
 use Rattle.docket_sound.proofs.SortedEnds.{ends_stored}
 use Rattle.docket_sound.proofs.SortedReceipts.{sorted_receipts}
 use Rattle.docket_sound.proofs.SortedRows.{sorted_calendar, sorted_cases, sorted_parties, party_counts, sorted_entries, sorted_deadlines, deadline_counts}
-use Rattle.docket_tables.specs.Orderly.{IsCourtSettings, IsOrderly}
 use Rattle.docket_tables.specs.declared.table.Table.{Table}
 use Rattle.docket_tables.specs.declared.table.Table.TheVariants as table
-use Rattle.docket_tables.proofs.OrderlyLemmas.{orderly}
+use Rattle.docket_tables.proofs.OrderlyActs.{acts_held}
+use Rattle.docket_tables.proofs.OrderlyCalendar.{calendar_held}
+use Rattle.docket_tables.proofs.OrderlyReceipts.{receipts_held}
+use Rattle.docket_tables.proofs.OrderlyRows.{cases_held, parties_held, entries_held, deadlines_held}
 use Rattle.docket_scan.specs.Records.{IsTable, IsStoredReceipt, receipt_cells as stored_receipt_cells, count_in, AreCalendarRows, AreCaseRows, ArePartyRows, AreEntryRows, AreDeadlineRows, AreActRows, AreReceiptRows, AreEndRows}
 use Rattle.docket_scan.specs.declared.receipt.StoredReceipt.{StoredReceipt}
 use Rattle.docket_scan.proofs.DocketCells.{party_keys, deadline_keys, calendar_items, act_rows_alike}
@@ -50,22 +53,19 @@ row_fits : (k n : ℕ) (end : Option EndTime) → IsCount k → IsCount n → Al
 row_fits k n None case number = tt
 row_fits k n (Some end) case number = ((case, number), tt)
 
-module _ (court : CourtSettings) (h : History) (settings : IsCourtSettings court) (is : IsHistory court h) (commands : AllByRecursion IsCommand h) where
-  docket : IsOrderly court (rows_of court h)
-  docket = orderly court h settings is commands
-
+module _ (court : CourtSettings) (h : History) (is : IsHistory court h) (commands : AllByRecursion IsCommand h) where
   pub calendar_sound : (found : List Row) → AreSorted table.Calendar (map calendar_cells (standing_rows h)) found → AreCalendarRows court (next_row h) found
   calendar_sound =
-      sound_records table.Calendar IsCalendarRow calendar_cells calendar_order _ (standing_rows h) calendar_by_key docket.calendar (sorted_calendar court h is)
+      sound_records table.Calendar IsCalendarRow calendar_cells calendar_order _ (standing_rows h) calendar_by_key (calendar_held h (within_limits court h is).next_row commands) (sorted_calendar court h is)
 
   pub cases_sound : (found : List Row) → AreSorted table.Cases (map case_cells (case_rows h)) found → AreCaseRows found
-  cases_sound = sound_records table.Cases IsCaseRow case_cells case_order _ (case_rows h) cases_by_key docket.cases (sorted_cases court h is)
+  cases_sound = sound_records table.Cases IsCaseRow case_cells case_order _ (case_rows h) cases_by_key (cases_held court h is commands) (sorted_cases court h is)
 
   pub parties_sound : (found : List Row) → AreSorted table.Parties (map party_cells (party_rows h)) found → ArePartyRows (length (case_rows h)) found
-  parties_sound = sound_records table.Parties IsPartyRow party_cells party_order _ (party_rows h) parties_by_key docket.parties (sorted_parties court h is)
+  parties_sound = sound_records table.Parties IsPartyRow party_cells party_order _ (party_rows h) parties_by_key (parties_held court h is commands) (sorted_parties court h is)
 
   pub entries_sound : (found : List Row) → AreSorted table.Entries (map entry_cells (entry_rows h)) found → AreEntryRows (length (case_rows h)) found
-  entries_sound = sound_records table.Entries IsEntryRow entry_cells entry_order _ (entry_rows h) entries_by_key docket.entries (sorted_entries court h is)
+  entries_sound = sound_records table.Entries IsEntryRow entry_cells entry_order _ (entry_rows h) entries_by_key (entries_held court h is commands) (sorted_entries court h is)
 
   abbrev pub parties_by_case : ℕ → ℕ
   parties_by_case k = length (parties_of_case k (party_rows h))
@@ -76,7 +76,7 @@ module _ (court : CourtSettings) (h : History) (settings : IsCourtSettings court
       λ i k. (ap (λ keys. count_in keys k) (party_keys rows it.0 it.1) ∙ party_counts court h is it.0 it.2 k) i
 
   pub deadlines_sound : (found : List Row) → AreSorted table.Deadlines (map deadline_cells (deadline_rows h)) found → AreDeadlineRows (length (case_rows h)) parties_by_case found
-  deadlines_sound = sound_records table.Deadlines IsDeadlineRow deadline_cells deadline_order _ (deadline_rows h) deadlines_by_key docket.deadlines (sorted_deadlines court h is)
+  deadlines_sound = sound_records table.Deadlines IsDeadlineRow deadline_cells deadline_order _ (deadline_rows h) deadlines_by_key (deadlines_held court h is commands) (sorted_deadlines court h is)
 
   abbrev pub deadlines_by_case : ℕ → ℕ
   deadlines_by_case k = length (deadlines_of_case k (deadline_rows h))
@@ -87,12 +87,12 @@ module _ (court : CourtSettings) (h : History) (settings : IsCourtSettings court
       λ i k. (ap (λ keys. count_in keys k) (deadline_keys rows it.0 it.1) ∙ deadline_counts court h is it.0 it.2 k) i
 
   pub acts_sound : (found : List Row) → AreSorted table.Acts (map act_cells (act_rows h)) found → AreActRows court (length (case_rows h)) deadlines_by_case found
-  acts_sound = sound_records table.Acts IsActRow act_cells act_order _ (act_rows h) acts_by_key docket.acts (sorted_acts court h is)
+  acts_sound = sound_records table.Acts IsActRow act_cells act_order _ (act_rows h) acts_by_key (acts_held court h is commands) (sorted_acts court h is)
 
   pub receipts_sound : (found : List Row) → AreSorted table.Receipts (map receipt_cells (receipts court h)) found → AreReceiptRows found
   receipts_sound found sorted =
       let it = typed table.Receipts receipt_cells receipt_order receipts_by_key (receipts court h) found sorted in
-      let fit = all-permutation IsReceipt (receipts court h) it.0 it.2.same docket.receipts in
+      let fit = all-permutation IsReceipt (receipts court h) it.0 it.2.same (receipts_held court h is commands) in
       record {
         records = map as_stored it.0;
         are = record {
@@ -107,7 +107,7 @@ module _ (court : CourtSettings) (h : History) (settings : IsCourtSettings court
   ends_fit =
       let t = rows_of court h in
       all-flat_map IsEndRow (row_of_deadline (zone_of court) (calendar_in t) t.acts) t.deadlines
-      (all_weaker IsDeadlineRow (λ d. AllByRecursion IsEndRow (row_of_deadline (zone_of court) (calendar_in t) t.acts d)) (λ d fits. row_fits d.case d.number _ fits.0 fits.1) t.deadlines docket.deadlines)
+      (all_weaker IsDeadlineRow (λ d. AllByRecursion IsEndRow (row_of_deadline (zone_of court) (calendar_in t) t.acts d)) (λ d fits. row_fits d.case d.number _ fits.0 fits.1) t.deadlines (deadlines_held court h is commands))
 
   module _ (days : List CalendarRow) (acts : List ActRow) (of_days : AreSorted table.Calendar (map calendar_cells (standing_rows h)) (map calendar_cells days)) (of_acts : AreSorted table.Acts (map act_cells (act_rows h)) (map act_cells acts)) where
     ends_expected : (ends : List EndRow) → AreInOrder end_order (end_rows court (rows_of court h)) ends → ends ≡ dues_of (zone_of court) (calendar_of (items_of days)) acts

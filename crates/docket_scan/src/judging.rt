@@ -18,7 +18,6 @@ ghost use Rattle.docket_scan.specs.Holdings.{holdings_of};
 ghost use Rattle.docket_scan.specs.Passing.{SaysCalendar, SaysCases, SaysParties, SaysDeadlines, SaysEnds};
 ghost use Rattle.docket_scan.specs.Scans.{OfSoMany};
 ghost use Rattle.docket_tables.specs.Contents.{rows_in};
-ghost use Rattle.docket_tables.specs.Orderly.{IsCourtSettings};
 ghost use Rattle.docket_tables.specs.Stands.{HoldsRows};
 ghost use Rattle.docket_tables.specs.declared.table.Table.TheVariants as table;
 ghost use Rattle.docket_wire.specs.Valid.{IsCommand};
@@ -294,7 +293,7 @@ pub fn judge_tables<S: Alter>(
     ensures told { HasCleanDisk (state S.Store conn.new)
         → JudgedTo table.Ends court next_row (state S.Store conn.old) (state S.Store conn.new) (λ r held. held ≡ holdings_of court r) result }
     ensures docket { HasCleanDisk (state S.Store conn.new)
-        → (h : History) → IsCourtSettings court → IsHistory court h → AllByRecursion IsCommand h → next_row ≡ next_number h
+        → (h : History) → IsHistory court h → AllByRecursion IsCommand h → next_row ≡ next_number h
         → HoldsRows S.Store conn.old (rows_in court (rows_of court h)) → TellsNoneUnsound result }
 {
     let EndsRead { ends, held } = judge_receipts(conn, alloc, court, next_row)?;

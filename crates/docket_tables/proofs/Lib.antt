@@ -17,12 +17,12 @@ mod InsertLemmas
 pub mod LayoutLemmas
 mod MoveLemmas
 mod OrderlyActions
-mod OrderlyActs
-mod OrderlyCalendar
+pub mod OrderlyActs
+pub mod OrderlyCalendar
 pub mod OrderlyLemmas
 mod OrderlyLists
 pub mod OrderlyReceipts
-mod OrderlyRows
+pub mod OrderlyRows
 mod ProbeLemmas
 mod QueryLemmas
 pub mod ReadLemmas
