@@ -1,6 +1,7 @@
 pub mod AnySchema
 mod CountLemmas
 pub mod DocketCells
+pub mod DocketCounts
 pub mod DocketJudged
 pub mod DocketOrders
 pub mod DocketReads

@@ -1,9 +1,35 @@
 -- What is told of a docket of this program.
-use Rattle.std.specs.Prelude.{◌≢◌, Result, Err}
-use Rattle.docket_tables.specs.declared.table.Table.{Table}
+use Rattle.std.specs.Prelude.{◌≡◌, List, map, length, Result, Ok, Err}
+use Rattle.court_days.specs.Court.{CourtSettings, zone_of}
+use Rattle.court_rules.specs.Standings.{standing}
+use Rattle.court_rules.specs.declared.act.Standing.{Standing}
+use Rattle.docket_core.specs.CalendarItems.{calendar_of}
+use Rattle.docket_core.specs.Histories.{History, items_of, standing_rows, case_rows, party_rows, entry_rows, deadline_rows, act_rows, acts_of_deadline}
+use Rattle.docket_sound.specs.Standings.{counts_of_standings}
 use Rattle.docket_scan.specs.declared.fault.TableFault.{TableFault}
-use Rattle.docket_scan.specs.declared.fault.TableFault.TheVariants.{Damaged}
+use Rattle.docket_scan.specs.declared.fault.TableFault.TheVariants.{Damaged, NoMemory, StoreFailed}
+use Rattle.docket_scan.specs.declared.holdings.Holdings.{Holdings}
 
--- no table is told to be unsound
-abbrev pub TellsNoneUnsound : {X : Type 0} → Result X TableFault → Type 0
-TellsNoneUnsound result = (t : Table) → result ≢ Err (Damaged t)
+-- where each deadline of a history stands, by the whole calendar
+abbrev pub standings_in : CourtSettings → History → List Standing
+standings_in court h =
+    map (λ d. standing (zone_of court) (calendar_of (items_of (standing_rows h))) (acts_of_deadline d.case d.number (act_rows h))) (deadline_rows h)
+
+-- what a history has, counted; each command has its receipt
+abbrev pub holdings_in : CourtSettings → History → Holdings
+holdings_in court h = record {
+  calendar_rows = length (standing_rows h);
+  cases = length (case_rows h);
+  parties = length (party_rows h);
+  entries = length (entry_rows h);
+  deadlines = length (deadline_rows h);
+  standings = counts_of_standings (standings_in court h);
+  receipts = length h;
+}
+
+-- what is told of the docket of a history: what the history has, or that memory or the database failed; no table is unsound
+abbrev pub IsToldOfDocket : CourtSettings → History → Result Holdings TableFault → Type 0
+IsToldOfDocket court h (Ok held) = held ≡ holdings_in court h
+IsToldOfDocket court h (Err (Damaged t)) = ⊥
+IsToldOfDocket court h (Err NoMemory) = Unit {0}
+IsToldOfDocket court h (Err StoreFailed) = Unit {0}

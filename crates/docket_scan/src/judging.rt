@@ -13,7 +13,7 @@ ghost use Rattle.docket_sound.specs.Acts.{AreSoundActs, HasTakenActs};
 ghost use Rattle.docket_sound.specs.Counted.{cases_of, counts_of};
 ghost use Rattle.docket_sound.specs.Dues.{dues_of};
 ghost use Rattle.docket_sound.specs.Standings.{counts_of_standings, standings_of};
-ghost use Rattle.docket_scan.specs.Dockets.{TellsNoneUnsound};
+ghost use Rattle.docket_scan.specs.Dockets.{IsToldOfDocket};
 ghost use Rattle.docket_scan.specs.Holdings.{holdings_of};
 ghost use Rattle.docket_scan.specs.Passing.{SaysCalendar, SaysCases, SaysParties, SaysDeadlines, SaysEnds};
 ghost use Rattle.docket_scan.specs.Scans.{OfSoMany};
@@ -281,7 +281,8 @@ fn judge_receipts<S: Alter>(
 /// Judges the tables of a court's docket, but for that of the court itself, which says that the next row
 /// of the calendar has that number. Tells how much they hold. An error tells the first of them, in their
 /// order, that is missing, lacks a column, can't be read or is unsound by those before it; want of memory
-/// and a failure of the database may come at any point. Nothing is written.
+/// and a failure of the database may come at any point. Of the docket of a history no table is told to be
+/// unsound, and what is told is what the history has. Nothing is written.
 pub fn judge_tables<S: Alter>(
     conn: &mut Connection<S>,
     alloc: Global,
@@ -294,7 +295,7 @@ pub fn judge_tables<S: Alter>(
         → JudgedTo table.Ends court next_row (state S.Store conn.old) (state S.Store conn.new) (λ r held. held ≡ holdings_of court r) result }
     ensures docket { HasCleanDisk (state S.Store conn.new)
         → (h : History) → IsHistory court h → AllByRecursion IsCommand h → next_row ≡ next_number h
-        → HoldsRows S.Store conn.old (rows_in court (rows_of court h)) → TellsNoneUnsound result }
+        → HoldsRows S.Store conn.old (rows_in court (rows_of court h)) → IsToldOfDocket court h result }
 {
     let EndsRead { ends, held } = judge_receipts(conn, alloc, court, next_row)?;
     let mut check = DueCheck::new(ends);

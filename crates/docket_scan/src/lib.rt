@@ -3,7 +3,7 @@
 //! A table is read by one statement, row by row, and each row is handed to the check of that table
 //! (`docket_sound`), so that no row is kept. `judge_tables` tells how much sound tables hold, or the
 //! first table, in their order, that is missing, lacks a column, can't be read or is unsound by those
-//! before it; it writes nothing.
+//! before it; it writes nothing. No table of a docket of this program is told to be so.
 #![tactic(auto)]
 
 mod fault;

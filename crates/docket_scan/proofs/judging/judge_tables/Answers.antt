@@ -1,4 +1,4 @@
-use Rattle.std.proofs.Common.{◌≡◌, ◌∙◌, Err, ap, arith, inr, sym}
+use Rattle.std.proofs.Common.{◌≡◌, ◌∙◌, Ok, Err, ap, arith, inr, sym}
 use Rattle.std.proofs.lemmas.Bool.{false≢true}
 use Rattle.sqlite.specs.Held.{state}
 use Rattle.sqlite.specs.State.{HasCleanDisk}
@@ -16,7 +16,7 @@ use Rattle.docket_scan.specs.Records.{AreEndRows}
 use Rattle.docket_scan.specs.Scans.{OfSoMany}
 use Rattle.docket_scan.specs.Taken.{HasTakenEndTable, ends_expected}
 use Rattle.docket_scan.specs.declared.fault.TableFault.TheVariants.{Damaged}
-use Rattle.docket_scan.proofs.DocketJudged.{none_damaged}
+use Rattle.docket_scan.proofs.DocketJudged.{docket_told}
 use Rattle.docket_scan.proofs.JudgingLemmas.{all_more, failed, handed, read_rows, sound_before}
 use Rattle.docket_scan.proofs.RecordLemmas.{all_read, none_read}
 use Rattle.docket_scan.proofs.judging.judge_tables.Goals as goal
@@ -97,19 +97,26 @@ returns-in_err-ends-clause-docket g c clean =
     let early : HasCleanDisk old = omega (arith, clean, c.judge_receipts.ensures.writes_nothing.clean) in
     let fault = c.in_err-ends.field-0.0 in
     let told = rw c.in_err-ends.was at (c.judge_receipts.ensures.told clean) in
-    none_damaged g.S.Store c.args.conn.now new c.args.court c.args.next_row (λ r held. held ≡ holdings_of c.args.court r) c.from_residual.result early
+    docket_told g.S.Store c.args.conn.now new c.args.court c.args.next_row c.from_residual.result early
     (handed table.Ends c.args.court c.args.next_row old new (λ r held. held ≡ holdings_of c.args.court r) c.from_residual.result fault c.from_residual.ensures.1 told)
 
 pub returns-in_err-judge-clause-docket : goal.returns-in_err-judge-clause-docket
 returns-in_err-judge-clause-docket g c clean =
     let old = state g.S.Store c.args.conn.now in
     let early : HasCleanDisk old = omega (arith, clean, c.judge.ensures.writes_nothing.clean, c.judge_receipts.ensures.writes_nothing.clean) in
-    none_damaged g.S.Store c.args.conn.now (state g.S.Store c.judge.new.conn) c.args.court c.args.next_row (λ r held. held ≡ holdings_of c.args.court r) c.from_residual-in_err-judge.result early
+    docket_told g.S.Store c.args.conn.now (state g.S.Store c.judge.new.conn) c.args.court c.args.next_row c.from_residual-in_err-judge.result early
     (returns-in_err-judge-clause-told g c clean)
 
 pub returns-clause-docket : goal.returns-clause-docket
 returns-clause-docket g c clean =
     let old = state g.S.Store c.args.conn.now in
     let early : HasCleanDisk old = omega (arith, clean, c.judge.ensures.writes_nothing.clean, c.judge_receipts.ensures.writes_nothing.clean) in
-    none_damaged g.S.Store c.args.conn.now (state g.S.Store c.judge.new.conn) c.args.court c.args.next_row (λ r held. held ≡ holdings_of c.args.court r) (Err (Damaged table.Ends)) early
+    docket_told g.S.Store c.args.conn.now (state g.S.Store c.judge.new.conn) c.args.court c.args.next_row (Err (Damaged table.Ends)) early
     (returns-clause-told g c clean)
+
+pub returns-then-is_sound-clause-docket : goal.returns-then-is_sound-clause-docket
+returns-then-is_sound-clause-docket g c clean =
+    let old = state g.S.Store c.args.conn.now in
+    let early : HasCleanDisk old = omega (arith, clean, c.judge.ensures.writes_nothing.clean, c.judge_receipts.ensures.writes_nothing.clean) in
+    docket_told g.S.Store c.args.conn.now (state g.S.Store c.judge.new.conn) c.args.court c.args.next_row (Ok c.in_ok-ends.field-0.held) early
+    (returns-then-is_sound-clause-told g c clean)
