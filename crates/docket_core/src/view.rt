@@ -89,7 +89,7 @@ impl CalendarItems {
 
 /// The case that a command names, as far as the command asks about it: its number, how many parties,
 /// entries and deadlines it has, the deadline that the command names, and whether the party that is
-/// served with a summons, or whose waiver is filed, has a first answer due.
+/// served with a summons, or whose waiver is filed, has an initial deadline that is not vacated.
 #[derive(Drop)]
 pub struct CaseView {
     pub number: u32,
@@ -238,7 +238,8 @@ impl View {
         }
     }
 
-    /// Whether the party that is served, or whose waiver is filed, has a first answer due.
+    /// Whether the party that is served, or whose waiver is filed, has an initial deadline that is not
+    /// vacated.
     pub(crate) fn is_served(&self) -> bool
         ensures { result ≡ served_in self.now.case }
     {
