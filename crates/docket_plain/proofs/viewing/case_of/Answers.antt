@@ -7,6 +7,6 @@ pub new-requires : goal.new-requires
 new-requires c =
     let tables = c.args.tables.now in
     let k = c.args.number in
-    let count : length c.in_ok-deadlines_of.found.items ≡ length (deadlines_of_case k tables.deadlines.items) =
+    let count : length c.in_ok-deadlines_of.field-0.items ≡ length (deadlines_of_case k tables.deadlines.items) =
     ap length c.in_ok-deadlines_of.ensures ∙ length-deadlines_from k 1 tables.acts.items (deadlines_of_case k tables.deadlines.items) in
     omega (arith, count, c.requires.deadlines k)
