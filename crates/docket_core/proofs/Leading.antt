@@ -34,6 +34,7 @@ use Rattle.docket_core.specs.declared.view.DeadlineView.{DeadlineView}
 use Rattle.docket_core.specs.declared.view.Kept.{Kept}
 use Rattle.docket_core.specs.declared.view.Kept.TheVariants.{Fresh, Same, Other}
 use Rattle.docket_core.specs.declared.view.View.{View}
+use Rattle.docket_core.proofs.Asked.{case_asked, party_asked, entry_asked, made_asked, next_asked}
 use Rattle.docket_core.proofs.Passed.{is_free}
 
 -- what changes of one kind do
@@ -156,17 +157,17 @@ pub seen : (h : History) (a : Action) → lacks_case (shown_fresh h a) a ≡ fal
 seen h a free = case_seen h a (case_named a) refl free
 
 party_same : (h : History) (a : Action) → lacks_case (shown_fresh h a) a ≡ false → new_party (parties_in (shown_fresh h a).case) a ≡ new_party (length (parties_of_case (case_number a) (party_rows h))) a
-party_same h a free = ⊎_elim (λ e. no_party a _ _ e) (λ e. ap (λ o. new_party (parties_in o) a) e) (seen h a free)
+party_same h a free = ⊎_elim (λ e. no_party a _ _ e) (λ e. ap (λ o. new_party (parties_in o) a) e ∙ party_asked _ a) (seen h a free)
 
 entry_same : (h : History) (a : Action) → lacks_case (shown_fresh h a) a ≡ false → new_entry (entries_in (shown_fresh h a).case) a ≡ new_entry (length (entries_of_case (case_number a) (entry_rows h))) a
-entry_same h a free = ⊎_elim (λ e. no_entry a _ _ e) (λ e. ap (λ o. new_entry (entries_in o) a) e) (seen h a free)
+entry_same h a free = ⊎_elim (λ e. no_entry a _ _ e) (λ e. ap (λ o. new_entry (entries_in o) a) e ∙ entry_asked _ a) (seen h a free)
 
 -- what is made of new deadlines, by how many there are
 counted : {R : Type 0} (make : ℕ → List NewDeadline → List R) (h : History) (a : Action) → ((m n : ℕ) → make m [] ≡ make n []) → lacks_case (shown_fresh h a) a ≡ false → make (count_deadlines (shown_fresh h a).case) (deadlines_made a) ≡ make (length (deadlines_of_case (case_number a) (deadline_rows h))) (deadlines_made a)
 counted make h a none free =
     ⊎_elim
     (λ e. ap (make _) (none_made a e) ∙ none _ _ ∙ ap (make _) (sym (none_made a e)))
-    (λ e. ap (λ o. make (count_deadlines o) (deadlines_made a)) e ∙ ap (λ n. make n (deadlines_made a)) (length-deadlines_from (case_number a) 1 (act_rows h) (deadlines_of_case (case_number a) (deadline_rows h))))
+    (λ e. ap (λ o. make (count_deadlines o) (deadlines_made a)) e ∙ made_asked make (length (deadlines (case_number a) h)) a none ∙ ap (λ n. make n (deadlines_made a)) (length-deadlines_from (case_number a) 1 (act_rows h) (deadlines_of_case (case_number a) (deadline_rows h))))
     (seen h a free)
 
 pub deadline_seen : (k n : ℕ) (h : History) → is_none (deadline_at (deadlines k h) n) ≡ false → acts_in (deadline_at (deadlines k h) n) ≡ acts_of_deadline k n (act_rows h)
@@ -203,6 +204,9 @@ later_same h a free there =
     ∙ later_from h a (deadline_named a) refl (subst (λ c. is_some (deadline_named a) && is_none (named_in c) ≡ false) e there))
     (seen h a free)
 
+calendar_same : (h : History) (a : Action) → numbered (shown_fresh h a).next_row (rows_added (shown_fresh h a).calendar a) ≡ numbered (next_row h) (rows_added (items_of (standing_rows h)) a)
+calendar_same h a = ap (numbered _) (added_same (items_of (standing_rows h)) a) ∙ next_asked (next_row h) (items_of (standing_rows h)) a
+
 -- the changes of a command lead to the tables with it
 pub leads : (court : CourtSettings) (h : History) (c : Command) → lacks_case (shown court h c) c.action ≡ false → lacks_deadline (shown court h c) c.action ≡ false → with_receipt c (replied (reply_to court (shown court h c) c.action)) (all_changed (action_changes (shown court h c) c.action) (rows_of court h)) ≡ rows_of court (c ∷ h)
 leads court h c free there =
@@ -213,8 +217,8 @@ leads court h c free there =
     let firsts = counted (λ n made. first_acts_from (case_number a) (n + 1) made) h a (λ m n. refl) free in
     (λ i. with_receipt c reply (all_changed
     (withdrawal w
-    ++ map change.AddCalendar (numbered (next_row h) (added_same (items_of (standing_rows h)) a i))
-    ++ map change.AddCase (new_case (length (case_rows h)) a)
+    ++ map change.AddCalendar (calendar_same h a i)
+    ++ map change.AddCase (case_asked (length (case_rows h)) a i)
     ++ map change.AddParty (party_same h a free i)
     ++ map change.AddEntry (entry_same h a free i)
     ++ map change.AddDeadline (ds i)

@@ -1,6 +1,8 @@
 pub mod ActsInOrder
 pub mod ActsKept
 pub mod AddedActs
+pub mod AlikeStandings
+pub mod Asked
 pub mod CalendarLemmas
 pub mod EndChanges
 pub mod FirstActs

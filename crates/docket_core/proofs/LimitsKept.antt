@@ -15,7 +15,7 @@ use Rattle.docket_command.specs.declared.command.Action.{Action}
 use Rattle.docket_command.specs.declared.command.Action.TheVariants as action
 use Rattle.docket_command.specs.declared.command.Command.{Command}
 use Rattle.docket_command.specs.declared.refusal.Reply.{Reply}
-use Rattle.docket_core.specs.Actions.{asks_calendar, case_named, deadline_named, rows_asked, row_withdrawn, deadlines_made, acts_made}
+use Rattle.docket_core.specs.Actions.{asks_calendar, asks_next_row, if_asked, case_named, deadline_named, rows_asked, row_withdrawn, deadlines_made, acts_made}
 use Rattle.docket_core.specs.CalendarItems.{IsEnteredItem, calendar_of}
 use Rattle.docket_core.specs.Decisions.{IsSoundView}
 use Rattle.docket_core.specs.Histories.{History, items_of, numbered, without_row, standing_rows, next_row, rows_added, case_rows, party_rows, entry_rows, deadline_rows, act_rows, parties_of_case, entries_of_case, deadlines_of_case, acts_of_deadline, deadlines, deadlines_from, new_case, new_party, new_entry, new_deadlines, deadline_rows_from, first_acts, later_acts, act_rows_on, case_number, deadline_number}
@@ -36,6 +36,7 @@ use Rattle.docket_core.specs.declared.view.CaseView.{CaseView}
 use Rattle.docket_core.specs.declared.view.DeadlineView.{DeadlineView}
 use Rattle.docket_core.specs.declared.view.View.{View}
 use Rattle.docket_core.proofs.ActsKept.{AreSound, IsKept, with_firsts, with_later, no_fewer, firsts_other}
+use Rattle.docket_core.proofs.Asked.{asked_where_made}
 use Rattle.docket_core.proofs.FirstActs.{made_first}
 use Rattle.docket_core.proofs.LaterActs.{IsNext, IsNextOf, next_sound, may_follow}
 use Rattle.docket_core.proofs.GoodValues.{or_off, asked_entered, fresh_entered, numbered_entered}
@@ -241,7 +242,7 @@ deadlines_step court h a k is few = by_made (deadlines_made a) refl
         (λ off. absurd (some (none_made a off)))
         (λ found.
         let all = length-deadlines_from (case_number a) 1 (act_rows h) (deadlines_of_case (case_number a) (deadline_rows h)) in
-        let shown_count : count_deadlines (shown_fresh h a).case ≡ length (deadlines_of_case (case_number a) (deadline_rows h)) = ap count_deadlines found ∙ all in
+        let shown_count : count_deadlines (shown_fresh h a).case ≡ length (deadlines_of_case (case_number a) (deadline_rows h)) = ap count_deadlines found ∙ ap (λ b. if_asked b (length (deadlines (case_number a) h))) (asked_where_made a some) ∙ all in
         let fit = deadlines_fit (shown_fresh h a) a is.room some in
         let made_count : length (deadlines_made a) ≡ length made = ap length e in
         let same_case : case_number a ≡ k = grind (arith, nat_tests) in
@@ -267,6 +268,13 @@ rows_step court h (action.CloseDay p) is few = omega (arith, length-map (standin
 rows_step court h (action.CloseSpan p) is few = omega (arith, length-map (standing_rows h) (λ (row : CalendarRow). row.item), room_in (shown_fresh h (action.CloseSpan p)) (count_added (shown_fresh h (action.CloseSpan p)) (action.CloseSpan p)) is.room)
 rows_step court h (action.ImportCalendar p) is few = omega (arith, length-map (standing_rows h) (λ (row : CalendarRow). row.item), room_in (shown_fresh h (action.ImportCalendar p)) (count_added (shown_fresh h (action.ImportCalendar p)) (action.ImportCalendar p)) is.room)
 rows_step court h _ is few = omega arith
+
+next_step : (court : CourtSettings) (h : History) (a : Action) → IsPassed court h a → next_row h ≤ 4_294_967_296 → next_row h + length (rows_added (items_of (standing_rows h)) a) ≤ 4_294_967_296
+next_step court h (action.DeclareDay p) is was = rows_fit (shown_fresh h (action.DeclareDay p)) (action.DeclareDay p) is.room was
+next_step court h (action.CloseDay p) is was = rows_fit (shown_fresh h (action.CloseDay p)) (action.CloseDay p) is.room was
+next_step court h (action.CloseSpan p) is was = rows_fit (shown_fresh h (action.CloseSpan p)) (action.CloseSpan p) is.room was
+next_step court h (action.ImportCalendar p) is was = rows_fit (shown_fresh h (action.ImportCalendar p)) (action.ImportCalendar p) is.room was
+next_step court h _ is was = omega arith
 
 fewer : (w : Option ℕ) (rows : List CalendarRow) → length (without_row w rows) ≤ length rows
 fewer None rows = omega arith
@@ -299,7 +307,7 @@ within_limits court (c ∷ h) is =
           (left_entered (row_withdrawn a) (standing_rows h) before.items)
           (numbered_entered (next_row h) added (fresh_entered (items_of (standing_rows h)) (rows_asked a) (asked_entered court a p.values))));
       rows = omega (arith, length-append (without_row (row_withdrawn a) (standing_rows h)) (numbered (next_row h) added), length-numbered (next_row h) added, fewer (row_withdrawn a) (standing_rows h), rows_step court h a p before.rows);
-      next_row = omega (arith, ap length (added_same (items_of (standing_rows h)) a), rows_fit (shown_fresh h a) a p.room before.next_row);
+      next_row = next_step court h a p before.next_row;
       cases = omega (arith, length-append (case_rows h) (new_case (length (case_rows h)) a), cases_step court h a p before.cases);
       parties = λ k. parties_step court h a k p (before.parties k);
       entries = λ k. entries_step court h a k p (before.entries k);
@@ -316,6 +324,10 @@ items_shown false items all = All-nil IsEnteredItem
 count_shown : (b : Bool) (items : List CalendarItem) → length items ≤ 4000 → length (if b then items else []) ≤ 4000
 count_shown true items few = few
 count_shown false items few = omega arith
+
+next_shown : (b : Bool) (n : ℕ) → n ≤ 4_294_967_296 → if_asked b n ≤ 4_294_967_296
+next_shown true n fits = fits
+next_shown false n fits = omega arith
 
 module _ (court : CourtSettings) (h : History) (within : IsWithinLimits court h) where
   abbrev IsLawful : DeadlineView → Type 0
@@ -353,6 +365,6 @@ module _ (court : CourtSettings) (h : History) (within : IsWithinLimits court h)
   sound_view c = record {
     items = items_shown (asks_calendar c.action) (items_of (standing_rows h)) within.items;
     rows = count_shown (asks_calendar c.action) (items_of (standing_rows h)) (omega (arith, length-map (standing_rows h) (λ (row : CalendarRow). row.item), within.rows));
-    next_row = within.next_row;
+    next_row = next_shown (asks_next_row c.action) (next_row h) within.next_row;
     acts = lawful_in c.action (case_named c.action);
   }

@@ -25,7 +25,7 @@ use Rattle.docket_command.specs.declared.choice.PeriodUnit.{PeriodUnit}
 use Rattle.docket_command.specs.declared.choice.PeriodUnit.TheVariants as unit
 use Rattle.docket_command.specs.declared.choice.ServiceMethod.{ServiceMethod}
 use Rattle.docket_command.specs.declared.command.Action.{Action}
-use Rattle.docket_command.specs.declared.command.Action.TheVariants.{DeclareDay, CloseDay, CloseSpan, WithdrawCalendar, ImportCalendar, AddParty, FileEntry, ServeSummons, FileWaiver, ServePleading, OrderReply, RuleMotion, Dispose, StatementServed, NoticeHearing, OrderPeriod, EnterJudgment, Extend, Satisfy, Vacate}
+use Rattle.docket_command.specs.declared.command.Action.TheVariants.{DeclareDay, CloseDay, CloseSpan, WithdrawCalendar, ImportCalendar, OpenCase, AddParty, FileEntry, ServeSummons, FileWaiver, ServePleading, OrderReply, RuleMotion, Dispose, StatementServed, NoticeHearing, OrderPeriod, EnterJudgment, Extend, Satisfy, Vacate}
 use Rattle.docket_command.specs.declared.new_day.NewDay.{NewDay}
 use Rattle.docket_command.specs.declared.time_action.OrderPeriod as order_period
 use Rattle.docket_core.specs.declared.deadline.NewDeadline.{NewDeadline}
@@ -93,6 +93,52 @@ asks_calendar (RuleMotion a) = true
 asks_calendar (Extend a) = true
 asks_calendar (Satisfy a) = true
 asks_calendar _ = false
+
+-- it asks how many cases there are: it opens one
+abbrev pub asks_cases : Action → Bool
+asks_cases (OpenCase a) = true
+asks_cases _ = false
+
+-- it asks how many parties its case has: it adds one, or may name some
+abbrev pub asks_parties : Action → Bool
+asks_parties (AddParty a) = true
+asks_parties (ServeSummons a) = true
+asks_parties (FileWaiver a) = true
+asks_parties (ServePleading a) = true
+asks_parties (OrderReply a) = true
+asks_parties (Dispose a) = true
+asks_parties (NoticeHearing a) = true
+asks_parties (OrderPeriod a) = true
+asks_parties _ = false
+
+-- it asks how many entries its case has: it files one
+abbrev pub asks_entries : Action → Bool
+asks_entries (FileEntry a) = true
+asks_entries _ = false
+
+-- it asks how many deadlines its case has: it may make some
+abbrev pub asks_deadlines : Action → Bool
+asks_deadlines (ServeSummons a) = true
+asks_deadlines (FileWaiver a) = true
+asks_deadlines (ServePleading a) = true
+asks_deadlines (OrderReply a) = true
+asks_deadlines (Dispose a) = true
+asks_deadlines (NoticeHearing a) = true
+asks_deadlines (OrderPeriod a) = true
+asks_deadlines (EnterJudgment a) = true
+asks_deadlines _ = false
+
+-- it asks for the number of the next calendar row: it may add some
+abbrev pub asks_next_row : Action → Bool
+asks_next_row (DeclareDay a) = true
+asks_next_row (CloseDay a) = true
+asks_next_row (CloseSpan a) = true
+asks_next_row (ImportCalendar a) = true
+asks_next_row _ = false
+
+-- a number that is told where it is asked for
+abbrev pub if_asked : Bool → ℕ → ℕ
+if_asked asked n = if asked then n else 0
 
 abbrev pub day_row : DayKind → ℕ → List ℕ → NewRow
 day_row kind day name = record { item = Day kind day; name = name }

@@ -10,7 +10,7 @@ use Rattle.docket_command.specs.declared.command.Action.{Action}
 use Rattle.docket_command.specs.declared.command.Action.TheVariants.{DeclareDay, CloseDay, CloseSpan, WithdrawCalendar, ImportCalendar, OpenCase, AddParty, FileEntry, RuleMotion, Dispose, StatementServed, Extend, Satisfy, Vacate}
 use Rattle.docket_command.specs.declared.refusal.Refusal.{Refusal}
 use Rattle.docket_command.specs.declared.refusal.Reply.{Reply}
-use Rattle.docket_core.specs.Actions.{case_named, asks_calendar}
+use Rattle.docket_core.specs.Actions.{case_named, asks_calendar, asks_cases, asks_next_row, if_asked}
 use Rattle.docket_core.specs.Histories.{History, standing_rows, items_of, next_row, case_rows, party_rows, parties_of_case, entry_rows, entries_of_case, deadlines}
 use Rattle.docket_core.specs.Refusals.{refusal_of, count_added, wants_statement}
 use Rattle.docket_core.specs.Times.{standing_shown, is_in_time}
@@ -40,16 +40,16 @@ case_of_number h a k =
     then Some (case_shown k (length (parties_of_case k (party_rows h))) (length (entries_of_case k (entry_rows h))) (deadlines k h) a)
     else None
 
--- what a history shows about an action, under a key that is fresh
+-- what a history shows about an action, under a key that is fresh: what the action asks about
 abbrev pub shown_fresh : History → Action → View
 shown_fresh h a = record {
   kept = Fresh;
-  cases = length (case_rows h);
+  cases = if_asked (asks_cases a) (length (case_rows h));
   label_taken = is_label_taken a (case_rows h);
   case = option_and_then (case_of_number h a) (case_named a);
   row_stands = is_row_standing a (standing_rows h);
   calendar = if asks_calendar a then items_of (standing_rows h) else [];
-  next_row = next_row h;
+  next_row = if_asked (asks_next_row a) (next_row h);
 }
 
 -- the reply to an action that is accepted

@@ -5,7 +5,7 @@ use Rattle.court_days.specs.Court.{CourtSettings}
 use Rattle.docket_command.specs.declared.command.Command.{Command}
 use Rattle.docket_command.specs.declared.command.Action.{Action}
 use Rattle.docket_command.specs.declared.refusal.Reply.{Reply}
-use Rattle.docket_core.specs.Actions.{case_named, row_withdrawn, asks_calendar}
+use Rattle.docket_core.specs.Actions.{case_named, row_withdrawn, asks_calendar, asks_cases, asks_next_row, if_asked}
 use Rattle.docket_core.specs.Histories.{History, standing_rows, next_row, items_of, numbered, rows_added, case_rows, party_rows, entry_rows, deadline_rows, act_rows, new_case, new_party, new_entry, new_deadlines, first_acts, later_acts, parties_of_case, entries_of_case, deadlines_of_case, deadlines_from}
 use Rattle.docket_core.specs.Outcomes.{receipts, kept, is_label_taken, is_row_standing}
 use Rattle.docket_core.specs.Views.{parties_in, entries_in, count_deadlines, deadline_shown, acts_in, case_shown}
@@ -124,10 +124,10 @@ case_in t a k =
 abbrev pub view_in : Tables → Command → View
 view_in t c = record {
   kept = kept t.receipts c;
-  cases = length t.cases;
+  cases = if_asked (asks_cases c.action) (length t.cases);
   label_taken = is_label_taken c.action t.cases;
   case = option_and_then (case_in t c.action) (case_named c.action);
   row_stands = is_row_standing c.action t.calendar;
   calendar = if asks_calendar c.action then items_of t.calendar else [];
-  next_row = t.next_row;
+  next_row = if_asked (asks_next_row c.action) t.next_row;
 }

@@ -6,7 +6,7 @@ use Rattle.court_rules.specs.declared.act.Act.{Act}
 use Rattle.court_rules.specs.declared.act.Act.TheVariants as act
 use Rattle.docket_command.specs.declared.command.Action.{Action}
 use Rattle.docket_command.specs.declared.command.Action.TheVariants.{ServeSummons, FileWaiver}
-use Rattle.docket_core.specs.Actions.{deadline_named}
+use Rattle.docket_core.specs.Actions.{deadline_named, asks_parties, asks_entries, asks_deadlines, if_asked}
 use Rattle.docket_core.specs.declared.view.CaseView.{CaseView}
 use Rattle.docket_core.specs.declared.view.DeadlineView.{DeadlineView}
 use Rattle.docket_core.specs.declared.view.View.{View}
@@ -76,13 +76,13 @@ is_served_among all (ServeSummons a) = has_initial all a.party
 is_served_among all (FileWaiver a) = has_initial all a.party
 is_served_among all _ = false
 
--- a case with so many parties and entries, and these deadlines, as it is shown about an action
+-- a case with so many parties and entries, and these deadlines, as it is shown about an action: what the action asks about
 abbrev pub case_shown : ℕ → ℕ → ℕ → List DeadlineView → Action → CaseView
 case_shown k parties entries all a = record {
   number = k;
-  parties = parties;
-  entries = entries;
-  deadlines = length all;
+  parties = if_asked (asks_parties a) parties;
+  entries = if_asked (asks_entries a) entries;
+  deadlines = if_asked (asks_deadlines a) (length all);
   named = deadline_of all a;
   is_served = is_served_among all a;
 }

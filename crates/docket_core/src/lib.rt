@@ -28,7 +28,10 @@ pub use laws::{
 };
 pub use lines::deadline_lines;
 pub use moving::{acts_named, acts_with, end_moves};
-pub use named::{asks_calendar, case_named, deadline_named};
+pub use named::{
+    asks_calendar, asks_cases, asks_deadlines, asks_entries, asks_next_row, asks_parties,
+    case_named, deadline_named,
+};
 pub use record::{CaseRecord, DeadlineLine, DueRow, EntryRows, PartyRows};
 pub use row::{ActRow, CalendarRow, CaseRow, Change, DeadlineRow, EntryRow, PartyRow, Receipt};
 pub use view::{Acts, CalendarItems, CaseView, DeadlineView, Kept, View, is_served_among};

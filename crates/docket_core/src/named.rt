@@ -1,6 +1,6 @@
 //! What an action names, and whether the docket lacks it.
 ghost use Rattle.std.specs.Prelude.{◌≡◌};
-ghost use Rattle.docket_core.specs.Actions.{case_named, deadline_named, asks_calendar};
+ghost use Rattle.docket_core.specs.Actions.{case_named, deadline_named, asks_calendar, asks_cases, asks_parties, asks_entries, asks_deadlines, asks_next_row};
 ghost use Rattle.docket_core.specs.Refusals.{lacks_case, is_no_party, lacks_party, lacks_deadline, lacks_row};
 
 use crate::view::View;
@@ -53,6 +53,61 @@ pub fn asks_calendar(action: &Action) -> bool
         Action::DeclareDay(_) | Action::CloseDay(_) | Action::CloseSpan(_) => true,
         Action::ImportCalendar(_) | Action::FileWaiver(_) | Action::RuleMotion(_) => true,
         Action::Extend(_) | Action::Satisfy(_) => true,
+        _ => false,
+    }
+}
+
+/// Whether it asks how many cases there are: it opens one.
+pub fn asks_cases(action: &Action) -> bool
+    ensures { result ≡ asks_cases action.now }
+{
+    match action {
+        Action::OpenCase(_) => true,
+        _ => false,
+    }
+}
+
+/// Whether it asks how many parties its case has: it adds one, or may name some.
+pub fn asks_parties(action: &Action) -> bool
+    ensures { result ≡ asks_parties action.now }
+{
+    match action {
+        Action::AddParty(_) | Action::ServeSummons(_) | Action::FileWaiver(_) => true,
+        Action::ServePleading(_) | Action::OrderReply(_) | Action::Dispose(_) => true,
+        Action::NoticeHearing(_) | Action::OrderPeriod(_) => true,
+        _ => false,
+    }
+}
+
+/// Whether it asks how many entries its case has: it files one.
+pub fn asks_entries(action: &Action) -> bool
+    ensures { result ≡ asks_entries action.now }
+{
+    match action {
+        Action::FileEntry(_) => true,
+        _ => false,
+    }
+}
+
+/// Whether it asks how many deadlines its case has: it may make some.
+pub fn asks_deadlines(action: &Action) -> bool
+    ensures { result ≡ asks_deadlines action.now }
+{
+    match action {
+        Action::ServeSummons(_) | Action::FileWaiver(_) | Action::ServePleading(_) => true,
+        Action::OrderReply(_) | Action::Dispose(_) | Action::NoticeHearing(_) => true,
+        Action::OrderPeriod(_) | Action::EnterJudgment(_) => true,
+        _ => false,
+    }
+}
+
+/// Whether it asks for the number of the next calendar row: it may add some.
+pub fn asks_next_row(action: &Action) -> bool
+    ensures { result ≡ asks_next_row action.now }
+{
+    match action {
+        Action::DeclareDay(_) | Action::CloseDay(_) => true,
+        Action::CloseSpan(_) | Action::ImportCalendar(_) => true,
         _ => false,
     }
 }

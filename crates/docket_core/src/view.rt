@@ -1,10 +1,11 @@
 //! What a docket shows about a command.
 ghost use Rattle.std.specs.Prelude.{◌≡◌, ◌<◌, ◌^◌, length, option_copied};
 ghost use Rattle.std.specs.List.{list_any};
+ghost use Rattle.docket_core.specs.Actions.{if_asked};
 ghost use Rattle.docket_core.specs.Views.{parties_in, entries_in, count_deadlines, deadline_shown, acts_in, served_in, deadline_at, deadline_of, is_vacated, has_initial, is_served_among, case_shown};
 
 use crate::item::CalendarItem;
-use crate::named::deadline_named;
+use crate::named::{asks_deadlines, asks_entries, asks_parties, deadline_named};
 use court_rules::{Act, Rule};
 use docket_command::{Action, Reply};
 use std::marker::Model;
@@ -88,8 +89,9 @@ impl CalendarItems {
 }
 
 /// The case that a command names, as far as the command asks about it: its number, how many parties,
-/// entries and deadlines it has, the deadline that the command names, and whether the party that is
-/// served with a summons, or whose waiver is filed, has an initial deadline that is not vacated.
+/// entries and deadlines it has (0 where the command doesn't ask), the deadline that the command names,
+/// and whether the party that is served with a summons, or whose waiver is filed, has an initial
+/// deadline that is not vacated.
 #[derive(Drop)]
 pub struct CaseView {
     pub number: u32,
@@ -149,6 +151,13 @@ fn deadline_of(deadlines: Vec<DeadlineView>, action: &Action) -> Option<Deadline
     }
 }
 
+/// A number, where it is asked for, and 0 elsewhere.
+fn if_asked(asked: bool, number: u32) -> u32
+    ensures { result ≡ if_asked asked number }
+{
+    if asked { number } else { 0 }
+}
+
 impl CaseView {
     /// A case with so many parties and entries, and these deadlines, as it is shown about an action.
     pub fn new(
@@ -163,19 +172,19 @@ impl CaseView {
     {
         CaseView {
             number,
-            parties,
-            entries,
-            deadlines: deadlines.len() as u32,
+            parties: if_asked(asks_parties(action), parties),
+            entries: if_asked(asks_entries(action), entries),
+            deadlines: if_asked(asks_deadlines(action), deadlines.len() as u32),
             is_served: is_served_among(deadlines.as_slice(), action),
             named: deadline_of(deadlines, action),
         }
     }
 }
 
-/// What a docket shows about a command: what stands under its key, how many cases there are, whether
-/// the label of its new case is in use, the case that it names, whether the calendar row that it
-/// withdraws stands, what the calendar's rows enter, if the command asks about it, and the number of
-/// the next calendar row.
+/// What a docket shows about a command, which is what the command asks about: what stands under its
+/// key, how many cases there are (0 where it opens none), whether the label of its new case is in use,
+/// the case that it names, whether the calendar row that it withdraws stands, what the calendar's rows
+/// enter (nothing where it doesn't ask), and the number of the next calendar row (0 where it adds none).
 #[derive(Drop)]
 pub struct View {
     pub kept: Kept,
@@ -188,7 +197,7 @@ pub struct View {
 }
 
 impl View {
-    /// How many parties the case has.
+    /// How many parties the case has, if the command asks.
     pub(crate) fn parties(&self) -> u32
         ensures { result ≡ parties_in self.now.case }
     {
@@ -198,7 +207,7 @@ impl View {
         }
     }
 
-    /// How many entries the case has.
+    /// How many entries the case has, if the command asks.
     pub(crate) fn entries(&self) -> u32
         ensures { result ≡ entries_in self.now.case }
     {
@@ -208,7 +217,7 @@ impl View {
         }
     }
 
-    /// How many deadlines the case has.
+    /// How many deadlines the case has, if the command asks.
     pub(crate) fn deadlines(&self) -> u32
         ensures { result ≡ count_deadlines self.now.case }
     {

@@ -1,9 +1,9 @@
 //! What the tables show about a command.
-ghost use Rattle.std.specs.Prelude.{◌≡◌, ◌==◌, ◌&&◌, length, option_copied, IfOk, if◌then◌else◌, []};
+ghost use Rattle.std.specs.Prelude.{◌≡◌, ◌==◌, ◌&&◌, ◌<◌, ◌^◌, length, option_copied, IfOk, if◌then◌else◌, []};
 ghost use Rattle.std.specs.List.{find, list_any};
 ghost use Rattle.std.specs.Option.{option_and_then};
 ghost use Rattle.std.specs.Str.{bytes_eq};
-ghost use Rattle.docket_core.specs.Actions.{case_named, asks_calendar};
+ghost use Rattle.docket_core.specs.Actions.{case_named, asks_calendar, asks_cases, asks_next_row, if_asked};
 ghost use Rattle.docket_core.specs.Histories.{acts_of_deadline, deadlines_of_case, deadlines_from, parties_of_case, entries_of_case, items_of};
 ghost use Rattle.docket_core.specs.Outcomes.{kept, is_label_taken, is_row_standing};
 ghost use Rattle.docket_core.specs.Tables.{case_in, view_in};
@@ -14,7 +14,7 @@ use court_rules::Act;
 use docket_command::{Action, Command, Text};
 use docket_core::{
     ActRow, Acts, CalendarItem, CalendarItems, CalendarRow, CaseRow, CaseView, DeadlineView,
-    EntryRow, Kept, PartyRow, Receipt, View, asks_calendar, case_named,
+    EntryRow, Kept, PartyRow, Receipt, View, asks_calendar, asks_cases, asks_next_row, case_named,
 };
 use std::alloc::{AllocError, Global};
 
@@ -174,6 +174,21 @@ fn case_for(
     }
 }
 
+/// How many cases there are, if the action asks.
+fn cases_for(cases: &[CaseRow], action: &Action) -> u32
+    requires { length cases.now < 2 ^ 32 }
+    ensures { result ≡ if_asked (asks_cases action.now) (length cases.now) }
+{
+    if asks_cases(action) { cases.len() as u32 } else { 0 }
+}
+
+/// The number of the next calendar row, if the action asks.
+fn next_row_for(next_row: u64, action: &Action) -> u64
+    ensures { result ≡ if_asked (asks_next_row action.now) next_row }
+{
+    if asks_next_row(action) { next_row } else { 0 }
+}
+
 /// What the tables show about a command.
 pub(crate) fn view_of(
     alloc: Global,
@@ -186,11 +201,11 @@ pub(crate) fn view_of(
     let action = &command.action;
     Ok(View {
         kept: kept(tables.receipts.as_slice(), command),
-        cases: tables.cases.len() as u32,
+        cases: cases_for(tables.cases.as_slice(), action),
         label_taken: is_label_taken(tables.cases.as_slice(), action),
         case: case_for(alloc, tables, action)?,
         row_stands: is_row_standing(tables.calendar.as_slice(), action),
         calendar: items_for(alloc, tables.calendar.as_slice(), action)?,
-        next_row: tables.next_row,
+        next_row: next_row_for(tables.next_row, action),
     })
 }

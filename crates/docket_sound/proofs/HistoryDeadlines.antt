@@ -22,7 +22,7 @@ use Rattle.docket_command.specs.declared.choice.Ruling.TheVariants.{Denied, Post
 use Rattle.docket_command.specs.declared.command.Action.{Action}
 use Rattle.docket_command.specs.declared.command.Action.TheVariants as action
 use Rattle.docket_command.specs.declared.command.Command.{Command}
-use Rattle.docket_core.specs.Actions.{case_named, deadlines_made, answer_rule, waiver_rule, pleading_rule, timed_or_set, statement_ordered, ordered, party_ordered, court_ordered}
+use Rattle.docket_core.specs.Actions.{case_named, deadlines_made, asks_parties, if_asked, answer_rule, waiver_rule, pleading_rule, timed_or_set, statement_ordered, ordered, party_ordered, court_ordered}
 use Rattle.docket_core.specs.Histories.{History, case_number, case_rows, party_rows, deadline_rows, parties_of_case, deadlines_of_case, new_party, new_deadlines, deadline_rows_from}
 use Rattle.docket_core.specs.InOrder.{in_order, gathered, made_in}
 use Rattle.docket_core.specs.Outcomes.{IsHistory, shown, shown_fresh, case_of_number}
@@ -116,6 +116,12 @@ made_sound v (action.EnterJudgment a) named =
     ((all, refl), ((all, refl), ((all, refl), ((all, refl), ((all, refl), ((all, refl), ((all, refl), tt)))))))
 made_sound v _ named = tt
 
+-- what is sound by no parties, where the action doesn't ask about them, is sound by those that there are
+by_all : (asked : Bool) (parties : ℕ) (ds : List NewDeadline) → AreSoundMade (if_asked asked parties) ds → AreSoundMade parties ds
+by_all asked parties [] all = tt
+by_all true parties ds all = all
+by_all false parties (d ∷ ds) all = let none = all.0.0 in ((grind (arith, nat_tests, none), all.0.1), by_all false parties ds all.1)
+
 -- the row of a deadline is of a case, its party is there, and its values are sound
 record IsSoundAt (cases : ℕ) (parties : ℕ → ℕ) (row : DeadlineRow) : Type 0 where
   of_case : IsOfCase cases (deadline_key row)
@@ -152,7 +158,8 @@ module _ (court : CourtSettings) (h : History) (c : Command) (free : IsFree cour
   new_at = ⊎_elim none_at
       (λ there. ⊎_elim none_at
       (λ found. rows_at (length (case_rows h)) (parties_at h) (case_number c.action) (count + 1) (deadlines_made c.action) there
-      (subst (λ (m : ℕ). AreSoundMade m (deadlines_made c.action)) (ap parties_in found) (made_sound (shown_fresh h c.action) c.action lawful.parties)))
+      (by_all (asks_parties c.action) (parties_at h (case_number c.action)) (deadlines_made c.action)
+      (subst (λ (m : ℕ). AreSoundMade m (deadlines_made c.action)) (ap parties_in found) (made_sound (shown_fresh h c.action) c.action lawful.parties))))
       (seen h c.action free.case))
       (place h c.action (case_named c.action) free.case)
 

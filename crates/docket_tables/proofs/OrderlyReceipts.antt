@@ -15,7 +15,7 @@ use Rattle.docket_command.specs.declared.command.Command.{Command}
 use Rattle.docket_command.specs.declared.refusal.Refusal.{Refusal}
 use Rattle.docket_command.specs.declared.refusal.Refusal.TheVariants as refusal
 use Rattle.docket_command.specs.declared.refusal.Reply.{Reply}
-use Rattle.docket_core.specs.Actions.{case_named, day_row}
+use Rattle.docket_core.specs.Actions.{case_named, asks_deadlines, if_asked, day_row}
 use Rattle.docket_core.specs.Histories.{History, case_rows, party_rows, entry_rows, deadline_rows, act_rows, parties_of_case, entries_of_case, deadlines_of_case, deadlines}
 use Rattle.docket_core.specs.Limits.{IsWithinLimits}
 use Rattle.docket_core.specs.Outcomes.{IsHistory, accepted, answer_kept, answer_by, repeated, refused, case_of_number, kept, kept_by, receipts, reply_to, replied, shown, shown_fresh}
@@ -89,8 +89,12 @@ one_receipt court (c ∷ h) is key =
     (none_under c.key (receipts court h) (none_found _ c fresh)) (one_receipt court h is.1 key)
 
 -- replies are counts
+few_asked : (asked : Bool) (count : ℕ) → count ≤ 1000 → if_asked asked count ≤ 1000
+few_asked true count few = few
+few_asked false count few = omega arith
+
 some_deadlines : (h : History) (a : Action) (k : ℕ) (b : Bool) → length (deadlines_of_case k (deadline_rows h)) ≤ 1000 → count_deadlines (if b then Some (case_numbered h a k) else None) ≤ 1000
-some_deadlines h a k true few = omega (arith, few, length-deadlines_from k 1 (act_rows h) (deadlines_of_case k (deadline_rows h)))
+some_deadlines h a k true few = few_asked (asks_deadlines a) (length (deadlines k h)) (omega (arith, few, length-deadlines_from k 1 (act_rows h) (deadlines_of_case k (deadline_rows h))))
 some_deadlines h a k false few = omega arith
 
 few_deadlines : (h : History) (a : Action) (o : Option ℕ) → ((k : ℕ) → length (deadlines_of_case k (deadline_rows h)) ≤ 1000) → count_deadlines (option_and_then (case_of_number h a) o) ≤ 1000

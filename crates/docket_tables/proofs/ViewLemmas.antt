@@ -5,7 +5,7 @@ use Rattle.court_rules.specs.declared.act.Act.{Act}
 use Rattle.docket_core.specs.Histories.{deadlines_from, acts_of_deadline, parties_of_case, entries_of_case, deadlines_of_case}
 use Rattle.std.specs.Option.{option_and_then, option_map}
 use Rattle.docket_command.specs.declared.command.Command.{Command}
-use Rattle.docket_core.specs.Actions.{case_named}
+use Rattle.docket_core.specs.Actions.{case_named, asks_cases, asks_parties, asks_entries, asks_deadlines, asks_next_row, if_asked}
 use Rattle.docket_core.specs.Outcomes.{kept, is_label_taken, is_row_standing}
 use Rattle.docket_core.specs.declared.item.CalendarItem.{CalendarItem}
 use Rattle.docket_core.specs.declared.view.Kept.{Kept}
@@ -67,12 +67,12 @@ one_deadline t k (suc n) row acts one are =
 pub no_case : (t : Tables) (a : Action) (k : ℕ) → is_case_in t k ≡ false → case_in t a k ≡ None
 no_case t a k out = ap (λ b. if b then Some (case_shown k (length (parties_of_case k t.parties)) (length (entries_of_case k t.entries)) (deadlines_in t k) a) else None) out
 
-pub one_case : (t : Tables) (a : Action) (k parties entries count : ℕ) (named : Option DeadlineView) (served : Bool) → is_case_in t k ≡ true → parties ≡ length (parties_of_case k t.parties) → entries ≡ length (entries_of_case k t.entries)
-    → count ≡ length (deadlines_of_case k t.deadlines) → named ≡ deadline_of (deadlines_in t k) a → served ≡ is_served_among (deadlines_in t k) a
+pub one_case : (t : Tables) (a : Action) (k parties entries count : ℕ) (named : Option DeadlineView) (served : Bool) → is_case_in t k ≡ true → parties ≡ if_asked (asks_parties a) (length (parties_of_case k t.parties)) → entries ≡ if_asked (asks_entries a) (length (entries_of_case k t.entries))
+    → count ≡ if_asked (asks_deadlines a) (length (deadlines_of_case k t.deadlines)) → named ≡ deadline_of (deadlines_in t k) a → served ≡ is_served_among (deadlines_in t k) a
     → case_in t a k ≡ Some (record { number = k; parties = parties; entries = entries; deadlines = count; named = named; is_served = served })
 one_case t a k parties entries count named served among p e d n s =
     ap (λ b. if b then Some (case_shown k (length (parties_of_case k t.parties)) (length (entries_of_case k t.entries)) (deadlines_in t k) a) else None) among
-    ∙ λ i. Some (record { number = k; parties = sym p i; entries = sym e i; deadlines = (length-deadlines_from k 1 t.acts (deadlines_of_case k t.deadlines) ∙ sym d) i; named = sym n i; is_served = sym s i })
+    ∙ λ i. Some (record { number = k; parties = sym p i; entries = sym e i; deadlines = (ap (if_asked (asks_deadlines a)) (length-deadlines_from k 1 t.acts (deadlines_of_case k t.deadlines)) ∙ sym d) i; named = sym n i; is_served = sym s i })
 
 pub none_told : (t : Tables) (k : ℕ) → is_case_in t k ≡ false → case_deadlines t k ≡ None
 none_told t k out = ap (λ b. if b then Some (deadlines_in t k) else None) out
@@ -80,8 +80,8 @@ none_told t k out = ap (λ b. if b then Some (deadlines_in t k) else None) out
 pub deadlines_told : (t : Tables) (k : ℕ) (deadlines : List DeadlineView) → is_case_in t k ≡ true → deadlines ≡ deadlines_in t k → case_deadlines t k ≡ Some deadlines
 deadlines_told t k deadlines among are = ap (λ b. if b then Some (deadlines_in t k) else None) among ∙ ap Some (sym are)
 
-pub whole_view : (t : Tables) (c : Command) (kept_is : Kept) (cases : ℕ) (taken : Bool) (case : Option CaseView) (stands : Bool) (items : List CalendarItem) (next : ℕ) → kept_is ≡ kept t.receipts c → cases ≡ length t.cases
-    → taken ≡ is_label_taken c.action t.cases → case ≡ option_and_then (case_in t c.action) (case_named c.action) → stands ≡ is_row_standing c.action t.calendar → next ≡ t.next_row
+pub whole_view : (t : Tables) (c : Command) (kept_is : Kept) (cases : ℕ) (taken : Bool) (case : Option CaseView) (stands : Bool) (items : List CalendarItem) (next : ℕ) → kept_is ≡ kept t.receipts c → cases ≡ if_asked (asks_cases c.action) (length t.cases)
+    → taken ≡ is_label_taken c.action t.cases → case ≡ option_and_then (case_in t c.action) (case_named c.action) → stands ≡ is_row_standing c.action t.calendar → next ≡ if_asked (asks_next_row c.action) t.next_row
     → record { kept = kept_is; cases = cases; label_taken = taken; case = case; row_stands = stands; calendar = items; next_row = next } ≡ record (view_in t c) { calendar = items }
 whole_view t c kept_is cases taken case stands items next a b d e f k =
     λ i. record { kept = a i; cases = b i; label_taken = d i; case = e i; row_stands = f i; calendar = items; next_row = k i }

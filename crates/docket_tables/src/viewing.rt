@@ -1,10 +1,10 @@
 //! What a docket's tables show about a command.
-ghost use Rattle.std.specs.Prelude.{◌≡◌, ◌≤◌, ℕ, List, map, false, ◌&&◌, nat_le, IfOk};
+ghost use Rattle.std.specs.Prelude.{◌≡◌, ◌≤◌, ℕ, List, map, length, false, ◌&&◌, nat_le, IfOk};
 ghost use Rattle.std.specs.Option.{option_and_then, option_map};
 ghost use Rattle.sqlite.specs.Held.{state};
 ghost use Rattle.sqlite.specs.View.{doubt};
-ghost use Rattle.docket_core.specs.Actions.{case_named};
-ghost use Rattle.docket_core.specs.Histories.{deadlines_of_case, deadlines_from, items_of};
+ghost use Rattle.docket_core.specs.Actions.{case_named, asks_cases, asks_parties, asks_entries, asks_deadlines, asks_next_row, if_asked};
+ghost use Rattle.docket_core.specs.Histories.{parties_of_case, entries_of_case, deadlines_of_case, deadlines_from, items_of};
 ghost use Rattle.docket_core.specs.Outcomes.{is_label_taken, is_row_standing};
 ghost use Rattle.docket_core.specs.Tables.{case_in, case_deadlines, deadlines_in, view_in};
 ghost use Rattle.docket_core.specs.Views.{deadline_at, deadline_of, is_served_among};
@@ -23,11 +23,44 @@ use crate::rows::{acts_among, count_up_to};
 use docket_command::{Action, Command};
 use docket_core::{
     ActRow, Acts, CalendarItem, CalendarItems, CalendarRow, CaseView, DeadlineRow, DeadlineView,
-    View, case_named, deadline_named, is_served_among,
+    View, asks_cases, asks_deadlines, asks_entries, asks_next_row, asks_parties, case_named,
+    deadline_named, is_served_among,
 };
 use sqlite::{Alter, Connection};
 use std::alloc::{AllocError, Global};
 
+/// How many cases there are, if the action asks.
+fn cases_if_asked<S: Alter>(
+    conn: &mut Connection<S>,
+    action: &Action,
+) -> Result<u32, ReadFault>
+    ensures read { Reads S.Store conn.old conn.new result (λ _ t found. found ≡ if_asked (asks_cases action.now) (length t.cases)) }
+    ensures clean { doubt (state S.Store conn.old).is_clean ≤ doubt (state S.Store conn.new).is_clean }
+    ensures mode { conn.old.in_transaction ≡ false → conn.new.in_transaction ≡ false }
+{
+    if !asks_cases(action) {
+        return Ok(0);
+    }
+    cases(conn)
+}
+
+/// The number of the next calendar row, if the action asks.
+fn next_row_if_asked<S: Alter>(
+    conn: &mut Connection<S>,
+    alloc: Global,
+    action: &Action,
+) -> Result<u64, ReadFault>
+    ensures read { Reads S.Store conn.old conn.new result (λ _ t found. found ≡ if_asked (asks_next_row action.now) t.next_row) }
+    ensures clean { doubt (state S.Store conn.old).is_clean ≤ doubt (state S.Store conn.new).is_clean }
+    ensures mode { conn.old.in_transaction ≡ false → conn.new.in_transaction ≡ false }
+{
+    if !asks_next_row(action) {
+        return Ok(0);
+    }
+    Ok(court(conn, alloc)?.next_row)
+}
+
+/// Whether the label of the case that the action opens is in use.
 fn is_asked_label_taken<S: Alter>(
     conn: &mut Connection<S>,
     action: &Action,
@@ -165,6 +198,54 @@ fn deadline_asked<S: Alter>(
     }
 }
 
+/// How many parties a case has, if the action asks.
+fn parties_if_asked<S: Alter>(
+    conn: &mut Connection<S>,
+    case: u32,
+    action: &Action,
+) -> Result<u32, ReadFault>
+    ensures read { Reads S.Store conn.old conn.new result (λ _ t found. found ≡ if_asked (asks_parties action.now) (length (parties_of_case case t.parties))) }
+    ensures clean { doubt (state S.Store conn.old).is_clean ≤ doubt (state S.Store conn.new).is_clean }
+    ensures mode { conn.old.in_transaction ≡ false → conn.new.in_transaction ≡ false }
+{
+    if !asks_parties(action) {
+        return Ok(0);
+    }
+    count_parties(conn, case)
+}
+
+/// How many entries a case has, if the action asks.
+fn entries_if_asked<S: Alter>(
+    conn: &mut Connection<S>,
+    case: u32,
+    action: &Action,
+) -> Result<u32, ReadFault>
+    ensures read { Reads S.Store conn.old conn.new result (λ _ t found. found ≡ if_asked (asks_entries action.now) (length (entries_of_case case t.entries))) }
+    ensures clean { doubt (state S.Store conn.old).is_clean ≤ doubt (state S.Store conn.new).is_clean }
+    ensures mode { conn.old.in_transaction ≡ false → conn.new.in_transaction ≡ false }
+{
+    if !asks_entries(action) {
+        return Ok(0);
+    }
+    count_entries(conn, case)
+}
+
+/// How many deadlines a case has, if the action asks.
+fn deadlines_if_asked<S: Alter>(
+    conn: &mut Connection<S>,
+    case: u32,
+    action: &Action,
+) -> Result<u32, ReadFault>
+    ensures read { Reads S.Store conn.old conn.new result (λ _ t found. found ≡ if_asked (asks_deadlines action.now) (length (deadlines_of_case case t.deadlines))) }
+    ensures clean { doubt (state S.Store conn.old).is_clean ≤ doubt (state S.Store conn.new).is_clean }
+    ensures mode { conn.old.in_transaction ≡ false → conn.new.in_transaction ≡ false }
+{
+    if !asks_deadlines(action) {
+        return Ok(0);
+    }
+    count_deadlines(conn, case)
+}
+
 /// Whether the party that an action serves with a summons, or whose waiver it files, has an initial
 /// deadline that is not vacated. No other action has a deadline looked at.
 fn is_served<S: Alter>(
@@ -200,9 +281,9 @@ fn case_view<S: Alter>(
     if !is_among(number, count) {
         return Ok(None);
     }
-    let parties = count_parties(conn, number)?;
-    let entries = count_entries(conn, number)?;
-    let deadlines = count_deadlines(conn, number)?;
+    let parties = parties_if_asked(conn, number, action)?;
+    let entries = entries_if_asked(conn, number, action)?;
+    let deadlines = deadlines_if_asked(conn, number, action)?;
     let named = deadline_asked(conn, alloc, number, action)?;
     let is_served = is_served(conn, alloc, number, action)?;
     Ok(Some(CaseView {
@@ -264,11 +345,11 @@ pub fn view<S: Alter>(
 {
     let action = &command.action;
     let kept = kept(conn, command, body)?;
-    let cases = cases(conn)?;
+    let cases = cases_if_asked(conn, action)?;
     let label_taken = is_asked_label_taken(conn, action)?;
     let case = case_asked(conn, alloc, action)?;
     let row_stands = is_asked_row_standing(conn, action)?;
-    let court = court(conn, alloc)?;
+    let next_row = next_row_if_asked(conn, alloc, action)?;
     Ok(View {
         kept,
         cases,
@@ -276,6 +357,6 @@ pub fn view<S: Alter>(
         case,
         row_stands,
         calendar,
-        next_row: court.next_row,
+        next_row,
     })
 }

@@ -24,20 +24,20 @@ returns-then-not-is_among-clause-read g c court t orderly holds =
 pub returns-in_err-parties-clause-read : goal.returns-in_err-parties-clause-read
 returns-in_err-parties-clause-read g c court t orderly holds =
     let read0 = c.in_ok-count.ensures.read court t orderly holds in
-    err_given g.S.Store c.count_parties.new.conn (rows_in court t) _ c.in_err-parties.field-0.0 c.from_residual-in_err-parties.result c.from_residual-in_err-parties.ensures.1 (c.in_err-parties.ensures.read court t orderly read0.0)
+    err_given g.S.Store c.parties_if_asked.new.conn (rows_in court t) _ c.in_err-parties.field-0.0 c.from_residual-in_err-parties.result c.from_residual-in_err-parties.ensures.1 (c.in_err-parties.ensures.read court t orderly read0.0)
 
 pub returns-in_err-entries-clause-read : goal.returns-in_err-entries-clause-read
 returns-in_err-entries-clause-read g c court t orderly holds =
     let read0 = c.in_ok-count.ensures.read court t orderly holds in
     let read1 = c.in_ok-parties.ensures.read court t orderly read0.0 in
-    err_given g.S.Store c.count_entries.new.conn (rows_in court t) _ c.in_err-entries.field-0.0 c.from_residual-in_err-entries.result c.from_residual-in_err-entries.ensures.1 (c.in_err-entries.ensures.read court t orderly read1.0)
+    err_given g.S.Store c.entries_if_asked.new.conn (rows_in court t) _ c.in_err-entries.field-0.0 c.from_residual-in_err-entries.result c.from_residual-in_err-entries.ensures.1 (c.in_err-entries.ensures.read court t orderly read1.0)
 
 pub returns-in_err-deadlines-clause-read : goal.returns-in_err-deadlines-clause-read
 returns-in_err-deadlines-clause-read g c court t orderly holds =
     let read0 = c.in_ok-count.ensures.read court t orderly holds in
     let read1 = c.in_ok-parties.ensures.read court t orderly read0.0 in
     let read2 = c.in_ok-entries.ensures.read court t orderly read1.0 in
-    err_given g.S.Store c.count_deadlines.new.conn (rows_in court t) _ c.in_err-deadlines.field-0.0 c.from_residual-in_err-deadlines.result c.from_residual-in_err-deadlines.ensures.1 (c.in_err-deadlines.ensures.read court t orderly read2.0)
+    err_given g.S.Store c.deadlines_if_asked.new.conn (rows_in court t) _ c.in_err-deadlines.field-0.0 c.from_residual-in_err-deadlines.result c.from_residual-in_err-deadlines.ensures.1 (c.in_err-deadlines.ensures.read court t orderly read2.0)
 
 pub returns-in_err-named-clause-read : goal.returns-in_err-named-clause-read
 returns-in_err-named-clause-read g c court t orderly holds =
@@ -68,10 +68,10 @@ returns-clause-read g c court t orderly holds =
       read5.0,
       λ clean5.
           let clean4 : HasCleanDisk (state g.S.Store c.deadline_asked.new.conn) = omega (arith, c.is_served.ensures.clean) in
-          let clean3 : HasCleanDisk (state g.S.Store c.count_deadlines.new.conn) = omega (arith, c.deadline_asked.ensures.clean) in
-          let clean2 : HasCleanDisk (state g.S.Store c.count_entries.new.conn) = omega (arith, c.count_deadlines.ensures.clean) in
-          let clean1 : HasCleanDisk (state g.S.Store c.count_parties.new.conn) = omega (arith, c.count_entries.ensures.clean) in
-          let clean0 : HasCleanDisk (state g.S.Store c.cases.new.conn) = omega (arith, c.count_parties.ensures.clean) in
+          let clean3 : HasCleanDisk (state g.S.Store c.deadlines_if_asked.new.conn) = omega (arith, c.deadline_asked.ensures.clean) in
+          let clean2 : HasCleanDisk (state g.S.Store c.entries_if_asked.new.conn) = omega (arith, c.deadlines_if_asked.ensures.clean) in
+          let clean1 : HasCleanDisk (state g.S.Store c.parties_if_asked.new.conn) = omega (arith, c.entries_if_asked.ensures.clean) in
+          let clean0 : HasCleanDisk (state g.S.Store c.cases.new.conn) = omega (arith, c.parties_if_asked.ensures.clean) in
           let among : is_case_in t k ≡ true =
           ap (λ n. nat_le 1 k && nat_le k n) (sym (read0.1 clean0)) ∙ sym c.is_among.ensures ∙ c.if-not-is_among.false in
           sym (one_case t c.args.action.now k _ _ _ _ _ among (read1.1 clean1) (read2.1 clean2) (read3.1 clean3) (read4.1 clean4) (read5.1 clean5)),
