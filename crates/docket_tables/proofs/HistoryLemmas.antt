@@ -29,8 +29,9 @@ use Rattle.docket_core.proofs.Leading.{seen, none_made, none_acted_in}
 use Rattle.docket_core.proofs.LimitsKept.{passed}
 use Rattle.docket_wire.specs.Valid.{IsCommand}
 use Rattle.docket_tables.specs.Orderly.{IsCourtSettings, IsOrderly}
-use Rattle.docket_tables.specs.Settling.{IsSettling, changes_calendar, case_moved}
+use Rattle.docket_tables.specs.Settling.{IsSettling, ends_in_case, changes_calendar, case_moved}
 use Rattle.docket_tables.proofs.OrderlyLemmas.{orderly}
+use Rattle.docket_tables.proofs.RunningLemmas.{none_by_another}
 use Rattle.docket_tables.proofs.WholeLemmas.{ends_of_all}
 
 quiet : (a : Action) → changes_calendar a ≡ false → (row_withdrawn a ≡ None) × (rows_asked a ≡ [])
@@ -139,6 +140,19 @@ moves_none a e = at (case_moved a) refl
     at None is = is
     at (Some k) is = absurd (let no = sym (named_quiet a k is) ∙ e in cc)
 
+-- an action that makes nothing leaves the rows of deadlines and of acts as they are
+
+deadlines_stay : (h : History) (c : Command) → MakesNothing c.action → deadline_rows (c ∷ h) ≡ deadline_rows h
+deadlines_stay h c makes =
+    let k = case_number c.action in
+    ap (λ made. deadline_rows h ++ deadline_rows_from k (length (deadlines_of_case k (deadline_rows h)) + 1) made) makes.0 ∙ append-nil _
+
+acts_stay : (h : History) (c : Command) → MakesNothing c.action → act_rows (c ∷ h) ≡ act_rows h
+acts_stay h c makes =
+    let k = case_number c.action in
+    ap₂ (λ made news. act_rows h ++ (first_acts_from k (length (deadlines_of_case k (deadline_rows h)) + 1) made
+    ++ act_rows_on k (deadline_number c.action) (length (acts_of_deadline k (deadline_number c.action) (act_rows h)) + 1) news)) makes.0 makes.1 ∙ append-nil _
+
 -- a command that changes the calendar moves the ends of the cases that there are
 pub settling : (court : CourtSettings) (h : History) (c : Command) → IsCourtSettings court → IsHistory court (c ∷ h) → AllByRecursion IsCommand (c ∷ h)
     → changes_calendar c.action ≡ true → IsSettling court (length (case_rows h)) (rows_of court h) (rows_of court (c ∷ h))
@@ -147,13 +161,20 @@ settling court h c settings is all changes = record {
   next_orderly = then;
   untouched = λ j out.
       let none = no_deadlines court h is.1 j out in
-      let off : IsElsewhere j c.action = inl (makes_nothing c.action (moves_none c.action changes)) in
+      let off : IsElsewhere j c.action = inl nothing in
       ends_of_all court t j now
       ∙ ap (λ ds. end_rows_from j 1 (ends_running (zone_of court) (calendar_in t) (deadlines_from j 1 (act_rows h) ds))) none
       ∙ sym (ap (λ ds. end_rows_from j 1 (ends_running (zone_of court) (calendar_in next) (deadlines_from j 1 (act_rows (c ∷ h)) ds))) (deadlines_kept h c j off ∙ none))
       ∙ sym (ends_of_all court next j then);
+  none_begins = λ k none entered.
+      let before : ends_in_case court (calendar_in t) t k ≡ [] = sym (ends_of_all court t k now) ∙ none in
+      ap₂ (λ acts ds. end_rows_from k 1 (ends_running (zone_of court) entered (deadlines_from k 1 acts (deadlines_of_case k ds)))) (acts_stay h c nothing) (deadlines_stay h c nothing)
+      ∙ none_by_another (zone_of court) (calendar_in t) entered k 1 (deadlines_from k 1 (act_rows h) (deadlines_of_case k (deadline_rows h))) before;
 }
   where
+    nothing : MakesNothing c.action
+    nothing = makes_nothing c.action (moves_none c.action changes)
+
     t : Tables
     t = rows_of court h
 
@@ -171,12 +192,8 @@ pub ends_kept : (court : CourtSettings) (h : History) (c : Command) → case_mov
 unfolding end_rows
 ends_kept court h c none calm =
     let makes = makes_nothing c.action none in
-    let k = case_number c.action in
-    let deadlines : deadline_rows (c ∷ h) ≡ deadline_rows h =
-    ap (λ made. deadline_rows h ++ deadline_rows_from k (length (deadlines_of_case k (deadline_rows h)) + 1) made) makes.0 ∙ append-nil _ in
-    let acts : act_rows (c ∷ h) ≡ act_rows h =
-    ap₂ (λ made news. act_rows h ++ (first_acts_from k (length (deadlines_of_case k (deadline_rows h)) + 1) made
-    ++ act_rows_on k (deadline_number c.action) (length (acts_of_deadline k (deadline_number c.action) (act_rows h)) + 1) news)) makes.0 makes.1 ∙ append-nil _ in
+    let deadlines = deadlines_stay h c makes in
+    let acts = acts_stay h c makes in
     sym (λ i. flat_map (row_of_deadline (zone_of court) (calendar_of (calendar_kept h c calm i)) (acts i)) (deadlines i))
 
 -- a command on a case leaves the calendar as it is

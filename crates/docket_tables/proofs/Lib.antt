@@ -29,6 +29,7 @@ pub mod ReadLemmas
 pub mod ReopenLemmas
 mod RowLemmas
 mod RowidLemmas
+mod RunningLemmas
 pub mod SelectLemmas
 mod SettlingLemmas
 mod SoundLemmas

@@ -21,7 +21,7 @@ use Rattle.docket_core.specs.Tables.{Tables}
 use Rattle.docket_core.specs.declared.end_row.EndRow.{EndRow}
 use Rattle.docket_core.specs.declared.end_row.EndTime.{EndTime}
 use Rattle.docket_tables.specs.Contents.{ends_of}
-use Rattle.docket_tables.specs.Settling.{ends_in_case, settled_case, settled_cases, AreStored}
+use Rattle.docket_tables.specs.Settling.{ends_in_case, settled_case, settled_cases, AreStored, RunsOnlyWhereStored}
 use Rattle.docket_tables.proofs.CaseActs.{passing_both}
 
 abbrev pub others_of : ℕ → List EndRow → List EndRow
@@ -86,6 +86,13 @@ module _ (court : CourtSettings) (entered : Entered) (t : Tables) where
         fit = subst (λ rows. AllByRecursion Rattle.docket_columns.specs.Fits.IsEndRow rows) (sym same) (are (n + 1)).fit;
         rows = subst (λ rows. Rattle.docket_core.specs.EndRows.AreRowsFrom (n + 1) 1 rows) (sym same) (are (n + 1)).rows;
       }
+
+  pub still_runs_only : (n : ℕ) (ends : List EndRow) → ((k : ℕ) → RunsOnlyWhereStored court t ends k) → RunsOnlyWhereStored court t (settled_cases court entered t n ends) (n + 1)
+  still_runs_only n ends only none = only (n + 1) (sym (settled_before (n + 1) n ends (omega arith)) ∙ none)
+
+  -- a case without a stored end stands as it is
+  pub settled_bare : (k : ℕ) (ends : List EndRow) → RunsOnlyWhereStored court t ends k → ends_of k ends ≡ [] → IsPermutation ends (settled_case court entered t k ends)
+  settled_bare k ends only none = subst (λ own. IsPermutation ends (others_of k ends ++ own)) (none ∙ sym (only none entered)) (parted k ends)
 
 -- the changes of the ends of case k, in a database that has those of all cases
 module _ (court : CourtSettings) (entered : Entered) (t : Tables) (k : ℕ) (ends : List EndRow) (are : AreStored k ends) (read new : State) (result : Result (Unit {0}) ReadFault) (changes : List EndChange) (stored : List EndRow) (deadlines : List DeadlineView)

@@ -216,7 +216,7 @@ settled_all court t next n orderly untouched = same_by_case _ _ each
 
 pub may_update : (court : CourtSettings) (update : EndUpdate) (t next : Tables) → IsUpdate court update t next → MayUpdate court update next (end_rows court t)
 may_update court (Moves moves) t next is = tt
-may_update court (Calendar cases) t next is = (is.next_orderly, all_stored court t is.orderly)
+may_update court (Calendar cases) t next is = (is.next_orderly, all_stored court t is.orderly, is.none_begins)
 
 pub updated : (court : CourtSettings) (update : EndUpdate) (t next : Tables) → IsUpdate court update t next → IsPermutation (updated_ends court update next (end_rows court t)) (end_rows court next)
 updated court (Moves moves) t next is = is

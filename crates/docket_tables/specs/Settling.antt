@@ -1,5 +1,5 @@
 -- The ends of cases brought up to date, and what a command does about the stored ends.
-use Rattle.std.specs.Prelude.{◌≡◌, ◌<◌, ◌⊎◌, ℕ, zero, suc, Bool, true, false, Option, None, ◌+◌, ◌==◌, not, List, ◌++◌, filter, IsPermutation}
+use Rattle.std.specs.Prelude.{◌≡◌, ◌<◌, ◌⊎◌, ℕ, zero, suc, Bool, true, false, Option, None, ◌+◌, ◌==◌, not, List, [], ◌++◌, filter, IsPermutation}
 use Rattle.std.specs.List.{AllByRecursion}
 use Rattle.court_days.specs.Calendar.{Entered}
 use Rattle.court_days.specs.Court.{CourtSettings, zone_of}
@@ -35,15 +35,21 @@ pub record AreStored (k : ℕ) (ends : List EndRow) : Type 0 where
   pub fit : AllByRecursion IsEndRow (ends_of k ends)
   pub rows : AreRowsFrom k 1 (ends_of k ends)
 
+-- where no end of case k is stored, no time of it runs, by any calendar
+abbrev pub RunsOnlyWhereStored : CourtSettings → Tables → List EndRow → ℕ → Type 0
+RunsOnlyWhereStored court t ends k = ends_of k ends ≡ [] → (entered : Entered) → ends_in_case court entered t k ≡ []
+
 -- the ends of cases past the first n are what they were; there is no case 0
 abbrev pub AreUntouched : CourtSettings → ℕ → Tables → Tables → Type 0
 AreUntouched court n t next = (j : ℕ) → (j < 1) ⊎ (n < j) → ends_of j (end_rows court t) ≡ ends_of j (end_rows court next)
 
--- what is asked of a write that leads from tables to the next ones, where the ends that may move are those of the first n cases
+-- what is asked of a write that leads from tables to the next ones, where the ends that may move are those of the first n cases,
+-- and no time begins to run in a case where none ran
 pub record IsSettling (court : CourtSettings) (n : ℕ) (t next : Tables) : Type 0 where
   pub orderly : IsOrderly court t
   pub next_orderly : IsOrderly court next
   pub untouched : AreUntouched court n t next
+  pub none_begins : (k : ℕ) → RunsOnlyWhereStored court next (end_rows court t) k
 
 -- what is done about the stored ends is right for a write that leads from tables to the next ones
 abbrev pub IsUpdate : CourtSettings → EndUpdate → Tables → Tables → Type 0
@@ -58,7 +64,7 @@ updated_ends court (Calendar cases) t ends = settled_cases court (calendar_in t)
 -- what it asks of the tables, and of the ends that are stored
 abbrev pub MayUpdate : CourtSettings → EndUpdate → Tables → List EndRow → Type 0
 MayUpdate court (Moves moves) t ends = Unit {0}
-MayUpdate court (Calendar cases) t ends = IsOrderly court t × ((k : ℕ) → AreStored k ends)
+MayUpdate court (Calendar cases) t ends = IsOrderly court t × ((k : ℕ) → AreStored k ends) × ((k : ℕ) → RunsOnlyWhereStored court t ends k)
 
 -- the action changes the calendar
 abbrev pub changes_calendar : Action → Bool

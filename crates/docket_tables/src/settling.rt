@@ -15,7 +15,7 @@ ghost use Rattle.docket_core.specs.declared.end_row.EndRow.{EndRow as Ended};
 ghost use Rattle.docket_tables.specs.Contents.{rows_with, ends_of};
 ghost use Rattle.docket_tables.specs.Orderly.{IsOrderly};
 ghost use Rattle.docket_tables.specs.Readings.{AreActsOf};
-ghost use Rattle.docket_tables.specs.Settling.{AreStored, MayUpdate, settled_case, settled_cases, updated_ends};
+ghost use Rattle.docket_tables.specs.Settling.{AreStored, RunsOnlyWhereStored, MayUpdate, settled_case, settled_cases, updated_ends};
 ghost use Rattle.docket_tables.specs.Stands.{Inside};
 
 use crate::fault::ReadFault;
@@ -144,7 +144,8 @@ fn changes_of_case(
     Ok(due_changes(alloc, court, calendar, case, deadlines, stored)?)
 }
 
-/// Brings the ends of a case up to date.
+/// Brings the ends of a case up to date. Where none is stored no time of it runs, and nothing else is
+/// asked.
 fn settle_case<S: Alter>(
     tx: &mut Transaction<'_, S>,
     alloc: Global,
@@ -154,11 +155,14 @@ fn settle_case<S: Alter>(
 ) -> Result<(), ReadFault>
     ensures same_reference { tx.new.conn.ghost_name ≡ tx.old.conn.ghost_name }
     ensures clean { doubt (state S.Store tx.old.conn.now).is_clean ≤ doubt (state S.Store tx.new.conn.now).is_clean }
-    ensures inside { (t : Tables) (ends : List Ended) → IsOrderly court.now t → AreStored case ends
+    ensures inside { (t : Tables) (ends : List Ended) → IsOrderly court.now t → AreStored case ends → RunsOnlyWhereStored court.now t ends case
         → Inside (state S.Store tx.old.conn.now) (state S.Store tx.new.conn.now) (rows_with court.now t ends) (rows_with court.now t (settled_case court.now calendar.now t case ends)) result (λ _. Unit {0}) }
 {
-    let deadlines = views_of_case(tx, alloc, case)?;
     let stored = ends_of_case(tx, alloc, case)?;
+    if stored.is_empty() {
+        return Ok(());
+    }
+    let deadlines = views_of_case(tx, alloc, case)?;
     let changes = changes_of_case(
         alloc,
         court,
@@ -180,7 +184,7 @@ fn settle_cases<S: Alter>(
 ) -> Result<(), ReadFault>
     ensures same_reference { tx.new.conn.ghost_name ≡ tx.old.conn.ghost_name }
     ensures clean { doubt (state S.Store tx.old.conn.now).is_clean ≤ doubt (state S.Store tx.new.conn.now).is_clean }
-    ensures inside { (t : Tables) (ends : List Ended) → IsOrderly court.now t → ((k : ℕ) → AreStored k ends)
+    ensures inside { (t : Tables) (ends : List Ended) → IsOrderly court.now t → ((k : ℕ) → AreStored k ends) → ((k : ℕ) → RunsOnlyWhereStored court.now t ends k)
         → Inside (state S.Store tx.old.conn.now) (state S.Store tx.new.conn.now) (rows_with court.now t ends) (rows_with court.now t (settled_cases court.now calendar.now t cases ends)) result (λ _. Unit {0}) }
 {
     'cases: for done in 0..cases {
@@ -225,7 +229,7 @@ fn settle_by_rows<S: Alter>(
 ) -> Result<(), ReadFault>
     ensures same_reference { tx.new.conn.ghost_name ≡ tx.old.conn.ghost_name }
     ensures clean { doubt (state S.Store tx.old.conn.now).is_clean ≤ doubt (state S.Store tx.new.conn.now).is_clean }
-    ensures inside { (t : Tables) (ends : List Ended) → IsOrderly court.now t → ((k : ℕ) → AreStored k ends)
+    ensures inside { (t : Tables) (ends : List Ended) → IsOrderly court.now t → ((k : ℕ) → AreStored k ends) → ((k : ℕ) → RunsOnlyWhereStored court.now t ends k)
         → Inside (state S.Store tx.old.conn.now) (state S.Store tx.new.conn.now) (rows_with court.now t ends) (rows_with court.now t (settled_cases court.now (calendar_in t) t cases ends)) result (λ _. Unit {0}) }
 {
     let calendar = calendar_standing(tx, alloc, court)?;

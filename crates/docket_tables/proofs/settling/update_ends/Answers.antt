@@ -21,4 +21,4 @@ returns-in-Calendar-clause-inside g c t ends may =
     let new = state g.S.Store c.settle_by_rows.new.tx.conn.now in
     let asked = subst (λ u. MayUpdate court u t ends) c.in-Calendar.is may in
     subst (λ u. Inside old new (rows_with court t ends) (rows_with court t (updated_ends court u t ends)) c.settle_by_rows.result (λ _. Unit {0})) (sym c.in-Calendar.is)
-    (c.settle_by_rows.ensures.inside t ends asked.0 asked.1)
+    (c.settle_by_rows.ensures.inside t ends asked.0 asked.1 asked.2)
