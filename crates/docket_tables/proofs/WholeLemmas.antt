@@ -94,7 +94,7 @@ all_fit court entered acts [] fits = tt
 all_fit court entered acts (d ∷ ds) fits = all_append IsEndRow _ _ (row_fits d _ fits.0) (all_fit court entered acts ds fits.1)
 
 -- the ends of an orderly docket are stored so that a question shows those of a case
-all_stored : (court : CourtSettings) (t : Tables) → IsOrderly court t → (k : ℕ) → AreStored k (end_rows court t)
+pub all_stored : (court : CourtSettings) (t : Tables) → IsOrderly court t → (k : ℕ) → AreStored k (end_rows court t)
 unfolding end_rows
 all_stored court t orderly k = record {
   fit = all-filter _ _ (end_rows court t) (all_fit court (calendar_in t) t.acts t.deadlines orderly.deadlines);

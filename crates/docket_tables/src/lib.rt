@@ -33,8 +33,8 @@ pub use probe::fault_of;
 pub use query::Query;
 pub use reading::{
     acts_of_case, acts_of_deadline, calendar, case, cases, count_deadlines, count_entries,
-    count_parties, court, deadline, deadlines, entries, is_label_taken, is_row_standing, kept,
-    parties, version,
+    count_parties, court, deadline, deadlines, ends_of_case, entries, is_label_taken,
+    is_row_standing, kept, parties, version,
 };
 pub use recognition::{has_court, has_court_columns, has_docket_table, is_bare};
 pub use sound::{is_sound, is_sound_case};

@@ -4,11 +4,13 @@ ghost use Rattle.std.specs.List.{list_any};
 ghost use Rattle.std.specs.Str.{bytes_eq};
 ghost use Rattle.sqlite.specs.Held.{state};
 ghost use Rattle.sqlite.specs.View.{doubt};
+ghost use Rattle.docket_core.specs.EndRows.{end_rows};
 ghost use Rattle.docket_core.specs.Histories.{parties_of_case, entries_of_case, deadlines_of_case, acts_of_deadline};
 ghost use Rattle.docket_core.specs.Outcomes.{kept};
 ghost use Rattle.docket_core.specs.Records.{case_at};
 ghost use Rattle.docket_wire.specs.Valid.{IsCommand};
 ghost use Rattle.docket_wire.specs.Writing.{canonical};
+ghost use Rattle.docket_tables.specs.Contents.{ends_of};
 ghost use Rattle.docket_tables.specs.Layouts.{Rows};
 ghost use Rattle.docket_tables.specs.Readings.{AreActsOf, Gives, Reads, row_at};
 ghost use Rattle.docket_tables.specs.Recognition.{TellsVersion};
@@ -18,14 +20,14 @@ ghost use Rattle.docket_tables.specs.declared.table.Table.TheVariants as table;
 use crate::fault::ReadFault;
 use crate::query::Query;
 use crate::rows::{
-    acts_alone_in, acts_in, calendar_in, case_in, court_in, deadline_in, deadlines_in, entries_in,
-    kept_in, number_in, parties_in, version_in,
+    acts_alone_in, acts_in, calendar_in, case_in, court_in, deadline_in, deadlines_in, ends_in,
+    entries_in, kept_in, number_in, parties_in, version_in,
 };
 use crate::store::ask;
 use court_rules::Act;
 use docket_columns::CourtRow;
 use docket_command::Command;
-use docket_core::{ActRow, CalendarRow, CaseRow, DeadlineRow, EntryRow, Kept, PartyRow};
+use docket_core::{ActRow, CalendarRow, CaseRow, DeadlineRow, EndRow, EntryRow, Kept, PartyRow};
 use sqlite::types::ToSql;
 use sqlite::{Alter, Connection};
 use std::alloc::Global;
@@ -226,6 +228,20 @@ pub fn acts_of_case<S: Alter>(
 {
     let rows = ask(conn, Query::Acts, &[case.to_sql()])?;
     acts_in(alloc, rows.as_slice())
+}
+
+/// The ends of the deadlines of a case whose time runs, in the order of the deadlines.
+pub fn ends_of_case<S: Alter>(
+    conn: &mut Connection<S>,
+    alloc: Global,
+    case: u32,
+) -> Result<Vec<EndRow>, ReadFault>
+    ensures read { Reads S.Store conn.old conn.new result (λ court t found. found.items ≡ ends_of case (end_rows court t)) }
+    ensures clean { doubt (state S.Store conn.old).is_clean ≤ doubt (state S.Store conn.new).is_clean }
+    ensures mode { conn.old.in_transaction ≡ false → conn.new.in_transaction ≡ false }
+{
+    let rows = ask(conn, Query::Ends, &[case.to_sql()])?;
+    ends_in(alloc, rows.as_slice())
 }
 
 /// What stands under a command's key. `body` is the canonical text of the command.

@@ -1,0 +1,18 @@
+use Rattle.std.proofs.Common.{◌∙◌}
+use Rattle.docket_core.specs.EndRows.{end_rows}
+use Rattle.docket_tables.specs.Contents.{rows_in, ends_of}
+use Rattle.docket_tables.proofs.EndLemmas.{ends_shown}
+use Rattle.docket_tables.proofs.ReadLemmas.{gives}
+use Rattle.docket_tables.proofs.WholeLemmas.{all_stored}
+use Rattle.docket_tables.proofs.reading.ends_of_case.Goals as goal
+
+pub returns-clause-read : goal.returns-clause-read
+returns-clause-read g c court t orderly holds =
+    let asked = c.in_ok-rows.ensures.ok (rows_in court t) holds in
+    let rows = c.in_ok-rows.rows.items in
+    let k = c.args.case in
+    let ends = end_rows court t in
+    let are = all_stored court t orderly k in
+    gives g.S.Store c.ask.new.conn (rows_in court t) _ c.ends_in.result asked.0 (λ clean.
+    let answer = rw c.to_sql.ensures at (asked.1 clean) in
+    c.ends_in.ensures (ends_of k ends) are.fit (c.as_slice.ensures.value ∙ ends_shown k ends rows are.rows answer))
