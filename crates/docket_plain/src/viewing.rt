@@ -179,7 +179,11 @@ fn cases_for(cases: &[CaseRow], action: &Action) -> u32
     requires { length cases.now < 2 ^ 32 }
     ensures { result ≡ if_asked (asks_cases action.now) (length cases.now) }
 {
-    if asks_cases(action) { cases.len() as u32 } else { 0 }
+    if asks_cases(action) {
+        cases.len() as u32
+    } else {
+        0
+    }
 }
 
 /// The number of the next calendar row, if the action asks.

@@ -30,10 +30,7 @@ use sqlite::{Alter, Connection};
 use std::alloc::{AllocError, Global};
 
 /// How many cases there are, if the action asks.
-fn cases_if_asked<S: Alter>(
-    conn: &mut Connection<S>,
-    action: &Action,
-) -> Result<u32, ReadFault>
+fn cases_if_asked<S: Alter>(conn: &mut Connection<S>, action: &Action) -> Result<u32, ReadFault>
     ensures read { Reads S.Store conn.old conn.new result (λ _ t found. found ≡ if_asked (asks_cases action.now) (length t.cases)) }
     ensures clean { doubt (state S.Store conn.old).is_clean ≤ doubt (state S.Store conn.new).is_clean }
     ensures mode { conn.old.in_transaction ≡ false → conn.new.in_transaction ≡ false }
