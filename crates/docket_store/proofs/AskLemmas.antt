@@ -1,17 +1,21 @@
 -- From what the tables' questions give to what a question to a docket gives.
-use Rattle.std.proofs.Common.{◌≡◌, ◌&&◌, ℕ, Bool, true, false, List, [], Option, Some, None, length, nat_le, unwrap_or, if◌then◌else◌, Result, Ok, Err, IsErrAnd, refl, sym, ap, subst, arith}
+use Rattle.std.proofs.Common.{◌≡◌, ◌∙◌, ◌&&◌, ℕ, Bool, true, false, List, [], Option, Some, None, length, nat_le, unwrap_or, if◌then◌else◌, Result, Ok, Err, IsErrAnd, refl, sym, ap, subst, arith}
 use Rattle.std.specs.Prelude.{MatchResult}
 use Rattle.std.specs.Option.{option_map}
 use Rattle.std.proofs.lemmas.List.{length-map}
+use Rattle.std.proofs.lemmas.List.Elements.{recursion_from_All}
 use Rattle.sqlite.specs.Store.{Ghosts}
 use Rattle.sqlite.specs.State.{HasCleanDisk}
 use Rattle.sqlite.specs.Held.{Held, state}
 use Rattle.court_days.specs.Court.{CourtSettings, zone_of}
 use Rattle.docket_command.specs.declared.command.Command.{Command}
 use Rattle.docket_command.specs.declared.refusal.Reply.{Reply}
+use Rattle.docket_core.specs.CalendarItems.{IsEnteredItem}
+use Rattle.docket_core.specs.EndRows.{end_rows, end_rows_of}
 use Rattle.docket_core.specs.Histories.{History, items_of, standing_rows, case_rows, act_rows, deadline_rows, deadlines, deadlines_of_case}
 use Rattle.docket_core.specs.Records.{calendar, deadline_lines, lines_from}
 use Rattle.docket_core.specs.Tables.{case_deadlines, rows_of}
+use Rattle.docket_core.specs.declared.end_row.EndRow.{EndRow}
 use Rattle.docket_core.specs.declared.item.CalendarItem.{CalendarItem}
 use Rattle.docket_core.specs.declared.row.CalendarRow.{CalendarRow}
 use Rattle.docket_core.specs.declared.view.DeadlineView.{DeadlineView}
@@ -19,11 +23,14 @@ use Rattle.docket_core.proofs.Leading.{length-deadlines_from}
 use Rattle.docket_core.proofs.LimitsKept.{within_limits, lawful_deadlines}
 use Rattle.docket_store.specs.Applying.{IsDocket, Stands, Asks, Applies, Faults, FailsAs, Keeps, docket_rows}
 use Rattle.docket_store.specs.Dockets.{Docket, serving}
+use Rattle.docket_tables.specs.Contents.{ends_of}
 use Rattle.docket_tables.specs.Sound.{IsSoundCase}
-use Rattle.docket_store.specs.Sound.{IsNotTold}
+use Rattle.docket_tables.proofs.WholeLemmas.{ends_of_all}
+use Rattle.docket_calendar.proofs.EndBounds.{calendar_within}
+use Rattle.docket_store.specs.Sound.{AreEndsBy, IsNotTold}
 use Rattle.docket_store.specs.declared.fault.Fault.{Fault}
 use Rattle.docket_store.specs.declared.fault.Fault.TheVariants.{Refused, NoMemory, StoreFailed, Closed, Damaged}
-use Rattle.docket_store.proofs.ApplyLemmas.{lasts_from_either, either_from_lasts}
+use Rattle.docket_store.proofs.ApplyLemmas.{docket_orderly, lasts_from_either, either_from_lasts}
 
 module _ {S : Type 0} (g : Ghosts S) where
   -- a question that the database did not answer
@@ -66,15 +73,15 @@ module _ {S : Type 0} (g : Ghosts S) where
       ends Closed asked = absurd asked
       ends Damaged asked = asked
 
-  -- the deadlines that were told, where a history shows them; and else why they were not
-  pub asks_told : {X : Type 0} (d : Docket S) (h : History) (court : CourtSettings) (items : List CalendarItem) (ds : List DeadlineView) (P answer : X → Type 0) (result : Result X Fault) → Stands g d h
-      → (HasCleanDisk (state g d.conn) → IsSoundCase court items ds) → (HasCleanDisk (state g d.conn) → (x : X) → P x → answer x) → MatchResult result P (IsNotTold court items ds) → Asks g d h answer result
-  asks_told d h court items ds P answer (Ok x) stands sound tells told = (stands, λ clean. tells clean x told)
-  asks_told d h court items ds P answer (Err (Refused r)) stands sound tells told = absurd told
-  asks_told d h court items ds P answer (Err NoMemory) stands sound tells told = stands
-  asks_told d h court items ds P answer (Err StoreFailed) stands sound tells told = absurd told
-  asks_told d h court items ds P answer (Err Closed) stands sound tells told = absurd told
-  asks_told d h court items ds P answer (Err Damaged) stands sound tells told = λ clean. told (sound clean)
+  -- what was told, where it is sound; and else why it was not
+  pub asks_told : {X : Type 0} (d : Docket S) (h : History) (Sound : Type 0) (P answer : X → Type 0) (result : Result X Fault) → Stands g d h
+      → (HasCleanDisk (state g d.conn) → Sound) → (HasCleanDisk (state g d.conn) → (x : X) → P x → answer x) → MatchResult result P (IsNotTold Sound) → Asks g d h answer result
+  asks_told d h Sound P answer (Ok x) stands sound tells told = (stands, λ clean. tells clean x told)
+  asks_told d h Sound P answer (Err (Refused r)) stands sound tells told = absurd told
+  asks_told d h Sound P answer (Err NoMemory) stands sound tells told = stands
+  asks_told d h Sound P answer (Err StoreFailed) stands sound tells told = absurd told
+  asks_told d h Sound P answer (Err Closed) stands sound tells told = absurd told
+  asks_told d h Sound P answer (Err Damaged) stands sound tells told = λ clean. told (sound clean)
 
 -- every history shows deadlines of a case, and a calendar, that are sound
 pub sound_case : (court : CourtSettings) (h : History) (k : ℕ) → IsDocket court h → IsSoundCase court (items_of (standing_rows h)) (deadlines k h)
@@ -91,6 +98,19 @@ pub sound_calendar : (court : CourtSettings) (h : History) → IsDocket court h 
 sound_calendar court h is =
     let sound = sound_case court h 0 is in
     record { entered = sound.entered; rows = sound.rows; few = omega arith; acts = λ i d low. absurd (omega (arith, low)) }
+
+-- and so are its deadlines with the rows of their ends
+pub sound_ends : (court : CourtSettings) (h : History) (k : ℕ) → IsDocket court h → AreEndsBy court (calendar h) k (deadlines k h) (end_rows_of (zone_of court) (calendar h) k (deadlines k h))
+sound_ends court h k is =
+    let sound = sound_case court h k is in record {
+      sound = record { entered = λ i d low. absurd (omega (arith, low)); rows = omega arith; few = sound.few; acts = sound.acts };
+      limits = calendar_within (items_of (standing_rows h)) (recursion_from_All IsEnteredItem (items_of (standing_rows h)) sound.entered);
+      same = refl;
+    }
+
+-- the rows of a case among those of all deadlines
+pub ends_are : (court : CourtSettings) (h : History) (k : ℕ) (rows : List EndRow) → IsDocket court h → rows ≡ ends_of k (end_rows court (rows_of court h)) → rows ≡ end_rows_of (zone_of court) (calendar h) k (deadlines k h)
+ends_are court h k rows is same = same ∙ ends_of_all court (rows_of court h) k (docket_orderly court h is)
 
 if_mapped : {X Y : Type 0} (f : X → Y) (b : Bool) (x : X) → option_map f (if b then Some x else None) ≡ (if b then Some (f x) else None)
 if_mapped f true x = refl

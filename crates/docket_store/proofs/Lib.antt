@@ -1,6 +1,7 @@
 mod AgainLemmas
 mod ApplyLemmas
 mod AskLemmas
+mod LineLemmas
 mod ListingLemmas
 mod OpeningLemmas
 mod ReopeningLemmas

@@ -1,14 +1,22 @@
 -- Why what a docket shows was not told.
-use Rattle.std.specs.Prelude.{List}
-use Rattle.court_days.specs.Court.{CourtSettings}
-use Rattle.docket_core.specs.declared.item.CalendarItem.{CalendarItem}
+use Rattle.std.specs.Prelude.{◌≡◌, ℕ, List, []}
+use Rattle.court_days.specs.Calendar.{Entered, IsWithinLimits}
+use Rattle.court_days.specs.Court.{CourtSettings, zone_of}
+use Rattle.docket_core.specs.EndRows.{end_rows_of}
+use Rattle.docket_core.specs.declared.end_row.EndRow.{EndRow}
 use Rattle.docket_core.specs.declared.view.DeadlineView.{DeadlineView}
 use Rattle.docket_tables.specs.Sound.{IsSoundCase}
 use Rattle.docket_store.specs.declared.fault.Fault.{Fault}
 use Rattle.docket_store.specs.declared.fault.Fault.TheVariants.{NoMemory, Damaged}
 
--- why a calendar and the deadlines of a case were not told: want of memory, or no history shows them
-abbrev pub IsNotTold : CourtSettings → List CalendarItem → List DeadlineView → Fault → Type 0
-IsNotTold court items deadlines NoMemory = Unit {0}
-IsNotTold court items deadlines Damaged = IsSoundCase court items deadlines → ⊥
-IsNotTold court items deadlines _ = ⊥
+-- a history may show these deadlines of case k, and the rows are those of their ends, by a calendar of days that a court may enter
+pub record AreEndsBy (court : CourtSettings) (entered : Entered) (k : ℕ) (deadlines : List DeadlineView) (rows : List EndRow) : Type 0 where
+  pub sound : IsSoundCase court [] deadlines
+  pub limits : IsWithinLimits entered
+  pub same : rows ≡ end_rows_of (zone_of court) entered k deadlines
+
+-- why it was not told: want of memory, or what is so of every history is not so
+abbrev pub IsNotTold : Type 0 → Fault → Type 0
+IsNotTold Sound NoMemory = Unit {0}
+IsNotTold Sound Damaged = Sound → ⊥
+IsNotTold Sound _ = ⊥

@@ -6,22 +6,24 @@ ghost use Rattle.sqlite.specs.State.{HasCleanDisk};
 ghost use Rattle.sqlite.specs.View.{doubt};
 ghost use Rattle.court_days.specs.Court.{CourtSettings, zone_of};
 ghost use Rattle.docket_core.specs.CalendarItems.{calendar_of};
-ghost use Rattle.docket_core.specs.Histories.{History, items_of, standing_rows};
-ghost use Rattle.docket_core.specs.Records.{calendar, case_record, deadline_lines, lines_from};
+ghost use Rattle.docket_core.specs.EndRows.{end_rows_of};
+ghost use Rattle.docket_core.specs.Histories.{History, deadlines, items_of, standing_rows};
+ghost use Rattle.docket_core.specs.Records.{calendar, case_record, deadline_lines};
 ghost use Rattle.docket_core.specs.Tables.{case_deadlines, rows_of};
 ghost use Rattle.docket_core.specs.declared.item.CalendarItem.{CalendarItem as Item};
+ghost use Rattle.docket_tables.specs.Sound.{IsSoundCase};
 ghost use Rattle.docket_store.specs.Applying.{Stands, Asks};
 ghost use Rattle.docket_store.specs.Dockets.{serving};
 ghost use Rattle.docket_store.specs.Sound.{IsNotTold};
 
 use crate::fault::{Fault, read_fault};
 use crate::judging::take_calendar;
+use crate::lines::lines_told;
 use court_days::{Calendar, Court};
 use docket_core::{
-    CalendarItem, CalendarItems, CaseRecord, DeadlineLine, DeadlineView, calendar_of,
-    deadline_lines,
+    CalendarItem, CalendarItems, CaseRecord, DeadlineLine, DeadlineView, EndRow, calendar_of,
 };
-use docket_tables::{case_deadlines, case_record, is_sound_case};
+use docket_tables::{case_deadlines, case_record, ends_of_case, is_sound_case};
 use sqlite::{Alter, Connection};
 use std::alloc::Global;
 
@@ -81,7 +83,7 @@ fn calendar_shown<S: Alter>(
 
 /// The calendar of the items.
 fn calendar_by(alloc: Global, court: &Court, items: &[CalendarItem]) -> Result<Calendar, Fault>
-    ensures { MatchResult result (λ calendar. calendar ≡ calendar_of items.now) (IsNotTold court.now items.now []) }
+    ensures { MatchResult result (λ calendar. calendar ≡ calendar_of items.now) (IsNotTold (IsSoundCase court.now items.now [])) }
 {
     if !is_sound_case(court, items, &[]) {
         return Err(Fault::Damaged);
@@ -108,61 +110,59 @@ pub(crate) fn calendar_told<S: Alter>(
     answer
 }
 
-/// The deadlines, with where each stands by the calendar of the items.
-fn lines_by(
+/// The ends that are stored of the case of a number.
+fn ends_shown<S: Alter>(
+    conn: &mut Connection<S>,
     alloc: Global,
-    court: &Court,
-    items: &[CalendarItem],
-    deadlines: &[DeadlineView],
-) -> Result<Vec<DeadlineLine>, Fault>
-    ensures { MatchResult result (λ lines. lines.items ≡ lines_from (zone_of court.now) (calendar_of items.now) 1 deadlines.now)
-        (IsNotTold court.now items.now deadlines.now) }
+    number: u32,
+) -> Result<Vec<EndRow>, Fault>
+    requires { conn.old.in_transaction ≡ false }
+    ensures idle { conn.new.in_transaction ≡ false }
+    ensures clean { doubt (state S.Store conn.old).is_clean ≤ doubt (state S.Store conn.new).is_clean }
+    ensures answer { (court : CourtSettings) (kept : Option (List Item)) (h : History) → Stands S.Store (serving conn.old court kept) h
+        → Asks S.Store (serving conn.new court kept) h (λ found. found.items ≡ end_rows_of (zone_of court) (calendar h) number (deadlines number h)) result }
 {
-    if !is_sound_case(court, items, deadlines) {
-        return Err(Fault::Damaged);
+    match ends_of_case(conn, alloc, number) {
+        Ok(found) => Ok(found),
+        Err(fault) => Err(read_fault(conn, fault)),
     }
-    let calendar = calendar_of(alloc, items)?;
-    Ok(deadline_lines(alloc, court, &calendar, deadlines)?)
 }
 
-/// The deadlines of a case, with where each stands by the calendar, which is kept.
+/// The deadlines of a case, with where each stands by the ends that are stored.
 fn lines_of_case<S: Alter>(
     conn: &mut Connection<S>,
     alloc: Global,
     court: &Court,
-    kept: &mut Option<CalendarItems>,
+    number: u32,
     deadlines: &[DeadlineView],
 ) -> Result<Vec<DeadlineLine>, Fault>
     requires { conn.old.in_transaction ≡ false }
     ensures idle { conn.new.in_transaction ≡ false }
     ensures clean { doubt (state S.Store conn.old).is_clean ≤ doubt (state S.Store conn.new).is_clean }
-    ensures answer { (number : ℕ) (h : History) → Stands S.Store (serving conn.old court.now kept.old) h
+    ensures answer { (kept : Option (List Item)) (h : History) → Stands S.Store (serving conn.old court.now kept) h
         → (HasCleanDisk (state S.Store conn.old) → case_deadlines (rows_of court.now h) number ≡ Some deadlines.now)
-        → Asks S.Store (serving conn.new court.now kept.new) h (λ lines. Some lines.items ≡ deadline_lines court.now h number) result }
+        → Asks S.Store (serving conn.new court.now kept) h (λ lines. Some lines.items ≡ deadline_lines court.now h number) result }
 {
-    let items = calendar_shown(conn, alloc, kept)?;
-    let answer = lines_by(alloc, court, items.as_slice(), deadlines);
-    *kept = Some(items);
-    answer
+    let stored = ends_shown(conn, alloc, number)?;
+    lines_told(alloc, court, deadlines, stored.as_slice())
 }
 
-/// The deadlines of the case of a number, with where each stands by the calendar.
+/// The deadlines of the case of a number, with where each stands by the ends that are stored.
 pub(crate) fn lines_numbered<S: Alter>(
     conn: &mut Connection<S>,
     alloc: Global,
     court: &Court,
-    kept: &mut Option<CalendarItems>,
     number: u32,
 ) -> Result<Option<Vec<DeadlineLine>>, Fault>
     requires { conn.old.in_transaction ≡ false }
     ensures idle { conn.new.in_transaction ≡ false }
     ensures clean { doubt (state S.Store conn.old).is_clean ≤ doubt (state S.Store conn.new).is_clean }
-    ensures answer { (h : History) → Stands S.Store (serving conn.old court.now kept.old) h
-        → Asks S.Store (serving conn.new court.now kept.new) h (λ found. option_map (λ lines. lines.items) found ≡ deadline_lines court.now h number) result }
+    ensures answer { (kept : Option (List Item)) (h : History) → Stands S.Store (serving conn.old court.now kept) h
+        → Asks S.Store (serving conn.new court.now kept) h (λ found. option_map (λ lines. lines.items) found ≡ deadline_lines court.now h number) result }
 {
     match deadlines_shown(conn, alloc, number)? {
         Some(deadlines) => {
-            let lines = lines_of_case(conn, alloc, court, kept, deadlines.as_slice())?;
+            let lines = lines_of_case(conn, alloc, court, number, deadlines.as_slice())?;
             Ok(Some(lines))
         }
         None => Ok(None),

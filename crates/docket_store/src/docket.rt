@@ -169,9 +169,7 @@ impl<S: Alter> Docket<S> {
         if self.closed {
             return Err(Fault::Closed);
         }
-        let conn = &mut self.conn;
-        let kept = &mut self.calendar;
-        let answer = lines_numbered(conn, self.alloc, &self.court, kept, number);
+        let answer = lines_numbered(&mut self.conn, self.alloc, &self.court, number);
         self.closed = is_store_failure(&answer);
         answer
     }

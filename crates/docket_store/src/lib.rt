@@ -10,6 +10,7 @@ mod docket;
 mod fault;
 mod judging;
 mod laws;
+mod lines;
 mod listing;
 mod recovering;
 mod reopening;

@@ -21,5 +21,5 @@ returns-clause-answer g c h stands =
     let now : Stands g.S.Store (serving conn court (Some c.in_ok-items.items)) h = record { docket = stands.docket; serves = stands.serves; rows = asked.0.rows; calendar = asked.1 } in
     let sound : HasCleanDisk (state g.S.Store conn) → IsSoundCase court items [] = λ clean.
     subst (λ (all : List CalendarItem). IsSoundCase court all []) (sym (is_calendar clean)) (sound_calendar court h stands.docket) in
-    asks_told g.S.Store (serving conn court (Some c.in_ok-items.items)) h court items [] (λ found. found ≡ calendar_of items) (λ found. found ≡ calendar h) c.calendar_by-answer.result now sound
+    asks_told g.S.Store (serving conn court (Some c.in_ok-items.items)) h (IsSoundCase court items []) (λ found. found ≡ calendar_of items) (λ found. found ≡ calendar h) c.calendar_by-answer.result now sound
     (λ clean found is. is ∙ ap calendar_of (is_calendar clean)) c.calendar_by-answer.ensures

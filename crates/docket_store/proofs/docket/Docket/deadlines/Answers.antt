@@ -1,0 +1,19 @@
+use Rattle.std.proofs.Common.{◌≡◌, refl, sym, subst}
+use Rattle.std.specs.Option.{option_map}
+use Rattle.docket_core.specs.Records.{deadline_lines}
+use Rattle.docket_store.specs.Applying.{Asks, Stands}
+use Rattle.docket_store.specs.Dockets.{Docket, serving}
+use Rattle.docket_store.proofs.AskLemmas.{asks_kept}
+use Rattle.docket_store.proofs.docket.Docket.deadlines.Goals as goal
+
+pub returns-clause-answer : goal.returns-clause-answer
+returns-clause-answer g c h stands =
+    let conn = c.lines_numbered-answer.new.conn in
+    let court = c.self.inside.court in
+    let kept = c.self.inside.calendar in
+    let closed = c.is_store_failure-self-inside.result in
+    let here = subst (λ (d : Docket g.row.S.Denot). Stands g.S.Store d h) (sym c.self.view_is) stands in
+    let serves : Stands g.S.Store (serving c.self.inside.conn court kept) h = record { docket = here.docket; serves = refl; rows = here.rows; calendar = here.calendar } in
+    subst (λ (d : Docket g.row.S.Denot). Asks g.S.Store (record { conn = conn; court = court; closed = closed; calendar = kept }) h (λ found. option_map (λ lines. lines.items) found ≡ deadline_lines d.court h c.args.number) c.lines_numbered-answer.result) c.self.view_is
+    (asks_kept g.S.Store conn court kept h (λ found. option_map (λ lines. lines.items) found ≡ deadline_lines court h c.args.number) closed c.lines_numbered-answer.result c.is_store_failure-self-inside.ensures.0
+    (c.lines_numbered-answer.ensures.answer kept h serves))
