@@ -1,4 +1,4 @@
-use Rattle.std.proofs.Common.{◌≡◌, ◌∙◌, ◌<◌, ◌++◌, [], ◌∷◌, Some, length, get_or, unwrap_or, ap, sym, subst, arith, rules}
+use Rattle.std.proofs.Common.{◌≡◌, ◌∙◌, ◌<◌, ◌++◌, [], ◌∷◌, length, get_or, unwrap_or, ap, sym, arith, rules}
 use Rattle.court_days.specs.Court.{zone_of}
 use Rattle.court_rules.specs.Rules.{name_of}
 use Rattle.court_rules.specs.Standings.{standing}

@@ -1,4 +1,4 @@
-use Rattle.std.proofs.Common.{◌≡◌, ◌∙◌, Option, Some, None, sym, ap}
+use Rattle.std.proofs.Common.{◌≡◌, ◌∙◌, Some, sym, ap}
 use Rattle.court_days.specs.Court.{zone_of}
 use Rattle.court_rules.specs.declared.act.Standing.TheVariants.{Running}
 use Rattle.docket_core.proofs.AlikeStandings.{same_standing}
