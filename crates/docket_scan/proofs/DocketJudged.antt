@@ -31,8 +31,8 @@ use Rattle.docket_scan.specs.Judging.{IsUnsoundIn, AreSoundBy, Holds, Rows, Judg
 use Rattle.docket_scan.specs.Records.{receipt_cells as stored_receipt_cells, ArePartyRows, AreEntryRows, AreDeadlineRows, AreActRows}
 use Rattle.docket_scan.specs.Scans.{AreRowsOf}
 use Rattle.docket_scan.specs.Shapes.{has_table}
-use Rattle.docket_scan.specs.declared.fault.TableFault.{TableFault}
-use Rattle.docket_scan.specs.declared.fault.TableFault.TheVariants.{Damaged, NoMemory, StoreFailed}
+use Rattle.docket_scan.specs.declared.fault.AdoptFault.{AdoptFault}
+use Rattle.docket_scan.specs.declared.fault.AdoptFault.TheVariants.{Damaged, NoMemory, StoreFailed}
 use Rattle.docket_scan.specs.declared.holdings.Holdings.{Holdings}
 use Rattle.docket_scan.proofs.DocketCounts.{receipts_counted, standings_counted}
 use Rattle.docket_scan.proofs.DocketReads.{AreSorted, never_unreadable, rows_sorted, first_sorted}
@@ -44,11 +44,11 @@ nothing a b = absurd a
 
 module _ (s : State) (rows : Stored) (shows : Shows s rows) where
   -- what is so of the rows of a table, in the order of its key, is so of those that its statement answers
-  in_order : (t : Table) (found : List Row) → AreRowsOf t s found → (AreSorted t (rows t) found → ⊥) → ⊥
+  pub in_order : (t : Table) (found : List Row) → AreRowsOf t s found → (AreSorted t (rows t) found → ⊥) → ⊥
   in_order t found read never = ∥∥₁_elim (rows_sorted t s shows.schema rows shows.holds found read) nothing never
 
   -- a table that is sound in each order of its rows by the key
-  never_unsound : (t : Table) (AreSound : List Row → Type 0) → ((found : List Row) → AreSorted t (rows t) found → AreSound found) → IsUnsoundIn t s AreSound → ⊥
+  pub never_unsound : (t : Table) (AreSound : List Row → Type 0) → ((found : List Row) → AreSorted t (rows t) found → AreSound found) → IsUnsoundIn t s AreSound → ⊥
   never_unsound t AreSound sound (inl missing) = false≢true (sym missing ∙ ap (λ d. has_table d t) shows.schema ∙ is_there t)
   never_unsound t AreSound sound (inr (inl unreadable)) = never_unreadable t s shows.schema unreadable
   never_unsound t AreSound sound (inr (inr (inl (first, begins, refuses)))) =
@@ -137,7 +137,7 @@ module _ (s : State) (court : CourtSettings) (h : History) (is : IsHistory court
   }
 
 -- so the docket of a history is told to hold what the history has, and no table of it to be unsound
-pub docket_told : {S : Type 0} (g : Ghosts S) (old : Held S) (new : State) (court : CourtSettings) (next : ℕ) (result : Result Holdings TableFault)
+pub docket_told : {S : Type 0} (g : Ghosts S) (old : Held S) (new : State) (court : CourtSettings) (next : ℕ) (result : Result Holdings AdoptFault)
     → HasCleanDisk (state g old) → JudgedTo table.Ends court next (state g old) new (λ r held. held ≡ holdings_of court r) result
     → (h : History) → IsHistory court h → AllByRecursion IsCommand h → next ≡ next_row h → HoldsRows g old (rows_in court (rows_of court h))
     → IsToldOfDocket court h result
@@ -146,11 +146,12 @@ docket_told g old new court next result clean told h is commands numbered holds 
     s : State
     s = state g old
 
-    Told : ℕ → Result Holdings TableFault → Type 0
+    Told : ℕ → Result Holdings AdoptFault → Type 0
     Told n = JudgedTo table.Ends court n s new (λ r held. held ≡ holdings_of court r)
 
-    at : (found : Result Holdings TableFault) → Told (next_row h) found → IsToldOfDocket court h found
+    at : (found : Result Holdings AdoptFault) → Told (next_row h) found → IsToldOfDocket court h found
     at (Ok held) (same, r, stand, ends, says) = says ∙ held_told s court h is commands (holds.1 clean).shows r stand
-    at (Err (Damaged t)) (stays, r, stand, unsound) = never s court h is commands (holds.1 clean).shows r t stand unsound
+    at (Err (Damaged t)) (behind, stays, r, stand, unsound) = never s court h is commands (holds.1 clean).shows r t stand unsound
     at (Err NoMemory) fails = tt
     at (Err StoreFailed) fails = tt
+    at (Err _) fails = absurd fails

@@ -1,21 +1,25 @@
 -- Tables that are judged one after another.
-use Rattle.std.proofs.Common.{◌≡◌, ◌∙◌, ℕ, List, [], ◌∷◌, ◌++◌, map, length, Result, Ok, Err, true, IsErrAnd, ap, sym, subst, refl}
+use Rattle.std.proofs.Common.{◌≡◌, ◌∙◌, inl, inr, ℕ, List, [], ◌∷◌, ◌++◌, map, length, Result, Ok, Err, true, IsErrAnd, ap, sym, subst, refl}
 use Rattle.std.proofs.lemmas.List.{length-map}
 use Rattle.std.specs.List.{AllByRecursion}
 use Rattle.sqlite.specs.Effect.{Database}
 use Rattle.sqlite.specs.Order.{Row}
 use Rattle.sqlite.specs.State.{State, IsUnchanged}
+use Rattle.sqlite.specs.declared.error.Error.{Error}
+use Rattle.sqlite.specs.declared.error.Error.TheVariants.{SqliteFailure, SqlInputError}
+use Rattle.sqlite.specs.declared.error.ErrorCode.TheVariants.{TypeMismatch, IntegerOverflow, OutOfMemory}
 use Rattle.sqlite.proofs.Callers.{unchanged_then}
 use Rattle.court_days.specs.Court.{CourtSettings}
 use Rattle.docket_tables.specs.declared.table.Table.{Table}
 use Rattle.docket_tables.specs.declared.table.Table.TheVariants as table
-use Rattle.docket_scan.specs.Judging.{IsSoundIn, IsUnsoundIn, IsTold, JudgedTo, FailsAt, Holds, Rows, AreSoundBy, before}
+use Rattle.docket_scan.specs.Judging.{fault_in, IsSoundIn, IsUnsoundIn, IsTold, JudgedTo, FailsAt, Holds, IsBehindCourt, Rows, AreSoundBy, before}
 use Rattle.docket_scan.specs.Records.{IsTable}
-use Rattle.docket_scan.specs.Scans.{AreRowsOf, OfSoMany}
+use Rattle.docket_scan.specs.Scans.{AreRowsOf, FailsToScan, OfSoMany}
 use Rattle.docket_scan.specs.Shapes.{has_table}
 use Rattle.docket_scan.specs.Taken.{IsRead}
-use Rattle.docket_scan.specs.declared.fault.TableFault.{TableFault}
-use Rattle.docket_scan.specs.declared.fault.TableFault.TheVariants.{Damaged, NoMemory, StoreFailed}
+use Rattle.docket_scan.specs.declared.fault.AdoptFault.{AdoptFault}
+use Rattle.docket_scan.specs.declared.fault.AdoptFault.TheVariants.{Damaged, NoMemory, StoreFailed}
+use Rattle.docket_scan.proofs.ScanLemmas.{stays_then}
 
 -- what is read of a database alone holds of each state that shows it
 abbrev with_now : State → Database → State
@@ -29,24 +33,34 @@ module _ (first old : State) (same : IsUnchanged first old) where
   sound_before t AreSound h = subst (λ (d : Database). IsSoundIn t (with_now first d) AreSound) same.0.now_is h
 
   -- a table that is told to be unsound, after those before it
-  pub failed : (t : Table) (court : CourtSettings) (next : ℕ) (new : State) (r : Rows) (AreSound : List Row → Type 0) (fault : TableFault)
+  pub failed : (t : Table) → IsBehindCourt t → (court : CourtSettings) (next : ℕ) (new : State) (r : Rows) (AreSound : List Row → Type 0) (fault : AdoptFault)
       → AreSound ≡ AreSoundBy t court next r → AllByRecursion (Holds first court next r) (before t) → IsTold t old new AreSound fault → FailsAt court next first new fault
-  failed t court next new r AreSound (Damaged at) is all told =
+  failed t behind court next new r AreSound (Damaged at) is all told =
       subst (λ u. FailsAt court next first new (Damaged u)) (sym told.0)
-      (λ opened. unchanged_then first old new same (told.1 same.0.is_open), r, all, unsound_before t (AreSoundBy t court next r) (subst (IsUnsoundIn t old) is told.2))
-  failed t court next new r AreSound NoMemory is all told = tt
-  failed t court next new r AreSound StoreFailed is all told = tt
+      (behind, λ opened. unchanged_then first old new same (told.1 same.0.is_open), r, all, unsound_before t (AreSoundBy t court next r) (subst (IsUnsoundIn t old) is told.2))
+  failed t behind court next new r AreSound NoMemory is all told = stays_then first old new same told
+  failed t behind court next new r AreSound StoreFailed is all told = stays_then first old new same told
+  failed t behind court next new r AreSound _ is all told = absurd told
+
+-- what an error in the reading of a table tells
+pub told_in : (t : Table) (old new : State) (AreSound : List Row → Type 0) (e : Error) → FailsToScan t old new e → IsTold t old new AreSound (fault_in t e)
+told_in t old new AreSound (SqlInputError why) h = (refl, λ _. (h.1 refl).1, inr (inl (h.1 refl).0))
+told_in t old new AreSound (SqliteFailure TypeMismatch) h = (refl, λ _. (h.1 refl).1, inr (inl (h.1 refl).0))
+told_in t old new AreSound (SqliteFailure IntegerOverflow) h = (refl, λ _. (h.1 refl).1, inr (inl (h.1 refl).0))
+told_in t old new AreSound (SqliteFailure OutOfMemory) h = h.0
+told_in t old new AreSound _ h = h.0
 
 -- the same of the first table
-pub failed_first : (court : CourtSettings) (next : ℕ) (old new : State) (r : Rows) (AreSound : List Row → Type 0) (fault : TableFault)
+pub failed_first : (court : CourtSettings) (next : ℕ) (old new : State) (r : Rows) (AreSound : List Row → Type 0) (fault : AdoptFault)
     → AreSound ≡ AreSoundBy table.Calendar court next r → IsTold table.Calendar old new AreSound fault → FailsAt court next old new fault
 failed_first court next old new r AreSound (Damaged at) is told =
-    subst (λ u. FailsAt court next old new (Damaged u)) (sym told.0) (told.1, r, tt, subst (IsUnsoundIn table.Calendar old) is told.2)
-failed_first court next old new r AreSound NoMemory is told = tt
-failed_first court next old new r AreSound StoreFailed is told = tt
+    subst (λ u. FailsAt court next old new (Damaged u)) (sym told.0) (tt, told.1, r, tt, subst (IsUnsoundIn table.Calendar old) is told.2)
+failed_first court next old new r AreSound NoMemory is told = told
+failed_first court next old new r AreSound StoreFailed is told = told
+failed_first court next old new r AreSound _ is told = absurd told
 
 -- a fault that is handed on
-pub handed : {X : Type 0} (t : Table) (court : CourtSettings) (next : ℕ) (old new : State) (says : Rows → X → Type 0) (r : Result X TableFault) (fault : TableFault)
+pub handed : {X : Type 0} (t : Table) (court : CourtSettings) (next : ℕ) (old new : State) (says : Rows → X → Type 0) (r : Result X AdoptFault) (fault : AdoptFault)
     → IsErrAnd r (λ f. f ≡ fault) → FailsAt court next old new fault → JudgedTo t court next old new says r
 handed t court next old new says (Ok x) fault same told = absurd same
 handed t court next old new says (Err f) fault same told = subst (FailsAt court next old new) (sym same) told

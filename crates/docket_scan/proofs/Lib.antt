@@ -2,12 +2,14 @@ pub mod AnySchema
 mod CountLemmas
 pub mod DocketCells
 pub mod DocketCounts
+pub mod DocketCourt
 pub mod DocketJudged
 pub mod DocketOrders
 pub mod DocketReads
 pub mod DocketReceipts
 pub mod DocketStatements
 pub mod DocketTables
+mod FindingLemmas
 mod JudgingLemmas
 pub mod RecordLemmas
 mod ScanLemmas

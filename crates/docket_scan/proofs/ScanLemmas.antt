@@ -1,5 +1,5 @@
 -- What the statement of a table does to any database: it shows rows, or is refused.
-use Rattle.std.proofs.Common.{◌≡◌, ◌⊎◌, inl, inr, ℕ, List, [], true, false, IsTrue, IsSome, Some, None, Option, Ok, Err, Result, IsErrAnd, refl, sym, ap, subst, subst₂}
+use Rattle.std.proofs.Common.{◌≡◌, ◌⊎◌, inl, inr, ℕ, List, [], true, false, IsTrue, IsSome, Some, None, Option, Ok, Err, Result, IsErrAnd, refl, sym, ap, subst, subst₂, ◌∙◌}
 use Rattle.sqlite.specs.Order.{Row}
 use Rattle.sqlite.specs.Store.{Ghosts}
 use Rattle.sqlite.specs.Tree.{Trees}
@@ -18,10 +18,21 @@ use Rattle.sqlite_trees.specs.declared.error.StoreError.{StoreError}
 use Rattle.sqlite_trees.specs.declared.error.StoreError.TheVariants as store
 use Rattle.sqlite.proofs.StateLemmas.{survives_weaker}
 use Rattle.sqlite.proofs.Callers.{unchanged_then}
-use Rattle.docket_scan.specs.Scans.{IsUnderstood, AreRowsOf, AreFirstRowsOf, IsUnreadable, is_refusal, FailsToScan, Scanned}
+use Rattle.docket_scan.specs.Scans.{IsUnderstood, AreRowsOf, AreFirstRowsOf, IsUnreadable, is_refusal, FailsToScan, Scanned, StaysOrRollsBack}
 use Rattle.docket_scan.specs.Statements.{scan_text}
 use Rattle.docket_tables.specs.declared.table.Table.{Table}
 use Rattle.docket_scan.proofs.AnySchema.{understood_plain}
+
+-- what had stayed as it was, and then stays or is undone
+pub stays_then : (first old new : State) → IsUnchanged first old → StaysOrRollsBack old new → StaysOrRollsBack first new
+stays_then first old new same (inl still) = inl (unchanged_then first old new same still)
+stays_then first old new same (inr undone) = inr (record {
+  was_open = λ _. same.0.was_open;
+  undone = λ opened. ((undone.undone opened).0 ∙ same.0.committed_is, (undone.undone opened).1 ∙ same.0.committed_is);
+  autocommit = undone.autocommit;
+  unmarked = undone.unmarked;
+  counts = record { changes = undone.counts.changes ∙ same.1.changes; last_rowid = undone.counts.last_rowid ∙ same.1.last_rowid };
+})
 
 no_some : {X : Type 0} (o : Option X) → o ≡ None → IsSome o → ⊥
 no_some None none some = absurd (let e = some in cc)
@@ -81,22 +92,35 @@ module _ (t : Table) where
   limitless limit (Run q names) db e query refusal (inr (inr stopped)) = absurd (let never = rw stopped.0 at refusal in cc)
   limitless limit _ db e query refusal h = absurd cc
 
-  pub fails_to_scan : (old new : State) (e : Error) → FailsToQuery (scan_text t) [] old new e → FailsToScan t old new e
-  unfolding FailsToQuery IsNotRun
-  fails_to_scan old new e (inl (inl never)) refusal = (misread never.0, never.1)
-    where
-      misread : IsNoStatement old (scan_text t) [] e → IsUnreadable t old
-      misread (inl known) = inl (known.0, known.1)
-      misread (inr (c, known, inl (more, is))) = absurd (let never = rw is at refusal in cc)
-      misread (inr (c, known, inr (inl (more, is)))) = absurd (let never = rw is at refusal in cc)
-      misread (inr (c, known, inr (inr (timed, is)))) = absurd (let never = rw is at refusal in cc)
-  fails_to_scan old new e (inl (inr fails)) refusal = absurd (let never = rw (fails.1, no_refusal fails.0) at refusal in cc)
-  fails_to_scan old new e (inr run) refusal =
-      let known = run.1.is in
-      let plain = (understood_plain t old.now.schema run.0 known).0 in
-      let it = subst (FailsToShow old new (scan_text t) run.0 (timed [] run.0.formats run.1.now) e) plain.returning run.2 in
-      let read = subst₂ (λ d p. RefusesToRead old.step_limit run.0.command d p e) (source_is old run.0 it.0 known it.1) (no_times old run.0 run.1.now known) it.2 in
-      (inr (run.0, e, known, limitless old.step_limit run.0.command old.now e plain.query refusal read), it.3)
+  -- why it was refused, or failed
+  module _ (old new : State) (e : Error) where
+    unreadable : FailsToQuery (scan_text t) [] old new e → IsTrue (is_refusal e) → IsUnreadable t old × IsUnchanged old new
+    unfolding FailsToQuery IsNotRun
+    unreadable (inl (inl never)) refusal = (misread never.0, never.1)
+      where
+        misread : IsNoStatement old (scan_text t) [] e → IsUnreadable t old
+        misread (inl known) = inl (known.0, known.1)
+        misread (inr (c, known, inl (more, is))) = absurd (let never = rw is at refusal in cc)
+        misread (inr (c, known, inr (inl (more, is)))) = absurd (let never = rw is at refusal in cc)
+        misread (inr (c, known, inr (inr (timed, is)))) = absurd (let never = rw is at refusal in cc)
+    unreadable (inl (inr fails)) refusal = absurd (let never = rw (fails.1, no_refusal fails.0) at refusal in cc)
+    unreadable (inr run) refusal =
+        let known = run.1.is in
+        let plain = (understood_plain t old.now.schema run.0 known).0 in
+        let it = subst (FailsToShow old new (scan_text t) run.0 (timed [] run.0.formats run.1.now) e) plain.returning run.2 in
+        let read = subst₂ (λ d p. RefusesToRead old.step_limit run.0.command d p e) (source_is old run.0 it.0 known it.1) (no_times old run.0 run.1.now known) it.2 in
+        (inr (run.0, e, known, limitless old.step_limit run.0.command old.now e plain.query refusal read), it.3)
+
+    left_by : FailsToQuery (scan_text t) [] old new e → StaysOrRollsBack old new
+    unfolding FailsToQuery IsNotRun
+    left_by (inl (inl never)) = inl never.1
+    left_by (inl (inr fails)) = inr fails.3
+    left_by (inr run) =
+        let plain = (understood_plain t old.now.schema run.0 run.1.is).0 in
+        inl (subst (FailsToShow old new (scan_text t) run.0 (timed [] run.0.formats run.1.now) e) plain.returning run.2).3
+
+    pub fails_to_scan : FailsToQuery (scan_text t) [] old new e → FailsToScan t old new e
+    fails_to_scan h = (left_by h, unreadable h)
 
   -- the same, where the database is as it was before
   module _ (first old : State) (same : IsUnchanged first old) where
@@ -107,9 +131,10 @@ module _ (t : Table) where
     first_rows_before rows h = subst (λ (d : Database). (c : Compiled) × (understood d.schema (scan_text t) ≡ Ok c) × ReadsFirst c.command d [] rows) same.0.now_is h
 
     pub fails_before : (new : State) (e : Error) → FailsToScan t old new e → FailsToScan t first new e
-    fails_before new e h refusal =
-        let it = h refusal in
-        (subst (λ (d : Database). ((fault : CompileError) × (understood d.schema (scan_text t) ≡ Err fault)) ⊎ ((c : Compiled) × (x : Error) × (understood d.schema (scan_text t) ≡ Ok c) × RefusesToRead None c.command d [] x)) same.0.now_is it.0, unchanged_then first old new same it.1)
+    fails_before new e h = (stays_then first old new same h.0, λ refusal. again (h.1 refusal))
+      where
+        again : IsUnreadable t old × IsUnchanged old new → IsUnreadable t first × IsUnchanged first new
+        again it = (subst (λ (d : Database). ((fault : CompileError) × (understood d.schema (scan_text t) ≡ Err fault)) ⊎ ((c : Compiled) × (x : Error) × (understood d.schema (scan_text t) ≡ Ok c) × RefusesToRead None c.command d [] x)) same.0.now_is it.0, unchanged_then first old new same it.1)
 
 -- an error that is handed on
 pub err_scanned : (t : Table) (old new : State) (HasTaken IsSound : List Row → Type 0) (r : Result (Option ℕ) Error) (e : Error) → IsErrAnd r (λ f. f ≡ e) → FailsToScan t old new e → Scanned t old new HasTaken IsSound r

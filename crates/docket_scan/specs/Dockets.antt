@@ -6,8 +6,9 @@ use Rattle.court_rules.specs.declared.act.Standing.{Standing}
 use Rattle.docket_core.specs.CalendarItems.{calendar_of}
 use Rattle.docket_core.specs.Histories.{History, items_of, standing_rows, case_rows, party_rows, entry_rows, deadline_rows, act_rows, acts_of_deadline}
 use Rattle.docket_sound.specs.Standings.{counts_of_standings}
-use Rattle.docket_scan.specs.declared.fault.TableFault.{TableFault}
-use Rattle.docket_scan.specs.declared.fault.TableFault.TheVariants.{Damaged, NoMemory, StoreFailed}
+use Rattle.docket_scan.specs.declared.fault.AdoptFault.{AdoptFault}
+use Rattle.docket_scan.specs.declared.fault.AdoptFault.TheVariants.{NoMemory, StoreFailed}
+use Rattle.docket_scan.specs.declared.finding.FoundDocket.{FoundDocket}
 use Rattle.docket_scan.specs.declared.holdings.Holdings.{Holdings}
 
 -- where each deadline of a history stands, by the whole calendar
@@ -28,8 +29,15 @@ holdings_in court h = record {
 }
 
 -- what is told of the docket of a history: what the history has, or that memory or the database failed; no table is unsound
-abbrev pub IsToldOfDocket : CourtSettings → History → Result Holdings TableFault → Type 0
+abbrev pub IsToldOfDocket : CourtSettings → History → Result Holdings AdoptFault → Type 0
 IsToldOfDocket court h (Ok held) = held ≡ holdings_in court h
-IsToldOfDocket court h (Err (Damaged t)) = ⊥
 IsToldOfDocket court h (Err NoMemory) = Unit {0}
 IsToldOfDocket court h (Err StoreFailed) = Unit {0}
+IsToldOfDocket court h (Err _) = ⊥
+
+-- the same, with the court whose docket it is
+abbrev pub IsFoundOfDocket : CourtSettings → History → Result FoundDocket AdoptFault → Type 0
+IsFoundOfDocket court h (Ok found) = (found.court ≡ court) × (found.held ≡ holdings_in court h)
+IsFoundOfDocket court h (Err NoMemory) = Unit {0}
+IsFoundOfDocket court h (Err StoreFailed) = Unit {0}
+IsFoundOfDocket court h (Err _) = ⊥

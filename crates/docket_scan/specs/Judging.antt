@@ -21,15 +21,15 @@ use Rattle.docket_sound.specs.Deadlines.{deadline_key}
 use Rattle.docket_sound.specs.Dues.{dues_of}
 use Rattle.docket_sound.specs.Parties.{party_key}
 use Rattle.docket_scan.specs.Records.{count_in, receipt_cells, AreCalendarRows, AreCaseRows, ArePartyRows, AreEntryRows, AreDeadlineRows, AreActRows, AreReceiptRows, AreEndRows}
-use Rattle.docket_scan.specs.Scans.{IsUnreadable, AreRowsOf, AreFirstRowsOf}
+use Rattle.docket_scan.specs.Scans.{IsUnreadable, AreRowsOf, AreFirstRowsOf, StaysOrRollsBack}
 use Rattle.docket_scan.specs.Shapes.{has_table}
-use Rattle.docket_scan.specs.declared.fault.TableFault.{TableFault}
-use Rattle.docket_scan.specs.declared.fault.TableFault.TheVariants.{Damaged, NoMemory, StoreFailed}
+use Rattle.docket_scan.specs.declared.fault.AdoptFault.{AdoptFault}
+use Rattle.docket_scan.specs.declared.fault.AdoptFault.TheVariants.{Damaged, NoMemory, StoreFailed}
 use Rattle.docket_scan.specs.declared.receipt.StoredReceipt.{StoredReceipt}
 use Rattle.docket_tables.specs.declared.table.Table.{Table}
 use Rattle.docket_tables.specs.declared.table.Table.TheVariants.{Court, Calendar, Cases, Parties, Entries, Deadlines, Acts, Receipts, Ends}
 
-abbrev pub fault_in : Table → Error → TableFault
+abbrev pub fault_in : Table → Error → AdoptFault
 fault_in t (SqlInputError why) = Damaged t
 fault_in t (SqliteFailure TypeMismatch) = Damaged t
 fault_in t (SqliteFailure IntegerOverflow) = Damaged t
@@ -57,13 +57,14 @@ abbrev pub StaysOpen : State → State → Type 0
 StaysOpen old new = IsTrue old.is_open → IsUnchanged old new
 
 -- a fault in the reading of one table: it is told to be unsound where it is
-abbrev pub IsTold : Table → State → State → (List Row → Type 0) → TableFault → Type 0
+abbrev pub IsTold : Table → State → State → (List Row → Type 0) → AdoptFault → Type 0
 IsTold t old new AreSound (Damaged at) = (at ≡ t) × StaysOpen old new × IsUnsoundIn t old AreSound
-IsTold t old new AreSound NoMemory = Unit {0}
-IsTold t old new AreSound StoreFailed = Unit {0}
+IsTold t old new AreSound NoMemory = StaysOrRollsBack old new
+IsTold t old new AreSound StoreFailed = StaysOrRollsBack old new
+IsTold t old new AreSound _ = ⊥
 
 -- the reading of one table
-abbrev pub Judged : {X : Type 0} → Table → State → State → (X → Type 0) → (List Row → Type 0) → Result X TableFault → Type 0
+abbrev pub Judged : {X : Type 0} → Table → State → State → (X → Type 0) → (List Row → Type 0) → Result X AdoptFault → Type 0
 Judged t old new found AreSound (Ok x) = IsUnchanged old new × found x
 Judged t old new found AreSound (Err fault) = IsTold t old new AreSound fault
 
@@ -125,15 +126,20 @@ before Acts = Calendar ∷ Cases ∷ Parties ∷ Entries ∷ Deadlines ∷ []
 before Receipts = Calendar ∷ Cases ∷ Parties ∷ Entries ∷ Deadlines ∷ Acts ∷ []
 before Ends = Calendar ∷ Cases ∷ Parties ∷ Entries ∷ Deadlines ∷ Acts ∷ Receipts ∷ []
 
+abbrev pub IsBehindCourt : Table → Type 0
+IsBehindCourt Court = ⊥
+IsBehindCourt _ = Unit {0}
+
 -- the first table that is unsound is told, where those before it hold these rows
-abbrev pub FailsAt : CourtSettings → ℕ → State → State → TableFault → Type 0
+abbrev pub FailsAt : CourtSettings → ℕ → State → State → AdoptFault → Type 0
 FailsAt court next old new (Damaged t) =
-    StaysOpen old new × (r : Rows) × AllByRecursion (Holds old court next r) (before t) × IsUnsoundIn t old (AreSoundBy t court next r)
-FailsAt court next old new NoMemory = Unit {0}
-FailsAt court next old new StoreFailed = Unit {0}
+    IsBehindCourt t × StaysOpen old new × (r : Rows) × AllByRecursion (Holds old court next r) (before t) × IsUnsoundIn t old (AreSoundBy t court next r)
+FailsAt court next old new NoMemory = StaysOrRollsBack old new
+FailsAt court next old new StoreFailed = StaysOrRollsBack old new
+FailsAt court next old new _ = ⊥
 
 -- the tables hold these rows, up to that one
-abbrev pub JudgedTo : {X : Type 0} → Table → CourtSettings → ℕ → State → State → (Rows → X → Type 0) → Result X TableFault → Type 0
+abbrev pub JudgedTo : {X : Type 0} → Table → CourtSettings → ℕ → State → State → (Rows → X → Type 0) → Result X AdoptFault → Type 0
 JudgedTo t court next old new says (Ok x) =
     IsUnchanged old new × (r : Rows) × AllByRecursion (Holds old court next r) (before t) × Holds old court next r t × says r x
 JudgedTo t court next old new says (Err fault) = FailsAt court next old new fault

@@ -1,4 +1,6 @@
+pub mod Courts
 pub mod Dockets
+pub mod Finding
 pub mod Holdings
 pub mod Judging
 pub mod Passing

@@ -5,7 +5,7 @@ use Rattle.sqlite_resolve.specs.declared.error.CompileError.{CompileError}
 use Rattle.sqlite.specs.Effect.{Reads, ReadsFirst, RefusesToRead}
 use Rattle.sqlite.specs.Listing.{understood}
 use Rattle.sqlite.specs.Order.{Row}
-use Rattle.sqlite.specs.State.{State, IsUnchanged}
+use Rattle.sqlite.specs.State.{State, IsUnchanged, IsRolledBack}
 use Rattle.sqlite.specs.declared.error.Error.{Error}
 use Rattle.sqlite.specs.declared.error.Error.TheVariants.{SqliteFailure, SqlInputError}
 use Rattle.sqlite.specs.declared.error.ErrorCode.TheVariants.{TypeMismatch, IntegerOverflow}
@@ -46,9 +46,13 @@ abbrev pub Scans : Table → State → (List Row → Type 0) → (List Row → T
 Scans t s HasTaken IsSound (Some count) = (rows : List Row) × AreRowsOf t s rows × OfSoMany count HasTaken rows
 Scans t s HasTaken IsSound None = (first : List Row) × AreFirstRowsOf t s first × ((more : List Row) → IsSound (first ++ more) → ⊥)
 
+-- the connection sees the same still, or what it had begun was undone, and it may be shut
+abbrev pub StaysOrRollsBack : State → State → Type 0
+StaysOrRollsBack old new = IsUnchanged old new ⊎ IsRolledBack old new
+
 -- the database refused the statement, or failed
 abbrev pub FailsToScan : Table → State → State → Error → Type 0
-FailsToScan t old new e = IsTrue (is_refusal e) → IsUnreadable t old × IsUnchanged old new
+FailsToScan t old new e = StaysOrRollsBack old new × (IsTrue (is_refusal e) → IsUnreadable t old × IsUnchanged old new)
 
 -- what the reading of a table comes to: it writes nothing, and the database stays as it was
 abbrev pub Scanned : Table → State → State → (List Row → Type 0) → (List Row → Type 0) → Result (Option ℕ) Error → Type 0

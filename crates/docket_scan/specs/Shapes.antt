@@ -38,5 +38,10 @@ has_column columns name = list_any (λ (column : Column). same_name column.name 
 abbrev pub has_columns : List Column → List (List ℕ) → Bool
 has_columns columns names = list_all (has_column columns) names
 
+-- a table has the name
+abbrev pub has_named : Schema → Table → Bool
+has_named schema t = list_any (λ found. same_name found.name (name_of t)) schema.tables
+
+-- and the columns
 abbrev pub has_table : Schema → Table → Bool
 has_table schema t = list_any (λ found. same_name found.name (name_of t) && has_columns found.columns (columns_of t)) schema.tables

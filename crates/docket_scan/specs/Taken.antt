@@ -1,11 +1,11 @@
 -- What the checks of tables have taken, as rows of SQL, and what they refer to.
-use Rattle.std.specs.Prelude.{◌≡◌, ℕ, List, map}
+use Rattle.std.specs.Prelude.{◌≡◌, ◌↔◌, ℕ, IsTrue, List, [], ◌∷◌, map, Option, Some, None, Result, Ok, Err}
 use Rattle.sqlite.specs.Order.{Row}
 use Rattle.court_days.specs.Calendar.{Entered}
 use Rattle.court_days.specs.Court.{CourtSettings}
 use Rattle.docket_core.specs.declared.end_row.EndRow.{EndRow}
-use Rattle.docket_columns.specs.Cells.{calendar_cells, case_cells, party_cells, entry_cells, deadline_cells, act_cells, end_cells}
-use Rattle.docket_columns.specs.Fits.{IsCalendarRow, IsCaseRow, IsPartyRow, IsEntryRow, IsDeadlineRow, IsActRow, IsEndRow}
+use Rattle.docket_columns.specs.Cells.{court_cells, calendar_cells, case_cells, party_cells, entry_cells, deadline_cells, act_cells, end_cells}
+use Rattle.docket_columns.specs.Fits.{IsCourtRow, IsCalendarRow, IsCaseRow, IsPartyRow, IsEntryRow, IsDeadlineRow, IsActRow, IsEndRow}
 use Rattle.docket_sound.specs.Acts.{HasTakenActs}
 use Rattle.docket_sound.specs.Calendars.{HasTakenCalendarRows}
 use Rattle.docket_sound.specs.Cases.{HasTakenCases}
@@ -18,13 +18,20 @@ use Rattle.docket_sound.specs.Receipts.{HasTakenReceipts}
 use Rattle.docket_sound.specs.declared.act.ActCheck.{ActCheck}
 use Rattle.docket_sound.specs.declared.calendar.CalendarCheck.{CalendarCheck}
 use Rattle.docket_sound.specs.declared.cases.CaseCheck.{CaseCheck}
+use Rattle.docket_sound.specs.declared.court.CourtRecord.{CourtRecord}
 use Rattle.docket_sound.specs.declared.deadline.DeadlineCheck.{DeadlineCheck}
 use Rattle.docket_sound.specs.declared.due.DueCheck.{DueCheck}
 use Rattle.docket_sound.specs.declared.entry.EntryCheck.{EntryCheck}
 use Rattle.docket_sound.specs.declared.party.PartyCheck.{PartyCheck}
 use Rattle.docket_sound.specs.declared.receipt.ReceiptCheck.{ReceiptCheck}
+use Rattle.docket_scan.specs.Courts.{HasWord, IsCurrent, AreMarked, record_of}
 use Rattle.docket_scan.specs.Records.{AreRecords, IsStoredReceipt, receipt_cells}
+use Rattle.docket_scan.specs.declared.court.CourtCheck.{CourtCheck}
+use Rattle.docket_scan.specs.declared.court.SeenRow.{SeenRow}
+use Rattle.docket_scan.specs.declared.fault.AdoptFault.{AdoptFault}
+use Rattle.docket_scan.specs.declared.fault.AdoptFault.TheVariants.{NotADocket, OtherVersion, Damaged}
 use Rattle.docket_scan.specs.declared.receipt.StoredReceipt.{StoredReceipt}
+use Rattle.docket_tables.specs.declared.table.Table.TheVariants.{Court}
 
 -- the rows were read as records, which alone have these cells, and of which this holds
 pub record IsRead {R : Type 0} (Is : R → Type 0) (cells : R → Row) (Holds : List R → Type 0) (rows : List Row) : Type 0 where
@@ -83,3 +90,33 @@ HasTakenReceiptTable check = IsRead IsStoredReceipt receipt_cells (HasTakenStore
 
 abbrev pub HasTakenEndTable : DueCheck → List Row → Type 0
 HasTakenEndTable check = IsRead IsEndRow end_cells (HasTakenDues check)
+
+-- no court has this row
+abbrev pub IsNoCourts : Row → Type 0
+IsNoCourts row = (court : CourtSettings) (next : ℕ) → IsCourtRow court next → row ≡ court_cells court next → ⊥
+
+-- what is kept of a row of a court
+abbrev pub SaysCourtOf : Option CourtRecord → Row → Type 0
+SaysCourtOf (Some r) row = (court : CourtSettings) × (row ≡ court_cells court r.next_row) × IsCourtRow court r.next_row × (r ≡ record_of court r.next_row)
+SaysCourtOf None row = IsNoCourts row
+
+pub record Sees (seen : SeenRow) (row : Row) : Type 0 where
+  pub word : IsTrue seen.has_word ↔ HasWord row
+  pub current : IsTrue seen.is_current ↔ IsCurrent row
+  pub court : SaysCourtOf seen.court row
+
+abbrev pub HasSeen : Option SeenRow → List Row → Type 0
+HasSeen None rows = rows ≡ []
+HasSeen (Some seen) rows = (row : Row) × (rows ≡ row ∷ []) × Sees seen row
+
+abbrev pub HasTakenCourt : CourtCheck → List Row → Type 0
+HasTakenCourt check = HasSeen check.seen
+
+-- what the rows of the table of the court come to
+abbrev pub Finishes : List Row → Result CourtRecord AdoptFault → Type 0
+Finishes rows (Ok r) =
+    (court : CourtSettings) × (rows ≡ court_cells court r.next_row ∷ []) × IsCourtRow court r.next_row × (r ≡ record_of court r.next_row)
+Finishes rows (Err NotADocket) = AreMarked rows → ⊥
+Finishes rows (Err OtherVersion) = (row : Row) × (rows ≡ row ∷ []) × HasWord row × (IsCurrent row → ⊥)
+Finishes rows (Err (Damaged Court)) = (row : Row) × (rows ≡ row ∷ []) × HasWord row × IsCurrent row × IsNoCourts row
+Finishes rows (Err _) = ⊥

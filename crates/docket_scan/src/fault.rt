@@ -1,4 +1,4 @@
-//! Why the tables of a database are not taken for a docket's.
+//! Why a database is not taken for a docket's.
 ghost use Rattle.std.specs.Prelude.{◌≡◌};
 ghost use Rattle.docket_scan.specs.Judging.{fault_in};
 
@@ -8,46 +8,55 @@ use sqlite::{Error, ErrorCode};
 use std::alloc::AllocError;
 use std::fmt;
 
-/// Why the tables are not taken for a docket's.
+/// Why a database was not adopted.
 #[derive(Clone, Copy, Debug, PartialEq, Eq)]
-pub enum TableFault {
+pub enum AdoptFault {
+    /// There is no table of a court, or none that can be read.
+    Empty,
+    /// The table of the court lacks a column, or does not hold one row with a docket's mark.
+    NotADocket,
+    /// The tables are laid out in another version.
+    OtherVersion,
     /// The first table, in their order, that is unsound.
     Damaged(Table),
     NoMemory,
-    /// The database failed.
+    /// The database failed, or a transaction is open on it.
     StoreFailed,
 }
 
-impl fmt::Display for TableFault {
+impl fmt::Display for AdoptFault {
     fn fmt<W: fmt::Write>(&self, f: &mut fmt::Formatter<W>) -> fmt::Result {
         match self {
-            TableFault::Damaged(table) => write!(f, "the table {} is not sound", name_of(*table)),
-            TableFault::NoMemory => f.write_str("there is not enough memory"),
-            TableFault::StoreFailed => f.write_str("the database failed"),
+            AdoptFault::Empty => f.write_str("the database holds no docket"),
+            AdoptFault::NotADocket => f.write_str("the database is not that of a docket"),
+            AdoptFault::OtherVersion => f.write_str("the docket is laid out in another version"),
+            AdoptFault::Damaged(table) => write!(f, "the table {} is not sound", name_of(*table)),
+            AdoptFault::NoMemory => f.write_str("there is not enough memory"),
+            AdoptFault::StoreFailed => f.write_str("the database failed"),
         }
     }
 }
 
-impl From<AllocError> for TableFault {
+impl From<AllocError> for AdoptFault {
     ghost use Rattle.std.specs.Prelude.{◌≡◌};
-    ghost use Rattle.docket_scan.specs.declared.fault.TableFault.TheVariants.{NoMemory};
+    ghost use Rattle.docket_scan.specs.declared.fault.AdoptFault.TheVariants.{NoMemory};
 
     ghost from_gives = { λ _ fault. fault ≡ NoMemory };
 
-    fn from(_: AllocError) -> TableFault {
-        TableFault::NoMemory
+    fn from(_: AllocError) -> AdoptFault {
+        AdoptFault::NoMemory
     }
 }
 
 /// What an error in the reading of a table comes to. A table that no statement can read is unsound.
-pub(crate) fn fault_in(table: Table, error: Error) -> TableFault
+pub(crate) fn fault_in(table: Table, error: Error) -> AdoptFault
     ensures { result ≡ fault_in table error }
 {
     match error {
-        Error::SqlInputError(_) => TableFault::Damaged(table),
-        Error::SqliteFailure(ErrorCode::TypeMismatch) => TableFault::Damaged(table),
-        Error::SqliteFailure(ErrorCode::IntegerOverflow) => TableFault::Damaged(table),
-        Error::SqliteFailure(ErrorCode::OutOfMemory) => TableFault::NoMemory,
-        _ => TableFault::StoreFailed,
+        Error::SqlInputError(_) => AdoptFault::Damaged(table),
+        Error::SqliteFailure(ErrorCode::TypeMismatch) => AdoptFault::Damaged(table),
+        Error::SqliteFailure(ErrorCode::IntegerOverflow) => AdoptFault::Damaged(table),
+        Error::SqliteFailure(ErrorCode::OutOfMemory) => AdoptFault::NoMemory,
+        _ => AdoptFault::StoreFailed,
     }
 }

@@ -22,7 +22,7 @@ ghost use Rattle.docket_tables.specs.Stands.{HoldsRows};
 ghost use Rattle.docket_tables.specs.declared.table.Table.TheVariants as table;
 ghost use Rattle.docket_wire.specs.Valid.{IsCommand};
 
-use crate::fault::{TableFault, fault_in};
+use crate::fault::{AdoptFault, fault_in};
 use crate::holdings::Holdings;
 use crate::passing::{CalendarRead, CasesRead, DeadlinesRead, EndsRead, PartiesRead};
 use crate::scan::scan;
@@ -44,7 +44,7 @@ fn judge<S: Alter, C: Taker>(
     alloc: Global,
     table: Table,
     check: &mut C,
-) -> Result<u64, TableFault>
+) -> Result<u64, AdoptFault>
     ensures writes_nothing { Survives (state S.Store conn.old) (state S.Store conn.new) (λ _. ⊥) }
     ensures mode { conn.old.in_transaction ≡ false → conn.new.in_transaction ≡ false }
     ensures context { C.context check.new ≡ C.context check.old }
@@ -54,11 +54,11 @@ fn judge<S: Alter, C: Taker>(
         (C.IsSound (C.context check.old)) result }
 {
     if !has_table(conn.schema(), table) {
-        return Err(TableFault::Damaged(table));
+        return Err(AdoptFault::Damaged(table));
     }
     match scan(conn, alloc, table, check) {
         Ok(Some(count)) => Ok(count),
-        Ok(None) => Err(TableFault::Damaged(table)),
+        Ok(None) => Err(AdoptFault::Damaged(table)),
         Err(error) => Err(fault_in(table, error)),
     }
 }
@@ -69,7 +69,7 @@ fn judge_calendar<S: Alter>(
     alloc: Global,
     court: Court,
     next_row: u64,
-) -> Result<CalendarRead, TableFault>
+) -> Result<CalendarRead, AdoptFault>
     ensures writes_nothing { Survives (state S.Store conn.old) (state S.Store conn.new) (λ _. ⊥) }
     ensures mode { conn.old.in_transaction ≡ false → conn.new.in_transaction ≡ false }
     ensures told { HasCleanDisk (state S.Store conn.new)
@@ -94,7 +94,7 @@ fn judge_cases<S: Alter>(
     alloc: Global,
     court: Court,
     next_row: u64,
-) -> Result<CasesRead, TableFault>
+) -> Result<CasesRead, AdoptFault>
     ensures writes_nothing { Survives (state S.Store conn.old) (state S.Store conn.new) (λ _. ⊥) }
     ensures mode { conn.old.in_transaction ≡ false → conn.new.in_transaction ≡ false }
     ensures told { HasCleanDisk (state S.Store conn.new)
@@ -125,7 +125,7 @@ fn judge_parties<S: Alter>(
     alloc: Global,
     court: Court,
     next_row: u64,
-) -> Result<PartiesRead, TableFault>
+) -> Result<PartiesRead, AdoptFault>
     ensures writes_nothing { Survives (state S.Store conn.old) (state S.Store conn.new) (λ _. ⊥) }
     ensures mode { conn.old.in_transaction ≡ false → conn.new.in_transaction ≡ false }
     ensures told { HasCleanDisk (state S.Store conn.new)
@@ -157,7 +157,7 @@ fn judge_entries<S: Alter>(
     alloc: Global,
     court: Court,
     next_row: u64,
-) -> Result<PartiesRead, TableFault>
+) -> Result<PartiesRead, AdoptFault>
     ensures writes_nothing { Survives (state S.Store conn.old) (state S.Store conn.new) (λ _. ⊥) }
     ensures mode { conn.old.in_transaction ≡ false → conn.new.in_transaction ≡ false }
     ensures told { HasCleanDisk (state S.Store conn.new)
@@ -179,7 +179,7 @@ fn judge_deadlines<S: Alter>(
     alloc: Global,
     court: Court,
     next_row: u64,
-) -> Result<DeadlinesRead, TableFault>
+) -> Result<DeadlinesRead, AdoptFault>
     ensures writes_nothing { Survives (state S.Store conn.old) (state S.Store conn.new) (λ _. ⊥) }
     ensures mode { conn.old.in_transaction ≡ false → conn.new.in_transaction ≡ false }
     ensures told { HasCleanDisk (state S.Store conn.new)
@@ -231,7 +231,7 @@ fn judge_acts<S: Alter>(
     alloc: Global,
     court: Court,
     next_row: u64,
-) -> Result<EndsRead, TableFault>
+) -> Result<EndsRead, AdoptFault>
     ensures writes_nothing { Survives (state S.Store conn.old) (state S.Store conn.new) (λ _. ⊥) }
     ensures mode { conn.old.in_transaction ≡ false → conn.new.in_transaction ≡ false }
     ensures told { HasCleanDisk (state S.Store conn.new)
@@ -250,7 +250,7 @@ fn judge_acts<S: Alter>(
             ends,
             held: Holdings { standings, ..held },
         }),
-        None => Err(TableFault::Damaged(Table::Acts)),
+        None => Err(AdoptFault::Damaged(Table::Acts)),
     }
 }
 
@@ -260,7 +260,7 @@ fn judge_receipts<S: Alter>(
     alloc: Global,
     court: Court,
     next_row: u64,
-) -> Result<EndsRead, TableFault>
+) -> Result<EndsRead, AdoptFault>
     ensures writes_nothing { Survives (state S.Store conn.old) (state S.Store conn.new) (λ _. ⊥) }
     ensures mode { conn.old.in_transaction ≡ false → conn.new.in_transaction ≡ false }
     ensures told { HasCleanDisk (state S.Store conn.new)
@@ -283,12 +283,12 @@ fn judge_receipts<S: Alter>(
 /// order, that is missing, lacks a column, can't be read or is unsound by those before it; want of memory
 /// and a failure of the database may come at any point. Of the docket of a history no table is told to be
 /// unsound, and what is told is what the history has. Nothing is written.
-pub fn judge_tables<S: Alter>(
+pub(crate) fn judge_tables<S: Alter>(
     conn: &mut Connection<S>,
     alloc: Global,
     court: Court,
     next_row: u64,
-) -> Result<Holdings, TableFault>
+) -> Result<Holdings, AdoptFault>
     ensures writes_nothing { Survives (state S.Store conn.old) (state S.Store conn.new) (λ _. ⊥) }
     ensures mode { conn.old.in_transaction ≡ false → conn.new.in_transaction ≡ false }
     ensures told { HasCleanDisk (state S.Store conn.new)
@@ -303,6 +303,6 @@ pub fn judge_tables<S: Alter>(
     if check.is_sound() {
         Ok(held)
     } else {
-        Err(TableFault::Damaged(Table::Ends))
+        Err(AdoptFault::Damaged(Table::Ends))
     }
 }

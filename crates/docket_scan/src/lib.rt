@@ -1,12 +1,15 @@
 //! The tables of a docket, read from any database whose store is clean, and judged in their order.
 //!
 //! A table is read by one statement, row by row, and each row is handed to the check of that table
-//! (`docket_sound`), so that no row is kept. `judge_tables` tells how much sound tables hold, or the
-//! first table, in their order, that is missing, lacks a column, can't be read or is unsound by those
-//! before it; it writes nothing. No table of a docket of this program is told to be so.
+//! (`docket_sound`), so that no row is kept. `find_docket` tells the court and how much sound tables
+//! hold, or the first cause for which a database is no docket's: there is no court, it is marked as
+//! another's, its layout is another, or a table is missing, lacks a column, can't be read or is unsound
+//! by those before it. It writes nothing. A docket of this program is found as it is.
 #![tactic(auto)]
 
+mod court;
 mod fault;
+mod finding;
 mod holdings;
 mod judging;
 mod passing;
@@ -17,9 +20,9 @@ mod statement;
 mod tables;
 mod taker;
 
-pub use fault::TableFault;
+pub use fault::AdoptFault;
+pub use finding::{FoundDocket, find_docket};
 pub use holdings::Holdings;
-pub use judging::judge_tables;
 pub use receipt::StoredReceipt;
-pub use shape::has_table;
+pub use shape::{has_named, has_table};
 pub use statement::scan_text;

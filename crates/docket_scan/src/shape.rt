@@ -2,7 +2,7 @@
 ghost use Rattle.std.specs.Prelude.{◌≡◌};
 ghost use Rattle.std.specs.List.{list_all, list_any};
 ghost use Rattle.sqlite_schema.specs.Names.{same_name};
-ghost use Rattle.docket_scan.specs.Shapes.{name_of, columns_of, has_column, has_columns, has_table};
+ghost use Rattle.docket_scan.specs.Shapes.{name_of, columns_of, has_column, has_columns, has_named, has_table};
 
 use docket_tables::Table;
 use sqlite_schema::names::same_name;
@@ -70,6 +70,17 @@ fn has_columns(columns: &[Column], table: Table) -> bool
         Table::Receipts => has_each(columns, &["command_key", "body", "reply"]),
         Table::Ends => has_each(columns, &["case_no", "deadline_no", "day", "moment"]),
     }
+}
+
+/// Whether there is a table of that name. Names are compared without regard to ASCII case, as SQL does.
+pub fn has_named(schema: &Schema, table: Table) -> bool
+    ensures { result ≡ has_named schema.now table }
+{
+    let tables = schema.tables.as_slice();
+    let name = name_of(table);
+    tables
+        .iter()
+        .any(|found| same_name(found.name.as_slice(), name.as_bytes()))
 }
 
 /// Whether there is a table of that name with its columns, in any order and beside any others. Names

@@ -2,6 +2,7 @@
 mod acts;
 mod calendar;
 mod cases;
+mod court;
 mod deadlines;
 mod ends;
 mod entries;

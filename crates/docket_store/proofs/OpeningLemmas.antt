@@ -1,34 +1,58 @@
--- The row of a docket's court is that of a court.
-use Rattle.std.proofs.Common.{◌≡◌, ◌∙◌, ◌↔◌, ◌≤◌, ℕ, List, Result, Ok, Err, IsErrAnd, Option, None, Some, IsSome, sym, ap, subst, arith}
+-- What is found in a database holds of the connection that comes back.
+use Rattle.std.proofs.Common.{◌≡◌, ◌∙◌, false, true, Ok, Err, sym, ap, subst, refl, arith}
+use Rattle.std.proofs.lemmas.Bool.{false≢true}
+use Rattle.sqlite_schema.specs.Names.{same_name}
+use Rattle.sqlite.specs.Schema.{Schema}
 use Rattle.sqlite.specs.Store.{Ghosts}
-use Rattle.sqlite.specs.State.{HasCleanDisk}
+use Rattle.sqlite.specs.State.{HasCleanDisk, Survives}
 use Rattle.sqlite.specs.Held.{Held, state}
-use Rattle.civil_time.specs.Zone.{ZoneRules}
-use Rattle.civil_time.specs.ZoneText.{zone_at}
 use Rattle.court_days.specs.Court.{CourtSettings}
-use Rattle.court_days.specs.declared.court.CourtFault.{CourtFault}
-use Rattle.court_days.specs.declared.court.CourtFault.TheVariants as unread
 use Rattle.docket_core.specs.Histories.{History}
-use Rattle.docket_store.specs.Applying.{IsDocket, StandsFor, docket_rows}
-use Rattle.docket_store.specs.Opening.{Finds, IsNotAdopted, fault_of_court}
-use Rattle.docket_store.specs.declared.adopting.AdoptFault.{AdoptFault}
+use Rattle.docket_scan.specs.Dockets.{IsFoundOfDocket}
+use Rattle.docket_scan.specs.Finding.{IsNotTaken, IsTaken}
+use Rattle.docket_scan.specs.Scans.{StaysOrRollsBack}
+use Rattle.docket_scan.specs.Shapes.{has_named}
+use Rattle.docket_scan.specs.declared.fault.AdoptFault.{AdoptFault}
+use Rattle.docket_scan.specs.declared.fault.AdoptFault.TheVariants.{Empty, NotADocket, OtherVersion, Damaged, NoMemory, StoreFailed}
+use Rattle.docket_scan.specs.declared.finding.FoundDocket.{FoundDocket}
+use Rattle.docket_tables.specs.Schema.{docket_schema}
+use Rattle.docket_tables.specs.Stands.{IsSettled, Lasts}
+use Rattle.docket_tables.specs.declared.table.Table.TheVariants as table
+use Rattle.docket_tables.proofs.StandsLemmas.{unchanged_settled, undone_lasting}
+use Rattle.docket_store.specs.Applying.{StandsFor, docket_rows}
+use Rattle.docket_store.specs.Opening.{Finds}
 
-none_spelled : (found : Option ZoneRules) → IsSome found → found ≡ None → ⊥
-none_spelled (Some z) some e = absurd (cc)
-none_spelled None some e = absurd (let no = some in cc)
+module _ {S : Type 0} (g : Ghosts S) (old new : Held S) (court : CourtSettings) (h : History) (crash : Survives (state g old) (state g new) (λ _. ⊥)) (idle : new.in_transaction ≡ false) (stands : StandsFor g old court h) where
+  settled : HasCleanDisk (state g new) → IsSettled (state g old) (docket_rows court h)
+  settled clean = stands.1 (omega (arith, crash.clean, clean))
 
-module _ {S : Type 0} (g : Ghosts S) (conn : Held S) (court : CourtSettings) (h : History) where
-  -- a court that could not be read: only for want of memory
-  pub not_read : (zone : List ℕ) (close : ℕ) (e : CourtFault) (r : Result CourtSettings CourtFault) → IsDocket court h → StandsFor g conn court h
-      → (HasCleanDisk (state g conn) → (zone ≡ court.zone_text) × (close ≡ court.close_minute)) → r ≡ Err e
-      → ((r ≡ Err unread.BadZone) ↔ (zone_at zone ≡ None)) → ((r ≡ Err unread.BadClose) ↔ (IsSome (zone_at zone) × (1440 ≤ close)))
-      → IsNotAdopted g conn (docket_rows court h) (fault_of_court e)
-  not_read zone close unread.BadZone r is stands same failed bad_zone bad_close = λ clean.
-      none_spelled (zone_at court.zone_text) is.zone (ap zone_at (sym (same clean).0) ∙ bad_zone.0 failed)
-  not_read zone close unread.BadClose r is stands same failed bad_zone bad_close = λ clean.
-      absurd (omega (arith, (bad_close.0 failed).1, (same clean).1, is.settings.1))
-  not_read zone close unread.NoMemory r is stands same failed bad_zone bad_close = stands
+  lasts : (HasCleanDisk (state g new) → StaysOrRollsBack (state g old) (state g new)) → Lasts g new (docket_rows court h)
+  lasts left = (idle, λ clean. undone_lasting (state g old) (state g new) (docket_rows court h) crash clean (settled clean) (left clean))
 
-  pub finds_err : (f : AdoptFault) (r : Result CourtSettings AdoptFault) → IsErrAnd r (λ x. x ≡ f) → IsNotAdopted g conn (docket_rows court h) f → Finds g conn court h r
-  finds_err f (Ok x) is not = absurd is
-  finds_err f (Err x) is not = subst (λ (k : AdoptFault). IsNotAdopted g conn (docket_rows court h) k) (sym is) not
+  pub lacks_memory : (fault : AdoptFault) → fault ≡ NoMemory → (HasCleanDisk (state g new) → IsNotTaken (state g old) (state g new) fault) → Lasts g new (docket_rows court h)
+  lacks_memory fault is told = lasts (λ clean. (subst (λ (f : AdoptFault). IsNotTaken (state g old) (state g new) f) is (told clean)).0)
+
+  pub found_docket : (found : FoundDocket) → (HasCleanDisk (state g new) → IsTaken (state g old) (state g new) (Ok found)) → (HasCleanDisk (state g new) → IsFoundOfDocket court h (Ok found))
+      → Finds g new court h (Ok found)
+  found_docket found taken its = (
+    (idle, λ clean. unchanged_settled (state g old) (state g new) (docket_rows court h) crash clean (settled clean) (taken clean).0),
+    its,
+  )
+
+  pub not_found : (fault : AdoptFault) → (fault ≡ NoMemory → ⊥) → (HasCleanDisk (state g new) → IsNotTaken (state g old) (state g new) fault) → (HasCleanDisk (state g new) → IsFoundOfDocket court h (Err fault))
+      → Finds g new court h (Err fault)
+  not_found Empty other told its = its
+  not_found NotADocket other told its = its
+  not_found OtherVersion other told its = its
+  not_found (Damaged t) other told its = its
+  not_found NoMemory other told its = absurd (other refl)
+  not_found StoreFailed other told its = lasts (λ clean. (told clean).0)
+
+-- a docket has a table of a court
+court_there : has_named docket_schema table.Court ≡ true
+unfolding same_name
+court_there = refl
+
+pub not_unnamed : {S : Type 0} (g : Ghosts S) (conn : Held S) (court : CourtSettings) (h : History) → StandsFor g conn court h → HasCleanDisk (state g conn) → has_named conn.schema table.Court ≡ false → ⊥
+not_unnamed g conn court h stands clean none =
+    false≢true (sym none ∙ ap (λ (schema : Schema). has_named schema table.Court) (stands.1 clean).shows.schema ∙ court_there)

@@ -2,32 +2,31 @@
 use Rattle.std.specs.Prelude.{◌≡◌, ◌⊎◌, [], Result, Ok, Err, IsTrue}
 use Rattle.sqlite.specs.Tree.{Trees}
 use Rattle.sqlite.specs.Store.{Ghosts}
-use Rattle.sqlite.specs.State.{HasCleanDisk}
+use Rattle.sqlite.specs.State.{State, HasCleanDisk, IsUnchanged}
 use Rattle.sqlite.specs.Held.{Held, state}
 use Rattle.court_days.specs.Court.{CourtSettings}
-use Rattle.court_days.specs.declared.court.CourtFault.{CourtFault}
-use Rattle.court_days.specs.declared.court.CourtFault.TheVariants as court
 use Rattle.docket_core.specs.Histories.{History}
+use Rattle.docket_scan.specs.Dockets.{IsFoundOfDocket}
+use Rattle.docket_scan.specs.Finding.{AreSound, HasCause}
+use Rattle.docket_scan.specs.Holdings.{holdings_of}
+use Rattle.docket_scan.specs.Judging.{Rows as SoundRows, StaysOpen}
+use Rattle.docket_scan.specs.declared.fault.AdoptFault.{AdoptFault}
+use Rattle.docket_scan.specs.declared.fault.AdoptFault.TheVariants as adopt
+use Rattle.docket_scan.specs.declared.finding.FoundDocket.{FoundDocket}
+use Rattle.docket_scan.specs.declared.holdings.Holdings.{Holdings}
 use Rattle.docket_tables.specs.Recognition.{has_docket_table}
 use Rattle.docket_tables.specs.Layouts.{Rows}
-use Rattle.docket_tables.specs.declared.fault.StoreFault.{StoreFault}
-use Rattle.docket_tables.specs.declared.fault.StoreFault.TheVariants as store
 use Rattle.docket_tables.specs.Stands.{HoldsRows, IsImage, Lasts}
 use Rattle.docket_store.specs.Applying.{StandsFor, Stands, docket_rows}
 use Rattle.docket_store.specs.Dockets.{Docket}
-use Rattle.docket_store.specs.declared.adopting.AdoptFault.{AdoptFault}
-use Rattle.docket_store.specs.declared.adopting.AdoptFault.TheVariants as adopt
 use Rattle.docket_store.specs.declared.creating.CreateFault.{CreateFault}
 use Rattle.docket_store.specs.declared.creating.CreateFault.TheVariants as create
 
--- a court whose row is none is no docket's
-abbrev pub fault_of_court : CourtFault → AdoptFault
-fault_of_court court.NoMemory = adopt.NoMemory
-fault_of_court _ = adopt.Damaged
-
-abbrev pub fault_of_store : StoreFault → AdoptFault
-fault_of_store store.NoMemory = adopt.NoMemory
-fault_of_store store.StoreFailed = adopt.StoreFailed
+-- a database that is judged to be no docket's is left as it was; want of memory and a failure may come to any
+abbrev pub Spares : State → State → AdoptFault → Type 0
+Spares old new adopt.NoMemory = Unit {0}
+Spares old new adopt.StoreFailed = Unit {0}
+Spares old new _ = StaysOpen old new
 
 module _ {S : Type 0} (g : Ghosts S) where
   -- what is left where no docket was made: a power failure leaves what it could leave before, or, where the database failed, the
@@ -39,15 +38,44 @@ module _ {S : Type 0} (g : Ghosts S) where
   IsNotMade old new court create.StoreFailed =
       HasCleanDisk (state g new) → (db : Trees) → (state g new).may_leave db → (state g old).may_leave db ⊎ IsImage (docket_rows court []) db
 
+  -- any database
+
+  -- its tables are sound, each by those before it: they hold these rows of a docket of the court, and are left as they were
+  abbrev pub HoldsSound : Held S → Held S → CourtSettings → SoundRows → Type 0
+  HoldsSound old new court r = IsUnchanged (state g old) (state g new) × AreSound (state g old) court r
+
+  -- the docket is that of a court, and its tables are sound
+  abbrev pub IsSoundDocket : Held S → Docket S → Type 0
+  IsSoundDocket old d = HasCleanDisk (state g d.conn) → (r : SoundRows) × HoldsSound old d.conn d.court r
+
+  -- and they hold so much
+  abbrev pub IsSoundWith : Held S → Docket S → Holdings → Type 0
+  IsSoundWith old d held = HasCleanDisk (state g d.conn) → (r : SoundRows) × HoldsSound old d.conn d.court r × (held ≡ holdings_of d.court r)
+
+  -- its tables were sound before it was written to
+  abbrev pub WasSound : Held S → Held S → Type 0
+  WasSound old new = HasCleanDisk (state g new) → (court : CourtSettings) × (r : SoundRows) × AreSound (state g old) court r
+
+  -- the first cause for which it is no docket's, in the order of the faults
+  abbrev pub IsRejected : Held S → Held S → AdoptFault → Type 0
+  IsRejected old new fault = HasCleanDisk (state g new) → Spares (state g old) (state g new) fault × HasCause (state g old) fault
+
+  -- what is told of it
+  abbrev pub IsToldOf : Held S → Held S → Result FoundDocket AdoptFault → Type 0
+  IsToldOf old new (Ok found) = HasCleanDisk (state g new) → (r : SoundRows) × HoldsSound old new found.court r × (found.held ≡ holdings_of found.court r)
+  IsToldOf old new (Err fault) = IsRejected old new fault
+
+  -- that of a docket
+
   -- what is left where a docket's database was not adopted: its rows stay, and no other fault comes
   abbrev pub IsNotAdopted : Held S → Rows → AdoptFault → Type 0
   IsNotAdopted conn rows adopt.NoMemory = HoldsRows g conn rows
   IsNotAdopted conn rows adopt.StoreFailed = Lasts g conn rows
   IsNotAdopted conn rows _ = HasCleanDisk (state g conn) → ⊥
 
-  -- the court of a docket's database is found, and the docket stays
-  abbrev pub Finds : Held S → CourtSettings → History → Result CourtSettings AdoptFault → Type 0
-  Finds conn court h (Ok found) = StandsFor g conn court h × (HasCleanDisk (state g conn) → found ≡ court)
+  -- the docket is found as it is, and it stays
+  abbrev pub Finds : Held S → CourtSettings → History → Result FoundDocket AdoptFault → Type 0
+  Finds conn court h (Ok found) = StandsFor g conn court h × (HasCleanDisk (state g conn) → IsFoundOfDocket court h (Ok found))
   Finds conn court h (Err fault) = IsNotAdopted conn (docket_rows court h) fault
 
   -- the docket of a history is adopted as it is

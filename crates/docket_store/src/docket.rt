@@ -1,22 +1,26 @@
 //! The docket of a court in a database.
 ghost use Rattle.std.specs.Prelude.{◌≡◌, ◌↔◌, ◌⊎◌, ◌≤◌, [], true, false, Err, IfOk, OnOk, IfErr, IsErrAnd, IsTrue, MatchResult};
 ghost use Rattle.sqlite.specs.Held.{state};
+ghost use Rattle.sqlite.specs.State.{HasCleanDisk};
 ghost use Rattle.sqlite.specs.View.{doubt};
 ghost use Rattle.court_days.specs.Court.{CourtSettings};
 ghost use Rattle.std.specs.Option.{option_map};
 ghost use Rattle.docket_core.specs.Histories.{History};
 ghost use Rattle.docket_core.specs.Records.{case_record, deadline_lines};
-ghost use Rattle.docket_tables.specs.Recognition.{has_court, has_docket_table};
+ghost use Rattle.docket_scan.specs.Dockets.{holdings_in};
+ghost use Rattle.docket_scan.specs.Shapes.{has_named};
+ghost use Rattle.docket_scan.specs.declared.fault.AdoptFault.TheVariants.{Empty};
+ghost use Rattle.docket_tables.specs.Recognition.{has_docket_table};
+ghost use Rattle.docket_tables.specs.declared.table.Table.TheVariants as table;
 ghost use Rattle.docket_store.specs.Applying.{IsDocket, StandsFor, Stands, Applies, Asks, docket_rows};
 ghost use Rattle.docket_store.specs.Listing.{Lists, ListsCalendar};
-ghost use Rattle.docket_store.specs.Opening.{IsAdopted, IsNotAdopted, IsNotMade};
-ghost use Rattle.docket_store.specs.declared.adopting.AdoptFault.TheVariants.{Empty};
+ghost use Rattle.docket_store.specs.Opening.{IsAdopted, IsNotAdopted, IsNotMade, IsRejected, IsSoundDocket, IsSoundWith};
 ghost use Rattle.docket_store.specs.declared.creating.CreateFault.TheVariants.{NotEmpty};
 ghost use Rattle.docket_store.specs.declared.fault.Fault.TheVariants as fault;
 ghost use Rattle.docket_store.specs.declared.listing.CalendarEnd.TheVariants as calendar_end;
 ghost use Rattle.docket_store.specs.declared.listing.ListingEnd.TheVariants as listing_end;
 
-use crate::adopting::{AdoptFault, find_court};
+use crate::adopting::adopt_from;
 use crate::applying::apply_to;
 use crate::asking::{lines_numbered, record_numbered};
 use crate::creating::{CreateFault, make_docket};
@@ -27,6 +31,7 @@ use crate::returned::Returned;
 use court_days::{Court, Day};
 use docket_command::{Command, Reply};
 use docket_core::{CalendarItems, CaseRecord, DeadlineLine};
+use docket_scan::{AdoptFault, FoundDocket, Holdings};
 use sqlite::{Alter, Connection};
 use std::alloc::Global;
 use std::io::Write;
@@ -90,30 +95,60 @@ impl<S: Alter> Docket<S> {
         }
     }
 
-    /// Adopts the docket that a database holds. Nothing is written. The faults are looked for in their
-    /// order, and want of memory or a failure of the database may come before any of them.
+    /// Adopts the docket that a database holds, whatever database it is. Its tables are judged in their
+    /// order, each by those before it, in time linear in the rows and in memory that does not grow with
+    /// the entries. Nothing is written. The faults are looked for in their order, and want of memory or a
+    /// failure of the database may come before any of them.
     pub fn adopt(alloc: Global, conn: Connection<S>) -> Result<Docket<S>, Returned<S, AdoptFault>>
         // The docket of a history is adopted as it is, and no other fault comes.
         ensures adopted { (court : CourtSettings) (h : History) → IsDocket court h → StandsFor S.Store conn court h
             → MatchResult result (λ docket. IsAdopted S.Store docket court h)
             (λ returned. IsNotAdopted S.Store returned.connection (docket_rows court h) returned.fault) }
+        // Of any database, the docket is that of sound tables, and a fault tells why there is none.
+        ensures told { MatchResult result (λ docket. IsSoundDocket S.Store conn docket)
+            (λ returned. IsRejected S.Store conn returned.connection returned.fault) }
         // Without a court there is no docket, and the connection comes back as it was.
-        ensures empty { has_court conn.schema ≡ false
+        ensures empty { has_named conn.schema table.Court ≡ false
             → IsErrAnd result (λ returned. (returned.fault ≡ Empty) × (returned.connection ≡ conn)) }
-        ensures court { IfErr result (λ returned. returned.fault ≡ Empty → has_court conn.schema ≡ false) }
         ensures clean { MatchResult result
             (λ docket. doubt (state S.Store conn).is_clean ≤ doubt (state S.Store docket.conn).is_clean)
             (λ returned. doubt (state S.Store conn).is_clean ≤ doubt (state S.Store returned.connection).is_clean) }
     {
+        let (docket, _) = Docket::adopt_counted(alloc, conn)?;
+        Ok(docket)
+    }
+
+    /// Adopts the docket that a database holds, as `adopt` does, and tells how much its tables hold.
+    pub fn adopt_counted(
+        alloc: Global,
+        conn: Connection<S>,
+    ) -> Result<(Docket<S>, Holdings), Returned<S, AdoptFault>>
+        ensures adopted { (court : CourtSettings) (h : History) → IsDocket court h → StandsFor S.Store conn court h
+            → MatchResult result (λ found. IsAdopted S.Store found.0 court h)
+            (λ returned. IsNotAdopted S.Store returned.connection (docket_rows court h) returned.fault) }
+        // Of the docket of a history it tells what the history has.
+        ensures counted { (court : CourtSettings) (h : History) → IsDocket court h → StandsFor S.Store conn court h
+            → IfOk result (λ found. HasCleanDisk (state S.Store found.0.conn) → found.1 ≡ holdings_in court h) }
+        ensures told { MatchResult result (λ found. IsSoundWith S.Store conn found.0 found.1)
+            (λ returned. IsRejected S.Store conn returned.connection returned.fault) }
+        ensures empty { has_named conn.schema table.Court ≡ false
+            → IsErrAnd result (λ returned. (returned.fault ≡ Empty) × (returned.connection ≡ conn)) }
+        ensures clean { MatchResult result
+            (λ found. doubt (state S.Store conn).is_clean ≤ doubt (state S.Store found.0.conn).is_clean)
+            (λ returned. doubt (state S.Store conn).is_clean ≤ doubt (state S.Store returned.connection).is_clean) }
+    {
         let mut connection = conn;
-        match find_court(&mut connection, alloc) {
-            Ok(court) => Ok(Docket {
-                alloc,
-                conn: connection,
-                court,
-                closed: false,
-                calendar: None,
-            }),
+        match adopt_from(&mut connection, alloc) {
+            Ok(FoundDocket { court, held }) => {
+                let docket = Docket {
+                    alloc,
+                    conn: connection,
+                    court,
+                    closed: false,
+                    calendar: None,
+                };
+                Ok((docket, held))
+            }
             Err(fault) => Err(Returned { fault, connection }),
         }
     }

@@ -1,5 +1,5 @@
 //! The docket of a court in a database: one command, one transaction. What a power failure leaves of
-//! the database is a docket.
+//! the database is a docket. Any database is adopted, if all its tables are sound.
 #![tactic(auto)]
 
 mod adopting;
@@ -18,9 +18,9 @@ mod returned;
 mod sequence;
 mod sessions;
 
-pub use adopting::AdoptFault;
 pub use creating::CreateFault;
 pub use docket::Docket;
+pub use docket_scan::{AdoptFault, Holdings};
 pub use fault::Fault;
 pub use laws::courts_begin_without_a_record;
 pub use listing::{CalendarEnd, ListingEnd};

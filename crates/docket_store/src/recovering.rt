@@ -10,12 +10,12 @@ ghost use Rattle.docket_core.specs.Outcomes.{after};
 ghost use Rattle.docket_store.specs.Applying.{IsDocket};
 ghost use Rattle.docket_store.specs.Reopening.{AppliesOnce, IsEither, IsNotOpened, IsNotRecovered, LeavesEither, MayLeave};
 
-use crate::adopting::AdoptFault;
 use crate::docket::Docket;
 use crate::fault::Fault;
 use crate::reopening::reopen;
 use crate::returned::Returned;
 use docket_command::{Command, Reply};
+use docket_scan::AdoptFault;
 use sqlite::{Error, FileStore, Files, Leftover, Options};
 use sqlite_disk::Disk;
 use std::alloc::Global;

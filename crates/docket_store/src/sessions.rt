@@ -1,21 +1,22 @@
 //! A session: the docket of a database is adopted, commands are applied, and the connection goes back.
-ghost use Rattle.std.specs.Prelude.{◌≡◌, ◌≤◌, [], length, false, IfErr, IsErrAnd, MatchResult, vec_capacity, vec_len};
+ghost use Rattle.std.specs.Prelude.{◌≡◌, ◌≤◌, [], length, false, IsErrAnd, MatchResult, vec_capacity, vec_len};
 ghost use Rattle.sqlite.specs.Held.{state};
 ghost use Rattle.sqlite.specs.View.{doubt};
 ghost use Rattle.court_days.specs.Court.{CourtSettings};
 ghost use Rattle.docket_core.specs.Histories.{History};
-ghost use Rattle.docket_tables.specs.Recognition.{has_court};
+ghost use Rattle.docket_scan.specs.Shapes.{has_named};
+ghost use Rattle.docket_scan.specs.declared.fault.AdoptFault.TheVariants.{Empty};
+ghost use Rattle.docket_tables.specs.declared.table.Table.TheVariants as table;
 ghost use Rattle.docket_store.specs.Applying.{IsDocket, StandsFor, Stands, docket_rows};
-ghost use Rattle.docket_store.specs.Opening.{IsNotAdopted};
+ghost use Rattle.docket_store.specs.Opening.{IsNotAdopted, IsRejected, WasSound};
 ghost use Rattle.docket_store.specs.Sessions.{EndsSession};
-ghost use Rattle.docket_store.specs.declared.adopting.AdoptFault.TheVariants.{Empty};
 
-use crate::adopting::AdoptFault;
 use crate::docket::Docket;
 use crate::fault::Fault;
 use crate::returned::Returned;
 use crate::sequence::answer;
 use docket_command::{Command, Refusal, Reply};
+use docket_scan::AdoptFault;
 use sqlite::{Alter, Connection};
 use std::alloc::Global;
 
@@ -51,9 +52,9 @@ fn answer_until<S: Alter>(
     None
 }
 
-/// Adopts the docket that a database holds, and applies commands in order, each in a transaction of its
-/// own. A refusal is an answer; the first other fault stops the session, and then the commands before it
-/// stand. The memory for the answers is taken before the first command.
+/// Adopts the docket that a database holds, whatever database it is, and applies commands in order, each
+/// in a transaction of its own. A refusal is an answer; the first other fault stops the session, and then
+/// the commands before it stand. The memory for the answers is taken before the first command.
 pub fn session<S: Alter>(
     alloc: Global,
     connection: Connection<S>,
@@ -63,9 +64,11 @@ pub fn session<S: Alter>(
         → MatchResult result (λ end. EndsSession S.Store end.connection court h commands.now end.replies.items end.stopped_at)
         (λ returned. IsNotAdopted S.Store returned.connection (docket_rows court h) returned.fault) }
     // Without a court there is no docket, and the connection comes back as it was.
-    ensures empty { has_court connection.schema ≡ false
+    ensures empty { has_named connection.schema table.Court ≡ false
         → IsErrAnd result (λ returned. (returned.fault ≡ Empty) × (returned.connection ≡ connection)) }
-    ensures court { IfErr result (λ returned. returned.fault ≡ Empty → has_court connection.schema ≡ false) }
+    // Of any database, its tables were sound, or a fault tells why it is no docket's.
+    ensures told { MatchResult result (λ end. WasSound S.Store connection end.connection)
+        (λ returned. IsRejected S.Store connection returned.connection returned.fault) }
     ensures clean { MatchResult result
         (λ end. doubt (state S.Store connection).is_clean ≤ doubt (state S.Store end.connection).is_clean)
         (λ returned. doubt (state S.Store connection).is_clean ≤ doubt (state S.Store returned.connection).is_clean) }

@@ -3,7 +3,7 @@
 use crate::file::open_file;
 use crate::status::Status;
 use crate::telling::failed;
-use docket_store::{AdoptFault, Docket, Returned};
+use docket_store::{AdoptFault, Docket, Holdings, Returned};
 use sqlite::{Alter, Connection, File, FileStore};
 use std::alloc::Global;
 use std::fmt;
@@ -22,10 +22,14 @@ impl<F: fmt::Display> fmt::Display for AtPath<'_, F> {
     }
 }
 
-/// The docket that a database holds, or why there is none. The database is let go then.
-fn adopted<S: Alter + Drop>(alloc: Global, conn: Connection<S>) -> Result<Docket<S>, AdoptFault> {
-    match Docket::adopt(alloc, conn) {
-        Ok(docket) => Ok(docket),
+/// The docket that a database holds and how much it is, or why there is none. The database is let go
+/// then.
+fn adopted<S: Alter + Drop>(
+    alloc: Global,
+    conn: Connection<S>,
+) -> Result<(Docket<S>, Holdings), AdoptFault> {
+    match Docket::adopt_counted(alloc, conn) {
+        Ok(found) => Ok(found),
         Err(
             Returned {
                 fault,
@@ -47,17 +51,27 @@ pub(crate) fn open_connection<E: Write>(
     }
 }
 
+/// The docket in a file that is there and how much its tables hold, or how the job ends.
+pub(crate) fn open_counted<E: Write>(
+    rt: &HostRuntime,
+    path: &str,
+    e: &mut E,
+) -> Result<(Docket<FileStore<File>>, Holdings), Status> {
+    let conn = open_connection(rt, path, e)?;
+    match adopted(rt.alloc(), conn) {
+        Ok(found) => Ok(found),
+        Err(fault) => Err(failed(rt.alloc(), e, &AtPath { path, fault })),
+    }
+}
+
 /// The docket in a file that is there, or how the job ends.
 pub(crate) fn open_docket<E: Write>(
     rt: &HostRuntime,
     path: &str,
     e: &mut E,
 ) -> Result<Docket<FileStore<File>>, Status> {
-    let conn = open_connection(rt, path, e)?;
-    match adopted(rt.alloc(), conn) {
-        Ok(docket) => Ok(docket),
-        Err(fault) => Err(failed(rt.alloc(), e, &AtPath { path, fault })),
-    }
+    let (docket, _) = open_counted(rt, path, e)?;
+    Ok(docket)
 }
 
 /// Lets the database go. Its log is copied into the file; where that fails the log keeps it.

@@ -1,6 +1,6 @@
 //! What a sound docket holds, told a line for each kind of thing.
 
-use docket_scan::Holdings;
+use docket_store::Holdings;
 use std::alloc::{AllocError, Global};
 use std::fmt;
 

@@ -2,6 +2,7 @@
 use super::created;
 use crate::asking::{OPENING, Step, answers, court};
 use docket_store::{AdoptFault, CreateFault, Docket};
+use docket_tables::Table;
 use sqlite::{Alter, Connection, Error, MemStore};
 use std::alloc::Global;
 use std::test::Fail;
@@ -181,10 +182,16 @@ const OTHERS: [(&str, AdoptFault); 6] = [
         "UPDATE court SET word = 'criminal docket'",
         AdoptFault::NotADocket,
     ),
-    ("UPDATE court SET id = 2", AdoptFault::NotADocket),
+    ("UPDATE court SET id = 2", AdoptFault::Damaged(Table::Court)),
     ("DELETE FROM court", AdoptFault::NotADocket),
-    ("UPDATE court SET zone = 'EST'", AdoptFault::Damaged),
-    ("UPDATE court SET close = 1440", AdoptFault::Damaged),
+    (
+        "UPDATE court SET zone = 'EST'",
+        AdoptFault::Damaged(Table::Court),
+    ),
+    (
+        "UPDATE court SET close = 1440",
+        AdoptFault::Damaged(Table::Court),
+    ),
 ];
 
 #[test]
@@ -195,6 +202,78 @@ fn other_courts_are_told(rt: HostRuntime) -> Result<(), Fail> {
         let (fault, _) = create_fault(rt.alloc(), conn);
         assert!(rt; fault == Some(CreateFault::NotEmpty), "{sql}");
     }
+    Ok(())
+}
+
+// A party is to answer: one deadline, with one act and one end.
+const SERVED: [Step; 1] = [(
+    r#"{"do":"serve_summons","key":"served","case":1,"party":1,"basis":"private","served":"2025-06-13"}"#,
+    r#"{"number":1}"#,
+)];
+
+/// The database of a docket with rows in its tables, after these statements.
+fn records_after(alloc: Global, sql: &str) -> Result<Database, Fail> {
+    let mut docket = created(alloc)?;
+    let is_filled = answers(alloc, &mut docket, &OPENING) && answers(alloc, &mut docket, &SERVED);
+    let mut conn = docket.close();
+    conn.execute_batch(sql)?;
+    if is_filled {
+        Ok(conn)
+    } else {
+        Err("not filled".into())
+    }
+}
+
+// What one change comes to. A receipt may be missing: then its command is new when it comes again.
+const CHANGES: [(&str, Option<AdoptFault>); 8] = [
+    (
+        "UPDATE court SET version = 7",
+        Some(AdoptFault::OtherVersion),
+    ),
+    ("UPDATE court SET word = 'x'", Some(AdoptFault::NotADocket)),
+    (
+        "UPDATE court SET close = 1440",
+        Some(AdoptFault::Damaged(Table::Court)),
+    ),
+    (
+        "DELETE FROM party WHERE number = 1",
+        Some(AdoptFault::Damaged(Table::Parties)),
+    ),
+    (
+        "UPDATE act SET p3 = 0",
+        Some(AdoptFault::Damaged(Table::Acts)),
+    ),
+    (
+        "UPDATE receipt SET body = body || ' ' WHERE command_key = 'doe'",
+        Some(AdoptFault::Damaged(Table::Receipts)),
+    ),
+    (
+        "UPDATE due SET day = day + 1",
+        Some(AdoptFault::Damaged(Table::Ends)),
+    ),
+    ("DELETE FROM receipt", None),
+];
+
+#[test]
+fn unsound_tables_are_told(rt: HostRuntime) -> Result<(), Fail> {
+    let alloc = rt.alloc();
+    for (sql, wanted) in CHANGES {
+        let (fault, conn) = adopt_fault(alloc, records_after(alloc, sql)?);
+        assert!(rt; fault == wanted, "{sql}");
+        assert!(rt; conn.is_autocommit(), "{sql}");
+    }
+    Ok(())
+}
+
+#[test]
+fn adopting_tells_how_much_there_is(rt: HostRuntime) -> Result<(), Fail> {
+    let alloc = rt.alloc();
+    let Ok((_, held)) = Docket::adopt_counted(alloc, records_after(alloc, "")?) else {
+        return Err("not adopted".into());
+    };
+    assert!(rt; (held.calendar_rows, held.cases, held.parties) == (0, 1, 2));
+    assert!(rt; (held.entries, held.deadlines, held.receipts) == (0, 1, 4));
+    assert!(rt; held.standings.running == 1);
     Ok(())
 }
 

@@ -1,4 +1,4 @@
-use Rattle.std.proofs.Common.{◌≡◌, ◌∙◌, ◌<◌, ◌^◌, ap, arith, inr, length, map, refl, subst, sym}
+use Rattle.std.proofs.Common.{◌≡◌, ◌∙◌, ◌<◌, ◌^◌, ap, arith, inr, length, map, refl, subst, sym, inl}
 use Rattle.std.proofs.lemmas.Bool.{false≢true}
 use Rattle.sqlite.specs.Held.{state}
 use Rattle.sqlite.specs.State.{HasCleanDisk}
@@ -19,7 +19,7 @@ use Rattle.docket_scan.specs.Passing.{SaysEnds}
 use Rattle.docket_scan.specs.Records.{AreActRows, count_in}
 use Rattle.docket_scan.specs.Scans.{OfSoMany}
 use Rattle.docket_scan.specs.Taken.{ActContext, HasTakenActTable, act_context}
-use Rattle.docket_scan.specs.declared.fault.TableFault.TheVariants.{NoMemory}
+use Rattle.docket_scan.specs.declared.fault.AdoptFault.TheVariants.{NoMemory}
 use Rattle.docket_scan.proofs.CountLemmas.{counted}
 use Rattle.docket_scan.proofs.JudgingLemmas.{all_more, failed, handed, read_rows, so_many, sound_before}
 use Rattle.docket_scan.proofs.RecordLemmas.{all_read, none_read}
@@ -29,7 +29,8 @@ pub returns-in_err-check-clause-told : goal.returns-in_err-check-clause-told
 returns-in_err-check-clause-told g c clean =
     let old = state g.S.Store c.args.conn.now in
     let mid = state g.S.Store c.judge_deadlines.new.conn in
-    handed table.Acts c.args.court c.args.next_row old mid (SaysEnds c.args.court) c.from_residual-in_err-check.result NoMemory c.from_residual-in_err-check.ensures.1 tt
+    let prev = rw c.in_ok-court.was at (c.judge_deadlines.ensures.told clean) in
+    handed table.Acts c.args.court c.args.next_row old mid (SaysEnds c.args.court) c.from_residual-in_err-check.result NoMemory c.from_residual-in_err-check.ensures.1 (inl prev.0)
 
 pub returns-in_err-judge-clause-told : goal.returns-in_err-judge-clause-told
 returns-in_err-judge-clause-told g c clean =
@@ -49,15 +50,21 @@ returns-in_err-judge-clause-told g c clean =
     let fault = c.in_err-judge.field-0.0 in
     let told = rw c.in_err-judge.was at (c.judge.ensures.told clean (none_read IsActRow act_cells (HasTakenActs c.in_ok-check.check) (made.none keys prev.4.2))) in
     handed table.Acts c.args.court c.args.next_row old new (SaysEnds c.args.court) c.from_residual-in_err-judge.result fault c.from_residual-in_err-judge.ensures.1
-    (failed old mid prev.0 table.Acts c.args.court c.args.next_row new prev.1
+    (failed old mid prev.0 table.Acts tt c.args.court c.args.next_row new prev.1
     (AreActRows c.in_ok-check.check.court (cases_of c.in_ok-check.check.deadlines) (counts_of c.in_ok-check.check.deadlines)) fault
     (ap (λ (k : ActContext). AreActRows k.0 k.1 k.2) begun) all told)
 
 pub returns-in_err-ends-clause-told : goal.returns-in_err-ends-clause-told
 returns-in_err-ends-clause-told g c clean =
     let old = state g.S.Store c.args.conn.now in
+    let mid = state g.S.Store c.judge_deadlines.new.conn in
     let new = state g.S.Store c.judge.new.conn in
-    handed table.Acts c.args.court c.args.next_row old new (SaysEnds c.args.court) c.from_residual-in_err-ends.result NoMemory c.from_residual-in_err-ends.ensures.1 tt
+    let early : HasCleanDisk mid = omega (arith, clean, c.judge.ensures.writes_nothing.clean) in
+    let prev = rw c.in_ok-court.was at (c.judge_deadlines.ensures.told early) in
+    let none = none_read IsActRow act_cells (HasTakenActs c.in_ok-check.check) (c.in_ok-check.ensures.none (map deadline_key prev.1.deadlines) prev.4.2) in
+    let told = rw c.in_ok-judge.was at (c.judge.ensures.told clean none) in
+    handed table.Acts c.args.court c.args.next_row old new (SaysEnds c.args.court) c.from_residual-in_err-ends.result NoMemory c.from_residual-in_err-ends.ensures.1
+    (inl (unchanged_then old mid new prev.0 told.0))
 
 pub returns-in-Some-clause-told : goal.returns-in-Some-clause-told
 returns-in-Some-clause-told g c clean =
@@ -113,6 +120,7 @@ returns-in-None-clause-told g c clean =
     let held = sound_before old mid prev.0 table.Acts (OfSoMany c.in_ok-judge.field-0 (HasTakenActTable c.judge.new.check)) told.1 in
     let read = held.3.1 in
     let exact = c.in_ok-ends.ensures.sound read.records read.taken in (
+      tt,
       λ opened. unchanged_then old mid new prev.0 told.0,
       prev.1,
       all,

@@ -25,7 +25,7 @@ returns-in_err-count-clause-told g c clean =
     let fault = c.in_err-count.field-0.0 in
     let told = rw c.in_err-count.was at (c.judge.ensures.told clean (none_read IsCaseRow case_cells (HasTakenCases c.new-check.result) c.new-check.ensures)) in
     handed table.Cases c.args.court c.args.next_row old new (SaysCases c.args.court) c.from_residual-in_err-count.result fault c.from_residual-in_err-count.ensures.1
-    (failed old mid prev.0 table.Cases c.args.court c.args.next_row new prev.1 AreCaseRows fault refl
+    (failed old mid prev.0 table.Cases tt c.args.court c.args.next_row new prev.1 AreCaseRows fault refl
     (all_more (Holds old c.args.court c.args.next_row prev.1) (before table.Calendar) table.Calendar prev.2 prev.3) told)
 
 pub returns-clause-told : goal.returns-clause-told

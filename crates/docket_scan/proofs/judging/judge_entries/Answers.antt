@@ -1,4 +1,4 @@
-use Rattle.std.proofs.Common.{◌≡◌, ◌∙◌, ap, arith, length, subst}
+use Rattle.std.proofs.Common.{◌≡◌, ◌∙◌, ap, arith, length, subst, inl}
 use Rattle.sqlite.specs.Held.{state}
 use Rattle.sqlite.specs.State.{HasCleanDisk}
 use Rattle.sqlite.proofs.Callers.{unchanged_then}
@@ -11,7 +11,7 @@ use Rattle.docket_scan.specs.Passing.{SaysParties}
 use Rattle.docket_scan.specs.Records.{AreEntryRows}
 use Rattle.docket_scan.specs.Scans.{OfSoMany}
 use Rattle.docket_scan.specs.Taken.{HasTakenEntryTable}
-use Rattle.docket_scan.specs.declared.fault.TableFault.TheVariants.{NoMemory}
+use Rattle.docket_scan.specs.declared.fault.AdoptFault.TheVariants.{NoMemory}
 use Rattle.docket_scan.proofs.JudgingLemmas.{all_more, failed, handed, read_rows, so_many, sound_before}
 use Rattle.docket_scan.proofs.RecordLemmas.{none_read}
 use Rattle.docket_scan.proofs.judging.judge_entries.Goals as goal
@@ -20,7 +20,8 @@ pub returns-in_err-check-clause-told : goal.returns-in_err-check-clause-told
 returns-in_err-check-clause-told g c clean =
     let old = state g.S.Store c.args.conn.now in
     let mid = state g.S.Store c.judge_parties.new.conn in
-    handed table.Entries c.args.court c.args.next_row old mid (SaysParties c.args.court) c.from_residual-in_err-check.result NoMemory c.from_residual-in_err-check.ensures.1 tt
+    let prev = rw c.in_ok-read.was at (c.judge_parties.ensures.told clean) in
+    handed table.Entries c.args.court c.args.next_row old mid (SaysParties c.args.court) c.from_residual-in_err-check.result NoMemory c.from_residual-in_err-check.ensures.1 (inl prev.0)
 
 pub returns-in_err-count-clause-told : goal.returns-in_err-count-clause-told
 returns-in_err-count-clause-told g c clean =
@@ -33,7 +34,7 @@ returns-in_err-count-clause-told g c clean =
     let fault = c.in_err-count.field-0.0 in
     let told = rw c.in_err-count.was at (c.judge.ensures.told clean (none_read IsEntryRow entry_cells (HasTakenEntries c.in_ok-check.check) c.in_ok-check.ensures.none)) in
     handed table.Entries c.args.court c.args.next_row old new (SaysParties c.args.court) c.from_residual-in_err-count.result fault c.from_residual-in_err-count.ensures.1
-    (failed old mid prev.0 table.Entries c.args.court c.args.next_row new prev.1 (AreEntryRows (entries_checked c.in_ok-check.check)) fault (ap AreEntryRows given)
+    (failed old mid prev.0 table.Entries tt c.args.court c.args.next_row new prev.1 (AreEntryRows (entries_checked c.in_ok-check.check)) fault (ap AreEntryRows given)
     (all_more (Holds old c.args.court c.args.next_row prev.1) (before table.Parties) table.Parties prev.2 prev.3) told)
 
 pub returns-clause-told : goal.returns-clause-told

@@ -1,4 +1,4 @@
-use Rattle.std.proofs.Common.{◌≡◌, ◌∙◌, ap, arith, length, map, subst}
+use Rattle.std.proofs.Common.{◌≡◌, ◌∙◌, ap, arith, length, map, subst, inl}
 use Rattle.sqlite.specs.Held.{state}
 use Rattle.sqlite.specs.State.{HasCleanDisk}
 use Rattle.sqlite.proofs.Callers.{unchanged_then}
@@ -12,7 +12,7 @@ use Rattle.docket_scan.specs.Passing.{SaysParties}
 use Rattle.docket_scan.specs.Records.{ArePartyRows}
 use Rattle.docket_scan.specs.Scans.{OfSoMany}
 use Rattle.docket_scan.specs.Taken.{HasTakenPartyTable}
-use Rattle.docket_scan.specs.declared.fault.TableFault.TheVariants.{NoMemory}
+use Rattle.docket_scan.specs.declared.fault.AdoptFault.TheVariants.{NoMemory}
 use Rattle.docket_scan.proofs.CountLemmas.{parties_counted}
 use Rattle.docket_scan.proofs.JudgingLemmas.{all_more, failed, handed, read_rows, so_many, sound_before}
 use Rattle.docket_scan.proofs.RecordLemmas.{none_read}
@@ -22,7 +22,8 @@ pub returns-in_err-check-clause-told : goal.returns-in_err-check-clause-told
 returns-in_err-check-clause-told g c clean =
     let old = state g.S.Store c.args.conn.now in
     let mid = state g.S.Store c.judge_cases.new.conn in
-    handed table.Parties c.args.court c.args.next_row old mid (SaysParties c.args.court) c.from_residual-in_err-check.result NoMemory c.from_residual-in_err-check.ensures.1 tt
+    let prev = rw c.in_ok-court.was at (c.judge_cases.ensures.told clean) in
+    handed table.Parties c.args.court c.args.next_row old mid (SaysParties c.args.court) c.from_residual-in_err-check.result NoMemory c.from_residual-in_err-check.ensures.1 (inl prev.0)
 
 pub returns-in_err-count-clause-told : goal.returns-in_err-count-clause-told
 returns-in_err-count-clause-told g c clean =
@@ -35,7 +36,7 @@ returns-in_err-count-clause-told g c clean =
     let fault = c.in_err-count.field-0.0 in
     let told = rw c.in_err-count.was at (c.judge.ensures.told clean (none_read IsPartyRow party_cells (HasTakenParties c.in_ok-check.check) c.in_ok-check.ensures.none)) in
     handed table.Parties c.args.court c.args.next_row old new (SaysParties c.args.court) c.from_residual-in_err-count.result fault c.from_residual-in_err-count.ensures.1
-    (failed old mid prev.0 table.Parties c.args.court c.args.next_row new prev.1 (ArePartyRows (parties_checked c.in_ok-check.check)) fault (ap ArePartyRows given)
+    (failed old mid prev.0 table.Parties tt c.args.court c.args.next_row new prev.1 (ArePartyRows (parties_checked c.in_ok-check.check)) fault (ap ArePartyRows given)
     (all_more (Holds old c.args.court c.args.next_row prev.1) (before table.Cases) table.Cases prev.2 prev.3) told)
 
 pub returns-clause-told : goal.returns-clause-told

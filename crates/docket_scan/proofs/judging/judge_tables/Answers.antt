@@ -15,7 +15,7 @@ use Rattle.docket_scan.specs.Judging.{Holds, before}
 use Rattle.docket_scan.specs.Records.{AreEndRows}
 use Rattle.docket_scan.specs.Scans.{OfSoMany}
 use Rattle.docket_scan.specs.Taken.{HasTakenEndTable, ends_expected}
-use Rattle.docket_scan.specs.declared.fault.TableFault.TheVariants.{Damaged}
+use Rattle.docket_scan.specs.declared.fault.AdoptFault.TheVariants.{Damaged}
 use Rattle.docket_scan.proofs.DocketJudged.{docket_told}
 use Rattle.docket_scan.proofs.JudgingLemmas.{all_more, failed, handed, read_rows, sound_before}
 use Rattle.docket_scan.proofs.RecordLemmas.{all_read, none_read}
@@ -35,7 +35,7 @@ returns-in_err-judge-clause-told g c clean =
     let fault = c.in_err-judge.field-0.0 in
     let told = rw c.in_err-judge.was at (c.judge.ensures.told clean (none_read IsEndRow end_cells (HasTakenDues c.new-check.result) made.none)) in
     handed table.Ends c.args.court c.args.next_row old new (λ r held. held ≡ holdings_of c.args.court r) c.from_residual-in_err-judge.result fault c.from_residual-in_err-judge.ensures.1
-    (failed old mid prev.0 table.Ends c.args.court c.args.next_row new prev.1 (AreEndRows (ends_expected c.new-check.result)) fault
+    (failed old mid prev.0 table.Ends tt c.args.court c.args.next_row new prev.1 (AreEndRows (ends_expected c.new-check.result)) fault
     (ap AreEndRows begun) all told)
 
 pub returns-then-is_sound-clause-told : goal.returns-then-is_sound-clause-told
@@ -78,6 +78,7 @@ returns-clause-told g c clean =
     let held = sound_before old mid prev.0 table.Ends (OfSoMany c.in_ok-judge.field-0 (HasTakenEndTable c.judge.new.check)) told.1 in
     let read = held.3.1 in
     let exact = c.is_sound.ensures read.records read.taken in (
+      tt,
       λ opened. unchanged_then old mid new prev.0 told.0,
       prev.1,
       all,

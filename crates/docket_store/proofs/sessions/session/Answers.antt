@@ -16,3 +16,10 @@ returns-in-Ok-clause-ends g c court h is stands clean =
 pub returns-in-Err-clause-ends : goal.returns-in-Err-clause-ends
 returns-in-Err-clause-ends g c court h is stands =
     (c.close-in-Err.ensures.idle, not_begun g.S.Store c.in_ok-docket.docket court h c.close-in-Err.result c.close-in-Err.ensures.conn (c.in_ok-docket.ensures.adopted court h is stands))
+
+pub returns-in-Ok-clause-told : goal.returns-in-Ok-clause-told
+returns-in-Ok-clause-told g c clean =
+    let until = c.answer_until-stopped_at in
+    let was : HasCleanDisk (state g.S.Store until.new.docket.conn) = subst (λ (x : Held g.row.S.Denot). HasCleanDisk (state g.S.Store x)) c.close.ensures.conn clean in
+    let sound = c.in_ok-docket.ensures.told (omega (arith, was, until.ensures.clean)) in
+    (c.in_ok-docket.docket.court, sound.0, sound.1.1)

@@ -2,12 +2,15 @@ use Rattle.std.proofs.Common.{None, refl, sym, subst}
 use Rattle.court_days.specs.Court.{CourtSettings}
 use Rattle.docket_store.specs.Applying.{Stands}
 use Rattle.docket_store.specs.Dockets.{serving}
-use Rattle.docket_store.proofs.docket.Docket.adopt.Goals as goal
+use Rattle.docket_store.proofs.docket.Docket.adopt_counted.Goals as goal
 
 pub returns-in-Ok-clause-adopted : goal.returns-in-Ok-clause-adopted
 returns-in-Ok-clause-adopted g c court h is stands clean =
     let found = c.in-Ok.ensures.found court h is stands in
-    let conn = c.find_court.new.conn in
-    let same = found.1 clean in
+    let conn = c.adopt_from.new.conn in
+    let same = (found.1 clean).0 in
     let adopted : Stands g.S.Store (serving conn court None) h = record { docket = is; serves = refl; rows = found.0; calendar = λ _. tt } in
     (subst (λ (s : CourtSettings). Stands g.S.Store (serving conn s None) h) (sym same) adopted, same)
+
+pub returns-in-Ok-clause-counted : goal.returns-in-Ok-clause-counted
+returns-in-Ok-clause-counted g c court h is stands clean = ((c.in-Ok.ensures.found court h is stands).1 clean).1

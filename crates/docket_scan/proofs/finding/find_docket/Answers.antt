@@ -1,0 +1,65 @@
+use Rattle.std.proofs.Common.{◌∙◌, Ok, sym, arith}
+use Rattle.sqlite.specs.Held.{state}
+use Rattle.sqlite.specs.State.{HasCleanDisk}
+use Rattle.docket_scan.proofs.DocketCourt.{docket_found}
+use Rattle.docket_scan.proofs.FindingLemmas.{court_had, court_refused, judged_fault, judged_sound, not_taken}
+use Rattle.docket_scan.proofs.finding.find_docket.Goals as goal
+
+pub returns-in_err-row-clause-docket : goal.returns-in_err-row-clause-docket
+returns-in_err-row-clause-docket g c clean =
+    let old = state g.S.Store c.args.conn.now in
+    let new = state g.S.Store c.read_court.new.conn in
+    let early : HasCleanDisk old = omega (arith, clean, c.read_court.ensures.writes_nothing.clean) in
+    let told = rw c.in_err-row.was at (c.read_court.ensures.told clean) in
+    docket_found g.S.Store c.args.conn.now new c.from_residual.result early
+    (not_taken old new c.from_residual.result c.in_err-row.field-0.0 c.from_residual.ensures.1 told)
+
+pub returns-in_err-judged-clause-docket : goal.returns-in_err-judged-clause-docket
+returns-in_err-judged-clause-docket g c clean =
+    let old = state g.S.Store c.args.conn.now in
+    let new = state g.S.Store c.read_court.new.conn in
+    let early : HasCleanDisk old = omega (arith, clean, c.read_court.ensures.writes_nothing.clean) in
+    let read = rw c.in_ok-row.was at (c.read_court.ensures.told clean) in
+    let fault = c.in_err-judged.field-0.0 in
+    docket_found g.S.Store c.args.conn.now new c.from_residual-in_err-judged.result early
+    (not_taken old new c.from_residual-in_err-judged.result fault c.from_residual-in_err-judged.ensures.1
+    (court_refused old new c.in_ok-row.row fault read c.in_err-judged.ensures.err))
+
+pub returns-in_err-held-clause-told : goal.returns-in_err-held-clause-told
+returns-in_err-held-clause-told g c clean =
+    let old = state g.S.Store c.args.conn.now in
+    let mid = state g.S.Store c.read_court.new.conn in
+    let new = state g.S.Store c.judge_tables.new.conn in
+    let between : HasCleanDisk mid = omega (arith, clean, c.judge_tables.ensures.writes_nothing.clean) in
+    let read = rw c.in_ok-row.was at (c.read_court.ensures.told between) in
+    let has = court_had old mid c.in_ok-row.row c.in_ok-judged.judged read c.in_ok-judged.ensures.ok in
+    let fault = c.in_err-held.field-0.0 in
+    let told = rw c.in_err-held.was at (c.judge_tables.ensures.told clean) in
+    not_taken old new c.from_residual-in_err-held.result fault c.from_residual-in_err-held.ensures.1
+    (judged_fault old mid read.0 c.in_ok-judged.judged c.in_ok-row.row.next_row has new fault told)
+
+pub returns-in_err-held-clause-docket : goal.returns-in_err-held-clause-docket
+returns-in_err-held-clause-docket g c clean =
+    let old = state g.S.Store c.args.conn.now in
+    let early : HasCleanDisk old = omega (arith, clean, c.judge_tables.ensures.writes_nothing.clean, c.read_court.ensures.writes_nothing.clean) in
+    docket_found g.S.Store c.args.conn.now (state g.S.Store c.judge_tables.new.conn) c.from_residual-in_err-held.result early
+    (returns-in_err-held-clause-told g c clean)
+
+pub returns-clause-told : goal.returns-clause-told
+returns-clause-told g c clean =
+    let old = state g.S.Store c.args.conn.now in
+    let mid = state g.S.Store c.read_court.new.conn in
+    let new = state g.S.Store c.judge_tables.new.conn in
+    let between : HasCleanDisk mid = omega (arith, clean, c.judge_tables.ensures.writes_nothing.clean) in
+    let read = rw c.in_ok-row.was at (c.read_court.ensures.told between) in
+    let has = court_had old mid c.in_ok-row.row c.in_ok-judged.judged read c.in_ok-judged.ensures.ok in
+    let told = rw c.in_ok-held.was at (c.judge_tables.ensures.told clean) in
+    let same = c.in_ok-court.ensures.ok.1 ∙ sym c.in_ok-judged.ensures.ok.1 in
+    judged_sound old mid read.0 c.in_ok-judged.judged c.in_ok-row.row.next_row has new (record { court = c.in_ok-court.court; held = c.in_ok-held.held }) same told
+
+pub returns-clause-docket : goal.returns-clause-docket
+returns-clause-docket g c clean =
+    let old = state g.S.Store c.args.conn.now in
+    let early : HasCleanDisk old = omega (arith, clean, c.judge_tables.ensures.writes_nothing.clean, c.read_court.ensures.writes_nothing.clean) in
+    docket_found g.S.Store c.args.conn.now (state g.S.Store c.judge_tables.new.conn) (Ok (record { court = c.in_ok-court.court; held = c.in_ok-held.held })) early
+    (returns-clause-told g c clean)

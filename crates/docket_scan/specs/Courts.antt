@@ -1,0 +1,34 @@
+-- The row of a docket's court, in any database.
+use Rattle.std.specs.Prelude.{◌≡◌, ℕ, pos, codes, List, [], ◌∷◌}
+use Rattle.sqlite.specs.Order.{Row, column}
+use Rattle.sqlite.specs.declared.types.Value.TheVariants.{Int, Text}
+use Rattle.court_days.specs.Court.{CourtSettings}
+use Rattle.docket_columns.specs.Cells.{court_cells}
+use Rattle.docket_columns.specs.Fits.{IsCourtRow}
+use Rattle.docket_sound.specs.Courts.{IsSoundCourt}
+use Rattle.docket_sound.specs.declared.court.CourtRecord.{CourtRecord}
+
+-- the row bears the word of a docket
+abbrev pub HasWord : Row → Type 0
+HasWord row = column row 1 ≡ Text (codes "civil docket")
+
+-- its tables are laid out as those of this program
+abbrev pub IsCurrent : Row → Type 0
+IsCurrent row = column row 2 ≡ Int (pos 1)
+
+-- there is one row, and it bears the word
+abbrev pub AreMarked : List Row → Type 0
+AreMarked rows = (row : Row) × (rows ≡ row ∷ []) × HasWord row
+
+abbrev pub record_of : CourtSettings → ℕ → CourtRecord
+record_of court next = record { id = 1; zone = court.zone_text; close = court.close_minute; next_row = next }
+
+-- the row is that of the court, with the number of the next calendar row, and sound
+pub record IsRowOf (row : Row) (court : CourtSettings) (next : ℕ) : Type 0 where
+  pub same : row ≡ court_cells court next
+  pub held : IsCourtRow court next
+  pub sound : IsSoundCourt (record_of court next)
+
+-- the row is that of some court
+abbrev pub IsCourtsRow : Row → Type 0
+IsCourtsRow row = (court : CourtSettings) × (next : ℕ) × IsRowOf row court next

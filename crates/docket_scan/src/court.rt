@@ -1,0 +1,120 @@
+//! The table of the court, of which one row is taken.
+ghost use Rattle.std.specs.Prelude.{◌≡◌, ◌↔◌, ◌∷◌, [], List, IfOk, IsTrue, None};
+ghost use Rattle.sqlite.specs.Order.{Row as Cells};
+ghost use Rattle.docket_scan.specs.Courts.{HasWord, IsCurrent};
+ghost use Rattle.docket_scan.specs.Taken.{Finishes, HasTakenCourt, SaysCourtOf, Sees};
+
+use crate::fault::AdoptFault;
+use docket_columns::{CourtRow, court_of};
+use docket_sound::CourtRecord;
+use docket_tables::Table;
+use sqlite::Row;
+use sqlite::types::ValueRef;
+use std::alloc::{AllocError, Global};
+
+/// What marks a database as that of a docket.
+const WORD: &str = "civil docket";
+
+/// How its tables are laid out.
+const VERSION: i64 = 1;
+
+/// What a row of the court says.
+#[derive(Drop)]
+pub(crate) struct SeenRow {
+    has_word: bool,
+    is_current: bool,
+    court: Option<CourtRecord>,
+}
+
+fn has_word(row: &Row) -> bool
+    ensures { IsTrue result ↔ HasWord row.now }
+{
+    match row.get_ref(1) {
+        Ok(ValueRef::Text(found)) => found == WORD.as_bytes(),
+        _ => false,
+    }
+}
+
+fn is_current(row: &Row) -> bool
+    ensures { IsTrue result ↔ IsCurrent row.now }
+{
+    match row.get_ref(2) {
+        Ok(ValueRef::Int(found)) => found == VERSION,
+        _ => false,
+    }
+}
+
+/// What a row of a court says. `None`: it is no row of one, or of another layout.
+fn record_in(alloc: Global, row: &Row) -> Result<Option<CourtRecord>, AllocError>
+    ensures { IfOk result (λ found. SaysCourtOf found row.now) }
+{
+    let Some(
+        CourtRow {
+            zone,
+            close,
+            next_row,
+        },
+    ) = court_of(alloc, row)?
+    else {
+        return Ok(None);
+    };
+    Ok(Some(CourtRecord {
+        id: 1,
+        zone,
+        close,
+        next_row,
+    }))
+}
+
+pub(crate) fn look_at(alloc: Global, row: &Row) -> Result<SeenRow, AllocError>
+    ensures { IfOk result (λ seen. Sees seen row.now) }
+{
+    let court = record_in(alloc, row)?;
+    Ok(SeenRow {
+        has_word: has_word(row),
+        is_current: is_current(row),
+        court,
+    })
+}
+
+impl SeenRow {
+    /// The court of the row, if it is that of a docket.
+    fn finish(self) -> Result<CourtRecord, AdoptFault>
+        ensures { (row : Cells) → Sees self row → Finishes (row ∷ []) result }
+    {
+        if !self.has_word {
+            return Err(AdoptFault::NotADocket);
+        }
+        if !self.is_current {
+            return Err(AdoptFault::OtherVersion);
+        }
+        match self.court {
+            Some(court) => Ok(court),
+            None => Err(AdoptFault::Damaged(Table::Court)),
+        }
+    }
+}
+
+/// A check that takes one row of a court, and no other.
+#[derive(Drop)]
+pub(crate) struct CourtCheck {
+    pub(crate) seen: Option<SeenRow>,
+}
+
+impl CourtCheck {
+    pub(crate) fn new() -> CourtCheck
+        ensures { result.seen ≡ None }
+    {
+        CourtCheck { seen: None }
+    }
+
+    /// What the rows say that were taken.
+    pub(crate) fn finish(self) -> Result<CourtRecord, AdoptFault>
+        ensures { (rows : List Cells) → HasTakenCourt self rows → Finishes rows result }
+    {
+        match self.seen {
+            Some(seen) => seen.finish(),
+            None => Err(AdoptFault::NotADocket),
+        }
+    }
+}

@@ -1,0 +1,25 @@
+use Rattle.std.proofs.Common.{◌≡◌, rules}
+use Rattle.docket_scan.specs.declared.fault.AdoptFault.TheVariants.{NoMemory}
+use Rattle.docket_store.specs.Applying.{docket_rows}
+use Rattle.docket_store.proofs.OpeningLemmas.{found_docket, lacks_memory, not_found}
+use Rattle.docket_store.proofs.adopting.judged_docket.Goals as goal
+
+pub returns-in-Ok-clause-found : goal.returns-in-Ok-clause-found
+returns-in-Ok-clause-found g c court h is stands =
+    let told = c.in-Ok.ensures in
+    found_docket g.S.Store c.args.conn.now c.find_docket.new.conn court h told.writes_nothing (told.mode c.requires) stands c.in-Ok.found told.told
+    (λ clean. told.docket clean court h is.settings is.zone is.history is.commands stands)
+
+pub returns-in-Err-clause-found : goal.returns-in-Err-clause-found
+returns-in-Err-clause-found g c court h is stands =
+    let told = c.in-Err.ensures in
+    let short : c.in-Err.fault ≡ NoMemory = search rules in
+    c.want_of_memory.ensures.left (docket_rows court h)
+    (lacks_memory g.S.Store c.args.conn.now c.find_docket.new.conn court h told.writes_nothing (told.mode c.requires) stands c.in-Err.fault short told.told)
+
+pub returns-in-Err-2-clause-found : goal.returns-in-Err-2-clause-found
+returns-in-Err-2-clause-found g c court h is stands =
+    let told = c.in-Err.ensures in
+    let other : c.in-Err.fault ≡ NoMemory → ⊥ = search rules in
+    not_found g.S.Store c.args.conn.now c.find_docket.new.conn court h told.writes_nothing (told.mode c.requires) stands c.in-Err.fault other told.told
+    (λ clean. told.docket clean court h is.settings is.zone is.history is.commands stands)

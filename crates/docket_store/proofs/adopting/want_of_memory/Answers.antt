@@ -1,0 +1,9 @@
+use Rattle.docket_store.proofs.ApplyLemmas.{either_from_lasts, lasts_from_either}
+use Rattle.docket_store.proofs.adopting.want_of_memory.Goals as goal
+
+pub returns-in-NoMemory-clause-left : goal.returns-in-NoMemory-clause-left
+returns-in-NoMemory-clause-left g c rows lasts = c.in-NoMemory.ensures.left rows rows (either_from_lasts g.S.Store c.args.conn.now rows rows lasts)
+
+pub returns-in-StoreFailed-clause-left : goal.returns-in-StoreFailed-clause-left
+returns-in-StoreFailed-clause-left g c rows lasts =
+    lasts_from_either g.S.Store c.fault_of.new.conn rows (c.in-StoreFailed.ensures.left rows rows (either_from_lasts g.S.Store c.args.conn.now rows rows lasts))
