@@ -1,4 +1,5 @@
-"""A plain docket over the module sqlite3, in a file with the tables of `docketctl create`: file_model.py FILE < COMMANDS.
+"""A plain docket over the module sqlite3, in a file with the tables of `docketctl create`: file_model.py FILE [in-memory] < COMMANDS.
+With the second word it works on a copy of the file in memory, which is not kept.
 
 It answers the five kinds of commands that bench/file sends, one transaction each, with a log that is synced at each commit. It
 refuses nothing but a key that was used for another command and a label that stands, and knows no calendar but the statutory
@@ -43,8 +44,12 @@ def number_of(day):
 
 
 class Docket:
-    def __init__(self, path):
+    def __init__(self, path, in_memory=False):
         self.conn = sqlite3.connect(path, isolation_level=None)
+        if in_memory:
+            file, self.conn = self.conn, sqlite3.connect(":memory:", isolation_level=None)
+            file.backup(self.conn)
+            file.close()
         self.conn.execute("PRAGMA journal_mode = WAL")
         self.conn.execute("PRAGMA synchronous = FULL")
         self.conn.execute("PRAGMA foreign_keys = ON")
@@ -114,7 +119,7 @@ class Docket:
 
 
 if __name__ == "__main__":
-    docket = Docket(sys.argv[1])
+    docket = Docket(sys.argv[1], in_memory=sys.argv[2:] == ["in-memory"])
     for line in sys.stdin:
         sys.stdout.write(json.dumps(docket.apply(line), sort_keys=True, separators=(",", ":")) + "\n")
         sys.stdout.flush()
