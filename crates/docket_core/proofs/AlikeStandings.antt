@@ -1,15 +1,13 @@
 -- By two calendars a deadline stands alike: only the end of a time that runs may be another.
-use Rattle.std.proofs.Common.{◌≡◌, ◌∙◌, ◌⊎◌, inl, inr, List, [], ◌∷◌, Option, Some, None, refl, sym, ap, subst, ⊎_elim}
+use Rattle.std.proofs.Common.{◌≡◌, List, [], ◌∷◌, None, refl, ap}
 use Rattle.civil_time.specs.Zone.{ZoneRules}
 use Rattle.court_days.specs.Calendar.{Entered}
-use Rattle.court_days.specs.declared.filing.End.{End}
 use Rattle.court_rules.specs.Standings.{extended_by, standing_after, standing_through, standing}
 use Rattle.court_rules.specs.declared.act.Act.{Act}
 use Rattle.court_rules.specs.declared.act.Act.TheVariants as act
 use Rattle.court_rules.specs.declared.act.Standing.{Standing}
 use Rattle.court_rules.specs.declared.act.Standing.TheVariants.{Running, Suspended, Awaiting, Done, Vacated}
 use Rattle.docket_core.specs.EndRows.{end_running}
-use Rattle.docket_core.specs.declared.end_row.EndTime.{EndTime}
 
 -- the same, or both run
 abbrev pub AreAlike : Standing → Standing → Type 0

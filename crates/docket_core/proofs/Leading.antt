@@ -10,7 +10,7 @@ use Rattle.docket_command.specs.declared.refusal.Refusal.{Refusal}
 use Rattle.docket_command.specs.declared.refusal.Reply.{Reply}
 use Rattle.docket_core.specs.Actions.{case_named, deadline_named, deadlines_made, acts_made, asks_calendar, row_withdrawn}
 use Rattle.docket_core.specs.Decisions.{IsAnswer, IsChange, LeadsTo}
-use Rattle.docket_core.specs.Histories.{History, standing_rows, next_row, items_of, numbered, rows_added, case_rows, party_rows, entry_rows, deadline_rows, act_rows, without_row, new_case, new_party, new_entry, later_acts, case_number, deadline_number, parties_of_case, entries_of_case, deadlines_of_case, acts_of_deadline, deadlines_from, deadlines, first_acts_from, act_rows_on, deadline_rows_from}
+use Rattle.docket_core.specs.Histories.{History, standing_rows, next_row, items_of, numbered, rows_added, case_rows, party_rows, entry_rows, deadline_rows, act_rows, without_row, new_party, new_entry, later_acts, case_number, deadline_number, parties_of_case, entries_of_case, deadlines_of_case, acts_of_deadline, deadlines_from, deadlines, first_acts_from, act_rows_on, deadline_rows_from}
 use Rattle.docket_core.specs.Outcomes.{reply_to, replied, shown, shown_fresh, case_of_number, answer_kept, answer_by, answer_of, repeated, refused, accepted}
 use Rattle.docket_core.specs.Refusals.{lacks_case, lacks_deadline, refusal_of}
 use Rattle.docket_core.specs.Tables.{Tables, rows_of, changed, all_changed, withdrawal, action_changes, with_receipt}

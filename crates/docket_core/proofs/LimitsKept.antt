@@ -40,7 +40,7 @@ use Rattle.docket_core.proofs.Asked.{asked_where_made}
 use Rattle.docket_core.proofs.FirstActs.{made_first}
 use Rattle.docket_core.proofs.LaterActs.{IsNext, IsNextOf, next_sound, may_follow}
 use Rattle.docket_core.proofs.GoodValues.{or_off, asked_entered, fresh_entered, numbered_entered}
-use Rattle.docket_core.proofs.Leading.{is_accepted, seen, seen_of, none_made, none_acted, none_acted_in, deadline_seen, length-deadlines_from, added_same, length-numbered}
+use Rattle.docket_core.proofs.Leading.{is_accepted, seen, seen_of, none_made, none_acted, none_acted_in, deadline_seen, length-deadlines_from, length-numbered}
 use Rattle.docket_core.proofs.Passed.{is_free, rows_fit, deadlines_fit, not_above, not_at, one_of_all}
 
 -- the deadline that is named is there, with these acts

@@ -1,8 +1,7 @@
 -- Where no refusal applies, no refusal's sentence is true; and what follows from it.
-use Rattle.std.proofs.Common.{◌≡◌, ◌≢◌, ℕ, zero, suc, ◌+◌, ◌≤◌, ◌<◌, Bool, true, false, ◌||◌, Option, Some, None, List, [], ◌∷◌, length, refl, subst, arith}
+use Rattle.std.proofs.Common.{◌≡◌, ◌≢◌, ℕ, ◌+◌, ◌≤◌, ◌<◌, Bool, true, false, ◌||◌, Option, Some, None, List, [], ◌∷◌, length, refl, subst, arith}
 use Rattle.std.specs.Prelude.{nat_lt, nat_le, slice_get, ◌&&◌, IfSome}
 use Rattle.std.specs.List.{All, list_all}
-use Rattle.std.specs.Option.{option_and_then}
 use Rattle.std.proofs.lemmas.Bool.Decides.{nat_tests}
 use Rattle.std.proofs.lemmas.List.Elements.{All-get_or}
 use Rattle.std.proofs.lemmas.Option.{get_or_from_slice_get, slice_get_within}
@@ -15,7 +14,7 @@ use Rattle.docket_command.specs.declared.command.Action.TheVariants as action
 use Rattle.docket_command.specs.declared.command.Command.{Command}
 use Rattle.docket_command.specs.declared.field.Field.{Field}
 use Rattle.docket_command.specs.declared.refusal.Refusal.{Refusal}
-use Rattle.docket_core.specs.Actions.{deadline_named, deadlines_made}
+use Rattle.docket_core.specs.Actions.{deadlines_made}
 use Rattle.docket_core.specs.Decisions.{IsSoundView}
 use Rattle.docket_core.specs.Refusals.{on, on_value, first_some, refusals, refusal_of, lacks_case, lacks_deadline, is_there, is_not_open, is_not_awaiting, is_full, has_too_many_acts, count_added}
 use Rattle.docket_core.specs.Values.{first_bad, bad_values}

@@ -1,5 +1,5 @@
 -- When each refusal applies to a command, by what the docket shows about it.
-use Rattle.std.specs.Prelude.{ℕ, ◌+◌, Bool, true, false, not, ◌&&◌, ◌||◌, if◌then◌else◌, List, [], ◌∷◌, ◌==◌, length, nat_le, nat_lt, Option, Some, None, is_some, is_none, slice_get, ◌-◌}
+use Rattle.std.specs.Prelude.{ℕ, ◌+◌, Bool, true, false, not, ◌&&◌, ◌||◌, if◌then◌else◌, List, [], ◌∷◌, length, nat_le, nat_lt, Option, Some, None, is_some, is_none}
 use Rattle.std.specs.List.{list_any}
 use Rattle.court_days.specs.Court.{CourtSettings, zone_of}
 use Rattle.court_days.specs.Ends.{end_of_days}
@@ -20,7 +20,7 @@ use Rattle.docket_command.specs.declared.choice.Ruling.{Ruling}
 use Rattle.docket_command.specs.declared.choice.Ruling.TheVariants.{Statement}
 use Rattle.docket_command.specs.declared.command.Command.{Command}
 use Rattle.docket_command.specs.declared.command.Action.{Action}
-use Rattle.docket_command.specs.declared.command.Action.TheVariants.{DeclareDay, CloseDay, CloseSpan, WithdrawCalendar, ImportCalendar, OpenCase, AddParty, FileEntry, ServeSummons, FileWaiver, RuleMotion, Dispose, StatementServed, Extend, Satisfy, Vacate}
+use Rattle.docket_command.specs.declared.command.Action.TheVariants.{DeclareDay, CloseDay, CloseSpan, WithdrawCalendar, ImportCalendar, OpenCase, AddParty, FileEntry, FileWaiver, RuleMotion, Dispose, StatementServed, Extend, Satisfy, Vacate}
 use Rattle.docket_command.specs.declared.field.Field.{Field}
 use Rattle.docket_command.specs.declared.refusal.Refusal.{Refusal}
 use Rattle.docket_command.specs.declared.refusal.Refusal.TheVariants as refusal
