@@ -26,7 +26,7 @@ use Rattle.docket_text.specs.CalendarOrder.{calendar_cmp, IsCalendar}
 use Rattle.docket_text.proofs.OrderLemmas.{calendar_cmp_total}
 use Rattle.docket_wire.specs.Valid.{IsCommand}
 use Rattle.docket_tables.specs.Orderly.{IsCourtSettings}
-use Rattle.docket_tables.proofs.HistoryLemmas.{no_deadlines}
+use Rattle.docket_tables.proofs.OrderlyDeadlines.{no_deadlines}
 use Rattle.docket_tables.proofs.OrderlyLemmas.{orderly}
 use Rattle.docket_calendar.specs.Calendar.{row_where, due_of, running, due_within, calendar_rows}
 use Rattle.docket_calendar.specs.DueCells.{IsDueEnd, IsDue}

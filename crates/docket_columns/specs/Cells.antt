@@ -25,10 +25,13 @@ abbrev pub court_cells : CourtSettings → ℕ → Row
 court_cells c next =
     Int (pos 1) ∷ Text (codes "civil docket") ∷ Int (pos 1) ∷ Text c.zone_text ∷ Int (pos c.close_minute) ∷ Int (pos next) ∷ []
 
--- the row of the court of a docket whose tables have this version
-abbrev pub IsMarked : ℕ → Row → Type 0
-IsMarked version row =
-    (column row 0 ≡ Int (pos 1)) × (column row 1 ≡ Text (codes "civil docket")) × (column row 2 ≡ Int (pos version))
+-- a row of the court's table bears the word of a docket
+abbrev pub HasWord : Row → Type 0
+HasWord row = column row 1 ≡ Text (codes "civil docket")
+
+-- and its tables are laid out as those of this program
+abbrev pub IsCurrent : Row → Type 0
+IsCurrent row = column row 2 ≡ Int (pos 1)
 
 -- what a row of the court says
 abbrev pub settings_of : CourtRow → CourtSettings

@@ -1,11 +1,11 @@
 //! The row of the table of the court.
-ghost use Rattle.std.specs.Prelude.{◌≡◌, ℕ, ◌<◌, ◌≤◌, ◌^◌, pos, Some, IfOk, IfSome};
+ghost use Rattle.std.specs.Prelude.{◌≡◌, ◌↔◌, ℕ, ◌<◌, ◌≤◌, ◌^◌, pos, Some, IfOk, IfSome, IsTrue};
 ghost use Rattle.sqlite.specs.Values.{bound};
 ghost use Rattle.sqlite_value.specs.Order.{column};
 ghost use Rattle.sqlite_value.specs.declared.value.Value.TheVariants.{Int};
 ghost use Rattle.court_days.specs.Court.{CourtSettings};
-ghost use Rattle.docket_columns.specs.Cells.{court_cells, settings_of, IsMarked};
-ghost use Rattle.docket_columns.specs.Fits.{IsCount, IsCourtRow};
+ghost use Rattle.docket_columns.specs.Cells.{court_cells, settings_of, HasWord, IsCurrent};
+ghost use Rattle.docket_columns.specs.Fits.{IsCourtRow};
 
 use crate::cell::{count_at, has_values, is_number, is_text, number_at, text_at};
 use court_days::Court;
@@ -17,8 +17,8 @@ use std::alloc::{AllocError, Global};
 /// What marks a database as that of a docket.
 const WORD: &str = "civil docket";
 
-/// How the tables are laid out.
-const VERSION: u32 = 1;
+/// How the tables are laid out. Another number is that of another program's.
+pub const VERSION: u32 = 1;
 
 const MINUTES_OF_A_DAY: u32 = 1440;
 
@@ -80,17 +80,18 @@ fn next_row_at(row: &Row, at: usize) -> Option<u64>
     }
 }
 
-/// What version of the tables the row of the court tells. `None`: it is no row of a docket.
-pub fn version_of(row: &Row) -> Option<u32>
-    ensures reads { (version : ℕ) → IsCount version → IsMarked version row.now → result ≡ Some version }
-    ensures sound { IfSome result (λ version. IsMarked version row.now) }
+/// Whether a row of the court's table bears the word of a docket.
+pub fn has_word(row: &Row) -> bool
+    ensures { IsTrue result ↔ HasWord row.now }
 {
-    let version = count_at(row, 2)?;
-    if is_number(row, 0, 1) && is_text(row, 1, WORD) && is_number(row, 2, i64::from(version)) {
-        Some(version)
-    } else {
-        None
-    }
+    is_text(row, 1, WORD)
+}
+
+/// Whether a row of the court's table says that the tables are laid out as this program's.
+pub fn is_current(row: &Row) -> bool
+    ensures { IsTrue result ↔ IsCurrent row.now }
+{
+    is_number(row, 2, i64::from(VERSION))
 }
 
 /// The court of a row. `None`: it is no row of a court, or that of another version.

@@ -1,20 +1,11 @@
 -- The row of a docket's court, in any database.
-use Rattle.std.specs.Prelude.{◌≡◌, ℕ, pos, codes, List, [], ◌∷◌}
-use Rattle.sqlite.specs.Order.{Row, column}
-use Rattle.sqlite.specs.declared.types.Value.TheVariants.{Int, Text}
+use Rattle.std.specs.Prelude.{◌≡◌, ℕ, List, [], ◌∷◌}
+use Rattle.sqlite.specs.Order.{Row}
 use Rattle.court_days.specs.Court.{CourtSettings}
-use Rattle.docket_columns.specs.Cells.{court_cells}
+use Rattle.docket_columns.specs.Cells.{HasWord, court_cells}
 use Rattle.docket_columns.specs.Fits.{IsCourtRow}
 use Rattle.docket_sound.specs.Courts.{IsSoundCourt}
 use Rattle.docket_sound.specs.declared.court.CourtRecord.{CourtRecord}
-
--- the row bears the word of a docket
-abbrev pub HasWord : Row → Type 0
-HasWord row = column row 1 ≡ Text (codes "civil docket")
-
--- its tables are laid out as those of this program
-abbrev pub IsCurrent : Row → Type 0
-IsCurrent row = column row 2 ≡ Int (pos 1)
 
 -- there is one row, and it bears the word
 abbrev pub AreMarked : List Row → Type 0

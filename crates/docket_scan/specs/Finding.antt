@@ -7,10 +7,10 @@ use Rattle.sqlite.specs.declared.error.Error.{Error}
 use Rattle.sqlite.specs.declared.error.Error.TheVariants.{SqliteFailure, SqlInputError}
 use Rattle.sqlite.specs.declared.error.ErrorCode.TheVariants.{TypeMismatch, IntegerOverflow, OutOfMemory}
 use Rattle.court_days.specs.Court.{CourtSettings}
-use Rattle.docket_columns.specs.Cells.{court_cells}
+use Rattle.docket_columns.specs.Cells.{HasWord, IsCurrent, court_cells}
 use Rattle.docket_columns.specs.Fits.{IsCourtRow}
 use Rattle.docket_sound.specs.declared.court.CourtRecord.{CourtRecord}
-use Rattle.docket_scan.specs.Courts.{HasWord, IsCurrent, AreMarked, IsCourtsRow, IsRowOf, record_of}
+use Rattle.docket_scan.specs.Courts.{AreMarked, IsCourtsRow, IsRowOf, record_of}
 use Rattle.docket_scan.specs.Holdings.{holdings_of}
 use Rattle.docket_scan.specs.Judging.{AreSoundBy, Holds, HasUnsoundRows, IsUnsoundIn, Rows, StaysOpen, before}
 use Rattle.docket_scan.specs.Scans.{AreRowsOf, IsUnreadable, StaysOrRollsBack}

@@ -4,7 +4,7 @@ use Rattle.sqlite.specs.Order.{Row}
 use Rattle.court_days.specs.Calendar.{Entered}
 use Rattle.court_days.specs.Court.{CourtSettings}
 use Rattle.docket_core.specs.declared.end_row.EndRow.{EndRow}
-use Rattle.docket_columns.specs.Cells.{court_cells, calendar_cells, case_cells, party_cells, entry_cells, deadline_cells, act_cells, end_cells}
+use Rattle.docket_columns.specs.Cells.{HasWord, IsCurrent, court_cells, calendar_cells, case_cells, party_cells, entry_cells, deadline_cells, act_cells, end_cells}
 use Rattle.docket_columns.specs.Fits.{IsCourtRow, IsCalendarRow, IsCaseRow, IsPartyRow, IsEntryRow, IsDeadlineRow, IsActRow, IsEndRow}
 use Rattle.docket_sound.specs.Acts.{HasTakenActs}
 use Rattle.docket_sound.specs.Calendars.{HasTakenCalendarRows}
@@ -24,7 +24,7 @@ use Rattle.docket_sound.specs.declared.due.DueCheck.{DueCheck}
 use Rattle.docket_sound.specs.declared.entry.EntryCheck.{EntryCheck}
 use Rattle.docket_sound.specs.declared.party.PartyCheck.{PartyCheck}
 use Rattle.docket_sound.specs.declared.receipt.ReceiptCheck.{ReceiptCheck}
-use Rattle.docket_scan.specs.Courts.{HasWord, IsCurrent, AreMarked, record_of}
+use Rattle.docket_scan.specs.Courts.{AreMarked, record_of}
 use Rattle.docket_scan.specs.Records.{AreRecords, IsStoredReceipt, receipt_cells}
 use Rattle.docket_scan.specs.declared.court.CourtCheck.{CourtCheck}
 use Rattle.docket_scan.specs.declared.court.SeenRow.{SeenRow}

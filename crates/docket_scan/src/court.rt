@@ -1,22 +1,14 @@
 //! The table of the court, of which one row is taken.
-ghost use Rattle.std.specs.Prelude.{◌≡◌, ◌↔◌, ◌∷◌, [], List, IfOk, IsTrue, None};
+ghost use Rattle.std.specs.Prelude.{◌≡◌, ◌∷◌, [], List, IfOk, None};
 ghost use Rattle.sqlite.specs.Order.{Row as Cells};
-ghost use Rattle.docket_scan.specs.Courts.{HasWord, IsCurrent};
 ghost use Rattle.docket_scan.specs.Taken.{Finishes, HasTakenCourt, SaysCourtOf, Sees};
 
 use crate::fault::AdoptFault;
-use docket_columns::{CourtRow, court_of};
+use docket_columns::{CourtRow, court_of, has_word, is_current};
 use docket_sound::CourtRecord;
 use docket_tables::Table;
 use sqlite::Row;
-use sqlite::types::ValueRef;
 use std::alloc::{AllocError, Global};
-
-/// What marks a database as that of a docket.
-const WORD: &str = "civil docket";
-
-/// How its tables are laid out.
-const VERSION: i64 = 1;
 
 /// What a row of the court says.
 #[derive(Drop)]
@@ -24,24 +16,6 @@ pub(crate) struct SeenRow {
     has_word: bool,
     is_current: bool,
     court: Option<CourtRecord>,
-}
-
-fn has_word(row: &Row) -> bool
-    ensures { IsTrue result ↔ HasWord row.now }
-{
-    match row.get_ref(1) {
-        Ok(ValueRef::Text(found)) => found == WORD.as_bytes(),
-        _ => false,
-    }
-}
-
-fn is_current(row: &Row) -> bool
-    ensures { IsTrue result ↔ IsCurrent row.now }
-{
-    match row.get_ref(2) {
-        Ok(ValueRef::Int(found)) => found == VERSION,
-        _ => false,
-    }
 }
 
 /// What a row of a court says. `None`: it is no row of one, or of another layout.

@@ -24,8 +24,8 @@ use Rattle.docket_core.proofs.LimitsKept.{within_limits, lawful_deadlines}
 use Rattle.docket_store.specs.Applying.{IsDocket, Stands, Asks, Applies, Faults, FailsAs, Keeps, docket_rows}
 use Rattle.docket_store.specs.Dockets.{Docket, serving}
 use Rattle.docket_tables.specs.Contents.{ends_of}
-use Rattle.docket_tables.specs.Sound.{IsSoundCase}
-use Rattle.docket_tables.proofs.WholeLemmas.{ends_of_all}
+use Rattle.docket_changes.specs.Sound.{IsSoundCase}
+use Rattle.docket_tables.proofs.StoredLemmas.{ends_of_all}
 use Rattle.docket_calendar.proofs.EndBounds.{calendar_within}
 use Rattle.docket_store.specs.Sound.{AreEndsBy, IsNotTold}
 use Rattle.docket_store.specs.declared.fault.Fault.{Fault}

@@ -11,7 +11,7 @@ ghost use Rattle.docket_core.specs.Histories.{History, deadlines, items_of, stan
 ghost use Rattle.docket_core.specs.Records.{calendar, case_record, deadline_lines};
 ghost use Rattle.docket_core.specs.Tables.{case_deadlines, rows_of};
 ghost use Rattle.docket_core.specs.declared.item.CalendarItem.{CalendarItem as Item};
-ghost use Rattle.docket_tables.specs.Sound.{IsSoundCase};
+ghost use Rattle.docket_changes.specs.Sound.{IsSoundCase};
 ghost use Rattle.docket_store.specs.Applying.{Stands, Asks};
 ghost use Rattle.docket_store.specs.Dockets.{serving};
 ghost use Rattle.docket_store.specs.Sound.{IsNotTold};
@@ -20,10 +20,11 @@ use crate::fault::{Fault, read_fault};
 use crate::judging::take_calendar;
 use crate::lines::lines_told;
 use court_days::{Calendar, Court};
+use docket_changes::{case_deadlines, case_record, is_sound_case};
 use docket_core::{
     CalendarItem, CalendarItems, CaseRecord, DeadlineLine, DeadlineView, EndRow, calendar_of,
 };
-use docket_tables::{case_deadlines, case_record, ends_of_case, is_sound_case};
+use docket_tables::ends_of_case;
 use sqlite::{Alter, Connection};
 use std::alloc::Global;
 

@@ -16,9 +16,10 @@ ghost use Rattle.docket_store.specs.Dockets.{serving};
 use crate::fault::{Fault, read_fault};
 use court_days::Court;
 use court_rules::Act;
+use docket_changes::{calendar_items, is_sound, view};
 use docket_command::{Action, Command};
 use docket_core::{CalendarItems, DecideFault, Decision, View, acts_named, asks_calendar, decide};
-use docket_tables::{ReadFault, calendar_items, is_sound, view};
+use docket_tables::ReadFault;
 use sqlite::{Alter, Connection};
 use std::alloc::Global;
 

@@ -17,9 +17,9 @@ ghost use Rattle.docket_store.specs.Sound.{AreEndsBy, IsNotTold};
 use crate::fault::Fault;
 use court_days::{Calendar, Court, Day, End};
 use court_rules::{Act, Standing, due};
+use docket_changes::is_sound_case;
 use docket_command::Text;
 use docket_core::{DeadlineLine, DeadlineView, EndRow, EndTime};
-use docket_tables::is_sound_case;
 use std::alloc::{AllocError, Global};
 
 /// What stands in place of an instant where the time runs to the end of its last day.

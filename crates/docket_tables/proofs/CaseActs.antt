@@ -1,13 +1,13 @@
 -- The acts of a case, as one question shows them: by their deadlines, and by their numbers.
-use Rattle.std.proofs.Common.{◌≡◌, ◌∙◌, ◌==◌, ◌&&◌, ◌+◌, ◌<◌, ◌≤◌, ℕ, zero, suc, pos, List, [], ◌∷◌, ◌++◌, map, filter, length, get_or, take, drop, Bool, true, false, cond, not, true≢false, None, Ordering, Less, Equal, Greater, is_eq, is_lt, is_gt, int_cmp, IsPermutation, IsSorted, refl, sym, ap, ap₂, subst, arith}
+use Rattle.std.proofs.Common.{◌≡◌, ◌∙◌, ◌==◌, ◌&&◌, ◌<◌, ◌≤◌, ℕ, zero, suc, pos, List, [], ◌∷◌, map, filter, length, get_or, Bool, true, false, cond, true≢false, Ordering, Less, Equal, Greater, is_eq, is_lt, is_gt, int_cmp, IsPermutation, IsSorted, refl, sym, ap, ap₂, subst, arith}
 use Rattle.std.specs.List.{AllByRecursion}
 use Rattle.std.specs.Cmp.{IsTotalOrder}
-use Rattle.std.specs.List.Sorted.{IsNonDecreasingBy, IsPartitionPoint}
+use Rattle.std.specs.List.Sorted.{IsNonDecreasingBy}
 use Rattle.std.specs.Ordering.{on, ordering_then, ordering_reverse}
 use Rattle.std.proofs.lemmas.Bool.Decides.{nat_tests}
 use Rattle.std.proofs.lemmas.Cmp.{on_total}
 use Rattle.std.proofs.lemmas.Int.{ints}
-use Rattle.std.proofs.lemmas.List.Sorted.{IsPermutation-sym, IsNonDecreasingBy-drop}
+use Rattle.std.proofs.lemmas.List.Sorted.{IsPermutation-sym}
 use Rattle.sqlite.specs.declared.types.Value.TheVariants.{Int}
 use Rattle.sqlite.specs.Order.{Row}
 use Rattle.sqlite.specs.Query.{key_cmp}
@@ -20,18 +20,13 @@ use Rattle.sqlite_trees.specs.Tree.{IsAscending}
 use Rattle.sqlite_trees.specs.Props.{rows_set}
 use Rattle.sqlite_value.proofs.OrderLemmas.{value_cmp-Int}
 use Rattle.std.proofs.Math.Logic.{∥∥₁_elim}
-use Rattle.court_rules.specs.declared.act.Act.{Act}
-use Rattle.docket_core.specs.Histories.{deadlines_from}
 use Rattle.docket_core.specs.declared.row.ActRow.{ActRow}
-use Rattle.docket_core.specs.declared.row.DeadlineRow.{DeadlineRow}
-use Rattle.docket_core.specs.declared.view.DeadlineView.{DeadlineView}
 use Rattle.docket_columns.specs.Cells.{act_cells}
 use Rattle.docket_tables.specs.Orderly.{Rises, RunsFrom, acts_on}
 use Rattle.docket_tables.specs.Queries.{picks, IsAnswer}
 use Rattle.docket_tables.specs.declared.query.Query.TheVariants as ask
 use Rattle.docket_tables.proofs.AnswerLemmas.{rising, kept_rows, rises_running, equal_number}
 use Rattle.docket_tables.proofs.HoldsLemmas.{and_yes}
-use Rattle.docket_tables.proofs.ViewLemmas.{shown_with, shown_more, number_at}
 
 -- a list without ties is sorted so that each is before those after it
 module _ {X : Type 0} (cmp : X → X → Ordering) (total : IsTotalOrder cmp) where
@@ -126,39 +121,11 @@ passing_both p q (x ∷ xs) = at (p x) (passing_both p q xs)
     at true more = ap (λ ys. cond (q x) (x ∷ ys) ys) more
     at false more = more
 
-abbrev of_deadline : ℕ → List ActRow → List ActRow
+abbrev pub of_deadline : ℕ → List ActRow → List ActRow
 of_deadline n rows = filter (λ row. row.deadline == n) rows
 
 abbrev numbers : List ActRow → List ℕ
 numbers rows = map (λ (row : ActRow). row.number) rows
-
--- rows are cut behind deadline n: none before the cut is of a later one, and all behind it are
-abbrev IsCut : ℕ → List ActRow → ℕ → Type 0
-IsCut n = IsPartitionPoint (λ (row : ActRow). row.deadline ≤ n) (λ (row : ActRow). n < row.deadline)
-
-cut_tail : (n p : ℕ) (row : ActRow) (rows : List ActRow) → IsCut n (row ∷ rows) (suc p) → IsCut n rows p
-cut_tail n p row rows cut =
-    (λ i d low high. cut.0 (suc i) d (omega arith) (omega (arith, high)), λ i d low high. cut.1 (suc i) d (omega (arith, low)) (omega (arith, high)))
-
-none_behind : (n : ℕ) (rows : List ActRow) → ((i : ℕ) (d : ActRow) → i < length rows → n < (get_or rows i d).deadline) → of_deadline n rows ≡ []
-none_behind n [] behind = refl
-none_behind n (row ∷ rows) behind =
-    let other : (row.deadline == n) ≡ false = grind (arith, nat_tests, behind zero row (omega arith)) in
-    ap (λ b. cond b (row ∷ of_deadline n rows) (of_deadline n rows)) other ∙ none_behind n rows (λ i d low. behind (suc i) d (omega (arith, low)))
-
--- the acts of deadline n stand before the cut
-pub before_cut : (n p : ℕ) (rows : List ActRow) → IsCut n rows p → of_deadline n (take p rows) ≡ of_deadline n rows
-before_cut n zero rows cut = sym (none_behind n rows (λ i d low. cut.1 i d (omega arith) low))
-before_cut n (suc p) [] cut = refl
-before_cut n (suc p) (row ∷ rows) cut = ap (λ ys. cond (row.deadline == n) (row ∷ ys) ys) (before_cut n p rows (cut_tail n p row rows cut))
-
--- and those of a later one behind it
-pub behind_cut : (n p m : ℕ) (rows : List ActRow) → n < m → IsCut n rows p → p ≤ length rows → of_deadline m (drop p rows) ≡ of_deadline m rows
-behind_cut n zero m rows later cut within = refl
-behind_cut n (suc p) m [] later cut within = refl
-behind_cut n (suc p) m (row ∷ rows) later cut within =
-    let other : (row.deadline == m) ≡ false = grind (arith, nat_tests, later, cut.0 zero row (omega arith) (omega arith)) in
-    behind_cut n p m rows later (cut_tail n p row rows cut) (omega (arith, within)) ∙ sym (ap (λ b. cond b (row ∷ of_deadline m rows) (of_deadline m rows)) other)
 
 above : (n : ℕ) (rows : List ActRow) → AllByRecursion (λ m. n < m) (numbers rows) → AllByRecursion (λ (row : ActRow). n < row.number) rows
 above n [] h = tt
@@ -241,19 +208,3 @@ module _ (k : ℕ) (acts : List ActRow) (runs : (n : ℕ) → RunsFrom 1 (number
   pub in_turn_all : (P : ActRow → Type 0) → AllByRecursion P acts → AllByRecursion P in_turn
   unfolding in_turn
   in_turn_all P all = all-sorted act_order act_total P own (all-filter P (λ row. row.case == k) acts all)
-
--- one deadline more has its acts, which are cut off, and those of the later ones are left
-pub next_shown : (k i : ℕ) (all : List ActRow) (rows : List DeadlineRow) (d : DeadlineRow) (found more : List DeadlineView) (list : List Act) (rest mine later : List ActRow) (count : ℕ) → RunsFrom 1 (map (λ r. r.number) rows) → i < length rows
-    → (found ≡ deadlines_from k 1 all (take i rows)) × ((n : ℕ) → i < n → of_deadline n rest ≡ acts_on k n all) × IsNonDecreasingBy (λ (row : ActRow). row.deadline) rest
-    → count ≤ length rest → (IsNonDecreasingBy (λ (row : ActRow). row.deadline) rest → IsCut (get_or rows i d).number rest count) → mine ≡ take count rest → later ≡ drop count rest
-    → list ≡ map (λ row. row.act) (of_deadline (get_or rows i d).number mine) → more ≡ found ++ shown_with (get_or rows i d) list ∷ []
-    → (more ≡ deadlines_from k 1 all (take (i + 1) rows)) × ((n : ℕ) → i + 1 < n → of_deadline n later ≡ acts_on k n all) × IsNonDecreasingBy (λ (row : ActRow). row.deadline) later
-next_shown k i all rows d found more list rest mine later count runs low was within cuts front back listed pushed =
-    let number = (get_or rows i d).number in
-    let number_is : number ≡ 1 + i = number_at 1 i rows d runs low in
-    let cut = cuts was.2 in
-    let acts = ap (of_deadline number) front ∙ before_cut number count rest cut ∙ was.1 number (omega (arith, number_is)) in (
-      shown_more k i all rows d found more list runs low was.0 (listed ∙ ap (map (λ row. row.act)) acts) pushed,
-      λ n after. ap (of_deadline n) back ∙ behind_cut number count n rest (omega (arith, number_is, after)) cut within ∙ was.1 n (omega (arith, after)),
-      subst (IsNonDecreasingBy (λ (row : ActRow). row.deadline)) (sym back) (IsNonDecreasingBy-drop (λ (row : ActRow). row.deadline) count rest was.2),
-    )

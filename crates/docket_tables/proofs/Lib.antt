@@ -3,22 +3,22 @@ mod CalendarLemmas
 pub mod CaseActs
 pub mod CellLemmas
 mod ChangesLemmas
-mod CommitLemmas
+pub mod CommitLemmas
 mod ContentsLemmas
 mod CourtLemmas
 mod CreateLemmas
 mod DeleteLemmas
+pub mod EndLemmas
 mod FoundLemmas
-mod EndLemmas
-pub mod HistoryLemmas
 pub mod HoldsLemmas
-mod InsideLemmas
 mod InsertLemmas
+pub mod InsideLemmas
 pub mod LayoutLemmas
 mod MoveLemmas
 mod OrderlyActions
 pub mod OrderlyActs
 pub mod OrderlyCalendar
+pub mod OrderlyDeadlines
 pub mod OrderlyLemmas
 mod OrderlyLists
 pub mod OrderlyReceipts
@@ -29,12 +29,7 @@ pub mod ReadLemmas
 pub mod ReopenLemmas
 mod RowLemmas
 mod RowidLemmas
-mod RunningLemmas
 pub mod SelectLemmas
-mod SettlingLemmas
-mod SoundLemmas
 pub mod StandsLemmas
+pub mod StoredLemmas
 mod UpdateLemmas
-mod VersionLemmas
-mod ViewLemmas
-pub mod WholeLemmas

@@ -1,8 +1,7 @@
 -- The acts of a docket.
 use Rattle.std.proofs.Common.{◌≡◌, ◌⊎◌, inl, inr, ⊎_elim, ℕ, suc, ◌+◌, ◌<◌, ◌≤◌, Bool, true, false, ◌&&◌, cond, Option, Some, None, List, [], ◌∷◌, ◌++◌, map, length, refl, sym, ap, subst, ◌∙◌, arith, append-nil, append_assoc}
-use Rattle.std.specs.Prelude.{◌==◌, nat_le, unwrap_or, is_some, is_none}
+use Rattle.std.specs.Prelude.{◌==◌, nat_le, unwrap_or}
 use Rattle.std.specs.List.{AllByRecursion, list_all}
-use Rattle.std.specs.Option.{option_and_then}
 use Rattle.std.proofs.lemmas.Bool.Decides.{nat_tests}
 use Rattle.std.proofs.lemmas.List.{map-append, length-map}
 use Rattle.std.proofs.lemmas.List.Elements.{filter-append}
@@ -12,8 +11,7 @@ use Rattle.court_rules.specs.declared.act.Act.{Act}
 use Rattle.docket_command.specs.declared.command.Action.{Action}
 use Rattle.docket_core.specs.Actions.{deadline_named, deadlines_made, acts_made}
 use Rattle.docket_core.specs.Histories.{History, case_number, deadline_number, deadline_rows, deadlines_of_case, act_rows, acts_of_deadline, first_acts, first_acts_from, later_acts, act_rows_on}
-use Rattle.docket_core.specs.Outcomes.{IsHistory, shown_fresh}
-use Rattle.docket_core.specs.Views.{deadline_at}
+use Rattle.docket_core.specs.Outcomes.{IsHistory}
 use Rattle.docket_core.specs.declared.row.ActRow.{ActRow}
 use Rattle.docket_core.proofs.InOrderLemmas.{same_number}
 use Rattle.docket_core.proofs.Leading.{seen, none_acted, none_acted_in}

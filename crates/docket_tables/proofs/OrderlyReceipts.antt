@@ -16,7 +16,7 @@ use Rattle.docket_command.specs.declared.refusal.Refusal.{Refusal}
 use Rattle.docket_command.specs.declared.refusal.Refusal.TheVariants as refusal
 use Rattle.docket_command.specs.declared.refusal.Reply.{Reply}
 use Rattle.docket_core.specs.Actions.{case_named, asks_deadlines, if_asked, day_row}
-use Rattle.docket_core.specs.Histories.{History, case_rows, party_rows, entry_rows, deadline_rows, act_rows, parties_of_case, entries_of_case, deadlines_of_case, deadlines}
+use Rattle.docket_core.specs.Histories.{History, case_rows, deadline_rows, act_rows, deadlines_of_case, deadlines}
 use Rattle.docket_core.specs.Limits.{IsWithinLimits}
 use Rattle.docket_core.specs.Outcomes.{IsHistory, accepted, answer_kept, answer_by, repeated, refused, case_of_number, kept, kept_by, receipts, reply_to, replied, shown, shown_fresh}
 use Rattle.docket_core.specs.Refusals.{on, on_value, first_some, is_reused, is_there, is_full, count_added, wants_statement, refusal_of, state_refusals}

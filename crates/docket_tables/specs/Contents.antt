@@ -1,10 +1,14 @@
 -- The rows that the tables hold of a docket.
 use Rattle.std.specs.Prelude.{◌==◌, ℕ, List, [], ◌∷◌, map, filter}
-use Rattle.court_days.specs.Court.{CourtSettings}
-use Rattle.docket_core.specs.EndRows.{end_rows}
+use Rattle.std.specs.List.{AllByRecursion}
+use Rattle.court_days.specs.Calendar.{Entered}
+use Rattle.court_days.specs.Court.{CourtSettings, zone_of}
+use Rattle.docket_core.specs.EndRows.{AreRowsFrom, end_rows, end_rows_from, ends_running}
+use Rattle.docket_core.specs.Histories.{deadlines_of_case, deadlines_from}
 use Rattle.docket_core.specs.Tables.{Tables}
 use Rattle.docket_core.specs.declared.end_row.EndRow.{EndRow}
 use Rattle.docket_columns.specs.Cells.{court_cells, calendar_cells, case_cells, party_cells, entry_cells, deadline_cells, act_cells, receipt_cells, end_cells}
+use Rattle.docket_columns.specs.Fits.{IsEndRow}
 use Rattle.docket_tables.specs.declared.table.Table.TheVariants.{Court, Calendar, Cases, Parties, Entries, Deadlines, Acts, Receipts, Ends}
 use Rattle.docket_tables.specs.Layouts.{Rows}
 
@@ -27,3 +31,13 @@ rows_in court t = rows_with court t (end_rows court t)
 -- the ends of a case
 abbrev pub ends_of : ℕ → List EndRow → List EndRow
 ends_of k ends = filter (λ row. row.case == k) ends
+
+-- the ends of case k are rows of it, one for a deadline at most, and a question shows them
+pub record AreStored (k : ℕ) (ends : List EndRow) : Type 0 where
+  pub fit : AllByRecursion IsEndRow (ends_of k ends)
+  pub rows : AreRowsFrom k 1 (ends_of k ends)
+
+-- the ends of case k by the calendar, as its deadlines and acts stand in the tables
+abbrev pub ends_in_case : CourtSettings → Entered → Tables → ℕ → List EndRow
+ends_in_case court entered t k =
+    end_rows_from k 1 (ends_running (zone_of court) entered (deadlines_from k 1 t.acts (deadlines_of_case k t.deadlines)))

@@ -7,7 +7,5 @@ pub mod Queries
 pub mod Readings
 pub mod Recognition
 pub mod Schema
-pub mod Settling
-pub mod Sound
 pub mod Stands
 pub mod Statements

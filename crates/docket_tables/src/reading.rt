@@ -1,5 +1,5 @@
 //! Questions to a docket's tables.
-ghost use Rattle.std.specs.Prelude.{◌≡◌, ◌≤◌, ◌==◌, false, length, Some};
+ghost use Rattle.std.specs.Prelude.{◌≡◌, ◌≤◌, ◌==◌, false, length};
 ghost use Rattle.std.specs.List.{list_any};
 ghost use Rattle.std.specs.Str.{bytes_eq};
 ghost use Rattle.sqlite.specs.Held.{state};
@@ -11,17 +11,13 @@ ghost use Rattle.docket_core.specs.Records.{case_at};
 ghost use Rattle.docket_wire.specs.Valid.{IsCommand};
 ghost use Rattle.docket_wire.specs.Writing.{canonical};
 ghost use Rattle.docket_tables.specs.Contents.{ends_of};
-ghost use Rattle.docket_tables.specs.Layouts.{Rows};
-ghost use Rattle.docket_tables.specs.Readings.{AreActsOf, Gives, Reads, row_at};
-ghost use Rattle.docket_tables.specs.Recognition.{TellsVersion};
-ghost use Rattle.docket_tables.specs.Stands.{HoldsRows};
-ghost use Rattle.docket_tables.specs.declared.table.Table.TheVariants as table;
+ghost use Rattle.docket_tables.specs.Readings.{AreActsOf, Reads, row_at};
 
 use crate::fault::ReadFault;
 use crate::query::Query;
 use crate::rows::{
     acts_alone_in, acts_in, calendar_in, case_in, court_in, deadline_in, deadlines_in, ends_in,
-    entries_in, kept_in, number_in, parties_in, version_in,
+    entries_in, kept_in, number_in, parties_in,
 };
 use crate::store::ask;
 use court_rules::Act;
@@ -40,18 +36,6 @@ pub fn court<S: Alter>(conn: &mut Connection<S>, alloc: Global) -> Result<CourtR
 {
     let rows = ask(conn, Query::Court, &[])?;
     court_in(alloc, rows.as_slice())
-}
-
-/// What version of the tables the database tells. `None`: `court` does not hold one row with the
-/// docket's word.
-pub fn version<S: Alter>(conn: &mut Connection<S>) -> Result<Option<u32>, ReadFault>
-    ensures read { Reads S.Store conn.old conn.new result (λ _ t found. found ≡ Some 1) }
-    ensures told { (rows : Rows) → HoldsRows S.Store conn.old rows → Gives S.Store conn.new rows (TellsVersion (rows table.Court)) result }
-    ensures clean { doubt (state S.Store conn.old).is_clean ≤ doubt (state S.Store conn.new).is_clean }
-    ensures mode { conn.old.in_transaction ≡ false → conn.new.in_transaction ≡ false }
-{
-    let rows = ask(conn, Query::Court, &[])?;
-    Ok(version_in(rows.as_slice()))
 }
 
 /// The rows of the calendar, in the order of their numbers.

@@ -1,7 +1,6 @@
 //! Rows of SQL as rows of a docket.
-ghost use Rattle.std.specs.Prelude.{◌≡◌, ◌==◌, ℕ, ◌^◌, ◌<◌, ◌≤◌, List, [], ◌∷◌, length, Ok, Some, None, pos, map, filter, IfOk};
+ghost use Rattle.std.specs.Prelude.{◌≡◌, ℕ, ◌^◌, ◌<◌, List, [], ◌∷◌, Ok, Some, None, pos, map, IfOk};
 ghost use Rattle.std.specs.List.{AllByRecursion};
-ghost use Rattle.std.specs.List.Sorted.{IsNonDecreasingBy, IsPartitionPoint};
 ghost use Rattle.sqlite.specs.Order.{Row as Cells, column};
 ghost use Rattle.sqlite.specs.declared.types.Value.TheVariants.{Int};
 ghost use Rattle.docket_core.specs.declared.row.ActRow.{ActRow as OnDeadline};
@@ -21,13 +20,12 @@ ghost use Rattle.docket_wire.specs.Writing.{canonical};
 ghost use Rattle.docket_columns.specs.Cells.{act_cells, calendar_cells, case_cells, court_cells, deadline_cells, end_cells, entry_cells, party_cells, receipt_cells};
 ghost use Rattle.docket_columns.specs.Fits.{IsActRow, IsCalendarRow, IsCaseRow, IsCourtRow, IsDeadlineRow, IsEndRow, IsEntryRow, IsPartyRow, IsReceipt};
 ghost use Rattle.docket_tables.specs.Readings.{IsReadAs};
-ghost use Rattle.docket_tables.specs.Recognition.{TellsVersion};
 
 use crate::fault::ReadFault;
 use court_rules::Act;
 use docket_columns::{
     CourtRow, act_of, calendar_of, case_of, count_at, court_of, deadline_of, end_of, entry_of,
-    kept_by, party_of, version_of,
+    kept_by, party_of,
 };
 use docket_core::{ActRow, CalendarRow, CaseRow, DeadlineRow, EndRow, EntryRow, Kept, PartyRow};
 use sqlite::Row;
@@ -132,32 +130,6 @@ pub(crate) fn deadline_in(rows: &[Row]) -> Result<Option<DeadlineRow>, ReadFault
     }
 }
 
-/// How many acts, by their deadlines, come up to the deadline.
-pub(crate) fn count_up_to(rows: &[ActRow], deadline: u32) -> usize
-    ensures bound { result ≤ length rows.now }
-    ensures cut { IsNonDecreasingBy (λ (row : OnDeadline). row.deadline) rows.now
-        → IsPartitionPoint (λ (row : OnDeadline). row.deadline ≤ deadline) (λ (row : OnDeadline). deadline < row.deadline) rows.now result }
-{
-    rows.partition_point(|row| row.deadline <= deadline)
-}
-
-/// The acts of a deadline, among those of its case.
-pub(crate) fn acts_among(
-    alloc: Global,
-    rows: &[ActRow],
-    deadline: u32,
-) -> Result<Vec<Act>, AllocError>
-    ensures { IfOk result (λ found. found.items ≡ map (λ row. row.act) (filter (λ row. row.deadline == deadline) rows.now)) }
-{
-    let mut found = Vec::new(alloc);
-    for row in rows {
-        if row.deadline == deadline {
-            found.push(row.act)?;
-        }
-    }
-    Ok(found)
-}
-
 /// The ends of rows.
 pub(crate) fn ends_in(alloc: Global, rows: &[Row]) -> Result<Vec<EndRow>, ReadFault>
     ensures { (all : List Ended) → AllByRecursion IsEndRow all → rows.now ≡ map end_cells all → IsReadAs (λ found. found.items ≡ all) result }
@@ -179,16 +151,6 @@ pub(crate) fn court_in(alloc: Global, rows: &[Row]) -> Result<CourtRow, ReadFaul
 {
     let row = rows.first().ok_or(ReadFault::Damaged)?;
     court_of(alloc, row)?.ok_or(ReadFault::Damaged)
-}
-
-/// What version of the tables the rows of the court tell.
-pub(crate) fn version_in(rows: &[Row]) -> Option<u32>
-    ensures { TellsVersion rows.now result }
-{
-    match rows {
-        [row] => version_of(row),
-        _ => None,
-    }
 }
 
 /// The case of the first row, if there is one.

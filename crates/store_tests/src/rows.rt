@@ -8,9 +8,10 @@ mod readings;
 
 use self::changes::{acts, of_each};
 use crate::asking::court;
+use docket_changes::{EndUpdate, write};
 use docket_command::{Action, Command, Reply, Text, Vacate};
 use docket_core::{Change, Changes};
-use docket_tables::{EndUpdate, is_bare, make, write};
+use docket_tables::{is_bare, make};
 use docket_wire::command_text;
 use sqlite::{Alter, Connection, MemStore};
 use std::alloc::{AllocError, Global};

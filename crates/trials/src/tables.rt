@@ -5,7 +5,9 @@ mod timing;
 
 use anyhow::Error;
 use filling::{count, filled, made};
-use sqlite::{Alter, Connection};
+use memory_file::MemoryFile;
+use sqlite::{Alter, Connection, FileStore, Files, Options};
+use std::alloc::Global;
 pub(crate) use timing::WRITES;
 use timing::{time_cases, time_parties, time_reads};
 
@@ -24,10 +26,22 @@ fn time_rows<S: Alter>(rt: &HostRuntime, conn: &mut Connection<S>, rows: u32) ->
     Ok(())
 }
 
+/// A database that is kept nowhere, as the docket of `docketctl run` without a file is.
+fn database_in_memory(alloc: Global) -> Result<Connection<FileStore<MemoryFile>>, Error> {
+    let files = Files {
+        log: MemoryFile::new(alloc),
+        db: MemoryFile::new(alloc),
+    };
+    match Connection::open_files(alloc, files, Options::new(0)) {
+        Ok(conn) => Ok(conn),
+        Err((error, _)) => Err(error.into()),
+    }
+}
+
 /// Times tables with so many rows, in the file of that path or in memory.
 pub(crate) fn time_tables(rt: &HostRuntime, rows: u32, path: Option<&str>) -> Result<(), Error> {
     match path {
         Some(path) => time_rows(rt, &mut Connection::open(rt, path)?, rows),
-        None => time_rows(rt, &mut Connection::open_in_memory(rt.alloc())?, rows),
+        None => time_rows(rt, &mut database_in_memory(rt.alloc())?, rows),
     }
 }

@@ -1,6 +1,7 @@
 //! A row of SQL that is read as one of a table of the docket, and rows that are not.
 use docket_columns::{
-    act_of, calendar_of, case_of, court_of, deadline_of, entry_of, party_of, reply_of, version_of,
+    act_of, calendar_of, case_of, court_of, deadline_of, entry_of, has_word, is_current, party_of,
+    reply_of,
 };
 use sqlite::{Connection, Row};
 use std::alloc::{AllocError, Global};
@@ -116,18 +117,29 @@ fn rows_are_read_or_none(rt: HostRuntime) -> Result<(), Fail> {
     Ok(())
 }
 
-const VERSIONS: [(&str, Option<u32>); 3] = [
-    ("SELECT 1, 'civil docket', 0, 'UTC0', 1020, 7", Some(0)),
-    ("SELECT 1, 'civil docket', 1, 'UTC0', 1020, 7", Some(1)),
-    ("SELECT 1, 'criminal docket', 0, 'UTC0', 1020, 7", None),
+/// Rows of a court's table, whether they bear the word of a docket, and whether the tables are laid out
+/// as this program's.
+const MARKS: [(&str, bool, bool); 4] = [
+    ("SELECT 1, 'civil docket', 1, 'UTC0', 1020, 7", true, true),
+    ("SELECT 1, 'civil docket', 0, 'UTC0', 1020, 7", true, false),
+    (
+        "SELECT 1, 'criminal docket', 1, 'UTC0', 1020, 7",
+        false,
+        true,
+    ),
+    ("SELECT 1, 7, '1', 'UTC0', 1020, 7", false, false),
 ];
 
 #[test]
-fn versions(rt: HostRuntime) -> Result<(), Fail> {
+fn courts_are_told_by_word_and_version(rt: HostRuntime) -> Result<(), Fail> {
     let mut conn = Connection::open_in_memory(rt.alloc())?;
-    for (sql, wanted) in VERSIONS {
+    for (sql, word, version) in MARKS {
         let row = conn.query_row(sql, &[])?;
-        assert_eq!(rt; version_of(&row), wanted, "{sql}");
+        assert_eq!(rt;
+            (has_word(&row), is_current(&row)),
+            (word, version),
+            "{sql}"
+        );
     }
     Ok(())
 }

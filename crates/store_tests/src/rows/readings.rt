@@ -17,7 +17,6 @@ use std::test::Fail;
 enum Question {
     /// What number the next row of the calendar has.
     Court,
-    Version,
     Standing(u32),
     Cases,
     Label(&'static str),
@@ -33,7 +32,6 @@ fn number<S: Alter>(
 ) -> Result<u64, ReadFault> {
     Ok(match question {
         Question::Court => tables::court(conn, alloc)?.next_row,
-        Question::Version => u64::from(tables::version(conn)?.ok_or(ReadFault::Damaged)?),
         Question::Standing(row) => u64::from(tables::is_row_standing(conn, row)?),
         Question::Cases => u64::from(tables::cases(conn)?),
         Question::Label(label) => u64::from(tables::is_label_taken(conn, label)?),
@@ -42,9 +40,8 @@ fn number<S: Alter>(
     })
 }
 
-const NUMBERS: [(Question, u64); 11] = [
+const NUMBERS: [(Question, u64); 10] = [
     (Question::Court, 3),
-    (Question::Version, 1),
     (Question::Standing(2), 1),
     (Question::Standing(3), 0),
     (Question::Cases, 1),

@@ -2,9 +2,9 @@
 use crate::tables::commands::{joining, key_of, opening, scattered};
 use anyhow::{Error, anyhow};
 use court_days::Court;
+use docket_changes::{EndUpdate, write};
 use docket_command::Command;
 use docket_core::Changes;
-use docket_tables::{EndUpdate, write};
 use docket_wire::command_text;
 use sqlite::types::{ToSql, ValueRef};
 use sqlite::{Alter, Connection};

@@ -1,8 +1,8 @@
 use Rattle.std.proofs.Common.{◌≡◌, ap, arith, length}
 use Rattle.docket_core.specs.Histories.{case_rows}
 use Rattle.docket_core.specs.Tables.{rows_of}
-use Rattle.docket_tables.specs.declared.moving.EndUpdate.{EndUpdate}
-use Rattle.docket_tables.specs.declared.moving.EndUpdate.TheVariants.{Calendar}
+use Rattle.docket_changes.specs.declared.moving.EndUpdate.{EndUpdate}
+use Rattle.docket_changes.specs.declared.moving.EndUpdate.TheVariants.{Calendar}
 use Rattle.docket_store.specs.Applying.{docket_rows}
 use Rattle.docket_store.proofs.ApplyLemmas.{docket_orderly}
 use Rattle.docket_store.proofs.AskLemmas.{asks_failed}

@@ -4,8 +4,8 @@ use Rattle.sqlite.specs.State.{HasCleanDisk}
 use Rattle.docket_core.specs.EndMoves.{Follows}
 use Rattle.docket_core.specs.Tables.{rows_of}
 use Rattle.docket_core.specs.declared.row.Change.{Change}
-use Rattle.docket_tables.specs.Settling.{IsUpdate}
-use Rattle.docket_tables.specs.declared.moving.EndUpdate.{EndUpdate}
+use Rattle.docket_changes.specs.Settling.{IsUpdate}
+use Rattle.docket_changes.specs.declared.moving.EndUpdate.{EndUpdate}
 use Rattle.docket_store.specs.Applying.{docket_rows}
 use Rattle.docket_store.proofs.ApplyLemmas.{fails_apart, follows_accepted}
 use Rattle.docket_store.proofs.AskLemmas.{asks_failed}

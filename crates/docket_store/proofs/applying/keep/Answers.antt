@@ -3,8 +3,8 @@ use Rattle.sqlite.specs.Held.{state}
 use Rattle.sqlite.specs.State.{HasCleanDisk}
 use Rattle.docket_core.specs.Histories.{History}
 use Rattle.docket_core.specs.Tables.{rows_of}
-use Rattle.docket_tables.specs.Settling.{IsUpdate}
-use Rattle.docket_tables.specs.declared.moving.EndUpdate.{EndUpdate}
+use Rattle.docket_changes.specs.Settling.{IsUpdate}
+use Rattle.docket_changes.specs.declared.moving.EndUpdate.{EndUpdate}
 use Rattle.docket_store.specs.Applying.{Keeps}
 use Rattle.docket_store.specs.Dockets.{serving}
 use Rattle.docket_store.proofs.ApplyLemmas.{after_accepted, docket_after, numbers_fit, rows_after, update_written, holds_same, either_same, faults_of}

@@ -5,7 +5,7 @@ use Rattle.docket_core.specs.CalendarItems.{calendar_of}
 use Rattle.docket_core.specs.Histories.{items_of, standing_rows}
 use Rattle.docket_core.specs.Records.{calendar}
 use Rattle.docket_core.specs.declared.item.CalendarItem.{CalendarItem}
-use Rattle.docket_tables.specs.Sound.{IsSoundCase}
+use Rattle.docket_changes.specs.Sound.{IsSoundCase}
 use Rattle.docket_store.specs.Applying.{Stands}
 use Rattle.docket_store.specs.Dockets.{serving}
 use Rattle.docket_store.proofs.AskLemmas.{asks_told, sound_calendar}

@@ -1,4 +1,4 @@
-use Rattle.std.proofs.Common.{◌≡◌, ◌∙◌, ◌==◌, ◌&&◌, [], ◌∷◌, pos, map, refl, ap}
+use Rattle.std.proofs.Common.{◌∙◌, ◌==◌, ◌&&◌, [], ◌∷◌, pos, refl}
 use Rattle.sqlite.specs.declared.types.Value.TheVariants.{Int}
 use Rattle.sqlite_trees.proofs.ListLemmas.{all-filter}
 use Rattle.docket_core.specs.declared.row.ActRow.{ActRow}

@@ -3,7 +3,7 @@ use Rattle.docket_core.specs.EndRows.{end_rows}
 use Rattle.docket_tables.specs.Contents.{rows_in, ends_of}
 use Rattle.docket_tables.proofs.EndLemmas.{ends_shown}
 use Rattle.docket_tables.proofs.ReadLemmas.{gives}
-use Rattle.docket_tables.proofs.WholeLemmas.{all_stored}
+use Rattle.docket_tables.proofs.StoredLemmas.{all_stored}
 use Rattle.docket_tables.proofs.reading.ends_of_case.Goals as goal
 
 pub returns-clause-read : goal.returns-clause-read

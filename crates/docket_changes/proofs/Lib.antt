@@ -1,0 +1,7 @@
+mod GatherLemmas
+pub mod HistoryLemmas
+mod RunningLemmas
+mod SettlingLemmas
+mod SoundLemmas
+mod ViewLemmas
+mod WholeLemmas

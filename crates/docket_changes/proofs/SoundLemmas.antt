@@ -1,0 +1,145 @@
+-- What is tested of a view makes it sound, and a sound view passes.
+use Rattle.std.proofs.Common.{◌≡◌, ◌≤◌, ◌⊎◌, Bool, true, false, Option, Some, None, List, [], ◌∷◌, length, refl, arith}
+use Rattle.std.specs.Prelude.{nat_lt, nat_le, ◌&&◌, IfSome}
+use Rattle.std.specs.List.{All, list_all}
+use Rattle.std.proofs.lemmas.Bool.Decides.{nat_tests}
+use Rattle.std.proofs.lemmas.List.Elements.{All-nil, All-cons, All-head, All-tail}
+use Rattle.civil_time.specs.Zone.{ZoneRules}
+use Rattle.court_days.specs.Court.{CourtSettings, zone_of}
+use Rattle.court_rules.specs.Acts.{acts_ok, is_within, is_instant}
+use Rattle.court_rules.specs.Standings.{AreActs, begins_on_entered_day}
+use Rattle.court_rules.specs.declared.act.Act.{Act}
+use Rattle.court_rules.specs.declared.act.Act.TheVariants as act
+use Rattle.court_rules.specs.declared.act.Start.TheVariants as start
+use Rattle.docket_core.specs.CalendarItems.{IsEnteredItem}
+use Rattle.docket_core.specs.Decisions.{IsSoundView}
+use Rattle.docket_core.specs.Views.{deadline_shown}
+use Rattle.docket_core.specs.declared.item.CalendarItem.{CalendarItem}
+use Rattle.docket_core.specs.declared.item.CalendarItem.TheVariants.{Day, Span}
+use Rattle.docket_core.specs.EndMoves.{acts_with, MayCome, AreLawful}
+use Rattle.docket_core.specs.declared.row.Change.{Change}
+use Rattle.docket_core.specs.declared.row.Change.TheVariants.{AddAct}
+use Rattle.docket_core.specs.declared.view.DeadlineView.{DeadlineView}
+use Rattle.docket_core.specs.declared.view.View.{View}
+use Rattle.docket_core.proofs.Passed.{left_true, right_true}
+use Rattle.docket_changes.specs.Sound.{is_entered_item, begins_in_time, are_acts, are_lawful, is_lawful, may_come, IsSoundCase}
+
+both_true : (a b : Bool) → a ≡ true → b ≡ true → (a && b) ≡ true
+both_true true b e f = f
+both_true false b e f = absurd (cc)
+
+-- a test of each element that tells a property
+module _ {X : Type 0} (p : X → Bool) (P : X → Type 0) where
+  pub all_told : ((x : X) → p x ≡ true → P x) → (xs : List X) → list_all p xs ≡ true → All P xs
+  all_told tells [] e = All-nil P
+  all_told tells (x ∷ xs) e = All-cons P x xs (tells x (left_true (p x) (list_all p xs) e)) (all_told tells xs (right_true (p x) (list_all p xs) e))
+
+  pub all_passed : ((x : X) → P x → p x ≡ true) → (xs : List X) → All P xs → list_all p xs ≡ true
+  all_passed passes [] all = refl
+  all_passed passes (x ∷ xs) all = both_true (p x) (list_all p xs) (passes x (All-head P x xs all)) (all_passed passes xs (All-tail P x xs all))
+
+item_told : (item : CalendarItem) → is_entered_item item ≡ true → IsEnteredItem item
+item_told (Day kind day) e = grind (arith, nat_tests, left_true (nat_le 10_957 day) (nat_le day 47_481) e, right_true (nat_le 10_957 day) (nat_le day 47_481) e)
+item_told (Span start end) e =
+    let rest : (nat_lt start end && nat_le end 4_102_531_200) ≡ true = right_true (nat_le 946_598_400 start) (nat_lt start end && nat_le end 4_102_531_200) e in
+    let a : nat_le 946_598_400 start ≡ true = left_true (nat_le 946_598_400 start) (nat_lt start end && nat_le end 4_102_531_200) e in
+    let b : nat_lt start end ≡ true = left_true (nat_lt start end) (nat_le end 4_102_531_200) rest in
+    let d : nat_le end 4_102_531_200 ≡ true = right_true (nat_lt start end) (nat_le end 4_102_531_200) rest in
+    (grind (arith, nat_tests), grind (arith, nat_tests), grind (arith, nat_tests))
+
+item_passed : (item : CalendarItem) → IsEnteredItem item → is_entered_item item ≡ true
+item_passed (Day kind day) is = both_true (nat_le 10_957 day) (nat_le day 47_481) (grind (arith, nat_tests, is.0)) (grind (arith, nat_tests, is.1))
+item_passed (Span start end) is =
+    both_true (nat_le 946_598_400 start) (nat_lt start end && nat_le end 4_102_531_200) (grind (arith, nat_tests, is.0))
+    (both_true (nat_lt start end) (nat_le end 4_102_531_200) (grind (arith, nat_tests, is.1)) (grind (arith, nat_tests, is.2)))
+
+module _ (zone : ZoneRules) where
+  begin_told : (acts : List Act) → list_all (begins_in_time zone) acts ≡ true → list_all (begins_on_entered_day zone) acts ≡ true
+  begin_told [] e = refl
+  begin_told (a ∷ acts) e =
+      both_true (begins_on_entered_day zone a) (list_all (begins_on_entered_day zone) acts) (one a (left_true (begins_in_time zone a) (list_all (begins_in_time zone) acts) e))
+      (begin_told acts (right_true (begins_in_time zone a) (list_all (begins_in_time zone) acts) e))
+    where
+      one : (b : Act) → begins_in_time zone b ≡ true → begins_on_entered_day zone b ≡ true
+      one (act.Start (start.Hours hours)) f = right_true (is_instant hours.at) _ f
+      one _ f = refl
+
+  begin_one : (b : Act) → is_within b ≡ true → begins_on_entered_day zone b ≡ true → begins_in_time zone b ≡ true
+  begin_one (act.Start (start.Hours hours)) w f = both_true (is_instant hours.at) _ (left_true (is_instant hours.at) _ w) f
+  begin_one _ w f = refl
+
+  begin_passed : (acts : List Act) → list_all is_within acts ≡ true → list_all (begins_on_entered_day zone) acts ≡ true → list_all (begins_in_time zone) acts ≡ true
+  begin_passed [] w e = refl
+  begin_passed (a ∷ acts) w e =
+      both_true (begins_in_time zone a) (list_all (begins_in_time zone) acts)
+      (begin_one a (left_true (is_within a) (list_all is_within acts) w) (left_true (begins_on_entered_day zone a) (list_all (begins_on_entered_day zone) acts) e))
+      (begin_passed acts (right_true (is_within a) (list_all is_within acts) w) (right_true (begins_on_entered_day zone a) (list_all (begins_on_entered_day zone) acts) e))
+
+  all_within : (acts : List Act) → acts_ok acts ≡ true → list_all is_within acts ≡ true
+  all_within acts e =
+      let counted = nat_le 1 (length acts) && nat_le (length acts) 100 in
+      right_true counted (list_all is_within acts) (left_true (counted && list_all is_within acts) _ e)
+
+  pub list_told : (acts : List Act) → are_acts zone acts ≡ true → AreActs zone acts
+  list_told acts e = (left_true (acts_ok acts) _ e, begin_told acts (right_true (acts_ok acts) _ e))
+
+  pub list_passed : (acts : List Act) → AreActs zone acts → are_acts zone acts ≡ true
+  list_passed acts is = both_true (acts_ok acts) (list_all (begins_in_time zone) acts) is.0 (begin_passed acts (all_within acts is.0) is.1)
+
+  acts_told : (d : DeadlineView) → are_acts zone d.acts ≡ true → AreActs zone d.acts
+  acts_told d e = list_told d.acts e
+
+  acts_passed : (d : DeadlineView) → AreActs zone d.acts → are_acts zone d.acts ≡ true
+  acts_passed d is = list_passed d.acts is
+
+  -- an act that is tested may come on its deadline
+  change_told : (named : List Act) (change : Change) → may_come zone named change ≡ true → MayCome zone named change
+  change_told named (AddAct row) e = list_told (acts_with named row) e
+  change_told named _ e = tt
+
+  change_passed : (named : List Act) (change : Change) → MayCome zone named change → may_come zone named change ≡ true
+  change_passed named (AddAct row) is = list_passed (acts_with named row) is
+  change_passed named _ is = refl
+
+  pub changes_told : (named : List Act) (changes : List Change) → (named ≡ []) ⊎ AreActs zone named → list_all (may_come zone named) changes ≡ true → AreLawful zone named changes
+  changes_told named changes lawful e = record { named = lawful; after = all_told (may_come zone named) (MayCome zone named) (change_told named) changes e }
+
+  pub changes_passed : (named : List Act) (changes : List Change) → AreLawful zone named changes → list_all (may_come zone named) changes ≡ true
+  changes_passed named changes is = all_passed (may_come zone named) (MayCome zone named) (change_passed named) changes is.after
+
+  lawful_told : (o : Option DeadlineView) → is_lawful zone o ≡ true → IfSome o (λ d. AreActs zone d.acts)
+  lawful_told None e = tt
+  lawful_told (Some d) e = acts_told d e
+
+  passed_if : (o : Option DeadlineView) → IfSome o (λ d. AreActs zone d.acts) → is_lawful zone o ≡ true
+  passed_if None is = refl
+  passed_if (Some d) is = acts_passed d is
+
+pub sound_told : (court : CourtSettings) (v : View) → length v.calendar ≤ 4000 → v.next_row ≤ 4_294_967_296 → list_all is_entered_item v.calendar ≡ true → is_lawful (zone_of court) (deadline_shown v) ≡ true → IsSoundView court v
+sound_told court v few next items lawful = record {
+  items = all_told is_entered_item IsEnteredItem item_told v.calendar items;
+  rows = few;
+  next_row = next;
+  acts = lawful_told (zone_of court) (deadline_shown v) lawful;
+}
+
+pub items_passed : (court : CourtSettings) (v : View) → IsSoundView court v → list_all is_entered_item v.calendar ≡ true
+items_passed court v is = all_passed is_entered_item IsEnteredItem item_passed v.calendar is.items
+
+pub lawful_passed : (court : CourtSettings) (v : View) → IsSoundView court v → is_lawful (zone_of court) (deadline_shown v) ≡ true
+lawful_passed court v is = passed_if (zone_of court) (deadline_shown v) is.acts
+
+module _ (court : CourtSettings) (items : List CalendarItem) (ds : List DeadlineView) where
+  pub case_told : length items ≤ 4000 → length ds ≤ 1000 → list_all is_entered_item items ≡ true → are_lawful (zone_of court) ds ≡ true → IsSoundCase court items ds
+  case_told rows few entered lawful = record {
+    entered = all_told is_entered_item IsEnteredItem item_told items entered;
+    rows = rows;
+    few = few;
+    acts = all_told (λ (d : DeadlineView). are_acts (zone_of court) d.acts) (λ (d : DeadlineView). AreActs (zone_of court) d.acts) (acts_told (zone_of court)) ds lawful;
+  }
+
+  pub case_items_passed : IsSoundCase court items ds → list_all is_entered_item items ≡ true
+  case_items_passed is = all_passed is_entered_item IsEnteredItem item_passed items is.entered
+
+  pub case_acts_passed : IsSoundCase court items ds → are_lawful (zone_of court) ds ≡ true
+  case_acts_passed is = all_passed (λ (d : DeadlineView). are_acts (zone_of court) d.acts) (λ (d : DeadlineView). AreActs (zone_of court) d.acts) (acts_passed (zone_of court)) ds is.acts

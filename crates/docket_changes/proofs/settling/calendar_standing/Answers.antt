@@ -1,0 +1,23 @@
+use Rattle.std.proofs.Common.{◌∙◌, ap}
+use Rattle.std.proofs.lemmas.Result.{IfOk-weaker}
+use Rattle.sqlite.specs.Held.{state}
+use Rattle.docket_core.specs.CalendarItems.{calendar_of}
+use Rattle.docket_core.specs.Histories.{items_of}
+use Rattle.docket_tables.specs.Contents.{rows_with}
+use Rattle.docket_tables.proofs.InsideLemmas.{failed_after}
+use Rattle.docket_changes.proofs.settling.calendar_standing.Goals as goal
+
+pub returns-in_err-rows-clause-inside : goal.returns-in_err-rows-clause-inside
+returns-in_err-rows-clause-inside g c t ends orderly =
+    let court = c.args.court.now in
+    let rows = rows_with court t ends in
+    failed_after (state g.S.Store c.args.tx.now.conn.now) (state g.S.Store c.calendar.new.tx.conn.now) rows rows c.from_residual.result _ (λ sees. (c.calendar.ensures.inside court t ends orderly sees).0) c.from_residual.ensures.0
+
+pub returns-clause-inside : goal.returns-clause-inside
+returns-clause-inside g c t ends orderly sees =
+    let read = c.in_ok-rows.ensures.inside c.args.court.now t ends orderly sees in (
+      read.0,
+      λ clean.
+          let found = read.1 clean in
+          IfOk-weaker c.calendar_of_rows.result _ _ (λ calendar is. (found.0, is ∙ ap (λ rows. calendar_of (items_of rows)) (c.as_slice.ensures.value ∙ found.1))) c.calendar_of_rows.ensures,
+    )

@@ -1,0 +1,29 @@
+use Rattle.std.proofs.Common.{◌≡◌, subst}
+use Rattle.std.proofs.lemmas.Result.{IfOk-weaker}
+use Rattle.sqlite.specs.Held.{state}
+use Rattle.docket_core.specs.EndRows.{calendar_in}
+use Rattle.docket_tables.specs.Contents.{rows_with}
+use Rattle.docket_changes.specs.Settling.{settled_cases}
+use Rattle.docket_tables.specs.Stands.{Sees}
+use Rattle.docket_tables.proofs.InsideLemmas.{failed_after, inside_with}
+use Rattle.docket_changes.proofs.settling.settle_by_rows.Goals as goal
+
+pub returns-in_err-calendar-clause-inside : goal.returns-in_err-calendar-clause-inside
+returns-in_err-calendar-clause-inside g c t ends orderly stored only =
+    failed_after (state g.S.Store c.args.tx.now.conn.now) (state g.S.Store c.calendar_standing.new.tx.conn.now) (rows_with c.args.court.now t ends) _ c.from_residual.result _
+    (λ sees. (c.calendar_standing.ensures.inside t ends orderly sees).0) c.from_residual.ensures.0
+
+pub returns-clause-inside : goal.returns-clause-inside
+returns-clause-inside g c t ends orderly stored only =
+    let court = c.args.court.now in
+    let rows = rows_with court t ends in
+    let start = state g.S.Store c.args.tx.now.conn.now in
+    let mid = state g.S.Store c.calendar_standing.new.tx.conn.now in
+    let new = state g.S.Store c.settle_cases.new.tx.conn.now in
+    let entered = c.in_ok-calendar.calendar in
+    let n = c.args.cases in
+    let Same = entered ≡ calendar_in t in
+    inside_with start mid new rows rows (rows_with court t (settled_cases court (calendar_in t) t n ends)) Same c.settle_cases.result _ (c.in_ok-calendar.ensures.inside t ends orderly)
+    (λ sees. (c.settle_cases.ensures.inside t ends orderly stored only sees).0)
+    (λ clean same sees.
+    IfOk-weaker c.settle_cases.result _ _ (λ u h. (subst (λ e. Sees new (rows_with court t (settled_cases court e t n ends))) same h.0, h.1)) ((c.settle_cases.ensures.inside t ends orderly stored only (λ _. sees)).1 clean))

@@ -1,0 +1,18 @@
+use Rattle.std.proofs.Common.{◌≡◌, ◌≤◌, ℕ, List}
+use Rattle.sqlite.specs.Held.{state}
+use Rattle.sqlite.specs.View.{doubt}
+use Rattle.docket_core.specs.Tables.{Tables}
+use Rattle.docket_core.specs.declared.end_row.EndRow.{EndRow}
+use Rattle.docket_tables.specs.Contents.{rows_with}
+use Rattle.docket_tables.specs.Orderly.{IsOrderly}
+use Rattle.docket_tables.specs.Contents.{AreStored}
+use Rattle.docket_changes.specs.Settling.{RunsOnlyWhereStored, settled_cases}
+use Rattle.docket_tables.proofs.InsideLemmas.{Went}
+use Rattle.docket_changes.proofs.settling.settle_cases.Given as goal
+
+abbrev pub invariant-cases : goal.invariant-cases
+invariant-cases g l =
+    (l.tx.conn.ghost_name ≡ l.fn.tx.conn.ghost_name)
+    × ((t : Tables) (ends : List EndRow) → IsOrderly l.court t → ((k : ℕ) → AreStored k ends) → ((k : ℕ) → RunsOnlyWhereStored l.court t ends k)
+    → Went (state g.S.Store l.fn.tx.conn.now) (state g.S.Store l.tx.conn.now) (rows_with l.court t ends) (rows_with l.court t (settled_cases l.court l.calendar t l.done ends)) (Unit {0}))
+    × (doubt (state g.S.Store l.fn.tx.conn.now).is_clean ≤ doubt (state g.S.Store l.tx.conn.now).is_clean)

@@ -1,0 +1,24 @@
+use Rattle.std.proofs.Common.{sym, subst}
+use Rattle.sqlite.specs.Held.{state}
+use Rattle.docket_core.specs.EndRows.{all_changed_ends}
+use Rattle.docket_tables.specs.Contents.{rows_with}
+use Rattle.docket_changes.specs.Settling.{MayUpdate, updated_ends}
+use Rattle.docket_tables.specs.Stands.{Inside}
+use Rattle.docket_changes.proofs.settling.update_ends.Goals as goal
+
+pub returns-in-Moves-clause-inside : goal.returns-in-Moves-clause-inside
+returns-in-Moves-clause-inside g c t ends may =
+    let court = c.args.court.now in
+    let old = state g.S.Store c.args.tx.now.conn.now in
+    let new = state g.S.Store c.change_ends.new.tx.conn.now in
+    subst (λ u. Inside old new (rows_with court t ends) (rows_with court t (updated_ends court u t ends)) c.change_ends.result (λ _. Unit {0})) (sym c.in-Moves.is)
+    (subst (λ xs. Inside old new (rows_with court t ends) (rows_with court t (all_changed_ends xs ends)) c.change_ends.result (λ _. Unit {0})) c.as_slice.ensures.value (c.change_ends.ensures.inside court t ends))
+
+pub returns-in-Calendar-clause-inside : goal.returns-in-Calendar-clause-inside
+returns-in-Calendar-clause-inside g c t ends may =
+    let court = c.args.court.now in
+    let old = state g.S.Store c.args.tx.now.conn.now in
+    let new = state g.S.Store c.settle_by_rows.new.tx.conn.now in
+    let asked = subst (λ u. MayUpdate court u t ends) c.in-Calendar.is may in
+    subst (λ u. Inside old new (rows_with court t ends) (rows_with court t (updated_ends court u t ends)) c.settle_by_rows.result (λ _. Unit {0})) (sym c.in-Calendar.is)
+    (c.settle_by_rows.ensures.inside t ends asked.0 asked.1 asked.2)

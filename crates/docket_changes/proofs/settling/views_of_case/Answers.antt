@@ -1,0 +1,44 @@
+use Rattle.std.proofs.Common.{◌∙◌, ap, sym, subst, map}
+use Rattle.sqlite.specs.Held.{state}
+use Rattle.docket_core.specs.Histories.{deadlines_from}
+use Rattle.docket_tables.specs.Contents.{rows_with}
+use Rattle.docket_tables.specs.Orderly.{RunsFrom}
+use Rattle.docket_tables.specs.Readings.{AreActsOf}
+use Rattle.docket_tables.proofs.InsideLemmas.{failed_after, stays_after, went_after}
+use Rattle.docket_changes.proofs.settling.views_of_case.Goals as goal
+
+pub returns-in_err-rows-clause-inside : goal.returns-in_err-rows-clause-inside
+returns-in_err-rows-clause-inside g c court t ends orderly =
+    let rows = rows_with court t ends in
+    failed_after (state g.S.Store c.args.tx.now.conn.now) (state g.S.Store c.deadlines_of_case.new.tx.conn.now) rows rows c.from_residual.result _
+    (λ sees. (c.deadlines_of_case.ensures.inside court t ends orderly sees).0) c.from_residual.ensures.0
+
+pub returns-in_err-acts-clause-inside : goal.returns-in_err-acts-clause-inside
+returns-in_err-acts-clause-inside g c court t ends orderly =
+    let rows = rows_with court t ends in
+    let start = state g.S.Store c.args.tx.now.conn.now in
+    let mid = state g.S.Store c.deadlines_of_case.new.tx.conn.now in
+    let new = state g.S.Store c.acts_of_case.new.tx.conn.now in
+    failed_after start new rows rows c.from_residual-in_err-acts.result _
+    (stays_after start mid new rows rows _ (c.in_ok-rows.ensures.inside court t ends orderly) (λ sees. (c.acts_of_case.ensures.inside court t ends orderly sees).0)) c.from_residual-in_err-acts.ensures.0
+
+pub returns-in_err-with_acts-clause-inside : goal.returns-in_err-with_acts-clause-inside
+returns-in_err-with_acts-clause-inside g c court t ends orderly =
+    let rows = rows_with court t ends in
+    let start = state g.S.Store c.args.tx.now.conn.now in
+    let mid = state g.S.Store c.deadlines_of_case.new.tx.conn.now in
+    let new = state g.S.Store c.acts_of_case.new.tx.conn.now in
+    failed_after start new rows rows c.from_residual-in_err-with_acts.result _
+    (stays_after start mid new rows rows _ (c.in_ok-rows.ensures.inside court t ends orderly) (λ sees. (c.in_ok-acts.ensures.inside court t ends orderly sees).0)) c.from_residual-in_err-with_acts.ensures.0
+
+pub returns-clause-inside : goal.returns-clause-inside
+returns-clause-inside g c court t ends orderly =
+    let rows = rows_with court t ends in
+    let start = state g.S.Store c.args.tx.now.conn.now in
+    let mid = state g.S.Store c.deadlines_of_case.new.tx.conn.now in
+    let new = state g.S.Store c.acts_of_case.new.tx.conn.now in
+    let k = c.args.case in
+    went_after start mid new rows rows rows _ _ _ (c.in_ok-rows.ensures.inside court t ends orderly) (c.in_ok-acts.ensures.inside court t ends orderly) (λ are acts.
+    let rows = c.as_slice.ensures.value ∙ are in
+    c.in_ok-with_acts.ensures k t.acts (subst (λ rs. RunsFrom 1 (map (λ r. r.number) rs)) (sym rows) (orderly.deadlines_run k)) (subst (AreActsOf k t.acts) (sym c.as_slice-2.ensures.value) acts)
+    ∙ ap (deadlines_from k 1 t.acts) rows)

@@ -1,0 +1,34 @@
+use Rattle.std.proofs.Common.{arith}
+use Rattle.sqlite.specs.Held.{state}
+use Rattle.sqlite.specs.State.{HasCleanDisk}
+use Rattle.docket_core.specs.Tables.{Tables, all_changed, with_receipt}
+use Rattle.docket_tables.specs.Contents.{rows_with}
+use Rattle.docket_tables.proofs.InsideLemmas.{Went, Stays, failed_after, stays_after, went_after}
+use Rattle.docket_changes.proofs.writing.fill.Goals as goal
+
+pub returns-in_err-record-clause-inside : goal.returns-in_err-record-clause-inside
+returns-in_err-record-clause-inside g c t ends small may =
+    failed_after (state g.S.Store c.args.tx.now.conn.now) (state g.S.Store c.record.new.tx.conn.now) (rows_with c.args.court.now t ends) _ c.from_residual.result _ (λ sees. c.record.ensures.inside) c.from_residual.ensures.0
+
+pub returns-in-Ok-clause-inside : goal.returns-in-Ok-clause-inside
+returns-in-Ok-clause-inside g c t ends small may =
+    let court = c.args.court.now in
+    let then : Tables = with_receipt c.args.command.now c.args.changes.now.reply (all_changed c.args.changes.now.rows.items t) in
+    let start = state g.S.Store c.args.tx.now.conn.now in
+    let mid = state g.S.Store c.record.new.tx.conn.now in
+    let new = state g.S.Store c.update_ends.new.tx.conn.now in
+    let before : HasCleanDisk mid → HasCleanDisk start = λ clean. omega (arith, c.record.ensures.inside.survives.clean) in
+    let recorded : Went start mid (rows_with court t ends) (rows_with court then ends) (Unit {0}) = λ sees. (c.record.ensures.inside, λ clean. (c.in_ok-record.ensures.ok clean court t ends small (sees (before clean)), tt)) in
+    went_after start mid new (rows_with court t ends) (rows_with court then ends) _ (Unit {0}) (Unit {0}) (Unit {0}) recorded (c.in-Ok.ensures.inside then ends may) (λ a b. tt)
+
+pub returns-in-Err-clause-inside : goal.returns-in-Err-clause-inside
+returns-in-Err-clause-inside g c t ends small may =
+    let court = c.args.court.now in
+    let then : Tables = with_receipt c.args.command.now c.args.changes.now.reply (all_changed c.args.changes.now.rows.items t) in
+    let start = state g.S.Store c.args.tx.now.conn.now in
+    let mid = state g.S.Store c.record.new.tx.conn.now in
+    let new = state g.S.Store c.update_ends.new.tx.conn.now in
+    let before : HasCleanDisk mid → HasCleanDisk start = λ clean. omega (arith, c.record.ensures.inside.survives.clean) in
+    let recorded : Went start mid (rows_with court t ends) (rows_with court then ends) (Unit {0}) = λ sees. (c.record.ensures.inside, λ clean. (c.in_ok-record.ensures.ok clean court t ends small (sees (before clean)), tt)) in
+    let stays : Stays start new (rows_with court t ends) = stays_after start mid new (rows_with court t ends) (rows_with court then ends) (Unit {0}) recorded (λ sees. (c.update_ends.ensures.inside then ends may sees).0) in
+    λ sees. (stays sees, λ clean. tt)

@@ -1,0 +1,69 @@
+-- The ends of cases brought up to date, and what a command does about the stored ends.
+use Rattle.std.specs.Prelude.{◌≡◌, ◌<◌, ◌⊎◌, ℕ, zero, suc, Bool, true, false, Option, None, ◌+◌, ◌==◌, not, List, [], ◌++◌, filter, IsPermutation}
+use Rattle.court_days.specs.Calendar.{Entered}
+use Rattle.court_days.specs.Court.{CourtSettings}
+use Rattle.docket_command.specs.declared.command.Action.{Action}
+use Rattle.docket_command.specs.declared.command.Action.TheVariants.{DeclareDay, CloseDay, CloseSpan, WithdrawCalendar, ImportCalendar, AddParty, FileEntry}
+use Rattle.docket_core.specs.Actions.{case_named}
+use Rattle.docket_core.specs.EndRows.{all_changed_ends, calendar_in, end_rows}
+use Rattle.docket_core.specs.Tables.{Tables}
+use Rattle.docket_core.specs.declared.end_row.EndRow.{EndRow}
+use Rattle.docket_changes.specs.declared.moving.EndUpdate.{EndUpdate}
+use Rattle.docket_changes.specs.declared.moving.EndUpdate.TheVariants.{Moves, Calendar}
+use Rattle.docket_tables.specs.Contents.{AreStored, ends_in_case, ends_of}
+use Rattle.docket_tables.specs.Orderly.{IsOrderly}
+
+-- the ends of case k are those, and the ends of other cases as they were
+abbrev pub settled_case : CourtSettings → Entered → Tables → ℕ → List EndRow → List EndRow
+settled_case court entered t k ends = filter (λ row. not (row.case == k)) ends ++ ends_in_case court entered t k
+
+-- the first n cases, one after another
+abbrev pub settled_cases : CourtSettings → Entered → Tables → ℕ → List EndRow → List EndRow
+settled_cases court entered t zero ends = ends
+settled_cases court entered t (suc n) ends = settled_case court entered t (n + 1) (settled_cases court entered t n ends)
+
+-- where no end of case k is stored, no time of it runs, by any calendar
+abbrev pub RunsOnlyWhereStored : CourtSettings → Tables → List EndRow → ℕ → Type 0
+RunsOnlyWhereStored court t ends k = ends_of k ends ≡ [] → (entered : Entered) → ends_in_case court entered t k ≡ []
+
+-- the ends of cases past the first n are what they were; there is no case 0
+abbrev pub AreUntouched : CourtSettings → ℕ → Tables → Tables → Type 0
+AreUntouched court n t next = (j : ℕ) → (j < 1) ⊎ (n < j) → ends_of j (end_rows court t) ≡ ends_of j (end_rows court next)
+
+-- what is asked of a write that leads from tables to the next ones, where the ends that may move are those of the first n cases,
+-- and no time begins to run in a case where none ran
+pub record IsSettling (court : CourtSettings) (n : ℕ) (t next : Tables) : Type 0 where
+  pub orderly : IsOrderly court t
+  pub next_orderly : IsOrderly court next
+  pub untouched : AreUntouched court n t next
+  pub none_begins : (k : ℕ) → RunsOnlyWhereStored court next (end_rows court t) k
+
+-- what is done about the stored ends is right for a write that leads from tables to the next ones
+abbrev pub IsUpdate : CourtSettings → EndUpdate → Tables → Tables → Type 0
+IsUpdate court (Moves moves) t next = IsPermutation (all_changed_ends moves.items (end_rows court t)) (end_rows court next)
+IsUpdate court (Calendar cases) t next = IsSettling court cases t next
+
+-- the stored ends after it, by the tables that then stand
+abbrev pub updated_ends : CourtSettings → EndUpdate → Tables → List EndRow → List EndRow
+updated_ends court (Moves moves) t ends = all_changed_ends moves.items ends
+updated_ends court (Calendar cases) t ends = settled_cases court (calendar_in t) t cases ends
+
+-- what it asks of the tables, and of the ends that are stored
+abbrev pub MayUpdate : CourtSettings → EndUpdate → Tables → List EndRow → Type 0
+MayUpdate court (Moves moves) t ends = Unit {0}
+MayUpdate court (Calendar cases) t ends = IsOrderly court t × ((k : ℕ) → AreStored k ends) × ((k : ℕ) → RunsOnlyWhereStored court t ends k)
+
+-- the action changes the calendar
+abbrev pub changes_calendar : Action → Bool
+changes_calendar (DeclareDay a) = true
+changes_calendar (CloseDay a) = true
+changes_calendar (CloseSpan a) = true
+changes_calendar (WithdrawCalendar a) = true
+changes_calendar (ImportCalendar a) = true
+changes_calendar _ = false
+
+-- the case in which an action may make a deadline or an act; a party and an entry are neither
+abbrev pub case_moved : Action → Option ℕ
+case_moved (AddParty a) = None
+case_moved (FileEntry a) = None
+case_moved a = case_named a

@@ -1,0 +1,172 @@
+//! The stored ends of deadlines, changed inside a transaction: by changes, or case by case.
+ghost use Rattle.std.specs.Prelude.{◌≡◌, ◌≤◌, ◌++◌, ℕ, List, IfOk, IsPermutation};
+ghost use Rattle.std.specs.List.{AllByRecursion};
+ghost use Rattle.sqlite.specs.Held.{state};
+ghost use Rattle.sqlite.specs.View.{doubt};
+ghost use Rattle.court_days.specs.Court.{CourtSettings, zone_of};
+ghost use Rattle.docket_core.specs.EndRows.{AreRowsFrom, calendar_in, IsElsewhere, all_changed_ends, end_rows_from, ends_running};
+ghost use Rattle.docket_core.specs.CalendarItems.{calendar_of};
+ghost use Rattle.docket_core.specs.Histories.{deadlines_of_case, deadlines_from, items_of};
+ghost use Rattle.docket_core.specs.Tables.{Tables};
+ghost use Rattle.docket_core.specs.declared.end_row.EndRow.{EndRow as Ended};
+ghost use Rattle.docket_tables.specs.Contents.{AreStored, rows_with};
+ghost use Rattle.docket_tables.specs.Orderly.{IsOrderly};
+ghost use Rattle.docket_changes.specs.Settling.{RunsOnlyWhereStored, MayUpdate, settled_case, settled_cases, updated_ends};
+ghost use Rattle.docket_tables.specs.Stands.{Inside};
+
+use crate::gathering::{items_of, with_acts};
+use crate::moving::EndUpdate;
+use crate::sound::is_sound_case;
+use court_days::{Calendar, Court};
+use docket_core::{CalendarRow, DeadlineView, EndChange, EndRow, calendar_of, due_changes};
+use docket_tables::{ReadFault, change_ends, inside};
+use sqlite::{Alter, Transaction};
+use std::alloc::Global;
+
+/// The deadlines of a case, each with its acts.
+fn views_of_case<S: Alter>(
+    tx: &mut Transaction<'_, S>,
+    alloc: Global,
+    case: u32,
+) -> Result<Vec<DeadlineView>, ReadFault>
+    ensures same_reference { tx.new.conn.ghost_name ≡ tx.old.conn.ghost_name }
+    ensures clean { doubt (state S.Store tx.old.conn.now).is_clean ≤ doubt (state S.Store tx.new.conn.now).is_clean }
+    ensures inside { (court : CourtSettings) (t : Tables) (ends : List Ended) → IsOrderly court t
+        → Inside (state S.Store tx.old.conn.now) (state S.Store tx.new.conn.now) (rows_with court t ends) (rows_with court t ends) result
+        (λ found. found.items ≡ deadlines_from case 1 t.acts (deadlines_of_case case t.deadlines)) }
+{
+    let rows = inside::deadlines_of_case(tx, alloc, case)?;
+    let acts = inside::acts_of_case(tx, alloc, case)?;
+    Ok(with_acts(alloc, rows.as_slice(), acts.as_slice())?)
+}
+
+/// The changes that lead from the ends that are stored of a case to those that its deadlines have.
+fn changes_of_case(
+    alloc: Global,
+    court: &Court,
+    calendar: &Calendar,
+    case: u32,
+    deadlines: &[DeadlineView],
+    stored: &[EndRow],
+) -> Result<Vec<EndChange>, ReadFault>
+    ensures { (others : List Ended) → AllByRecursion (IsElsewhere case 1) others → AreRowsFrom case 1 stored.now
+        → IfOk result (λ changes. IsPermutation (all_changed_ends changes.items (others ++ stored.now)) (others ++ end_rows_from case 1 (ends_running (zone_of court.now) calendar.now deadlines.now))) }
+{
+    if !is_sound_case(court, &[], deadlines) {
+        return Err(ReadFault::Damaged);
+    }
+    Ok(due_changes(alloc, court, calendar, case, deadlines, stored)?)
+}
+
+/// Brings the ends of a case up to date. Where none is stored no time of it runs, and nothing else is
+/// asked.
+fn settle_case<S: Alter>(
+    tx: &mut Transaction<'_, S>,
+    alloc: Global,
+    court: &Court,
+    calendar: &Calendar,
+    case: u32,
+) -> Result<(), ReadFault>
+    ensures same_reference { tx.new.conn.ghost_name ≡ tx.old.conn.ghost_name }
+    ensures clean { doubt (state S.Store tx.old.conn.now).is_clean ≤ doubt (state S.Store tx.new.conn.now).is_clean }
+    ensures inside { (t : Tables) (ends : List Ended) → IsOrderly court.now t → AreStored case ends → RunsOnlyWhereStored court.now t ends case
+        → Inside (state S.Store tx.old.conn.now) (state S.Store tx.new.conn.now) (rows_with court.now t ends) (rows_with court.now t (settled_case court.now calendar.now t case ends)) result (λ _. Unit {0}) }
+{
+    let stored = inside::ends_of_case(tx, alloc, case)?;
+    if stored.is_empty() {
+        return Ok(());
+    }
+    let deadlines = views_of_case(tx, alloc, case)?;
+    let changes = changes_of_case(
+        alloc,
+        court,
+        calendar,
+        case,
+        deadlines.as_slice(),
+        stored.as_slice(),
+    )?;
+    change_ends(tx, changes.as_slice())
+}
+
+/// Brings the ends of the first cases up to date.
+fn settle_cases<S: Alter>(
+    tx: &mut Transaction<'_, S>,
+    alloc: Global,
+    court: &Court,
+    calendar: &Calendar,
+    cases: u32,
+) -> Result<(), ReadFault>
+    ensures same_reference { tx.new.conn.ghost_name ≡ tx.old.conn.ghost_name }
+    ensures clean { doubt (state S.Store tx.old.conn.now).is_clean ≤ doubt (state S.Store tx.new.conn.now).is_clean }
+    ensures inside { (t : Tables) (ends : List Ended) → IsOrderly court.now t → ((k : ℕ) → AreStored k ends) → ((k : ℕ) → RunsOnlyWhereStored court.now t ends k)
+        → Inside (state S.Store tx.old.conn.now) (state S.Store tx.new.conn.now) (rows_with court.now t ends) (rows_with court.now t (settled_cases court.now calendar.now t cases ends)) result (λ _. Unit {0}) }
+{
+    'cases: for done in 0..cases {
+        settle_case(tx, alloc, court, calendar, done + 1)?;
+    }
+    Ok(())
+}
+
+/// The calendar of rows, which a court may enter.
+fn calendar_of_rows(
+    alloc: Global,
+    court: &Court,
+    rows: &[CalendarRow],
+) -> Result<Calendar, ReadFault>
+    ensures { IfOk result (λ calendar. calendar ≡ calendar_of (items_of rows.now)) }
+{
+    let items = items_of(alloc, rows)?;
+    if !is_sound_case(court, items.as_slice(), &[]) {
+        return Err(ReadFault::Damaged);
+    }
+    Ok(calendar_of(alloc, items.as_slice())?)
+}
+
+/// The calendar of the rows that stand.
+fn calendar_standing<S: Alter>(
+    tx: &mut Transaction<'_, S>,
+    alloc: Global,
+    court: &Court,
+) -> Result<Calendar, ReadFault>
+    ensures same_reference { tx.new.conn.ghost_name ≡ tx.old.conn.ghost_name }
+    ensures clean { doubt (state S.Store tx.old.conn.now).is_clean ≤ doubt (state S.Store tx.new.conn.now).is_clean }
+    ensures inside { (t : Tables) (ends : List Ended) → IsOrderly court.now t
+        → Inside (state S.Store tx.old.conn.now) (state S.Store tx.new.conn.now) (rows_with court.now t ends) (rows_with court.now t ends) result (λ calendar. calendar ≡ calendar_in t) }
+{
+    let rows = inside::calendar(tx, alloc)?;
+    calendar_of_rows(alloc, court, rows.as_slice())
+}
+
+/// Brings the ends of the first cases up to date by the calendar that stands.
+fn settle_by_rows<S: Alter>(
+    tx: &mut Transaction<'_, S>,
+    alloc: Global,
+    court: &Court,
+    cases: u32,
+) -> Result<(), ReadFault>
+    ensures same_reference { tx.new.conn.ghost_name ≡ tx.old.conn.ghost_name }
+    ensures clean { doubt (state S.Store tx.old.conn.now).is_clean ≤ doubt (state S.Store tx.new.conn.now).is_clean }
+    ensures inside { (t : Tables) (ends : List Ended) → IsOrderly court.now t → ((k : ℕ) → AreStored k ends) → ((k : ℕ) → RunsOnlyWhereStored court.now t ends k)
+        → Inside (state S.Store tx.old.conn.now) (state S.Store tx.new.conn.now) (rows_with court.now t ends) (rows_with court.now t (settled_cases court.now (calendar_in t) t cases ends)) result (λ _. Unit {0}) }
+{
+    let calendar = calendar_standing(tx, alloc, court)?;
+    settle_cases(tx, alloc, court, &calendar, cases)
+}
+
+/// Does what is to be done about the stored ends.
+pub(crate) fn update_ends<S: Alter>(
+    tx: &mut Transaction<'_, S>,
+    alloc: Global,
+    court: &Court,
+    update: &EndUpdate,
+) -> Result<(), ReadFault>
+    ensures same_reference { tx.new.conn.ghost_name ≡ tx.old.conn.ghost_name }
+    ensures clean { doubt (state S.Store tx.old.conn.now).is_clean ≤ doubt (state S.Store tx.new.conn.now).is_clean }
+    ensures inside { (t : Tables) (ends : List Ended) → MayUpdate court.now update.now t ends
+        → Inside (state S.Store tx.old.conn.now) (state S.Store tx.new.conn.now) (rows_with court.now t ends) (rows_with court.now t (updated_ends court.now update.now t ends)) result (λ _. Unit {0}) }
+{
+    match update {
+        EndUpdate::Moves(moves) => change_ends(tx, moves.as_slice()),
+        EndUpdate::Calendar { cases } => settle_by_rows(tx, alloc, court, *cases),
+    }
+}

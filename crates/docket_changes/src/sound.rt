@@ -1,0 +1,118 @@
+//! Whether a view that was read may be one that a history shows.
+ghost use Rattle.std.specs.Prelude.{◌≡◌, ◌↔◌, IsTrue};
+ghost use Rattle.std.specs.List.{list_all};
+ghost use Rattle.court_days.specs.Court.{zone_of};
+ghost use Rattle.court_rules.specs.Acts.{is_instant, is_entered_day};
+ghost use Rattle.docket_core.specs.Decisions.{IsSoundView};
+ghost use Rattle.docket_core.specs.Views.{deadline_shown};
+ghost use Rattle.docket_changes.specs.Sound.{is_entered_item, begins_in_time, are_acts, are_lawful, is_lawful, IsSoundCase};
+
+use court_days::{Court, Day, is_entered};
+use court_rules::{Act, Start, acts_ok};
+use docket_core::{CalendarItem, DeadlineView, View};
+
+/// How many rows a calendar holds at most.
+const MOST_ROWS: usize = 4000;
+
+/// How many deadlines a case has at most.
+const MOST_DEADLINES: usize = 1000;
+
+/// The greatest number that the next calendar row may have.
+const LAST_ROW: u64 = 4_294_967_296;
+
+fn is_entered_day(day: Day) -> bool
+    ensures { result ≡ is_entered_day day }
+{
+    is_entered(day)
+}
+
+/// Whether a court may enter the item.
+fn is_entered_item(item: CalendarItem) -> bool
+    ensures { result ≡ is_entered_item item }
+{
+    match item {
+        CalendarItem::Day(_, day) => is_entered_day(day),
+        CalendarItem::Span(start, end) => {
+            946_598_400 <= start.seconds()
+                && start.seconds() < end.seconds()
+                && end.seconds() <= 4_102_531_200
+        }
+    }
+}
+
+fn are_entered_items(items: &[CalendarItem]) -> bool
+    ensures { result ≡ list_all is_entered_item items.now }
+{
+    items.iter().all(|item| is_entered_item(*item))
+}
+
+/// Whether the instant is one from 1999-12-31T00:00Z to 2100-01-02T00:00Z.
+fn is_instant(at: i64) -> bool
+    ensures { result ≡ is_instant at }
+{
+    (946_598_400..=4_102_531_200).contains(&at)
+}
+
+/// Whether a period of hours begins on a local day that a court may enter.
+fn begins_in_time(court: &Court, act: Act) -> bool
+    ensures { result ≡ begins_in_time (zone_of court.now) act }
+{
+    match act {
+        Act::Start(Start::Hours(hours)) => {
+            is_instant(hours.at) && is_entered_day(court.local(hours.at).0)
+        }
+        _ => true,
+    }
+}
+
+fn begin_in_time(court: &Court, acts: &[Act]) -> bool
+    ensures { result ≡ list_all (begins_in_time (zone_of court.now)) acts.now }
+{
+    acts.iter().all(|act| begins_in_time(court, *act))
+}
+
+/// Whether these may be the acts of a deadline of the court.
+pub(crate) fn are_acts(court: &Court, acts: &[Act]) -> bool
+    ensures { result ≡ are_acts (zone_of court.now) acts.now }
+{
+    acts_ok(acts) && begin_in_time(court, acts)
+}
+
+fn are_lawful(court: &Court, deadlines: &[DeadlineView]) -> bool
+    ensures { result ≡ are_lawful (zone_of court.now) deadlines.now }
+{
+    deadlines
+        .iter()
+        .all(|deadline| are_acts(court, deadline.acts.as_slice()))
+}
+
+/// Whether the deadline that the command names, if there is one, has lawful acts.
+fn is_lawful(court: &Court, view: &View) -> bool
+    ensures { result ≡ is_lawful (zone_of court.now) (deadline_shown view.now) }
+{
+    match view.deadline_named() {
+        Some(deadline) => are_acts(court, deadline.acts.as_slice()),
+        None => true,
+    }
+}
+
+/// Whether the view is one that a history can show. What a docket shows always is.
+pub fn is_sound(court: &Court, view: &View) -> bool
+    ensures { IsTrue result ↔ IsSoundView court.now view.now }
+{
+    let items = view.calendar.as_slice();
+    if items.len() > MOST_ROWS || view.next_row > LAST_ROW {
+        return false;
+    }
+    are_entered_items(items) && is_lawful(court, view)
+}
+
+/// Whether a history can show these deadlines of a case, beside a calendar of these items.
+pub fn is_sound_case(court: &Court, items: &[CalendarItem], deadlines: &[DeadlineView]) -> bool
+    ensures { IsTrue result ↔ IsSoundCase court.now items.now deadlines.now }
+{
+    if items.len() > MOST_ROWS || deadlines.len() > MOST_DEADLINES {
+        return false;
+    }
+    are_entered_items(items) && are_lawful(court, deadlines)
+}

@@ -1,0 +1,45 @@
+use Rattle.std.proofs.Common.{◌≡◌, ◌∙◌, ◌<◌, length, take, get_or, refl, subst, arith, rules}
+use Rattle.std.proofs.lemmas.List.{take_all}
+use Rattle.sqlite.specs.Held.{state}
+use Rattle.docket_core.specs.Tables.{all_changed}
+use Rattle.docket_tables.specs.Contents.{rows_with}
+use Rattle.docket_tables.specs.Stands.{Sees}
+use Rattle.docket_tables.proofs.ChangesLemmas.{counted_within, changed_next}
+use Rattle.docket_tables.proofs.CommitLemmas.{inside_then, inside_still}
+use Rattle.docket_tables.proofs.changing.change_all.Goals as goal
+
+pub changes-init : goal.changes-init
+changes-init g c = (refl, inside_still _, λ clean court t ends small sees. sees)
+
+pub returns-in_err-change_row-clause-same_reference : goal.returns-in_err-change_row-clause-same_reference
+returns-in_err-change_row-clause-same_reference g c = c.change_row.ensures.same_reference ∙ c.changes.invariant.0
+
+pub returns-in_err-change_row-clause-inside : goal.returns-in_err-change_row-clause-inside
+returns-in_err-change_row-clause-inside g c = inside_then _ _ _ c.changes.invariant.1 c.change_row.ensures.inside
+
+pub changes-preserved : goal.changes-preserved
+changes-preserved g c =
+    let all = c.args.changes.now in
+    let i = c.changes.change-index in
+    let change = c.change-item.result in
+    let is : change ≡ get_or all i change = search rules in
+    let inside : i < length all = omega (arith, c.changes-test.true) in (
+      c.change_row.ensures.same_reference ∙ c.changes.invariant.0,
+      inside_then _ _ _ c.changes.invariant.1 c.change_row.ensures.inside,
+      λ clean court t ends small sees.
+          let was = c.changes.invariant.2 (omega (arith, c.change_row.ensures.inside.survives.clean)) court t ends small sees in
+          let now = c.in_ok-change_row.ensures.ok clean court (all_changed (take i all) t) ends (omega (arith, small, counted_within all t i inside)) was in
+          subst (λ s. Sees (state g.S.Store c.change_row.new.tx.conn.now) (rows_with court s ends)) (changed_next all change t i inside is) now,
+    )
+
+pub returns-clause-same_reference : goal.returns-clause-same_reference
+returns-clause-same_reference g c = c.changes.invariant.0
+
+pub returns-clause-inside : goal.returns-clause-inside
+returns-clause-inside g c = c.changes.invariant.1
+
+pub returns-clause-ok : goal.returns-clause-ok
+returns-clause-ok g c clean court t ends small sees =
+    let all = c.args.changes.now in
+    let done : take c.changes.change-index all ≡ all = take_all _ all (omega (arith, c.changes-test.false)) in
+    subst (λ xs. Sees (state g.S.Store c.changes.tx.conn.now) (rows_with court (all_changed xs t) ends)) done (c.changes.invariant.2 clean court t ends small sees)

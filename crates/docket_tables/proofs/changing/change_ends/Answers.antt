@@ -1,0 +1,57 @@
+use Rattle.std.proofs.Common.{◌≡◌, ◌<◌, ◌∙◌, length, take, refl, subst, arith}
+use Rattle.std.proofs.lemmas.List.{take_all}
+use Rattle.sqlite.specs.Held.{state}
+use Rattle.docket_core.specs.EndRows.{all_changed_ends}
+use Rattle.docket_tables.specs.Contents.{rows_with}
+use Rattle.docket_tables.proofs.CommitLemmas.{inside_still}
+use Rattle.docket_tables.proofs.EndLemmas.{changed_next_end}
+use Rattle.docket_tables.proofs.InsideLemmas.{Went, failed_after, stays_after, went_after}
+use Rattle.docket_tables.proofs.changing.change_ends.Goals as goal
+
+pub changes-init : goal.changes-init
+changes-init g c = (refl, λ court t ends sees. (inside_still _, λ clean. (sees clean, tt)), omega arith)
+
+pub returns-in_err-change_end-clause-same_reference : goal.returns-in_err-change_end-clause-same_reference
+returns-in_err-change_end-clause-same_reference g c = c.change_end.ensures.same_reference ∙ c.changes.invariant.0
+
+pub returns-in_err-change_end-clause-inside : goal.returns-in_err-change_end-clause-inside
+returns-in_err-change_end-clause-inside g c court t ends =
+    let start = state g.S.Store c.args.tx.now.conn.now in
+    let mid = state g.S.Store c.changes.tx.conn.now in
+    let new = state g.S.Store c.change_end.new.tx.conn.now in
+    let done = all_changed_ends (take c.changes.change-index c.args.changes.now) ends in
+    failed_after start new (rows_with court t ends) _ c.from_residual.result _
+    (stays_after start mid new (rows_with court t ends) (rows_with court t done) (Unit {0}) (c.changes.invariant.1 court t ends) (λ sees. (c.change_end.ensures.inside court t done sees).0)) c.from_residual.ensures.0
+
+pub changes-preserved : goal.changes-preserved
+changes-preserved g c =
+    let all = c.args.changes.now in
+    let i = c.changes.change-index in
+    let inside : i < length all = omega (arith, c.changes-test.true) in (
+      c.change_end.ensures.same_reference ∙ c.changes.invariant.0,
+      λ court t ends.
+          let start = state g.S.Store c.args.tx.now.conn.now in
+          let mid = state g.S.Store c.changes.tx.conn.now in
+          let new = state g.S.Store c.change_end.new.tx.conn.now in
+          let done = all_changed_ends (take i all) ends in
+          subst (λ es. Went start new (rows_with court t ends) (rows_with court t es) (Unit {0})) (changed_next_end all ends i _ inside)
+          (went_after start mid new (rows_with court t ends) (rows_with court t done) _ (Unit {0}) (Unit {0}) (Unit {0}) (c.changes.invariant.1 court t ends) (c.in_ok-change_end.ensures.inside court t done) (λ a b. tt)),
+      omega (arith, c.changes.invariant.2, c.change_end.ensures.clean),
+    )
+
+pub returns-clause-same_reference : goal.returns-clause-same_reference
+returns-clause-same_reference g c = c.changes.invariant.0
+
+pub returns-clause-inside : goal.returns-clause-inside
+returns-clause-inside g c court t ends =
+    let all = c.args.changes.now in
+    let start = state g.S.Store c.args.tx.now.conn.now in
+    let new = state g.S.Store c.changes.tx.conn.now in
+    let done : take c.changes.change-index all ≡ all = take_all _ all (omega (arith, c.changes-test.false)) in
+    subst (λ xs. Went start new (rows_with court t ends) (rows_with court t (all_changed_ends xs ends)) (Unit {0})) done (c.changes.invariant.1 court t ends)
+
+pub returns-in_err-change_end-clause-clean : goal.returns-in_err-change_end-clause-clean
+returns-in_err-change_end-clause-clean g c = omega (arith, c.changes.invariant.2, c.change_end.ensures.clean)
+
+pub returns-clause-clean : goal.returns-clause-clean
+returns-clause-clean g c = c.changes.invariant.2

@@ -1,0 +1,35 @@
+use Rattle.std.proofs.Common.{◌∙◌, ◌==◌, [], ◌∷◌, pos, refl, arith}
+use Rattle.sqlite.specs.Held.{state}
+use Rattle.sqlite.specs.State.{HasCleanDisk}
+use Rattle.sqlite.specs.declared.types.Value.TheVariants.{Int}
+use Rattle.sqlite_trees.proofs.ListLemmas.{all-filter}
+use Rattle.docket_tables.specs.Contents.{rows_with}
+use Rattle.docket_tables.specs.declared.query.Query.TheVariants as ask
+use Rattle.docket_tables.proofs.InsideLemmas.{failed_after, read_inside}
+use Rattle.docket_columns.specs.Cells.{deadline_cells}
+use Rattle.docket_core.specs.Histories.{deadlines_of_case}
+use Rattle.docket_tables.proofs.AnswerLemmas.{in_order, rises_running, equal_number}
+use Rattle.docket_tables.proofs.HoldsLemmas.{and_yes}
+use Rattle.docket_tables.proofs.inside.deadlines_of_case.Goals as goal
+
+pub returns-in_err-rows-clause-inside : goal.returns-in_err-rows-clause-inside
+returns-in_err-rows-clause-inside g c court t ends orderly =
+    let old = state g.S.Store c.args.tx.now.conn.now in
+    let new = state g.S.Store c.ask_inside.new.tx.conn.now in
+    let rows = rows_with court t ends in
+    failed_after old new rows rows c.from_residual.result _ (λ sees. c.ask_inside.ensures.inside rows sees) c.from_residual.ensures.0
+
+pub returns-clause-inside : goal.returns-clause-inside
+returns-clause-inside g c court t ends orderly sees =
+    let old = state g.S.Store c.args.tx.now.conn.now in
+    let rows = rows_with court t ends in
+    let k = c.args.case in (
+      c.in_ok-rows.ensures.inside rows sees,
+      λ clean.
+          let before : HasCleanDisk old = omega (arith, c.ask_inside.ensures.clean) in
+          let asked = c.in_ok-rows.ensures.ok clean rows (sees before) in
+          let answer = rw c.to_sql.ensures at asked.1 in
+          let shown = c.in_ok-rows.rows.items in
+          let are = in_order ask.Deadlines (Int (pos k) ∷ []) deadline_cells (λ row. row.case == k) (λ row. and_yes _ ∙ equal_number row.case k) t.deadlines shown (λ row. row.number) (λ row. refl) refl refl (rises_running 1 _ (orderly.deadlines_run k)) answer in
+          read_inside c.deadlines_in.result _ _ (c.deadlines_in.ensures (deadlines_of_case k t.deadlines) (all-filter _ _ t.deadlines orderly.deadlines) (c.as_slice.ensures.value ∙ are)) asked.0,
+    )

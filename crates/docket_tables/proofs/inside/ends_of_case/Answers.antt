@@ -1,0 +1,28 @@
+use Rattle.std.proofs.Common.{◌∙◌, arith}
+use Rattle.sqlite.specs.Held.{state}
+use Rattle.sqlite.specs.State.{HasCleanDisk}
+use Rattle.docket_tables.specs.Contents.{rows_with, ends_of}
+use Rattle.docket_tables.proofs.InsideLemmas.{failed_after, read_inside}
+use Rattle.docket_tables.proofs.EndLemmas.{ends_shown}
+use Rattle.docket_tables.proofs.inside.ends_of_case.Goals as goal
+
+pub returns-in_err-rows-clause-inside : goal.returns-in_err-rows-clause-inside
+returns-in_err-rows-clause-inside g c court t ends are =
+    let old = state g.S.Store c.args.tx.now.conn.now in
+    let new = state g.S.Store c.ask_inside.new.tx.conn.now in
+    let rows = rows_with court t ends in
+    failed_after old new rows rows c.from_residual.result _ (λ sees. c.ask_inside.ensures.inside rows sees) c.from_residual.ensures.0
+
+pub returns-clause-inside : goal.returns-clause-inside
+returns-clause-inside g c court t ends are sees =
+    let old = state g.S.Store c.args.tx.now.conn.now in
+    let rows = rows_with court t ends in
+    let k = c.args.case in (
+      c.in_ok-rows.ensures.inside rows sees,
+      λ clean.
+          let before : HasCleanDisk old = omega (arith, c.ask_inside.ensures.clean) in
+          let asked = c.in_ok-rows.ensures.ok clean rows (sees before) in
+          let answer = rw c.to_sql.ensures at asked.1 in
+          let shown = c.in_ok-rows.rows.items in
+          read_inside c.ends_in.result _ _ (c.ends_in.ensures (ends_of k ends) are.fit (c.as_slice.ensures.value ∙ ends_shown k ends shown are.rows answer)) asked.0,
+    )

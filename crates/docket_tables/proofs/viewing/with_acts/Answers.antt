@@ -1,9 +1,0 @@
-use Rattle.std.proofs.Common.{◌∙◌, arith}
-use Rattle.docket_tables.proofs.CaseActs.{next_shown}
-use Rattle.docket_tables.proofs.viewing.with_acts.Goals as goal
-
-pub loop-row-preserved : goal.loop-row-preserved
-loop-row-preserved c k all runs are =
-    next_shown k c.loop-row.row-index all c.args.deadlines.now _ c.loop-row.found.items c.push.new.self.items c.new.result c.loop-row.rest.now c.split_at.result.0.now c.split_at.result.1.now c.count_up_to.result
-    runs (omega (arith, c.loop-row-test.true)) (c.loop-row.invariant k all runs are) c.count_up_to.ensures.bound c.count_up_to.ensures.cut c.split_at.ensures.front c.split_at.ensures.back
-    (c.new.ensures ∙ c.in_ok-list.ensures) c.in_ok-push.ensures.items

@@ -1,0 +1,119 @@
+//! Changes of rows, inside a transaction.
+ghost use Rattle.std.specs.Prelude.{◌≡◌, ◌<◌, ◌≤◌, ◌+◌, ◌^◌, List, length, OnOk};
+ghost use Rattle.court_days.specs.Court.{CourtSettings};
+ghost use Rattle.docket_core.specs.EndRows.{changed_ends, all_changed_ends};
+ghost use Rattle.docket_core.specs.Tables.{Tables, changed, all_changed, with_receipt};
+ghost use Rattle.docket_core.specs.declared.row.Change.TheVariants as change;
+ghost use Rattle.docket_wire.specs.Writing.{canonical};
+ghost use Rattle.sqlite.specs.Held.{state};
+ghost use Rattle.sqlite.specs.State.{HasCleanDisk};
+ghost use Rattle.sqlite.specs.View.{doubt};
+ghost use Rattle.docket_core.specs.declared.end_row.EndRow.{EndRow as Ended};
+ghost use Rattle.docket_tables.specs.Contents.{rows_with};
+ghost use Rattle.docket_tables.specs.Stands.{Inside, Sees, StaysInside};
+
+use crate::fault::ReadFault;
+use crate::store::{count_calendar_row, insert, move_end, remove_calendar_row, remove_end};
+use crate::table::Table;
+use docket_columns::{
+    act_values, calendar_values, case_values, deadline_values, end_values, entry_values,
+    party_values, receipt_values,
+};
+use docket_command::Command;
+use docket_core::{CalendarRow, Change, Changes, EndChange};
+use sqlite::{Alter, Error, Transaction};
+
+/// Adds a row of the calendar, and counts its number.
+fn add_calendar_row<S: Alter>(tx: &mut Transaction<'_, S>, row: &CalendarRow) -> Result<(), Error>
+    ensures same_reference { tx.new.conn.ghost_name ≡ tx.old.conn.ghost_name }
+    ensures inside { StaysInside (state S.Store tx.old.conn.now) (state S.Store tx.new.conn.now) }
+    ensures ok { HasCleanDisk (state S.Store tx.new.conn.now) → (court : CourtSettings) (t : Tables) (ends : List Ended) → t.next_row + 1 < 2 ^ 63
+        → Sees (state S.Store tx.old.conn.now) (rows_with court t ends) → OnOk result (Sees (state S.Store tx.new.conn.now) (rows_with court (changed (change.AddCalendar row.now) t) ends)) }
+{
+    insert(tx, Table::Calendar, &calendar_values(row))?;
+    count_calendar_row(tx)
+}
+
+/// Makes a change.
+fn change_row<S: Alter>(tx: &mut Transaction<'_, S>, change: &Change) -> Result<(), Error>
+    ensures same_reference { tx.new.conn.ghost_name ≡ tx.old.conn.ghost_name }
+    ensures inside { StaysInside (state S.Store tx.old.conn.now) (state S.Store tx.new.conn.now) }
+    ensures ok { HasCleanDisk (state S.Store tx.new.conn.now) → (court : CourtSettings) (t : Tables) (ends : List Ended) → t.next_row + 1 < 2 ^ 63
+        → Sees (state S.Store tx.old.conn.now) (rows_with court t ends) → OnOk result (Sees (state S.Store tx.new.conn.now) (rows_with court (changed change.now t) ends)) }
+{
+    match change {
+        Change::AddCalendar(row) => add_calendar_row(tx, row),
+        Change::RemoveCalendar(number) => remove_calendar_row(tx, *number),
+        Change::AddCase(row) => insert(tx, Table::Cases, &case_values(row)),
+        Change::AddParty(row) => insert(tx, Table::Parties, &party_values(row)),
+        Change::AddEntry(row) => insert(tx, Table::Entries, &entry_values(row)),
+        Change::AddDeadline(row) => insert(tx, Table::Deadlines, &deadline_values(row)),
+        Change::AddAct(row) => insert(tx, Table::Acts, &act_values(row)),
+    }
+}
+
+/// Makes the changes, one after another.
+fn change_all<S: Alter>(tx: &mut Transaction<'_, S>, changes: &[Change]) -> Result<(), Error>
+    ensures same_reference { tx.new.conn.ghost_name ≡ tx.old.conn.ghost_name }
+    ensures inside { StaysInside (state S.Store tx.old.conn.now) (state S.Store tx.new.conn.now) }
+    ensures ok { HasCleanDisk (state S.Store tx.new.conn.now) → (court : CourtSettings) (t : Tables) (ends : List Ended) → t.next_row + length changes.now < 2 ^ 63
+        → Sees (state S.Store tx.old.conn.now) (rows_with court t ends) → OnOk result (Sees (state S.Store tx.new.conn.now) (rows_with court (all_changed changes.now t) ends)) }
+{
+    'changes: for change in changes {
+        change_row(tx, change)?;
+    }
+    Ok(())
+}
+
+/// Makes the changes of a command, and adds its receipt.
+pub fn record<S: Alter>(
+    tx: &mut Transaction<'_, S>,
+    command: &Command,
+    body: &str,
+    changes: &Changes,
+) -> Result<(), Error>
+    requires { body.now ≡ canonical command.now }
+    ensures same_reference { tx.new.conn.ghost_name ≡ tx.old.conn.ghost_name }
+    ensures inside { StaysInside (state S.Store tx.old.conn.now) (state S.Store tx.new.conn.now) }
+    ensures ok { HasCleanDisk (state S.Store tx.new.conn.now) → (court : CourtSettings) (t : Tables) (ends : List Ended) → t.next_row + length changes.now.rows.items < 2 ^ 63
+        → Sees (state S.Store tx.old.conn.now) (rows_with court t ends)
+        → OnOk result (Sees (state S.Store tx.new.conn.now) (rows_with court (with_receipt command.now changes.now.reply (all_changed changes.now.rows.items t)) ends)) }
+{
+    change_all(tx, changes.rows.as_slice())?;
+    insert(
+        tx,
+        Table::Receipts,
+        &receipt_values(command, body, changes.reply),
+    )
+}
+
+/// Makes a change of an end.
+fn change_end<S: Alter>(tx: &mut Transaction<'_, S>, change: &EndChange) -> Result<(), ReadFault>
+    ensures same_reference { tx.new.conn.ghost_name ≡ tx.old.conn.ghost_name }
+    ensures clean { doubt (state S.Store tx.old.conn.now).is_clean ≤ doubt (state S.Store tx.new.conn.now).is_clean }
+    ensures inside { (court : CourtSettings) (t : Tables) (ends : List Ended)
+        → Inside (state S.Store tx.old.conn.now) (state S.Store tx.new.conn.now) (rows_with court t ends) (rows_with court t (changed_ends change.now ends)) result (λ _. Unit {0}) }
+{
+    match change {
+        EndChange::Add(row) => insert(tx, Table::Ends, &end_values(row))?,
+        EndChange::Remove(case, deadline) => remove_end(tx, *case, *deadline)?,
+        EndChange::Move(row) => move_end(tx, row)?,
+    }
+    Ok(())
+}
+
+/// Makes the changes of ends, one after another.
+pub fn change_ends<S: Alter>(
+    tx: &mut Transaction<'_, S>,
+    changes: &[EndChange],
+) -> Result<(), ReadFault>
+    ensures same_reference { tx.new.conn.ghost_name ≡ tx.old.conn.ghost_name }
+    ensures clean { doubt (state S.Store tx.old.conn.now).is_clean ≤ doubt (state S.Store tx.new.conn.now).is_clean }
+    ensures inside { (court : CourtSettings) (t : Tables) (ends : List Ended)
+        → Inside (state S.Store tx.old.conn.now) (state S.Store tx.new.conn.now) (rows_with court t ends) (rows_with court t (all_changed_ends changes.now ends)) result (λ _. Unit {0}) }
+{
+    'changes: for change in changes {
+        change_end(tx, change)?;
+    }
+    Ok(())
+}

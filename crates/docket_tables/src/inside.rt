@@ -1,0 +1,80 @@
+//! Questions to the tables inside a transaction.
+ghost use Rattle.std.specs.Prelude.{◌≡◌, ◌≤◌, List};
+ghost use Rattle.sqlite.specs.Held.{state};
+ghost use Rattle.sqlite.specs.View.{doubt};
+ghost use Rattle.court_days.specs.Court.{CourtSettings};
+ghost use Rattle.docket_core.specs.Histories.{deadlines_of_case};
+ghost use Rattle.docket_core.specs.Tables.{Tables};
+ghost use Rattle.docket_core.specs.declared.end_row.EndRow.{EndRow as Ended};
+ghost use Rattle.docket_tables.specs.Contents.{AreStored, ends_of, rows_with};
+ghost use Rattle.docket_tables.specs.Orderly.{IsOrderly};
+ghost use Rattle.docket_tables.specs.Readings.{AreActsOf};
+ghost use Rattle.docket_tables.specs.Stands.{Inside};
+
+use crate::fault::ReadFault;
+use crate::query::Query;
+use crate::rows::{acts_in, calendar_in, deadlines_in, ends_in};
+use crate::store::ask_inside;
+use docket_core::{ActRow, CalendarRow, DeadlineRow, EndRow};
+use sqlite::types::ToSql;
+use sqlite::{Alter, Transaction};
+use std::alloc::Global;
+
+/// The rows of the calendar, in the order of their numbers.
+pub fn calendar<S: Alter>(
+    tx: &mut Transaction<'_, S>,
+    alloc: Global,
+) -> Result<Vec<CalendarRow>, ReadFault>
+    ensures same_reference { tx.new.conn.ghost_name ≡ tx.old.conn.ghost_name }
+    ensures clean { doubt (state S.Store tx.old.conn.now).is_clean ≤ doubt (state S.Store tx.new.conn.now).is_clean }
+    ensures inside { (court : CourtSettings) (t : Tables) (ends : List Ended) → IsOrderly court t
+        → Inside (state S.Store tx.old.conn.now) (state S.Store tx.new.conn.now) (rows_with court t ends) (rows_with court t ends) result (λ found. found.items ≡ t.calendar) }
+{
+    let rows = ask_inside(tx, Query::Calendar, &[])?;
+    calendar_in(alloc, rows.as_slice())
+}
+
+/// The ends that are stored of a case.
+pub fn ends_of_case<S: Alter>(
+    tx: &mut Transaction<'_, S>,
+    alloc: Global,
+    case: u32,
+) -> Result<Vec<EndRow>, ReadFault>
+    ensures same_reference { tx.new.conn.ghost_name ≡ tx.old.conn.ghost_name }
+    ensures clean { doubt (state S.Store tx.old.conn.now).is_clean ≤ doubt (state S.Store tx.new.conn.now).is_clean }
+    ensures inside { (court : CourtSettings) (t : Tables) (ends : List Ended) → AreStored case ends
+        → Inside (state S.Store tx.old.conn.now) (state S.Store tx.new.conn.now) (rows_with court t ends) (rows_with court t ends) result (λ found. found.items ≡ ends_of case ends) }
+{
+    let rows = ask_inside(tx, Query::Ends, &[case.to_sql()])?;
+    ends_in(alloc, rows.as_slice())
+}
+
+/// The deadlines of a case.
+pub fn deadlines_of_case<S: Alter>(
+    tx: &mut Transaction<'_, S>,
+    alloc: Global,
+    case: u32,
+) -> Result<Vec<DeadlineRow>, ReadFault>
+    ensures same_reference { tx.new.conn.ghost_name ≡ tx.old.conn.ghost_name }
+    ensures clean { doubt (state S.Store tx.old.conn.now).is_clean ≤ doubt (state S.Store tx.new.conn.now).is_clean }
+    ensures inside { (court : CourtSettings) (t : Tables) (ends : List Ended) → IsOrderly court t
+        → Inside (state S.Store tx.old.conn.now) (state S.Store tx.new.conn.now) (rows_with court t ends) (rows_with court t ends) result (λ found. found.items ≡ deadlines_of_case case t.deadlines) }
+{
+    let rows = ask_inside(tx, Query::Deadlines, &[case.to_sql()])?;
+    deadlines_in(alloc, rows.as_slice())
+}
+
+/// The acts of a case.
+pub fn acts_of_case<S: Alter>(
+    tx: &mut Transaction<'_, S>,
+    alloc: Global,
+    case: u32,
+) -> Result<Vec<ActRow>, ReadFault>
+    ensures same_reference { tx.new.conn.ghost_name ≡ tx.old.conn.ghost_name }
+    ensures clean { doubt (state S.Store tx.old.conn.now).is_clean ≤ doubt (state S.Store tx.new.conn.now).is_clean }
+    ensures inside { (court : CourtSettings) (t : Tables) (ends : List Ended) → IsOrderly court t
+        → Inside (state S.Store tx.old.conn.now) (state S.Store tx.new.conn.now) (rows_with court t ends) (rows_with court t ends) result (λ found. AreActsOf case t.acts found.items) }
+{
+    let rows = ask_inside(tx, Query::Acts, &[case.to_sql()])?;
+    acts_in(alloc, rows.as_slice())
+}
