@@ -24,6 +24,7 @@ use Rattle.docket_scan.specs.Taken.{Finishes}
 use Rattle.docket_scan.specs.declared.fault.AdoptFault.{AdoptFault}
 use Rattle.docket_scan.specs.declared.fault.AdoptFault.TheVariants.{NotADocket, OtherVersion, Damaged, NoMemory, StoreFailed}
 use Rattle.docket_scan.specs.declared.finding.FoundDocket.{FoundDocket}
+use Rattle.docket_scan.proofs.JudgingLemmas.{unsound_before, with_now}
 use Rattle.docket_scan.proofs.ScanLemmas.{stays_then}
 
 -- an error in the reading of the court's table
@@ -50,16 +51,9 @@ pub not_taken : (old new : State) (r : Result FoundDocket AdoptFault) (fault : A
 not_taken old new (Ok x) fault same told = absurd same
 not_taken old new (Err f) fault same told = subst (IsNotTaken old new) (sym same) told
 
--- what is read of a database alone holds of each state that shows it
-abbrev with_now : State → Database → State
-with_now s d = record s { now = d }
-
 module _ (first old : State) (same : IsUnchanged first old) where
   holds_before : (court : CourtSettings) (next : ℕ) (r : Rows) (ts : List Table) → AllByRecursion (Holds old court next r) ts → AllByRecursion (Holds first court next r) ts
   holds_before court next r ts all = subst (λ (d : Database). AllByRecursion (Holds (with_now first d) court next r) ts) same.0.now_is all
-
-  unsound_before : (t : Table) (AreSound : List Row → Type 0) → IsUnsoundIn t old AreSound → IsUnsoundIn t first AreSound
-  unsound_before t AreSound h = subst (λ (d : Database). IsUnsoundIn t (with_now first d) AreSound) same.0.now_is h
 
   stays_open : (new : State) → StaysOpen old new → StaysOpen first new
   stays_open new stays = λ opened. unchanged_then first old new same (stays same.0.is_open)
@@ -68,7 +62,7 @@ module _ (first old : State) (same : IsUnchanged first old) where
   module _ (court : CourtSettings) (next : ℕ) (has : HasCourt first court next) where
     damaged : (t : Table) → IsBehindCourt t → (r : Rows) → AllByRecursion (Holds old court next r) (before t) → IsUnsoundIn t old (AreSoundBy t court next r) → IsDamaged t first
     damaged table.Court behind r all unsound = absurd behind
-    damaged t behind r all unsound = (court, next, has, r, holds_before court next r (before t) all, unsound_before t (AreSoundBy t court next r) unsound)
+    damaged t behind r all unsound = (court, next, has, r, holds_before court next r (before t) all, unsound_before first old same t (AreSoundBy t court next r) unsound)
 
     pub judged_fault : (new : State) (fault : AdoptFault) → FailsAt court next old new fault → IsNotTaken first new fault
     judged_fault new (Damaged t) (behind, stays, r, all, unsound) = (stays_open new stays, damaged t behind r all unsound)

@@ -22,7 +22,7 @@ use Rattle.docket_scan.specs.declared.fault.AdoptFault.TheVariants.{Damaged, NoM
 use Rattle.docket_scan.proofs.ScanLemmas.{stays_then}
 
 -- what is read of a database alone holds of each state that shows it
-abbrev with_now : State → Database → State
+abbrev pub with_now : State → Database → State
 with_now s d = record s { now = d }
 
 module _ (first old : State) (same : IsUnchanged first old) where

@@ -1,3 +1,4 @@
+mod ActLemmas
 pub mod AnySchema
 mod CountLemmas
 pub mod DocketCells

@@ -1,5 +1,6 @@
 -- What the statement of a table does to any database: it shows rows, or is refused.
-use Rattle.std.proofs.Common.{◌≡◌, ◌⊎◌, inl, inr, ℕ, List, [], true, false, IsTrue, IsSome, Some, None, Option, Ok, Err, Result, IsErrAnd, refl, sym, ap, subst, subst₂, ◌∙◌}
+use Rattle.std.proofs.Common.{◌≡◌, ◌⊎◌, inl, inr, ℕ, List, [], ◌∷◌, ◌++◌, true, false, IsTrue, IsSome, Some, None, Option, Ok, Err, Result, IsErrAnd, refl, sym, ap, subst, subst₂, ◌∙◌}
+use Rattle.std.proofs.lemmas.List.{append_assoc}
 use Rattle.sqlite.specs.Order.{Row}
 use Rattle.sqlite.specs.Store.{Ghosts}
 use Rattle.sqlite.specs.Tree.{Trees}
@@ -140,3 +141,14 @@ module _ (t : Table) where
 pub err_scanned : (t : Table) (old new : State) (HasTaken IsSound : List Row → Type 0) (r : Result (Option ℕ) Error) (e : Error) → IsErrAnd r (λ f. f ≡ e) → FailsToScan t old new e → Scanned t old new HasTaken IsSound r
 err_scanned t old new HasTaken IsSound (Ok count) e same fails = absurd same
 err_scanned t old new HasTaken IsSound (Err f) e same fails = subst (FailsToScan t old new) (sym same) fails
+
+-- what was scanned holds of the same connection by another name
+pub scanned_still : {S : Type 0} (g : Ghosts S) (t : Table) (first : State) (last end : Held S) (HasTaken IsSound : List Row → Type 0) (r : Result (Option ℕ) Error)
+    → last ≡ end → Scanned t first (state g last) HasTaken IsSound r → Scanned t first (state g end) HasTaken IsSound r
+scanned_still g t first last end HasTaken IsSound r same told = subst (λ h. Scanned t first (state g h) HasTaken IsSound r) same told
+
+-- the next row is refused, whatever follows it
+pub refused_then : {Context : Type 0} (IsSound : Context → List Row → Type 0) (was now : Context) (given : List Row) (row : Row) → was ≡ now
+    → ((more : List Row) → IsSound was (given ++ row ∷ more) → ⊥) → (more : List Row) → IsSound now ((given ++ row ∷ []) ++ more) → ⊥
+refused_then IsSound was now given row same refused more sound =
+    refused more (subst (λ k. IsSound k (given ++ row ∷ more)) (sym same) (subst (IsSound now) (append_assoc given (row ∷ []) more) sound))

@@ -25,6 +25,7 @@ use crate::holdings::Holdings;
 use crate::judging::judge_tables;
 use crate::scan::scan;
 use crate::shape::{has_named, has_table};
+use crate::watch::Watch;
 use court_days::Court;
 use docket_sound::{CourtRecord, sound_court};
 use docket_tables::Table;
@@ -53,7 +54,11 @@ fn court_fault(error: Error) -> AdoptFault
 }
 
 /// Reads the table of the court.
-fn read_court<S: Alter>(conn: &mut Connection<S>, alloc: Global) -> Result<CourtRecord, AdoptFault>
+fn read_court<S: Alter, W: Watch>(
+    conn: &mut Connection<S>,
+    alloc: Global,
+    watch: &mut W,
+) -> Result<CourtRecord, AdoptFault>
     ensures writes_nothing { Survives (state S.Store conn.old) (state S.Store conn.new) (λ _. ⊥) }
     ensures mode { conn.old.in_transaction ≡ false → conn.new.in_transaction ≡ false }
     ensures told { HasCleanDisk (state S.Store conn.new) → ReadsCourt (state S.Store conn.old) (state S.Store conn.new) result }
@@ -66,7 +71,7 @@ fn read_court<S: Alter>(conn: &mut Connection<S>, alloc: Global) -> Result<Court
         return Err(AdoptFault::NotADocket);
     }
     let mut check = CourtCheck::new();
-    match scan(conn, alloc, Table::Court, &mut check) {
+    match scan(conn, alloc, Table::Court, &mut check, watch) {
         Ok(Some(_)) => check.finish(),
         Ok(None) => Err(AdoptFault::NotADocket),
         Err(error) => Err(court_fault(error)),
@@ -87,10 +92,11 @@ fn court_in(alloc: Global, row: &CourtRecord) -> Result<Court, AdoptFault>
 /// The docket that a database holds, whatever database it is. The table of the court is judged first, and
 /// then the others in their order; an error tells the first cause for which the database is not taken for
 /// a docket's. Want of memory and a failure of the database may come at any point. The docket of a history
-/// is found as it is, and no other error comes. Nothing is written.
-pub fn find_docket<S: Alter>(
+/// is found as it is, and no other error comes. Nothing is written. `watch` is told of each row that is read.
+pub fn find_docket<S: Alter, W: Watch>(
     conn: &mut Connection<S>,
     alloc: Global,
+    watch: &mut W,
 ) -> Result<FoundDocket, AdoptFault>
     ensures writes_nothing { Survives (state S.Store conn.old) (state S.Store conn.new) (λ _. ⊥) }
     ensures mode { conn.old.in_transaction ≡ false → conn.new.in_transaction ≡ false }
@@ -100,9 +106,9 @@ pub fn find_docket<S: Alter>(
         → HoldsRows S.Store conn.old (rows_in court (rows_of court h)) → IsFoundOfDocket court h result }
     ensures unread { has_named conn.old.schema table.Court ≡ false → IsErrAnd result (λ fault. fault ≡ Empty) × (conn.new ≡ conn.old) }
 {
-    let row = read_court(conn, alloc)?;
+    let row = read_court(conn, alloc, watch)?;
     let judged = court_in(alloc, &row)?;
     let court = court_in(alloc, &row)?;
-    let held = judge_tables(conn, alloc, judged, row.next_row)?;
+    let held = judge_tables(conn, alloc, judged, row.next_row, watch)?;
     Ok(FoundDocket { court, held })
 }

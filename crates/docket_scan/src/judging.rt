@@ -28,6 +28,7 @@ use crate::passing::{CalendarRead, CasesRead, DeadlinesRead, EndsRead, PartiesRe
 use crate::scan::scan;
 use crate::shape::has_table;
 use crate::taker::Taker;
+use crate::watch::Watch;
 use court_days::Court;
 use docket_core::EndRow;
 use docket_sound::{
@@ -39,11 +40,12 @@ use sqlite::{Alter, Connection};
 use std::alloc::{AllocError, Global};
 
 /// Has the check take the rows of its table, if the table is there. How many they are.
-fn judge<S: Alter, C: Taker>(
+fn judge<S: Alter, C: Taker, W: Watch>(
     conn: &mut Connection<S>,
     alloc: Global,
     table: Table,
     check: &mut C,
+    watch: &mut W,
 ) -> Result<u64, AdoptFault>
     ensures writes_nothing { Survives (state S.Store conn.old) (state S.Store conn.new) (λ _. ⊥) }
     ensures mode { conn.old.in_transaction ≡ false → conn.new.in_transaction ≡ false }
@@ -56,7 +58,7 @@ fn judge<S: Alter, C: Taker>(
     if !has_table(conn.schema(), table) {
         return Err(AdoptFault::Damaged(table));
     }
-    match scan(conn, alloc, table, check) {
+    match scan(conn, alloc, table, check, watch) {
         Ok(Some(count)) => Ok(count),
         Ok(None) => Err(AdoptFault::Damaged(table)),
         Err(error) => Err(fault_in(table, error)),
@@ -64,11 +66,12 @@ fn judge<S: Alter, C: Taker>(
 }
 
 /// Judges the table of the calendar.
-fn judge_calendar<S: Alter>(
+fn judge_calendar<S: Alter, W: Watch>(
     conn: &mut Connection<S>,
     alloc: Global,
     court: Court,
     next_row: u64,
+    watch: &mut W,
 ) -> Result<CalendarRead, AdoptFault>
     ensures writes_nothing { Survives (state S.Store conn.old) (state S.Store conn.new) (λ _. ⊥) }
     ensures mode { conn.old.in_transaction ≡ false → conn.new.in_transaction ≡ false }
@@ -76,7 +79,7 @@ fn judge_calendar<S: Alter>(
         → JudgedTo table.Calendar court next_row (state S.Store conn.old) (state S.Store conn.new) (SaysCalendar court) result }
 {
     let mut check = CalendarCheck::new(alloc, court, next_row);
-    let count = judge(conn, alloc, Table::Calendar, &mut check)?;
+    let count = judge(conn, alloc, Table::Calendar, &mut check, watch)?;
     let (court, calendar) = check.finish();
     Ok(CalendarRead {
         court,
@@ -89,11 +92,12 @@ fn judge_calendar<S: Alter>(
 }
 
 /// Judges the tables up to that of cases.
-fn judge_cases<S: Alter>(
+fn judge_cases<S: Alter, W: Watch>(
     conn: &mut Connection<S>,
     alloc: Global,
     court: Court,
     next_row: u64,
+    watch: &mut W,
 ) -> Result<CasesRead, AdoptFault>
     ensures writes_nothing { Survives (state S.Store conn.old) (state S.Store conn.new) (λ _. ⊥) }
     ensures mode { conn.old.in_transaction ≡ false → conn.new.in_transaction ≡ false }
@@ -104,9 +108,9 @@ fn judge_cases<S: Alter>(
         court,
         calendar,
         held,
-    } = judge_calendar(conn, alloc, court, next_row)?;
+    } = judge_calendar(conn, alloc, court, next_row, watch)?;
     let mut check = CaseCheck::new(alloc);
-    let count = judge(conn, alloc, Table::Cases, &mut check)?;
+    let count = judge(conn, alloc, Table::Cases, &mut check, watch)?;
     let cases = check.cases();
     Ok(CasesRead {
         court,
@@ -120,11 +124,12 @@ fn judge_cases<S: Alter>(
 }
 
 /// Judges the tables up to that of parties.
-fn judge_parties<S: Alter>(
+fn judge_parties<S: Alter, W: Watch>(
     conn: &mut Connection<S>,
     alloc: Global,
     court: Court,
     next_row: u64,
+    watch: &mut W,
 ) -> Result<PartiesRead, AdoptFault>
     ensures writes_nothing { Survives (state S.Store conn.old) (state S.Store conn.new) (λ _. ⊥) }
     ensures mode { conn.old.in_transaction ≡ false → conn.new.in_transaction ≡ false }
@@ -136,9 +141,9 @@ fn judge_parties<S: Alter>(
         calendar,
         cases,
         held,
-    } = judge_cases(conn, alloc, court, next_row)?;
+    } = judge_cases(conn, alloc, court, next_row, watch)?;
     let mut check = PartyCheck::new(alloc, cases)?;
-    let count = judge(conn, alloc, Table::Parties, &mut check)?;
+    let count = judge(conn, alloc, Table::Parties, &mut check, watch)?;
     Ok(PartiesRead {
         court,
         calendar,
@@ -152,20 +157,21 @@ fn judge_parties<S: Alter>(
 }
 
 /// Judges the tables up to that of entries.
-fn judge_entries<S: Alter>(
+fn judge_entries<S: Alter, W: Watch>(
     conn: &mut Connection<S>,
     alloc: Global,
     court: Court,
     next_row: u64,
+    watch: &mut W,
 ) -> Result<PartiesRead, AdoptFault>
     ensures writes_nothing { Survives (state S.Store conn.old) (state S.Store conn.new) (λ _. ⊥) }
     ensures mode { conn.old.in_transaction ≡ false → conn.new.in_transaction ≡ false }
     ensures told { HasCleanDisk (state S.Store conn.new)
         → JudgedTo table.Entries court next_row (state S.Store conn.old) (state S.Store conn.new) (SaysParties court) result }
 {
-    let read = judge_parties(conn, alloc, court, next_row)?;
+    let read = judge_parties(conn, alloc, court, next_row, watch)?;
     let mut check = EntryCheck::new(alloc, read.cases)?;
-    let count = judge(conn, alloc, Table::Entries, &mut check)?;
+    let count = judge(conn, alloc, Table::Entries, &mut check, watch)?;
     let held = Holdings {
         entries: count,
         ..read.held
@@ -174,11 +180,12 @@ fn judge_entries<S: Alter>(
 }
 
 /// Judges the tables up to that of deadlines.
-fn judge_deadlines<S: Alter>(
+fn judge_deadlines<S: Alter, W: Watch>(
     conn: &mut Connection<S>,
     alloc: Global,
     court: Court,
     next_row: u64,
+    watch: &mut W,
 ) -> Result<DeadlinesRead, AdoptFault>
     ensures writes_nothing { Survives (state S.Store conn.old) (state S.Store conn.new) (λ _. ⊥) }
     ensures mode { conn.old.in_transaction ≡ false → conn.new.in_transaction ≡ false }
@@ -191,9 +198,9 @@ fn judge_deadlines<S: Alter>(
         cases,
         parties,
         held,
-    } = judge_entries(conn, alloc, court, next_row)?;
+    } = judge_entries(conn, alloc, court, next_row, watch)?;
     let mut check = DeadlineCheck::new(alloc, cases, parties)?;
-    let count = judge(conn, alloc, Table::Deadlines, &mut check)?;
+    let count = judge(conn, alloc, Table::Deadlines, &mut check, watch)?;
     Ok(DeadlinesRead {
         court,
         calendar,
@@ -226,11 +233,12 @@ fn finish(check: ActCheck) -> Result<Option<(Vec<EndRow>, Standings)>, AllocErro
 
 /// Judges the tables up to that of acts. Gives the ends of the deadlines whose time runs, by their acts
 /// and the whole calendar.
-fn judge_acts<S: Alter>(
+fn judge_acts<S: Alter, W: Watch>(
     conn: &mut Connection<S>,
     alloc: Global,
     court: Court,
     next_row: u64,
+    watch: &mut W,
 ) -> Result<EndsRead, AdoptFault>
     ensures writes_nothing { Survives (state S.Store conn.old) (state S.Store conn.new) (λ _. ⊥) }
     ensures mode { conn.old.in_transaction ≡ false → conn.new.in_transaction ≡ false }
@@ -242,9 +250,9 @@ fn judge_acts<S: Alter>(
         calendar,
         deadlines,
         held,
-    } = judge_deadlines(conn, alloc, court, next_row)?;
+    } = judge_deadlines(conn, alloc, court, next_row, watch)?;
     let mut check = ActCheck::new(alloc, court, calendar, deadlines)?;
-    judge(conn, alloc, Table::Acts, &mut check)?;
+    judge(conn, alloc, Table::Acts, &mut check, watch)?;
     match finish(check)? {
         Some((ends, standings)) => Ok(EndsRead {
             ends,
@@ -255,20 +263,21 @@ fn judge_acts<S: Alter>(
 }
 
 /// Judges the tables up to that of receipts. Gives the same ends.
-fn judge_receipts<S: Alter>(
+fn judge_receipts<S: Alter, W: Watch>(
     conn: &mut Connection<S>,
     alloc: Global,
     court: Court,
     next_row: u64,
+    watch: &mut W,
 ) -> Result<EndsRead, AdoptFault>
     ensures writes_nothing { Survives (state S.Store conn.old) (state S.Store conn.new) (λ _. ⊥) }
     ensures mode { conn.old.in_transaction ≡ false → conn.new.in_transaction ≡ false }
     ensures told { HasCleanDisk (state S.Store conn.new)
         → JudgedTo table.Receipts court next_row (state S.Store conn.old) (state S.Store conn.new) (SaysEnds court) result }
 {
-    let EndsRead { ends, held } = judge_acts(conn, alloc, court, next_row)?;
+    let EndsRead { ends, held } = judge_acts(conn, alloc, court, next_row, watch)?;
     let mut check = ReceiptCheck::new();
-    let count = judge(conn, alloc, Table::Receipts, &mut check)?;
+    let count = judge(conn, alloc, Table::Receipts, &mut check, watch)?;
     Ok(EndsRead {
         ends,
         held: Holdings {
@@ -283,11 +292,12 @@ fn judge_receipts<S: Alter>(
 /// order, that is missing, lacks a column, can't be read or is unsound by those before it; want of memory
 /// and a failure of the database may come at any point. Of the docket of a history no table is told to be
 /// unsound, and what is told is what the history has. Nothing is written.
-pub(crate) fn judge_tables<S: Alter>(
+pub(crate) fn judge_tables<S: Alter, W: Watch>(
     conn: &mut Connection<S>,
     alloc: Global,
     court: Court,
     next_row: u64,
+    watch: &mut W,
 ) -> Result<Holdings, AdoptFault>
     ensures writes_nothing { Survives (state S.Store conn.old) (state S.Store conn.new) (λ _. ⊥) }
     ensures mode { conn.old.in_transaction ≡ false → conn.new.in_transaction ≡ false }
@@ -297,9 +307,9 @@ pub(crate) fn judge_tables<S: Alter>(
         → (h : History) → IsHistory court h → AllByRecursion IsCommand h → next_row ≡ next_number h
         → HoldsRows S.Store conn.old (rows_in court (rows_of court h)) → IsToldOfDocket court h result }
 {
-    let EndsRead { ends, held } = judge_receipts(conn, alloc, court, next_row)?;
+    let EndsRead { ends, held } = judge_receipts(conn, alloc, court, next_row, watch)?;
     let mut check = DueCheck::new(ends);
-    judge(conn, alloc, Table::Ends, &mut check)?;
+    judge(conn, alloc, Table::Ends, &mut check, watch)?;
     if check.is_sound() {
         Ok(held)
     } else {

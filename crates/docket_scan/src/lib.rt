@@ -19,6 +19,7 @@ mod shape;
 mod statement;
 mod tables;
 mod taker;
+mod watch;
 
 pub use fault::AdoptFault;
 pub use finding::{FoundDocket, find_docket};
@@ -26,3 +27,4 @@ pub use holdings::Holdings;
 pub use receipt::StoredReceipt;
 pub use shape::{has_named, has_table};
 pub use statement::scan_text;
+pub use watch::{Unwatched, Watch};

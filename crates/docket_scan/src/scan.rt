@@ -6,17 +6,19 @@ ghost use Rattle.docket_scan.specs.Scans.{Scanned};
 
 use crate::statement::scan_text;
 use crate::taker::Taker;
+use crate::watch::Watch;
 use docket_tables::Table;
 use sqlite::{Alter, Connection, Error, ErrorCode};
 use std::alloc::Global;
 
-/// Reads the table row by row. How many rows it has, where the check took them all; `None`: it refused
-/// one.
-pub(crate) fn scan<S: Alter, C: Taker>(
+/// Reads the table row by row, and tells of each. How many rows it has, where the check took them all;
+/// `None`: it refused one.
+pub(crate) fn scan<S: Alter, C: Taker, W: Watch>(
     conn: &mut Connection<S>,
     alloc: Global,
     table: Table,
     check: &mut C,
+    watch: &mut W,
 ) -> Result<Option<u64>, Error>
     ensures writes_nothing { Survives (state S.Store conn.old) (state S.Store conn.new) (λ _. ⊥) }
     ensures mode { conn.old.in_transaction ≡ false → conn.new.in_transaction ≡ false }
@@ -32,6 +34,7 @@ pub(crate) fn scan<S: Alter, C: Taker>(
         if !check.take(alloc, row)? {
             return Ok(None);
         }
+        watch.on_row();
     }
     Err(Error::SqliteFailure(ErrorCode::OperationInterrupted))
 }

@@ -12,7 +12,7 @@ ghost use Rattle.docket_tables.specs.declared.table.Table.TheVariants as table;
 ghost use Rattle.docket_store.specs.Applying.{IsDocket, StandsFor};
 ghost use Rattle.docket_store.specs.Opening.{Finds, IsNotAdopted, IsToldOf};
 
-use docket_scan::{AdoptFault, FoundDocket, find_docket, has_named};
+use docket_scan::{AdoptFault, FoundDocket, Watch, find_docket, has_named};
 use docket_tables::{StoreFault, Table, fault_of};
 use sqlite::{Alter, Connection, Error, ErrorCode};
 use std::alloc::Global;
@@ -31,9 +31,10 @@ fn want_of_memory<S: Alter>(conn: &mut Connection<S>) -> AdoptFault
 }
 
 /// The docket of a database that has a table of a court.
-fn judged_docket<S: Alter>(
+fn judged_docket<S: Alter, W: Watch>(
     conn: &mut Connection<S>,
     alloc: Global,
+    watch: &mut W,
 ) -> Result<FoundDocket, AdoptFault>
     requires { conn.old.in_transaction ≡ false }
     ensures idle { OnOk result (conn.new.in_transaction ≡ false) }
@@ -42,7 +43,7 @@ fn judged_docket<S: Alter>(
         → Finds S.Store conn.new court h result }
     ensures told { IsToldOf S.Store conn.old conn.new result }
 {
-    match find_docket(conn, alloc) {
+    match find_docket(conn, alloc, watch) {
         Ok(found) => Ok(found),
         Err(fault) if fault == AdoptFault::NoMemory => Err(want_of_memory(conn)),
         Err(fault) => Err(fault),
@@ -50,9 +51,10 @@ fn judged_docket<S: Alter>(
 }
 
 /// The docket that a database holds, whatever database it is. The faults are looked for in their order.
-pub(crate) fn adopt_from<S: Alter>(
+pub(crate) fn adopt_from<S: Alter, W: Watch>(
     conn: &mut Connection<S>,
     alloc: Global,
+    watch: &mut W,
 ) -> Result<FoundDocket, AdoptFault>
     ensures idle { OnOk result (conn.new.in_transaction ≡ false) }
     ensures clean { doubt (state S.Store conn.old).is_clean ≤ doubt (state S.Store conn.new).is_clean }
@@ -67,5 +69,5 @@ pub(crate) fn adopt_from<S: Alter>(
     if !conn.is_autocommit() {
         return Err(AdoptFault::StoreFailed);
     }
-    judged_docket(conn, alloc)
+    judged_docket(conn, alloc, watch)
 }

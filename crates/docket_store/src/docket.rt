@@ -31,7 +31,7 @@ use crate::returned::Returned;
 use court_days::{Court, Day};
 use docket_command::{Command, Reply};
 use docket_core::{CalendarItems, CaseRecord, DeadlineLine};
-use docket_scan::{AdoptFault, FoundDocket, Holdings};
+use docket_scan::{AdoptFault, FoundDocket, Holdings, Unwatched, Watch};
 use sqlite::{Alter, Connection};
 use std::alloc::Global;
 use std::io::Write;
@@ -114,14 +114,16 @@ impl<S: Alter> Docket<S> {
             (λ docket. doubt (state S.Store conn).is_clean ≤ doubt (state S.Store docket.conn).is_clean)
             (λ returned. doubt (state S.Store conn).is_clean ≤ doubt (state S.Store returned.connection).is_clean) }
     {
-        let (docket, _) = Docket::adopt_counted(alloc, conn)?;
+        let (docket, _) = Docket::adopt_watched(alloc, conn, &mut Unwatched)?;
         Ok(docket)
     }
 
-    /// Adopts the docket that a database holds, as `adopt` does, and tells how much its tables hold.
-    pub fn adopt_counted(
+    /// Adopts the docket that a database holds, as `adopt` does, and tells how much its tables hold; on
+    /// the way `watch` is told of each row that is read.
+    pub fn adopt_watched<W: Watch>(
         alloc: Global,
         conn: Connection<S>,
+        watch: &mut W,
     ) -> Result<(Docket<S>, Holdings), Returned<S, AdoptFault>>
         ensures adopted { (court : CourtSettings) (h : History) → IsDocket court h → StandsFor S.Store conn court h
             → MatchResult result (λ found. IsAdopted S.Store found.0 court h)
@@ -138,7 +140,7 @@ impl<S: Alter> Docket<S> {
             (λ returned. doubt (state S.Store conn).is_clean ≤ doubt (state S.Store returned.connection).is_clean) }
     {
         let mut connection = conn;
-        match adopt_from(&mut connection, alloc) {
+        match adopt_from(&mut connection, alloc, watch) {
             Ok(FoundDocket { court, held }) => {
                 let docket = Docket {
                     alloc,

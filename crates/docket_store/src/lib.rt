@@ -20,7 +20,8 @@ mod sessions;
 
 pub use creating::CreateFault;
 pub use docket::Docket;
-pub use docket_scan::{AdoptFault, Holdings};
+pub use docket_columns::VERSION;
+pub use docket_scan::{AdoptFault, Holdings, Unwatched, Watch};
 pub use fault::Fault;
 pub use laws::courts_begin_without_a_record;
 pub use listing::{CalendarEnd, ListingEnd};

@@ -17,13 +17,13 @@ fn input_is_a_file(rt: &HostRuntime) -> bool {
     }
 }
 
-/// A run tells how far it is to a terminal that does not show the answers already, where the lines come
-/// from a file, and so as fast as they are answered.
+/// A terminal is told how far a job is. Of a run it is told only where it does not show the answers
+/// already, and the lines come from a file, and so as fast as they are answered.
 fn progress(rt: &HostRuntime) -> Progress {
-    if rt.stderr().is_terminal() && !rt.stdout().is_terminal() && input_is_a_file(rt) {
-        Progress::Told
-    } else {
-        Progress::Untold
+    let is_terminal = rt.stderr().is_terminal();
+    Progress {
+        of_opening: is_terminal,
+        of_answers: is_terminal && !rt.stdout().is_terminal() && input_is_a_file(rt),
     }
 }
 

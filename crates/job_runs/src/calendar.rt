@@ -1,6 +1,7 @@
 //! The calendar of the docket in a file.
 
 use crate::docket::{close_docket, open_docket};
+use crate::progress::Progress;
 use crate::status::Status;
 use crate::telling::failed;
 use court_days::Day;
@@ -11,13 +12,14 @@ use std::io::Write;
 /// written as it is read.
 pub(crate) fn tell_calendar<W: Write, E: Write>(
     rt: &HostRuntime,
+    progress: Progress,
     path: &str,
     from: Day,
     to: Day,
     w: &mut W,
     e: &mut E,
 ) -> Status {
-    match open_docket(rt, path, e) {
+    match open_docket(rt, progress, path, e) {
         Ok(mut docket) => {
             let end = docket.calendar(from, to, w);
             close_docket(docket);

@@ -1,6 +1,7 @@
 //! A case of the docket in a file.
 
 use crate::docket::{close_docket, open_docket};
+use crate::progress::Progress;
 use crate::status::Status;
 use crate::telling::{failed, write_text};
 use docket_store::{Docket, Fault};
@@ -34,12 +35,13 @@ fn unknown<E: Write>(e: &mut E) -> Status {
 /// Tells the case of a number of the docket in a file.
 pub(crate) fn tell_case<W: Write, E: Write>(
     rt: &HostRuntime,
+    progress: Progress,
     path: &str,
     number: u32,
     w: &mut W,
     e: &mut E,
 ) -> Status {
-    match open_docket(rt, path, e) {
+    match open_docket(rt, progress, path, e) {
         Ok(mut docket) => {
             let text = text_of(rt.alloc(), &mut docket, number);
             close_docket(docket);

@@ -2,6 +2,7 @@
 
 use crate::docket::{AtPath, close_docket, open_counted};
 use crate::holdings::{court_line, holdings_text};
+use crate::progress::Progress;
 use crate::status::Status;
 use crate::telling::{failed, write_text};
 use court_days::Court;
@@ -20,11 +21,12 @@ fn sound_text(alloc: Global, court: &Court, held: &Holdings) -> Result<String, A
 /// that is not. They are judged as the docket is opened.
 pub(crate) fn check_docket<W: Write, E: Write>(
     rt: &HostRuntime,
+    progress: Progress,
     path: &str,
     w: &mut W,
     e: &mut E,
 ) -> Status {
-    match open_counted(rt, path, e) {
+    match open_counted(rt, progress, path, e) {
         Ok((docket, held)) => {
             let text = sound_text(rt.alloc(), docket.court(), &held);
             close_docket(docket);

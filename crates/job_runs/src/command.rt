@@ -10,7 +10,8 @@ use command_lines::{Clerk, CountEnd, RunFault, command_run};
 use court_days::Court;
 use docket_store::{CreateFault, Docket, Fault};
 use line_io::write_bytes;
-use sqlite::{Alter, Connection};
+use memory_file::MemoryFile;
+use sqlite::{Alter, Connection, Files, Options};
 use std::io::{Read, Write};
 
 /// The last line of the output where a docket failed.
@@ -46,9 +47,10 @@ fn answer_all<R: Read, W: Write, E: Write, S: Alter>(
     w: &mut W,
     e: &mut E,
 ) -> Status {
-    let end = match progress {
-        Progress::Untold => command_run(rt.alloc(), r, w, clerk),
-        Progress::Told => answer_and_tell(rt, clerk, r, w, e),
+    let end = if progress.of_answers {
+        answer_and_tell(rt, clerk, r, w, e)
+    } else {
+        command_run(rt.alloc(), r, w, clerk)
     };
     match end {
         Ok(end) if end.bad == 0 => Status::Done,
@@ -70,7 +72,11 @@ fn answer_in_memory<R: Read, W: Write, E: Write>(
     e: &mut E,
 ) -> Status {
     let alloc = rt.alloc();
-    let Ok(conn) = Connection::open_in_memory(alloc) else {
+    let files = Files {
+        log: MemoryFile::new(alloc),
+        db: MemoryFile::new(alloc),
+    };
+    let Ok(conn) = Connection::open_files(alloc, files, Options::new(0)) else {
         return out_of_memory(w);
     };
     match created(alloc, conn, court) {
@@ -105,7 +111,7 @@ pub(crate) fn run_in_file<R: Read, W: Write, E: Write>(
     w: &mut W,
     e: &mut E,
 ) -> Status {
-    match open_docket(rt, path, e) {
+    match open_docket(rt, progress, path, e) {
         Ok(docket) => {
             let mut clerk = Clerk::new(rt.alloc(), docket);
             let status = answer_all(rt, progress, &mut clerk, r, w, e);

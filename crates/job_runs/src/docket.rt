@@ -1,13 +1,16 @@
 //! The docket that a job works on.
 
 use crate::file::open_file;
+use crate::progress::{Progress, RowCounter};
 use crate::status::Status;
 use crate::telling::failed;
-use docket_store::{AdoptFault, Docket, Holdings, Returned};
+use docket_store::{AdoptFault, Docket, Holdings, Returned, Unwatched};
 use sqlite::{Alter, Connection, File, FileStore};
-use std::alloc::Global;
-use std::fmt;
 use std::io::Write;
+use std::{fmt, fs};
+
+/// From how many megabytes a file takes more than a second to open.
+const LARGE_FILE: u64 = 8;
 
 /// A fault of the file at a path, to be told.
 #[derive(Drop)]
@@ -22,13 +25,41 @@ impl<F: fmt::Display> fmt::Display for AtPath<'_, F> {
     }
 }
 
+/// Adopts the docket of a database, and tells how many rows were read.
+fn adopt_and_tell<S: Alter, E: Write>(
+    rt: &HostRuntime,
+    conn: Connection<S>,
+    e: &mut E,
+) -> Result<(Docket<S>, Holdings), Returned<S, AdoptFault>> {
+    let mut counter = RowCounter::new(rt, e);
+    let outcome = Docket::adopt_watched(rt.alloc(), conn, &mut counter);
+    counter.finish();
+    outcome
+}
+
+/// Adopts the docket of a database.
+fn adopt<S: Alter, E: Write>(
+    rt: &HostRuntime,
+    progress: Progress,
+    conn: Connection<S>,
+    e: &mut E,
+) -> Result<(Docket<S>, Holdings), Returned<S, AdoptFault>> {
+    if progress.of_opening {
+        adopt_and_tell(rt, conn, e)
+    } else {
+        Docket::adopt_watched(rt.alloc(), conn, &mut Unwatched)
+    }
+}
+
 /// The docket that a database holds and how much it is, or why there is none. The database is let go
 /// then.
-fn adopted<S: Alter + Drop>(
-    alloc: Global,
+fn adopted<S: Alter + Drop, E: Write>(
+    rt: &HostRuntime,
+    progress: Progress,
     conn: Connection<S>,
+    e: &mut E,
 ) -> Result<(Docket<S>, Holdings), AdoptFault> {
-    match Docket::adopt_counted(alloc, conn) {
+    match adopt(rt, progress, conn, e) {
         Ok(found) => Ok(found),
         Err(
             Returned {
@@ -39,12 +70,27 @@ fn adopted<S: Alter + Drop>(
     }
 }
 
+/// Tells that a large file is opened, which takes seconds in which nothing is counted.
+fn tell_opening<E: Write>(rt: &HostRuntime, path: &str, e: &mut E) {
+    let Ok(file) = fs::metadata(rt, path) else {
+        return;
+    };
+    let megabytes = file.len() / 1_000_000;
+    if megabytes >= LARGE_FILE {
+        let _ = write!(e, "opening {path:?}, {megabytes} MB\n");
+    }
+}
+
 /// The database in a file that is there, or how the job ends.
 pub(crate) fn open_connection<E: Write>(
     rt: &HostRuntime,
+    progress: Progress,
     path: &str,
     e: &mut E,
 ) -> Result<Connection<FileStore<File>>, Status> {
+    if progress.of_opening {
+        tell_opening(rt, path, e);
+    }
     match open_file(rt, path) {
         Ok(conn) => Ok(conn),
         Err(fault) => Err(failed(rt.alloc(), e, &AtPath { path, fault })),
@@ -54,11 +100,12 @@ pub(crate) fn open_connection<E: Write>(
 /// The docket in a file that is there and how much its tables hold, or how the job ends.
 pub(crate) fn open_counted<E: Write>(
     rt: &HostRuntime,
+    progress: Progress,
     path: &str,
     e: &mut E,
 ) -> Result<(Docket<FileStore<File>>, Holdings), Status> {
-    let conn = open_connection(rt, path, e)?;
-    match adopted(rt.alloc(), conn) {
+    let conn = open_connection(rt, progress, path, e)?;
+    match adopted(rt, progress, conn, e) {
         Ok(found) => Ok(found),
         Err(fault) => Err(failed(rt.alloc(), e, &AtPath { path, fault })),
     }
@@ -67,10 +114,11 @@ pub(crate) fn open_counted<E: Write>(
 /// The docket in a file that is there, or how the job ends.
 pub(crate) fn open_docket<E: Write>(
     rt: &HostRuntime,
+    progress: Progress,
     path: &str,
     e: &mut E,
 ) -> Result<Docket<FileStore<File>>, Status> {
-    let (docket, _) = open_counted(rt, path, e)?;
+    let (docket, _) = open_counted(rt, progress, path, e)?;
     Ok(docket)
 }
 

@@ -1,6 +1,6 @@
 //! What a sound docket holds, told a line for each kind of thing.
 
-use docket_store::Holdings;
+use docket_store::{Holdings, VERSION};
 use std::alloc::{AllocError, Global};
 use std::fmt;
 
@@ -29,11 +29,11 @@ fn deadlines_line(alloc: Global, held: &Holdings) -> Result<String, AllocError> 
     )
 }
 
-/// The lines of what the tables hold.
+/// The lines of what the tables hold, behind that of their version.
 pub(crate) fn holdings_text(alloc: Global, held: &Holdings) -> Result<String, AllocError> {
     let deadlines = deadlines_line(alloc, held)?;
     format!(in alloc;
-        "calendar rows {}\ncases {}\nparties {}\nentries {}\n{deadlines}receipts {}\n",
+        "version {VERSION}\ncalendar rows {}\ncases {}\nparties {}\nentries {}\n{deadlines}receipts {}\n",
         held.calendar_rows, held.cases, held.parties, held.entries, held.receipts
     )
 }

@@ -1,6 +1,7 @@
 //! A table of days, entered in the calendar of a docket by one command.
 
 use crate::docket::{AtPath, close_connection, open_connection};
+use crate::progress::Progress;
 use crate::status::Status;
 use crate::telling::{failed, failed_by, no_memory, write_text};
 use docket_command::{Action, Command, ImportCalendar, NewDay, NewDays, Refusal, Reply, Text};
@@ -56,12 +57,13 @@ fn tell_answers<W: Write, E: Write>(
 
 fn send<W: Write, E: Write>(
     rt: &HostRuntime,
+    progress: Progress,
     path: &str,
     commands: &[Command],
     w: &mut W,
     e: &mut E,
 ) -> Status {
-    let conn = match open_connection(rt, path, e) {
+    let conn = match open_connection(rt, progress, path, e) {
         Ok(conn) => conn,
         Err(status) => return status,
     };
@@ -100,6 +102,7 @@ fn refuse<W: Write, E: Write>(alloc: Global, fault: CsvFault, w: &mut W, e: &mut
 /// before the file is opened.
 pub(crate) fn import_days<R: Read, W: Write, E: Write>(
     rt: &HostRuntime,
+    progress: Progress,
     path: &str,
     key: &str,
     r: &mut R,
@@ -112,7 +115,7 @@ pub(crate) fn import_days<R: Read, W: Write, E: Write>(
     }
     match read_calendar_csv(rt.alloc(), table.as_slice()) {
         Ok(days) => match import_of(rt.alloc(), key, days) {
-            Ok(commands) => send(rt, path, &commands, w, e),
+            Ok(commands) => send(rt, progress, path, &commands, w, e),
             Err(_) => no_memory(e),
         },
         Err(fault) => refuse(rt.alloc(), fault, w, e),

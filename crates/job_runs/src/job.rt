@@ -58,11 +58,11 @@ pub fn run_job<R: Read, W: Write, E: Write>(
         Job::Count => count(rt.alloc(), r, w, e),
         Job::Create { file, zone, close } => create_docket(rt, file, zone, close, w, e),
         Job::Run { file, zone, close } => run(rt, progress, *file, zone, close, r, w, e),
-        Job::Import { file, key } => import_days(rt, file, key, r, w, e),
-        Job::Case { file, number } => tell_case(rt, file, *number, w, e),
-        Job::Calendar { file, from, to } => tell_calendar(rt, file, *from, *to, w, e),
-        Job::Check { file } => check_docket(rt, file, w, e),
-        Job::Serve { file, port, count } => serve_docket(rt, file, *port, *count, w, e),
+        Job::Import { file, key } => import_days(rt, progress, file, key, r, w, e),
+        Job::Case { file, number } => tell_case(rt, progress, file, *number, w, e),
+        Job::Calendar { file, from, to } => tell_calendar(rt, progress, file, *from, *to, w, e),
+        Job::Check { file } => check_docket(rt, progress, file, w, e),
+        Job::Serve { file, port, count } => serve_docket(rt, progress, file, *port, *count, w, e),
         Job::Holidays { year } => tell_holidays(rt.alloc(), *year, w, e),
     }
 }

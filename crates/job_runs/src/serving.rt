@@ -1,6 +1,7 @@
 //! The docket in a file, served by HTTP.
 
 use crate::docket::{close_docket, open_docket};
+use crate::progress::Progress;
 use crate::status::Status;
 use crate::telling::{failed, failed_by};
 use docket_serving::serve_run;
@@ -77,13 +78,14 @@ fn listen<W: Write, E: Write, S: Alter>(
 /// Serves so many connections of the docket in a file.
 pub(crate) fn serve_docket<W: Write, E: Write>(
     rt: &HostRuntime,
+    progress: Progress,
     path: &str,
     port: u16,
     count: u32,
     w: &mut W,
     e: &mut E,
 ) -> Status {
-    match open_docket(rt, path, e) {
+    match open_docket(rt, progress, path, e) {
         Ok(mut docket) => {
             let status = listen(rt, port, count, &mut docket, w, e);
             close_docket(docket);

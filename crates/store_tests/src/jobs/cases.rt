@@ -84,6 +84,7 @@ const CHECKED: Step<'static> = Step {
     input: "",
     output: "sound
 court EST5EDT,M3.2.0,M11.1.0 closes 17:00
+version 1
 calendar rows 0
 cases 1
 parties 1

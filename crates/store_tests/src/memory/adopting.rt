@@ -1,7 +1,7 @@
 //! Which databases are taken for a docket's, and in which one is made.
 use super::created;
 use crate::asking::{OPENING, Step, answers, court};
-use docket_store::{AdoptFault, CreateFault, Docket};
+use docket_store::{AdoptFault, CreateFault, Docket, Unwatched};
 use docket_tables::Table;
 use sqlite::{Alter, Connection, Error, MemStore};
 use std::alloc::Global;
@@ -268,7 +268,8 @@ fn unsound_tables_are_told(rt: HostRuntime) -> Result<(), Fail> {
 #[test]
 fn adopting_tells_how_much_there_is(rt: HostRuntime) -> Result<(), Fail> {
     let alloc = rt.alloc();
-    let Ok((_, held)) = Docket::adopt_counted(alloc, records_after(alloc, "")?) else {
+    let Ok((_, held)) = Docket::adopt_watched(alloc, records_after(alloc, "")?, &mut Unwatched)
+    else {
         return Err("not adopted".into());
     };
     assert!(rt; (held.calendar_rows, held.cases, held.parties) == (0, 1, 2));

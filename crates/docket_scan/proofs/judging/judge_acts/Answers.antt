@@ -1,9 +1,8 @@
-use Rattle.std.proofs.Common.{◌≡◌, ◌∙◌, ◌<◌, ◌^◌, ap, arith, inr, length, map, refl, subst, sym, inl}
+use Rattle.std.proofs.Common.{◌≡◌, ◌∙◌, ap, arith, inr, length, map, refl, subst, sym, inl}
 use Rattle.std.proofs.lemmas.Bool.{false≢true}
 use Rattle.sqlite.specs.Held.{state}
 use Rattle.sqlite.specs.State.{HasCleanDisk}
 use Rattle.sqlite.proofs.Callers.{unchanged_then}
-use Rattle.court_days.specs.Court.{zone_of}
 use Rattle.docket_core.specs.CalendarItems.{calendar_of}
 use Rattle.docket_core.specs.Histories.{items_of}
 use Rattle.docket_columns.specs.Cells.{act_cells}
@@ -11,8 +10,6 @@ use Rattle.docket_columns.specs.Fits.{IsActRow}
 use Rattle.docket_sound.specs.Acts.{AreSoundActs, HasTakenActs}
 use Rattle.docket_sound.specs.Counted.{cases_of, counts_of}
 use Rattle.docket_sound.specs.Deadlines.{deadline_key}
-use Rattle.docket_sound.specs.Dues.{dues_of}
-use Rattle.docket_sound.specs.Standings.{counts_of_standings, standings_of}
 use Rattle.docket_tables.specs.declared.table.Table.TheVariants as table
 use Rattle.docket_scan.specs.Judging.{Holds, before}
 use Rattle.docket_scan.specs.Passing.{SaysEnds}
@@ -20,8 +17,9 @@ use Rattle.docket_scan.specs.Records.{AreActRows, count_in}
 use Rattle.docket_scan.specs.Scans.{OfSoMany}
 use Rattle.docket_scan.specs.Taken.{ActContext, HasTakenActTable, act_context}
 use Rattle.docket_scan.specs.declared.fault.AdoptFault.TheVariants.{NoMemory}
+use Rattle.docket_scan.proofs.ActLemmas.{acts_told}
 use Rattle.docket_scan.proofs.CountLemmas.{counted}
-use Rattle.docket_scan.proofs.JudgingLemmas.{all_more, failed, handed, read_rows, so_many, sound_before}
+use Rattle.docket_scan.proofs.JudgingLemmas.{all_more, failed, handed, sound_before}
 use Rattle.docket_scan.proofs.RecordLemmas.{all_read, none_read}
 use Rattle.docket_scan.proofs.judging.judge_acts.Goals as goal
 
@@ -85,20 +83,11 @@ returns-in-Some-clause-told g c clean =
     let told = rw c.in_ok-judge.was at (c.judge.ensures.told clean (none_read IsActRow act_cells (HasTakenActs c.in_ok-check.check) (made.none keys prev.4.2))) in
     let held = sound_before old mid prev.0 table.Acts (OfSoMany c.in_ok-judge.field-0 (HasTakenActTable c.judge.new.check)) told.1 in
     let read = held.3.1 in
-    let exact = c.in_ok-ends.ensures.sound read.records read.taken in
-    let sound = subst (λ (k : ActContext). AreSoundActs k.0 k.1 k.2 read.records) given ((rw c.in-Some.is at exact).0 refl) in
-    let ends = rw c.in-Some.is at (c.in_ok-ends.ensures.ends read.records read.taken) in
-    let few : length read.records < 2 ^ 64 = omega (arith, c.in_ok-judge.ensures.limit, so_many table.Acts old IsActRow act_cells (HasTakenActs c.judge.new.check) c.in_ok-judge.field-0 held) in
-    let stands = rw c.in-Some.is at (c.in_ok-ends.ensures.standings read.records read.taken few) in (
-      unchanged_then old mid new prev.0 told.0,
-      record prev.1 { acts = read.records },
-      all,
-      read_rows table.Acts old IsActRow act_cells (HasTakenActs c.judge.new.check) c.in_ok-judge.field-0 held (AreSoundActs c.args.court (length prev.1.cases) (count_in keys)) sound,
-      (
-        ends ∙ ap (λ (k : ActContext). dues_of (zone_of k.0) k.3 read.records) given,
-        λ i. record (prev.4.3 i) { standings = (stands ∙ ap (λ (k : ActContext). counts_of_standings (standings_of (zone_of k.0) k.3 read.records)) given) i },
-      ),
-    )
+    acts_told c.args.court c.args.next_row old mid new prev.0 prev.1 c.judge.new.check c.in_ok-judge.field-0 given held c.in_ok-court.field-0.held c.in-Some.standings c.in-Some.ends.items told.0 all c.in_ok-judge.ensures.limit
+    prev.4.3
+    ((rw c.in-Some.is at (c.in_ok-ends.ensures.sound read.records read.taken)).0 refl)
+    (rw c.in-Some.is at (c.in_ok-ends.ensures.ends read.records read.taken))
+    (λ few. rw c.in-Some.is at (c.in_ok-ends.ensures.standings read.records read.taken few))
 
 pub returns-in-None-clause-told : goal.returns-in-None-clause-told
 returns-in-None-clause-told g c clean =

@@ -2,7 +2,7 @@ use Rattle.std.proofs.Common.{None, refl, sym, subst}
 use Rattle.court_days.specs.Court.{CourtSettings}
 use Rattle.docket_store.specs.Applying.{Stands}
 use Rattle.docket_store.specs.Dockets.{serving}
-use Rattle.docket_store.proofs.docket.Docket.adopt_counted.Goals as goal
+use Rattle.docket_store.proofs.docket.Docket.adopt_watched.Goals as goal
 
 pub returns-in-Ok-clause-adopted : goal.returns-in-Ok-clause-adopted
 returns-in-Ok-clause-adopted g c court h is stands clean =
