@@ -12,6 +12,7 @@ use docket_store::{CreateFault, Docket, Fault};
 use line_io::write_bytes;
 use memory_file::MemoryFile;
 use sqlite::{Alter, Connection, Files, Options};
+use std::alloc::Global;
 use std::io::{Read, Write};
 
 /// The last line of the output where a docket failed.
@@ -38,7 +39,7 @@ fn answer_and_tell<R: Read, W: Write, E: Write, S: Alter>(
     end
 }
 
-/// Answers the commands of the input.
+/// Answers the commands of the input, and tells how far that is where it is to be told.
 fn answer_all<R: Read, W: Write, E: Write, S: Alter>(
     rt: &HostRuntime,
     progress: Progress,
@@ -46,20 +47,37 @@ fn answer_all<R: Read, W: Write, E: Write, S: Alter>(
     r: &mut R,
     w: &mut W,
     e: &mut E,
-) -> Status {
-    let end = if progress.of_answers {
+) -> Result<CountEnd, RunFault> {
+    if progress.of_answers {
         answer_and_tell(rt, clerk, r, w, e)
     } else {
         command_run(rt.alloc(), r, w, clerk)
-    };
+    }
+}
+
+/// Tells how a run ended.
+fn tell_end<W: Write, E: Write>(
+    alloc: Global,
+    end: Result<CountEnd, RunFault>,
+    w: &mut W,
+    e: &mut E,
+) -> Status {
     match end {
         Ok(end) if end.bad == 0 => Status::Done,
         Ok(_) => Status::SomeBad,
         Err(RunFault::NoMemory) => out_of_memory(w),
         Err(fault) => {
             let _ = write_bytes(w, last_line(fault));
-            failed(rt.alloc(), e, &fault)
+            failed(alloc, e, &fault)
         }
+    }
+}
+
+/// What a fault is where the files are in memory: these fail for want of it alone.
+fn fault_in_memory(fault: RunFault) -> RunFault {
+    match fault {
+        RunFault::Store(Fault::StoreFailed) => RunFault::NoMemory,
+        other => other,
     }
 }
 
@@ -80,8 +98,12 @@ fn answer_in_memory<R: Read, W: Write, E: Write>(
         return out_of_memory(w);
     };
     match created(alloc, conn, court) {
-        Ok(docket) => answer_all(rt, progress, &mut Clerk::new(alloc, docket), r, w, e),
-        Err(CreateFault::NoMemory) => out_of_memory(w),
+        Ok(docket) => {
+            let mut clerk = Clerk::new(alloc, docket);
+            let end = answer_all(rt, progress, &mut clerk, r, w, e).map_err(fault_in_memory);
+            tell_end(alloc, end, w, e)
+        }
+        Err(CreateFault::NoMemory | CreateFault::StoreFailed) => out_of_memory(w),
         Err(fault) => failed(alloc, e, &fault),
     }
 }
@@ -114,7 +136,8 @@ pub(crate) fn run_in_file<R: Read, W: Write, E: Write>(
     match open_docket(rt, progress, path, e) {
         Ok(docket) => {
             let mut clerk = Clerk::new(rt.alloc(), docket);
-            let status = answer_all(rt, progress, &mut clerk, r, w, e);
+            let end = answer_all(rt, progress, &mut clerk, r, w, e);
+            let status = tell_end(rt.alloc(), end, w, e);
             close_docket(clerk.into_docket());
             status
         }
