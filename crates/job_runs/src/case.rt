@@ -1,9 +1,8 @@
-//! A case of the docket in a file.
+//! A case of a docket.
 
-use crate::docket::{close_docket, open_docket};
-use crate::progress::Progress;
 use crate::status::Status;
-use crate::telling::{failed, write_text};
+use crate::telling::failed;
+use crate::work::Told;
 use docket_store::{Docket, Fault};
 use docket_text::case_text;
 use line_io::write_bytes;
@@ -27,30 +26,22 @@ fn text_of<S: Alter>(
     Ok(Some(text))
 }
 
-fn unknown<E: Write>(e: &mut E) -> Status {
-    let _ = write_bytes(e, b"no such case\n");
-    Status::SomeBad
-}
-
-/// Tells the case of a number of the docket in a file.
-pub(crate) fn tell_case<W: Write, E: Write>(
-    rt: &HostRuntime,
-    progress: Progress,
-    path: &str,
+/// Tells the case of a number.
+pub(crate) fn case_told<S: Alter, E: Write>(
+    alloc: Global,
+    docket: &mut Docket<S>,
     number: u32,
-    w: &mut W,
     e: &mut E,
-) -> Status {
-    match open_docket(rt, progress, path, e) {
-        Ok(mut docket) => {
-            let text = text_of(rt.alloc(), &mut docket, number);
-            close_docket(docket);
-            match text {
-                Ok(Some(text)) => write_text(rt.alloc(), text.as_str(), Status::Done, w, e),
-                Ok(None) => unknown(e),
-                Err(fault) => failed(rt.alloc(), e, &fault),
-            }
+) -> Told {
+    match text_of(alloc, docket, number) {
+        Ok(Some(text)) => Told {
+            text,
+            status: Status::Done,
+        },
+        Ok(None) => {
+            let _ = write_bytes(e, b"no such case\n");
+            Told::nothing(alloc, Status::SomeBad)
         }
-        Err(status) => status,
+        Err(fault) => Told::nothing(alloc, failed(alloc, e, &fault)),
     }
 }

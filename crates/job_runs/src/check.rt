@@ -1,12 +1,11 @@
-//! Whether the docket in a file is sound, and what it holds.
+//! Whether a docket is sound, and what it holds.
 
-use crate::docket::{AtPath, close_docket, open_counted};
 use crate::holdings::{court_line, holdings_text};
-use crate::progress::Progress;
 use crate::status::Status;
-use crate::telling::{failed, write_text};
+use crate::telling::no_memory;
+use crate::work::Told;
 use court_days::Court;
-use docket_store::{AdoptFault, Holdings};
+use docket_store::Holdings;
 use std::alloc::{AllocError, Global};
 use std::io::Write;
 
@@ -17,27 +16,19 @@ fn sound_text(alloc: Global, court: &Court, held: &Holdings) -> Result<String, A
     format!(in alloc; "sound\n{line}{held}")
 }
 
-/// Tells that the tables of the docket in a file are sound and what they hold, or which is the first
-/// that is not. They are judged as the docket is opened.
-pub(crate) fn check_docket<W: Write, E: Write>(
-    rt: &HostRuntime,
-    progress: Progress,
-    path: &str,
-    w: &mut W,
+/// Tells that the tables of a court's docket are sound, and what they hold. They were judged as the docket
+/// was opened, and where one is not sound there is no docket.
+pub(crate) fn sound_told<E: Write>(
+    alloc: Global,
+    court: &Court,
+    held: &Holdings,
     e: &mut E,
-) -> Status {
-    match open_counted(rt, progress, path, e) {
-        Ok((docket, held)) => {
-            let text = sound_text(rt.alloc(), docket.court(), &held);
-            close_docket(docket);
-            match text {
-                Ok(text) => write_text(rt.alloc(), text.as_str(), Status::Done, w, e),
-                Err(_) => {
-                    let fault = AdoptFault::NoMemory;
-                    failed(rt.alloc(), e, &AtPath { path, fault })
-                }
-            }
-        }
-        Err(status) => status,
+) -> Told {
+    match sound_text(alloc, court, held) {
+        Ok(text) => Told {
+            text,
+            status: Status::Done,
+        },
+        Err(_) => Told::nothing(alloc, no_memory(e)),
     }
 }

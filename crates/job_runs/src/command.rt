@@ -2,16 +2,16 @@
 
 use crate::court::read_court;
 use crate::create::created;
-use crate::docket::{close_docket, open_docket};
 use crate::progress::{LineCounter, Progress};
 use crate::status::Status;
 use crate::telling::{failed, out_of_memory};
+use crate::work::Told;
 use command_lines::{Clerk, CountEnd, RunFault, command_run};
 use court_days::Court;
 use docket_store::{CreateFault, Docket, Fault};
 use line_io::write_bytes;
 use memory_file::MemoryFile;
-use sqlite::{Alter, Connection, Files, Options};
+use sqlite::{Alter, Connection, Options};
 use std::alloc::Global;
 use std::io::{Read, Write};
 
@@ -81,6 +81,28 @@ fn fault_in_memory(fault: RunFault) -> RunFault {
     }
 }
 
+/// Answers commands of a new docket of the court in a database that is in memory.
+fn answer_of_new<R: Read, W: Write, E: Write, S: Alter + Drop>(
+    rt: &HostRuntime,
+    progress: Progress,
+    conn: Connection<S>,
+    court: Court,
+    r: &mut R,
+    w: &mut W,
+    e: &mut E,
+) -> Status {
+    let alloc = rt.alloc();
+    match created(alloc, conn, court) {
+        Ok(docket) => {
+            let mut clerk = Clerk::new(alloc, docket);
+            let end = answer_all(rt, progress, &mut clerk, r, w, e).map_err(fault_in_memory);
+            tell_end(alloc, end, w, e)
+        }
+        Err(CreateFault::NoMemory | CreateFault::StoreFailed) => out_of_memory(w),
+        Err(fault) => failed(alloc, e, &fault),
+    }
+}
+
 fn answer_in_memory<R: Read, W: Write, E: Write>(
     rt: &HostRuntime,
     progress: Progress,
@@ -90,21 +112,9 @@ fn answer_in_memory<R: Read, W: Write, E: Write>(
     e: &mut E,
 ) -> Status {
     let alloc = rt.alloc();
-    let files = Files {
-        log: MemoryFile::new(alloc),
-        db: MemoryFile::new(alloc),
-    };
-    let Ok(conn) = Connection::open_files(alloc, files, Options::new(0)) else {
-        return out_of_memory(w);
-    };
-    match created(alloc, conn, court) {
-        Ok(docket) => {
-            let mut clerk = Clerk::new(alloc, docket);
-            let end = answer_all(rt, progress, &mut clerk, r, w, e).map_err(fault_in_memory);
-            tell_end(alloc, end, w, e)
-        }
-        Err(CreateFault::NoMemory | CreateFault::StoreFailed) => out_of_memory(w),
-        Err(fault) => failed(alloc, e, &fault),
+    match Connection::open_files(alloc, MemoryFile::pair(alloc), Options::new(0)) {
+        Ok(conn) => answer_of_new(rt, progress, conn, court, r, w, e),
+        Err(_) => out_of_memory(w),
     }
 }
 
@@ -124,23 +134,17 @@ pub(crate) fn run_in_memory<R: Read, W: Write, E: Write>(
     }
 }
 
-/// Answers commands of the docket in a file. Each answer is written when its command stands there.
-pub(crate) fn run_in_file<R: Read, W: Write, E: Write>(
+/// Answers commands of a docket, which comes back. Each answer is written when its command stands there.
+pub(crate) fn answer_commands<R: Read, W: Write, E: Write, S: Alter>(
     rt: &HostRuntime,
     progress: Progress,
-    path: &str,
+    docket: Docket<S>,
     r: &mut R,
     w: &mut W,
     e: &mut E,
-) -> Status {
-    match open_docket(rt, progress, path, e) {
-        Ok(docket) => {
-            let mut clerk = Clerk::new(rt.alloc(), docket);
-            let end = answer_all(rt, progress, &mut clerk, r, w, e);
-            let status = tell_end(rt.alloc(), end, w, e);
-            close_docket(clerk.into_docket());
-            status
-        }
-        Err(status) => status,
-    }
+) -> (Told, Docket<S>) {
+    let mut clerk = Clerk::new(rt.alloc(), docket);
+    let end = answer_all(rt, progress, &mut clerk, r, w, e);
+    let status = tell_end(rt.alloc(), end, w, e);
+    (Told::nothing(rt.alloc(), status), clerk.into_docket())
 }

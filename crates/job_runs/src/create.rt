@@ -1,7 +1,7 @@
 //! A new docket in a file.
 
 use crate::court::read_court;
-use crate::docket::{AtPath, close_docket};
+use crate::docket::{AtPath, close_connection};
 use crate::file::open_or_make_file;
 use crate::status::Status;
 use crate::telling::{failed, write_text};
@@ -28,17 +28,32 @@ pub(crate) fn created<S: Alter + Drop>(
     }
 }
 
+/// The database with a docket of the court in it, or how the job ends. The database, which is in the file
+/// of the path, is let go then.
+fn made<S: Alter + Drop, E: Write>(
+    alloc: Global,
+    path: &str,
+    conn: Connection<S>,
+    court: Court,
+    e: &mut E,
+) -> Result<Connection<S>, Status> {
+    match created(alloc, conn, court) {
+        Ok(docket) => Ok(docket.close()),
+        Err(fault) => Err(failed(alloc, e, &AtPath { path, fault })),
+    }
+}
+
 fn make<E: Write>(rt: &HostRuntime, path: &str, court: Court, e: &mut E) -> Status {
     let conn = match open_or_make_file(rt, path) {
         Ok(conn) => conn,
         Err(fault) => return failed(rt.alloc(), e, &AtPath { path, fault }),
     };
-    match created(rt.alloc(), conn, court) {
-        Ok(docket) => {
-            close_docket(docket);
+    match made(rt.alloc(), path, conn, court, e) {
+        Ok(conn) => {
+            close_connection(conn);
             Status::Done
         }
-        Err(fault) => failed(rt.alloc(), e, &AtPath { path, fault }),
+        Err(status) => status,
     }
 }
 

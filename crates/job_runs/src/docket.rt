@@ -51,14 +51,15 @@ fn adopt<S: Alter, E: Write>(
     }
 }
 
-/// The docket that a database holds and how much it is, or why there is none. The database is let go
-/// then.
-fn adopted<S: Alter + Drop, E: Write>(
+/// The docket that a database holds and how much its tables hold, or how the job ends. The database,
+/// which is in the file of the path, is let go then.
+pub(crate) fn adopted<S: Alter + Drop, E: Write>(
     rt: &HostRuntime,
     progress: Progress,
+    path: &str,
     conn: Connection<S>,
     e: &mut E,
-) -> Result<(Docket<S>, Holdings), AdoptFault> {
+) -> Result<(Docket<S>, Holdings), Status> {
     match adopt(rt, progress, conn, e) {
         Ok(found) => Ok(found),
         Err(
@@ -66,7 +67,7 @@ fn adopted<S: Alter + Drop, E: Write>(
                 fault,
                 connection: _,
             },
-        ) => Err(fault),
+        ) => Err(failed(rt.alloc(), e, &AtPath { path, fault })),
     }
 }
 
@@ -97,37 +98,7 @@ pub(crate) fn open_connection<E: Write>(
     }
 }
 
-/// The docket in a file that is there and how much its tables hold, or how the job ends.
-pub(crate) fn open_counted<E: Write>(
-    rt: &HostRuntime,
-    progress: Progress,
-    path: &str,
-    e: &mut E,
-) -> Result<(Docket<FileStore<File>>, Holdings), Status> {
-    let conn = open_connection(rt, progress, path, e)?;
-    match adopted(rt, progress, conn, e) {
-        Ok(found) => Ok(found),
-        Err(fault) => Err(failed(rt.alloc(), e, &AtPath { path, fault })),
-    }
-}
-
-/// The docket in a file that is there, or how the job ends.
-pub(crate) fn open_docket<E: Write>(
-    rt: &HostRuntime,
-    progress: Progress,
-    path: &str,
-    e: &mut E,
-) -> Result<Docket<FileStore<File>>, Status> {
-    let (docket, _) = open_counted(rt, progress, path, e)?;
-    Ok(docket)
-}
-
 /// Lets the database go. Its log is copied into the file; where that fails the log keeps it.
 pub(crate) fn close_connection(conn: Connection<FileStore<File>>) {
     let _ = conn.close();
-}
-
-/// Lets the docket go, with its database.
-pub(crate) fn close_docket(docket: Docket<FileStore<File>>) {
-    close_connection(docket.close());
 }

@@ -17,6 +17,7 @@ mod progress;
 mod serving;
 mod status;
 mod telling;
+mod work;
 
 pub use job::run_job;
 pub use progress::Progress;

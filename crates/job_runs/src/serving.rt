@@ -1,7 +1,5 @@
-//! The docket in a file, served by HTTP.
+//! A docket, served by HTTP.
 
-use crate::docket::{close_docket, open_docket};
-use crate::progress::Progress;
 use crate::status::Status;
 use crate::telling::{failed, failed_by};
 use docket_serving::serve_run;
@@ -58,7 +56,7 @@ fn serve_all<W: Write, E: Write, S: Alter>(
 }
 
 /// Listens at a port of this machine alone, and serves so many connections.
-fn listen<W: Write, E: Write, S: Alter>(
+pub(crate) fn listen<W: Write, E: Write, S: Alter>(
     rt: &HostRuntime,
     port: u16,
     count: u32,
@@ -72,25 +70,5 @@ fn listen<W: Write, E: Write, S: Alter>(
             let kind = error.kind();
             failed(rt.alloc(), e, &NotListening { port, kind })
         }
-    }
-}
-
-/// Serves so many connections of the docket in a file.
-pub(crate) fn serve_docket<W: Write, E: Write>(
-    rt: &HostRuntime,
-    progress: Progress,
-    path: &str,
-    port: u16,
-    count: u32,
-    w: &mut W,
-    e: &mut E,
-) -> Status {
-    match open_docket(rt, progress, path, e) {
-        Ok(mut docket) => {
-            let status = listen(rt, port, count, &mut docket, w, e);
-            close_docket(docket);
-            status
-        }
-        Err(status) => status,
     }
 }

@@ -4,7 +4,7 @@ ghost use Rattle.sqlite_disk.specs.Disk.{CountsFault};
 ghost use Rattle.sqlite_disk.specs.Refusal.{finds_no_room};
 
 use crate::bytes::{overwrite, resize};
-use sqlite_disk::{Disk, Tally};
+use sqlite_disk::{Disk, Files, Tally};
 use std::alloc::{AllocError, Global};
 use std::io;
 
@@ -26,6 +26,17 @@ impl MemoryFile {
         MemoryFile {
             bytes: Vec::new(alloc),
             faults: 0,
+        }
+    }
+
+    /// An empty database file and its empty log.
+    pub fn pair(alloc: Global) -> Files<MemoryFile>
+        ensures log { bytes_of result.log ≡ [] }
+        ensures db { bytes_of result.db ≡ [] }
+    {
+        Files {
+            log: MemoryFile::new(alloc),
+            db: MemoryFile::new(alloc),
         }
     }
 }

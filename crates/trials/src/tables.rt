@@ -6,7 +6,7 @@ mod timing;
 use anyhow::Error;
 use filling::{count, filled, made};
 use memory_file::MemoryFile;
-use sqlite::{Alter, Connection, FileStore, Files, Options};
+use sqlite::{Alter, Connection, FileStore, Options};
 use std::alloc::Global;
 pub(crate) use timing::WRITES;
 use timing::{time_cases, time_parties, time_reads};
@@ -28,11 +28,7 @@ fn time_rows<S: Alter>(rt: &HostRuntime, conn: &mut Connection<S>, rows: u32) ->
 
 /// A database that is kept nowhere, as the docket of `docketctl run` without a file is.
 fn database_in_memory(alloc: Global) -> Result<Connection<FileStore<MemoryFile>>, Error> {
-    let files = Files {
-        log: MemoryFile::new(alloc),
-        db: MemoryFile::new(alloc),
-    };
-    match Connection::open_files(alloc, files, Options::new(0)) {
+    match Connection::open_files(alloc, MemoryFile::pair(alloc), Options::new(0)) {
         Ok(conn) => Ok(conn),
         Err((error, _)) => Err(error.into()),
     }
