@@ -71,7 +71,7 @@ pub(crate) const NO_STOP: Stop = Stop {
 };
 
 /// How many calls came to each disk.
-#[derive(Clone, Copy, PartialEq)]
+#[derive(Clone, Copy)]
 pub(crate) struct Calls {
     log: u64,
     db: u64,

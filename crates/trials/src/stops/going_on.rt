@@ -8,12 +8,12 @@ use docket_store::{
     AdoptFault, CreateFault, Docket, Fault, RecoverFault, apply_again, recover, reopen, stop,
 };
 use docket_wire::read_command;
-use sqlite::{Alter, Files};
+use sqlite::{Alter, FileStore, Files};
 use sqlite_disk::Disk;
 use std::alloc::Global;
 
 /// Why a run has nothing to tell of a docket.
-#[derive(Clone, Copy, PartialEq)]
+#[derive(Clone, Copy)]
 pub(super) enum End {
     NoCourt,
     NotUsable,
@@ -46,6 +46,43 @@ pub(super) fn ended<D: Disk + Drop>(fault: RecoverFault<D>) -> (End, Files<D>) {
     }
 }
 
+/// The files of a docket.
+fn closed<D: Disk + Drop>(docket: Docket<FileStore<D>>) -> Files<D> {
+    docket.close().into_store().close()
+}
+
+/// The docket from which the run goes on, or why there is none, and its files.
+fn gone_on<D: Disk + Drop>(
+    alloc: Global,
+    files: Files<D>,
+    frames: usize,
+) -> Result<Docket<FileStore<D>>, (End, Files<D>)> {
+    if !files.may_be_used() {
+        return Err((End::NotUsable, files));
+    }
+    match recover(alloc, files, options(frames)) {
+        Ok(docket) => Ok(docket),
+        Err(fault) => Err(ended(fault)),
+    }
+}
+
+/// The docket from which the run goes on, and what it answers to the command; or why there is none, and
+/// its files.
+fn gone_on_with<D: Disk + Drop>(
+    alloc: Global,
+    files: Files<D>,
+    frames: usize,
+    command: &Command,
+) -> Result<(Docket<FileStore<D>>, Result<Reply, Fault>), (End, Files<D>)> {
+    if !files.may_be_used() {
+        return Err((End::NotUsable, files));
+    }
+    match apply_again(alloc, files, options(frames), command) {
+        Ok(answered) => Ok(answered),
+        Err(fault) => Err(ended(fault)),
+    }
+}
+
 /// Applies the commands of the lines, each of which is to be accepted.
 fn apply_lines<S: Alter>(alloc: Global, docket: &mut Docket<S>, lines: &[u8]) -> Result<(), Error> {
     for line in lines.split_inclusive(|byte| *byte == b'\n') {
@@ -74,7 +111,7 @@ pub(super) fn created<D: Disk + Drop>(
         Err((_, left)) => return (Err(End::NotOpened), left.into_files()),
     };
     match Docket::create(alloc, conn, court) {
-        Ok(docket) => (Ok(()), docket.close().into_store().close()),
+        Ok(docket) => (Ok(()), closed(docket)),
         Err(returned) => (
             Err(End::NotMade(returned.fault)),
             stop(returned.connection).close(),
@@ -89,20 +126,14 @@ pub(super) fn filled<D: Disk + Drop>(
     frames: usize,
     lines: &[u8],
 ) -> Result<Files<D>, Error> {
-    if !files.may_be_used() {
-        return Err(anyhow!("the disks may not be used"));
-    }
-    match recover(alloc, files, options(frames)) {
+    match gone_on(alloc, files, frames) {
         Ok(mut docket) => {
             let applied = apply_lines(alloc, &mut docket, lines);
-            let files = docket.close().into_store().close();
+            let files = closed(docket);
             applied?;
             Ok(files)
         }
-        Err(fault) => {
-            ended(fault);
-            Err(anyhow!("no docket was found"))
-        }
+        Err(_) => Err(anyhow!("no docket was found")),
     }
 }
 
@@ -112,18 +143,12 @@ pub(super) fn found<D: Disk + Drop>(
     files: Files<D>,
     frames: usize,
 ) -> (Result<Vec<u8>, End>, Files<D>) {
-    if !files.may_be_used() {
-        return (Err(End::NotUsable), files);
-    }
-    match recover(alloc, files, options(frames)) {
+    match gone_on(alloc, files, frames) {
         Ok(mut docket) => {
             let told = told(alloc, &mut docket).map_err(|_| End::NotTold);
-            (told, docket.close().into_store().close())
+            (told, closed(docket))
         }
-        Err(fault) => {
-            let (end, files) = ended(fault);
-            (Err(end), files)
-        }
+        Err((end, files)) => (Err(end), files),
     }
 }
 
@@ -134,14 +159,8 @@ pub(super) fn given<D: Disk + Drop>(
     frames: usize,
     command: &Command,
 ) -> (Result<Result<Reply, Fault>, End>, Files<D>) {
-    if !files.may_be_used() {
-        return (Err(End::NotUsable), files);
-    }
-    match apply_again(alloc, files, options(frames), command) {
-        Ok((docket, answer)) => (Ok(answer), docket.close().into_store().close()),
-        Err(fault) => {
-            let (end, files) = ended(fault);
-            (Err(end), files)
-        }
+    match gone_on_with(alloc, files, frames, command) {
+        Ok((docket, answer)) => (Ok(answer), closed(docket)),
+        Err((end, files)) => (Err(end), files),
     }
 }

@@ -2,7 +2,7 @@
 //! run finds the docket of a prefix of its commands.
 use crate::disks::{Bytes, Fused, Stop, Tried, files_with, options};
 use crate::plays::{ZONE, eastern_court, vectors};
-use crate::stops::going_on::ended;
+use crate::stops::going_on::{End, ended};
 use crate::stops::stopping::{EACH, Stopping, Tally};
 use crate::stops::telling::{told, told_by_vectors};
 use crate::stops::trial::prepared;
@@ -12,7 +12,7 @@ use docket_command::{Command, Refusal, Reply};
 use docket_store::Docket;
 use docket_wire::{read_command, reply_text};
 use power_failure::{Reopened, reopen_after_power_failure};
-use sqlite::Alter;
+use sqlite::{Alter, Files};
 use std::alloc::Global;
 
 /// The commands of a session on a docket without any record in two files, and by the docket in vectors
@@ -80,39 +80,48 @@ fn told_once<S: Alter + Drop>(alloc: Global, docket: Docket<S>) -> Result<Vec<u8
     told
 }
 
+/// What the run after the session finds, or why it finds nothing.
+fn reopened<D: Tried>(alloc: Global, course: &Course, files: Files<D>) -> Result<Reopened<D>, End> {
+    if !files.may_be_used() {
+        return Err(End::NotUsable);
+    }
+    let commands = course.commands.as_slice();
+    match reopen_after_power_failure(alloc, files, options(course.frames), commands) {
+        Ok(found) => Ok(found),
+        Err(fault) => Err(ended(fault).0),
+    }
+}
+
+/// How many commands were acknowledged, if the run found the docket of those or of one more.
+fn acknowledged<D: Tried>(
+    alloc: Global,
+    course: &Course,
+    found: Reopened<D>,
+) -> Result<usize, Error> {
+    let Reopened {
+        replies,
+        stopped_at: _,
+        docket,
+    } = found;
+    let told = told_once(alloc, docket)?;
+    let answered = replies.len();
+    let is_prefix = course.is_told_after(answered, &told)
+        || course.is_told_after(answered.saturating_add(1), &told);
+    if is_prefix && course.is_answered(alloc, replies.as_slice())? {
+        Ok(answered)
+    } else {
+        Err(anyhow!("no prefix"))
+    }
+}
+
 /// Runs the session with a stop. How many commands were acknowledged, if the next run found the docket
 /// of those or of one more.
 fn stopped_once<D: Tried>(alloc: Global, course: &Course, stop: Stop) -> Result<usize, Error> {
     let files = files_with::<D>(alloc, &course.before, stop)?;
-    if !files.may_be_used() {
-        return Err(anyhow!("the disks may not be used"));
-    }
-    let commands = course.commands.as_slice();
-    match reopen_after_power_failure(alloc, files, options(course.frames), commands) {
-        Ok(
-            Reopened {
-                replies,
-                stopped_at: _,
-                docket,
-            },
-        ) => {
-            let told = told_once(alloc, docket)?;
-            let answered = replies.len();
-            let is_prefix = course.is_told_after(answered, &told)
-                || course.is_told_after(answered.saturating_add(1), &told);
-            if is_prefix && course.is_answered(alloc, replies.as_slice())? {
-                Ok(answered)
-            } else {
-                Err(anyhow!("no prefix"))
-            }
-        }
-        Err(fault) => {
-            if ended(fault).0.is_by_a_disk() {
-                Ok(0)
-            } else {
-                Err(anyhow!("not gone on"))
-            }
-        }
+    match reopened(alloc, course, files) {
+        Ok(found) => acknowledged(alloc, course, found),
+        Err(end) if end.is_by_a_disk() => Ok(0),
+        Err(_) => Err(anyhow!("not gone on")),
     }
 }
 
