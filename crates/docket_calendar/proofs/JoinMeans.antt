@@ -12,8 +12,7 @@ use Rattle.sqlite.specs.Listing.{understood, reads_listing}
 use Rattle.sqlite.specs.Given.{IsPlain}
 use Rattle.sqlite_tied.specs.Compute.{everything}
 use Rattle.docket_calendar.specs.Asked.{command_of}
-use Rattle.docket_tables.specs.Layouts.{places_of}
-use Rattle.docket_tables.specs.Schema.{docket_schema}
+use Rattle.docket_tables.specs.Schema.{docket_schema, places_of}
 use Rattle.docket_tables.specs.declared.table.Table.TheVariants.{Deadlines, Ends}
 use Rattle.docket_calendar.specs.Question.{question}
 

@@ -8,7 +8,7 @@ use Rattle.docket_core.specs.Histories.{deadlines_from}
 use Rattle.docket_core.specs.declared.row.ActRow.{ActRow}
 use Rattle.docket_core.specs.declared.row.DeadlineRow.{DeadlineRow}
 use Rattle.docket_core.specs.declared.view.DeadlineView.{DeadlineView}
-use Rattle.docket_tables.specs.Orderly.{RunsFrom, acts_on}
+use Rattle.docket_orderly.specs.Orderly.{RunsFrom, acts_on}
 use Rattle.docket_tables.proofs.CaseActs.{of_deadline}
 use Rattle.docket_changes.proofs.ViewLemmas.{shown_with, shown_more, number_at}
 

@@ -18,11 +18,11 @@ use Rattle.docket_core.specs.Records.{calendar}
 use Rattle.docket_core.specs.declared.row.Change.{Change}
 use Rattle.docket_command.specs.declared.refusal.Reply.{Reply}
 use Rattle.docket_wire.specs.Valid.{IsCommand}
-use Rattle.docket_tables.specs.Orderly.{IsCourtSettings, IsOrderly}
+use Rattle.docket_orderly.specs.Orderly.{IsCourtSettings, IsOrderly}
 use Rattle.docket_tables.specs.Contents.{ends_in_case}
 use Rattle.docket_changes.specs.Settling.{IsSettling, changes_calendar, case_moved}
-use Rattle.docket_tables.proofs.OrderlyLemmas.{orderly}
-use Rattle.docket_tables.proofs.OrderlyDeadlines.{MakesNothing, IsElsewhere, deadlines_kept, no_deadlines}
+use Rattle.docket_orderly.proofs.DocketLemmas.{orderly}
+use Rattle.docket_orderly.proofs.DeadlineLemmas.{MakesNothing, IsElsewhere, deadlines_kept, no_deadlines}
 use Rattle.docket_tables.proofs.StoredLemmas.{ends_of_all}
 use Rattle.docket_changes.proofs.RunningLemmas.{none_by_another}
 

@@ -17,7 +17,7 @@ use Rattle.docket_core.specs.declared.row.ActRow.{ActRow}
 use Rattle.docket_core.specs.declared.row.DeadlineRow.{DeadlineRow}
 use Rattle.docket_core.specs.declared.view.DeadlineView.{DeadlineView}
 use Rattle.docket_core.proofs.Leading.{length-deadlines_from}
-use Rattle.docket_tables.specs.Orderly.{RunsFrom}
+use Rattle.docket_orderly.specs.Orderly.{RunsFrom}
 use Rattle.docket_tables.specs.Readings.{row_at}
 
 abbrev pub shown_with : DeadlineRow → List Act → DeadlineView

@@ -11,7 +11,7 @@ use Rattle.docket_core.specs.Tables.{Tables}
 use Rattle.docket_core.specs.declared.end_row.EndRow.{EndRow}
 use Rattle.docket_core.specs.declared.end_row.EndTime.{EndTime}
 use Rattle.docket_tables.specs.Contents.{ends_in_case, ends_of}
-use Rattle.docket_tables.specs.Orderly.{IsOrderly}
+use Rattle.docket_orderly.specs.Orderly.{IsOrderly}
 use Rattle.docket_tables.proofs.StoredLemmas.{all_stored, ends_of_all}
 use Rattle.docket_changes.specs.Settling.{AreUntouched, IsUpdate, MayUpdate, settled_case, settled_cases, updated_ends}
 use Rattle.docket_changes.specs.declared.moving.EndUpdate.{EndUpdate}

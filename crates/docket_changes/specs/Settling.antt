@@ -11,7 +11,7 @@ use Rattle.docket_core.specs.declared.end_row.EndRow.{EndRow}
 use Rattle.docket_changes.specs.declared.moving.EndUpdate.{EndUpdate}
 use Rattle.docket_changes.specs.declared.moving.EndUpdate.TheVariants.{Moves, Calendar}
 use Rattle.docket_tables.specs.Contents.{AreStored, ends_in_case, ends_of}
-use Rattle.docket_tables.specs.Orderly.{IsOrderly}
+use Rattle.docket_orderly.specs.Orderly.{IsOrderly}
 
 -- the ends of case k are those, and the ends of other cases as they were
 abbrev pub settled_case : CourtSettings → Entered → Tables → ℕ → List EndRow → List EndRow

@@ -3,7 +3,7 @@ ghost use Rattle.std.specs.Prelude.{◌≡◌, ◌==◌, ◌<◌, ◌≤◌, ℕ
 ghost use Rattle.std.specs.List.Sorted.{IsNonDecreasingBy, IsPartitionPoint};
 ghost use Rattle.docket_core.specs.Histories.{deadlines_from, items_of};
 ghost use Rattle.docket_core.specs.declared.row.ActRow.{ActRow as OnDeadline};
-ghost use Rattle.docket_tables.specs.Orderly.{RunsFrom};
+ghost use Rattle.docket_orderly.specs.Orderly.{RunsFrom};
 ghost use Rattle.docket_tables.specs.Readings.{AreActsOf};
 
 use court_rules::Act;

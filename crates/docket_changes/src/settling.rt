@@ -10,7 +10,7 @@ ghost use Rattle.docket_core.specs.Histories.{deadlines_of_case, deadlines_from,
 ghost use Rattle.docket_core.specs.Tables.{Tables};
 ghost use Rattle.docket_core.specs.declared.end_row.EndRow.{EndRow as Ended};
 ghost use Rattle.docket_tables.specs.Contents.{AreStored, rows_with};
-ghost use Rattle.docket_tables.specs.Orderly.{IsOrderly};
+ghost use Rattle.docket_orderly.specs.Orderly.{IsOrderly};
 ghost use Rattle.docket_changes.specs.Settling.{RunsOnlyWhereStored, MayUpdate, settled_case, settled_cases, updated_ends};
 ghost use Rattle.docket_tables.specs.Stands.{Inside};
 

@@ -15,11 +15,13 @@ use crate::codes::{
     direction_number, direction_of, flag_number, flag_of, motion_number, motion_of, way_number,
     way_of,
 };
+use crate::stored::StoredRow;
 use court_days::Day;
 use court_rules::{Act, DayPeriod, HourPeriod, Period, Start};
 use docket_core::ActRow;
 use sqlite::Row;
 use sqlite::types::{ToSql, ValueRef};
+use std::alloc::{AllocError, Global};
 
 /// The unit that stands for hours.
 const HOURS: u32 = 3;
@@ -209,5 +211,18 @@ pub fn act_of(row: &Row) -> Option<ActRow>
         Some(found)
     } else {
         None
+    }
+}
+
+impl StoredRow for ActRow {
+    ghost use Rattle.docket_columns.specs.Cells.{act_cells};
+    ghost use Rattle.docket_columns.specs.Fits.{IsActRow};
+
+    ghost cells = { act_cells };
+
+    ghost Is = { IsActRow };
+
+    fn read(_alloc: Global, row: &Row) -> Result<Option<ActRow>, AllocError> {
+        Ok(act_of(row))
     }
 }

@@ -9,6 +9,7 @@ ghost use Rattle.docket_columns.specs.Fits.{IsItem, IsNameOf, IsCalendarRow};
 
 use crate::cell::{count_at, day_numbered, has_values, number_at, text_at};
 use crate::codes::{day_kind_number, day_kind_of};
+use crate::stored::StoredRow;
 use docket_command::{Moment, Text};
 use docket_core::{CalendarItem, CalendarRow};
 use sqlite::Row;
@@ -120,5 +121,18 @@ pub fn calendar_of(alloc: Global, row: &Row) -> Result<Option<CalendarRow>, Allo
         Ok(Some(found))
     } else {
         Ok(None)
+    }
+}
+
+impl StoredRow for CalendarRow {
+    ghost use Rattle.docket_columns.specs.Cells.{calendar_cells};
+    ghost use Rattle.docket_columns.specs.Fits.{IsCalendarRow};
+
+    ghost cells = { calendar_cells };
+
+    ghost Is = { IsCalendarRow };
+
+    fn read(alloc: Global, row: &Row) -> Result<Option<CalendarRow>, AllocError> {
+        calendar_of(alloc, row)
     }
 }

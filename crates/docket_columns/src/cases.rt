@@ -6,6 +6,7 @@ ghost use Rattle.docket_columns.specs.Cells.{case_cells};
 ghost use Rattle.docket_columns.specs.Fits.{IsCaseRow};
 
 use crate::cell::{count_at, day_at, has_values, text_at};
+use crate::stored::StoredRow;
 use docket_command::Text;
 use docket_core::CaseRow;
 use sqlite::Row;
@@ -52,5 +53,18 @@ pub fn case_of(alloc: Global, row: &Row) -> Result<Option<CaseRow>, AllocError>
         Ok(Some(found))
     } else {
         Ok(None)
+    }
+}
+
+impl StoredRow for CaseRow {
+    ghost use Rattle.docket_columns.specs.Cells.{case_cells};
+    ghost use Rattle.docket_columns.specs.Fits.{IsCaseRow};
+
+    ghost cells = { case_cells };
+
+    ghost Is = { IsCaseRow };
+
+    fn read(alloc: Global, row: &Row) -> Result<Option<CaseRow>, AllocError> {
+        case_of(alloc, row)
     }
 }

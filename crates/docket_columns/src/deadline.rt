@@ -12,10 +12,12 @@ ghost use Rattle.docket_columns.specs.Fits.{IsDeadlineRow};
 
 use crate::cell::{count_at, has_values, text_at};
 use crate::codes::{flag_number, flag_of};
+use crate::stored::StoredRow;
 use court_rules::Rule;
 use docket_core::DeadlineRow;
 use sqlite::Row;
 use sqlite::types::{ToSql, ValueRef};
+use std::alloc::{AllocError, Global};
 
 /// The columns of a deadline: case_no, number, party, rule, initial.
 pub fn deadline_values(row: &DeadlineRow) -> [ValueRef<'static>; 5]
@@ -38,7 +40,7 @@ fn rule_at(row: &Row, at: usize) -> Option<Rule>
 }
 
 /// The flag in a column.
-fn flag_at(row: &Row, at: usize) -> Option<bool>
+pub(crate) fn flag_at(row: &Row, at: usize) -> Option<bool>
     ensures { (flag : Bool) → column row.now at ≡ Int (pos (flag_number flag)) → result ≡ Some flag }
 {
     flag_of(count_at(row, at)?)
@@ -61,5 +63,18 @@ pub fn deadline_of(row: &Row) -> Option<DeadlineRow>
         Some(found)
     } else {
         None
+    }
+}
+
+impl StoredRow for DeadlineRow {
+    ghost use Rattle.docket_columns.specs.Cells.{deadline_cells};
+    ghost use Rattle.docket_columns.specs.Fits.{IsDeadlineRow};
+
+    ghost cells = { deadline_cells };
+
+    ghost Is = { IsDeadlineRow };
+
+    fn read(_alloc: Global, row: &Row) -> Result<Option<DeadlineRow>, AllocError> {
+        Ok(deadline_of(row))
     }
 }

@@ -6,9 +6,11 @@ ghost use Rattle.docket_columns.specs.Cells.{end_cells};
 ghost use Rattle.docket_columns.specs.Fits.{IsEndRow};
 
 use crate::cell::{count_at, has_values, number_at};
+use crate::stored::StoredRow;
 use docket_core::{EndRow, EndTime};
 use sqlite::Row;
 use sqlite::types::{ToSql, ValueRef};
+use std::alloc::{AllocError, Global};
 
 /// The columns of an end: case_no, deadline_no, day, moment.
 pub fn end_values(row: &EndRow) -> [ValueRef<'static>; 4]
@@ -40,5 +42,18 @@ pub fn end_of(row: &Row) -> Option<EndRow>
         Some(found)
     } else {
         None
+    }
+}
+
+impl StoredRow for EndRow {
+    ghost use Rattle.docket_columns.specs.Cells.{end_cells};
+    ghost use Rattle.docket_columns.specs.Fits.{IsEndRow};
+
+    ghost cells = { end_cells };
+
+    ghost Is = { IsEndRow };
+
+    fn read(_alloc: Global, row: &Row) -> Result<Option<EndRow>, AllocError> {
+        Ok(end_of(row))
     }
 }

@@ -6,6 +6,7 @@ ghost use Rattle.docket_columns.specs.Cells.{entry_cells};
 ghost use Rattle.docket_columns.specs.Fits.{IsEntryRow};
 
 use crate::cell::{count_at, day_at, has_values, text_at};
+use crate::stored::StoredRow;
 use docket_command::Text;
 use docket_core::EntryRow;
 use sqlite::Row;
@@ -52,5 +53,18 @@ pub fn entry_of(alloc: Global, row: &Row) -> Result<Option<EntryRow>, AllocError
         Ok(Some(found))
     } else {
         Ok(None)
+    }
+}
+
+impl StoredRow for EntryRow {
+    ghost use Rattle.docket_columns.specs.Cells.{entry_cells};
+    ghost use Rattle.docket_columns.specs.Fits.{IsEntryRow};
+
+    ghost cells = { entry_cells };
+
+    ghost Is = { IsEntryRow };
+
+    fn read(alloc: Global, row: &Row) -> Result<Option<EntryRow>, AllocError> {
+        entry_of(alloc, row)
     }
 }

@@ -12,6 +12,7 @@ mod end;
 mod entry;
 mod party;
 mod receipt;
+mod stored;
 
 pub use act::{act_of, act_values};
 pub use calendar::{calendar_of, calendar_values};
@@ -23,3 +24,4 @@ pub use end::{end_of, end_values};
 pub use entry::{entry_of, entry_values};
 pub use party::{party_of, party_values};
 pub use receipt::{kept_by, receipt_values, reply_of};
+pub use stored::StoredRow;

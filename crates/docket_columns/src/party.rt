@@ -11,6 +11,7 @@ ghost use Rattle.docket_columns.specs.Fits.{IsPartyRow};
 
 use crate::cell::{count_at, has_values, text_at};
 use crate::codes::{role_number, role_of};
+use crate::stored::StoredRow;
 use docket_command::{Role, Text};
 use docket_core::PartyRow;
 use sqlite::Row;
@@ -64,5 +65,18 @@ pub fn party_of(alloc: Global, row: &Row) -> Result<Option<PartyRow>, AllocError
         Ok(Some(found))
     } else {
         Ok(None)
+    }
+}
+
+impl StoredRow for PartyRow {
+    ghost use Rattle.docket_columns.specs.Cells.{party_cells};
+    ghost use Rattle.docket_columns.specs.Fits.{IsPartyRow};
+
+    ghost cells = { party_cells };
+
+    ghost Is = { IsPartyRow };
+
+    fn read(alloc: Global, row: &Row) -> Result<Option<PartyRow>, AllocError> {
+        party_of(alloc, row)
     }
 }

@@ -1,12 +1,11 @@
 -- The table of acts, behind those before it.
-use Rattle.std.proofs.Common.{◌≡◌, ◌∙◌, ◌<◌, ◌^◌, ℕ, List, ap, arith, length, map, subst}
-use Rattle.std.specs.List.{AllByRecursion}
+use Rattle.std.proofs.Common.{◌≡◌, ◌∙◌, ◌<◌, ◌^◌, ℕ, List, ap, arith, inr, length, map, subst, sym}
 use Rattle.sqlite.specs.State.{State, IsUnchanged}
 use Rattle.sqlite.proofs.Callers.{unchanged_then}
 use Rattle.court_days.specs.Court.{CourtSettings, zone_of}
 use Rattle.docket_core.specs.CalendarItems.{calendar_of}
 use Rattle.docket_core.specs.Histories.{items_of}
-use Rattle.docket_core.specs.declared.end_row.EndRow.{EndRow}
+use Rattle.docket_core.specs.declared.row.ActRow.{ActRow}
 use Rattle.docket_columns.specs.Cells.{act_cells}
 use Rattle.docket_columns.specs.Fits.{IsActRow}
 use Rattle.docket_sound.specs.Acts.{AreSoundActs, HasTakenActs}
@@ -17,39 +16,70 @@ use Rattle.docket_sound.specs.Standings.{counts_of_standings, standings_of}
 use Rattle.docket_sound.specs.declared.act.ActCheck.{ActCheck}
 use Rattle.docket_sound.specs.declared.standings.Standings.{Standings}
 use Rattle.docket_tables.specs.declared.table.Table.TheVariants as table
-use Rattle.docket_scan.specs.Holdings.{holdings_of}
-use Rattle.docket_scan.specs.Judging.{Holds, IsSoundIn, Rows, before}
+use Rattle.docket_scan.specs.Judging.{FailsAt, Holds, IsSoundIn, Rows, before}
+use Rattle.docket_scan.specs.Reading.{AreRead, Says, SaysEnds}
 use Rattle.docket_scan.specs.Records.{count_in}
 use Rattle.docket_scan.specs.Scans.{OfSoMany}
-use Rattle.docket_scan.specs.Taken.{ActContext, HasTakenActTable, act_context}
-use Rattle.docket_scan.specs.declared.holdings.Holdings.{Holdings}
-use Rattle.docket_scan.proofs.JudgingLemmas.{read_rows, so_many}
+use Rattle.docket_scan.specs.Taken.{ActContext, IsRead, act_context}
+use Rattle.docket_scan.specs.declared.fault.AdoptFault.TheVariants.{Damaged}
+use Rattle.docket_scan.specs.declared.reading.EndsRead.{EndsRead}
+use Rattle.docket_scan.specs.declared.reading.TablesRead.{TablesRead}
+use Rattle.docket_scan.proofs.CountLemmas.{counted}
+use Rattle.docket_scan.proofs.JudgingLemmas.{all_more, read_rows, so_many}
+use Rattle.docket_scan.proofs.RecordLemmas.{all_read}
 
 -- what the check of acts goes by, after the tables before them
 abbrev pub context_after : CourtSettings → Rows → ActContext
 context_after court r = (court, length r.cases, count_in (map deadline_key r.deadlines), calendar_of (items_of r.calendar))
 
-module _ (court : CourtSettings) (next : ℕ) (old mid new : State) (same : IsUnchanged old mid) (prev : Rows) (check : ActCheck) (n : ℕ)
-    (given : act_context check ≡ context_after court prev) (held : IsSoundIn table.Acts old (OfSoMany n (HasTakenActTable check))) where
+-- the check was made of what was read
+pub begun : (court : CourtSettings) (r : Rows) (read : TablesRead) (check : ActCheck) → Says table.Acts court r read
+    → check.court ≡ read.court → check.deadlines ≡ read.deadlines → check.calendar ≡ read.calendar → act_context check ≡ context_after court r
+begun court r read check said of_court of_deadlines of_calendar =
+    let keys = map deadline_key r.deadlines in
+    let sized : cases_of check.deadlines ≡ length r.cases = ap cases_of of_deadlines ∙ said.sized (omega (arith)) in
+    let counts : counts_of check.deadlines ≡ count_in keys = ap counts_of of_deadlines ∙ counted read.deadlines keys said.deadlines in
+    λ i. ((of_court ∙ said.court) i, sized i, counts i, (of_calendar ∙ said.calendar) i)
+
+module _ (court : CourtSettings) (next : ℕ) (first old new : State) (read : TablesRead) (prior : AreRead table.Acts first court next old (λ r. Says table.Acts court r read))
+    (check : ActCheck) (n : ℕ) (given : act_context check ≡ context_after court prior.rows) (later : IsUnchanged old new) (held : IsSoundIn table.Acts first (OfSoMany n (IsRead IsActRow act_cells (HasTakenActs check)))) where
+  abbrev acts : List ActRow
+  acts = held.3.1.records
+
   -- the acts that were taken are sound, and give the ends and the standings that are told
-  pub acts_told : (was : Holdings) (stand : Standings) (ends : List EndRow) → IsUnchanged mid new → AllByRecursion (Holds old court next prev) (before table.Acts) → n < 2 ^ 64
-      → was ≡ holdings_of court prev
-      → AreSoundActs check.court (cases_of check.deadlines) (counts_of check.deadlines) held.3.1.records
-      → ends ≡ dues_of (zone_of check.court) check.calendar held.3.1.records
-      → (length held.3.1.records < 2 ^ 64 → stand ≡ counts_of_standings (standings_of (zone_of check.court) check.calendar held.3.1.records))
-      → IsUnchanged old new × (r : Rows) × AllByRecursion (Holds old court next r) (before table.Acts) × Holds old court next r table.Acts
-      × ((ends ≡ dues_of (zone_of court) (calendar_of (items_of r.calendar)) r.acts) × (record was { standings = stand } ≡ holdings_of court r))
-  acts_told was stand ends later all limit counted sound due stands =
-      let acts = held.3.1.records in
-      let few : length acts < 2 ^ 64 = omega (arith, limit, so_many table.Acts old IsActRow act_cells (HasTakenActs check) n held) in
-      let stood = stands few ∙ ap (λ (k : ActContext). counts_of_standings (standings_of (zone_of k.0) k.3 acts)) given in (
-        unchanged_then old mid new same later,
-        record prev { acts = acts },
-        all,
-        read_rows table.Acts old IsActRow act_cells (HasTakenActs check) n held (AreSoundActs court (length prev.cases) (count_in (map deadline_key prev.deadlines)))
-            (subst (λ (k : ActContext). AreSoundActs k.0 k.1 k.2 acts) given sound),
-        (
-          due ∙ ap (λ (k : ActContext). dues_of (zone_of k.0) k.3 acts) given,
-          λ i. record (counted i) { standings = stood i },
-        ),
-      )
+  pub acts_told : (now : EndsRead) (stand : Standings) → now.held ≡ record read.held { standings = stand } → n < 2 ^ 64
+      → AreSoundActs check.court (cases_of check.deadlines) (counts_of check.deadlines) acts
+      → now.ends.items ≡ dues_of (zone_of check.court) check.calendar acts
+      → (length acts < 2 ^ 64 → stand ≡ counts_of_standings (standings_of (zone_of check.court) check.calendar acts))
+      → AreRead table.Receipts first court next new (λ r. SaysEnds court r now)
+  acts_told now stand kept limit sound due stands =
+      let few : length acts < 2 ^ 64 = omega (arith, limit, so_many table.Acts first IsActRow act_cells (HasTakenActs check) n held) in
+      let stood = stands few ∙ ap (λ (k : ActContext). counts_of_standings (standings_of (zone_of k.0) k.3 acts)) given in
+      let rows = record prior.rows { acts = acts } in
+      record {
+        same = unchanged_then first old new prior.same later;
+        rows = rows;
+        sound = all_more (Holds first court next rows) (before table.Acts) table.Acts prior.sound
+            (read_rows table.Acts first IsActRow act_cells (HasTakenActs check) n held (AreSoundActs court (length prior.rows.cases) (count_in (map deadline_key prior.rows.deadlines)))
+            (subst (λ (k : ActContext). AreSoundActs k.0 k.1 k.2 acts) given sound));
+        said = record {
+          ends = due ∙ ap (λ (k : ActContext). dues_of (zone_of k.0) k.3 acts) given;
+          held = kept ∙ (λ i. record (prior.said.held i) { standings = stood i });
+        };
+      }
+
+  -- or the table is unsound
+  pub acts_refused : (AreSoundActs check.court (cases_of check.deadlines) (counts_of check.deadlines) acts → ⊥) → FailsAt court next first new (Damaged table.Acts)
+  acts_refused never = (
+    tt,
+    λ opened. unchanged_then first old new prior.same later,
+    prior.rows,
+    prior.sound,
+    inr (inr (inr (
+      held.1,
+      held.2,
+      λ whole.
+          (let sound = all_read IsActRow act_cells (HasTakenActs check) (AreSoundActs court (length prior.rows.cases) (count_in (map deadline_key prior.rows.deadlines))) held.1 held.3.1 whole in
+          never (subst (λ (k : ActContext). AreSoundActs k.0 k.1 k.2 acts) (sym given) sound)),
+    ))),
+  )

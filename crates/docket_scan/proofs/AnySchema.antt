@@ -19,7 +19,7 @@ use Rattle.sqlite_resolve.specs.Program.{query, program, Shown}
 use Rattle.sqlite.specs.Effect.{is_query}
 use Rattle.sqlite.specs.Listing.{understood, reads_listing, listing_schema, if_select}
 use Rattle.sqlite_tied.specs.Compute.{everything}
-use Rattle.docket_scan.specs.Statements.{scan_text}
+use Rattle.docket_tables.specs.Texts.{scan_text}
 use Rattle.docket_tables.specs.declared.table.Table.{Table}
 use Rattle.docket_tables.specs.declared.table.Table.TheVariants as table
 
@@ -35,27 +35,13 @@ IsQueryText sql (Err e) = ⊥
 pub text_is_query : (t : Table) → IsQueryText (scan_text t) (first (scan_text t))
 unfolding everything
 text_is_query table.Court = (refl, refl, refl, refl)
-text_is_query table.Calendar = (refl, refl, refl, refl)
-text_is_query table.Cases = (refl, refl, refl, refl)
-text_is_query table.Parties = (refl, refl, refl, refl)
-text_is_query table.Entries = (refl, refl, refl, refl)
-text_is_query table.Deadlines = (refl, refl, refl, refl)
-text_is_query table.Acts = (refl, refl, refl, refl)
-text_is_query table.Receipts = (refl, refl, refl, refl)
-text_is_query table.Ends = (refl, refl, refl, refl)
+text_is_query t = (refl, refl, refl, refl)
 
 -- nor is it one on the listing of the schema
 pub text_lists_nothing : (t : Table) → if_select (compiled listing_schema (scan_text t)) ≡ Err NoSuchTable
 unfolding everything listing_schema
 text_lists_nothing table.Court = refl
-text_lists_nothing table.Calendar = refl
-text_lists_nothing table.Cases = refl
-text_lists_nothing table.Parties = refl
-text_lists_nothing table.Entries = refl
-text_lists_nothing table.Deadlines = refl
-text_lists_nothing table.Acts = refl
-text_lists_nothing table.Receipts = refl
-text_lists_nothing table.Ends = refl
+text_lists_nothing t = refl
 
 -- what such a text comes to under a schema that understands it: a query that writes nothing
 pub record IsPlainQuery (sql : List ℕ) (c : Compiled) : Type 0 where

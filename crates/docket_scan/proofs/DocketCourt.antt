@@ -22,7 +22,7 @@ use Rattle.docket_core.proofs.LimitsKept.{within_limits}
 use Rattle.docket_columns.specs.Cells.{court_cells}
 use Rattle.docket_wire.specs.Valid.{IsCommand}
 use Rattle.docket_tables.specs.Contents.{rows_in}
-use Rattle.docket_tables.specs.Orderly.{IsCourtSettings}
+use Rattle.docket_orderly.specs.Orderly.{IsCourtSettings}
 use Rattle.docket_tables.specs.Schema.{docket_schema}
 use Rattle.docket_tables.specs.Stands.{Shows, HoldsRows}
 use Rattle.docket_tables.specs.declared.table.Table.{Table}
@@ -31,7 +31,7 @@ use Rattle.docket_scan.specs.Courts.{AreMarked, IsCourtsRow, IsRowOf}
 use Rattle.docket_scan.specs.Dockets.{IsFoundOfDocket, IsToldOfDocket}
 use Rattle.docket_scan.specs.Finding.{HasCourtRow, IsDamaged, IsFirstUnsound, IsEmpty, IsNoDocket, IsOfOtherVersion, IsTaken}
 use Rattle.docket_scan.specs.Holdings.{holdings_of}
-use Rattle.docket_scan.specs.Judging.{IsBehindCourt, JudgedTo, StaysOpen}
+use Rattle.docket_scan.specs.Judging.{IsBehindCourt, JudgedAll, StaysOpen}
 use Rattle.docket_scan.specs.Scans.{AreRowsOf}
 use Rattle.docket_scan.specs.Shapes.{has_named, has_table}
 use Rattle.docket_scan.specs.declared.fault.AdoptFault.{AdoptFault}
@@ -132,9 +132,9 @@ docket_found g old new result clean taken court h settings zone is commands hold
     shows = (holds.1 clean).shows
 
     told : (found : CourtSettings) (next : ℕ) (judged : Result Holdings AdoptFault) → found ≡ court → next ≡ next_row h
-        → JudgedTo table.Ends found next s new (λ r held. held ≡ holdings_of found r) judged → IsToldOfDocket court h judged
+        → JudgedAll found next s new (λ r held. held ≡ holdings_of found r) judged → IsToldOfDocket court h judged
     told found next judged same numbered it =
-        docket_told g old new court next judged clean (subst (λ k. JudgedTo table.Ends k next s new (λ r held. held ≡ holdings_of k r) judged) same it) h is commands numbered holds
+        docket_told g old new court next judged clean (subst (λ k. JudgedAll k next s new (λ r held. held ≡ holdings_of k r) judged) same it) h is commands numbered holds
 
     behind : (t : Table) → IsBehindCourt t → StaysOpen s new → IsFirstUnsound t s → ⊥
     behind t is_behind stays (found, next, (row, has, row_of), r, all, unsound) =
@@ -142,21 +142,14 @@ docket_found g old new result clean taken court h settings zone is commands hold
 
     damaged : (t : Table) → StaysOpen s new → IsDamaged t s → ⊥
     damaged table.Court stays (row, has, current, other) = never_odd s court h settings zone is shows row has other
-    damaged table.Calendar stays cause = behind table.Calendar tt stays cause
-    damaged table.Cases stays cause = behind table.Cases tt stays cause
-    damaged table.Parties stays cause = behind table.Parties tt stays cause
-    damaged table.Entries stays cause = behind table.Entries tt stays cause
-    damaged table.Deadlines stays cause = behind table.Deadlines tt stays cause
-    damaged table.Acts stays cause = behind table.Acts tt stays cause
-    damaged table.Receipts stays cause = behind table.Receipts tt stays cause
-    damaged table.Ends stays cause = behind table.Ends tt stays cause
+    damaged t stays cause = behind t tt stays cause
 
     at : (r : Result FoundDocket AdoptFault) → IsTaken s new r → IsFoundOfDocket court h r
     at (Ok found) (same, r, sound, held) =
         let row_of = sound.has_court.2 in
         let is_court = court_told s court h settings zone is shows found.court sound.next_row sound.has_court.0 sound.has_court.1.1 row_of.same in
         let is_next = next_told s court h settings zone is shows found.court sound.next_row sound.has_court.0 sound.has_court.1.1 row_of.same in
-        (is_court, told found.court sound.next_row (Ok found.held) is_court is_next (same, r, sound.before, sound.ends, held))
+        (is_court, told found.court sound.next_row (Ok found.held) is_court is_next (same, r, sound.behind, held))
     at (Err Empty) (left, cause) = never_empty s court h settings zone is shows cause
     at (Err NotADocket) (left, cause) = never_another s court h settings zone is shows cause
     at (Err OtherVersion) (left, cause) = never_older s court h settings zone is shows cause

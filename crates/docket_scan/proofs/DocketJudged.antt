@@ -27,7 +27,7 @@ use Rattle.docket_tables.specs.declared.table.Table.{Table}
 use Rattle.docket_tables.specs.declared.table.Table.TheVariants as table
 use Rattle.docket_scan.specs.Dockets.{IsToldOfDocket, holdings_in, standings_in}
 use Rattle.docket_scan.specs.Holdings.{holdings_of}
-use Rattle.docket_scan.specs.Judging.{IsUnsoundIn, AreSoundBy, Holds, Rows, JudgedTo, before, cells_in}
+use Rattle.docket_scan.specs.Judging.{IsUnsoundIn, AreSoundBy, Holds, Rows, JudgedAll, before, behind_court, cells_in}
 use Rattle.docket_scan.specs.Records.{receipt_cells as stored_receipt_cells, ArePartyRows, AreEntryRows, AreDeadlineRows, AreActRows}
 use Rattle.docket_scan.specs.Scans.{AreRowsOf}
 use Rattle.docket_scan.specs.Shapes.{has_table}
@@ -67,6 +67,9 @@ module _ (s : State) (court : CourtSettings) (h : History) (is : IsHistory court
 
   abbrev Stand : Table → Type 0
   Stand t = AllByRecursion (Holds s court (next_row h) r) (before t)
+
+  abbrev AreSoundAll : Type 0
+  AreSoundAll = AllByRecursion (Holds s court (next_row h) r) behind_court
 
   abbrev IsUnsound : Table → Type 0
   IsUnsound t = IsUnsoundIn t s (AreSoundBy t court (next_row h) r)
@@ -114,12 +117,12 @@ module _ (s : State) (court : CourtSettings) (h : History) (is : IsHistory court
   never table.Receipts stand = never_unsound s all shows table.Receipts _ (receipts_sound court h is commands)
   never table.Ends stand = ends_never stand
 
-  standings_told : Stand table.Ends → (test : Standing → Bool) → count_by test (standings_of (zone_of court) (calendar_of (items_of r.calendar)) r.acts) ≡ count_by test (standings_in court h)
+  standings_told : AreSoundAll → (test : Standing → Bool) → count_by test (standings_of (zone_of court) (calendar_of (items_of r.calendar)) r.acts) ≡ count_by test (standings_in court h)
   standings_told stand test =
       ∥∥₁_elim (sorted table.Calendar stand.0.1) (Coded-set coded_ℕ _ _) (λ days.
       ∥∥₁_elim (sorted table.Acts stand.1.1.1.1.1.0.1) (Coded-set coded_ℕ _ _) (λ acts. standings_counted court h is test r.calendar r.acts days acts))
 
-  held_told : Stand table.Ends → holdings_of court r ≡ holdings_in court h
+  held_told : AreSoundAll → holdings_of court r ≡ holdings_in court h
   held_told stand = λ i. record {
     calendar_rows = counted table.Calendar calendar_cells calendar_cells (standing_rows h) r.calendar (sorted table.Calendar stand.0.1) i;
     cases = cases_told stand.1.0.1 i;
@@ -138,7 +141,7 @@ module _ (s : State) (court : CourtSettings) (h : History) (is : IsHistory court
 
 -- so the docket of a history is told to hold what the history has, and no table of it to be unsound
 pub docket_told : {S : Type 0} (g : Ghosts S) (old : Held S) (new : State) (court : CourtSettings) (next : ℕ) (result : Result Holdings AdoptFault)
-    → HasCleanDisk (state g old) → JudgedTo table.Ends court next (state g old) new (λ r held. held ≡ holdings_of court r) result
+    → HasCleanDisk (state g old) → JudgedAll court next (state g old) new (λ r held. held ≡ holdings_of court r) result
     → (h : History) → IsHistory court h → AllByRecursion IsCommand h → next ≡ next_row h → HoldsRows g old (rows_in court (rows_of court h))
     → IsToldOfDocket court h result
 docket_told g old new court next result clean told h is commands numbered holds = at result (subst (λ n. Told n result) numbered told)
@@ -147,10 +150,10 @@ docket_told g old new court next result clean told h is commands numbered holds 
     s = state g old
 
     Told : ℕ → Result Holdings AdoptFault → Type 0
-    Told n = JudgedTo table.Ends court n s new (λ r held. held ≡ holdings_of court r)
+    Told n = JudgedAll court n s new (λ r held. held ≡ holdings_of court r)
 
     at : (found : Result Holdings AdoptFault) → Told (next_row h) found → IsToldOfDocket court h found
-    at (Ok held) (same, r, stand, ends, says) = says ∙ held_told s court h is commands (holds.1 clean).shows r stand
+    at (Ok held) (same, r, stand, says) = says ∙ held_told s court h is commands (holds.1 clean).shows r stand
     at (Err (Damaged t)) (behind, stays, r, stand, unsound) = never s court h is commands (holds.1 clean).shows r t stand unsound
     at (Err NoMemory) fails = tt
     at (Err StoreFailed) fails = tt

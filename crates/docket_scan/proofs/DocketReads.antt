@@ -15,13 +15,13 @@ use Rattle.sqlite_resolve.specs.declared.compiled.Compiled.{Compiled}
 use Rattle.sqlite_schema.specs.declared.command.Command.TheVariants.{Select as Run}
 use Rattle.sqlite_trees.proofs.ListLemmas.{filter_all, all_of}
 use Rattle.docket_tables.specs.Holds.{cells}
-use Rattle.docket_tables.specs.Layouts.{Rows, AreRows, tree_of, places_of}
-use Rattle.docket_tables.specs.Schema.{docket_schema}
+use Rattle.docket_tables.specs.Layouts.{Rows, AreRows}
+use Rattle.docket_tables.specs.Schema.{docket_schema, tree_of, places_of}
 use Rattle.docket_tables.specs.declared.table.Table.{Table}
 use Rattle.docket_tables.proofs.SelectLemmas.{Answered, answers, answered_as, selects}
 use Rattle.docket_scan.specs.Scans.{IsUnderstood, IsUnreadable, AreRowsOf, AreFirstRowsOf}
 use Rattle.docket_scan.specs.Shapes.{columns_of}
-use Rattle.docket_scan.specs.Statements.{scan_text}
+use Rattle.docket_tables.specs.Texts.{scan_text}
 use Rattle.docket_scan.proofs.AnySchema.{understood_plain}
 use Rattle.docket_scan.proofs.DocketStatements.{program_of, command_is, means, never_refused, key_shown, upwards}
 

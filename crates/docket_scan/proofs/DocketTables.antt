@@ -31,10 +31,10 @@ use Rattle.docket_sound.proofs.SortedReceipts.{sorted_receipts}
 use Rattle.docket_sound.proofs.SortedRows.{sorted_calendar, sorted_cases, sorted_parties, party_counts, sorted_entries, sorted_deadlines, deadline_counts}
 use Rattle.docket_tables.specs.declared.table.Table.{Table}
 use Rattle.docket_tables.specs.declared.table.Table.TheVariants as table
-use Rattle.docket_tables.proofs.OrderlyActs.{acts_held}
-use Rattle.docket_tables.proofs.OrderlyCalendar.{calendar_held}
-use Rattle.docket_tables.proofs.OrderlyReceipts.{receipts_held}
-use Rattle.docket_tables.proofs.OrderlyRows.{cases_held, parties_held, entries_held, deadlines_held}
+use Rattle.docket_orderly.proofs.ActLemmas.{acts_held}
+use Rattle.docket_orderly.proofs.CalendarLemmas.{calendar_held}
+use Rattle.docket_orderly.proofs.ReceiptLemmas.{receipts_held}
+use Rattle.docket_orderly.proofs.RowLemmas.{cases_held, parties_held, entries_held, deadlines_held}
 use Rattle.docket_scan.specs.Records.{IsTable, IsStoredReceipt, receipt_cells as stored_receipt_cells, count_in, AreCalendarRows, AreCaseRows, ArePartyRows, AreEntryRows, AreDeadlineRows, AreActRows, AreReceiptRows, AreEndRows}
 use Rattle.docket_scan.specs.declared.receipt.StoredReceipt.{StoredReceipt}
 use Rattle.docket_scan.proofs.DocketCells.{party_keys, deadline_keys, calendar_items, act_rows_alike}

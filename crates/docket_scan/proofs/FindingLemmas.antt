@@ -1,5 +1,5 @@
 -- What the table of the court, and then the others, tell of a database.
-use Rattle.std.proofs.Common.{◌≡◌, ◌∙◌, ◌⊎◌, inl, inr, ℕ, List, [], ◌∷◌, Result, Ok, Err, true, IsErrAnd, refl, sym, ap, subst}
+use Rattle.std.proofs.Common.{◌≡◌, ◌∙◌, ◌⊎◌, inl, inr, ℕ, List, Result, Ok, Err, true, IsErrAnd, refl, sym, ap, subst}
 use Rattle.std.specs.List.{AllByRecursion}
 use Rattle.sqlite.specs.Effect.{Database}
 use Rattle.sqlite.specs.Order.{Row}
@@ -17,7 +17,7 @@ use Rattle.docket_tables.specs.declared.table.Table.TheVariants as table
 use Rattle.docket_scan.specs.Courts.{IsCourtsRow, record_of}
 use Rattle.docket_scan.specs.Finding.{AreSound, HasCourt, IsDamaged, IsNotTaken, IsTaken, ReadsCourt, court_fault}
 use Rattle.docket_scan.specs.Holdings.{holdings_of}
-use Rattle.docket_scan.specs.Judging.{AreSoundBy, FailsAt, Holds, IsBehindCourt, IsUnsoundIn, JudgedTo, Rows, StaysOpen, before}
+use Rattle.docket_scan.specs.Judging.{AreSoundBy, FailsAt, Holds, IsBehindCourt, IsUnsoundIn, JudgedAll, Rows, StaysOpen, before, behind_court}
 use Rattle.docket_scan.specs.Scans.{AreRowsOf, FailsToScan}
 use Rattle.docket_scan.specs.Shapes.{has_named, has_table}
 use Rattle.docket_scan.specs.Taken.{Finishes}
@@ -70,15 +70,14 @@ module _ (first old : State) (same : IsUnchanged first old) where
     judged_fault new StoreFailed left = (stays_then first old new same left, tt)
     judged_fault new _ never = absurd never
 
-    pub judged_sound : (new : State) (found : FoundDocket) → found.court ≡ court → JudgedTo table.Ends court next old new (λ r held. held ≡ holdings_of court r) (Ok found.held) → IsTaken first new (Ok found)
-    judged_sound new found is (still, r, all, ends, held) = (
+    pub judged_sound : (new : State) (found : FoundDocket) → found.court ≡ court → JudgedAll court next old new (λ r held. held ≡ holdings_of court r) (Ok found.held) → IsTaken first new (Ok found)
+    judged_sound new found is (still, r, all, held) = (
       unchanged_then first old new same still,
       r,
       subst (λ k. AreSound first k r) (sym is) (record {
         next_row = next;
         has_court = has;
-        before = holds_before court next r (before table.Ends) all;
-        ends = (holds_before court next r (table.Ends ∷ []) (ends, tt)).0;
+        behind = holds_before court next r behind_court all;
       }),
       held ∙ ap (λ k. holdings_of k r) (sym is),
     )

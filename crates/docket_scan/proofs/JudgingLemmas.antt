@@ -1,10 +1,10 @@
 -- Tables that are judged one after another.
-use Rattle.std.proofs.Common.{◌≡◌, ◌∙◌, inl, inr, ℕ, List, [], ◌∷◌, ◌++◌, map, length, Result, Ok, Err, true, IsErrAnd, ap, sym, subst, refl}
+use Rattle.std.proofs.Common.{◌≡◌, ◌∙◌, inl, inr, ℕ, List, [], ◌∷◌, ◌++◌, map, length, Result, Ok, Err, true, IfErr, IsErrAnd, ap, sym, subst, refl, rules}
 use Rattle.std.proofs.lemmas.List.{length-map}
 use Rattle.std.specs.List.{AllByRecursion}
 use Rattle.sqlite.specs.Effect.{Database}
 use Rattle.sqlite.specs.Order.{Row}
-use Rattle.sqlite.specs.State.{State, IsUnchanged}
+use Rattle.sqlite.specs.State.{State, IsUnchanged, Survives}
 use Rattle.sqlite.specs.declared.error.Error.{Error}
 use Rattle.sqlite.specs.declared.error.Error.TheVariants.{SqliteFailure, SqlInputError}
 use Rattle.sqlite.specs.declared.error.ErrorCode.TheVariants.{TypeMismatch, IntegerOverflow, OutOfMemory}
@@ -12,7 +12,7 @@ use Rattle.sqlite.proofs.Callers.{unchanged_then}
 use Rattle.court_days.specs.Court.{CourtSettings}
 use Rattle.docket_tables.specs.declared.table.Table.{Table}
 use Rattle.docket_tables.specs.declared.table.Table.TheVariants as table
-use Rattle.docket_scan.specs.Judging.{fault_in, IsSoundIn, IsUnsoundIn, IsTold, JudgedTo, FailsAt, Holds, IsBehindCourt, Rows, AreSoundBy, before}
+use Rattle.docket_scan.specs.Judging.{fault_in, IsSoundIn, IsUnsoundIn, IsTold, JudgedAll, FailsAt, Holds, IsBehindCourt, Rows, AreSoundBy, before}
 use Rattle.docket_scan.specs.Records.{IsTable}
 use Rattle.docket_scan.specs.Scans.{AreRowsOf, FailsToScan, OfSoMany}
 use Rattle.docket_scan.specs.Shapes.{has_table}
@@ -60,10 +60,15 @@ failed_first court next old new r AreSound StoreFailed is told = told
 failed_first court next old new r AreSound _ is told = absurd told
 
 -- a fault that is handed on
-pub handed : {X : Type 0} (t : Table) (court : CourtSettings) (next : ℕ) (old new : State) (says : Rows → X → Type 0) (r : Result X AdoptFault) (fault : AdoptFault)
-    → IsErrAnd r (λ f. f ≡ fault) → FailsAt court next old new fault → JudgedTo t court next old new says r
-handed t court next old new says (Ok x) fault same told = absurd same
-handed t court next old new says (Err f) fault same told = subst (FailsAt court next old new) (sym same) told
+pub handed : {X : Type 0} (r : Result X AdoptFault) (fault : AdoptFault) (Fails : AdoptFault → Type 0) → IsErrAnd r (λ f. f ≡ fault) → Fails fault → IfErr r Fails
+handed (Ok x) fault Fails same told = absurd same
+handed (Err f) fault Fails same told = subst Fails (sym same) told
+
+-- the same of what all tables come to
+pub told_of : {X : Type 0} (court : CourtSettings) (next : ℕ) (old new : State) (says : Rows → X → Type 0) (r : Result X AdoptFault) (fault : AdoptFault)
+    → IsErrAnd r (λ f. f ≡ fault) → FailsAt court next old new fault → JudgedAll court next old new says r
+told_of court next old new says (Ok x) fault same told = absurd same
+told_of court next old new says (Err f) fault same told = subst (FailsAt court next old new) (sym same) told
 
 -- the rows that were read stand in the table, and are sound; so many records they are
 module _ {R : Type 0} (t : Table) (s : State) (Is : R → Type 0) (cells : R → Row) (Has : List R → Type 0) (count : ℕ) (h : IsSoundIn t s (OfSoMany count (IsRead Is cells Has))) where
@@ -82,3 +87,7 @@ module _ {R : Type 0} (t : Table) (s : State) (Is : R → Type 0) (cells : R →
 pub all_more : (Is : Table → Type 0) (ts : List Table) (t : Table) → AllByRecursion Is ts → Is t → AllByRecursion Is (ts ++ t ∷ [])
 all_more Is [] t all is = (is, tt)
 all_more Is (u ∷ ts) t all is = (all.0, all_more Is ts t all.1 is)
+
+-- two steps, neither of which writes
+pub nothing_then : {a b c : State} → Survives a b (λ _. ⊥) → Survives b c (λ _. ⊥) → Survives a c (λ _. ⊥)
+nothing_then p q = search rules

@@ -20,7 +20,7 @@ use Rattle.sqlite_trees.specs.declared.error.StoreError.TheVariants as store
 use Rattle.sqlite.proofs.StateLemmas.{survives_weaker}
 use Rattle.sqlite.proofs.Callers.{unchanged_then}
 use Rattle.docket_scan.specs.Scans.{IsUnderstood, AreRowsOf, AreFirstRowsOf, IsUnreadable, is_refusal, FailsToScan, Scanned, StaysOrRollsBack}
-use Rattle.docket_scan.specs.Statements.{scan_text}
+use Rattle.docket_tables.specs.Texts.{scan_text}
 use Rattle.docket_tables.specs.declared.table.Table.{Table}
 use Rattle.docket_scan.proofs.AnySchema.{understood_plain}
 

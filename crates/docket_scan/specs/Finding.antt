@@ -12,14 +12,14 @@ use Rattle.docket_columns.specs.Fits.{IsCourtRow}
 use Rattle.docket_sound.specs.declared.court.CourtRecord.{CourtRecord}
 use Rattle.docket_scan.specs.Courts.{AreMarked, IsCourtsRow, IsRowOf, record_of}
 use Rattle.docket_scan.specs.Holdings.{holdings_of}
-use Rattle.docket_scan.specs.Judging.{AreSoundBy, Holds, HasUnsoundRows, IsUnsoundIn, Rows, StaysOpen, before}
+use Rattle.docket_scan.specs.Judging.{AreSoundBy, Holds, HasUnsoundRows, IsUnsoundIn, Rows, StaysOpen, before, behind_court}
 use Rattle.docket_scan.specs.Scans.{AreRowsOf, IsUnreadable, StaysOrRollsBack}
 use Rattle.docket_scan.specs.Shapes.{has_named, has_table}
 use Rattle.docket_scan.specs.declared.fault.AdoptFault.{AdoptFault}
 use Rattle.docket_scan.specs.declared.fault.AdoptFault.TheVariants.{Empty, NotADocket, OtherVersion, Damaged, NoMemory, StoreFailed}
 use Rattle.docket_scan.specs.declared.finding.FoundDocket.{FoundDocket}
 use Rattle.docket_tables.specs.declared.table.Table.{Table}
-use Rattle.docket_tables.specs.declared.table.Table.TheVariants.{Court, Ends}
+use Rattle.docket_tables.specs.declared.table.Table.TheVariants.{Court}
 
 abbrev pub court_fault : Error → AdoptFault
 court_fault (SqlInputError why) = Empty
@@ -63,8 +63,7 @@ IsDamaged t s = IsFirstUnsound t s
 pub record AreSound (s : State) (court : CourtSettings) (r : Rows) : Type 0 where
   pub next_row : ℕ
   pub has_court : HasCourt s court next_row
-  pub before : AllByRecursion (Holds s court next_row r) (before Ends)
-  pub ends : Holds s court next_row r Ends
+  pub behind : AllByRecursion (Holds s court next_row r) behind_court
 
 -- why it is not taken for a docket: the first cause, in the order of the faults
 abbrev pub HasCause : State → AdoptFault → Type 0

@@ -1,5 +1,5 @@
 -- What is told of the tables of any database, in their order.
-use Rattle.std.specs.Prelude.{◌≡◌, ◌⊎◌, ℕ, false, true, IsTrue, List, [], ◌∷◌, ◌++◌, length, map, Result, Ok, Err}
+use Rattle.std.specs.Prelude.{◌≡◌, ◌⊎◌, ℕ, false, true, IsTrue, List, [], ◌++◌, length, map, take, drop, Result, Ok, Err}
 use Rattle.std.specs.List.{AllByRecursion}
 use Rattle.sqlite.specs.Order.{Row}
 use Rattle.sqlite.specs.State.{State, IsUnchanged}
@@ -26,6 +26,7 @@ use Rattle.docket_scan.specs.Shapes.{has_table}
 use Rattle.docket_scan.specs.declared.fault.AdoptFault.{AdoptFault}
 use Rattle.docket_scan.specs.declared.fault.AdoptFault.TheVariants.{Damaged, NoMemory, StoreFailed}
 use Rattle.docket_scan.specs.declared.receipt.StoredReceipt.{StoredReceipt}
+use Rattle.docket_tables.specs.Tables.{layout_of, tables}
 use Rattle.docket_tables.specs.declared.table.Table.{Table}
 use Rattle.docket_tables.specs.declared.table.Table.TheVariants.{Court, Calendar, Cases, Parties, Entries, Deadlines, Acts, Receipts, Ends}
 
@@ -116,15 +117,7 @@ Holds s court next r t =
 
 -- the tables before one, in their order; that of the court is read before them all
 abbrev pub before : Table → List Table
-before Court = []
-before Calendar = []
-before Cases = Calendar ∷ []
-before Parties = Calendar ∷ Cases ∷ []
-before Entries = Calendar ∷ Cases ∷ Parties ∷ []
-before Deadlines = Calendar ∷ Cases ∷ Parties ∷ Entries ∷ []
-before Acts = Calendar ∷ Cases ∷ Parties ∷ Entries ∷ Deadlines ∷ []
-before Receipts = Calendar ∷ Cases ∷ Parties ∷ Entries ∷ Deadlines ∷ Acts ∷ []
-before Ends = Calendar ∷ Cases ∷ Parties ∷ Entries ∷ Deadlines ∷ Acts ∷ Receipts ∷ []
+before t = drop 1 (take (layout_of t).at tables)
 
 abbrev pub IsBehindCourt : Table → Type 0
 IsBehindCourt Court = ⊥
@@ -138,8 +131,12 @@ FailsAt court next old new NoMemory = StaysOrRollsBack old new
 FailsAt court next old new StoreFailed = StaysOrRollsBack old new
 FailsAt court next old new _ = ⊥
 
--- the tables hold these rows, up to that one
-abbrev pub JudgedTo : {X : Type 0} → Table → CourtSettings → ℕ → State → State → (Rows → X → Type 0) → Result X AdoptFault → Type 0
-JudgedTo t court next old new says (Ok x) =
-    IsUnchanged old new × (r : Rows) × AllByRecursion (Holds old court next r) (before t) × Holds old court next r t × says r x
-JudgedTo t court next old new says (Err fault) = FailsAt court next old new fault
+-- the tables behind the court's, in their order
+abbrev pub behind_court : List Table
+behind_court = drop 1 tables
+
+-- all of them are sound and hold these rows, or the first that is unsound is told
+abbrev pub JudgedAll : {X : Type 0} → CourtSettings → ℕ → State → State → (Rows → X → Type 0) → Result X AdoptFault → Type 0
+JudgedAll court next old new says (Ok x) =
+    IsUnchanged old new × (r : Rows) × AllByRecursion (Holds old court next r) behind_court × says r x
+JudgedAll court next old new says (Err fault) = FailsAt court next old new fault

@@ -3,9 +3,8 @@ pub mod Dockets
 pub mod Finding
 pub mod Holdings
 pub mod Judging
-pub mod Passing
+pub mod Reading
 pub mod Records
 pub mod Scans
 pub mod Shapes
-pub mod Statements
 pub mod Taken

@@ -9,7 +9,7 @@ use Rattle.sqlite.specs.State.{State, IsUnchanged, IsRolledBack}
 use Rattle.sqlite.specs.declared.error.Error.{Error}
 use Rattle.sqlite.specs.declared.error.Error.TheVariants.{SqliteFailure, SqlInputError}
 use Rattle.sqlite.specs.declared.error.ErrorCode.TheVariants.{TypeMismatch, IntegerOverflow}
-use Rattle.docket_scan.specs.Statements.{scan_text}
+use Rattle.docket_tables.specs.Texts.{scan_text}
 use Rattle.docket_tables.specs.declared.table.Table.{Table}
 
 -- the schema understands the statement of the table

@@ -4,28 +4,19 @@ use Rattle.sqlite.specs.Order.{Row}
 use Rattle.court_days.specs.Calendar.{Entered}
 use Rattle.court_days.specs.Court.{CourtSettings}
 use Rattle.docket_core.specs.declared.end_row.EndRow.{EndRow}
-use Rattle.docket_columns.specs.Cells.{HasWord, IsCurrent, court_cells, calendar_cells, case_cells, party_cells, entry_cells, deadline_cells, act_cells, end_cells}
-use Rattle.docket_columns.specs.Fits.{IsCourtRow, IsCalendarRow, IsCaseRow, IsPartyRow, IsEntryRow, IsDeadlineRow, IsActRow, IsEndRow}
-use Rattle.docket_sound.specs.Acts.{HasTakenActs}
-use Rattle.docket_sound.specs.Calendars.{HasTakenCalendarRows}
-use Rattle.docket_sound.specs.Cases.{HasTakenCases}
+use Rattle.docket_columns.specs.Cells.{HasWord, IsCurrent, court_cells}
+use Rattle.docket_columns.specs.Fits.{IsCourtRow}
 use Rattle.docket_sound.specs.Counted.{cases_of, counts_of}
-use Rattle.docket_sound.specs.Deadlines.{HasTakenDeadlines, deadlines_checked, parties_of}
-use Rattle.docket_sound.specs.Dues.{HasTakenDues}
-use Rattle.docket_sound.specs.Entries.{HasTakenEntries}
-use Rattle.docket_sound.specs.Parties.{HasTakenParties}
+use Rattle.docket_sound.specs.Deadlines.{deadlines_checked, parties_of}
 use Rattle.docket_sound.specs.Receipts.{HasTakenReceipts}
 use Rattle.docket_sound.specs.declared.act.ActCheck.{ActCheck}
 use Rattle.docket_sound.specs.declared.calendar.CalendarCheck.{CalendarCheck}
-use Rattle.docket_sound.specs.declared.cases.CaseCheck.{CaseCheck}
 use Rattle.docket_sound.specs.declared.court.CourtRecord.{CourtRecord}
 use Rattle.docket_sound.specs.declared.deadline.DeadlineCheck.{DeadlineCheck}
 use Rattle.docket_sound.specs.declared.due.DueCheck.{DueCheck}
-use Rattle.docket_sound.specs.declared.entry.EntryCheck.{EntryCheck}
-use Rattle.docket_sound.specs.declared.party.PartyCheck.{PartyCheck}
 use Rattle.docket_sound.specs.declared.receipt.ReceiptCheck.{ReceiptCheck}
 use Rattle.docket_scan.specs.Courts.{AreMarked, record_of}
-use Rattle.docket_scan.specs.Records.{AreRecords, IsStoredReceipt, receipt_cells}
+use Rattle.docket_scan.specs.Records.{AreRecords}
 use Rattle.docket_scan.specs.declared.court.CourtCheck.{CourtCheck}
 use Rattle.docket_scan.specs.declared.court.SeenRow.{SeenRow}
 use Rattle.docket_scan.specs.declared.fault.AdoptFault.{AdoptFault}
@@ -64,32 +55,8 @@ act_context check = (check.court, cases_of check.deadlines, counts_of check.dead
 abbrev pub ends_expected : DueCheck → List EndRow
 ends_expected check = check.expected.items
 
-abbrev pub HasTakenCalendarTable : CalendarCheck → List Row → Type 0
-HasTakenCalendarTable check = IsRead IsCalendarRow calendar_cells (HasTakenCalendarRows check)
-
-abbrev pub HasTakenCaseTable : CaseCheck → List Row → Type 0
-HasTakenCaseTable check = IsRead IsCaseRow case_cells (HasTakenCases check)
-
-abbrev pub HasTakenPartyTable : PartyCheck → List Row → Type 0
-HasTakenPartyTable check = IsRead IsPartyRow party_cells (HasTakenParties check)
-
-abbrev pub HasTakenEntryTable : EntryCheck → List Row → Type 0
-HasTakenEntryTable check = IsRead IsEntryRow entry_cells (HasTakenEntries check)
-
-abbrev pub HasTakenDeadlineTable : DeadlineCheck → List Row → Type 0
-HasTakenDeadlineTable check = IsRead IsDeadlineRow deadline_cells (HasTakenDeadlines check)
-
-abbrev pub HasTakenActTable : ActCheck → List Row → Type 0
-HasTakenActTable check = IsRead IsActRow act_cells (HasTakenActs check)
-
 abbrev pub HasTakenStored : ReceiptCheck → List StoredReceipt → Type 0
 HasTakenStored check records = HasTakenReceipts check (map (λ (r : StoredReceipt). r.receipt) records)
-
-abbrev pub HasTakenReceiptTable : ReceiptCheck → List Row → Type 0
-HasTakenReceiptTable check = IsRead IsStoredReceipt receipt_cells (HasTakenStored check)
-
-abbrev pub HasTakenEndTable : DueCheck → List Row → Type 0
-HasTakenEndTable check = IsRead IsEndRow end_cells (HasTakenDues check)
 
 -- no court has this row
 abbrev pub IsNoCourts : Row → Type 0

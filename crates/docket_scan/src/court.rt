@@ -4,6 +4,7 @@ ghost use Rattle.sqlite.specs.Order.{Row as Cells};
 ghost use Rattle.docket_scan.specs.Taken.{Finishes, HasTakenCourt, SaysCourtOf, Sees};
 
 use crate::fault::AdoptFault;
+use crate::taker::Taker;
 use docket_columns::{CourtRow, court_of, has_word, is_current};
 use docket_sound::CourtRecord;
 use docket_tables::Table;
@@ -90,5 +91,26 @@ impl CourtCheck {
             Some(seen) => seen.finish(),
             None => Err(AdoptFault::NotADocket),
         }
+    }
+}
+
+impl Taker for CourtCheck {
+    ghost use Rattle.docket_scan.specs.Courts.{AreMarked};
+    ghost use Rattle.docket_scan.specs.Taken.{HasTakenCourt};
+
+    ghost HasTaken = { HasTakenCourt };
+
+    ghost Context = { Unit {0} };
+
+    ghost context = { λ _. tt };
+
+    ghost IsSound = { λ _. AreMarked };
+
+    fn take(&mut self, alloc: Global, row: &Row) -> Result<bool, AllocError> {
+        if self.seen.is_some() {
+            return Ok(false);
+        }
+        self.seen = Some(look_at(alloc, row)?);
+        Ok(true)
     }
 }

@@ -2,8 +2,7 @@
 ghost use Rattle.std.specs.Prelude.{◌≡◌};
 ghost use Rattle.docket_scan.specs.Judging.{fault_in};
 
-use crate::shape::name_of;
-use docket_tables::Table;
+use docket_tables::{Table, table_name};
 use sqlite::{Error, ErrorCode};
 use std::alloc::AllocError;
 use std::fmt;
@@ -30,7 +29,11 @@ impl fmt::Display for AdoptFault {
             AdoptFault::Empty => f.write_str("the database holds no docket"),
             AdoptFault::NotADocket => f.write_str("the database is not that of a docket"),
             AdoptFault::OtherVersion => f.write_str("the docket is laid out in another version"),
-            AdoptFault::Damaged(table) => write!(f, "the table {} is not sound", name_of(*table)),
+            AdoptFault::Damaged(table) => write!(
+                f,
+                "the table {} is not sound",
+                table_name(*table)
+            ),
             AdoptFault::NoMemory => f.write_str("there is not enough memory"),
             AdoptFault::StoreFailed => f.write_str("the database failed"),
         }

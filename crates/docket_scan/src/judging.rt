@@ -1,214 +1,191 @@
 //! Which table of a database is the first that is unsound.
-ghost use Rattle.std.specs.Prelude.{◌≡◌, ◌↔◌, ◌<◌, ◌^◌, [], List, length, false, IfOk, IfSome, IsSome};
-ghost use Rattle.std.specs.List.{AllByRecursion};
-ghost use Rattle.sqlite.specs.Held.{state};
+ghost use Rattle.std.specs.Prelude.{◌≡◌, ◌↔◌, ◌<◌, ◌^◌, ℕ, [], List, length, false, IfErr, IfOk, IfSome, IsSome};
+ghost use Rattle.sqlite.specs.Held.{Held, state};
 ghost use Rattle.sqlite.specs.State.{HasCleanDisk, Survives};
-ghost use Rattle.docket_scan.specs.Judging.{IsSoundIn, Judged, JudgedTo};
-ghost use Rattle.court_days.specs.Court.{zone_of};
-ghost use Rattle.docket_core.specs.Histories.{History, next_row as next_number};
-ghost use Rattle.docket_core.specs.Outcomes.{IsHistory};
-ghost use Rattle.docket_core.specs.Tables.{rows_of};
+ghost use Rattle.court_days.specs.Court.{CourtSettings, zone_of};
 ghost use Rattle.docket_core.specs.declared.row.ActRow.{ActRow as OnDeadline};
 ghost use Rattle.docket_sound.specs.Acts.{AreSoundActs, HasTakenActs};
 ghost use Rattle.docket_sound.specs.Counted.{cases_of, counts_of};
 ghost use Rattle.docket_sound.specs.Dues.{dues_of};
 ghost use Rattle.docket_sound.specs.Standings.{counts_of_standings, standings_of};
-ghost use Rattle.docket_scan.specs.Dockets.{IsToldOfDocket};
 ghost use Rattle.docket_scan.specs.Holdings.{holdings_of};
-ghost use Rattle.docket_scan.specs.Passing.{SaysCalendar, SaysCases, SaysParties, SaysDeadlines, SaysEnds};
+ghost use Rattle.docket_scan.specs.Judging.{IsSoundIn, Judged, JudgedAll};
+ghost use Rattle.docket_scan.specs.Reading.{EndsBefore, FailsOver, ReadBefore};
+ghost use Rattle.docket_scan.specs.Records.{IsTable};
 ghost use Rattle.docket_scan.specs.Scans.{OfSoMany};
-ghost use Rattle.docket_tables.specs.Contents.{rows_in};
-ghost use Rattle.docket_tables.specs.Stands.{HoldsRows};
+ghost use Rattle.docket_scan.specs.Taken.{IsRead};
 ghost use Rattle.docket_tables.specs.declared.table.Table.TheVariants as table;
-ghost use Rattle.docket_wire.specs.Valid.{IsCommand};
 
+use crate::check::RecordCheck;
 use crate::fault::{AdoptFault, fault_in};
 use crate::holdings::Holdings;
-use crate::passing::{CalendarRead, CasesRead, DeadlinesRead, EndsRead, PartiesRead};
+use crate::reading::{EndsRead, TablesRead};
 use crate::scan::scan;
 use crate::shape::has_table;
-use crate::taker::Taker;
+use crate::taker::Records;
 use crate::watch::Watch;
 use court_days::Court;
 use docket_core::EndRow;
 use docket_sound::{
-    ActCheck, CalendarCheck, CaseCheck, DeadlineCheck, DueCheck, EntryCheck, Numbering, PartyCheck,
+    ActCheck, CalendarCheck, CaseCheck, DeadlineCheck, DueCheck, EntryCheck, PartyCheck,
     ReceiptCheck, Standings,
 };
 use docket_tables::Table;
 use sqlite::{Alter, Connection};
 use std::alloc::{AllocError, Global};
 
-/// Has the check take the rows of its table, if the table is there. How many they are.
-fn judge<S: Alter, C: Taker, W: Watch>(
+/// Has the check take the rows of its table, if the table is there. The check then, and how many rows
+/// it took.
+fn judge<S: Alter, C: RecordCheck, W: Watch>(
     conn: &mut Connection<S>,
     alloc: Global,
     table: Table,
-    check: &mut C,
+    check: C,
     watch: &mut W,
-) -> Result<u64, AdoptFault>
+) -> Result<(C, u64), AdoptFault>
     ensures writes_nothing { Survives (state S.Store conn.old) (state S.Store conn.new) (λ _. ⊥) }
     ensures mode { conn.old.in_transaction ≡ false → conn.new.in_transaction ≡ false }
-    ensures context { C.context check.new ≡ C.context check.old }
-    ensures limit { IfOk result (λ count. count < 2 ^ 64) }
-    ensures told { HasCleanDisk (state S.Store conn.new) → C.HasTaken check.old []
-        → Judged table (state S.Store conn.old) (state S.Store conn.new) (λ count. IsSoundIn table (state S.Store conn.old) (OfSoMany count (C.HasTaken check.new)))
-        (C.IsSound (C.context check.old)) result }
+    ensures context { IfOk result (λ taken. C.context taken.0 ≡ C.context check) }
+    ensures limit { IfOk result (λ taken. taken.1 < 2 ^ 64) }
+    ensures told { HasCleanDisk (state S.Store conn.new) → C.HasTaken check []
+        → Judged table (state S.Store conn.old) (state S.Store conn.new)
+        (λ taken. IsSoundIn table (state S.Store conn.old) (OfSoMany taken.1 (IsRead C.Record.Is C.Record.cells (C.HasTaken taken.0))))
+        (IsTable C.Record.Is C.Record.cells (C.AreSound (C.context check))) result }
 {
     if !has_table(conn.schema(), table) {
         return Err(AdoptFault::Damaged(table));
     }
-    match scan(conn, alloc, table, check, watch) {
-        Ok(Some(count)) => Ok(count),
+    let mut taker = Records { check };
+    match scan(conn, alloc, table, &mut taker, watch) {
+        Ok(Some(count)) => Ok((taker.check, count)),
         Ok(None) => Err(AdoptFault::Damaged(table)),
         Err(error) => Err(fault_in(table, error)),
     }
 }
 
-/// Judges the table of the calendar.
+/// Judges the table of the calendar, the first.
 fn judge_calendar<S: Alter, W: Watch>(
     conn: &mut Connection<S>,
     alloc: Global,
     court: Court,
     next_row: u64,
     watch: &mut W,
-) -> Result<CalendarRead, AdoptFault>
+) -> Result<TablesRead, AdoptFault>
     ensures writes_nothing { Survives (state S.Store conn.old) (state S.Store conn.new) (λ _. ⊥) }
     ensures mode { conn.old.in_transaction ≡ false → conn.new.in_transaction ≡ false }
-    ensures told { HasCleanDisk (state S.Store conn.new)
-        → JudgedTo table.Calendar court next_row (state S.Store conn.old) (state S.Store conn.new) (SaysCalendar court) result }
+    ensures ok { IfOk result (ReadBefore table.Cases (state S.Store conn.old) court next_row (state S.Store conn.new)) }
+    ensures err { IfErr result (FailsOver (state S.Store conn.old) court next_row (state S.Store conn.new)) }
 {
-    let mut check = CalendarCheck::new(alloc, court, next_row);
-    let count = judge(conn, alloc, Table::Calendar, &mut check, watch)?;
+    let check = CalendarCheck::new(alloc, court, next_row);
+    let (check, count) = judge(conn, alloc, Table::Calendar, check, watch)?;
     let (court, calendar) = check.finish();
-    Ok(CalendarRead {
-        court,
-        calendar,
-        held: Holdings {
-            calendar_rows: count,
-            ..Holdings::none()
-        },
-    })
+    let read = TablesRead::begin(alloc, court, calendar, count)?;
+    Ok(read)
 }
 
-/// Judges the tables up to that of cases.
+/// Judges the table of cases.
 fn judge_cases<S: Alter, W: Watch>(
     conn: &mut Connection<S>,
     alloc: Global,
-    court: Court,
-    next_row: u64,
+    read: TablesRead,
     watch: &mut W,
-) -> Result<CasesRead, AdoptFault>
+) -> Result<TablesRead, AdoptFault>
     ensures writes_nothing { Survives (state S.Store conn.old) (state S.Store conn.new) (λ _. ⊥) }
     ensures mode { conn.old.in_transaction ≡ false → conn.new.in_transaction ≡ false }
-    ensures told { HasCleanDisk (state S.Store conn.new)
-        → JudgedTo table.Cases court next_row (state S.Store conn.old) (state S.Store conn.new) (SaysCases court) result }
+    ensures ok { (first : Held S) (court : CourtSettings) (next : ℕ) → ReadBefore table.Cases (state S.Store first) court next (state S.Store conn.old) read
+        → IfOk result (λ now. ReadBefore table.Parties (state S.Store first) court next (state S.Store conn.new) now) }
+    ensures err { (first : Held S) (court : CourtSettings) (next : ℕ) → ReadBefore table.Cases (state S.Store first) court next (state S.Store conn.old) read
+        → IfErr result (FailsOver (state S.Store first) court next (state S.Store conn.new)) }
 {
-    let CalendarRead {
-        court,
-        calendar,
+    let check = CaseCheck::new(alloc);
+    let (check, count) = judge(conn, alloc, Table::Cases, check, watch)?;
+    let held = Holdings {
+        cases: count,
+        ..read.held
+    };
+    Ok(TablesRead {
+        cases: check.cases(),
         held,
-    } = judge_calendar(conn, alloc, court, next_row, watch)?;
-    let mut check = CaseCheck::new(alloc);
-    let count = judge(conn, alloc, Table::Cases, &mut check, watch)?;
-    let cases = check.cases();
-    Ok(CasesRead {
-        court,
-        calendar,
-        cases,
-        held: Holdings {
-            cases: count,
-            ..held
-        },
+        ..read
     })
 }
 
-/// Judges the tables up to that of parties.
+/// Judges the table of parties.
 fn judge_parties<S: Alter, W: Watch>(
     conn: &mut Connection<S>,
     alloc: Global,
-    court: Court,
-    next_row: u64,
+    read: TablesRead,
     watch: &mut W,
-) -> Result<PartiesRead, AdoptFault>
+) -> Result<TablesRead, AdoptFault>
     ensures writes_nothing { Survives (state S.Store conn.old) (state S.Store conn.new) (λ _. ⊥) }
     ensures mode { conn.old.in_transaction ≡ false → conn.new.in_transaction ≡ false }
-    ensures told { HasCleanDisk (state S.Store conn.new)
-        → JudgedTo table.Parties court next_row (state S.Store conn.old) (state S.Store conn.new) (SaysParties court) result }
+    ensures ok { (first : Held S) (court : CourtSettings) (next : ℕ) → ReadBefore table.Parties (state S.Store first) court next (state S.Store conn.old) read
+        → IfOk result (λ now. ReadBefore table.Entries (state S.Store first) court next (state S.Store conn.new) now) }
+    ensures err { (first : Held S) (court : CourtSettings) (next : ℕ) → ReadBefore table.Parties (state S.Store first) court next (state S.Store conn.old) read
+        → IfErr result (FailsOver (state S.Store first) court next (state S.Store conn.new)) }
 {
-    let CasesRead {
-        court,
-        calendar,
-        cases,
-        held,
-    } = judge_cases(conn, alloc, court, next_row, watch)?;
-    let mut check = PartyCheck::new(alloc, cases)?;
-    let count = judge(conn, alloc, Table::Parties, &mut check, watch)?;
-    Ok(PartiesRead {
-        court,
-        calendar,
-        cases,
+    let check = PartyCheck::new(alloc, read.cases)?;
+    let (check, count) = judge(conn, alloc, Table::Parties, check, watch)?;
+    let held = Holdings {
+        parties: count,
+        ..read.held
+    };
+    Ok(TablesRead {
         parties: check.counts(),
-        held: Holdings {
-            parties: count,
-            ..held
-        },
+        held,
+        ..read
     })
 }
 
-/// Judges the tables up to that of entries.
+/// Judges the table of entries.
 fn judge_entries<S: Alter, W: Watch>(
     conn: &mut Connection<S>,
     alloc: Global,
-    court: Court,
-    next_row: u64,
+    read: TablesRead,
     watch: &mut W,
-) -> Result<PartiesRead, AdoptFault>
+) -> Result<TablesRead, AdoptFault>
     ensures writes_nothing { Survives (state S.Store conn.old) (state S.Store conn.new) (λ _. ⊥) }
     ensures mode { conn.old.in_transaction ≡ false → conn.new.in_transaction ≡ false }
-    ensures told { HasCleanDisk (state S.Store conn.new)
-        → JudgedTo table.Entries court next_row (state S.Store conn.old) (state S.Store conn.new) (SaysParties court) result }
+    ensures ok { (first : Held S) (court : CourtSettings) (next : ℕ) → ReadBefore table.Entries (state S.Store first) court next (state S.Store conn.old) read
+        → IfOk result (λ now. ReadBefore table.Deadlines (state S.Store first) court next (state S.Store conn.new) now) }
+    ensures err { (first : Held S) (court : CourtSettings) (next : ℕ) → ReadBefore table.Entries (state S.Store first) court next (state S.Store conn.old) read
+        → IfErr result (FailsOver (state S.Store first) court next (state S.Store conn.new)) }
 {
-    let read = judge_parties(conn, alloc, court, next_row, watch)?;
-    let mut check = EntryCheck::new(alloc, read.cases)?;
-    let count = judge(conn, alloc, Table::Entries, &mut check, watch)?;
+    let check = EntryCheck::new(alloc, read.cases)?;
+    let (_, count) = judge(conn, alloc, Table::Entries, check, watch)?;
     let held = Holdings {
         entries: count,
         ..read.held
     };
-    Ok(PartiesRead { held, ..read })
+    Ok(TablesRead { held, ..read })
 }
 
-/// Judges the tables up to that of deadlines.
+/// Judges the table of deadlines.
 fn judge_deadlines<S: Alter, W: Watch>(
     conn: &mut Connection<S>,
     alloc: Global,
-    court: Court,
-    next_row: u64,
+    read: TablesRead,
     watch: &mut W,
-) -> Result<DeadlinesRead, AdoptFault>
+) -> Result<TablesRead, AdoptFault>
     ensures writes_nothing { Survives (state S.Store conn.old) (state S.Store conn.new) (λ _. ⊥) }
     ensures mode { conn.old.in_transaction ≡ false → conn.new.in_transaction ≡ false }
-    ensures told { HasCleanDisk (state S.Store conn.new)
-        → JudgedTo table.Deadlines court next_row (state S.Store conn.old) (state S.Store conn.new) (SaysDeadlines court) result }
+    ensures ok { (first : Held S) (court : CourtSettings) (next : ℕ) → ReadBefore table.Deadlines (state S.Store first) court next (state S.Store conn.old) read
+        → IfOk result (λ now. ReadBefore table.Acts (state S.Store first) court next (state S.Store conn.new) now) }
+    ensures err { (first : Held S) (court : CourtSettings) (next : ℕ) → ReadBefore table.Deadlines (state S.Store first) court next (state S.Store conn.old) read
+        → IfErr result (FailsOver (state S.Store first) court next (state S.Store conn.new)) }
 {
-    let PartiesRead {
-        court,
-        calendar,
-        cases,
+    let check = DeadlineCheck::new(alloc, read.cases, read.parties)?;
+    let (check, count) = judge(conn, alloc, Table::Deadlines, check, watch)?;
+    let (parties, deadlines) = check.finish();
+    let held = Holdings {
+        deadlines: count,
+        ..read.held
+    };
+    Ok(TablesRead {
         parties,
+        deadlines,
         held,
-    } = judge_entries(conn, alloc, court, next_row, watch)?;
-    let mut check = DeadlineCheck::new(alloc, cases, parties)?;
-    let count = judge(conn, alloc, Table::Deadlines, &mut check, watch)?;
-    Ok(DeadlinesRead {
-        court,
-        calendar,
-        deadlines: check.counts(),
-        held: Holdings {
-            deadlines: count,
-            ..held
-        },
+        ..read
     })
 }
 
@@ -231,28 +208,30 @@ fn finish(check: ActCheck) -> Result<Option<(Vec<EndRow>, Standings)>, AllocErro
     }
 }
 
-/// Judges the tables up to that of acts. Gives the ends of the deadlines whose time runs, by their acts
-/// and the whole calendar.
+/// Judges the table of acts. Gives the ends of the deadlines whose time runs, by their acts and the whole
+/// calendar.
 fn judge_acts<S: Alter, W: Watch>(
     conn: &mut Connection<S>,
     alloc: Global,
-    court: Court,
-    next_row: u64,
+    read: TablesRead,
     watch: &mut W,
 ) -> Result<EndsRead, AdoptFault>
     ensures writes_nothing { Survives (state S.Store conn.old) (state S.Store conn.new) (λ _. ⊥) }
     ensures mode { conn.old.in_transaction ≡ false → conn.new.in_transaction ≡ false }
-    ensures told { HasCleanDisk (state S.Store conn.new)
-        → JudgedTo table.Acts court next_row (state S.Store conn.old) (state S.Store conn.new) (SaysEnds court) result }
+    ensures ok { (first : Held S) (court : CourtSettings) (next : ℕ) → ReadBefore table.Acts (state S.Store first) court next (state S.Store conn.old) read
+        → IfOk result (λ now. EndsBefore table.Receipts (state S.Store first) court next (state S.Store conn.new) now) }
+    ensures err { (first : Held S) (court : CourtSettings) (next : ℕ) → ReadBefore table.Acts (state S.Store first) court next (state S.Store conn.old) read
+        → IfErr result (FailsOver (state S.Store first) court next (state S.Store conn.new)) }
 {
-    let DeadlinesRead {
+    let TablesRead {
         court,
         calendar,
         deadlines,
         held,
-    } = judge_deadlines(conn, alloc, court, next_row, watch)?;
-    let mut check = ActCheck::new(alloc, court, calendar, deadlines)?;
-    judge(conn, alloc, Table::Acts, &mut check, watch)?;
+        ..
+    } = read;
+    let check = ActCheck::new(alloc, court, calendar, deadlines)?;
+    let (check, _) = judge(conn, alloc, Table::Acts, check, watch)?;
     match finish(check)? {
         Some((ends, standings)) => Ok(EndsRead {
             ends,
@@ -262,36 +241,52 @@ fn judge_acts<S: Alter, W: Watch>(
     }
 }
 
-/// Judges the tables up to that of receipts. Gives the same ends.
+/// Judges the table of receipts.
 fn judge_receipts<S: Alter, W: Watch>(
     conn: &mut Connection<S>,
     alloc: Global,
-    court: Court,
-    next_row: u64,
+    read: EndsRead,
     watch: &mut W,
 ) -> Result<EndsRead, AdoptFault>
     ensures writes_nothing { Survives (state S.Store conn.old) (state S.Store conn.new) (λ _. ⊥) }
     ensures mode { conn.old.in_transaction ≡ false → conn.new.in_transaction ≡ false }
-    ensures told { HasCleanDisk (state S.Store conn.new)
-        → JudgedTo table.Receipts court next_row (state S.Store conn.old) (state S.Store conn.new) (SaysEnds court) result }
+    ensures ok { (first : Held S) (court : CourtSettings) (next : ℕ) → EndsBefore table.Receipts (state S.Store first) court next (state S.Store conn.old) read
+        → IfOk result (λ now. EndsBefore table.Ends (state S.Store first) court next (state S.Store conn.new) now) }
+    ensures err { (first : Held S) (court : CourtSettings) (next : ℕ) → EndsBefore table.Receipts (state S.Store first) court next (state S.Store conn.old) read
+        → IfErr result (FailsOver (state S.Store first) court next (state S.Store conn.new)) }
 {
-    let EndsRead { ends, held } = judge_acts(conn, alloc, court, next_row, watch)?;
-    let mut check = ReceiptCheck::new();
-    let count = judge(conn, alloc, Table::Receipts, &mut check, watch)?;
-    Ok(EndsRead {
-        ends,
-        held: Holdings {
-            receipts: count,
-            ..held
-        },
-    })
+    let (_, count) = judge(conn, alloc, Table::Receipts, ReceiptCheck::new(), watch)?;
+    let held = Holdings {
+        receipts: count,
+        ..read.held
+    };
+    Ok(EndsRead { held, ..read })
+}
+
+/// Judges the table of ends, the last. How much the tables hold.
+fn judge_ends<S: Alter, W: Watch>(
+    conn: &mut Connection<S>,
+    alloc: Global,
+    read: EndsRead,
+    watch: &mut W,
+) -> Result<Holdings, AdoptFault>
+    ensures writes_nothing { Survives (state S.Store conn.old) (state S.Store conn.new) (λ _. ⊥) }
+    ensures mode { conn.old.in_transaction ≡ false → conn.new.in_transaction ≡ false }
+    ensures told { (first : Held S) (court : CourtSettings) (next : ℕ) → EndsBefore table.Ends (state S.Store first) court next (state S.Store conn.old) read
+        → HasCleanDisk (state S.Store conn.new) → JudgedAll court next (state S.Store first) (state S.Store conn.new) (λ r held. held ≡ holdings_of court r) result }
+{
+    let (check, _) = judge(conn, alloc, Table::Ends, DueCheck::new(read.ends), watch)?;
+    if check.is_sound() {
+        Ok(read.held)
+    } else {
+        Err(AdoptFault::Damaged(Table::Ends))
+    }
 }
 
 /// Judges the tables of a court's docket, but for that of the court itself, which says that the next row
 /// of the calendar has that number. Tells how much they hold. An error tells the first of them, in their
 /// order, that is missing, lacks a column, can't be read or is unsound by those before it; want of memory
-/// and a failure of the database may come at any point. Of the docket of a history no table is told to be
-/// unsound, and what is told is what the history has. Nothing is written.
+/// and a failure of the database may come at any point. Nothing is written.
 pub(crate) fn judge_tables<S: Alter, W: Watch>(
     conn: &mut Connection<S>,
     alloc: Global,
@@ -302,17 +297,14 @@ pub(crate) fn judge_tables<S: Alter, W: Watch>(
     ensures writes_nothing { Survives (state S.Store conn.old) (state S.Store conn.new) (λ _. ⊥) }
     ensures mode { conn.old.in_transaction ≡ false → conn.new.in_transaction ≡ false }
     ensures told { HasCleanDisk (state S.Store conn.new)
-        → JudgedTo table.Ends court next_row (state S.Store conn.old) (state S.Store conn.new) (λ r held. held ≡ holdings_of court r) result }
-    ensures docket { HasCleanDisk (state S.Store conn.new)
-        → (h : History) → IsHistory court h → AllByRecursion IsCommand h → next_row ≡ next_number h
-        → HoldsRows S.Store conn.old (rows_in court (rows_of court h)) → IsToldOfDocket court h result }
+        → JudgedAll court next_row (state S.Store conn.old) (state S.Store conn.new) (λ r held. held ≡ holdings_of court r) result }
 {
-    let EndsRead { ends, held } = judge_receipts(conn, alloc, court, next_row, watch)?;
-    let mut check = DueCheck::new(ends);
-    judge(conn, alloc, Table::Ends, &mut check, watch)?;
-    if check.is_sound() {
-        Ok(held)
-    } else {
-        Err(AdoptFault::Damaged(Table::Ends))
-    }
+    let read = judge_calendar(conn, alloc, court, next_row, watch)?;
+    let read = judge_cases(conn, alloc, read, watch)?;
+    let read = judge_parties(conn, alloc, read, watch)?;
+    let read = judge_entries(conn, alloc, read, watch)?;
+    let read = judge_deadlines(conn, alloc, read, watch)?;
+    let read = judge_acts(conn, alloc, read, watch)?;
+    let read = judge_receipts(conn, alloc, read, watch)?;
+    judge_ends(conn, alloc, read, watch)
 }

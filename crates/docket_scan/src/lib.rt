@@ -7,17 +7,17 @@
 //! by those before it. It writes nothing. A docket of this program is found as it is.
 #![tactic(auto)]
 
+mod check;
+mod checks;
 mod court;
 mod fault;
 mod finding;
 mod holdings;
 mod judging;
-mod passing;
+mod reading;
 mod receipt;
 mod scan;
 mod shape;
-mod statement;
-mod tables;
 mod taker;
 mod watch;
 
@@ -26,5 +26,4 @@ pub use finding::{FoundDocket, find_docket};
 pub use holdings::Holdings;
 pub use receipt::StoredReceipt;
 pub use shape::{has_named, has_table};
-pub use statement::scan_text;
 pub use watch::{Unwatched, Watch};

@@ -6,7 +6,7 @@ ghost use Rattle.sqlite_value.specs.declared.value.Value.TheVariants.{Text as Wo
 ghost use Rattle.docket_scan.specs.Records.{IsStoredReceipt, receipt_cells};
 ghost use Rattle.docket_scan.specs.declared.receipt.StoredReceipt.{StoredReceipt as Stored};
 
-use docket_columns::reply_of;
+use docket_columns::{StoredRow, reply_of};
 use docket_command::{Reply, Text};
 use docket_sound::ReceiptRecord;
 use sqlite::Row;
@@ -32,7 +32,7 @@ fn text_at(row: &Row, at: usize) -> Option<&str>
 }
 
 /// The receipt of a row. `None`: it is no row of a receipt.
-pub(crate) fn receipt_of(alloc: Global, row: &Row) -> Result<Option<StoredReceipt>, AllocError>
+fn receipt_of(alloc: Global, row: &Row) -> Result<Option<StoredReceipt>, AllocError>
     ensures reads { (r : Stored) → IsStoredReceipt r → row.now ≡ receipt_cells r → IfOk result (λ found. found ≡ Some r) }
     ensures sound { IfOk result (λ found. IfSome found (λ r. row.now ≡ receipt_cells r)) }
     ensures fits { IfOk result (λ found. IfSome found IsStoredReceipt) }
@@ -53,4 +53,16 @@ pub(crate) fn receipt_of(alloc: Global, row: &Row) -> Result<Option<StoredReceip
         },
         reply,
     }))
+}
+
+impl StoredRow for StoredReceipt {
+    ghost use Rattle.docket_scan.specs.Records.{IsStoredReceipt, receipt_cells};
+
+    ghost cells = { receipt_cells };
+
+    ghost Is = { IsStoredReceipt };
+
+    fn read(alloc: Global, row: &Row) -> Result<Option<StoredReceipt>, AllocError> {
+        receipt_of(alloc, row)
+    }
 }

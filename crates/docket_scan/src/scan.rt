@@ -4,10 +4,9 @@ ghost use Rattle.sqlite.specs.Held.{state};
 ghost use Rattle.sqlite.specs.State.{HasCleanDisk, Survives};
 ghost use Rattle.docket_scan.specs.Scans.{Scanned};
 
-use crate::statement::scan_text;
 use crate::taker::Taker;
 use crate::watch::Watch;
-use docket_tables::Table;
+use docket_tables::{Table, scan_text};
 use sqlite::{Alter, Connection, Error, ErrorCode};
 use std::alloc::Global;
 

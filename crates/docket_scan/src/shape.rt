@@ -1,29 +1,12 @@
 //! Whether a table is there, by the schema.
 ghost use Rattle.std.specs.Prelude.{◌≡◌};
-ghost use Rattle.std.specs.List.{list_all, list_any};
+ghost use Rattle.std.specs.List.{list_all};
 ghost use Rattle.sqlite_schema.specs.Names.{same_name};
-ghost use Rattle.docket_scan.specs.Shapes.{name_of, columns_of, has_column, has_columns, has_named, has_table};
+ghost use Rattle.docket_scan.specs.Shapes.{columns_of, has_column, has_columns, has_named, has_table};
 
-use docket_tables::Table;
+use docket_tables::{Table, table_columns, table_name};
 use sqlite_schema::names::same_name;
 use sqlite_schema::schema::{Column, Schema};
-
-/// The name of the table in SQL.
-pub(crate) fn name_of(table: Table) -> &'static str
-    ensures { result.now ≡ name_of table }
-{
-    match table {
-        Table::Court => "court",
-        Table::Calendar => "calendar",
-        Table::Cases => "cases",
-        Table::Parties => "party",
-        Table::Entries => "entry",
-        Table::Deadlines => "deadline",
-        Table::Acts => "act",
-        Table::Receipts => "receipt",
-        Table::Ends => "due",
-    }
-}
 
 /// Whether one of the columns has the name.
 fn has_column(columns: &[Column], name: &str) -> bool
@@ -43,33 +26,7 @@ fn has_each(columns: &[Column], names: &[&str]) -> bool
 fn has_columns(columns: &[Column], table: Table) -> bool
     ensures { result ≡ has_columns columns.now (columns_of table) }
 {
-    match table {
-        Table::Court => has_each(
-            columns,
-            &["id", "word", "version", "zone", "close", "next_row"],
-        ),
-        Table::Calendar => has_each(columns, &["row_no", "kind", "a", "b", "name"]),
-        Table::Cases => has_each(columns, &["number", "label", "caption", "filed"]),
-        Table::Parties => has_each(columns, &["case_no", "number", "name", "role"]),
-        Table::Entries => has_each(columns, &["case_no", "number", "day", "body"]),
-        Table::Deadlines => has_each(columns, &["case_no", "number", "party", "rule", "initial"]),
-        Table::Acts => has_each(
-            columns,
-            &[
-                "case_no",
-                "deadline_no",
-                "number",
-                "kind",
-                "p1",
-                "p2",
-                "p3",
-                "p4",
-                "p5",
-            ],
-        ),
-        Table::Receipts => has_each(columns, &["command_key", "body", "reply"]),
-        Table::Ends => has_each(columns, &["case_no", "deadline_no", "day", "moment"]),
-    }
+    has_each(columns, table_columns(table))
 }
 
 /// Whether there is a table of that name. Names are compared without regard to ASCII case, as SQL does.
@@ -77,7 +34,7 @@ pub fn has_named(schema: &Schema, table: Table) -> bool
     ensures { result ≡ has_named schema.now table }
 {
     let tables = schema.tables.as_slice();
-    let name = name_of(table);
+    let name = table_name(table);
     tables
         .iter()
         .any(|found| same_name(found.name.as_slice(), name.as_bytes()))
@@ -89,7 +46,7 @@ pub fn has_table(schema: &Schema, table: Table) -> bool
     ensures { result ≡ has_table schema.now table }
 {
     let tables = schema.tables.as_slice();
-    let name = name_of(table);
+    let name = table_name(table);
     tables.iter().any(|found| {
         same_name(found.name.as_slice(), name.as_bytes())
             && has_columns(found.columns.as_slice(), table)

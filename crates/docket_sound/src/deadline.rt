@@ -115,10 +115,11 @@ impl DeadlineCheck {
         self.numbering.take(deadline_key(row))
     }
 
-    /// How many deadlines each case has.
-    pub fn counts(self) -> Numbering
-        ensures { result ≡ self.numbering }
+    /// How many parties each case has, as it was given, and how many deadlines.
+    pub fn finish(self) -> (Numbering, Numbering)
+        ensures parties { result.0 ≡ self.parties }
+        ensures deadlines { result.1 ≡ self.numbering }
     {
-        self.numbering
+        (self.parties, self.numbering)
     }
 }

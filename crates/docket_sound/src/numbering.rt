@@ -32,6 +32,13 @@ impl Numbering {
         Ok(Numbering { most, counts })
     }
 
+    /// No rows of no cases.
+    pub fn none(alloc: Global) -> Result<Numbering, AllocError>
+        ensures { IfOk result (λ n. HasNumbered n []) }
+    {
+        Numbering::new(alloc, 0, 0)
+    }
+
     /// No rows of as many cases as another has, of which each may have so many rows.
     pub(crate) fn alike(
         alloc: Global,

@@ -19,7 +19,7 @@ use Rattle.docket_core.specs.declared.view.Kept.{Kept}
 use Rattle.docket_core.specs.declared.view.Kept.TheVariants.{Same, Other}
 use Rattle.docket_core.specs.declared.view.View.{View}
 use Rattle.docket_core.proofs.Leading.{is_accepted}
-use Rattle.docket_tables.proofs.OrderlyReceipts.{fresh_by, none_found}
+use Rattle.docket_orderly.proofs.ReceiptLemmas.{fresh_by, none_found}
 use Rattle.docket_store.specs.Applying.{Applies, Stands}
 use Rattle.docket_store.specs.Dockets.{Docket}
 use Rattle.docket_store.specs.Reopening.{AppliesOnce}

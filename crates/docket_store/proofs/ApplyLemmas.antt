@@ -22,7 +22,7 @@ use Rattle.docket_core.proofs.LimitsKept.{within_limits, sound_view}
 use Rattle.docket_wire.specs.Valid.{IsCommand}
 use Rattle.docket_tables.specs.Contents.{rows_in}
 use Rattle.docket_tables.specs.Layouts.{Rows}
-use Rattle.docket_tables.specs.Orderly.{IsOrderly}
+use Rattle.docket_orderly.specs.Orderly.{IsOrderly}
 use Rattle.docket_tables.specs.Stands.{HoldsRows, IsImage, Lasts, LastsAsEither, IsSettled, IsEither}
 use Rattle.docket_changes.specs.Settling.{IsUpdate, changes_calendar}
 use Rattle.docket_tables.specs.Readings.{IsReadAs, Fails}
@@ -31,7 +31,7 @@ use Rattle.docket_tables.specs.declared.fault.ReadFault.TheVariants.{Store, NoMe
 use Rattle.docket_changes.specs.declared.moving.EndUpdate.{EndUpdate}
 use Rattle.docket_changes.specs.declared.moving.EndUpdate.TheVariants.{Calendar}
 use Rattle.docket_changes.proofs.HistoryLemmas.{settling, follows}
-use Rattle.docket_tables.proofs.OrderlyLemmas.{orderly}
+use Rattle.docket_orderly.proofs.DocketLemmas.{orderly}
 use Rattle.docket_core.specs.declared.item.CalendarItem.{CalendarItem}
 use Rattle.docket_store.specs.Applying.{IsDocket, IsAccepted, AreNamed, docket_rows, Keeps, FailsAs, Faults}
 use Rattle.docket_store.specs.Dockets.{serving}

@@ -20,7 +20,7 @@ use Rattle.docket_core.specs.declared.view.View.{View}
 use Rattle.docket_wire.specs.Valid.{IsCommand}
 use Rattle.docket_tables.specs.Contents.{rows_in}
 use Rattle.docket_tables.specs.Layouts.{Rows}
-use Rattle.docket_tables.specs.Orderly.{IsCourtSettings}
+use Rattle.docket_orderly.specs.Orderly.{IsCourtSettings}
 use Rattle.docket_tables.specs.Stands.{HoldsRows, Lasts, LastsAsEither}
 use Rattle.docket_store.specs.Dockets.{Docket}
 use Rattle.docket_store.specs.declared.fault.Fault.{Fault}

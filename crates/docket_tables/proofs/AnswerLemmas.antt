@@ -1,5 +1,5 @@
 -- What the rows of an answer are, where the docket's rows are numbered.
-use Rattle.std.proofs.Common.{◌≡◌, ◌⊎◌, inl, inr, ◌∙◌, ◌==◌, ◌+◌, ◌<◌, ◌≤◌, ℕ, suc, pos, List, [], ◌∷◌, ◌++◌, append-nil, map, filter, length, take, Bool, true, false, Some, None, Ordering, Less, Equal, is_eq, int_cmp, IsPermutation, IsSorted, refl, ap, subst, arith}
+use Rattle.std.proofs.Common.{◌≡◌, ◌⊎◌, inl, inr, ◌∙◌, ◌==◌, ◌+◌, ◌<◌, ◌≤◌, ℕ, suc, pos, List, [], ◌∷◌, ◌++◌, append-nil, map, filter, length, take, Bool, true, false, Some, None, Ordering, Less, Equal, is_eq, int_cmp, IsPermutation, IsSorted, refl, sym, ap, subst, arith}
 use Rattle.std.specs.List.{AllByRecursion}
 use Rattle.std.specs.Ordering.{on, ordering_then}
 use Rattle.std.specs.Coded.{coded_ℕ}
@@ -18,13 +18,13 @@ use Rattle.sqlite_keyed.proofs.SortLemmas.{sorted_unique}
 use Rattle.sqlite_keyed.proofs.ListLemmas.{all_weaker}
 use Rattle.sqlite_schema.specs.Rules.{equal}
 use Rattle.sqlite_sql.proofs.QueryLemmas.{key_cmp_total}
-use Rattle.sqlite_trees.proofs.ListLemmas.{filter-map, filter_same, all_of, all-map}
+use Rattle.sqlite_trees.proofs.ListLemmas.{filter-map, filter_same, filter_all, all_of, all-map}
 use Rattle.sqlite_trees.specs.Props.{rows_set}
 use Rattle.sqlite_trees.specs.Tree.{IsAscending}
 use Rattle.sqlite_value.proofs.OrderLemmas.{value_cmp-Int}
 use Rattle.sqlite_value.specs.declared.keys.Key.{Key}
 use Rattle.docket_tables.specs.Holds.{has_key}
-use Rattle.docket_tables.specs.Orderly.{Rises, RunsFrom}
+use Rattle.docket_orderly.specs.Orderly.{Rises, RunsFrom}
 use Rattle.docket_tables.specs.Queries.{keys_of, picks, directions, most_of, IsAnswer}
 use Rattle.docket_tables.specs.declared.query.Query.{Query}
 use Rattle.docket_tables.proofs.CellLemmas.{short_permutation}
@@ -167,3 +167,10 @@ module _ {X : Type 0} (q : Query) (params : Row) (cells : X → Row) (passes : X
         split (y ∷ ys) e =
             let it = last_of Is 1 (filter passes all) runs each (omega (arith, ap length e)) in
             inr (it.0, omega (arith, it.1), it.2, are ∙ it.3)
+
+-- all rows of a table, in the order of their numbers
+pub all_in_order : {X : Type 0} (q : Query) (cells : X → Row) (number : X → ℕ) (all : List X) (found : List Row) → ((x : X) → has_key (keys_of q) [] (cells x) ≡ true)
+    → ((x : X) → picks q (cells x) ≡ Int (pos (number x)) ∷ []) → directions q ≡ rising ∷ [] → most_of q ≡ None → Rises (map number all) → IsAnswer q [] (map cells all) found → found ≡ map cells all
+all_in_order q cells number all found kept picked by most rises answer =
+    let same = filter_all (λ _. true) all (all_of _ (λ _. refl) all) in
+    in_order q [] cells (λ _. true) kept all found number picked by most (subst (λ xs. Rises (map number xs)) (sym same) rises) answer ∙ ap (map cells) same

@@ -22,7 +22,7 @@ use Rattle.sqlite_value.proofs.OrderLemmas.{value_cmp-Int}
 use Rattle.std.proofs.Math.Logic.{∥∥₁_elim}
 use Rattle.docket_core.specs.declared.row.ActRow.{ActRow}
 use Rattle.docket_columns.specs.Cells.{act_cells}
-use Rattle.docket_tables.specs.Orderly.{Rises, RunsFrom, acts_on}
+use Rattle.docket_orderly.specs.Orderly.{Rises, RunsFrom, acts_on}
 use Rattle.docket_tables.specs.Queries.{picks, IsAnswer}
 use Rattle.docket_tables.specs.declared.query.Query.TheVariants as ask
 use Rattle.docket_tables.proofs.AnswerLemmas.{rising, kept_rows, rises_running, equal_number}

@@ -28,11 +28,11 @@ use Rattle.sqlite_sql.specs.declared.ops.ArithOp.TheVariants.{Add}
 use Rattle.sqlite_sql.specs.Ops.{binary, int_or, real_arith, from_int}
 use Rattle.sqlite_sql.specs.declared.ops.CompareOp.TheVariants.{Eq}
 use Rattle.sqlite.specs.State.{State, Executes, Shows as Turns}
-use Rattle.docket_tables.specs.Schema.{docket_schema, court}
+use Rattle.docket_tables.specs.Schema.{docket_schema, shape_of, places_of}
 use Rattle.docket_tables.specs.Statements.{count_text}
 use Rattle.court_days.specs.Court.{CourtSettings}
 use Rattle.docket_columns.specs.Cells.{court_cells}
-use Rattle.docket_tables.specs.Layouts.{Rows, with_rows, places_of}
+use Rattle.docket_tables.specs.Layouts.{Rows, with_rows}
 use Rattle.docket_tables.specs.declared.table.Table.TheVariants.{Court}
 use Rattle.docket_tables.proofs.LayoutLemmas.{rows_changed}
 use Rattle.docket_tables.specs.Stands.{Sees}
@@ -92,19 +92,19 @@ module _ (settings : CourtSettings) (n : ℕ) (small : n + 1 < 2 ^ 63) where
       rw (e0, e2, e3, e4, e5, e6)
 
   module _ (found : List Row) (old new : Trees) (same : IsPermutation (map (court_shown []) (filter (keyed_by (pos 1)) (old 0))) found)
-      (is : new 0 ≡ edited old (edit_of old (record court { tree = 0 }) (ids_of found) Given 1 found)) where
+      (is : new 0 ≡ edited old (edit_of old (shape_of Court) (ids_of found) Given 1 found)) where
     abbrev rewritten : List Row → List Row → List Row
-    rewritten rows fs = put_all (without_all rows (ids_of fs)) (numbered Given (without_all rows (ids_of fs)) (map (λ s. cast_row (record court { tree = 0 }) (drop 1 s)) fs))
+    rewritten rows fs = put_all (without_all rows (ids_of fs)) (numbered Given (without_all rows (ids_of fs)) (map (λ s. cast_row (shape_of Court) (drop 1 s)) fs))
 
-    rewritten_as : (r : Row) → old 0 ≡ r ∷ [] → cells court_places r ≡ court_cells settings n → new 0 ≡ with_rowid Given [] (cast_row (record court { tree = 0 }) (drop 1 new_row)) ∷ []
+    rewritten_as : (r : Row) → old 0 ≡ r ∷ [] → cells court_places r ≡ court_cells settings n → new 0 ≡ with_rowid Given [] (cast_row (shape_of Court) (drop 1 new_row)) ∷ []
     rewritten_as r at shows =
         let e0 : column r 0 ≡ Int (pos 1) = ap (λ x. column x 0) shows in
         let kept : filter (keyed_by (pos 1)) (r ∷ []) ≡ r ∷ [] = filter_all (keyed_by (pos 1)) (r ∷ []) (keyed_as (pos 1) (pos 1) r e0, tt) in
         let first : IsPermutation (court_shown [] r ∷ []) found = subst (λ rs. IsPermutation (map (court_shown []) rs) found) (ap (filter (keyed_by (pos 1))) at ∙ kept) same in
         let found_is : found ≡ new_row ∷ [] = one_permutation _ found first ∙ ap (λ x. x ∷ []) (shown_row r shows) in
         let gone : without_rowid (pos 1) (r ∷ []) ≡ [] = ap (λ b. cond (not b) (r ∷ []) []) (rowid_as (pos 1) (pos 1) r e0) in
-        let made : rewritten (r ∷ []) (new_row ∷ []) ≡ with_rowid Given [] (cast_row (record court { tree = 0 }) (drop 1 new_row)) ∷ [] =
-        ap (λ left. put_all left (numbered Given left (map (λ s. cast_row (record court { tree = 0 }) (drop 1 s)) (new_row ∷ [])))) gone in
+        let made : rewritten (r ∷ []) (new_row ∷ []) ≡ with_rowid Given [] (cast_row (shape_of Court) (drop 1 new_row)) ∷ [] =
+        ap (λ left. put_all left (numbered Given left (map (λ s. cast_row (shape_of Court) (drop 1 s)) (new_row ∷ [])))) gone in
         is ∙ ap (λ rs. rewritten rs found) at ∙ ap (rewritten (r ∷ [])) found_is ∙ made
 
     one_row : (r : Row) → old 0 ≡ r ∷ [] → cells court_places r ≡ court_cells settings n → map (cells court_places) (new 0) ≡ court_cells settings (n + 1) ∷ []
@@ -133,7 +133,7 @@ module _ (settings : CourtSettings) (n : ℕ) (small : n + 1 < 2 ^ 63) where
 pub counted : (settings : CourtSettings) (n : ℕ) (rows : Rows) (old new : State) (count : ℕ) → n + 1 < 2 ^ 63 → rows Court ≡ court_cells settings n ∷ [] → Sees old rows
     → Executes count_text [] old new (Ok count) → Turns old new new.now old.committed true → Sees new (with_rows Court (court_cells settings (n + 1) ∷ []) rows)
 counted settings n rows old new count small one sees ran turns =
-    let it = updates docket_schema count_text (record court { tree = 0 }) _ court_update [] old new count sees.shows.schema ran in
+    let it = updates docket_schema count_text (shape_of Court) _ court_update [] old new count sees.shows.schema ran in
     let moved = it.2 in
     let same = found_by old.now.trees 0 (λ params. keyed_by (pos 1)) court_shown (op2 (Compare Eq Binary) (col 1 0) (lit (Int (pos 1))) ∷ [])
     (col 1 0 ∷ col 1 0 ∷ lit Null ∷ col 1 2 ∷ col 1 3 ∷ col 1 4 ∷ col 1 5 ∷ op2 (Arith Add) (col 1 6) (lit (Int (pos 1))) ∷ []) (λ params row. refl) (λ params row. refl) [] moved.found (moved.answer.answer Null) in

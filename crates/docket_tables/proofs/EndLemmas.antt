@@ -16,7 +16,7 @@ use Rattle.docket_core.specs.declared.end_row.EndRow.{EndRow}
 use Rattle.docket_core.specs.declared.end_row.EndChange.TheVariants.{Remove, Move}
 use Rattle.docket_columns.specs.Cells.{end_cells}
 use Rattle.docket_tables.specs.Contents.{rows_with, ends_of}
-use Rattle.docket_tables.specs.Orderly.{Rises}
+use Rattle.docket_orderly.specs.Orderly.{Rises}
 use Rattle.docket_tables.specs.Queries.{IsAnswer}
 use Rattle.docket_tables.specs.declared.query.Query.TheVariants as ask
 use Rattle.docket_tables.specs.declared.table.Table.{Table}
@@ -36,12 +36,13 @@ use Rattle.sqlite_rules.specs.Calls.{ids_of}
 use Rattle.sqlite_rules.specs.Edit.{have_rowids, are_fresh}
 use Rattle.sqlite.specs.Listing.{understood}
 use Rattle.sqlite_tied.specs.Compute.{everything}
-use Rattle.docket_tables.specs.Schema.{docket_schema, due}
+use Rattle.docket_tables.specs.Schema.{docket_schema, shape_of, places_of, tree_of}
 use Rattle.docket_tables.specs.Statements.{delete_end_text, move_end_text}
 use Rattle.docket_tables.specs.Holds.{cells, has_key, without_key, plain_query, Holds}
-use Rattle.docket_tables.specs.Layouts.{Rows, with_rows, places_of, tree_of}
+use Rattle.docket_tables.specs.Layouts.{Rows, with_rows}
+use Rattle.docket_tables.specs.Tables.{layout_of}
 use Rattle.docket_tables.specs.Stands.{Sees}
-use Rattle.docket_tables.specs.declared.table.Table.TheVariants.{Court, Calendar, Cases, Parties, Entries, Deadlines, Acts, Receipts, Ends}
+use Rattle.docket_tables.specs.declared.table.Table.TheVariants.{Ends}
 use Rattle.docket_tables.proofs.CourtLemmas.{found_by}
 use Rattle.docket_tables.proofs.CellLemmas.{cast_int}
 use Rattle.docket_tables.proofs.DeleteLemmas.{DeletesFrom, deletes}
@@ -50,18 +51,18 @@ use Rattle.docket_tables.proofs.UpdateLemmas.{UpdatesIn, updates, no_actions_on_
 use Rattle.docket_tables.proofs.LayoutLemmas.{rows_changed}
 use Rattle.docket_tables.proofs.RowidLemmas.{holds_unmatched}
 
-end_delete : DeletesFrom docket_schema delete_end_text (record due { tree = 15 })
-    (record { lets = []; body = plain_query 15 (op2 (Compare Eq Binary) (col 1 1) (col 0 0) ∷ op2 (Compare Eq Binary) (col 1 2) (col 0 1) ∷ []) (col 1 0 ∷ []) [] [] (lit (Int (negsuc 0))) })
+end_delete : DeletesFrom docket_schema delete_end_text (shape_of Ends)
+    (record { lets = []; body = plain_query (tree_of Ends) (op2 (Compare Eq Binary) (col 1 1) (col 0 0) ∷ op2 (Compare Eq Binary) (col 1 2) (col 0 1) ∷ []) (col 1 0 ∷ []) [] [] (lit (Int (negsuc 0))) })
 unfolding understood everything
-end_delete = record { at = 8; is = refl; plain = (refl, refl); place = refl; no_work = λ olds. refl }
+end_delete = record { at = (layout_of Ends).at; is = refl; plain = (refl, refl); place = refl; no_work = λ olds. refl }
 
 pub end_removed : (k n : ℕ) (rows : Rows) (old new : State) (count : ℕ) → Sees old rows → Executes delete_end_text (Int (pos k) ∷ Int (pos n) ∷ []) old new (Ok count)
     → Turns old new new.now old.committed true → Sees new (with_rows Ends (without_key (0 ∷ 1 ∷ []) (Int (pos k) ∷ Int (pos n) ∷ []) (rows Ends)) rows)
 end_removed k n rows old new count sees ran turns =
     let params = Int (pos k) ∷ Int (pos n) ∷ [] in
-    let it = deletes docket_schema delete_end_text (record due { tree = 15 }) _ end_delete params old new count sees.shows.schema ran in
+    let it = deletes docket_schema delete_end_text (shape_of Ends) _ end_delete params old new count sees.shows.schema ran in
     let took = it.2 in
-    let same = found_by old.now.trees 15 (λ ps row. has_key (0 ∷ 1 ∷ []) ps (cells (places_of Ends) row)) (λ ps row. column row 0 ∷ [])
+    let same = found_by old.now.trees (tree_of Ends) (λ ps row. has_key (0 ∷ 1 ∷ []) ps (cells (places_of Ends) row)) (λ ps row. column row 0 ∷ [])
     (op2 (Compare Eq Binary) (col 1 1) (col 0 0) ∷ op2 (Compare Eq Binary) (col 1 2) (col 0 1) ∷ []) (col 1 0 ∷ []) (λ ps row. refl) (λ ps row. refl) params took.found (took.answer.answer Null) in
     record {
       begun = turns.mode;
@@ -70,14 +71,14 @@ end_removed k n rows old new count sees ran turns =
         schema = it.0;
         live = it.1;
         holds = rows_changed Ends _ rows old.now.trees new.now.trees sees.shows.holds
-            (holds_unmatched 15 (places_of Ends) (rows Ends) (has_key (0 ∷ 1 ∷ []) params) took.found old.now.trees new.now.trees (sees.shows.holds Ends) same took.rows) took.others;
+            (holds_unmatched (tree_of Ends) (places_of Ends) (rows Ends) (has_key (0 ∷ 1 ∷ []) params) took.found old.now.trees new.now.trees (sees.shows.holds Ends) same took.rows) took.others;
       };
     }
 
-end_update : UpdatesIn docket_schema move_end_text (record due { tree = 15 })
-    (record { lets = []; body = plain_query 15 (op2 (Compare Eq Binary) (col 1 1) (col 0 0) ∷ op2 (Compare Eq Binary) (col 1 2) (col 0 1) ∷ []) (col 1 0 ∷ col 1 0 ∷ col 1 1 ∷ col 1 2 ∷ col 0 2 ∷ col 0 3 ∷ []) [] [] (lit (Int (negsuc 0))) })
+end_update : UpdatesIn docket_schema move_end_text (shape_of Ends)
+    (record { lets = []; body = plain_query (tree_of Ends) (op2 (Compare Eq Binary) (col 1 1) (col 0 0) ∷ op2 (Compare Eq Binary) (col 1 2) (col 0 1) ∷ []) (col 1 0 ∷ col 1 0 ∷ col 1 1 ∷ col 1 2 ∷ col 0 2 ∷ col 0 3 ∷ []) [] [] (lit (Int (negsuc 0))) })
 unfolding understood everything
-end_update = record { at = 8; is = refl; plain = (refl, refl); place = refl; no_work = no_actions_on_ends }
+end_update = record { at = (layout_of Ends).at; is = refl; plain = (refl, refl); place = refl; no_work = no_actions_on_ends }
 
 -- the cells of a row whose end moves, as they are written anew
 abbrev moved_cells : Row → Row → Row
@@ -110,16 +111,16 @@ pub end_moved : (to : EndRow) (ends : List EndRow) (rows : Rows) (old new : Stat
     → Turns old new new.now old.committed true → Sees new (with_rows Ends (map end_cells (changed_ends (Move to) ends)) rows)
 end_moved to ends rows old new count are sees ran turns =
     let params = end_cells to in
-    let table = record due { tree = 15 } in
+    let table = shape_of Ends in
     let it = updates docket_schema move_end_text table _ end_update params old new count sees.shows.schema ran in
     let moved = it.2 in
     let made : Row → Row = λ s. cast_row table (drop 1 s) in
-    let same = found_by old.now.trees 15 (λ ps row. has_key (0 ∷ 1 ∷ []) ps (cells (places_of Ends) row)) end_shown
+    let same = found_by old.now.trees (tree_of Ends) (λ ps row. has_key (0 ∷ 1 ∷ []) ps (cells (places_of Ends) row)) end_shown
     (op2 (Compare Eq Binary) (col 1 1) (col 0 0) ∷ op2 (Compare Eq Binary) (col 1 2) (col 0 1) ∷ []) (col 1 0 ∷ col 1 0 ∷ col 1 1 ∷ col 1 2 ∷ col 0 2 ∷ col 0 3 ∷ []) (λ ps row. refl) (λ ps row. refl) params moved.found (moved.answer.answer Null) in
-    let news = numbered_given (without_all (old.now.trees 15) (ids_of moved.found)) (map made moved.found) in
-    let holds = holds_moved 15 (places_of Ends) (has_key (0 ∷ 1 ∷ []) params) (moved_cells params) made (end_shown params) (λ r. refl) (λ r. refl) moved.found old.now.trees new.now.trees same (rows Ends) (sees.shows.holds Ends)
-    (subst (λ ns. have_rowids ns ≡ true) news moved.keyed) (subst (λ ns. are_fresh (without_all (old.now.trees 15) (ids_of moved.found)) ns ≡ true) news moved.fresh)
-    (moved.rows ∙ ap (put_all (without_all (old.now.trees 15) (ids_of moved.found))) news) in
+    let news = numbered_given (without_all (old.now.trees (tree_of Ends)) (ids_of moved.found)) (map made moved.found) in
+    let holds = holds_moved (tree_of Ends) (places_of Ends) (has_key (0 ∷ 1 ∷ []) params) (moved_cells params) made (end_shown params) (λ r. refl) (λ r. refl) moved.found old.now.trees new.now.trees same (rows Ends) (sees.shows.holds Ends)
+    (subst (λ ns. have_rowids ns ≡ true) news moved.keyed) (subst (λ ns. are_fresh (without_all (old.now.trees (tree_of Ends)) (ids_of moved.found)) ns ≡ true) news moved.fresh)
+    (moved.rows ∙ ap (put_all (without_all (old.now.trees (tree_of Ends)) (ids_of moved.found))) news) in
     let shown = ap (map (λ c. cond (has_key (0 ∷ 1 ∷ []) params c) (moved_cells params c) c)) are ∙ move_cells to ends in
     record {
       begun = turns.mode;
@@ -127,7 +128,7 @@ end_moved to ends rows old new count are sees ran turns =
         is_open = turns.is_open;
         schema = it.0;
         live = it.1;
-        holds = rows_changed Ends _ rows old.now.trees new.now.trees sees.shows.holds (subst (λ cs. Holds 15 (places_of Ends) cs new.now.trees) shown holds) moved.others;
+        holds = rows_changed Ends _ rows old.now.trees new.now.trees sees.shows.holds (subst (λ cs. Holds (tree_of Ends) (places_of Ends) cs new.now.trees) shown holds) moved.others;
       };
     }
 
@@ -164,15 +165,8 @@ sees_permuted s court t ends others same sees = record {
 }
   where
     holds : (table : Table) → Holds (tree_of table) (places_of table) (rows_with court t others table) s.now.trees
-    holds Court = sees.shows.holds Court
-    holds Calendar = sees.shows.holds Calendar
-    holds Cases = sees.shows.holds Cases
-    holds Parties = sees.shows.holds Parties
-    holds Entries = sees.shows.holds Entries
-    holds Deadlines = sees.shows.holds Deadlines
-    holds Acts = sees.shows.holds Acts
-    holds Receipts = sees.shows.holds Receipts
     holds Ends = ∥∥₁_map (sees.shows.holds Ends) (λ was. (IsPermutation-trans _ _ _ was.0 (IsPermutation-map end_cells ends others same), was.1))
+    holds other = sees.shows.holds other
 
 pub changed_next_end : (xs : List EndChange) (ends : List EndRow) (i : ℕ) (d : EndChange) → i < length xs → changed_ends (get_or xs i d) (all_changed_ends (take i xs) ends) ≡ all_changed_ends (take (i + 1) xs) ends
 changed_next_end xs ends i d inside =

@@ -18,7 +18,7 @@ use Rattle.docket_core.specs.declared.view.Kept.{Kept}
 use Rattle.docket_core.specs.declared.view.Kept.TheVariants.{Fresh}
 use Rattle.docket_columns.specs.Cells.{case_cells, deadline_cells, receipt_cells}
 use Rattle.docket_columns.specs.Fits.{IsCaseRow, IsDeadlineRow, IsReceipt}
-use Rattle.docket_tables.specs.Orderly.{RunsFrom, receipts_under}
+use Rattle.docket_orderly.specs.Orderly.{RunsFrom, receipts_under}
 use Rattle.docket_tables.specs.Queries.{IsAnswer}
 use Rattle.docket_tables.specs.Readings.{IsReadAs, row_at}
 use Rattle.docket_tables.specs.declared.fault.ReadFault.{ReadFault}

@@ -1,11 +1,17 @@
 -- What an INSERT of each table means, and what one more row makes of all tables.
-use Rattle.std.proofs.Common.{◌≡◌, ◌≢◌, ◌==◌, ◌∙◌, ℕ, List, [], ◌∷◌, ◌++◌, Bool, true, false, cond, if◌then◌else◌, drop, Ok, IsTrue, refl, sym, ap, subst, arith}
+use Rattle.std.proofs.Common.{◌≡◌, ◌≢◌, ◌==◌, ◌∙◌, ℕ, ℤ, zero, suc, List, [], ◌∷◌, ◌++◌, map, find, length, slice_get, Bool, true, false, cond, drop, Some, Ok, IsTrue, refl, sym, ap, ap₂, subst, arith}
+use Rattle.std.specs.List.{AllByRecursion}
+use Rattle.std.proofs.lemmas.Bool.{false≢true}
 use Rattle.std.proofs.lemmas.Bool.Decides.{nat_tests}
 use Rattle.sqlite.specs.declared.types.Value.{Value}
+use Rattle.sqlite.specs.declared.types.Value.TheVariants as value
 use Rattle.sqlite.specs.declared.types.Value.TheVariants.{Null, Int}
-use Rattle.sqlite.specs.Order.{Row}
+use Rattle.sqlite.specs.Kind.{Kind}
+use Rattle.sqlite.specs.Kind.TheVariants.{Integer, Text}
+use Rattle.sqlite.specs.Order.{Row, column}
+use Rattle.sqlite.specs.Table.{Table as Shape}
 use Rattle.sqlite.specs.Tree.{Trees}
-use Rattle.sqlite.specs.Cast.{cast_row}
+use Rattle.sqlite.specs.Cast.{cast, cast_all}
 use Rattle.sqlite.specs.Edit.{with_rowid}
 use Rattle.sqlite_rules.specs.Edit.{is_chosen, at_least, next_rowid}
 use Rattle.sqlite.specs.Rowids.TheVariants.{Chosen}
@@ -16,80 +22,105 @@ use Rattle.sqlite_trees.specs.Tree.{rowid}
 use Rattle.sqlite_trees.specs.View.{is_int}
 use Rattle.sqlite_tied.specs.Compute.{everything}
 use Rattle.docket_tables.specs.declared.table.Table.{Table}
-use Rattle.docket_tables.specs.declared.table.Table.TheVariants.{Court, Calendar, Cases, Parties, Entries, Deadlines, Acts, Receipts, Ends}
+use Rattle.docket_tables.specs.declared.table.Table.TheVariants.{Court}
 use Rattle.docket_tables.specs.Holds.{Holds, KeepsOthers, cells}
-use Rattle.docket_tables.specs.Layouts.{Rows, AreRows, Fits, tree_of, places_of, shape_of, kinds_of, row_with, Contents, with_rows, with_row}
-use Rattle.docket_tables.specs.Schema.{docket_schema}
+use Rattle.docket_tables.specs.Layouts.{Rows, AreRows, Fits, are_of, with_rows, with_row}
+use Rattle.docket_tables.specs.Schema.{docket_schema, tree_of, places_of, shape_of, places_by, kinds_by, columns_by, column_of}
 use Rattle.docket_tables.specs.Stands.{Sees}
-use Rattle.docket_tables.specs.Statements.{insert_text}
+use Rattle.docket_tables.specs.Tables.{Field, layout_of, tables}
+use Rattle.docket_tables.specs.Texts.{counted, insert_text}
 use Rattle.docket_tables.proofs.CellLemmas.{cast_int, cast_null, holds_more, holds_same}
 use Rattle.docket_tables.proofs.InsertLemmas.{InsertsInto, inserts}
 
+abbrev terms_by : Bool → List Field → List Term
+terms_by true [] = []
+terms_by true (field ∷ more) = col 0 0 ∷ lit Null ∷ map (col 0) (counted 1 more)
+terms_by false fields = lit Null ∷ map (col 0) (counted 0 fields)
+
 abbrev terms_of : Table → List Term
-terms_of Court = col 0 0 ∷ lit Null ∷ col 0 1 ∷ col 0 2 ∷ col 0 3 ∷ col 0 4 ∷ col 0 5 ∷ []
-terms_of Calendar = col 0 0 ∷ lit Null ∷ col 0 1 ∷ col 0 2 ∷ col 0 3 ∷ col 0 4 ∷ []
-terms_of Cases = col 0 0 ∷ lit Null ∷ col 0 1 ∷ col 0 2 ∷ col 0 3 ∷ []
-terms_of Parties = lit Null ∷ col 0 0 ∷ col 0 1 ∷ col 0 2 ∷ col 0 3 ∷ []
-terms_of Entries = lit Null ∷ col 0 0 ∷ col 0 1 ∷ col 0 2 ∷ col 0 3 ∷ []
-terms_of Deadlines = lit Null ∷ col 0 0 ∷ col 0 1 ∷ col 0 2 ∷ col 0 3 ∷ col 0 4 ∷ []
-terms_of Acts = lit Null ∷ col 0 0 ∷ col 0 1 ∷ col 0 2 ∷ col 0 3 ∷ col 0 4 ∷ col 0 5 ∷ col 0 6 ∷ col 0 7 ∷ col 0 8 ∷ []
-terms_of Receipts = lit Null ∷ col 0 0 ∷ col 0 1 ∷ col 0 2 ∷ []
-terms_of Ends = lit Null ∷ col 0 0 ∷ col 0 1 ∷ col 0 2 ∷ col 0 3 ∷ []
+terms_of table = let l = layout_of table in terms_by l.is_rowid l.fields
 
 insert_means : (table : Table) → InsertsInto docket_schema (insert_text table) (shape_of table) (terms_of table)
 unfolding understood everything
 insert_means Court = record { at = 0; width = 7; is = refl; plain = (refl, refl); place = refl; one = refl; wide = refl; uncounted = refl; unstamped = refl; no_work = λ row. refl }
-insert_means Calendar = record { at = 1; width = 6; is = refl; plain = (refl, refl); place = refl; one = refl; wide = refl; uncounted = refl; unstamped = refl; no_work = λ row. refl }
-insert_means Cases = record { at = 2; width = 5; is = refl; plain = (refl, refl); place = refl; one = refl; wide = refl; uncounted = refl; unstamped = refl; no_work = λ row. refl }
-insert_means Parties = record { at = 3; width = 5; is = refl; plain = (refl, refl); place = refl; one = refl; wide = refl; uncounted = refl; unstamped = refl; no_work = λ row. refl }
-insert_means Entries = record { at = 4; width = 5; is = refl; plain = (refl, refl); place = refl; one = refl; wide = refl; uncounted = refl; unstamped = refl; no_work = λ row. refl }
-insert_means Deadlines = record { at = 5; width = 6; is = refl; plain = (refl, refl); place = refl; one = refl; wide = refl; uncounted = refl; unstamped = refl; no_work = λ row. refl }
-insert_means Acts = record { at = 6; width = 10; is = refl; plain = (refl, refl); place = refl; one = refl; wide = refl; uncounted = refl; unstamped = refl; no_work = λ row. refl }
-insert_means Receipts = record { at = 7; width = 4; is = refl; plain = (refl, refl); place = refl; one = refl; wide = refl; uncounted = refl; unstamped = refl; no_work = λ row. refl }
-insert_means Ends = record { at = 8; width = 5; is = refl; plain = (refl, refl); place = refl; one = refl; wide = refl; uncounted = refl; unstamped = refl; no_work = λ row. refl }
+insert_means table = record { at = (layout_of table).at; width = suc (length (layout_of table).fields); is = refl; plain = (refl, refl); place = refl; one = refl; wide = refl; uncounted = refl; unstamped = refl; no_work = λ row. refl }
+
+-- each table stands in the schema at its place
+stands_at : (table : Table) → slice_get docket_schema.tables (layout_of table).at ≡ Some (shape_of table)
+stands_at Court = refl
+stands_at table = refl
+
+all_at : {X : Type 0} (P : X → Type 0) (xs : List X) (n : ℕ) (x : X) → AllByRecursion P xs → slice_get xs n ≡ Some x → P x
+all_at P [] n x all is = absurd cc
+all_at P (y ∷ ys) zero x all is = let same : y ≡ x = cc in subst P same all.0
+all_at P (y ∷ ys) (suc n) x all is = all_at P ys n x all.1 is
+
+-- what holds of the tables of the schema holds of each table
+pub of_each : (P : Shape → Type 0) → AllByRecursion P docket_schema.tables → (table : Table) → P (shape_of table)
+of_each P all table = all_at P docket_schema.tables (layout_of table).at (shape_of table) all (stands_at table)
 
 -- tables have trees of their own
-table_at : ℕ → Table
-table_at n =
-    if n == 0 then Court
-    else (if n == 1 then Calendar
-    else (if n == 3 then Cases
-    else (if n == 5 then Parties
-    else (if n == 7 then Entries
-    else (if n == 9 then Deadlines
-    else (if n == 11 then Acts
-    else (if n == 13 then Receipts
-    else Ends)))))))
-
-at_its_tree : (table : Table) → table_at (tree_of table) ≡ table
-unfolding table_at
+at_its_tree : (table : Table) → find (λ other. tree_of other == tree_of table) tables ≡ Some table
 at_its_tree Court = refl
-at_its_tree Calendar = refl
-at_its_tree Cases = refl
-at_its_tree Parties = refl
-at_its_tree Entries = refl
-at_its_tree Deadlines = refl
-at_its_tree Acts = refl
-at_its_tree Receipts = refl
-at_its_tree Ends = refl
+at_its_tree table = refl
 
 pub same_table : (a b : Table) → tree_of a ≡ tree_of b → a ≡ b
-same_table a b e = sym (at_its_tree a) ∙ ap table_at e ∙ at_its_tree b
+same_table a b e =
+    let same : Some a ≡ Some b = sym (at_its_tree a) ∙ ap (λ n. find (λ other. tree_of other == n) tables) e ∙ at_its_tree b in
+    cc
 
 pub others_same : (tree : ℕ) (old new : Trees) → KeepsOthers docket_schema tree old new → (other : Table) → tree_of other ≢ tree → new (tree_of other) ≡ old (tree_of other)
-others_same tree old new keeps Court apart = keeps.0 apart
-others_same tree old new keeps Calendar apart = keeps.1.0 apart
-others_same tree old new keeps Cases apart = keeps.1.1.0 apart
-others_same tree old new keeps Parties apart = keeps.1.1.1.0 apart
-others_same tree old new keeps Entries apart = keeps.1.1.1.1.0 apart
-others_same tree old new keeps Deadlines apart = keeps.1.1.1.1.1.0 apart
-others_same tree old new keeps Acts apart = keeps.1.1.1.1.1.1.0 apart
-others_same tree old new keeps Receipts apart = keeps.1.1.1.1.1.1.1.0 apart
-others_same tree old new keeps Ends apart = keeps.1.1.1.1.1.1.1.1.0 apart
+others_same tree old new keeps other = of_each (λ t. t.tree ≢ tree → new t.tree ≡ old t.tree) keeps other
+
+-- values of their kinds, one after another
+
+no_value : (kind : Kind) (kinds : List Kind) → are_of (kind ∷ kinds) [] ≡ true → ⊥
+no_value Integer kinds fits = false≢true fits
+no_value _ kinds fits = false≢true fits
+
+first_value : (kind : Kind) (v : Value) (kinds : List Kind) (row : Row) → are_of (kind ∷ kinds) (v ∷ row) ≡ true → (cast kind v ≡ v) × (are_of kinds row ≡ true)
+first_value Integer (Int n) kinds row fits = (cast_int n, fits)
+first_value Text (value.Text t) kinds row fits = (refl, fits)
+first_value _ _ kinds row fits = absurd (false≢true fits)
+
+abbrev kinds : List Field → List Kind
+kinds fields = map (λ (field : Field). field.kind) fields
+
+each_cast : (fields : List Field) (row : Row) → are_of (kinds fields) row ≡ true → cast_all (map column_of fields) row ≡ row
+each_cast [] [] fits = refl
+each_cast [] (v ∷ row) fits = absurd (false≢true fits)
+each_cast (field ∷ more) [] fits = absurd (no_value field.kind (kinds more) fits)
+each_cast (field ∷ more) (v ∷ row) fits =
+    let first = first_value field.kind v (kinds more) row fits in ap₂ (λ x xs. x ∷ xs) first.0 (each_cast more row first.1)
+
+shifted : {X : Type 0} (first : Value) (row : Row) (n : ℕ) (xs : List X) → map (column (first ∷ row)) (counted (suc n) xs) ≡ map (column row) (counted n xs)
+shifted first row n [] = refl
+shifted first row n (x ∷ xs) = ap (λ more. column row n ∷ more) (shifted first row (suc n) xs)
+
+each_column : (fields : List Field) (row : Row) → are_of (kinds fields) row ≡ true → map (column row) (counted 0 fields) ≡ row
+each_column [] [] fits = refl
+each_column [] (v ∷ row) fits = absurd (false≢true fits)
+each_column (field ∷ more) [] fits = absurd (no_value field.kind (kinds more) fits)
+each_column (field ∷ more) (v ∷ row) fits = ap (λ xs. v ∷ xs) (shifted v row 0 more ∙ each_column more row (first_value field.kind v (kinds more) row fits).1)
+
+each_term : (given : Row) (n : ℕ) (fields : List Field) → eval_all (map (col 0) (counted n fields)) (given ∷ []) ≡ map (column given) (counted n fields)
+each_term given n [] = refl
+each_term given n (field ∷ more) = ap (λ xs. column given n ∷ xs) (each_term given (suc n) more)
 
 -- the row that is written for these values
-abbrev written : Table → Row → Row
-written table given = cast_row (shape_of table) (eval_all (terms_of table) (given ∷ []))
+abbrev written_by : Bool → List Field → Row → Row
+written_by is_rowid fields given =
+    let source = eval_all (terms_by is_rowid fields) (given ∷ []) in
+    cast Integer (column source 0) ∷ cast_all (columns_by is_rowid fields) (drop 1 source)
+
+written_hidden : (fields : List Field) (given : Row) → are_of (kinds fields) given ≡ true → written_by false fields given ≡ Null ∷ given
+written_hidden fields given fits =
+    ap₂ (λ x xs. x ∷ xs) cast_null (ap (cast_all (map column_of fields)) (each_term given 0 fields ∙ each_column fields given fits) ∙ each_cast fields given fits)
+
+written_rowid : (field : Field) (more : List Field) (n : ℤ) (row : Row) → are_of (kinds more) row ≡ true → written_by true (field ∷ more) (Int n ∷ row) ≡ Int n ∷ cast Integer Null ∷ row
+written_rowid field more n row fits =
+    ap₂ (λ x xs. x ∷ cast Integer Null ∷ xs) (cast_int n)
+    (ap (cast_all (map column_of more)) (each_term (Int n ∷ row) 1 more ∙ shifted (Int n) row 0 more ∙ each_column more row fits) ∙ each_cast more row fits)
 
 -- a hidden rowid is in no column
 kept_columns : (places : List ℕ) (rows : List Row) (row : Row) → ((id : Value) → cells places (id ∷ drop 1 row) ≡ cells places row) → cells places (with_rowid Chosen rows row) ≡ cells places row
@@ -97,31 +128,30 @@ kept_columns places rows row same =
     elim (is_chosen Chosen (rowid row)) as (λ b. cells places (cond b (Int (at_least Chosen (next_rowid rows)) ∷ drop 1 row) row) ≡ cells places row) [ true ↦ same _ | false ↦ refl ]
 
 -- the row that is stored shows the values that were given
-shown : (table : Table) (rows : List Row) (c : Contents (kinds_of table)) → cells (places_of table) (with_rowid Chosen rows (written table (row_with (kinds_of table) c))) ≡ row_with (kinds_of table) c
-shown Court rows c = rw (cast_int c.0, cast_int c.1.1.0, cast_int c.1.1.1.1.0, cast_int c.1.1.1.1.1.0)
-shown Calendar rows c = rw (cast_int c.0, cast_int c.1.0, cast_int c.1.1.0, cast_int c.1.1.1.0)
-shown Cases rows c = rw (cast_int c.0, cast_int c.1.1.1.0)
-shown Parties rows c = kept_columns (places_of Parties) rows (written Parties (row_with (kinds_of Parties) c)) (λ id. refl) ∙ rw (cast_int c.0, cast_int c.1.0, cast_int c.1.1.1.0)
-shown Entries rows c = kept_columns (places_of Entries) rows (written Entries (row_with (kinds_of Entries) c)) (λ id. refl) ∙ rw (cast_int c.0, cast_int c.1.0, cast_int c.1.1.0)
-shown Deadlines rows c = kept_columns (places_of Deadlines) rows (written Deadlines (row_with (kinds_of Deadlines) c)) (λ id. refl) ∙ rw (cast_int c.0, cast_int c.1.0, cast_int c.1.1.0, cast_int c.1.1.1.1.0)
-shown Acts rows c = kept_columns (places_of Acts) rows (written Acts (row_with (kinds_of Acts) c)) (λ id. refl) ∙ rw (cast_int c.0, cast_int c.1.0, cast_int c.1.1.0, cast_int c.1.1.1.0, cast_int c.1.1.1.1.0, cast_int c.1.1.1.1.1.0, cast_int c.1.1.1.1.1.1.0, cast_int c.1.1.1.1.1.1.1.0, cast_int c.1.1.1.1.1.1.1.1.0)
-shown Receipts rows c = kept_columns (places_of Receipts) rows (written Receipts (row_with (kinds_of Receipts) c)) (λ id. refl) ∙ rw (cast_int c.1.1.0)
-shown Ends rows c = kept_columns (places_of Ends) rows (written Ends (row_with (kinds_of Ends) c)) (λ id. refl) ∙ rw (cast_int c.0, cast_int c.1.0, cast_int c.1.1.0, cast_int c.1.1.1.0)
+shown : (is_rowid : Bool) (fields : List Field) (rows : List Row) (given : Row) → are_of (kinds_by is_rowid fields) given ≡ true
+    → cells (places_by is_rowid fields) (with_rowid Chosen rows (written_by is_rowid fields given)) ≡ given
+shown false fields rows given fits =
+    ap (λ r. cells (counted 1 fields) (with_rowid Chosen rows r)) (written_hidden fields given fits)
+    ∙ kept_columns (counted 1 fields) rows (Null ∷ given) (λ id. shifted id given 0 fields ∙ sym (shifted Null given 0 fields))
+    ∙ shifted Null given 0 fields ∙ each_column fields given fits
+shown true [] rows [] fits = refl
+shown true [] rows (v ∷ row) fits = absurd (false≢true fits)
+shown true (field ∷ more) rows [] fits = absurd (false≢true fits)
+shown true (field ∷ more) rows (Int n ∷ row) fits =
+    ap (λ r. cells (0 ∷ counted 2 more) (with_rowid Chosen rows r)) (written_rowid field more n row fits)
+    ∙ ap (λ xs. Int n ∷ xs) (shifted (Int n) (cast Integer Null ∷ row) 1 more ∙ shifted (cast Integer Null) row 0 more ∙ each_column more row fits)
+shown true (field ∷ more) rows (_ ∷ row) fits = absurd (false≢true fits)
 
 -- its rowid is a number
 chosen : (rows : List Row) (row : Row) → rowid row ≡ Null → IsTrue (is_int (rowid (with_rowid Chosen rows row)))
 chosen rows row none = ap (λ b. is_int (rowid (cond b (Int (at_least Chosen (next_rowid rows)) ∷ drop 1 row) row))) (ap (is_chosen Chosen) none)
 
-numbered : (table : Table) (rows : List Row) (c : Contents (kinds_of table)) → IsTrue (is_int (rowid (with_rowid Chosen rows (written table (row_with (kinds_of table) c)))))
-numbered Court rows c = rw (cast_int c.0) refl
-numbered Calendar rows c = rw (cast_int c.0) refl
-numbered Cases rows c = rw (cast_int c.0) refl
-numbered Parties rows c = chosen rows (written Parties (row_with (kinds_of Parties) c)) cast_null
-numbered Entries rows c = chosen rows (written Entries (row_with (kinds_of Entries) c)) cast_null
-numbered Deadlines rows c = chosen rows (written Deadlines (row_with (kinds_of Deadlines) c)) cast_null
-numbered Acts rows c = chosen rows (written Acts (row_with (kinds_of Acts) c)) cast_null
-numbered Receipts rows c = chosen rows (written Receipts (row_with (kinds_of Receipts) c)) cast_null
-numbered Ends rows c = chosen rows (written Ends (row_with (kinds_of Ends) c)) cast_null
+numbered : (is_rowid : Bool) (fields : List Field) (rows : List Row) (given : Row) → are_of (kinds_by is_rowid fields) given ≡ true → IsTrue (is_int (rowid (with_rowid Chosen rows (written_by is_rowid fields given))))
+numbered false fields rows given fits = chosen rows (written_by false fields given) cast_null
+numbered true [] rows given fits = chosen rows (written_by true [] given) cast_null
+numbered true (field ∷ more) rows [] fits = absurd (false≢true fits)
+numbered true (field ∷ more) rows (Int n ∷ row) fits = subst (λ r. IsTrue (is_int (rowid (with_rowid Chosen rows r)))) (sym (written_rowid field more n row fits)) refl
+numbered true (field ∷ more) rows (_ ∷ row) fits = absurd (false≢true fits)
 
 apart : (m n : ℕ) → (m == n) ≡ false → m ≢ n
 apart m n other e = grind (arith, nat_tests, other, e)
@@ -145,13 +175,9 @@ pub inserted : (table : Table) (given : Row) (rows : Rows) (old new : State) (co
 inserted table given rows old new count fits sees ran turns =
     let put = inserts docket_schema (insert_text table) (shape_of table) (terms_of table) (insert_means table) given old new count sees.shows.schema ran in
     let p = put.2 in
-    let shows : cells (places_of table) p.row ≡ given =
-    ap (cells (places_of table)) p.is
-    ∙ ap (λ g. cells (places_of table) (with_rowid Chosen (old.now.trees (tree_of table)) (written table g))) fits.1
-    ∙ shown table (old.now.trees (tree_of table)) fits.0
-    ∙ sym fits.1 in
-    let id : IsTrue (is_int (rowid p.row)) =
-    subst (λ r. IsTrue (is_int (rowid r))) (sym (p.is ∙ ap (λ g. with_rowid Chosen (old.now.trees (tree_of table)) (written table g)) fits.1)) (numbered table (old.now.trees (tree_of table)) fits.0) in
+    let l = layout_of table in
+    let shows : cells (places_of table) p.row ≡ given = ap (cells (places_of table)) p.is ∙ shown l.is_rowid l.fields (old.now.trees (tree_of table)) given fits in
+    let id : IsTrue (is_int (rowid p.row)) = subst (λ r. IsTrue (is_int (rowid r))) (sym p.is) (numbered l.is_rowid l.fields (old.now.trees (tree_of table)) given fits) in
     record {
       begun = turns.mode;
       shows = record {

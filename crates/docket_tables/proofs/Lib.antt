@@ -15,14 +15,6 @@ mod InsertLemmas
 pub mod InsideLemmas
 pub mod LayoutLemmas
 mod MoveLemmas
-mod OrderlyActions
-pub mod OrderlyActs
-pub mod OrderlyCalendar
-pub mod OrderlyDeadlines
-pub mod OrderlyLemmas
-mod OrderlyLists
-pub mod OrderlyReceipts
-pub mod OrderlyRows
 mod ProbeLemmas
 mod QueryLemmas
 pub mod ReadLemmas

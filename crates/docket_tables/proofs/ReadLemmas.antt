@@ -6,7 +6,7 @@ use Rattle.sqlite.specs.Store.{Ghosts}
 use Rattle.sqlite.specs.State.{HasCleanDisk}
 use Rattle.sqlite.specs.Held.{Held, state}
 use Rattle.docket_tables.specs.Layouts.{Rows}
-use Rattle.docket_tables.specs.Orderly.{RunsFrom}
+use Rattle.docket_orderly.specs.Orderly.{RunsFrom}
 use Rattle.docket_tables.specs.Readings.{IsReadAs, Fails, Gives}
 use Rattle.docket_tables.specs.Stands.{HoldsRows}
 use Rattle.docket_tables.specs.declared.fault.ReadFault.{ReadFault}

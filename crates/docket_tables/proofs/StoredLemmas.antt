@@ -16,7 +16,7 @@ use Rattle.docket_core.specs.declared.row.ActRow.{ActRow}
 use Rattle.docket_core.specs.declared.row.DeadlineRow.{DeadlineRow}
 use Rattle.docket_columns.specs.Fits.{IsEndRow, IsDeadlineRow}
 use Rattle.docket_tables.specs.Contents.{AreStored, ends_in_case, ends_of}
-use Rattle.docket_tables.specs.Orderly.{IsOrderly, RunsFrom}
+use Rattle.docket_orderly.specs.Orderly.{IsOrderly, RunsFrom}
 
 -- the ends of a case among all
 

@@ -28,8 +28,9 @@ use Rattle.std.specs.Prelude.{◌==◌}
 use Rattle.std.specs.List.{flat_map, filter_map}
 use Rattle.sqlite_schema.specs.Rules.{parent_key}
 use Rattle.sqlite_tied.specs.Compute.{everything}
-use Rattle.docket_tables.specs.Schema.{docket_schema, court}
+use Rattle.docket_tables.specs.Schema.{docket_schema, shape_of, tree_of}
 use Rattle.docket_tables.specs.Statements.{count_text}
+use Rattle.docket_tables.specs.declared.table.Table.TheVariants.{Court, Ends}
 use Rattle.docket_tables.specs.Holds.{KeepsOthers, plain_query}
 use Rattle.docket_tables.proofs.InsertLemmas.{went, same_value, concludes}
 
@@ -84,12 +85,12 @@ no_actions olds news =
     elim (length news == 0) as (λ b. flat_map (λ child. filter_map (λ ref. work_by 0 0 (pairs olds news) child ref (deed_for Enforced b ref) (parent_key docket_schema.tables ref)) child.references) docket_schema.tables ≡ [])
     [ true ↦ refl | false ↦ refl ]
 
-pub no_actions_on_ends : (olds news : List Row) → works docket_schema Enforced 0 15 olds news ≡ []
+pub no_actions_on_ends : (olds news : List Row) → works docket_schema Enforced 0 (tree_of Ends) olds news ≡ []
 no_actions_on_ends olds news =
-    elim (length news == 0) as (λ b. flat_map (λ child. filter_map (λ ref. work_by 0 15 (pairs olds news) child ref (deed_for Enforced b ref) (parent_key docket_schema.tables ref)) child.references) docket_schema.tables ≡ [])
+    elim (length news == 0) as (λ b. flat_map (λ child. filter_map (λ ref. work_by 0 (tree_of Ends) (pairs olds news) child ref (deed_for Enforced b ref) (parent_key docket_schema.tables ref)) child.references) docket_schema.tables ≡ [])
     [ true ↦ refl | false ↦ refl ]
 
-pub court_update : UpdatesIn docket_schema count_text (record court { tree = 0 })
+pub court_update : UpdatesIn docket_schema count_text (shape_of Court)
     (record { lets = []; body = plain_query 0 (op2 (Compare Eq Binary) (col 1 0) (lit (Int (pos 1))) ∷ []) (col 1 0 ∷ col 1 0 ∷ lit Null ∷ col 1 2 ∷ col 1 3 ∷ col 1 4 ∷ col 1 5 ∷ op2 (Arith Add) (col 1 6) (lit (Int (pos 1))) ∷ []) [] [] (lit (Int (negsuc 0))) })
 unfolding understood everything
 court_update = record { at = 0; is = refl; plain = (refl, refl); place = refl; no_work = no_actions }

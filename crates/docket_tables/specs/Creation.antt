@@ -1,20 +1,10 @@
 -- The making of the tables, one after another.
-use Rattle.std.specs.Prelude.{◌≡◌, ◌<◌, ℕ, List, [], ◌∷◌, take, fold, IsTrue}
+use Rattle.std.specs.Prelude.{◌≡◌, ◌<◌, ℕ, [], IsTrue}
 use Rattle.std.specs.List.{AllByRecursion}
-use Rattle.sqlite.specs.Schema.{Schema}
-use Rattle.sqlite.specs.Change.{created}
 use Rattle.sqlite.specs.Effect.{IsDatabase}
 use Rattle.sqlite.specs.State.{State}
 use Rattle.docket_tables.specs.Layouts.{Rows}
-use Rattle.docket_tables.specs.Schema.{no_schema, tables, court_text, calendar_text, cases_text, party_text, entry_text, deadline_text, act_text, receipt_text, due_text}
-
--- the statements that make the tables, in order
-abbrev pub texts : List (List ℕ)
-texts = court_text ∷ calendar_text ∷ cases_text ∷ party_text ∷ entry_text ∷ deadline_text ∷ act_text ∷ receipt_text ∷ due_text ∷ []
-
--- the schema that so many of them leave
-abbrev pub made : ℕ → Schema
-made n = fold created no_schema (take n tables)
+use Rattle.docket_tables.specs.Schema.{made}
 
 -- inside a transaction, so many of the tables stand, and hold nothing
 pub record IsMade (s : State) (n : ℕ) : Type 0 where

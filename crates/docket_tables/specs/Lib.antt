@@ -2,10 +2,11 @@ pub mod Contents
 pub mod Creation
 pub mod Holds
 pub mod Layouts
-pub mod Orderly
 pub mod Queries
 pub mod Readings
 pub mod Recognition
 pub mod Schema
 pub mod Stands
 pub mod Statements
+pub mod Tables
+pub mod Texts

@@ -9,7 +9,7 @@ use Rattle.docket_core.specs.Tables.{Tables}
 use Rattle.docket_core.specs.declared.row.ActRow.{ActRow}
 use Rattle.docket_tables.specs.Contents.{rows_in}
 use Rattle.docket_tables.specs.Layouts.{Rows}
-use Rattle.docket_tables.specs.Orderly.{IsOrderly, acts_on}
+use Rattle.docket_orderly.specs.Orderly.{IsOrderly, acts_on}
 use Rattle.docket_tables.specs.Stands.{HoldsRows, Lasts}
 use Rattle.docket_tables.specs.declared.fault.ReadFault.{ReadFault}
 use Rattle.docket_tables.specs.declared.fault.ReadFault.TheVariants.{Store, NoMemory, Damaged}

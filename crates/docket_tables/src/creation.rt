@@ -1,11 +1,12 @@
 //! The making of the tables.
-ghost use Rattle.std.specs.Prelude.{◌≡◌, ◌≢◌, ◌<◌, ◌≤◌, ℕ, suc, [], slice_get, Some, OnOk, false};
+ghost use Rattle.std.specs.Prelude.{◌≡◌, ◌≢◌, ◌<◌, ◌≤◌, suc, [], length, get_or, OnOk, false};
 ghost use Rattle.docket_core.specs.Tables.{rows_of};
 ghost use Rattle.sqlite.specs.Held.{state};
 ghost use Rattle.sqlite.specs.State.{HasCleanDisk};
 ghost use Rattle.sqlite.specs.View.{doubt};
-ghost use Rattle.docket_tables.specs.Creation.{texts, IsMade, no_rows};
+ghost use Rattle.docket_tables.specs.Creation.{IsMade, no_rows};
 ghost use Rattle.docket_tables.specs.Schema.{no_schema};
+ghost use Rattle.docket_tables.specs.Tables.{layout_of, tables};
 ghost use Rattle.docket_tables.specs.Contents.{rows_in};
 ghost use Rattle.docket_tables.specs.Stands.{Makes, Sees, StaysInside};
 ghost use Rattle.docket_tables.specs.declared.fault.StoreFault.TheVariants.{NoMemory, StoreFailed};
@@ -13,59 +14,40 @@ ghost use Rattle.sqlite.specs.declared.error.Error.TheVariants.{SqliteFailure};
 ghost use Rattle.sqlite.specs.declared.error.ErrorCode.TheVariants.{OutOfMemory};
 
 use crate::fault::StoreFault;
+use crate::statement::create_text;
 use crate::store::{change, insert};
-use crate::table::Table;
+use crate::table::{TABLES, Table};
 use court_days::Court;
 use docket_columns::court_values;
 use sqlite::{Alter, Connection, Error, ErrorCode, Transaction};
 
-const TABLES: usize = 9;
-
-/// What makes a table.
-fn create_text(number: usize) -> &'static str
-    requires { number < 9 }
-    ensures { slice_get texts number ≡ Some result.now }
-{
-    match number {
-        0 =>
-            "CREATE TABLE court (id INTEGER PRIMARY KEY, word TEXT NOT NULL, version INTEGER NOT NULL, zone TEXT NOT NULL, close INTEGER NOT NULL, next_row INTEGER NOT NULL) STRICT",
-        1 =>
-            "CREATE TABLE calendar (row_no INTEGER PRIMARY KEY, kind INTEGER NOT NULL, a INTEGER NOT NULL, b INTEGER NOT NULL, name TEXT NOT NULL, UNIQUE (kind, a, b)) STRICT",
-        2 =>
-            "CREATE TABLE cases (number INTEGER PRIMARY KEY, label TEXT NOT NULL UNIQUE, caption TEXT NOT NULL, filed INTEGER NOT NULL) STRICT",
-        3 =>
-            "CREATE TABLE party (case_no INTEGER NOT NULL, number INTEGER NOT NULL, name TEXT NOT NULL, role INTEGER NOT NULL, PRIMARY KEY (case_no, number), FOREIGN KEY (case_no) REFERENCES cases (number)) STRICT",
-        4 =>
-            "CREATE TABLE entry (case_no INTEGER NOT NULL, number INTEGER NOT NULL, day INTEGER NOT NULL, body TEXT NOT NULL, PRIMARY KEY (case_no, number), FOREIGN KEY (case_no) REFERENCES cases (number)) STRICT",
-        5 =>
-            "CREATE TABLE deadline (case_no INTEGER NOT NULL, number INTEGER NOT NULL, party INTEGER NOT NULL, rule TEXT NOT NULL, initial INTEGER NOT NULL, PRIMARY KEY (case_no, number), FOREIGN KEY (case_no) REFERENCES cases (number)) STRICT",
-        6 =>
-            "CREATE TABLE act (case_no INTEGER NOT NULL, deadline_no INTEGER NOT NULL, number INTEGER NOT NULL, kind INTEGER NOT NULL, p1 INTEGER NOT NULL, p2 INTEGER NOT NULL, p3 INTEGER NOT NULL, p4 INTEGER NOT NULL, p5 INTEGER NOT NULL, PRIMARY KEY (case_no, deadline_no, number), FOREIGN KEY (case_no, deadline_no) REFERENCES deadline (case_no, number)) STRICT",
-        7 =>
-            "CREATE TABLE receipt (command_key TEXT NOT NULL PRIMARY KEY, body TEXT NOT NULL, reply INTEGER NOT NULL) STRICT",
-        _ =>
-            "CREATE TABLE due (case_no INTEGER NOT NULL, deadline_no INTEGER NOT NULL, day INTEGER NOT NULL, moment INTEGER NOT NULL, PRIMARY KEY (case_no, deadline_no), UNIQUE (day, moment, case_no, deadline_no), FOREIGN KEY (case_no, deadline_no) REFERENCES deadline (case_no, number)) STRICT",
-    }
-}
-
 /// Makes one more table.
-fn define<S: Alter>(tx: &mut Transaction<'_, S>, sql: &str) -> Result<(), Error>
+fn define<S: Alter>(tx: &mut Transaction<'_, S>, table: Table) -> Result<(), Error>
     ensures same_reference { tx.new.conn.ghost_name ≡ tx.old.conn.ghost_name }
     ensures inside { StaysInside (state S.Store tx.old.conn.now) (state S.Store tx.new.conn.now) }
-    ensures ok { HasCleanDisk (state S.Store tx.new.conn.now) → (n : ℕ) → slice_get texts n ≡ Some sql.now → IsMade (state S.Store tx.old.conn.now) n
-        → OnOk result (IsMade (state S.Store tx.new.conn.now) (suc n)) }
+    ensures ok { HasCleanDisk (state S.Store tx.new.conn.now) → IsMade (state S.Store tx.old.conn.now) (layout_of table).at
+        → OnOk result (IsMade (state S.Store tx.new.conn.now) (suc (layout_of table).at)) }
 {
-    change(tx, sql, &[])
+    change(tx, create_text(table), &[])
+}
+
+/// The table of a number, counted from 0.
+fn table_at(all: &[Table], number: usize) -> Table
+    requires { number < length all.now }
+    ensures { result ≡ get_or all.now number result }
+{
+    all[number]
 }
 
 /// Makes all tables.
-fn define_all<S: Alter>(tx: &mut Transaction<'_, S>) -> Result<(), Error>
+fn define_all<S: Alter>(tx: &mut Transaction<'_, S>, all: &[Table]) -> Result<(), Error>
+    requires { all.now ≡ tables }
     ensures same_reference { tx.new.conn.ghost_name ≡ tx.old.conn.ghost_name }
     ensures inside { StaysInside (state S.Store tx.old.conn.now) (state S.Store tx.new.conn.now) }
     ensures ok { HasCleanDisk (state S.Store tx.new.conn.now) → (state S.Store tx.old.conn.now).now.schema ≡ no_schema → OnOk result (Sees (state S.Store tx.new.conn.now) no_rows) }
 {
-    'tables: for number in 0..TABLES {
-        define(tx, create_text(number))?;
+    'tables: for number in 0..all.len() {
+        define(tx, table_at(all, number))?;
     }
     Ok(())
 }
@@ -77,7 +59,7 @@ fn define_docket<S: Alter>(tx: &mut Transaction<'_, S>, court: &Court) -> Result
     ensures ok { HasCleanDisk (state S.Store tx.new.conn.now) → (state S.Store tx.old.conn.now).now.schema ≡ no_schema
         → OnOk result (Sees (state S.Store tx.new.conn.now) (rows_in court.now (rows_of court.now []))) }
 {
-    define_all(tx)?;
+    define_all(tx, &TABLES)?;
     insert(tx, Table::Court, &court_values(court, 1))
 }
 

@@ -7,13 +7,13 @@ ghost use Rattle.docket_core.specs.Histories.{deadlines_of_case};
 ghost use Rattle.docket_core.specs.Tables.{Tables};
 ghost use Rattle.docket_core.specs.declared.end_row.EndRow.{EndRow as Ended};
 ghost use Rattle.docket_tables.specs.Contents.{AreStored, ends_of, rows_with};
-ghost use Rattle.docket_tables.specs.Orderly.{IsOrderly};
+ghost use Rattle.docket_orderly.specs.Orderly.{IsOrderly};
 ghost use Rattle.docket_tables.specs.Readings.{AreActsOf};
 ghost use Rattle.docket_tables.specs.Stands.{Inside};
 
 use crate::fault::ReadFault;
 use crate::query::Query;
-use crate::rows::{acts_in, calendar_in, deadlines_in, ends_in};
+use crate::rows::all_in;
 use crate::store::ask_inside;
 use docket_core::{ActRow, CalendarRow, DeadlineRow, EndRow};
 use sqlite::types::ToSql;
@@ -31,7 +31,7 @@ pub fn calendar<S: Alter>(
         → Inside (state S.Store tx.old.conn.now) (state S.Store tx.new.conn.now) (rows_with court t ends) (rows_with court t ends) result (λ found. found.items ≡ t.calendar) }
 {
     let rows = ask_inside(tx, Query::Calendar, &[])?;
-    calendar_in(alloc, rows.as_slice())
+    all_in(alloc, rows.as_slice())
 }
 
 /// The ends that are stored of a case.
@@ -46,7 +46,7 @@ pub fn ends_of_case<S: Alter>(
         → Inside (state S.Store tx.old.conn.now) (state S.Store tx.new.conn.now) (rows_with court t ends) (rows_with court t ends) result (λ found. found.items ≡ ends_of case ends) }
 {
     let rows = ask_inside(tx, Query::Ends, &[case.to_sql()])?;
-    ends_in(alloc, rows.as_slice())
+    all_in(alloc, rows.as_slice())
 }
 
 /// The deadlines of a case.
@@ -61,7 +61,7 @@ pub fn deadlines_of_case<S: Alter>(
         → Inside (state S.Store tx.old.conn.now) (state S.Store tx.new.conn.now) (rows_with court t ends) (rows_with court t ends) result (λ found. found.items ≡ deadlines_of_case case t.deadlines) }
 {
     let rows = ask_inside(tx, Query::Deadlines, &[case.to_sql()])?;
-    deadlines_in(alloc, rows.as_slice())
+    all_in(alloc, rows.as_slice())
 }
 
 /// The acts of a case.
@@ -76,5 +76,5 @@ pub fn acts_of_case<S: Alter>(
         → Inside (state S.Store tx.old.conn.now) (state S.Store tx.new.conn.now) (rows_with court t ends) (rows_with court t ends) result (λ found. AreActsOf case t.acts found.items) }
 {
     let rows = ask_inside(tx, Query::Acts, &[case.to_sql()])?;
-    acts_in(alloc, rows.as_slice())
+    all_in(alloc, rows.as_slice())
 }

@@ -27,7 +27,7 @@ mod table;
 pub use changing::{change_ends, record};
 pub use creation::make;
 pub use fault::{ReadFault, StoreFault};
-pub use laws::{dockets_are_orderly, dockets_are_recognized};
+pub use laws::dockets_are_recognized;
 pub use probe::fault_of;
 pub use reading::{
     acts_of_case, acts_of_deadline, calendar, case, cases, count_deadlines, count_entries,
@@ -35,4 +35,5 @@ pub use reading::{
     is_row_standing, kept, parties,
 };
 pub use recognition::{has_docket_table, is_bare};
-pub use table::Table;
+pub use statement::scan_text;
+pub use table::{Table, table_columns, table_name};

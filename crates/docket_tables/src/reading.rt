@@ -15,10 +15,7 @@ ghost use Rattle.docket_tables.specs.Readings.{AreActsOf, Reads, row_at};
 
 use crate::fault::ReadFault;
 use crate::query::Query;
-use crate::rows::{
-    acts_alone_in, acts_in, calendar_in, case_in, court_in, deadline_in, deadlines_in, ends_in,
-    entries_in, kept_in, number_in, parties_in,
-};
+use crate::rows::{acts_alone_in, all_in, court_in, deadline_in, first_in, kept_in, number_in};
 use crate::store::ask;
 use court_rules::Act;
 use docket_columns::CourtRow;
@@ -48,7 +45,7 @@ pub fn calendar<S: Alter>(
     ensures mode { conn.old.in_transaction ≡ false → conn.new.in_transaction ≡ false }
 {
     let rows = ask(conn, Query::Calendar, &[])?;
-    calendar_in(alloc, rows.as_slice())
+    all_in(alloc, rows.as_slice())
 }
 
 /// Whether the calendar row of a number stands.
@@ -92,7 +89,7 @@ pub fn case<S: Alter>(
     ensures mode { conn.old.in_transaction ≡ false → conn.new.in_transaction ≡ false }
 {
     let rows = ask(conn, Query::CaseNumbered, &[number.to_sql()])?;
-    case_in(alloc, rows.as_slice())
+    first_in(alloc, rows.as_slice())
 }
 
 /// How many parties a case has.
@@ -116,7 +113,7 @@ pub fn parties<S: Alter>(
     ensures mode { conn.old.in_transaction ≡ false → conn.new.in_transaction ≡ false }
 {
     let rows = ask(conn, Query::Parties, &[case.to_sql()])?;
-    parties_in(alloc, rows.as_slice())
+    all_in(alloc, rows.as_slice())
 }
 
 /// How many entries a case has.
@@ -140,7 +137,7 @@ pub fn entries<S: Alter>(
     ensures mode { conn.old.in_transaction ≡ false → conn.new.in_transaction ≡ false }
 {
     let rows = ask(conn, Query::Entries, &[case.to_sql()])?;
-    entries_in(alloc, rows.as_slice())
+    all_in(alloc, rows.as_slice())
 }
 
 /// How many deadlines a case has.
@@ -197,7 +194,7 @@ pub fn deadlines<S: Alter>(
     ensures mode { conn.old.in_transaction ≡ false → conn.new.in_transaction ≡ false }
 {
     let rows = ask(conn, Query::Deadlines, &[case.to_sql()])?;
-    deadlines_in(alloc, rows.as_slice())
+    all_in(alloc, rows.as_slice())
 }
 
 /// The acts of a case: those of each deadline in the order of their numbers.
@@ -211,7 +208,7 @@ pub fn acts_of_case<S: Alter>(
     ensures mode { conn.old.in_transaction ≡ false → conn.new.in_transaction ≡ false }
 {
     let rows = ask(conn, Query::Acts, &[case.to_sql()])?;
-    acts_in(alloc, rows.as_slice())
+    all_in(alloc, rows.as_slice())
 }
 
 /// The ends of the deadlines of a case whose time runs, in the order of the deadlines.
@@ -225,7 +222,7 @@ pub fn ends_of_case<S: Alter>(
     ensures mode { conn.old.in_transaction ≡ false → conn.new.in_transaction ≡ false }
 {
     let rows = ask(conn, Query::Ends, &[case.to_sql()])?;
-    ends_in(alloc, rows.as_slice())
+    all_in(alloc, rows.as_slice())
 }
 
 /// What stands under a command's key. `body` is the canonical text of the command.

@@ -1,23 +1,18 @@
 //! What tells the tables of a docket from others, by the schema alone.
 ghost use Rattle.std.specs.Prelude.{◌≡◌, ◌↔◌, bytes_eq, IsTrue};
 ghost use Rattle.std.specs.List.{list_any};
-ghost use Rattle.docket_tables.specs.Recognition.{names, has_docket_table};
+ghost use Rattle.docket_tables.specs.Recognition.{has_docket_table};
+ghost use Rattle.docket_tables.specs.Tables.{layout_of};
 ghost use Rattle.docket_tables.specs.Schema.{no_schema};
 
+use crate::table::{TABLES, Table, table_name};
 use sqlite_schema::schema::Schema;
 
-fn is_table_name(name: &[u8]) -> bool
-    ensures { result ≡ list_any (bytes_eq name.now) names }
+fn is_table_name(name: &[u8], all: &[Table]) -> bool
+    ensures { result ≡ list_any (λ table. bytes_eq name.now (layout_of table).name) all.now }
 {
-    name == "court".as_bytes()
-        || name == "calendar".as_bytes()
-        || name == "cases".as_bytes()
-        || name == "party".as_bytes()
-        || name == "entry".as_bytes()
-        || name == "deadline".as_bytes()
-        || name == "act".as_bytes()
-        || name == "receipt".as_bytes()
-        || name == "due".as_bytes()
+    all.iter()
+        .any(|table| name == table_name(*table).as_bytes())
 }
 
 /// Whether a table has the name of one of a docket's.
@@ -27,7 +22,7 @@ pub fn has_docket_table(schema: &Schema) -> bool
     let tables = schema.tables.as_slice();
     tables
         .iter()
-        .any(|table| is_table_name(table.name.as_slice()))
+        .any(|table| is_table_name(table.name.as_slice(), &TABLES))
 }
 
 /// Whether the database has no table, no index and no view.

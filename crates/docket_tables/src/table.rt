@@ -1,4 +1,7 @@
 //! The tables of the docket.
+ghost use Rattle.std.specs.Prelude.{◌≡◌, map};
+ghost use Rattle.docket_tables.specs.Tables.{layout_of};
+ghost use Rattle.docket_tables.specs.Texts.{names_in};
 
 /// A table of the docket.
 #[derive(Clone, Copy, Debug, PartialEq, Eq)]
@@ -14,4 +17,61 @@ pub enum Table {
     Receipts,
     /// The ends of the deadlines whose time runs.
     Ends,
+}
+
+/// The tables, in the order in which they are made.
+pub(crate) const TABLES: [Table; 9] = [
+    Table::Court,
+    Table::Calendar,
+    Table::Cases,
+    Table::Parties,
+    Table::Entries,
+    Table::Deadlines,
+    Table::Acts,
+    Table::Receipts,
+    Table::Ends,
+];
+
+/// The name of the table in SQL.
+pub fn table_name(table: Table) -> &'static str
+    ensures { result.now ≡ (layout_of table).name }
+{
+    match table {
+        Table::Court => "court",
+        Table::Calendar => "calendar",
+        Table::Cases => "cases",
+        Table::Parties => "party",
+        Table::Entries => "entry",
+        Table::Deadlines => "deadline",
+        Table::Acts => "act",
+        Table::Receipts => "receipt",
+        Table::Ends => "due",
+    }
+}
+
+/// The names of its columns, in their order.
+pub fn table_columns(table: Table) -> &'static [&'static str]
+    ensures { map (λ name. name.now) result.now ≡ names_in (layout_of table) }
+{
+    match table {
+        Table::Court => &["id", "word", "version", "zone", "close", "next_row"],
+        Table::Calendar => &["row_no", "kind", "a", "b", "name"],
+        Table::Cases => &["number", "label", "caption", "filed"],
+        Table::Parties => &["case_no", "number", "name", "role"],
+        Table::Entries => &["case_no", "number", "day", "body"],
+        Table::Deadlines => &["case_no", "number", "party", "rule", "initial"],
+        Table::Acts => &[
+            "case_no",
+            "deadline_no",
+            "number",
+            "kind",
+            "p1",
+            "p2",
+            "p3",
+            "p4",
+            "p5",
+        ],
+        Table::Receipts => &["command_key", "body", "reply"],
+        Table::Ends => &["case_no", "deadline_no", "day", "moment"],
+    }
 }

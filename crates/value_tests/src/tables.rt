@@ -127,7 +127,7 @@ fn deadlines(alloc: Global, rows: &[(u32, u32, u32)]) -> Result<Option<Numbering
             return Ok(None);
         }
     }
-    Ok(Some(check.counts()))
+    Ok(Some(check.finish().1))
 }
 
 /// The first act, or the second: a motion on the day.

@@ -4,7 +4,7 @@ use Rattle.sqlite.specs.View.{doubt}
 use Rattle.docket_core.specs.Tables.{Tables}
 use Rattle.docket_core.specs.declared.end_row.EndRow.{EndRow}
 use Rattle.docket_tables.specs.Contents.{rows_with}
-use Rattle.docket_tables.specs.Orderly.{IsOrderly}
+use Rattle.docket_orderly.specs.Orderly.{IsOrderly}
 use Rattle.docket_tables.specs.Contents.{AreStored}
 use Rattle.docket_changes.specs.Settling.{RunsOnlyWhereStored, settled_cases}
 use Rattle.docket_tables.proofs.InsideLemmas.{Went}

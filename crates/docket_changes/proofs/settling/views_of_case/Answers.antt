@@ -2,7 +2,7 @@ use Rattle.std.proofs.Common.{◌∙◌, ap, sym, subst, map}
 use Rattle.sqlite.specs.Held.{state}
 use Rattle.docket_core.specs.Histories.{deadlines_from}
 use Rattle.docket_tables.specs.Contents.{rows_with}
-use Rattle.docket_tables.specs.Orderly.{RunsFrom}
+use Rattle.docket_orderly.specs.Orderly.{RunsFrom}
 use Rattle.docket_tables.specs.Readings.{AreActsOf}
 use Rattle.docket_tables.proofs.InsideLemmas.{failed_after, stays_after, went_after}
 use Rattle.docket_changes.proofs.settling.views_of_case.Goals as goal

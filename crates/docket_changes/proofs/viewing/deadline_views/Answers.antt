@@ -1,7 +1,7 @@
 use Rattle.std.proofs.Common.{◌∙◌, ap, sym, subst, map, arith}
 use Rattle.docket_core.specs.Histories.{deadlines_from}
 use Rattle.docket_tables.specs.Contents.{rows_in}
-use Rattle.docket_tables.specs.Orderly.{RunsFrom}
+use Rattle.docket_orderly.specs.Orderly.{RunsFrom}
 use Rattle.docket_tables.specs.Readings.{AreActsOf}
 use Rattle.docket_tables.proofs.ReadLemmas.{err_given, short_given}
 use Rattle.docket_changes.proofs.viewing.deadline_views.Goals as goal

@@ -1,46 +1,51 @@
-use Rattle.std.proofs.Common.{◌≡◌, ◌∙◌, ap, subst}
+use Rattle.std.proofs.Common.{◌≡◌, ◌∙◌, ap, inl, subst}
 use Rattle.sqlite.specs.Held.{state}
 use Rattle.docket_columns.specs.Cells.{calendar_cells}
 use Rattle.docket_columns.specs.Fits.{IsCalendarRow}
 use Rattle.docket_sound.specs.Calendars.{AreSoundCalendarRows, HasTakenCalendarRows}
 use Rattle.docket_tables.specs.declared.table.Table.TheVariants as table
 use Rattle.docket_scan.specs.Judging.{no_rows}
-use Rattle.docket_scan.specs.Passing.{SaysCalendar}
+use Rattle.docket_scan.specs.Reading.{FailsOver, Says}
 use Rattle.docket_scan.specs.Records.{AreCalendarRows}
 use Rattle.docket_scan.specs.Taken.{CalendarContext, calendar_context}
+use Rattle.docket_scan.specs.declared.fault.AdoptFault.TheVariants.{NoMemory}
 use Rattle.docket_scan.proofs.JudgingLemmas.{failed_first, handed, read_rows, so_many}
-use Rattle.docket_scan.proofs.RecordLemmas.{none_read}
 use Rattle.docket_scan.proofs.judging.judge_calendar.Goals as goal
 
-pub returns-in_err-count-clause-told : goal.returns-in_err-count-clause-told
-returns-in_err-count-clause-told g c clean =
+pub returns-in_err-check-clause-err : goal.returns-in_err-check-clause-err
+returns-in_err-check-clause-err g c =
     let old = state g.S.Store c.args.conn.now in
     let new = state g.S.Store c.judge.new.conn in
     let made = c.new-check.ensures in
     let given : calendar_context c.new-check.result ≡ (c.args.court, c.args.next_row) = λ i. (made.court i, made.next_row i) in
-    let fault = c.in_err-count.field-0.0 in
-    let told = rw c.in_err-count.was at (c.judge.ensures.told clean (none_read IsCalendarRow calendar_cells (HasTakenCalendarRows c.new-check.result) made.none)) in
-    handed table.Calendar c.args.court c.args.next_row old new (SaysCalendar c.args.court) c.from_residual.result fault c.from_residual.ensures.1
-    (failed_first c.args.court c.args.next_row old new no_rows (AreCalendarRows c.new-check.result.court c.new-check.result.next_row) fault
-    (ap (λ (k : CalendarContext). AreCalendarRows k.0 k.1) given) told)
+    let fault = c.in_err-check.field-0.0 in
+    handed c.from_residual.result fault (FailsOver old c.args.court c.args.next_row new) c.from_residual.ensures.1
+    (λ clean. failed_first c.args.court c.args.next_row old new no_rows (AreCalendarRows c.new-check.result.court c.new-check.result.next_row) fault
+    (ap (λ (k : CalendarContext). AreCalendarRows k.0 k.1) given) (rw c.in_err-check.was at (c.judge.ensures.told clean made.none)))
 
-pub returns-clause-told : goal.returns-clause-told
-returns-clause-told g c clean =
+pub returns-in_err-read-clause-err : goal.returns-in_err-read-clause-err
+returns-in_err-read-clause-err g c =
+    let old = state g.S.Store c.args.conn.now in
+    let new = state g.S.Store c.judge.new.conn in
+    handed c.from_residual-in_err-read.result NoMemory (FailsOver old c.args.court c.args.next_row new) c.from_residual-in_err-read.ensures.1
+    (λ clean. let told = rw c.in_ok-check.was at (c.judge.ensures.told clean c.new-check.ensures.none) in inl told.0)
+
+pub returns-clause-ok : goal.returns-clause-ok
+returns-clause-ok g c clean =
     let old = state g.S.Store c.args.conn.now in
     let made = c.new-check.ensures in
-    let check = c.judge.new.check in
-    let told = rw c.in_ok-count.was at (c.judge.ensures.told clean (none_read IsCalendarRow calendar_cells (HasTakenCalendarRows c.new-check.result) made.none)) in
+    let begun : calendar_context c.new-check.result ≡ (c.args.court, c.args.next_row) = λ i. (made.court i, made.next_row i) in
+    let given = c.in_ok-check.ensures.context ∙ begun in
+    let told = rw c.in_ok-check.was at (c.judge.ensures.told clean made.none) in
+    let taken = HasTakenCalendarRows c.in_ok-check.check in
     let read = told.1.3.1 in
-    let count = c.in_ok-count.count in
-    let first : calendar_context c.new-check.result ≡ (c.args.court, c.args.next_row) = λ i. (made.court i, made.next_row i) in
-    let given = c.judge.ensures.context ∙ first in
-    let sound = subst (λ (k : CalendarContext). AreSoundCalendarRows k.0 k.1 read.records) given read.taken.sound in (
-      told.0,
-      record no_rows { calendar = read.records },
-      tt,
-      read_rows table.Calendar old IsCalendarRow calendar_cells (HasTakenCalendarRows check) count told.1 (AreSoundCalendarRows c.args.court c.args.next_row) sound,
-      (
-        (c.finish-court.ensures.court ∙ ap (λ (k : CalendarContext). k.0) given, c.finish-court.ensures.calendar read.records read.taken),
-        λ i. record (c.none.ensures c.args.court i) { calendar_rows = so_many table.Calendar old IsCalendarRow calendar_cells (HasTakenCalendarRows check) count told.1 i },
-      ),
-    )
+    let count = so_many table.Calendar old IsCalendarRow calendar_cells taken c.in_ok-check.count told.1 in
+    let sound = subst (λ (k : CalendarContext). AreSoundCalendarRows k.0 k.1 read.records) given read.taken.sound in
+    let court = c.finish-court.ensures.court ∙ ap (λ (k : CalendarContext). k.0) given in
+    let said = c.in_ok-read.ensures read.records (c.finish-court.ensures.calendar read.records read.taken) count in
+    record {
+      same = told.0;
+      rows = record no_rows { calendar = read.records };
+      sound = (read_rows table.Calendar old IsCalendarRow calendar_cells taken c.in_ok-check.count told.1 (AreSoundCalendarRows c.args.court c.args.next_row) sound, tt);
+      said = subst (λ k. Says table.Cases k (record no_rows { calendar = read.records }) c.in_ok-read.read) court said;
+    }

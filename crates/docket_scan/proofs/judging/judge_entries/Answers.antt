@@ -1,4 +1,4 @@
-use Rattle.std.proofs.Common.{◌≡◌, ◌∙◌, ap, arith, length, subst, inl}
+use Rattle.std.proofs.Common.{◌∙◌, ap, arith, length, subst}
 use Rattle.sqlite.specs.Held.{state}
 use Rattle.sqlite.specs.State.{HasCleanDisk}
 use Rattle.sqlite.proofs.Callers.{unchanged_then}
@@ -7,53 +7,51 @@ use Rattle.docket_columns.specs.Fits.{IsEntryRow}
 use Rattle.docket_sound.specs.Entries.{AreSoundEntries, HasTakenEntries, entries_checked}
 use Rattle.docket_tables.specs.declared.table.Table.TheVariants as table
 use Rattle.docket_scan.specs.Judging.{Holds, before}
-use Rattle.docket_scan.specs.Passing.{SaysParties}
+use Rattle.docket_scan.specs.Reading.{FailsOver}
 use Rattle.docket_scan.specs.Records.{AreEntryRows}
 use Rattle.docket_scan.specs.Scans.{OfSoMany}
-use Rattle.docket_scan.specs.Taken.{HasTakenEntryTable}
-use Rattle.docket_scan.specs.declared.fault.AdoptFault.TheVariants.{NoMemory}
+use Rattle.docket_scan.specs.Taken.{IsRead}
 use Rattle.docket_scan.proofs.JudgingLemmas.{all_more, failed, handed, read_rows, so_many, sound_before}
-use Rattle.docket_scan.proofs.RecordLemmas.{none_read}
 use Rattle.docket_scan.proofs.judging.judge_entries.Goals as goal
 
-pub returns-in_err-check-clause-told : goal.returns-in_err-check-clause-told
-returns-in_err-check-clause-told g c clean =
+pub returns-in_err-count-clause-err : goal.returns-in_err-count-clause-err
+returns-in_err-count-clause-err g c first court next prior =
+    let start = state g.S.Store first in
     let old = state g.S.Store c.args.conn.now in
-    let mid = state g.S.Store c.judge_parties.new.conn in
-    let prev = rw c.in_ok-read.was at (c.judge_parties.ensures.told clean) in
-    handed table.Entries c.args.court c.args.next_row old mid (SaysParties c.args.court) c.from_residual-in_err-check.result NoMemory c.from_residual-in_err-check.ensures.1 (inl prev.0)
-
-pub returns-in_err-count-clause-told : goal.returns-in_err-count-clause-told
-returns-in_err-count-clause-told g c clean =
-    let old = state g.S.Store c.args.conn.now in
-    let mid = state g.S.Store c.judge_parties.new.conn in
     let new = state g.S.Store c.judge.new.conn in
-    let early : HasCleanDisk mid = omega (arith, clean, c.judge.ensures.writes_nothing.clean) in
-    let prev = rw c.in_ok-read.was at (c.judge_parties.ensures.told early) in
-    let given : entries_checked c.in_ok-check.check ≡ length prev.1.cases = c.in_ok-check.ensures.cases ∙ prev.4.1 in
     let fault = c.in_err-count.field-0.0 in
-    let told = rw c.in_err-count.was at (c.judge.ensures.told clean (none_read IsEntryRow entry_cells (HasTakenEntries c.in_ok-check.check) c.in_ok-check.ensures.none)) in
-    handed table.Entries c.args.court c.args.next_row old new (SaysParties c.args.court) c.from_residual-in_err-count.result fault c.from_residual-in_err-count.ensures.1
-    (failed old mid prev.0 table.Entries tt c.args.court c.args.next_row new prev.1 (AreEntryRows (entries_checked c.in_ok-check.check)) fault (ap AreEntryRows given)
-    (all_more (Holds old c.args.court c.args.next_row prev.1) (before table.Parties) table.Parties prev.2 prev.3) told)
+    handed c.from_residual-in_err-count.result fault (FailsOver start court next new) c.from_residual-in_err-count.ensures.1
+    (λ clean.
+    let early : HasCleanDisk old = omega (arith, clean, c.judge.ensures.writes_nothing.clean) in
+    let was = prior early in
+    let told = rw c.in_err-count.was at (c.judge.ensures.told clean c.in_ok-check.ensures.none) in
+    failed start old was.same table.Entries tt court next new was.rows (AreEntryRows (entries_checked c.in_ok-check.check)) fault (ap AreEntryRows (c.in_ok-check.ensures.cases ∙ was.said.cases)) was.sound told)
 
-pub returns-clause-told : goal.returns-clause-told
-returns-clause-told g c clean =
+pub returns-clause-ok : goal.returns-clause-ok
+returns-clause-ok g c first court next prior clean =
+    let start = state g.S.Store first in
     let old = state g.S.Store c.args.conn.now in
-    let mid = state g.S.Store c.judge_parties.new.conn in
     let new = state g.S.Store c.judge.new.conn in
-    let early : HasCleanDisk mid = omega (arith, clean, c.judge.ensures.writes_nothing.clean) in
-    let prev = rw c.in_ok-read.was at (c.judge_parties.ensures.told early) in
-    let given : entries_checked c.in_ok-check.check ≡ length prev.1.cases = c.in_ok-check.ensures.cases ∙ prev.4.1 in
-    let told = rw c.in_ok-count.was at (c.judge.ensures.told clean (none_read IsEntryRow entry_cells (HasTakenEntries c.in_ok-check.check) c.in_ok-check.ensures.none)) in
-    let held = sound_before old mid prev.0 table.Entries (OfSoMany c.in_ok-count.count (HasTakenEntryTable c.judge.new.check)) told.1 in
+    let early : HasCleanDisk old = omega (arith, clean, c.judge.ensures.writes_nothing.clean) in
+    let was = prior early in
+    let told = rw c.in_ok-count.was at (c.judge.ensures.told clean c.in_ok-check.ensures.none) in
+    let taken = HasTakenEntries c.in_ok-count.field-0-0 in
+    let held = sound_before start old was.same table.Entries (OfSoMany c.in_ok-count.count (IsRead IsEntryRow entry_cells taken)) told.1 in
     let read = held.3.1 in
-    let count = so_many table.Entries old IsEntryRow entry_cells (HasTakenEntries c.judge.new.check) c.in_ok-count.count held in
-    let counts = c.judge.ensures.context ∙ given in
-    let sound = subst (λ n. AreSoundEntries n read.records) counts read.taken.sound in (
-      unchanged_then old mid new prev.0 told.0,
-      record prev.1 { entries = read.records },
-      all_more (Holds old c.args.court c.args.next_row prev.1) (before table.Parties) table.Parties prev.2 prev.3,
-      read_rows table.Entries old IsEntryRow entry_cells (HasTakenEntries c.judge.new.check) c.in_ok-count.count held (AreSoundEntries (length prev.1.cases)) sound,
-      (prev.4.0, prev.4.1, prev.4.2, λ i. record (prev.4.3 i) { entries = count i }),
-    )
+    let count = so_many table.Entries start IsEntryRow entry_cells taken c.in_ok-count.count held in
+    let given = c.in_ok-count.ensures.context ∙ c.in_ok-check.ensures.cases ∙ was.said.cases in
+    let rows = record was.rows { entries = read.records } in
+    record {
+      same = unchanged_then start old new was.same told.0;
+      rows = rows;
+      sound = all_more (Holds start court next rows) (before table.Entries) table.Entries was.sound (read_rows table.Entries start IsEntryRow entry_cells taken c.in_ok-count.count held (AreSoundEntries (length was.rows.cases)) (subst (λ n. AreSoundEntries n read.records) given read.taken.sound));
+      said = record {
+        court = was.said.court;
+        calendar = was.said.calendar;
+        cases = was.said.cases;
+        parties = was.said.parties;
+        deadlines = was.said.deadlines;
+        sized = λ below. absurd (omega (arith, below));
+        held = λ i. record (was.said.held i) { entries = count i };
+      };
+    }

@@ -7,7 +7,7 @@ use Rattle.docket_tables.specs.Layouts.{Fits, with_row}
 use Rattle.docket_tables.specs.Stands.{Sees}
 use Rattle.docket_tables.specs.declared.table.Table.TheVariants.{Calendar}
 use Rattle.docket_tables.proofs.CommitLemmas.{inside_then}
-use Rattle.docket_tables.proofs.ContentsLemmas.{calendar_added, calendar_fits, sees_same}
+use Rattle.docket_tables.proofs.ContentsLemmas.{calendar_added, sees_same}
 use Rattle.docket_tables.proofs.changing.add_calendar_row.Goals as goal
 
 pub returns-clause-inside : goal.returns-clause-inside
@@ -18,7 +18,7 @@ returns-clause-ok g c clean court t ends small sees =
     let mid = state g.S.Store c.insert.new.tx.conn.now in
     let last = state g.S.Store c.count_calendar_row.new.tx.conn.now in
     let row = c.args.row.now in
-    let fits = subst (Fits Calendar) (sym c.calendar_values.ensures) (calendar_fits row) in
+    let fits = subst (Fits Calendar) (sym c.calendar_values.ensures) refl in
     let added = c.in_ok-insert.ensures.ok (omega (arith, c.count_calendar_row.ensures.inside.survives.clean)) fits (rows_with court t ends) sees in
     let there = subst (λ r. Sees mid (with_row Calendar r (rows_with court t ends))) c.calendar_values.ensures added in
     IfOk-weaker c.count_calendar_row.result _ _ (λ _ h. sees_same last _ _ (calendar_added court t ends row) h)

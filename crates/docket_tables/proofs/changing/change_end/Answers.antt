@@ -7,7 +7,7 @@ use Rattle.docket_core.specs.declared.end_row.EndChange.TheVariants.{Move}
 use Rattle.docket_tables.specs.Contents.{rows_with}
 use Rattle.docket_tables.specs.declared.fault.ReadFault.{ReadFault}
 use Rattle.docket_tables.specs.declared.table.Table.TheVariants.{Ends}
-use Rattle.docket_tables.proofs.ContentsLemmas.{end_added, end_fits, row_inserted, sees_same, with_ends}
+use Rattle.docket_tables.proofs.ContentsLemmas.{end_added, row_inserted, sees_same, with_ends}
 use Rattle.docket_tables.proofs.EndLemmas.{kept_ends}
 use Rattle.docket_tables.proofs.changing.change_end.Goals as goal
 
@@ -19,7 +19,7 @@ returns-in_ok-insert-in-Add-clause-inside g c court t ends sees =
       c.insert.ensures.inside,
       λ clean.
           let before : HasCleanDisk old = omega (arith, c.insert.ensures.inside.survives.clean) in (
-            row_inserted {E = ReadFault} (Ok c.in_ok-insert-in-Add.field-0) old new Ends _ (end_cells row) (rows_with court t ends) (rows_with court t (changed_ends c.args.change.now ends)) c.end_values.ensures (end_fits row)
+            row_inserted {E = ReadFault} (Ok c.in_ok-insert-in-Add.field-0) old new Ends _ (end_cells row) (rows_with court t ends) (rows_with court t (changed_ends c.args.change.now ends)) c.end_values.ensures refl
                 (λ other. end_added court t ends row other ∙ ap (λ x. rows_with court t (changed_ends x ends) other) (sym c.in-Add.is)) (c.in_ok-insert-in-Add.ensures.ok clean) (sees before),
             tt,
           ),

@@ -1,4 +1,4 @@
-use Rattle.std.proofs.Common.{◌∙◌, ap, sym, subst}
+use Rattle.std.proofs.Common.{◌∙◌, ap, sym, subst, refl}
 use Rattle.std.proofs.lemmas.Result.{IfOk-weaker}
 use Rattle.sqlite.specs.Held.{state}
 use Rattle.docket_core.specs.Tables.{changed}
@@ -6,7 +6,7 @@ use Rattle.docket_columns.specs.Cells.{case_cells, party_cells, entry_cells, dea
 use Rattle.docket_tables.specs.Contents.{rows_with}
 use Rattle.docket_tables.specs.Stands.{Sees}
 use Rattle.docket_tables.specs.declared.table.Table.TheVariants.{Cases, Parties, Entries, Deadlines, Acts}
-use Rattle.docket_tables.proofs.ContentsLemmas.{row_inserted, sees_same, case_added, case_fits, party_added, party_fits, entry_added, entry_fits, deadline_added, deadline_fits, act_added, act_fits, calendar_removed, calendar_keyed}
+use Rattle.docket_tables.proofs.ContentsLemmas.{row_inserted, sees_same, case_added, party_added, entry_added, deadline_added, act_added, calendar_removed, calendar_keyed}
 use Rattle.docket_tables.proofs.changing.change_row.Goals as goal
 
 pub returns-in-AddCalendar-clause-ok : goal.returns-in-AddCalendar-clause-ok
@@ -26,7 +26,7 @@ returns-in-AddCase-clause-ok g c clean court t ends small sees =
     let row = c.in-AddCase.row in
     let old = state g.S.Store c.args.tx.now.conn.now in
     let new = state g.S.Store c.insert.new.tx.conn.now in
-    row_inserted c.insert.result old new Cases _ (case_cells row) (rows_with court t ends) (rows_with court (changed c.args.change.now t) ends) c.case_values.ensures (case_fits row)
+    row_inserted c.insert.result old new Cases _ (case_cells row) (rows_with court t ends) (rows_with court (changed c.args.change.now t) ends) c.case_values.ensures refl
     (λ other. case_added court t ends row other ∙ ap (λ x. rows_with court (changed x t) ends other) (sym c.in-AddCase.is)) (c.insert.ensures.ok clean) sees
 
 pub returns-in-AddParty-clause-ok : goal.returns-in-AddParty-clause-ok
@@ -34,7 +34,7 @@ returns-in-AddParty-clause-ok g c clean court t ends small sees =
     let row = c.in-AddParty.row in
     let old = state g.S.Store c.args.tx.now.conn.now in
     let new = state g.S.Store c.insert-in-AddParty.new.tx.conn.now in
-    row_inserted c.insert-in-AddParty.result old new Parties _ (party_cells row) (rows_with court t ends) (rows_with court (changed c.args.change.now t) ends) c.party_values.ensures (party_fits row)
+    row_inserted c.insert-in-AddParty.result old new Parties _ (party_cells row) (rows_with court t ends) (rows_with court (changed c.args.change.now t) ends) c.party_values.ensures refl
     (λ other. party_added court t ends row other ∙ ap (λ x. rows_with court (changed x t) ends other) (sym c.in-AddParty.is)) (c.insert-in-AddParty.ensures.ok clean) sees
 
 pub returns-in-AddEntry-clause-ok : goal.returns-in-AddEntry-clause-ok
@@ -42,7 +42,7 @@ returns-in-AddEntry-clause-ok g c clean court t ends small sees =
     let row = c.in-AddEntry.row in
     let old = state g.S.Store c.args.tx.now.conn.now in
     let new = state g.S.Store c.insert-in-AddEntry.new.tx.conn.now in
-    row_inserted c.insert-in-AddEntry.result old new Entries _ (entry_cells row) (rows_with court t ends) (rows_with court (changed c.args.change.now t) ends) c.entry_values.ensures (entry_fits row)
+    row_inserted c.insert-in-AddEntry.result old new Entries _ (entry_cells row) (rows_with court t ends) (rows_with court (changed c.args.change.now t) ends) c.entry_values.ensures refl
     (λ other. entry_added court t ends row other ∙ ap (λ x. rows_with court (changed x t) ends other) (sym c.in-AddEntry.is)) (c.insert-in-AddEntry.ensures.ok clean) sees
 
 pub returns-in-AddDeadline-clause-ok : goal.returns-in-AddDeadline-clause-ok
@@ -50,7 +50,7 @@ returns-in-AddDeadline-clause-ok g c clean court t ends small sees =
     let row = c.in-AddDeadline.row in
     let old = state g.S.Store c.args.tx.now.conn.now in
     let new = state g.S.Store c.insert-in-AddDeadline.new.tx.conn.now in
-    row_inserted c.insert-in-AddDeadline.result old new Deadlines _ (deadline_cells row) (rows_with court t ends) (rows_with court (changed c.args.change.now t) ends) c.deadline_values.ensures (deadline_fits row)
+    row_inserted c.insert-in-AddDeadline.result old new Deadlines _ (deadline_cells row) (rows_with court t ends) (rows_with court (changed c.args.change.now t) ends) c.deadline_values.ensures refl
     (λ other. deadline_added court t ends row other ∙ ap (λ x. rows_with court (changed x t) ends other) (sym c.in-AddDeadline.is)) (c.insert-in-AddDeadline.ensures.ok clean) sees
 
 pub returns-in-AddAct-clause-ok : goal.returns-in-AddAct-clause-ok
@@ -58,5 +58,5 @@ returns-in-AddAct-clause-ok g c clean court t ends small sees =
     let row = c.in-AddAct.row in
     let old = state g.S.Store c.args.tx.now.conn.now in
     let new = state g.S.Store c.insert-in-AddAct.new.tx.conn.now in
-    row_inserted c.insert-in-AddAct.result old new Acts _ (act_cells row) (rows_with court t ends) (rows_with court (changed c.args.change.now t) ends) c.act_values.ensures (act_fits row)
+    row_inserted c.insert-in-AddAct.result old new Acts _ (act_cells row) (rows_with court t ends) (rows_with court (changed c.args.change.now t) ends) c.act_values.ensures refl
     (λ other. act_added court t ends row other ∙ ap (λ x. rows_with court (changed x t) ends other) (sym c.in-AddAct.is)) (c.insert-in-AddAct.ensures.ok clean) sees

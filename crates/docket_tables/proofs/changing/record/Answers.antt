@@ -1,4 +1,4 @@
-use Rattle.std.proofs.Common.{arith}
+use Rattle.std.proofs.Common.{arith, refl}
 use Rattle.sqlite.specs.Held.{state}
 use Rattle.docket_core.specs.Tables.{Tables, all_changed, with_receipt}
 use Rattle.docket_core.specs.declared.row.Receipt.{Receipt}
@@ -6,7 +6,7 @@ use Rattle.docket_columns.specs.Cells.{receipt_cells}
 use Rattle.docket_tables.specs.Contents.{rows_with}
 use Rattle.docket_tables.specs.declared.table.Table.TheVariants.{Receipts}
 use Rattle.docket_tables.proofs.CommitLemmas.{inside_then}
-use Rattle.docket_tables.proofs.ContentsLemmas.{receipt_added, receipt_fits, row_inserted}
+use Rattle.docket_tables.proofs.ContentsLemmas.{receipt_added, row_inserted}
 use Rattle.docket_tables.proofs.changing.record.Goals as goal
 
 pub returns-clause-inside : goal.returns-clause-inside
@@ -20,5 +20,5 @@ returns-clause-ok g c clean court t ends small sees =
     let then : Tables = all_changed c.args.changes.now.rows.items t in
     let old = state g.S.Store c.change_all.new.tx.conn.now in
     let changed = rw c.as_slice.ensures.value at (c.in_ok-change_all.ensures.ok (omega (arith, c.insert.ensures.inside.survives.clean)) court t ends) in
-    row_inserted c.insert.result old last Receipts _ (receipt_cells receipt) (rows_with court then ends) (rows_with court (with_receipt c.args.command.now c.args.changes.now.reply then) ends) values (receipt_fits receipt)
+    row_inserted c.insert.result old last Receipts _ (receipt_cells receipt) (rows_with court then ends) (rows_with court (with_receipt c.args.command.now c.args.changes.now.reply then) ends) values refl
     (receipt_added court then ends receipt) (c.insert.ensures.ok clean) (changed small sees)

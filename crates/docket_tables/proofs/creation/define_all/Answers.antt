@@ -1,8 +1,9 @@
-use Rattle.std.proofs.Common.{◌≡◌, ◌∙◌, refl, sym, subst, arith, add-one}
+use Rattle.std.proofs.Common.{◌≡◌, ◌∙◌, ◌<◌, ℕ, suc, length, get_or, refl, sym, ap, subst, arith, add-one}
 use Rattle.sqlite.specs.Held.{state}
 use Rattle.docket_tables.specs.Creation.{IsMade}
+use Rattle.docket_tables.specs.Tables.{tables}
 use Rattle.docket_tables.proofs.CommitLemmas.{inside_then, inside_still}
-use Rattle.docket_tables.proofs.CreateLemmas.{nothing_yet, sees_nothing}
+use Rattle.docket_tables.proofs.CreateLemmas.{at_place, nothing_yet, sees_nothing}
 use Rattle.docket_tables.proofs.creation.define_all.Goals as goal
 
 pub tables-init : goal.tables-init
@@ -18,8 +19,13 @@ pub tables-preserved : goal.tables-preserved
 tables-preserved g c = (
   c.define.ensures.same_reference ∙ c.tables.invariant.0,
   inside_then _ _ _ c.tables.invariant.1 c.define.ensures.inside,
-  λ clean was. subst (IsMade (state g.S.Store c.define.new.tx.conn.now)) (sym (add-one c.tables.number))
-      (c.in_ok-define.ensures.ok clean c.tables.number c.create_text.ensures (c.tables.invariant.2 (omega (arith, c.define.ensures.inside.survives.clean)) was)),
+  λ clean was.
+      let at : ℕ = c.tables.number in
+      let low : at < length tables = omega (arith, c.tables-test.true, ap length c.requires) in
+      let place = at_place at c.table_at.result low (c.table_at.ensures ∙ ap (λ all. get_or all at c.table_at.result) c.requires) in
+      let before = c.tables.invariant.2 (omega (arith, c.define.ensures.inside.survives.clean)) was in
+      subst (IsMade (state g.S.Store c.define.new.tx.conn.now)) (ap suc place ∙ sym (add-one at))
+      (c.in_ok-define.ensures.ok clean (subst (IsMade (state g.S.Store c.tables.tx.conn.now)) (sym place) before)),
 )
 
 pub returns-clause-same_reference : goal.returns-clause-same_reference
@@ -30,7 +36,7 @@ returns-clause-inside g c = c.tables.invariant.1
 
 pub returns-clause-ok : goal.returns-clause-ok
 returns-clause-ok g c clean was =
-    let all : c.tables.number ≡ 9 = omega (arith, c.tables-test.false, c.tables.auto) in
+    let all : c.tables.number ≡ length tables = omega (arith, c.tables-test.false, c.tables.auto, ap length c.requires) in
     let start = state g.S.Store c.args.tx.now.conn.now in
     let end = state g.S.Store c.tables.tx.conn.now in
     sees_nothing end (subst (IsMade end) all (c.tables.invariant.2 clean (nothing_yet start was)))

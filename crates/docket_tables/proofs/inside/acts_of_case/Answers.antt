@@ -30,10 +30,10 @@ returns-clause-inside g c court t ends orderly sees =
           let answer = rw c.to_sql.ensures at asked.1 in
           let shown = c.in_ok-rows.rows.items in
           let runs = orderly.acts_run k in
-          read_inside c.acts_in.result _ _
-          (read_as _ _ c.acts_in.result (λ found are. (
+          read_inside c.all_in.result _ _
+          (read_as _ _ c.all_in.result (λ found are. (
             λ n. ap (λ xs. filter (λ row. row.deadline == n) xs) are ∙ in_turn_of k t.acts runs n,
             subst (IsNonDecreasingBy (λ (row : ActRow). row.deadline)) (sym are) (in_turn_rises k t.acts runs),
           ))
-          (c.acts_in.ensures (in_turn k t.acts runs) (in_turn_all k t.acts runs IsActRow orderly.acts) (c.as_slice.ensures.value ∙ answered_in_turn k t.acts runs shown answer))) asked.0,
+          (c.all_in.ensures (in_turn k t.acts runs) (in_turn_all k t.acts runs IsActRow orderly.acts) (c.as_slice.ensures.value ∙ answered_in_turn k t.acts runs shown answer))) asked.0,
     )

@@ -4,7 +4,7 @@ use Rattle.sqlite.specs.Held.{state}
 use Rattle.sqlite.specs.State.{HasCleanDisk}
 use Rattle.docket_columns.specs.Cells.{calendar_cells}
 use Rattle.docket_tables.specs.Contents.{rows_with}
-use Rattle.docket_tables.specs.Orderly.{Rises}
+use Rattle.docket_orderly.specs.Orderly.{Rises}
 use Rattle.docket_tables.specs.declared.query.Query.TheVariants as ask
 use Rattle.docket_tables.proofs.AnswerLemmas.{in_order}
 use Rattle.docket_tables.proofs.InsideLemmas.{failed_after, read_inside}
@@ -27,5 +27,5 @@ returns-clause-inside g c court t ends orderly sees =
           let all = filter_all (λ _. true) t.calendar (all_of _ (λ _. refl) t.calendar) in
           let rises = subst (λ xs. Rises (map (λ row. row.number) xs)) (sym all) orderly.calendar_rises in
           let are = in_order ask.Calendar [] calendar_cells (λ _. true) (λ row. refl) t.calendar shown (λ row. row.number) (λ row. refl) refl refl rises asked.1 in
-          read_inside c.calendar_in.result _ _ (c.calendar_in.ensures t.calendar orderly.calendar (c.as_slice.ensures.value ∙ are ∙ ap (map calendar_cells) all)) asked.0,
+          read_inside c.all_in.result _ _ (c.all_in.ensures t.calendar orderly.calendar (c.as_slice.ensures.value ∙ are ∙ ap (map calendar_cells) all)) asked.0,
     )

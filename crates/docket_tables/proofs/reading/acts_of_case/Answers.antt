@@ -14,10 +14,10 @@ returns-clause-read g c court t orderly holds =
     let k = c.args.case in
     let runs = orderly.acts_run k in
     let turn = in_turn k t.acts runs in
-    gives g.S.Store c.ask.new.conn (rows_in court t) _ c.acts_in.result asked.0 (λ clean.
+    gives g.S.Store c.ask.new.conn (rows_in court t) _ c.all_in.result asked.0 (λ clean.
     let answer = rw c.to_sql.ensures at (asked.1 clean) in
-    read_as _ _ c.acts_in.result (λ found are. (
+    read_as _ _ c.all_in.result (λ found are. (
       λ n. ap (λ xs. filter (λ row. row.deadline == n) xs) are ∙ in_turn_of k t.acts runs n,
       subst (IsNonDecreasingBy (λ (row : ActRow). row.deadline)) (sym are) (in_turn_rises k t.acts runs),
     ))
-    (c.acts_in.ensures turn (in_turn_all k t.acts runs IsActRow orderly.acts) (c.as_slice.ensures.value ∙ answered_in_turn k t.acts runs rows answer)))
+    (c.all_in.ensures turn (in_turn_all k t.acts runs IsActRow orderly.acts) (c.as_slice.ensures.value ∙ answered_in_turn k t.acts runs rows answer)))

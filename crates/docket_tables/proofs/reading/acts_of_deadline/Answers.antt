@@ -5,7 +5,7 @@ use Rattle.docket_core.specs.declared.row.ActRow.{ActRow}
 use Rattle.docket_columns.specs.Cells.{act_cells}
 use Rattle.docket_columns.specs.Fits.{IsActRow}
 use Rattle.docket_tables.specs.Contents.{rows_in}
-use Rattle.docket_tables.specs.Orderly.{acts_on}
+use Rattle.docket_orderly.specs.Orderly.{acts_on}
 use Rattle.docket_tables.specs.declared.query.Query.TheVariants as ask
 use Rattle.docket_tables.proofs.AnswerLemmas.{in_order, rises_running}
 use Rattle.docket_tables.proofs.FoundLemmas.{equal_numbers}

@@ -8,7 +8,7 @@ pub returns-clause-read : goal.returns-clause-read
 returns-clause-read g c court t orderly holds =
     let asked = c.in_ok-rows.ensures.ok (rows_in court t) holds in
     let rows = c.in_ok-rows.rows.items in
-    gives g.S.Store c.ask.new.conn (rows_in court t) _ c.case_in.result asked.0 (λ clean.
+    gives g.S.Store c.ask.new.conn (rows_in court t) _ c.first_in.result asked.0 (λ clean.
     let answer = rw c.to_sql.ensures at (asked.1 clean) in
-    case_read c.args.number c.case_in.result rows t.cases orderly.cases orderly.cases_run answer (λ none. c.case_in.ensures.none (c.as_slice.ensures.value ∙ none))
-    (λ row typed one. c.case_in.ensures.one row typed (c.as_slice.ensures.value ∙ one)))
+    case_read c.args.number c.first_in.result rows t.cases orderly.cases orderly.cases_run answer (λ none. c.first_in.ensures.none (c.as_slice.ensures.value ∙ none))
+    (λ row typed one. c.first_in.ensures.one row typed (c.as_slice.ensures.value ∙ one)))

@@ -7,7 +7,7 @@ use Rattle.docket_tables.proofs.AnswerLemmas.{the_last}
 use Rattle.docket_tables.proofs.ReadLemmas.{gives, read_ok}
 use Rattle.std.specs.List.{AllByRecursion}
 use Rattle.docket_columns.specs.Fits.{IsCaseRow}
-use Rattle.docket_tables.specs.Orderly.{RunsFrom}
+use Rattle.docket_orderly.specs.Orderly.{RunsFrom}
 use Rattle.docket_tables.proofs.reading.cases.Goals as goal
 
 pub returns-clause-read : goal.returns-clause-read

@@ -15,8 +15,8 @@ returns-clause-read g c court t orderly holds =
     let asked = c.in_ok-rows.ensures.ok (rows_in court t) holds in
     let rows = c.in_ok-rows.rows.items in
     let k = c.args.case in
-    gives g.S.Store c.ask.new.conn (rows_in court t) _ c.deadlines_in.result asked.0 (λ clean.
+    gives g.S.Store c.ask.new.conn (rows_in court t) _ c.all_in.result asked.0 (λ clean.
     let answer = rw c.to_sql.ensures at (asked.1 clean) in
     let are = in_order ask.Deadlines (Int (pos k) ∷ []) deadline_cells (λ row. row.case == k) (λ row. and_yes _ ∙ equal_number row.case k) t.deadlines rows (λ row. row.number) (λ row. refl) refl refl
     (rises_running 1 _ (orderly.deadlines_run k)) answer in
-    c.deadlines_in.ensures (deadlines_of_case k t.deadlines) (all-filter _ _ t.deadlines orderly.deadlines) (c.as_slice.ensures.value ∙ are))
+    c.all_in.ensures (deadlines_of_case k t.deadlines) (all-filter _ _ t.deadlines orderly.deadlines) (c.as_slice.ensures.value ∙ are))

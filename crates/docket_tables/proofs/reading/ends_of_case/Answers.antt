@@ -13,6 +13,6 @@ returns-clause-read g c court t orderly holds =
     let k = c.args.case in
     let ends = end_rows court t in
     let are = all_stored court t orderly k in
-    gives g.S.Store c.ask.new.conn (rows_in court t) _ c.ends_in.result asked.0 (λ clean.
+    gives g.S.Store c.ask.new.conn (rows_in court t) _ c.all_in.result asked.0 (λ clean.
     let answer = rw c.to_sql.ensures at (asked.1 clean) in
-    c.ends_in.ensures (ends_of k ends) are.fit (c.as_slice.ensures.value ∙ ends_shown k ends rows are.rows answer))
+    c.all_in.ensures (ends_of k ends) are.fit (c.as_slice.ensures.value ∙ ends_shown k ends rows are.rows answer))

@@ -15,8 +15,8 @@ returns-clause-read g c court t orderly holds =
     let asked = c.in_ok-rows.ensures.ok (rows_in court t) holds in
     let rows = c.in_ok-rows.rows.items in
     let k = c.args.case in
-    gives g.S.Store c.ask.new.conn (rows_in court t) _ c.entries_in.result asked.0 (λ clean.
+    gives g.S.Store c.ask.new.conn (rows_in court t) _ c.all_in.result asked.0 (λ clean.
     let answer = rw c.to_sql.ensures at (asked.1 clean) in
     let are = in_order ask.Entries (Int (pos k) ∷ []) entry_cells (λ row. row.case == k) (λ row. and_yes _ ∙ equal_number row.case k) t.entries rows (λ row. row.number) (λ row. refl) refl refl
     (rises_running 1 _ (orderly.entries_run k)) answer in
-    c.entries_in.ensures (entries_of_case k t.entries) (all-filter _ _ t.entries orderly.entries) (c.as_slice.ensures.value ∙ are))
+    c.all_in.ensures (entries_of_case k t.entries) (all-filter _ _ t.entries orderly.entries) (c.as_slice.ensures.value ∙ are))

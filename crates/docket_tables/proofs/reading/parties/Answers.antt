@@ -15,8 +15,8 @@ returns-clause-read g c court t orderly holds =
     let asked = c.in_ok-rows.ensures.ok (rows_in court t) holds in
     let rows = c.in_ok-rows.rows.items in
     let k = c.args.case in
-    gives g.S.Store c.ask.new.conn (rows_in court t) _ c.parties_in.result asked.0 (λ clean.
+    gives g.S.Store c.ask.new.conn (rows_in court t) _ c.all_in.result asked.0 (λ clean.
     let answer = rw c.to_sql.ensures at (asked.1 clean) in
     let are = in_order ask.Parties (Int (pos k) ∷ []) party_cells (λ row. row.case == k) (λ row. and_yes _ ∙ equal_number row.case k) t.parties rows (λ row. row.number) (λ row. refl) refl refl
     (rises_running 1 _ (orderly.parties_run k)) answer in
-    c.parties_in.ensures (parties_of_case k t.parties) (all-filter _ _ t.parties orderly.parties) (c.as_slice.ensures.value ∙ are))
+    c.all_in.ensures (parties_of_case k t.parties) (all-filter _ _ t.parties orderly.parties) (c.as_slice.ensures.value ∙ are))

@@ -1,0 +1,8 @@
+mod ActionLemmas
+pub mod ActLemmas
+pub mod CalendarLemmas
+pub mod DeadlineLemmas
+pub mod DocketLemmas
+mod ListLemmas
+pub mod ReceiptLemmas
+pub mod RowLemmas

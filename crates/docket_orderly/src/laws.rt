@@ -1,0 +1,16 @@
+//! What the definitions of specs/ say, with nothing to run.
+ghost use Rattle.std.specs.List.{AllByRecursion};
+ghost use Rattle.court_days.specs.Court.{CourtSettings};
+ghost use Rattle.docket_core.specs.Histories.{History};
+ghost use Rattle.docket_core.specs.Outcomes.{IsHistory};
+ghost use Rattle.docket_core.specs.Tables.{rows_of};
+ghost use Rattle.docket_wire.specs.Valid.{IsCommand};
+ghost use Rattle.docket_orderly.specs.Orderly.{IsCourtSettings, IsOrderly};
+
+/// The rows of a docket are orderly where its court and its commands hold what their types hold: the
+/// cases are numbered from 1 without gaps, so are the parties, entries and deadlines of a case and the
+/// acts of a deadline, the numbers of calendar rows rise, and a key has one receipt at most.
+pub fn dockets_are_orderly()
+    ensures { (court : CourtSettings) (h : History) → IsCourtSettings court → IsHistory court h
+        → AllByRecursion IsCommand h → IsOrderly court (rows_of court h) }
+{}

@@ -1,0 +1,59 @@
+-- What is kept of the tables that were judged, for those behind them.
+use Rattle.std.specs.Prelude.{◌≡◌, ◌<◌, ℕ, length, map}
+use Rattle.std.specs.List.{AllByRecursion}
+use Rattle.sqlite.specs.State.{State, HasCleanDisk, IsUnchanged}
+use Rattle.court_days.specs.Court.{CourtSettings, zone_of}
+use Rattle.docket_core.specs.CalendarItems.{calendar_of}
+use Rattle.docket_core.specs.Histories.{items_of}
+use Rattle.docket_sound.specs.Counted.{HasNumbered, cases_of}
+use Rattle.docket_sound.specs.Deadlines.{deadline_key, parties_of}
+use Rattle.docket_sound.specs.Dues.{dues_of}
+use Rattle.docket_sound.specs.Parties.{party_key}
+use Rattle.docket_scan.specs.Holdings.{holdings_of}
+use Rattle.docket_scan.specs.Judging.{FailsAt, Holds, Rows, before}
+use Rattle.docket_scan.specs.Records.{count_in}
+use Rattle.docket_scan.specs.declared.fault.AdoptFault.{AdoptFault}
+use Rattle.docket_scan.specs.declared.reading.EndsRead.{EndsRead}
+use Rattle.docket_scan.specs.declared.reading.TablesRead.{TablesRead}
+use Rattle.docket_tables.specs.Tables.{layout_of}
+use Rattle.docket_tables.specs.declared.table.Table.{Table}
+use Rattle.docket_tables.specs.declared.table.Table.TheVariants as table
+
+-- the first table stands before the second
+abbrev pub IsBefore : Table → Table → Type 0
+IsBefore t u = (layout_of t).at < (layout_of u).at
+
+-- this is kept of the rows of the tables before one: the court that was given, the calendar of the rows, and how many rows each
+-- table and each case has
+pub record Says (t : Table) (settings : CourtSettings) (r : Rows) (read : TablesRead) : Type 0 where
+  pub court : read.court ≡ settings
+  pub calendar : read.calendar ≡ calendar_of (items_of r.calendar)
+  pub cases : read.cases ≡ length r.cases
+  pub parties : parties_of read.parties ≡ count_in (map party_key r.parties)
+  pub deadlines : HasNumbered read.deadlines (map deadline_key r.deadlines)
+  pub sized : IsBefore table.Deadlines t → cases_of read.deadlines ≡ length r.cases
+  pub held : read.held ≡ holdings_of settings r
+
+-- behind the acts: the ends of the running deadlines, by the rows of acts and the whole calendar
+pub record SaysEnds (court : CourtSettings) (r : Rows) (read : EndsRead) : Type 0 where
+  pub ends : read.ends.items ≡ dues_of (zone_of court) (calendar_of (items_of r.calendar)) r.acts
+  pub held : read.held ≡ holdings_of court r
+
+-- since a first state nothing was changed, and the tables before one hold these rows, which are sound, and of which this is so
+pub record AreRead (t : Table) (first : State) (court : CourtSettings) (next : ℕ) (s : State) (Said : Rows → Type 0) : Type 0 where
+  pub same : IsUnchanged first s
+  pub rows : Rows
+  pub sound : AllByRecursion (Holds first court next rows) (before t)
+  pub said : Said rows
+
+-- the tables before one were judged, and found to be sound
+abbrev pub ReadBefore : Table → State → CourtSettings → ℕ → State → TablesRead → Type 0
+ReadBefore t first court next s read = HasCleanDisk s → AreRead t first court next s (λ r. Says t court r read)
+
+-- those before one that stands behind the acts were
+abbrev pub EndsBefore : Table → State → CourtSettings → ℕ → State → EndsRead → Type 0
+EndsBefore t first court next s read = HasCleanDisk s → AreRead t first court next s (λ r. SaysEnds court r read)
+
+-- the first table that is unsound is told
+abbrev pub FailsOver : State → CourtSettings → ℕ → State → AdoptFault → Type 0
+FailsOver first court next s fault = HasCleanDisk s → FailsAt court next first s fault

@@ -1,0 +1,165 @@
+//! The check of each table.
+
+use crate::check::RecordCheck;
+use crate::receipt::StoredReceipt;
+use docket_core::{ActRow, CalendarRow, CaseRow, DeadlineRow, EndRow, EntryRow, PartyRow};
+use docket_sound::{
+    ActCheck, CalendarCheck, CaseCheck, DeadlineCheck, DueCheck, EntryCheck, PartyCheck,
+    ReceiptCheck,
+};
+use std::alloc::{AllocError, Global};
+
+impl RecordCheck for CalendarCheck {
+    ghost use Rattle.docket_sound.specs.Calendars.{AreSoundCalendarRows, HasTakenCalendarRows};
+    ghost use Rattle.docket_scan.specs.Taken.{CalendarContext, calendar_context};
+
+    type Record = CalendarRow;
+
+    ghost HasTaken = { HasTakenCalendarRows };
+
+    ghost Context = { CalendarContext };
+
+    ghost context = { calendar_context };
+
+    ghost AreSound = { λ c. AreSoundCalendarRows c.0 c.1 };
+
+    fn take(&mut self, _alloc: Global, record: &CalendarRow) -> Result<bool, AllocError> {
+        self.take(record)
+    }
+}
+
+impl RecordCheck for CaseCheck {
+    ghost use Rattle.docket_sound.specs.Cases.{AreSoundCases, HasTakenCases};
+    ghost use Rattle.std.specs.Prelude.{⊤};
+
+    type Record = CaseRow;
+
+    ghost HasTaken = { HasTakenCases };
+
+    ghost Context = { ⊤ };
+
+    ghost context = { λ _. tt };
+
+    ghost AreSound = { λ _. AreSoundCases };
+
+    fn take(&mut self, alloc: Global, record: &CaseRow) -> Result<bool, AllocError> {
+        self.take(alloc, record)
+    }
+}
+
+impl RecordCheck for PartyCheck {
+    ghost use Rattle.std.specs.Prelude.{ℕ};
+    ghost use Rattle.docket_sound.specs.Parties.{AreSoundParties, HasTakenParties, parties_checked};
+
+    type Record = PartyRow;
+
+    ghost HasTaken = { HasTakenParties };
+
+    ghost Context = { ℕ };
+
+    ghost context = { parties_checked };
+
+    ghost AreSound = { AreSoundParties };
+
+    fn take(&mut self, _alloc: Global, record: &PartyRow) -> Result<bool, AllocError> {
+        Ok(self.take(record))
+    }
+}
+
+impl RecordCheck for EntryCheck {
+    ghost use Rattle.std.specs.Prelude.{ℕ};
+    ghost use Rattle.docket_sound.specs.Entries.{AreSoundEntries, HasTakenEntries, entries_checked};
+
+    type Record = EntryRow;
+
+    ghost HasTaken = { HasTakenEntries };
+
+    ghost Context = { ℕ };
+
+    ghost context = { entries_checked };
+
+    ghost AreSound = { AreSoundEntries };
+
+    fn take(&mut self, _alloc: Global, record: &EntryRow) -> Result<bool, AllocError> {
+        Ok(self.take(record))
+    }
+}
+
+impl RecordCheck for DeadlineCheck {
+    ghost use Rattle.docket_sound.specs.Deadlines.{AreSoundDeadlines, HasTakenDeadlines};
+    ghost use Rattle.docket_scan.specs.Taken.{DeadlineContext, deadline_context};
+
+    type Record = DeadlineRow;
+
+    ghost HasTaken = { HasTakenDeadlines };
+
+    ghost Context = { DeadlineContext };
+
+    ghost context = { deadline_context };
+
+    ghost AreSound = { λ c. AreSoundDeadlines c.0 c.1 };
+
+    fn take(&mut self, _alloc: Global, record: &DeadlineRow) -> Result<bool, AllocError> {
+        Ok(self.take(record))
+    }
+}
+
+impl RecordCheck for ActCheck {
+    ghost use Rattle.docket_sound.specs.Acts.{AreSoundActs, HasTakenActs};
+    ghost use Rattle.docket_scan.specs.Taken.{ActContext, act_context};
+
+    type Record = ActRow;
+
+    ghost HasTaken = { HasTakenActs };
+
+    ghost Context = { ActContext };
+
+    ghost context = { act_context };
+
+    ghost AreSound = { λ c. AreSoundActs c.0 c.1 c.2 };
+
+    fn take(&mut self, _alloc: Global, record: &ActRow) -> Result<bool, AllocError> {
+        self.take(record)
+    }
+}
+
+impl RecordCheck for ReceiptCheck {
+    ghost use Rattle.std.specs.Prelude.{⊤};
+    ghost use Rattle.docket_scan.specs.Records.{AreSoundStored};
+    ghost use Rattle.docket_scan.specs.Taken.{HasTakenStored};
+
+    type Record = StoredReceipt;
+
+    ghost HasTaken = { HasTakenStored };
+
+    ghost Context = { ⊤ };
+
+    ghost context = { λ _. tt };
+
+    ghost AreSound = { λ _. AreSoundStored };
+
+    fn take(&mut self, alloc: Global, record: &StoredReceipt) -> Result<bool, AllocError> {
+        self.take(alloc, &record.receipt)
+    }
+}
+
+impl RecordCheck for DueCheck {
+    ghost use Rattle.std.specs.Prelude.{◌≡◌, List};
+    ghost use Rattle.docket_core.specs.declared.end_row.EndRow.{EndRow as Stored};
+    ghost use Rattle.docket_sound.specs.Dues.{HasTakenDues};
+    ghost use Rattle.docket_scan.specs.Taken.{ends_expected};
+
+    type Record = EndRow;
+
+    ghost HasTaken = { HasTakenDues };
+
+    ghost Context = { List Stored };
+
+    ghost context = { ends_expected };
+
+    ghost AreSound = { λ expected ends. ends ≡ expected };
+
+    fn take(&mut self, _alloc: Global, record: &EndRow) -> Result<bool, AllocError> {
+        Ok(self.take(*record))
+    }
+}

@@ -1,0 +1,62 @@
+//! What is kept of the tables that were judged, for those behind them.
+ghost use Rattle.std.specs.Prelude.{◌≡◌, List, length, IfOk};
+ghost use Rattle.docket_core.specs.CalendarItems.{calendar_of};
+ghost use Rattle.docket_core.specs.Histories.{items_of};
+ghost use Rattle.docket_core.specs.declared.row.CalendarRow.{CalendarRow as Entered};
+ghost use Rattle.docket_scan.specs.Judging.{no_rows};
+ghost use Rattle.docket_scan.specs.Reading.{Says};
+ghost use Rattle.docket_tables.specs.declared.table.Table.TheVariants as table;
+
+use crate::holdings::Holdings;
+use court_days::{Calendar, Court};
+use docket_core::EndRow;
+use docket_sound::Numbering;
+use std::alloc::{AllocError, Global};
+
+/// What the checks of later tables go by, and how much the tables hold. Of a table that was not judged
+/// yet it has nothing.
+#[derive(Drop)]
+pub(crate) struct TablesRead {
+    pub(crate) court: Court,
+    pub(crate) calendar: Calendar,
+    /// How many cases there are.
+    pub(crate) cases: u32,
+    /// How many parties each case has.
+    pub(crate) parties: Numbering,
+    /// How many deadlines each case has.
+    pub(crate) deadlines: Numbering,
+    pub(crate) held: Holdings,
+}
+
+impl TablesRead {
+    /// Only the table of the calendar was read, which has so many rows.
+    pub(crate) fn begin(
+        alloc: Global,
+        court: Court,
+        calendar: Calendar,
+        rows: u64,
+    ) -> Result<TablesRead, AllocError>
+        ensures { (days : List Entered) → calendar ≡ calendar_of (items_of days) → rows ≡ length days
+            → IfOk result (λ read. Says table.Cases court (record no_rows { calendar = days }) read) }
+    {
+        Ok(TablesRead {
+            court,
+            calendar,
+            cases: 0,
+            parties: Numbering::none(alloc)?,
+            deadlines: Numbering::none(alloc)?,
+            held: Holdings {
+                calendar_rows: rows,
+                ..Holdings::none()
+            },
+        })
+    }
+}
+
+/// What is left of them behind the acts.
+#[derive(Drop)]
+pub(crate) struct EndsRead {
+    /// The ends of the deadlines whose time runs, by their acts and the whole calendar.
+    pub(crate) ends: Vec<EndRow>,
+    pub(crate) held: Holdings,
+}

@@ -1,0 +1,30 @@
+use Rattle.std.proofs.Common.{sym, ap}
+use Rattle.docket_tables.specs.Texts.{create_text}
+use Rattle.docket_tables.proofs.statement.create_text.Goals as goal
+
+pub returns-in-Court : goal.returns-in-Court
+returns-in-Court c = ap create_text (sym c.in-Court.is)
+
+pub returns-in-Calendar : goal.returns-in-Calendar
+returns-in-Calendar c = ap create_text (sym c.in-Calendar.is)
+
+pub returns-in-Cases : goal.returns-in-Cases
+returns-in-Cases c = ap create_text (sym c.in-Cases.is)
+
+pub returns-in-Parties : goal.returns-in-Parties
+returns-in-Parties c = ap create_text (sym c.in-Parties.is)
+
+pub returns-in-Entries : goal.returns-in-Entries
+returns-in-Entries c = ap create_text (sym c.in-Entries.is)
+
+pub returns-in-Deadlines : goal.returns-in-Deadlines
+returns-in-Deadlines c = ap create_text (sym c.in-Deadlines.is)
+
+pub returns-in-Acts : goal.returns-in-Acts
+returns-in-Acts c = ap create_text (sym c.in-Acts.is)
+
+pub returns-in-Receipts : goal.returns-in-Receipts
+returns-in-Receipts c = ap create_text (sym c.in-Receipts.is)
+
+pub returns-in-Ends : goal.returns-in-Ends
+returns-in-Ends c = ap create_text (sym c.in-Ends.is)
