@@ -9,5 +9,5 @@ tables = conn.execute("SELECT name, strict FROM pragma_table_list WHERE schema =
 mode = conn.execute("PRAGMA journal_mode").fetchone()[0]
 assert integrity == [("ok",)], integrity
 assert references == [], references
-assert [strict for _, strict in tables] == [1] * 9, tables
+assert [strict for _, strict in tables] == [1] * 11, tables
 print(f"sqlite3 {sqlite3.sqlite_version}: integrity ok, references ok, strict tables {' '.join(name for name, _ in tables)}, log {mode}")

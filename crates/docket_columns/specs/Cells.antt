@@ -17,21 +17,31 @@ use Rattle.docket_core.specs.declared.view.Kept.{Kept}
 use Rattle.docket_core.specs.declared.view.Kept.TheVariants.{Same, Other}
 use Rattle.docket_core.specs.Outcomes.{replied}
 use Rattle.docket_columns.specs.declared.court.CourtRow.{CourtRow}
+use Rattle.docket_columns.specs.declared.version.Version.{Version}
+use Rattle.docket_columns.specs.declared.version.Version.TheVariants.{First, Second}
 use Rattle.docket_wire.specs.Writing.{canonical}
 use Rattle.docket_columns.specs.Codes.{flag_number, role_number, item_code, act_code}
 
+abbrev pub version_number : Version → ℕ
+version_number First = 1
+version_number Second = 2
+
 -- court: id, word, version, zone, close, next_row
+abbrev pub court_cells_of : Version → CourtSettings → ℕ → Row
+court_cells_of v c next =
+    Int (pos 1) ∷ Text (codes "civil docket") ∷ Int (pos (version_number v)) ∷ Text c.zone_text ∷ Int (pos c.close_minute) ∷ Int (pos next) ∷ []
+
+-- in the version that this program keeps
 abbrev pub court_cells : CourtSettings → ℕ → Row
-court_cells c next =
-    Int (pos 1) ∷ Text (codes "civil docket") ∷ Int (pos 1) ∷ Text c.zone_text ∷ Int (pos c.close_minute) ∷ Int (pos next) ∷ []
+court_cells = court_cells_of Second
 
 -- a row of the court's table bears the word of a docket
 abbrev pub HasWord : Row → Type 0
 HasWord row = column row 1 ≡ Text (codes "civil docket")
 
--- and its tables are laid out as those of this program
-abbrev pub IsCurrent : Row → Type 0
-IsCurrent row = column row 2 ≡ Int (pos 1)
+-- and its tables are laid out in that version
+abbrev pub IsOfVersion : Version → Row → Type 0
+IsOfVersion v row = column row 2 ≡ Int (pos (version_number v))
 
 -- what a row of the court says
 abbrev pub settings_of : CourtRow → CourtSettings

@@ -4,10 +4,11 @@ ghost use Rattle.sqlite.specs.Values.{bound};
 ghost use Rattle.sqlite_value.specs.Order.{column};
 ghost use Rattle.sqlite_value.specs.declared.value.Value.TheVariants.{Int};
 ghost use Rattle.court_days.specs.Court.{CourtSettings};
-ghost use Rattle.docket_columns.specs.Cells.{court_cells, settings_of, HasWord, IsCurrent};
+ghost use Rattle.docket_columns.specs.Cells.{court_cells, court_cells_of, settings_of, HasWord, IsOfVersion};
 ghost use Rattle.docket_columns.specs.Fits.{IsCourtRow};
 
 use crate::cell::{count_at, has_values, is_number, is_text, number_at, text_at};
+use crate::version::Version;
 use court_days::Court;
 use docket_command::Text;
 use sqlite::Row;
@@ -16,9 +17,6 @@ use std::alloc::{AllocError, Global};
 
 /// What marks a database as that of a docket.
 const WORD: &str = "civil docket";
-
-/// How the tables are laid out. Another number is that of another program's.
-pub const VERSION: u32 = 1;
 
 const MINUTES_OF_A_DAY: u32 = 1440;
 
@@ -33,27 +31,32 @@ pub struct CourtRow {
     pub next_row: u64,
 }
 
-fn values_of(zone: &str, close: u32, next_row: u64) -> [ValueRef<'_>; 6]
+fn values_of(version: Version, zone: &str, close: u32, next_row: u64) -> [ValueRef<'_>; 6]
     requires { next_row < 2 ^ 63 }
-    ensures { bound result ≡ court_cells (record { zone_text = zone.now; close_minute = close }) next_row }
+    ensures { bound result ≡ court_cells_of version (record { zone_text = zone.now; close_minute = close }) next_row }
 {
     [
         1u32.to_sql(),
         WORD.to_sql(),
-        VERSION.to_sql(),
+        version.number().to_sql(),
         zone.to_sql(),
         close.to_sql(),
         (next_row as i64).to_sql(),
     ]
 }
 
-/// The columns of the court: id, word, version, zone, close, next_row. A column holds numbers below
-/// 2^63.
+/// The columns of the court in the version that is kept: id, word, version, zone, close, next_row. A
+/// column holds numbers below 2^63.
 pub fn court_values(court: &Court, next_row: u64) -> [ValueRef<'_>; 6]
     requires { next_row < 2 ^ 63 }
     ensures { bound result ≡ court_cells court.now next_row }
 {
-    values_of(court.zone_text(), court.close_minute(), next_row)
+    values_of(
+        Version::KEPT,
+        court.zone_text(),
+        court.close_minute(),
+        next_row,
+    )
 }
 
 fn minute_at(row: &Row, at: usize) -> Option<u32>
@@ -87,18 +90,18 @@ pub fn has_word(row: &Row) -> bool
     is_text(row, 1, WORD)
 }
 
-/// Whether a row of the court's table says that the tables are laid out as this program's.
-pub fn is_current(row: &Row) -> bool
-    ensures { IsTrue result ↔ IsCurrent row.now }
+/// Whether a row of the court's table says that the tables are laid out in that version.
+pub fn is_of_version(row: &Row, version: Version) -> bool
+    ensures { IsTrue result ↔ IsOfVersion version row.now }
 {
-    is_number(row, 2, i64::from(VERSION))
+    is_number(row, 2, i64::from(version.number()))
 }
 
-/// The court of a row. `None`: it is no row of a court, or that of another version.
-pub fn court_of(alloc: Global, row: &Row) -> Result<Option<CourtRow>, AllocError>
-    ensures reads { (c : CourtSettings) (next : ℕ) → IsCourtRow c next → row.now ≡ court_cells c next
+/// The court of a row in that version. `None`: it is no row of a court, or that of another version.
+pub fn court_of(alloc: Global, row: &Row, version: Version) -> Result<Option<CourtRow>, AllocError>
+    ensures reads { (c : CourtSettings) (next : ℕ) → IsCourtRow c next → row.now ≡ court_cells_of version c next
         → IfOk result (λ found. found ≡ Some (record { zone = c.zone_text; close = c.close_minute; next_row = next })) }
-    ensures sound { IfOk result (λ found. IfSome found (λ r. row.now ≡ court_cells (settings_of r) r.next_row)) }
+    ensures sound { IfOk result (λ found. IfSome found (λ r. row.now ≡ court_cells_of version (settings_of r) r.next_row)) }
     ensures fits { IfOk result (λ found. IfSome found (λ r. IsCourtRow (settings_of r) r.next_row)) }
 {
     let Some(zone) = text_at(row, 3) else {
@@ -110,7 +113,7 @@ pub fn court_of(alloc: Global, row: &Row) -> Result<Option<CourtRow>, AllocError
     let Some(next_row) = next_row_at(row, 5) else {
         return Ok(None);
     };
-    if !has_values(row, &values_of(zone, close, next_row)) {
+    if !has_values(row, &values_of(version, zone, close, next_row)) {
         return Ok(None);
     }
     Ok(Some(CourtRow {

@@ -13,15 +13,17 @@ mod entry;
 mod party;
 mod receipt;
 mod stored;
+mod version;
 
 pub use act::{act_of, act_values};
 pub use calendar::{calendar_of, calendar_values};
 pub use cases::{case_of, case_values};
 pub use cell::count_at;
-pub use court::{CourtRow, VERSION, court_of, court_values, has_word, is_current};
+pub use court::{CourtRow, court_of, court_values, has_word, is_of_version};
 pub use deadline::{deadline_of, deadline_values};
 pub use end::{end_of, end_values};
 pub use entry::{entry_of, entry_values};
 pub use party::{party_of, party_values};
 pub use receipt::{kept_by, receipt_values, reply_of};
 pub use stored::StoredRow;
+pub use version::Version;

@@ -53,6 +53,9 @@ calendar_line = with_rule (with_rule (with_rule (new_app (codes "calendar")) (re
 unfoldable pub check_line : App
 check_line = with_rule (new_app (codes "check")) (required file_rule)
 
+unfoldable pub migrate_line : App
+migrate_line = with_rule (new_app (codes "migrate")) (required file_rule)
+
 unfoldable pub serve_line : App
 serve_line = with_rule (with_rule (with_rule (new_app (codes "serve")) (required file_rule)) (required (option_rule (codes "port")))) (required (option_rule (codes "count")))
 
@@ -65,8 +68,8 @@ bare_line = on_top (λ top. record top { has_version = true }) (new_app (codes "
 
 unfoldable pub docketctl : App
 docketctl =
-    with_subcommand (with_subcommand (with_subcommand (with_subcommand (with_subcommand (with_subcommand (with_subcommand (with_subcommand (with_subcommand
-    bare_line count_line.top) create_line.top) run_line.top) import_line.top) case_line.top) calendar_line.top) check_line.top) serve_line.top) holidays_line.top
+    with_subcommand (with_subcommand (with_subcommand (with_subcommand (with_subcommand (with_subcommand (with_subcommand (with_subcommand (with_subcommand (with_subcommand
+    bare_line count_line.top) create_line.top) run_line.top) import_line.top) case_line.top) calendar_line.top) check_line.top) migrate_line.top) serve_line.top) holidays_line.top
 
 -- the command has this line, and no option for its subcommands too
 abbrev pub HasLine : App → Command → Type 0

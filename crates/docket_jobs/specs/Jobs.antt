@@ -24,6 +24,7 @@ pub data Asked : Type 0 where
   to_tell_case : Text → ℕ → Asked
   to_tell_calendar : Text → ℕ → ℕ → Asked
   to_check : Text → Asked
+  to_migrate : Text → Asked
   to_serve : Text → ℕ → ℕ → Asked
   to_tell_holidays : ℕ → Asked
 
@@ -35,6 +36,7 @@ asked (job.Import file key) = to_import file.now key.now
 asked (job.Case file number) = to_tell_case file.now number
 asked (job.Calendar file from to) = to_tell_calendar file.now from to
 asked (job.Check file) = to_check file.now
+asked (job.Migrate file) = to_migrate file.now
 asked (job.Serve file port count) = to_serve file.now port count
 asked (job.Holidays year) = to_tell_holidays year
 
@@ -95,6 +97,9 @@ calendar_asked found =
 abbrev pub check_asked : List Row → Asked
 check_asked found = to_check (value_of (codes "db") found)
 
+abbrev pub migrate_asked : List Row → Asked
+migrate_asked found = to_migrate (value_of (codes "db") found)
+
 abbrev pub serve_if : Text → Option ℕ → Option ℕ → Option Asked
 serve_if file (Some port) (Some count) = Some (to_serve file port count)
 serve_if file _ _ = None
@@ -116,9 +121,10 @@ asked_by name found =
     else (if bytes_eq name (codes "case") then case_asked found
     else (if bytes_eq name (codes "calendar") then calendar_asked found
     else (if bytes_eq name (codes "check") then Some (check_asked found)
+    else (if bytes_eq name (codes "migrate") then Some (migrate_asked found)
     else (if bytes_eq name (codes "serve") then serve_asked found
     else (if bytes_eq name (codes "holidays") then holidays_asked found
-    else Some to_count)))))))
+    else Some to_count))))))))
 
 -- with no subcommand docketctl counts
 abbrev pub asked_in : Option (Text × List Row) → Option Asked

@@ -2,11 +2,11 @@
 ghost use Rattle.std.specs.Prelude.{◌≡◌, false, IfOk};
 ghost use Rattle.clap.specs.Walk.{rule_of};
 ghost use Rattle.clap.specs.Simple.{new_app};
-ghost use Rattle.docket_jobs.specs.CommandLine.{option_rule, required, with_default, place_rule, HasLine, count_line, create_line, run_line, import_line, case_line, calendar_line, check_line, serve_line, holidays_line, bare_line, docketctl};
+ghost use Rattle.docket_jobs.specs.CommandLine.{option_rule, required, with_default, place_rule, HasLine, count_line, create_line, run_line, import_line, case_line, calendar_line, check_line, migrate_line, serve_line, holidays_line, bare_line, docketctl};
 
 use crate::help::{
     CALENDAR_HELP, CASE_HELP, CHECK_HELP, COUNT_HELP, CREATE_HELP, HOLIDAYS_HELP, IMPORT_HELP,
-    PROGRAM_HELP, RUN_HELP, SERVE_HELP,
+    MIGRATE_HELP, PROGRAM_HELP, RUN_HELP, SERVE_HELP,
 };
 use clap::{Arg, ArgAction, Command};
 use std::alloc::{AllocError, Global};
@@ -188,6 +188,19 @@ fn check_command<'a>(alloc: Global) -> Result<Command<'a>, AllocError>
     .arg(file)
 }
 
+fn migrate_command<'a>(alloc: Global) -> Result<Command<'a>, AllocError>
+    ensures { IfOk result (HasLine migrate_line) }
+{
+    let file = needed_option(alloc, "db", "FILE", FILE_TEXT);
+    subcommand(
+        alloc,
+        "migrate",
+        "Take a docket from version 1 of its tables to version 2",
+        MIGRATE_HELP,
+    )
+    .arg(file)
+}
+
 fn serve_command<'a>(alloc: Global) -> Result<Command<'a>, AllocError>
     ensures { IfOk result (HasLine serve_line) }
 {
@@ -249,6 +262,7 @@ pub(crate) fn command<'a>(alloc: Global) -> Result<Command<'a>, AllocError>
         .subcommand(case_command(alloc)?)?
         .subcommand(calendar_command(alloc)?)?
         .subcommand(check_command(alloc)?)?
+        .subcommand(migrate_command(alloc)?)?
         .subcommand(serve_command(alloc)?)?
         .subcommand(holidays_command(alloc)?)
 }

@@ -34,6 +34,8 @@ With no command, docketctl counts. A docket in a file is made, kept and read lik
   docketctl case --db court.db 1
   docketctl calendar --db court.db 2027-01-01 2027-12-31
   docketctl check --db court.db
+One of an older program is taken further, once:
+  docketctl migrate --db court.db
 It is served to programs of this machine by HTTP:
   docketctl serve --db court.db --port 8080 --count 1000";
 
@@ -131,6 +133,20 @@ limits, or store an end of a deadline other than the rules give:
 
 Exit status: 0 the tables are sound, 2 bad command line, 3 they are not, or there is no docket, or
 writing, memory or the database failed.";
+
+pub(crate) const MIGRATE_HELP: &str = "\
+A docket that an older program made is in version 1 of the tables, which no other command takes. Back
+it up, then:
+  docketctl migrate --db court.db
+  migrated
+The tables are judged as by `docketctl check`; where one is not sound, nothing is changed. The change
+is made in one step: a power failure leaves the docket in version 1, and then the command is given
+again, or in version 2. No case, deadline or answer changes, and `docketctl check` tells `version 2`
+afterwards.
+
+Exit status: 0 the docket is in version 2, 2 bad command line, 3 it is not: the file holds no sound
+docket of version 1, or writing, memory or the database failed, which standard error says in one
+line.";
 
 pub(crate) const SERVE_HELP: &str = "\
 The docket is served at 127.0.0.1 alone, one connection after the other and one request a connection:

@@ -5,7 +5,7 @@ ghost use Rattle.clap.specs.Matches.{found_of};
 ghost use Rattle.clap.specs.Simple.{subcommand_rows_of};
 ghost use Rattle.clap.specs.Walk.{rows_of};
 ghost use Rattle.civil_time.specs.DayText.{day_of_text};
-ghost use Rattle.docket_jobs.specs.Jobs.{IsLimited, asked, asked_by, asked_in, asked_of, calendar_asked, case_asked, check_asked, create_asked, holidays_asked, import_asked, line_faults, run_asked, serve_asked, value_of};
+ghost use Rattle.docket_jobs.specs.Jobs.{IsLimited, asked, asked_by, asked_in, asked_of, calendar_asked, case_asked, check_asked, create_asked, holidays_asked, import_asked, line_faults, migrate_asked, run_asked, serve_asked, value_of};
 
 use crate::command_line::command;
 use crate::number::{read_count, read_number, read_port, read_year};
@@ -51,6 +51,10 @@ pub enum Job<'a> {
     },
     /// `check`: tell whether the tables of the docket in a file are sound.
     Check {
+        file: &'a str,
+    },
+    /// `migrate`: take the docket in a file from the first version of its tables to the second.
+    Migrate {
         file: &'a str,
     },
     /// `serve`: answer the requests of 1 to 1,000,000 connections, at a port of this machine alone, of the
@@ -170,6 +174,14 @@ fn check_job<'a>(found: &ArgMatches<'a>) -> Job<'a>
     }
 }
 
+fn migrate_job<'a>(found: &ArgMatches<'a>) -> Job<'a>
+    ensures { asked result ≡ migrate_asked (rows_of (found_of found.now)) }
+{
+    Job::Migrate {
+        file: value(found, "db"),
+    }
+}
+
 fn serve_job<'a>(found: &ArgMatches<'a>) -> Result<Job<'a>, BadValue>
     ensures { MatchResult result (λ job. serve_asked (rows_of (found_of found.now)) ≡ Some (asked job))
         (λ _. serve_asked (rows_of (found_of found.now)) ≡ None) }
@@ -205,6 +217,7 @@ fn job_by<'a>(name: &str, found: &ArgMatches<'a>) -> Result<Job<'a>, BadValue>
         "case" => case_job(found),
         "calendar" => calendar_job(found),
         "check" => Ok(check_job(found)),
+        "migrate" => Ok(migrate_job(found)),
         "serve" => serve_job(found),
         "holidays" => holidays_job(found),
         _ => Ok(Job::Count),

@@ -8,6 +8,7 @@ use Rattle.docket_core.specs.Histories.{items_of}
 use Rattle.docket_core.specs.declared.row.ActRow.{ActRow}
 use Rattle.docket_columns.specs.Cells.{act_cells}
 use Rattle.docket_columns.specs.Fits.{IsActRow}
+use Rattle.docket_columns.specs.declared.version.Version.{Version}
 use Rattle.docket_sound.specs.Acts.{AreSoundActs, HasTakenActs}
 use Rattle.docket_sound.specs.Counted.{cases_of, counts_of}
 use Rattle.docket_sound.specs.Deadlines.{deadline_key}
@@ -25,7 +26,7 @@ use Rattle.docket_scan.specs.declared.fault.AdoptFault.TheVariants.{Damaged}
 use Rattle.docket_scan.specs.declared.reading.EndsRead.{EndsRead}
 use Rattle.docket_scan.specs.declared.reading.TablesRead.{TablesRead}
 use Rattle.docket_scan.proofs.CountLemmas.{counted}
-use Rattle.docket_scan.proofs.JudgingLemmas.{all_more, read_rows, so_many}
+use Rattle.docket_scan.proofs.JudgingLemmas.{all_more, each_has, read_rows, so_many}
 use Rattle.docket_scan.proofs.RecordLemmas.{all_read}
 
 -- what the check of acts goes by, after the tables before them
@@ -69,9 +70,9 @@ module _ (court : CourtSettings) (next : ℕ) (first old new : State) (read : Ta
       }
 
   -- or the table is unsound
-  pub acts_refused : (AreSoundActs check.court (cases_of check.deadlines) (counts_of check.deadlines) acts → ⊥) → FailsAt court next first new (Damaged table.Acts)
-  acts_refused never = (
-    tt,
+  pub acts_refused : (v : Version) → (AreSoundActs check.court (cases_of check.deadlines) (counts_of check.deadlines) acts → ⊥) → FailsAt v court next first new (Damaged table.Acts)
+  acts_refused v never = (
+    each_has v table.Acts tt,
     λ opened. unchanged_then first old new prior.same later,
     prior.rows,
     prior.sound,

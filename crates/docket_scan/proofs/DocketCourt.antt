@@ -19,12 +19,15 @@ use Rattle.docket_core.specs.Histories.{History, next_row}
 use Rattle.docket_core.specs.Outcomes.{IsHistory}
 use Rattle.docket_core.specs.Tables.{rows_of}
 use Rattle.docket_core.proofs.LimitsKept.{within_limits}
-use Rattle.docket_columns.specs.Cells.{court_cells}
+use Rattle.docket_columns.specs.Cells.{court_cells_of}
+use Rattle.docket_columns.specs.declared.version.Version.{Version}
+use Rattle.docket_columns.specs.declared.version.Version.TheVariants.{First, Second}
 use Rattle.docket_wire.specs.Valid.{IsCommand}
-use Rattle.docket_tables.specs.Contents.{rows_in}
+use Rattle.docket_tables.specs.Contents.{rows_by}
 use Rattle.docket_orderly.specs.Orderly.{IsCourtSettings}
-use Rattle.docket_tables.specs.Schema.{docket_schema}
-use Rattle.docket_tables.specs.Stands.{Shows, HoldsRows}
+use Rattle.docket_tables.specs.Schema.{schema_of}
+use Rattle.docket_tables.specs.Stands.{ShowsIn, HoldsRowsIn}
+use Rattle.docket_tables.specs.Tables.{IsTableOf}
 use Rattle.docket_tables.specs.declared.table.Table.{Table}
 use Rattle.docket_tables.specs.declared.table.Table.TheVariants as table
 use Rattle.docket_scan.specs.Courts.{AreMarked, IsCourtsRow, IsRowOf}
@@ -38,13 +41,15 @@ use Rattle.docket_scan.specs.declared.fault.AdoptFault.{AdoptFault}
 use Rattle.docket_scan.specs.declared.fault.AdoptFault.TheVariants.{Empty, NotADocket, OtherVersion, Damaged, NoMemory, StoreFailed}
 use Rattle.docket_scan.specs.declared.finding.FoundDocket.{FoundDocket}
 use Rattle.docket_scan.specs.declared.holdings.Holdings.{Holdings}
-use Rattle.docket_scan.proofs.DocketJudged.{docket_told, in_order, never_unsound}
+use Rattle.docket_scan.proofs.DocketJudged.{docket_told, in_order, never_unsound, rows_of_docket, shows_docket}
 use Rattle.docket_scan.proofs.DocketReads.{AreSorted, never_unreadable, rows_sorted}
 use Rattle.docket_scan.proofs.DocketStatements.{is_there}
+use Rattle.docket_scan.proofs.JudgingLemmas.{each_has}
 
-is_named : has_named docket_schema table.Court ≡ true
+is_named : (v : Version) → has_named (schema_of v) table.Court ≡ true
 unfolding same_name
-is_named = refl
+is_named First = refl
+is_named Second = refl
 
 -- one row stands in one order alone
 only_row : (row : Row) (found : List Row) → IsPermutation (row ∷ []) found → found ≡ row ∷ []
@@ -59,14 +64,14 @@ some_next : (h : History) → 1 ≤ next_row h
 some_next [] = omega arith
 some_next (c ∷ h) = omega (arith, some_next h)
 
-module _ (s : State) (court : CourtSettings) (h : History) (settings : IsCourtSettings court) (zone : IsSome (zone_at court.zone_text)) (is : IsHistory court h) (shows : Shows s (rows_in court (rows_of court h))) where
-  own : Row
-  own = court_cells court (next_row h)
+module _ (v : Version) (s : State) (court : CourtSettings) (h : History) (settings : IsCourtSettings court) (zone : IsSome (zone_at court.zone_text)) (is : IsHistory court h) (shows : ShowsIn v s (rows_of_docket v court h)) where
+  has_court : IsTableOf v table.Court
+  has_court = each_has v table.Court tt
 
   numbered : 1 ≤ next_row h → next_row h ≤ 4_294_967_296 → (nat_le 1 (next_row h) ≡ true) × (nat_le (next_row h) 4_294_967_296 ≡ true)
   numbered low high = (grind (arith, nat_tests), grind (arith, nat_tests))
 
-  own_row : IsRowOf (court_cells court (next_row h)) court (next_row h)
+  own_row : IsRowOf v (court_cells_of v court (next_row h)) court (next_row h)
   own_row =
       let most = (within_limits court h is).next_row in
       let numbers = numbered (some_next h) most in
@@ -77,34 +82,34 @@ module _ (s : State) (court : CourtSettings) (h : History) (settings : IsCourtSe
       }
 
   -- the table holds that row alone
-  only_own : (row : Row) → AreRowsOf table.Court s (row ∷ []) → (row ≡ court_cells court (next_row h) → ⊥) → ⊥
+  only_own : (row : Row) → AreRowsOf table.Court s (row ∷ []) → (row ≡ court_cells_of v court (next_row h) → ⊥) → ⊥
   only_own row read other =
-      in_order s (rows_in court (rows_of court h)) shows table.Court (row ∷ []) read (λ it. other (let e = only_row (court_cells court (next_row h)) (row ∷ []) it.same in cc))
+      in_order v s (rows_of_docket v court h) shows table.Court has_court (row ∷ []) read (λ it. other (let e = only_row (court_cells_of v court (next_row h)) (row ∷ []) it.same in cc))
 
   never_empty : IsEmpty s → ⊥
-  never_empty (inl missing) = false≢true (sym missing ∙ ap (λ d. has_named d table.Court) shows.schema ∙ is_named)
-  never_empty (inr (there, unreadable)) = never_unreadable table.Court s shows.schema unreadable
+  never_empty (inl missing) = false≢true (sym missing ∙ ap (λ d. has_named d table.Court) shows.schema ∙ is_named v)
+  never_empty (inr (there, unreadable)) = never_unreadable v table.Court has_court s shows.schema unreadable
 
-  marked : (found : List Row) → AreSorted table.Court (court_cells court (next_row h) ∷ []) found → AreMarked found
-  marked found it = (court_cells court (next_row h), only_row (court_cells court (next_row h)) found it.same, refl)
+  marked : (found : List Row) → AreSorted table.Court (court_cells_of v court (next_row h) ∷ []) found → AreMarked found
+  marked found it = (court_cells_of v court (next_row h), only_row (court_cells_of v court (next_row h)) found it.same, refl)
 
   never_another : IsNoDocket s → ⊥
-  never_another (named, inl lacks) = false≢true (sym lacks ∙ ap (λ d. has_table d table.Court) shows.schema ∙ is_there table.Court)
-  never_another (named, inr unsound) = never_unsound s (rows_in court (rows_of court h)) shows table.Court AreMarked marked (inr (inr unsound))
+  never_another (named, inl lacks) = false≢true (sym lacks ∙ ap (λ d. has_table d table.Court) shows.schema ∙ is_there v table.Court has_court)
+  never_another (named, inr unsound) = never_unsound v s (rows_of_docket v court h) shows table.Court has_court AreMarked marked (inr (inr unsound))
 
-  never_older : IsOfOtherVersion s → ⊥
+  never_older : IsOfOtherVersion v s → ⊥
   never_older (row, has, other) = only_own row has.1 (λ same. other (ap (λ r. column r 2) same))
 
-  never_odd : (row : Row) → HasCourtRow s row → (IsCourtsRow row → ⊥) → ⊥
-  never_odd row has other = only_own row has.1 (λ same. other (court, next_row h, subst (λ r. IsRowOf r court (next_row h)) (sym same) own_row))
+  never_odd : (row : Row) → HasCourtRow s row → (IsCourtsRow v row → ⊥) → ⊥
+  never_odd row has other = only_own row has.1 (λ same. other (court, next_row h, subst (λ r. IsRowOf v r court (next_row h)) (sym same) own_row))
 
   -- a row of a court that is read there tells the docket's own court and number
-  module _ (found : CourtSettings) (next : ℕ) (row : Row) (read : AreRowsOf table.Court s (row ∷ [])) (same : row ≡ court_cells found next) where
-    sorted : ∥ AreSorted table.Court (court_cells court (next_row h) ∷ []) (row ∷ []) ∥₁
-    sorted = rows_sorted table.Court s shows.schema (rows_in court (rows_of court h)) shows.holds (row ∷ []) read
+  module _ (found : CourtSettings) (next : ℕ) (row : Row) (read : AreRowsOf table.Court s (row ∷ [])) (same : row ≡ court_cells_of v found next) where
+    sorted : ∥ AreSorted table.Court (court_cells_of v court (next_row h) ∷ []) (row ∷ []) ∥₁
+    sorted = rows_sorted v table.Court has_court s shows.schema (rows_of_docket v court h) shows.holds (row ∷ []) read
 
-    cells : AreSorted table.Court (court_cells court (next_row h) ∷ []) (row ∷ []) → court_cells found next ≡ court_cells court (next_row h)
-    cells it = let e = only_row (court_cells court (next_row h)) (row ∷ []) it.same in cc
+    cells : AreSorted table.Court (court_cells_of v court (next_row h) ∷ []) (row ∷ []) → court_cells_of v found next ≡ court_cells_of v court (next_row h)
+    cells it = let e = only_row (court_cells_of v court (next_row h)) (row ∷ []) it.same in cc
 
     zone_told : found.zone_text ≡ court.zone_text
     zone_told = ∥∥₁_elim sorted (Coded-set (coded_list coded_ℕ) _ _) (λ it. let e = cells it in cc)
@@ -119,40 +124,40 @@ module _ (s : State) (court : CourtSettings) (h : History) (settings : IsCourtSe
     court_told = λ i. record { zone_text = zone_told i; close_minute = close_told i }
 
 -- so the docket of a history is found as it is
-pub docket_found : {S : Type 0} (g : Ghosts S) (old : Held S) (new : State) (result : Result FoundDocket AdoptFault)
-    → HasCleanDisk (state g old) → IsTaken (state g old) new result
+pub docket_found : {S : Type 0} (g : Ghosts S) (v : Version) (old : Held S) (new : State) (result : Result FoundDocket AdoptFault)
+    → HasCleanDisk (state g old) → IsTaken v (state g old) new result
     → (court : CourtSettings) (h : History) → IsCourtSettings court → IsSome (zone_at court.zone_text) → IsHistory court h → AllByRecursion IsCommand h
-    → HoldsRows g old (rows_in court (rows_of court h)) → IsFoundOfDocket court h result
-docket_found g old new result clean taken court h settings zone is commands holds = at result taken
+    → HoldsRowsIn g v old (rows_by v court (rows_of court h)) → IsFoundOfDocket court h result
+docket_found g v old new result clean taken court h settings zone is commands holds = at result taken
   where
     s : State
     s = state g old
 
-    shows : Shows s (rows_in court (rows_of court h))
-    shows = (holds.1 clean).shows
+    shows : ShowsIn v s (rows_of_docket v court h)
+    shows = shows_docket v s court h (holds.1 clean).shows
 
     told : (found : CourtSettings) (next : ℕ) (judged : Result Holdings AdoptFault) → found ≡ court → next ≡ next_row h
-        → JudgedAll found next s new (λ r held. held ≡ holdings_of found r) judged → IsToldOfDocket court h judged
+        → JudgedAll v found next s new (λ r held. held ≡ holdings_of found r) judged → IsToldOfDocket court h judged
     told found next judged same numbered it =
-        docket_told g old new court next judged clean (subst (λ k. JudgedAll k next s new (λ r held. held ≡ holdings_of k r) judged) same it) h is commands numbered holds
+        docket_told g v old new court next judged clean (subst (λ k. JudgedAll v k next s new (λ r held. held ≡ holdings_of k r) judged) same it) h is commands numbered holds
 
-    behind : (t : Table) → IsBehindCourt t → StaysOpen s new → IsFirstUnsound t s → ⊥
+    behind : (t : Table) → IsBehindCourt v t → StaysOpen s new → IsFirstUnsound v t s → ⊥
     behind t is_behind stays (found, next, (row, has, row_of), r, all, unsound) =
-        told found next (Err (Damaged t)) (court_told s court h settings zone is shows found next row has.1 row_of.same) (next_told s court h settings zone is shows found next row has.1 row_of.same) (is_behind, stays, r, all, unsound)
+        told found next (Err (Damaged t)) (court_told v s court h settings zone is shows found next row has.1 row_of.same) (next_told v s court h settings zone is shows found next row has.1 row_of.same) (is_behind, stays, r, all, unsound)
 
-    damaged : (t : Table) → StaysOpen s new → IsDamaged t s → ⊥
-    damaged table.Court stays (row, has, current, other) = never_odd s court h settings zone is shows row has other
-    damaged t stays cause = behind t tt stays cause
+    damaged : (t : Table) → StaysOpen s new → IsDamaged v t s → ⊥
+    damaged table.Court stays (row, has, current, other) = never_odd v s court h settings zone is shows row has other
+    damaged t stays cause = behind t cause.0 stays cause.1
 
-    at : (r : Result FoundDocket AdoptFault) → IsTaken s new r → IsFoundOfDocket court h r
+    at : (r : Result FoundDocket AdoptFault) → IsTaken v s new r → IsFoundOfDocket court h r
     at (Ok found) (same, r, sound, held) =
         let row_of = sound.has_court.2 in
-        let is_court = court_told s court h settings zone is shows found.court sound.next_row sound.has_court.0 sound.has_court.1.1 row_of.same in
-        let is_next = next_told s court h settings zone is shows found.court sound.next_row sound.has_court.0 sound.has_court.1.1 row_of.same in
+        let is_court = court_told v s court h settings zone is shows found.court sound.next_row sound.has_court.0 sound.has_court.1.1 row_of.same in
+        let is_next = next_told v s court h settings zone is shows found.court sound.next_row sound.has_court.0 sound.has_court.1.1 row_of.same in
         (is_court, told found.court sound.next_row (Ok found.held) is_court is_next (same, r, sound.behind, held))
-    at (Err Empty) (left, cause) = never_empty s court h settings zone is shows cause
-    at (Err NotADocket) (left, cause) = never_another s court h settings zone is shows cause
-    at (Err OtherVersion) (left, cause) = never_older s court h settings zone is shows cause
+    at (Err Empty) (left, cause) = never_empty v s court h settings zone is shows cause
+    at (Err NotADocket) (left, cause) = never_another v s court h settings zone is shows cause
+    at (Err OtherVersion) (left, cause) = never_older v s court h settings zone is shows cause
     at (Err (Damaged t)) (left, cause) = damaged t left cause
     at (Err NoMemory) told = tt
     at (Err StoreFailed) told = tt

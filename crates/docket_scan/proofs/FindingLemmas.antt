@@ -9,7 +9,8 @@ use Rattle.sqlite.specs.declared.error.Error.TheVariants.{SqliteFailure, SqlInpu
 use Rattle.sqlite.specs.declared.error.ErrorCode.TheVariants.{TypeMismatch, IntegerOverflow, OutOfMemory}
 use Rattle.sqlite.proofs.Callers.{unchanged_then}
 use Rattle.court_days.specs.Court.{CourtSettings}
-use Rattle.docket_columns.specs.Cells.{court_cells}
+use Rattle.docket_columns.specs.Cells.{court_cells_of}
+use Rattle.docket_columns.specs.declared.version.Version.{Version}
 use Rattle.docket_sound.specs.Courts.{IsSoundCourt, settings_of}
 use Rattle.docket_sound.specs.declared.court.CourtRecord.{CourtRecord}
 use Rattle.docket_tables.specs.declared.table.Table.{Table}
@@ -28,28 +29,28 @@ use Rattle.docket_scan.proofs.JudgingLemmas.{unsound_before, with_now}
 use Rattle.docket_scan.proofs.ScanLemmas.{stays_then}
 
 -- an error in the reading of the court's table
-pub court_failed : (old new : State) (e : Error) → has_table old.now.schema table.Court ≡ true → FailsToScan table.Court old new e → IsNotTaken old new (court_fault e)
-court_failed old new (SqlInputError why) there h = (λ _. (h.1 refl).1, inr (there, (h.1 refl).0))
-court_failed old new (SqliteFailure TypeMismatch) there h = (λ _. (h.1 refl).1, inr (there, (h.1 refl).0))
-court_failed old new (SqliteFailure IntegerOverflow) there h = (λ _. (h.1 refl).1, inr (there, (h.1 refl).0))
-court_failed old new (SqliteFailure OutOfMemory) there h = (h.0, tt)
-court_failed old new _ there h = (h.0, tt)
+pub court_failed : (v : Version) (old new : State) (e : Error) → has_table old.now.schema table.Court ≡ true → FailsToScan table.Court old new e → IsNotTaken v old new (court_fault e)
+court_failed v old new (SqlInputError why) there h = (λ _. (h.1 refl).1, inr (there, (h.1 refl).0))
+court_failed v old new (SqliteFailure TypeMismatch) there h = (λ _. (h.1 refl).1, inr (there, (h.1 refl).0))
+court_failed v old new (SqliteFailure IntegerOverflow) there h = (λ _. (h.1 refl).1, inr (there, (h.1 refl).0))
+court_failed v old new (SqliteFailure OutOfMemory) there h = (h.0, tt)
+court_failed v old new _ there h = (h.0, tt)
 
 -- what its rows come to
-pub finished : (old new : State) (rows : List Row) (r : Result CourtRecord AdoptFault) → has_named old.now.schema table.Court ≡ true → has_table old.now.schema table.Court ≡ true → IsUnchanged old new
-    → AreRowsOf table.Court old rows → Finishes rows r → ReadsCourt old new r
-finished old new rows (Ok r) named there same read (court, is, held, row) =
+pub finished : (v : Version) (old new : State) (rows : List Row) (r : Result CourtRecord AdoptFault) → has_named old.now.schema table.Court ≡ true → has_table old.now.schema table.Court ≡ true → IsUnchanged old new
+    → AreRowsOf table.Court old rows → Finishes v rows r → ReadsCourt v old new r
+finished v old new rows (Ok r) named there same read (court, is, held, row) =
     (same, court, (there, subst (AreRowsOf table.Court old) is read, refl), held, row)
-finished old new rows (Err NotADocket) named there same read unmarked = (λ _. same, (named, inr (inr (rows, read, unmarked))))
-finished old new rows (Err OtherVersion) named there same read (row, is, word, other) = (λ _. same, (row, (there, subst (AreRowsOf table.Court old) is read, word), other))
-finished old new rows (Err (Damaged table.Court)) named there same read (row, is, word, current, none) =
+finished v old new rows (Err NotADocket) named there same read unmarked = (λ _. same, (named, inr (inr (rows, read, unmarked))))
+finished v old new rows (Err OtherVersion) named there same read (row, is, word, other) = (λ _. same, (row, (there, subst (AreRowsOf table.Court old) is read, word), other))
+finished v old new rows (Err (Damaged table.Court)) named there same read (row, is, word, current, none) =
     (λ _. same, (row, (there, subst (AreRowsOf table.Court old) is read, word), current, λ of_court. none of_court.0 of_court.1 of_court.2.held of_court.2.same))
-finished old new rows (Err _) named there same read never = absurd never
+finished v old new rows (Err _) named there same read never = absurd never
 
 -- a fault that is handed on
-pub not_taken : (old new : State) (r : Result FoundDocket AdoptFault) (fault : AdoptFault) → IsErrAnd r (λ f. f ≡ fault) → IsNotTaken old new fault → IsTaken old new r
-not_taken old new (Ok x) fault same told = absurd same
-not_taken old new (Err f) fault same told = subst (IsNotTaken old new) (sym same) told
+pub not_taken : (v : Version) (old new : State) (r : Result FoundDocket AdoptFault) (fault : AdoptFault) → IsErrAnd r (λ f. f ≡ fault) → IsNotTaken v old new fault → IsTaken v old new r
+not_taken v old new (Ok x) fault same told = absurd same
+not_taken v old new (Err f) fault same told = subst (IsNotTaken v old new) (sym same) told
 
 module _ (first old : State) (same : IsUnchanged first old) where
   holds_before : (court : CourtSettings) (next : ℕ) (r : Rows) (ts : List Table) → AllByRecursion (Holds old court next r) ts → AllByRecursion (Holds first court next r) ts
@@ -59,36 +60,36 @@ module _ (first old : State) (same : IsUnchanged first old) where
   stays_open new stays = λ opened. unchanged_then first old new same (stays same.0.is_open)
 
   -- the tables behind the court's, where that is sound
-  module _ (court : CourtSettings) (next : ℕ) (has : HasCourt first court next) where
-    damaged : (t : Table) → IsBehindCourt t → (r : Rows) → AllByRecursion (Holds old court next r) (before t) → IsUnsoundIn t old (AreSoundBy t court next r) → IsDamaged t first
+  module _ (v : Version) (court : CourtSettings) (next : ℕ) (has : HasCourt v first court next) where
+    damaged : (t : Table) → IsBehindCourt v t → (r : Rows) → AllByRecursion (Holds old court next r) (before t) → IsUnsoundIn t old (AreSoundBy t court next r) → IsDamaged v t first
     damaged table.Court behind r all unsound = absurd behind
-    damaged t behind r all unsound = (court, next, has, r, holds_before court next r (before t) all, unsound_before first old same t (AreSoundBy t court next r) unsound)
+    damaged t behind r all unsound = (behind, (court, next, has, r, holds_before court next r (before t) all, unsound_before first old same t (AreSoundBy t court next r) unsound))
 
-    pub judged_fault : (new : State) (fault : AdoptFault) → FailsAt court next old new fault → IsNotTaken first new fault
+    pub judged_fault : (new : State) (fault : AdoptFault) → FailsAt v court next old new fault → IsNotTaken v first new fault
     judged_fault new (Damaged t) (behind, stays, r, all, unsound) = (stays_open new stays, damaged t behind r all unsound)
     judged_fault new NoMemory left = (stays_then first old new same left, tt)
     judged_fault new StoreFailed left = (stays_then first old new same left, tt)
     judged_fault new _ never = absurd never
 
-    pub judged_sound : (new : State) (found : FoundDocket) → found.court ≡ court → JudgedAll court next old new (λ r held. held ≡ holdings_of court r) (Ok found.held) → IsTaken first new (Ok found)
+    pub judged_sound : (new : State) (found : FoundDocket) → found.court ≡ court → JudgedAll v court next old new (λ r held. held ≡ holdings_of court r) (Ok found.held) → IsTaken v first new (Ok found)
     judged_sound new found is (still, r, all, held) = (
       unchanged_then first old new same still,
       r,
-      subst (λ k. AreSound first k r) (sym is) (record {
+      subst (λ k. AreSound v first k r) (sym is) (record {
         next_row = next;
         has_court = has;
-        behind = holds_before court next r behind_court all;
+        behind = holds_before court next r (behind_court v) all;
       }),
       held ∙ ap (λ k. holdings_of k r) (sym is),
     )
 
 -- the row of a court was read, and its court is refused or sound
-pub court_refused : (old new : State) (r : CourtRecord) (fault : AdoptFault) → ReadsCourt old new (Ok r) → (fault ≡ NoMemory) ⊎ ((fault ≡ Damaged table.Court) × (IsSoundCourt r → ⊥)) → IsNotTaken old new fault
-court_refused old new r fault (same, court, has, held, is) (inl short) = subst (IsNotTaken old new) (sym short) (inl same, tt)
-court_refused old new r fault (same, court, has, held, is) (inr (damaged, never)) =
-    subst (IsNotTaken old new) (sym damaged) (λ _. same, (court_cells court r.next_row, has, refl, of_none))
+pub court_refused : (v : Version) (old new : State) (r : CourtRecord) (fault : AdoptFault) → ReadsCourt v old new (Ok r) → (fault ≡ NoMemory) ⊎ ((fault ≡ Damaged table.Court) × (IsSoundCourt r → ⊥)) → IsNotTaken v old new fault
+court_refused v old new r fault (same, court, has, held, is) (inl short) = subst (IsNotTaken v old new) (sym short) (inl same, tt)
+court_refused v old new r fault (same, court, has, held, is) (inr (damaged, never)) =
+    subst (IsNotTaken v old new) (sym damaged) (λ _. same, (court_cells_of v court r.next_row, has, refl, of_none))
   where
-    of_none : IsCourtsRow (court_cells court r.next_row) → ⊥
+    of_none : IsCourtsRow v (court_cells_of v court r.next_row) → ⊥
     of_none (other, next, it) =
         let zone : other.zone_text ≡ court.zone_text = let e = it.same in cc in
         let close : other.close_minute ≡ court.close_minute = let e = it.same in cc in
@@ -96,7 +97,7 @@ court_refused old new r fault (same, court, has, held, is) (inr (damaged, never)
         let rows : record_of other next ≡ record_of court r.next_row = λ i. record { id = 1; zone = zone i; close = close i; next_row = number i } in
         never (subst IsSoundCourt (rows ∙ sym is) it.sound)
 
-pub court_had : (old new : State) (r : CourtRecord) (judged : CourtSettings) → ReadsCourt old new (Ok r) → IsSoundCourt r × (judged ≡ settings_of r) → HasCourt old judged r.next_row
-court_had old new r judged (same, court, has, held, is) (sound, told) =
+pub court_had : (v : Version) (old new : State) (r : CourtRecord) (judged : CourtSettings) → ReadsCourt v old new (Ok r) → IsSoundCourt r × (judged ≡ settings_of r) → HasCourt v old judged r.next_row
+court_had v old new r judged (same, court, has, held, is) (sound, told) =
     let whole : judged ≡ court = told ∙ ap settings_of is in
-    subst (λ k. HasCourt old k r.next_row) (sym whole) (court_cells court r.next_row, has, record { same = refl; held = held; sound = subst IsSoundCourt is sound })
+    subst (λ k. HasCourt v old k r.next_row) (sym whole) (court_cells_of v court r.next_row, has, record { same = refl; held = held; sound = subst IsSoundCourt is sound })

@@ -1,4 +1,4 @@
--- What a database is found to be: the first cause, in the order of the faults, for which it is no docket, or the docket that it holds.
+-- What a database is found to be in a version: the first cause, in the order of the faults, for which it is no docket, or the docket that it holds.
 use Rattle.std.specs.Prelude.{◌≡◌, ◌⊎◌, ℕ, false, true, [], ◌∷◌, Result, Ok, Err}
 use Rattle.std.specs.List.{AllByRecursion}
 use Rattle.sqlite.specs.Order.{Row}
@@ -7,8 +7,9 @@ use Rattle.sqlite.specs.declared.error.Error.{Error}
 use Rattle.sqlite.specs.declared.error.Error.TheVariants.{SqliteFailure, SqlInputError}
 use Rattle.sqlite.specs.declared.error.ErrorCode.TheVariants.{TypeMismatch, IntegerOverflow, OutOfMemory}
 use Rattle.court_days.specs.Court.{CourtSettings}
-use Rattle.docket_columns.specs.Cells.{HasWord, IsCurrent, court_cells}
+use Rattle.docket_columns.specs.Cells.{HasWord, IsOfVersion, court_cells_of}
 use Rattle.docket_columns.specs.Fits.{IsCourtRow}
+use Rattle.docket_columns.specs.declared.version.Version.{Version}
 use Rattle.docket_sound.specs.declared.court.CourtRecord.{CourtRecord}
 use Rattle.docket_scan.specs.Courts.{AreMarked, IsCourtsRow, IsRowOf, record_of}
 use Rattle.docket_scan.specs.Holdings.{holdings_of}
@@ -18,6 +19,7 @@ use Rattle.docket_scan.specs.Shapes.{has_named, has_table}
 use Rattle.docket_scan.specs.declared.fault.AdoptFault.{AdoptFault}
 use Rattle.docket_scan.specs.declared.fault.AdoptFault.TheVariants.{Empty, NotADocket, OtherVersion, Damaged, NoMemory, StoreFailed}
 use Rattle.docket_scan.specs.declared.finding.FoundDocket.{FoundDocket}
+use Rattle.docket_tables.specs.Tables.{IsTableOf}
 use Rattle.docket_tables.specs.declared.table.Table.{Table}
 use Rattle.docket_tables.specs.declared.table.Table.TheVariants.{Court}
 
@@ -41,38 +43,38 @@ abbrev pub HasCourtRow : State → Row → Type 0
 HasCourtRow s row = (has_table s.now.schema Court ≡ true) × AreRowsOf Court s (row ∷ []) × HasWord row
 
 -- whose version is another
-abbrev pub IsOfOtherVersion : State → Type 0
-IsOfOtherVersion s = (row : Row) × HasCourtRow s row × (IsCurrent row → ⊥)
+abbrev pub IsOfOtherVersion : Version → State → Type 0
+IsOfOtherVersion v s = (row : Row) × HasCourtRow s row × (IsOfVersion v row → ⊥)
 
 -- the table of the court is sound: it holds the row of this court, and the next calendar row has this number
-abbrev pub HasCourt : State → CourtSettings → ℕ → Type 0
-HasCourt s court next = (row : Row) × HasCourtRow s row × IsRowOf row court next
+abbrev pub HasCourt : Version → State → CourtSettings → ℕ → Type 0
+HasCourt v s court next = (row : Row) × HasCourtRow s row × IsRowOf v row court next
 
 -- that of the court is sound, and this is the first of the others that is not, by those before it
-abbrev pub IsFirstUnsound : Table → State → Type 0
-IsFirstUnsound t s =
-    (court : CourtSettings) × (next : ℕ) × HasCourt s court next
+abbrev pub IsFirstUnsound : Version → Table → State → Type 0
+IsFirstUnsound v t s =
+    (court : CourtSettings) × (next : ℕ) × HasCourt v s court next
     × (r : Rows) × AllByRecursion (Holds s court next r) (before t) × IsUnsoundIn t s (AreSoundBy t court next r)
 
--- it holds the row of no court; or this is the first table that is not sound
-abbrev pub IsDamaged : Table → State → Type 0
-IsDamaged Court s = (row : Row) × HasCourtRow s row × IsCurrent row × (IsCourtsRow row → ⊥)
-IsDamaged t s = IsFirstUnsound t s
+-- it holds the row of no court; or this is the first table of the version that is not sound
+abbrev pub IsDamaged : Version → Table → State → Type 0
+IsDamaged v Court s = (row : Row) × HasCourtRow s row × IsOfVersion v row × (IsCourtsRow v row → ⊥)
+IsDamaged v t s = IsTableOf v t × IsFirstUnsound v t s
 
--- all tables are sound, and hold these rows beside the court
-pub record AreSound (s : State) (court : CourtSettings) (r : Rows) : Type 0 where
+-- all tables of the version are sound, and hold these rows beside the court
+pub record AreSound (v : Version) (s : State) (court : CourtSettings) (r : Rows) : Type 0 where
   pub next_row : ℕ
-  pub has_court : HasCourt s court next_row
-  pub behind : AllByRecursion (Holds s court next_row r) behind_court
+  pub has_court : HasCourt v s court next_row
+  pub behind : AllByRecursion (Holds s court next_row r) (behind_court v)
 
 -- why it is not taken for a docket: the first cause, in the order of the faults
-abbrev pub HasCause : State → AdoptFault → Type 0
-HasCause s Empty = IsEmpty s
-HasCause s NotADocket = IsNoDocket s
-HasCause s OtherVersion = IsOfOtherVersion s
-HasCause s (Damaged t) = IsDamaged t s
-HasCause s NoMemory = Unit {0}
-HasCause s StoreFailed = Unit {0}
+abbrev pub HasCause : Version → State → AdoptFault → Type 0
+HasCause v s Empty = IsEmpty s
+HasCause v s NotADocket = IsNoDocket s
+HasCause v s OtherVersion = IsOfOtherVersion v s
+HasCause v s (Damaged t) = IsDamaged v t s
+HasCause v s NoMemory = Unit {0}
+HasCause v s StoreFailed = Unit {0}
 
 -- what is left then: nothing changes
 abbrev pub LeavesIt : State → State → AdoptFault → Type 0
@@ -80,16 +82,17 @@ LeavesIt old new NoMemory = StaysOrRollsBack old new
 LeavesIt old new StoreFailed = StaysOrRollsBack old new
 LeavesIt old new _ = StaysOpen old new
 
-abbrev pub IsNotTaken : State → State → AdoptFault → Type 0
-IsNotTaken old new fault = LeavesIt old new fault × HasCause old fault
+abbrev pub IsNotTaken : Version → State → State → AdoptFault → Type 0
+IsNotTaken v old new fault = LeavesIt old new fault × HasCause v old fault
 
 -- what the reading of the court's table gives: the row of a court, whose zone may be none yet
-abbrev pub ReadsCourt : State → State → Result CourtRecord AdoptFault → Type 0
-ReadsCourt old new (Ok r) =
-    IsUnchanged old new × (court : CourtSettings) × HasCourtRow old (court_cells court r.next_row) × IsCourtRow court r.next_row × (r ≡ record_of court r.next_row)
-ReadsCourt old new (Err fault) = IsNotTaken old new fault
+abbrev pub ReadsCourt : Version → State → State → Result CourtRecord AdoptFault → Type 0
+ReadsCourt v old new (Ok r) =
+    IsUnchanged old new × (court : CourtSettings) × HasCourtRow old (court_cells_of v court r.next_row) × IsCourtRow court r.next_row
+    × (r ≡ record_of court r.next_row)
+ReadsCourt v old new (Err fault) = IsNotTaken v old new fault
 
--- it is taken for the docket of this court where its tables are sound, and only there
-abbrev pub IsTaken : State → State → Result FoundDocket AdoptFault → Type 0
-IsTaken old new (Ok found) = IsUnchanged old new × (r : Rows) × AreSound old found.court r × (found.held ≡ holdings_of found.court r)
-IsTaken old new (Err fault) = IsNotTaken old new fault
+-- it is taken for the docket of this court where the tables of the version are sound, and only there
+abbrev pub IsTaken : Version → State → State → Result FoundDocket AdoptFault → Type 0
+IsTaken v old new (Ok found) = IsUnchanged old new × (r : Rows) × AreSound v old found.court r × (found.held ≡ holdings_of found.court r)
+IsTaken v old new (Err fault) = IsNotTaken v old new fault

@@ -17,18 +17,19 @@ use Rattle.docket_core.specs.declared.row.DeadlineRow.{DeadlineRow}
 use Rattle.docket_core.specs.declared.row.EntryRow.{EntryRow}
 use Rattle.docket_core.specs.declared.row.PartyRow.{PartyRow}
 use Rattle.docket_columns.specs.Cells.{calendar_cells, case_cells, party_cells, entry_cells, deadline_cells, act_cells, end_cells}
+use Rattle.docket_columns.specs.declared.version.Version.{Version}
 use Rattle.docket_sound.specs.Deadlines.{deadline_key}
 use Rattle.docket_sound.specs.Dues.{dues_of}
 use Rattle.docket_sound.specs.Parties.{party_key}
-use Rattle.docket_scan.specs.Records.{count_in, receipt_cells, AreCalendarRows, AreCaseRows, ArePartyRows, AreEntryRows, AreDeadlineRows, AreActRows, AreReceiptRows, AreEndRows}
+use Rattle.docket_scan.specs.Records.{count_in, receipt_cells, AreCalendarRows, AreCaseRows, ArePartyRows, AreEntryRows, AreDeadlineRows, AreActRows, AreReceiptRows, AreEndRows, AreNoRows}
 use Rattle.docket_scan.specs.Scans.{IsUnreadable, AreRowsOf, AreFirstRowsOf, StaysOrRollsBack}
 use Rattle.docket_scan.specs.Shapes.{has_table}
 use Rattle.docket_scan.specs.declared.fault.AdoptFault.{AdoptFault}
 use Rattle.docket_scan.specs.declared.fault.AdoptFault.TheVariants.{Damaged, NoMemory, StoreFailed}
 use Rattle.docket_scan.specs.declared.receipt.StoredReceipt.{StoredReceipt}
-use Rattle.docket_tables.specs.Tables.{layout_of, tables}
+use Rattle.docket_tables.specs.Tables.{IsTableOf, layout_of, tables, tables_of}
 use Rattle.docket_tables.specs.declared.table.Table.{Table}
-use Rattle.docket_tables.specs.declared.table.Table.TheVariants.{Court, Calendar, Cases, Parties, Entries, Deadlines, Acts, Receipts, Ends}
+use Rattle.docket_tables.specs.declared.table.Table.TheVariants.{Court, Calendar, Cases, Parties, Entries, Deadlines, Acts, Receipts, Ends, ShortDays, LocalRules}
 
 abbrev pub fault_in : Table → Error → AdoptFault
 fault_in t (SqlInputError why) = Damaged t
@@ -96,9 +97,11 @@ cells_in Deadlines r = map deadline_cells r.deadlines
 cells_in Acts r = map act_cells r.acts
 cells_in Receipts r = map receipt_cells r.receipts
 cells_in Ends r = map end_cells r.ends
+cells_in ShortDays r = []
+cells_in LocalRules r = []
 
 -- rows of SQL are those of a sound table, by what stands in the tables before it; the ends are those of the running deadlines by the
--- court's whole calendar
+-- court's whole calendar; there are no short days and no local rules yet
 abbrev pub AreSoundBy : Table → CourtSettings → ℕ → Rows → List Row → Type 0
 AreSoundBy Court court next r = λ rows. Unit {0}
 AreSoundBy Calendar court next r = AreCalendarRows court next
@@ -109,6 +112,8 @@ AreSoundBy Deadlines court next r = AreDeadlineRows (length r.cases) (count_in (
 AreSoundBy Acts court next r = AreActRows court (length r.cases) (count_in (map deadline_key r.deadlines))
 AreSoundBy Receipts court next r = AreReceiptRows
 AreSoundBy Ends court next r = AreEndRows (dues_of (zone_of court) (calendar_of (items_of r.calendar)) r.acts)
+AreSoundBy ShortDays court next r = AreNoRows
+AreSoundBy LocalRules court next r = AreNoRows
 
 -- the table is there and holds these rows, which are sound
 abbrev pub Holds : State → CourtSettings → ℕ → Rows → Table → Type 0
@@ -119,24 +124,25 @@ Holds s court next r t =
 abbrev pub before : Table → List Table
 before t = drop 1 (take (layout_of t).at tables)
 
-abbrev pub IsBehindCourt : Table → Type 0
-IsBehindCourt Court = ⊥
-IsBehindCourt _ = Unit {0}
+-- it is a table of the version, and not the court's
+abbrev pub IsBehindCourt : Version → Table → Type 0
+IsBehindCourt v Court = ⊥
+IsBehindCourt v t = IsTableOf v t
 
--- the first table that is unsound is told, where those before it hold these rows
-abbrev pub FailsAt : CourtSettings → ℕ → State → State → AdoptFault → Type 0
-FailsAt court next old new (Damaged t) =
-    IsBehindCourt t × StaysOpen old new × (r : Rows) × AllByRecursion (Holds old court next r) (before t) × IsUnsoundIn t old (AreSoundBy t court next r)
-FailsAt court next old new NoMemory = StaysOrRollsBack old new
-FailsAt court next old new StoreFailed = StaysOrRollsBack old new
-FailsAt court next old new _ = ⊥
+-- the first table of the version that is unsound is told, where those before it hold these rows
+abbrev pub FailsAt : Version → CourtSettings → ℕ → State → State → AdoptFault → Type 0
+FailsAt v court next old new (Damaged t) =
+    IsBehindCourt v t × StaysOpen old new × (r : Rows) × AllByRecursion (Holds old court next r) (before t) × IsUnsoundIn t old (AreSoundBy t court next r)
+FailsAt v court next old new NoMemory = StaysOrRollsBack old new
+FailsAt v court next old new StoreFailed = StaysOrRollsBack old new
+FailsAt v court next old new _ = ⊥
 
--- the tables behind the court's, in their order
-abbrev pub behind_court : List Table
-behind_court = drop 1 tables
+-- the tables of the version behind the court's, in their order
+abbrev pub behind_court : Version → List Table
+behind_court v = drop 1 (tables_of v)
 
 -- all of them are sound and hold these rows, or the first that is unsound is told
-abbrev pub JudgedAll : {X : Type 0} → CourtSettings → ℕ → State → State → (Rows → X → Type 0) → Result X AdoptFault → Type 0
-JudgedAll court next old new says (Ok x) =
-    IsUnchanged old new × (r : Rows) × AllByRecursion (Holds old court next r) behind_court × says r x
-JudgedAll court next old new says (Err fault) = FailsAt court next old new fault
+abbrev pub JudgedAll : {X : Type 0} → Version → CourtSettings → ℕ → State → State → (Rows → X → Type 0) → Result X AdoptFault → Type 0
+JudgedAll v court next old new says (Ok x) =
+    IsUnchanged old new × (r : Rows) × AllByRecursion (Holds old court next r) (behind_court v) × says r x
+JudgedAll v court next old new says (Err fault) = FailsAt v court next old new fault

@@ -5,6 +5,7 @@ use Rattle.sqlite.specs.State.{State, HasCleanDisk, IsUnchanged}
 use Rattle.court_days.specs.Court.{CourtSettings, zone_of}
 use Rattle.docket_core.specs.CalendarItems.{calendar_of}
 use Rattle.docket_core.specs.Histories.{items_of}
+use Rattle.docket_columns.specs.declared.version.Version.{Version}
 use Rattle.docket_sound.specs.Counted.{HasNumbered, cases_of}
 use Rattle.docket_sound.specs.Deadlines.{deadline_key, parties_of}
 use Rattle.docket_sound.specs.Dues.{dues_of}
@@ -13,6 +14,7 @@ use Rattle.docket_scan.specs.Holdings.{holdings_of}
 use Rattle.docket_scan.specs.Judging.{FailsAt, Holds, Rows, before}
 use Rattle.docket_scan.specs.Records.{count_in}
 use Rattle.docket_scan.specs.declared.fault.AdoptFault.{AdoptFault}
+use Rattle.docket_scan.specs.declared.holdings.Holdings.{Holdings}
 use Rattle.docket_scan.specs.declared.reading.EndsRead.{EndsRead}
 use Rattle.docket_scan.specs.declared.reading.TablesRead.{TablesRead}
 use Rattle.docket_tables.specs.Tables.{layout_of}
@@ -54,6 +56,10 @@ ReadBefore t first court next s read = HasCleanDisk s → AreRead t first court 
 abbrev pub EndsBefore : Table → State → CourtSettings → ℕ → State → EndsRead → Type 0
 EndsBefore t first court next s read = HasCleanDisk s → AreRead t first court next s (λ r. SaysEnds court r read)
 
--- the first table that is unsound is told
-abbrev pub FailsOver : State → CourtSettings → ℕ → State → AdoptFault → Type 0
-FailsOver first court next s fault = HasCleanDisk s → FailsAt court next first s fault
+-- those before one that stands behind the ends were: how much they hold
+abbrev pub HeldBefore : Table → State → CourtSettings → ℕ → State → Holdings → Type 0
+HeldBefore t first court next s held = HasCleanDisk s → AreRead t first court next s (λ r. held ≡ holdings_of court r)
+
+-- the first table of the version that is unsound is told
+abbrev pub FailsOver : Version → State → CourtSettings → ℕ → State → AdoptFault → Type 0
+FailsOver v first court next s fault = HasCleanDisk s → FailsAt v court next first s fault

@@ -1,5 +1,5 @@
 -- The rows of each table as typed records, and when they are sound by the tables before theirs.
-use Rattle.std.specs.Prelude.{◌≡◌, ℕ, List, length, map}
+use Rattle.std.specs.Prelude.{◌≡◌, ℕ, List, [], length, map}
 use Rattle.std.specs.List.{AllByRecursion}
 use Rattle.std.specs.Str.{IsUtf8}
 use Rattle.sqlite.specs.Order.{Row}
@@ -63,6 +63,10 @@ AreSoundStored records = AreSoundReceipts (map (λ (r : StoredReceipt). r.receip
 
 abbrev pub AreReceiptRows : List Row → Type 0
 AreReceiptRows = IsTable IsStoredReceipt receipt_cells AreSoundStored
+
+-- the table holds no row
+abbrev pub AreNoRows : List Row → Type 0
+AreNoRows rows = rows ≡ []
 
 -- the ends are these, in this order
 abbrev pub AreEndRows : List EndRow → List Row → Type 0

@@ -4,8 +4,9 @@ use Rattle.sqlite.specs.Order.{Row}
 use Rattle.court_days.specs.Calendar.{Entered}
 use Rattle.court_days.specs.Court.{CourtSettings}
 use Rattle.docket_core.specs.declared.end_row.EndRow.{EndRow}
-use Rattle.docket_columns.specs.Cells.{HasWord, IsCurrent, court_cells}
+use Rattle.docket_columns.specs.Cells.{HasWord, IsOfVersion, court_cells_of}
 use Rattle.docket_columns.specs.Fits.{IsCourtRow}
+use Rattle.docket_columns.specs.declared.version.Version.{Version}
 use Rattle.docket_sound.specs.Counted.{cases_of, counts_of}
 use Rattle.docket_sound.specs.Deadlines.{deadlines_checked, parties_of}
 use Rattle.docket_sound.specs.Receipts.{HasTakenReceipts}
@@ -58,32 +59,33 @@ ends_expected check = check.expected.items
 abbrev pub HasTakenStored : ReceiptCheck → List StoredReceipt → Type 0
 HasTakenStored check records = HasTakenReceipts check (map (λ (r : StoredReceipt). r.receipt) records)
 
--- no court has this row
-abbrev pub IsNoCourts : Row → Type 0
-IsNoCourts row = (court : CourtSettings) (next : ℕ) → IsCourtRow court next → row ≡ court_cells court next → ⊥
+-- no court has this row in the version
+abbrev pub IsNoCourts : Version → Row → Type 0
+IsNoCourts v row = (court : CourtSettings) (next : ℕ) → IsCourtRow court next → row ≡ court_cells_of v court next → ⊥
 
 -- what is kept of a row of a court
-abbrev pub SaysCourtOf : Option CourtRecord → Row → Type 0
-SaysCourtOf (Some r) row = (court : CourtSettings) × (row ≡ court_cells court r.next_row) × IsCourtRow court r.next_row × (r ≡ record_of court r.next_row)
-SaysCourtOf None row = IsNoCourts row
+abbrev pub SaysCourtOf : Version → Option CourtRecord → Row → Type 0
+SaysCourtOf v (Some r) row =
+    (court : CourtSettings) × (row ≡ court_cells_of v court r.next_row) × IsCourtRow court r.next_row × (r ≡ record_of court r.next_row)
+SaysCourtOf v None row = IsNoCourts v row
 
-pub record Sees (seen : SeenRow) (row : Row) : Type 0 where
+pub record Sees (v : Version) (seen : SeenRow) (row : Row) : Type 0 where
   pub word : IsTrue seen.has_word ↔ HasWord row
-  pub current : IsTrue seen.is_current ↔ IsCurrent row
-  pub court : SaysCourtOf seen.court row
+  pub version : IsTrue seen.is_of_version ↔ IsOfVersion v row
+  pub court : SaysCourtOf v seen.court row
 
-abbrev pub HasSeen : Option SeenRow → List Row → Type 0
-HasSeen None rows = rows ≡ []
-HasSeen (Some seen) rows = (row : Row) × (rows ≡ row ∷ []) × Sees seen row
+abbrev pub HasSeen : Version → Option SeenRow → List Row → Type 0
+HasSeen v None rows = rows ≡ []
+HasSeen v (Some seen) rows = (row : Row) × (rows ≡ row ∷ []) × Sees v seen row
 
 abbrev pub HasTakenCourt : CourtCheck → List Row → Type 0
-HasTakenCourt check = HasSeen check.seen
+HasTakenCourt check = HasSeen check.version check.seen
 
 -- what the rows of the table of the court come to
-abbrev pub Finishes : List Row → Result CourtRecord AdoptFault → Type 0
-Finishes rows (Ok r) =
-    (court : CourtSettings) × (rows ≡ court_cells court r.next_row ∷ []) × IsCourtRow court r.next_row × (r ≡ record_of court r.next_row)
-Finishes rows (Err NotADocket) = AreMarked rows → ⊥
-Finishes rows (Err OtherVersion) = (row : Row) × (rows ≡ row ∷ []) × HasWord row × (IsCurrent row → ⊥)
-Finishes rows (Err (Damaged Court)) = (row : Row) × (rows ≡ row ∷ []) × HasWord row × IsCurrent row × IsNoCourts row
-Finishes rows (Err _) = ⊥
+abbrev pub Finishes : Version → List Row → Result CourtRecord AdoptFault → Type 0
+Finishes v rows (Ok r) =
+    (court : CourtSettings) × (rows ≡ court_cells_of v court r.next_row ∷ []) × IsCourtRow court r.next_row × (r ≡ record_of court r.next_row)
+Finishes v rows (Err NotADocket) = AreMarked rows → ⊥
+Finishes v rows (Err OtherVersion) = (row : Row) × (rows ≡ row ∷ []) × HasWord row × (IsOfVersion v row → ⊥)
+Finishes v rows (Err (Damaged Court)) = (row : Row) × (rows ≡ row ∷ []) × HasWord row × IsOfVersion v row × IsNoCourts v row
+Finishes v rows (Err _) = ⊥

@@ -1,11 +1,12 @@
 //! The table of the court, of which one row is taken.
 ghost use Rattle.std.specs.Prelude.{◌≡◌, ◌∷◌, [], List, IfOk, None};
 ghost use Rattle.sqlite.specs.Order.{Row as Cells};
+ghost use Rattle.docket_columns.specs.declared.version.Version.{Version};
 ghost use Rattle.docket_scan.specs.Taken.{Finishes, HasTakenCourt, SaysCourtOf, Sees};
 
 use crate::fault::AdoptFault;
 use crate::taker::Taker;
-use docket_columns::{CourtRow, court_of, has_word, is_current};
+use docket_columns::{CourtRow, Version, court_of, has_word, is_of_version};
 use docket_sound::CourtRecord;
 use docket_tables::Table;
 use sqlite::Row;
@@ -15,13 +16,13 @@ use std::alloc::{AllocError, Global};
 #[derive(Drop)]
 pub(crate) struct SeenRow {
     has_word: bool,
-    is_current: bool,
+    is_of_version: bool,
     court: Option<CourtRecord>,
 }
 
-/// What a row of a court says. `None`: it is no row of one, or of another layout.
-fn record_in(alloc: Global, row: &Row) -> Result<Option<CourtRecord>, AllocError>
-    ensures { IfOk result (λ found. SaysCourtOf found row.now) }
+/// What a row of a court says. `None`: it is no row of one, or of another version.
+fn record_in(alloc: Global, row: &Row, version: Version) -> Result<Option<CourtRecord>, AllocError>
+    ensures { IfOk result (λ found. SaysCourtOf version found row.now) }
 {
     let Some(
         CourtRow {
@@ -29,7 +30,7 @@ fn record_in(alloc: Global, row: &Row) -> Result<Option<CourtRecord>, AllocError
             close,
             next_row,
         },
-    ) = court_of(alloc, row)?
+    ) = court_of(alloc, row, version)?
     else {
         return Ok(None);
     };
@@ -41,13 +42,13 @@ fn record_in(alloc: Global, row: &Row) -> Result<Option<CourtRecord>, AllocError
     }))
 }
 
-pub(crate) fn look_at(alloc: Global, row: &Row) -> Result<SeenRow, AllocError>
-    ensures { IfOk result (λ seen. Sees seen row.now) }
+pub(crate) fn look_at(alloc: Global, row: &Row, version: Version) -> Result<SeenRow, AllocError>
+    ensures { IfOk result (λ seen. Sees version seen row.now) }
 {
-    let court = record_in(alloc, row)?;
+    let court = record_in(alloc, row, version)?;
     Ok(SeenRow {
         has_word: has_word(row),
-        is_current: is_current(row),
+        is_of_version: is_of_version(row, version),
         court,
     })
 }
@@ -55,12 +56,12 @@ pub(crate) fn look_at(alloc: Global, row: &Row) -> Result<SeenRow, AllocError>
 impl SeenRow {
     /// The court of the row, if it is that of a docket.
     fn finish(self) -> Result<CourtRecord, AdoptFault>
-        ensures { (row : Cells) → Sees self row → Finishes (row ∷ []) result }
+        ensures { (version : Version) (row : Cells) → Sees version self row → Finishes version (row ∷ []) result }
     {
         if !self.has_word {
             return Err(AdoptFault::NotADocket);
         }
-        if !self.is_current {
+        if !self.is_of_version {
             return Err(AdoptFault::OtherVersion);
         }
         match self.court {
@@ -73,19 +74,25 @@ impl SeenRow {
 /// A check that takes one row of a court, and no other.
 #[derive(Drop)]
 pub(crate) struct CourtCheck {
+    /// The version in which the row is read.
+    pub(crate) version: Version,
     pub(crate) seen: Option<SeenRow>,
 }
 
 impl CourtCheck {
-    pub(crate) fn new() -> CourtCheck
-        ensures { result.seen ≡ None }
+    pub(crate) fn new(version: Version) -> CourtCheck
+        ensures version { result.version ≡ version }
+        ensures none { result.seen ≡ None }
     {
-        CourtCheck { seen: None }
+        CourtCheck {
+            version,
+            seen: None,
+        }
     }
 
     /// What the rows say that were taken.
     pub(crate) fn finish(self) -> Result<CourtRecord, AdoptFault>
-        ensures { (rows : List Cells) → HasTakenCourt self rows → Finishes rows result }
+        ensures { (rows : List Cells) → HasTakenCourt self rows → Finishes self.version rows result }
     {
         match self.seen {
             Some(seen) => seen.finish(),
@@ -95,14 +102,15 @@ impl CourtCheck {
 }
 
 impl Taker for CourtCheck {
+    ghost use Rattle.docket_columns.specs.declared.version.Version.{Version};
     ghost use Rattle.docket_scan.specs.Courts.{AreMarked};
     ghost use Rattle.docket_scan.specs.Taken.{HasTakenCourt};
 
     ghost HasTaken = { HasTakenCourt };
 
-    ghost Context = { Unit {0} };
+    ghost Context = { Version };
 
-    ghost context = { λ _. tt };
+    ghost context = { λ check. check.version };
 
     ghost IsSound = { λ _. AreMarked };
 
@@ -110,7 +118,7 @@ impl Taker for CourtCheck {
         if self.seen.is_some() {
             return Ok(false);
         }
-        self.seen = Some(look_at(alloc, row)?);
+        self.seen = Some(look_at(alloc, row, self.version)?);
         Ok(true)
     }
 }

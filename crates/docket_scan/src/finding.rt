@@ -10,9 +10,9 @@ ghost use Rattle.docket_core.specs.Outcomes.{IsHistory};
 ghost use Rattle.docket_core.specs.Tables.{rows_of};
 ghost use Rattle.docket_wire.specs.Valid.{IsCommand};
 ghost use Rattle.docket_sound.specs.Courts.{IsSoundCourt, settings_of as court_of};
-ghost use Rattle.docket_tables.specs.Contents.{rows_in};
+ghost use Rattle.docket_tables.specs.Contents.{rows_by};
 ghost use Rattle.docket_orderly.specs.Orderly.{IsCourtSettings};
-ghost use Rattle.docket_tables.specs.Stands.{HoldsRows};
+ghost use Rattle.docket_tables.specs.Stands.{HoldsRowsIn};
 ghost use Rattle.docket_tables.specs.declared.table.Table.TheVariants as table;
 ghost use Rattle.docket_scan.specs.Dockets.{IsFoundOfDocket};
 ghost use Rattle.docket_scan.specs.Finding.{IsTaken, ReadsCourt, court_fault};
@@ -27,6 +27,7 @@ use crate::scan::scan;
 use crate::shape::{has_named, has_table};
 use crate::watch::Watch;
 use court_days::Court;
+use docket_columns::Version;
 use docket_sound::{CourtRecord, sound_court};
 use docket_tables::Table;
 use sqlite::{Alter, Connection, Error, ErrorCode};
@@ -57,11 +58,12 @@ fn court_fault(error: Error) -> AdoptFault
 fn read_court<S: Alter, W: Watch>(
     conn: &mut Connection<S>,
     alloc: Global,
+    version: Version,
     watch: &mut W,
 ) -> Result<CourtRecord, AdoptFault>
     ensures writes_nothing { Survives (state S.Store conn.old) (state S.Store conn.new) (λ _. ⊥) }
     ensures mode { conn.old.in_transaction ≡ false → conn.new.in_transaction ≡ false }
-    ensures told { HasCleanDisk (state S.Store conn.new) → ReadsCourt (state S.Store conn.old) (state S.Store conn.new) result }
+    ensures told { HasCleanDisk (state S.Store conn.new) → ReadsCourt version (state S.Store conn.old) (state S.Store conn.new) result }
     ensures unread { has_named conn.old.schema table.Court ≡ false → IsErrAnd result (λ fault. fault ≡ Empty) × (conn.new ≡ conn.old) }
 {
     if !has_named(conn.schema(), Table::Court) {
@@ -70,7 +72,7 @@ fn read_court<S: Alter, W: Watch>(
     if !has_table(conn.schema(), Table::Court) {
         return Err(AdoptFault::NotADocket);
     }
-    let mut check = CourtCheck::new();
+    let mut check = CourtCheck::new(version);
     match scan(conn, alloc, Table::Court, &mut check, watch) {
         Ok(Some(_)) => check.finish(),
         Ok(None) => Err(AdoptFault::NotADocket),
@@ -89,26 +91,29 @@ fn court_in(alloc: Global, row: &CourtRecord) -> Result<Court, AdoptFault>
     }
 }
 
-/// The docket that a database holds, whatever database it is. The table of the court is judged first, and
-/// then the others in their order; an error tells the first cause for which the database is not taken for
-/// a docket's. Want of memory and a failure of the database may come at any point. The docket of a history
-/// is found as it is, and no other error comes. Nothing is written. `watch` is told of each row that is read.
+/// The docket that a database holds in the tables of `version`, whatever database it is. The table of the
+/// court is judged first, and then the others of that version in their order; an error tells the first
+/// cause for which the database is not taken for a docket's: `OtherVersion`, where its court is marked with
+/// another. Want of memory and a failure of the database may come at any point. The docket of a history in
+/// that version is found as it is, and no other error comes. Nothing is written. `watch` is told of each
+/// row that is read.
 pub fn find_docket<S: Alter, W: Watch>(
     conn: &mut Connection<S>,
     alloc: Global,
+    version: Version,
     watch: &mut W,
 ) -> Result<FoundDocket, AdoptFault>
     ensures writes_nothing { Survives (state S.Store conn.old) (state S.Store conn.new) (λ _. ⊥) }
     ensures mode { conn.old.in_transaction ≡ false → conn.new.in_transaction ≡ false }
-    ensures told { HasCleanDisk (state S.Store conn.new) → IsTaken (state S.Store conn.old) (state S.Store conn.new) result }
+    ensures told { HasCleanDisk (state S.Store conn.new) → IsTaken version (state S.Store conn.old) (state S.Store conn.new) result }
     ensures docket { HasCleanDisk (state S.Store conn.new)
         → (court : CourtSettings) (h : History) → IsCourtSettings court → IsSome (zone_at court.zone_text) → IsHistory court h → AllByRecursion IsCommand h
-        → HoldsRows S.Store conn.old (rows_in court (rows_of court h)) → IsFoundOfDocket court h result }
+        → HoldsRowsIn S.Store version conn.old (rows_by version court (rows_of court h)) → IsFoundOfDocket court h result }
     ensures unread { has_named conn.old.schema table.Court ≡ false → IsErrAnd result (λ fault. fault ≡ Empty) × (conn.new ≡ conn.old) }
 {
-    let row = read_court(conn, alloc, watch)?;
+    let row = read_court(conn, alloc, version, watch)?;
     let judged = court_in(alloc, &row)?;
     let court = court_in(alloc, &row)?;
-    let held = judge_tables(conn, alloc, judged, row.next_row, watch)?;
+    let held = judge_tables(conn, alloc, version, judged, row.next_row, watch)?;
     Ok(FoundDocket { court, held })
 }

@@ -3,6 +3,7 @@ ghost use Rattle.std.specs.Prelude.{◌≡◌, ◌↔◌, ◌<◌, ◌^◌, ℕ,
 ghost use Rattle.sqlite.specs.Held.{Held, state};
 ghost use Rattle.sqlite.specs.State.{HasCleanDisk, Survives};
 ghost use Rattle.court_days.specs.Court.{CourtSettings, zone_of};
+ghost use Rattle.docket_columns.specs.declared.version.Version.{Version};
 ghost use Rattle.docket_core.specs.declared.row.ActRow.{ActRow as OnDeadline};
 ghost use Rattle.docket_sound.specs.Acts.{AreSoundActs, HasTakenActs};
 ghost use Rattle.docket_sound.specs.Counted.{cases_of, counts_of};
@@ -10,8 +11,8 @@ ghost use Rattle.docket_sound.specs.Dues.{dues_of};
 ghost use Rattle.docket_sound.specs.Standings.{counts_of_standings, standings_of};
 ghost use Rattle.docket_scan.specs.Holdings.{holdings_of};
 ghost use Rattle.docket_scan.specs.Judging.{IsSoundIn, Judged, JudgedAll};
-ghost use Rattle.docket_scan.specs.Reading.{EndsBefore, FailsOver, ReadBefore};
-ghost use Rattle.docket_scan.specs.Records.{IsTable};
+ghost use Rattle.docket_scan.specs.Reading.{EndsBefore, FailsOver, HeldBefore, ReadBefore};
+ghost use Rattle.docket_scan.specs.Records.{AreNoRows, IsTable};
 ghost use Rattle.docket_scan.specs.Scans.{OfSoMany};
 ghost use Rattle.docket_scan.specs.Taken.{IsRead};
 ghost use Rattle.docket_tables.specs.declared.table.Table.TheVariants as table;
@@ -22,9 +23,10 @@ use crate::holdings::Holdings;
 use crate::reading::{EndsRead, TablesRead};
 use crate::scan::scan;
 use crate::shape::has_table;
-use crate::taker::Records;
+use crate::taker::{NoRows, Records, Taker};
 use crate::watch::Watch;
 use court_days::Court;
+use docket_columns::Version;
 use docket_core::EndRow;
 use docket_sound::{
     ActCheck, CalendarCheck, CaseCheck, DeadlineCheck, DueCheck, EntryCheck, PartyCheck,
@@ -33,6 +35,33 @@ use docket_sound::{
 use docket_tables::Table;
 use sqlite::{Alter, Connection};
 use std::alloc::{AllocError, Global};
+
+/// Has the taker take the rows of the table, if the table is there. How many rows it took.
+fn judge_rows<S: Alter, T: Taker, W: Watch>(
+    conn: &mut Connection<S>,
+    alloc: Global,
+    table: Table,
+    taker: &mut T,
+    watch: &mut W,
+) -> Result<u64, AdoptFault>
+    ensures writes_nothing { Survives (state S.Store conn.old) (state S.Store conn.new) (λ _. ⊥) }
+    ensures mode { conn.old.in_transaction ≡ false → conn.new.in_transaction ≡ false }
+    ensures context { T.context taker.new ≡ T.context taker.old }
+    ensures limit { IfOk result (λ count. count < 2 ^ 64) }
+    ensures told { HasCleanDisk (state S.Store conn.new) → T.HasTaken taker.old []
+        → Judged table (state S.Store conn.old) (state S.Store conn.new)
+        (λ count. IsSoundIn table (state S.Store conn.old) (OfSoMany count (T.HasTaken taker.new)))
+        (T.IsSound (T.context taker.old)) result }
+{
+    if !has_table(conn.schema(), table) {
+        return Err(AdoptFault::Damaged(table));
+    }
+    match scan(conn, alloc, table, taker, watch) {
+        Ok(Some(count)) => Ok(count),
+        Ok(None) => Err(AdoptFault::Damaged(table)),
+        Err(error) => Err(fault_in(table, error)),
+    }
+}
 
 /// Has the check take the rows of its table, if the table is there. The check then, and how many rows
 /// it took.
@@ -52,15 +81,26 @@ fn judge<S: Alter, C: RecordCheck, W: Watch>(
         (λ taken. IsSoundIn table (state S.Store conn.old) (OfSoMany taken.1 (IsRead C.Record.Is C.Record.cells (C.HasTaken taken.0))))
         (IsTable C.Record.Is C.Record.cells (C.AreSound (C.context check))) result }
 {
-    if !has_table(conn.schema(), table) {
-        return Err(AdoptFault::Damaged(table));
-    }
     let mut taker = Records { check };
-    match scan(conn, alloc, table, &mut taker, watch) {
-        Ok(Some(count)) => Ok((taker.check, count)),
-        Ok(None) => Err(AdoptFault::Damaged(table)),
-        Err(error) => Err(fault_in(table, error)),
-    }
+    let count = judge_rows(conn, alloc, table, &mut taker, watch)?;
+    Ok((taker.check, count))
+}
+
+/// Judges a table that is to hold no row.
+fn judge_empty<S: Alter, W: Watch>(
+    conn: &mut Connection<S>,
+    alloc: Global,
+    table: Table,
+    watch: &mut W,
+) -> Result<(), AdoptFault>
+    ensures writes_nothing { Survives (state S.Store conn.old) (state S.Store conn.new) (λ _. ⊥) }
+    ensures mode { conn.old.in_transaction ≡ false → conn.new.in_transaction ≡ false }
+    ensures told { HasCleanDisk (state S.Store conn.new)
+        → Judged table (state S.Store conn.old) (state S.Store conn.new) (λ _. IsSoundIn table (state S.Store conn.old) AreNoRows) AreNoRows result }
+{
+    let mut taker = NoRows;
+    judge_rows(conn, alloc, table, &mut taker, watch)?;
+    Ok(())
 }
 
 /// Judges the table of the calendar, the first.
@@ -74,7 +114,7 @@ fn judge_calendar<S: Alter, W: Watch>(
     ensures writes_nothing { Survives (state S.Store conn.old) (state S.Store conn.new) (λ _. ⊥) }
     ensures mode { conn.old.in_transaction ≡ false → conn.new.in_transaction ≡ false }
     ensures ok { IfOk result (ReadBefore table.Cases (state S.Store conn.old) court next_row (state S.Store conn.new)) }
-    ensures err { IfErr result (FailsOver (state S.Store conn.old) court next_row (state S.Store conn.new)) }
+    ensures err { (version : Version) → IfErr result (FailsOver version (state S.Store conn.old) court next_row (state S.Store conn.new)) }
 {
     let check = CalendarCheck::new(alloc, court, next_row);
     let (check, count) = judge(conn, alloc, Table::Calendar, check, watch)?;
@@ -94,8 +134,8 @@ fn judge_cases<S: Alter, W: Watch>(
     ensures mode { conn.old.in_transaction ≡ false → conn.new.in_transaction ≡ false }
     ensures ok { (first : Held S) (court : CourtSettings) (next : ℕ) → ReadBefore table.Cases (state S.Store first) court next (state S.Store conn.old) read
         → IfOk result (λ now. ReadBefore table.Parties (state S.Store first) court next (state S.Store conn.new) now) }
-    ensures err { (first : Held S) (court : CourtSettings) (next : ℕ) → ReadBefore table.Cases (state S.Store first) court next (state S.Store conn.old) read
-        → IfErr result (FailsOver (state S.Store first) court next (state S.Store conn.new)) }
+    ensures err { (version : Version) (first : Held S) (court : CourtSettings) (next : ℕ) → ReadBefore table.Cases (state S.Store first) court next (state S.Store conn.old) read
+        → IfErr result (FailsOver version (state S.Store first) court next (state S.Store conn.new)) }
 {
     let check = CaseCheck::new(alloc);
     let (check, count) = judge(conn, alloc, Table::Cases, check, watch)?;
@@ -121,8 +161,8 @@ fn judge_parties<S: Alter, W: Watch>(
     ensures mode { conn.old.in_transaction ≡ false → conn.new.in_transaction ≡ false }
     ensures ok { (first : Held S) (court : CourtSettings) (next : ℕ) → ReadBefore table.Parties (state S.Store first) court next (state S.Store conn.old) read
         → IfOk result (λ now. ReadBefore table.Entries (state S.Store first) court next (state S.Store conn.new) now) }
-    ensures err { (first : Held S) (court : CourtSettings) (next : ℕ) → ReadBefore table.Parties (state S.Store first) court next (state S.Store conn.old) read
-        → IfErr result (FailsOver (state S.Store first) court next (state S.Store conn.new)) }
+    ensures err { (version : Version) (first : Held S) (court : CourtSettings) (next : ℕ) → ReadBefore table.Parties (state S.Store first) court next (state S.Store conn.old) read
+        → IfErr result (FailsOver version (state S.Store first) court next (state S.Store conn.new)) }
 {
     let check = PartyCheck::new(alloc, read.cases)?;
     let (check, count) = judge(conn, alloc, Table::Parties, check, watch)?;
@@ -148,8 +188,8 @@ fn judge_entries<S: Alter, W: Watch>(
     ensures mode { conn.old.in_transaction ≡ false → conn.new.in_transaction ≡ false }
     ensures ok { (first : Held S) (court : CourtSettings) (next : ℕ) → ReadBefore table.Entries (state S.Store first) court next (state S.Store conn.old) read
         → IfOk result (λ now. ReadBefore table.Deadlines (state S.Store first) court next (state S.Store conn.new) now) }
-    ensures err { (first : Held S) (court : CourtSettings) (next : ℕ) → ReadBefore table.Entries (state S.Store first) court next (state S.Store conn.old) read
-        → IfErr result (FailsOver (state S.Store first) court next (state S.Store conn.new)) }
+    ensures err { (version : Version) (first : Held S) (court : CourtSettings) (next : ℕ) → ReadBefore table.Entries (state S.Store first) court next (state S.Store conn.old) read
+        → IfErr result (FailsOver version (state S.Store first) court next (state S.Store conn.new)) }
 {
     let check = EntryCheck::new(alloc, read.cases)?;
     let (_, count) = judge(conn, alloc, Table::Entries, check, watch)?;
@@ -171,8 +211,8 @@ fn judge_deadlines<S: Alter, W: Watch>(
     ensures mode { conn.old.in_transaction ≡ false → conn.new.in_transaction ≡ false }
     ensures ok { (first : Held S) (court : CourtSettings) (next : ℕ) → ReadBefore table.Deadlines (state S.Store first) court next (state S.Store conn.old) read
         → IfOk result (λ now. ReadBefore table.Acts (state S.Store first) court next (state S.Store conn.new) now) }
-    ensures err { (first : Held S) (court : CourtSettings) (next : ℕ) → ReadBefore table.Deadlines (state S.Store first) court next (state S.Store conn.old) read
-        → IfErr result (FailsOver (state S.Store first) court next (state S.Store conn.new)) }
+    ensures err { (version : Version) (first : Held S) (court : CourtSettings) (next : ℕ) → ReadBefore table.Deadlines (state S.Store first) court next (state S.Store conn.old) read
+        → IfErr result (FailsOver version (state S.Store first) court next (state S.Store conn.new)) }
 {
     let check = DeadlineCheck::new(alloc, read.cases, read.parties)?;
     let (check, count) = judge(conn, alloc, Table::Deadlines, check, watch)?;
@@ -220,8 +260,8 @@ fn judge_acts<S: Alter, W: Watch>(
     ensures mode { conn.old.in_transaction ≡ false → conn.new.in_transaction ≡ false }
     ensures ok { (first : Held S) (court : CourtSettings) (next : ℕ) → ReadBefore table.Acts (state S.Store first) court next (state S.Store conn.old) read
         → IfOk result (λ now. EndsBefore table.Receipts (state S.Store first) court next (state S.Store conn.new) now) }
-    ensures err { (first : Held S) (court : CourtSettings) (next : ℕ) → ReadBefore table.Acts (state S.Store first) court next (state S.Store conn.old) read
-        → IfErr result (FailsOver (state S.Store first) court next (state S.Store conn.new)) }
+    ensures err { (version : Version) (first : Held S) (court : CourtSettings) (next : ℕ) → ReadBefore table.Acts (state S.Store first) court next (state S.Store conn.old) read
+        → IfErr result (FailsOver version (state S.Store first) court next (state S.Store conn.new)) }
 {
     let TablesRead {
         court,
@@ -252,8 +292,8 @@ fn judge_receipts<S: Alter, W: Watch>(
     ensures mode { conn.old.in_transaction ≡ false → conn.new.in_transaction ≡ false }
     ensures ok { (first : Held S) (court : CourtSettings) (next : ℕ) → EndsBefore table.Receipts (state S.Store first) court next (state S.Store conn.old) read
         → IfOk result (λ now. EndsBefore table.Ends (state S.Store first) court next (state S.Store conn.new) now) }
-    ensures err { (first : Held S) (court : CourtSettings) (next : ℕ) → EndsBefore table.Receipts (state S.Store first) court next (state S.Store conn.old) read
-        → IfErr result (FailsOver (state S.Store first) court next (state S.Store conn.new)) }
+    ensures err { (version : Version) (first : Held S) (court : CourtSettings) (next : ℕ) → EndsBefore table.Receipts (state S.Store first) court next (state S.Store conn.old) read
+        → IfErr result (FailsOver version (state S.Store first) court next (state S.Store conn.new)) }
 {
     let (_, count) = judge(conn, alloc, Table::Receipts, ReceiptCheck::new(), watch)?;
     let held = Holdings {
@@ -263,7 +303,7 @@ fn judge_receipts<S: Alter, W: Watch>(
     Ok(EndsRead { held, ..read })
 }
 
-/// Judges the table of ends, the last. How much the tables hold.
+/// Judges the table of ends, the last of the first version. How much the tables hold.
 fn judge_ends<S: Alter, W: Watch>(
     conn: &mut Connection<S>,
     alloc: Global,
@@ -272,8 +312,10 @@ fn judge_ends<S: Alter, W: Watch>(
 ) -> Result<Holdings, AdoptFault>
     ensures writes_nothing { Survives (state S.Store conn.old) (state S.Store conn.new) (λ _. ⊥) }
     ensures mode { conn.old.in_transaction ≡ false → conn.new.in_transaction ≡ false }
-    ensures told { (first : Held S) (court : CourtSettings) (next : ℕ) → EndsBefore table.Ends (state S.Store first) court next (state S.Store conn.old) read
-        → HasCleanDisk (state S.Store conn.new) → JudgedAll court next (state S.Store first) (state S.Store conn.new) (λ r held. held ≡ holdings_of court r) result }
+    ensures ok { (first : Held S) (court : CourtSettings) (next : ℕ) → EndsBefore table.Ends (state S.Store first) court next (state S.Store conn.old) read
+        → IfOk result (λ now. HeldBefore table.ShortDays (state S.Store first) court next (state S.Store conn.new) now) }
+    ensures err { (version : Version) (first : Held S) (court : CourtSettings) (next : ℕ) → EndsBefore table.Ends (state S.Store first) court next (state S.Store conn.old) read
+        → IfErr result (FailsOver version (state S.Store first) court next (state S.Store conn.new)) }
 {
     let (check, _) = judge(conn, alloc, Table::Ends, DueCheck::new(read.ends), watch)?;
     if check.is_sound() {
@@ -283,13 +325,38 @@ fn judge_ends<S: Alter, W: Watch>(
     }
 }
 
-/// Judges the tables of a court's docket, but for that of the court itself, which says that the next row
-/// of the calendar has that number. Tells how much they hold. An error tells the first of them, in their
-/// order, that is missing, lacks a column, can't be read or is unsound by those before it; want of memory
-/// and a failure of the database may come at any point. Nothing is written.
+/// Judges the tables of the version that stand behind that of ends: in the first there are none, and those
+/// of the second hold no row yet.
+fn judge_more<S: Alter, W: Watch>(
+    conn: &mut Connection<S>,
+    alloc: Global,
+    version: Version,
+    held: Holdings,
+    watch: &mut W,
+) -> Result<Holdings, AdoptFault>
+    ensures writes_nothing { Survives (state S.Store conn.old) (state S.Store conn.new) (λ _. ⊥) }
+    ensures mode { conn.old.in_transaction ≡ false → conn.new.in_transaction ≡ false }
+    ensures told { (first : Held S) (court : CourtSettings) (next : ℕ) → HeldBefore table.ShortDays (state S.Store first) court next (state S.Store conn.old) held
+        → HasCleanDisk (state S.Store conn.new) → JudgedAll version court next (state S.Store first) (state S.Store conn.new) (λ r held. held ≡ holdings_of court r) result }
+{
+    match version {
+        Version::First => Ok(held),
+        Version::Second => {
+            judge_empty(conn, alloc, Table::ShortDays, watch)?;
+            judge_empty(conn, alloc, Table::LocalRules, watch)?;
+            Ok(held)
+        }
+    }
+}
+
+/// Judges the tables of a court's docket in a version, but for that of the court itself, which says that
+/// the next row of the calendar has that number. Tells how much they hold. An error tells the first of
+/// them, in their order, that is missing, lacks a column, can't be read or is unsound by those before it;
+/// want of memory and a failure of the database may come at any point. Nothing is written.
 pub(crate) fn judge_tables<S: Alter, W: Watch>(
     conn: &mut Connection<S>,
     alloc: Global,
+    version: Version,
     court: Court,
     next_row: u64,
     watch: &mut W,
@@ -297,7 +364,7 @@ pub(crate) fn judge_tables<S: Alter, W: Watch>(
     ensures writes_nothing { Survives (state S.Store conn.old) (state S.Store conn.new) (λ _. ⊥) }
     ensures mode { conn.old.in_transaction ≡ false → conn.new.in_transaction ≡ false }
     ensures told { HasCleanDisk (state S.Store conn.new)
-        → JudgedAll court next_row (state S.Store conn.old) (state S.Store conn.new) (λ r held. held ≡ holdings_of court r) result }
+        → JudgedAll version court next_row (state S.Store conn.old) (state S.Store conn.new) (λ r held. held ≡ holdings_of court r) result }
 {
     let read = judge_calendar(conn, alloc, court, next_row, watch)?;
     let read = judge_cases(conn, alloc, read, watch)?;
@@ -306,5 +373,6 @@ pub(crate) fn judge_tables<S: Alter, W: Watch>(
     let read = judge_deadlines(conn, alloc, read, watch)?;
     let read = judge_acts(conn, alloc, read, watch)?;
     let read = judge_receipts(conn, alloc, read, watch)?;
-    judge_ends(conn, alloc, read, watch)
+    let held = judge_ends(conn, alloc, read, watch)?;
+    judge_more(conn, alloc, version, held, watch)
 }

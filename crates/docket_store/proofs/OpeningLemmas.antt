@@ -8,6 +8,7 @@ use Rattle.sqlite.specs.State.{HasCleanDisk, Survives}
 use Rattle.sqlite.specs.Held.{Held, state}
 use Rattle.court_days.specs.Court.{CourtSettings}
 use Rattle.docket_core.specs.Histories.{History}
+use Rattle.docket_columns.specs.declared.version.Version.TheVariants.{Second}
 use Rattle.docket_scan.specs.Dockets.{IsFoundOfDocket}
 use Rattle.docket_scan.specs.Finding.{IsNotTaken, IsTaken}
 use Rattle.docket_scan.specs.Scans.{StaysOrRollsBack}
@@ -29,17 +30,17 @@ module _ {S : Type 0} (g : Ghosts S) (old new : Held S) (court : CourtSettings) 
   lasts : (HasCleanDisk (state g new) → StaysOrRollsBack (state g old) (state g new)) → Lasts g new (docket_rows court h)
   lasts left = (idle, λ clean. undone_lasting (state g old) (state g new) (docket_rows court h) crash clean (settled clean) (left clean))
 
-  pub lacks_memory : (fault : AdoptFault) → fault ≡ NoMemory → (HasCleanDisk (state g new) → IsNotTaken (state g old) (state g new) fault) → Lasts g new (docket_rows court h)
-  lacks_memory fault is told = lasts (λ clean. (subst (λ (f : AdoptFault). IsNotTaken (state g old) (state g new) f) is (told clean)).0)
+  pub lacks_memory : (fault : AdoptFault) → fault ≡ NoMemory → (HasCleanDisk (state g new) → IsNotTaken Second (state g old) (state g new) fault) → Lasts g new (docket_rows court h)
+  lacks_memory fault is told = lasts (λ clean. (subst (λ (f : AdoptFault). IsNotTaken Second (state g old) (state g new) f) is (told clean)).0)
 
-  pub found_docket : (found : FoundDocket) → (HasCleanDisk (state g new) → IsTaken (state g old) (state g new) (Ok found)) → (HasCleanDisk (state g new) → IsFoundOfDocket court h (Ok found))
+  pub found_docket : (found : FoundDocket) → (HasCleanDisk (state g new) → IsTaken Second (state g old) (state g new) (Ok found)) → (HasCleanDisk (state g new) → IsFoundOfDocket court h (Ok found))
       → Finds g new court h (Ok found)
   found_docket found taken its = (
     (idle, λ clean. unchanged_settled (state g old) (state g new) (docket_rows court h) crash clean (settled clean) (taken clean).0),
     its,
   )
 
-  pub not_found : (fault : AdoptFault) → (fault ≡ NoMemory → ⊥) → (HasCleanDisk (state g new) → IsNotTaken (state g old) (state g new) fault) → (HasCleanDisk (state g new) → IsFoundOfDocket court h (Err fault))
+  pub not_found : (fault : AdoptFault) → (fault ≡ NoMemory → ⊥) → (HasCleanDisk (state g new) → IsNotTaken Second (state g old) (state g new) fault) → (HasCleanDisk (state g new) → IsFoundOfDocket court h (Err fault))
       → Finds g new court h (Err fault)
   not_found Empty other told its = its
   not_found NotADocket other told its = its

@@ -1,6 +1,7 @@
 pub mod Applying
 pub mod Dockets
 pub mod Listing
+pub mod Migrating
 pub mod Opening
 pub mod Reopening
 pub mod Sequence

@@ -6,6 +6,7 @@ use Rattle.sqlite.specs.State.{State, HasCleanDisk, IsUnchanged}
 use Rattle.sqlite.specs.Held.{Held, state}
 use Rattle.court_days.specs.Court.{CourtSettings}
 use Rattle.docket_core.specs.Histories.{History}
+use Rattle.docket_columns.specs.declared.version.Version.TheVariants.{Second}
 use Rattle.docket_scan.specs.Dockets.{IsFoundOfDocket}
 use Rattle.docket_scan.specs.Finding.{AreSound, HasCause}
 use Rattle.docket_scan.specs.Holdings.{holdings_of}
@@ -42,7 +43,7 @@ module _ {S : Type 0} (g : Ghosts S) where
 
   -- its tables are sound, each by those before it: they hold these rows of a docket of the court, and are left as they were
   abbrev pub HoldsSound : Held S → Held S → CourtSettings → SoundRows → Type 0
-  HoldsSound old new court r = IsUnchanged (state g old) (state g new) × AreSound (state g old) court r
+  HoldsSound old new court r = IsUnchanged (state g old) (state g new) × AreSound Second (state g old) court r
 
   -- the docket is that of a court, and its tables are sound
   abbrev pub IsSoundDocket : Held S → Docket S → Type 0
@@ -54,11 +55,11 @@ module _ {S : Type 0} (g : Ghosts S) where
 
   -- its tables were sound before it was written to
   abbrev pub WasSound : Held S → Held S → Type 0
-  WasSound old new = HasCleanDisk (state g new) → (court : CourtSettings) × (r : SoundRows) × AreSound (state g old) court r
+  WasSound old new = HasCleanDisk (state g new) → (court : CourtSettings) × (r : SoundRows) × AreSound Second (state g old) court r
 
   -- the first cause for which it is no docket's, in the order of the faults
   abbrev pub IsRejected : Held S → Held S → AdoptFault → Type 0
-  IsRejected old new fault = HasCleanDisk (state g new) → Spares (state g old) (state g new) fault × HasCause (state g old) fault
+  IsRejected old new fault = HasCleanDisk (state g new) → Spares (state g old) (state g new) fault × HasCause Second (state g old) fault
 
   -- what is told of it
   abbrev pub IsToldOf : Held S → Held S → Result FoundDocket AdoptFault → Type 0

@@ -12,6 +12,7 @@ ghost use Rattle.docket_tables.specs.declared.table.Table.TheVariants as table;
 ghost use Rattle.docket_store.specs.Applying.{IsDocket, StandsFor};
 ghost use Rattle.docket_store.specs.Opening.{Finds, IsNotAdopted, IsToldOf};
 
+use docket_columns::Version;
 use docket_scan::{AdoptFault, FoundDocket, Watch, find_docket, has_named};
 use docket_tables::{StoreFault, Table, fault_of};
 use sqlite::{Alter, Connection, Error, ErrorCode};
@@ -43,7 +44,7 @@ fn judged_docket<S: Alter, W: Watch>(
         → Finds S.Store conn.new court h result }
     ensures told { IsToldOf S.Store conn.old conn.new result }
 {
-    match find_docket(conn, alloc, watch) {
+    match find_docket(conn, alloc, Version::KEPT, watch) {
         Ok(found) => Ok(found),
         Err(fault) if fault == AdoptFault::NoMemory => Err(want_of_memory(conn)),
         Err(fault) => Err(fault),

@@ -1,5 +1,5 @@
 //! The docket of a court in a database.
-ghost use Rattle.std.specs.Prelude.{◌≡◌, ◌↔◌, ◌⊎◌, ◌≤◌, [], true, false, Err, IfOk, OnOk, IfErr, IsErrAnd, IsTrue, MatchResult};
+ghost use Rattle.std.specs.Prelude.{◌≡◌, ◌↔◌, ◌⊎◌, ◌≤◌, [], true, false, Ok, Err, IfOk, OnOk, IfErr, IsErrAnd, IsTrue, MatchResult};
 ghost use Rattle.sqlite.specs.Held.{state};
 ghost use Rattle.sqlite.specs.State.{HasCleanDisk};
 ghost use Rattle.sqlite.specs.View.{doubt};
@@ -7,13 +7,19 @@ ghost use Rattle.court_days.specs.Court.{CourtSettings};
 ghost use Rattle.std.specs.Option.{option_map};
 ghost use Rattle.docket_core.specs.Histories.{History};
 ghost use Rattle.docket_core.specs.Records.{case_record, deadline_lines};
+ghost use Rattle.docket_columns.specs.declared.version.Version.TheVariants.{First};
+ghost use Rattle.docket_core.specs.Tables.{rows_of};
+ghost use Rattle.docket_migration.specs.Migrating.{Migrates, Tells};
 ghost use Rattle.docket_scan.specs.Dockets.{holdings_in};
 ghost use Rattle.docket_scan.specs.Shapes.{has_named};
 ghost use Rattle.docket_scan.specs.declared.fault.AdoptFault.TheVariants.{Empty};
+ghost use Rattle.docket_tables.specs.Contents.{rows_by};
 ghost use Rattle.docket_tables.specs.Recognition.{has_docket_table};
+ghost use Rattle.docket_tables.specs.Stands.{HoldsRowsIn};
 ghost use Rattle.docket_tables.specs.declared.table.Table.TheVariants as table;
 ghost use Rattle.docket_store.specs.Applying.{IsDocket, StandsFor, Stands, Applies, Asks, docket_rows};
 ghost use Rattle.docket_store.specs.Listing.{Lists, ListsCalendar};
+ghost use Rattle.docket_store.specs.Migrating.{cause_of};
 ghost use Rattle.docket_store.specs.Opening.{IsAdopted, IsNotAdopted, IsNotMade, IsRejected, IsSoundDocket, IsSoundWith};
 ghost use Rattle.docket_store.specs.declared.creating.CreateFault.TheVariants.{NotEmpty};
 ghost use Rattle.docket_store.specs.declared.fault.Fault.TheVariants as fault;
@@ -27,10 +33,12 @@ use crate::creating::{CreateFault, make_docket};
 use crate::fault::Fault;
 use crate::laws::courts_begin_without_a_record;
 use crate::listing::{CalendarEnd, ListingEnd, is_broken_store, list_days};
+use crate::migrating::MigrateFault;
 use crate::returned::Returned;
 use court_days::{Court, Day};
 use docket_command::{Command, Reply};
 use docket_core::{CalendarItems, CaseRecord, DeadlineLine};
+use docket_migration::migrate;
 use docket_scan::{AdoptFault, FoundDocket, Holdings, Unwatched, Watch};
 use sqlite::{Alter, Connection};
 use std::alloc::Global;
@@ -152,6 +160,60 @@ impl<S: Alter> Docket<S> {
                 Ok((docket, held))
             }
             Err(fault) => Err(Returned { fault, connection }),
+        }
+    }
+
+    /// Takes the docket of a database from the first version of the tables to the second, whatever
+    /// database it is: its tables are judged by the first version, as by `adopt`, and then changed in one
+    /// transaction. After a fault a power failure leaves what it could leave before; where the database
+    /// failed, it leaves the docket of a history in one version or in the other.
+    pub fn migrate(
+        alloc: Global,
+        conn: Connection<S>,
+    ) -> Result<Connection<S>, Returned<S, MigrateFault>>
+        // The docket of a history stands for it in the second version then, and no fault comes but want of
+        // memory or of the database.
+        ensures migrated { (court : CourtSettings) (h : History) → IsDocket court h → HoldsRowsIn S.Store First conn (rows_by First court (rows_of court h))
+            → MatchResult result (λ now. StandsFor S.Store now court h)
+            (λ returned. Migrates S.Store conn returned.connection court h (Err (cause_of returned.fault))) }
+        // Of any database, the tables of the first version were sound, or a fault tells why not.
+        ensures told { MatchResult result (λ now. Tells S.Store conn now (Ok tt))
+            (λ returned. Tells S.Store conn returned.connection (Err (cause_of returned.fault))) }
+        // Without a court there is no docket, and the connection comes back as it was.
+        ensures empty { has_named conn.schema table.Court ≡ false
+            → IsErrAnd result (λ returned. (cause_of returned.fault ≡ Empty) × (returned.connection ≡ conn)) }
+        ensures clean { MatchResult result
+            (λ now. doubt (state S.Store conn).is_clean ≤ doubt (state S.Store now).is_clean)
+            (λ returned. doubt (state S.Store conn).is_clean ≤ doubt (state S.Store returned.connection).is_clean) }
+    {
+        Docket::migrate_watched(alloc, conn, &mut Unwatched)
+    }
+
+    /// Migrates the docket of a database, as `migrate` does; on the way `watch` is told of each row that is
+    /// read.
+    pub fn migrate_watched<W: Watch>(
+        alloc: Global,
+        conn: Connection<S>,
+        watch: &mut W,
+    ) -> Result<Connection<S>, Returned<S, MigrateFault>>
+        ensures migrated { (court : CourtSettings) (h : History) → IsDocket court h → HoldsRowsIn S.Store First conn (rows_by First court (rows_of court h))
+            → MatchResult result (λ now. StandsFor S.Store now court h)
+            (λ returned. Migrates S.Store conn returned.connection court h (Err (cause_of returned.fault))) }
+        ensures told { MatchResult result (λ now. Tells S.Store conn now (Ok tt))
+            (λ returned. Tells S.Store conn returned.connection (Err (cause_of returned.fault))) }
+        ensures empty { has_named conn.schema table.Court ≡ false
+            → IsErrAnd result (λ returned. (cause_of returned.fault ≡ Empty) × (returned.connection ≡ conn)) }
+        ensures clean { MatchResult result
+            (λ now. doubt (state S.Store conn).is_clean ≤ doubt (state S.Store now).is_clean)
+            (λ returned. doubt (state S.Store conn).is_clean ≤ doubt (state S.Store returned.connection).is_clean) }
+    {
+        let mut connection = conn;
+        match migrate(&mut connection, alloc, watch) {
+            Ok(()) => Ok(connection),
+            Err(fault) => Err(Returned {
+                fault: MigrateFault::from(fault),
+                connection,
+            }),
         }
     }
 

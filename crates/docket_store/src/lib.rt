@@ -1,5 +1,6 @@
 //! The docket of a court in a database: one command, one transaction. What a power failure leaves of
-//! the database is a docket. Any database is adopted, if all its tables are sound.
+//! the database is a docket. Any database is adopted, if all its tables are sound; one of the first version
+//! of the tables is migrated to the second.
 #![tactic(auto)]
 
 mod adopting;
@@ -12,6 +13,7 @@ mod judging;
 mod laws;
 mod lines;
 mod listing;
+mod migrating;
 mod recovering;
 mod reopening;
 mod returned;
@@ -20,11 +22,12 @@ mod sessions;
 
 pub use creating::CreateFault;
 pub use docket::Docket;
-pub use docket_columns::VERSION;
+pub use docket_columns::Version;
 pub use docket_scan::{AdoptFault, Holdings, Unwatched, Watch};
 pub use fault::Fault;
 pub use laws::courts_begin_without_a_record;
 pub use listing::{CalendarEnd, ListingEnd};
+pub use migrating::MigrateFault;
 pub use recovering::{RecoverFault, apply_again, recover};
 pub use reopening::{power_failures_leave_dockets, reopen, reopen_from, stop};
 pub use returned::Returned;

@@ -31,7 +31,8 @@ use Rattle.sqlite.specs.State.{State, Executes, Shows as Turns}
 use Rattle.docket_tables.specs.Schema.{docket_schema, shape_of, places_of}
 use Rattle.docket_tables.specs.Statements.{count_text}
 use Rattle.court_days.specs.Court.{CourtSettings}
-use Rattle.docket_columns.specs.Cells.{court_cells}
+use Rattle.docket_columns.specs.Cells.{court_cells, version_number}
+use Rattle.docket_columns.specs.declared.version.Version.TheVariants.{Second}
 use Rattle.docket_tables.specs.Layouts.{Rows, with_rows}
 use Rattle.docket_tables.specs.declared.table.Table.TheVariants.{Court}
 use Rattle.docket_tables.proofs.LayoutLemmas.{rows_changed}
@@ -70,22 +71,25 @@ one_more n small =
     let fits : nat_lt (n + 1) (2 ^ 63) ≡ true = grind (arith, nat_tests, small) in
     ap (λ b. int_or (cond b (Some (pos (n + 1))) None) (real_arith Add (from_int (pos n)) (from_int (pos 1)))) fits
 
+abbrev kept_version : Value
+kept_version = Int (pos (version_number Second))
+
 abbrev court_places : List ℕ
 court_places = places_of Court
 
-court_as : (rows : List Row) (court : CourtSettings) (n : ℕ) (id none version close next : Value) → id ≡ Int (pos 1) → version ≡ Int (pos 1) → close ≡ Int (pos court.close_minute) → next ≡ Int (pos n)
+court_as : (rows : List Row) (court : CourtSettings) (n : ℕ) (id none version close next : Value) → id ≡ Int (pos 1) → version ≡ kept_version → close ≡ Int (pos court.close_minute) → next ≡ Int (pos n)
     → cells court_places (with_rowid Given rows (id ∷ none ∷ Text (codes "civil docket") ∷ version ∷ Text court.zone_text ∷ close ∷ next ∷ [])) ≡ court_cells court n
 court_as rows court n id none version close next a b d e = rw (a, b, d, e)
 
 module _ (settings : CourtSettings) (n : ℕ) (small : n + 1 < 2 ^ 63) where
   abbrev new_row : Row
-  new_row = Int (pos 1) ∷ Int (pos 1) ∷ Null ∷ Text (codes "civil docket") ∷ Int (pos 1) ∷ Text settings.zone_text ∷ Int (pos settings.close_minute) ∷ Int (pos (n + 1)) ∷ []
+  new_row = Int (pos 1) ∷ Int (pos 1) ∷ Null ∷ Text (codes "civil docket") ∷ kept_version ∷ Text settings.zone_text ∷ Int (pos settings.close_minute) ∷ Int (pos (n + 1)) ∷ []
 
   shown_row : (r : Row) → cells court_places r ≡ court_cells settings n → court_shown [] r ≡ new_row
   shown_row r is =
       let e0 : column r 0 ≡ Int (pos 1) = ap (λ x. column x 0) is in
       let e2 : column r 2 ≡ Text (codes "civil docket") = ap (λ x. column x 1) is in
-      let e3 : column r 3 ≡ Int (pos 1) = ap (λ x. column x 2) is in
+      let e3 : column r 3 ≡ kept_version = ap (λ x. column x 2) is in
       let e4 : column r 4 ≡ Text settings.zone_text = ap (λ x. column x 3) is in
       let e5 : column r 5 ≡ Int (pos settings.close_minute) = ap (λ x. column x 4) is in
       let e6 : binary (Arith Add) (column r 6) (Int (pos 1)) ≡ Int (pos (n + 1)) = ap (λ x. binary (Arith Add) (column x 5) (Int (pos 1))) is ∙ one_more n small in
@@ -109,7 +113,7 @@ module _ (settings : CourtSettings) (n : ℕ) (small : n + 1 < 2 ^ 63) where
 
     one_row : (r : Row) → old 0 ≡ r ∷ [] → cells court_places r ≡ court_cells settings n → map (cells court_places) (new 0) ≡ court_cells settings (n + 1) ∷ []
     one_row r at shows =
-        ap (map (cells court_places)) (rewritten_as r at shows) ∙ ap (λ x. x ∷ []) (court_as [] settings (n + 1) _ (cast Integer Null) _ _ _ (cast_int (pos 1)) (cast_int (pos 1)) (cast_int (pos settings.close_minute)) (cast_int (pos (n + 1))))
+        ap (map (cells court_places)) (rewritten_as r at shows) ∙ ap (λ x. x ∷ []) (court_as [] settings (n + 1) _ (cast Integer Null) _ _ _ (cast_int (pos 1)) (cast_int (pos (version_number Second))) (cast_int (pos settings.close_minute)) (cast_int (pos (n + 1))))
 
     one_shaped : (r : Row) → old 0 ≡ r ∷ [] → cells court_places r ≡ court_cells settings n → IsShaped shape.Table (new 0)
     one_shaped r at shows = subst (IsShaped shape.Table) (sym (rewritten_as r at shows)) ((tt, tt), (rw (cast_int (pos 1)) refl, tt))

@@ -4,14 +4,14 @@ pub mod CaseActs
 pub mod CellLemmas
 mod ChangesLemmas
 pub mod CommitLemmas
-mod ContentsLemmas
-mod CourtLemmas
-mod CreateLemmas
+pub mod ContentsLemmas
+pub mod CourtLemmas
+pub mod CreateLemmas
 mod DeleteLemmas
 pub mod EndLemmas
 mod FoundLemmas
 pub mod HoldsLemmas
-mod InsertLemmas
+pub mod InsertLemmas
 pub mod InsideLemmas
 pub mod LayoutLemmas
 mod MoveLemmas
@@ -24,4 +24,4 @@ mod RowidLemmas
 pub mod SelectLemmas
 pub mod StandsLemmas
 pub mod StoredLemmas
-mod UpdateLemmas
+pub mod UpdateLemmas

@@ -7,10 +7,12 @@ use Rattle.docket_core.specs.EndRows.{AreRowsFrom, end_rows, end_rows_from, ends
 use Rattle.docket_core.specs.Histories.{deadlines_of_case, deadlines_from}
 use Rattle.docket_core.specs.Tables.{Tables}
 use Rattle.docket_core.specs.declared.end_row.EndRow.{EndRow}
-use Rattle.docket_columns.specs.Cells.{court_cells, calendar_cells, case_cells, party_cells, entry_cells, deadline_cells, act_cells, receipt_cells, end_cells}
+use Rattle.docket_columns.specs.Cells.{court_cells, court_cells_of, calendar_cells, case_cells, party_cells, entry_cells, deadline_cells, act_cells, receipt_cells, end_cells}
 use Rattle.docket_columns.specs.Fits.{IsEndRow}
-use Rattle.docket_tables.specs.declared.table.Table.TheVariants.{Court, Calendar, Cases, Parties, Entries, Deadlines, Acts, Receipts, Ends}
-use Rattle.docket_tables.specs.Layouts.{Rows}
+use Rattle.docket_columns.specs.declared.version.Version.{Version}
+use Rattle.docket_columns.specs.declared.version.Version.TheVariants.{First, Second}
+use Rattle.docket_tables.specs.declared.table.Table.TheVariants.{Court, Calendar, Cases, Parties, Entries, Deadlines, Acts, Receipts, Ends, ShortDays, LocalRules}
+use Rattle.docket_tables.specs.Layouts.{Rows, with_rows}
 
 -- these tables, with these rows of ends
 abbrev pub rows_with : CourtSettings → Tables → List EndRow → Rows
@@ -23,10 +25,17 @@ rows_with court t ends Deadlines = map deadline_cells t.deadlines
 rows_with court t ends Acts = map act_cells t.acts
 rows_with court t ends Receipts = map receipt_cells t.receipts
 rows_with court t ends Ends = map end_cells ends
+rows_with court t ends ShortDays = []
+rows_with court t ends LocalRules = []
 
 -- with the ends that the tables have, by the calendar that stands in them
 abbrev pub rows_in : CourtSettings → Tables → Rows
 rows_in court t = rows_with court t (end_rows court t)
+
+-- in a version
+abbrev pub rows_by : Version → CourtSettings → Tables → Rows
+rows_by First court t = with_rows Court (court_cells_of First court t.next_row ∷ []) (rows_in court t)
+rows_by Second court t = rows_in court t
 
 -- the ends of a case
 abbrev pub ends_of : ℕ → List EndRow → List EndRow

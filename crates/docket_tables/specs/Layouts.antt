@@ -5,9 +5,12 @@ use Rattle.sqlite.specs.Kind.{Kind}
 use Rattle.sqlite.specs.Kind.TheVariants.{Integer, Text}
 use Rattle.sqlite.specs.Order.{Row}
 use Rattle.sqlite.specs.Tree.{Trees}
+use Rattle.docket_columns.specs.declared.version.Version.{Version}
+use Rattle.docket_columns.specs.declared.version.Version.TheVariants.{First, Second}
 use Rattle.docket_tables.specs.declared.table.Table.{Table}
 use Rattle.docket_tables.specs.Holds.{Holds}
 use Rattle.docket_tables.specs.Schema.{kinds_of, places_of, tree_of}
+use Rattle.docket_tables.specs.Tables.{IsTableOf}
 
 -- there is a value of each kind
 abbrev pub are_of : List Kind → Row → Bool
@@ -27,6 +30,11 @@ Rows = Table → List Row
 -- the database holds these rows, those of a table in some order
 abbrev pub AreRows : Rows → Trees → Type 0
 AreRows rows db = (table : Table) → Holds (tree_of table) (places_of table) (rows table) db
+
+-- in the tables of a version
+abbrev pub AreRowsIn : Version → Rows → Trees → Type 0
+AreRowsIn First rows db = (table : Table) → IsTableOf First table → Holds (tree_of table) (places_of table) (rows table) db
+AreRowsIn Second rows db = AreRows rows db
 
 -- with these rows in a table
 abbrev pub with_rows : Table → List Row → Rows → Rows

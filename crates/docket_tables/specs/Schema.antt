@@ -11,7 +11,9 @@ use Rattle.sqlite.specs.Schema.{Schema}
 use Rattle.sqlite.specs.Kind.{Kind}
 use Rattle.sqlite.specs.Kind.TheVariants.{Integer}
 use Rattle.sqlite.specs.Change.{created}
-use Rattle.docket_tables.specs.Tables.{Field, layout_of, tables}
+use Rattle.docket_columns.specs.declared.version.Version.{Version}
+use Rattle.docket_columns.specs.declared.version.Version.TheVariants.{Second}
+use Rattle.docket_tables.specs.Tables.{Field, layout_of, tables, tables_of}
 use Rattle.docket_tables.specs.Texts.{counted, key_names}
 use Rattle.docket_tables.specs.declared.table.Table.{Table}
 
@@ -91,5 +93,10 @@ no_schema = record { tables = []; indexes = []; views = [] }
 abbrev pub made : ℕ → Schema
 made n = fold created no_schema (map definition_of (take n tables))
 
+-- that of a version
+abbrev pub schema_of : Version → Schema
+schema_of v = fold created no_schema (map definition_of (tables_of v))
+
+-- that of the version that is kept
 abbrev pub docket_schema : Schema
-docket_schema = fold created no_schema (map definition_of tables)
+docket_schema = schema_of Second

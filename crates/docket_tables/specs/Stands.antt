@@ -6,36 +6,49 @@ use Rattle.sqlite.specs.Effect.{IsDatabase}
 use Rattle.sqlite.specs.State.{State, HasCleanDisk, KeepsCommit, Survives}
 use Rattle.sqlite.specs.Held.{Held, state}
 use Rattle.sqlite_catalog.specs.Listing.{IsSound}
-use Rattle.docket_tables.specs.Schema.{docket_schema}
-use Rattle.docket_tables.specs.Layouts.{Rows, AreRows}
+use Rattle.docket_columns.specs.declared.version.Version.{Version}
+use Rattle.docket_columns.specs.declared.version.Version.TheVariants.{Second}
+use Rattle.docket_tables.specs.Schema.{schema_of}
+use Rattle.docket_tables.specs.Layouts.{Rows, AreRowsIn}
 use Rattle.docket_tables.specs.declared.fault.StoreFault.{StoreFault}
 use Rattle.docket_tables.specs.declared.fault.StoreFault.TheVariants.{NoMemory, StoreFailed}
 
--- a database that a power failure leaves has the docket's tables, and in them the rows
-pub record IsImage (rows : Rows) (db : Trees) : Type 0 where
-  pub sound : ∥ IsSound docket_schema db ∥₁
-  pub holds : AreRows rows db
+-- a database that a power failure leaves has the tables of the version, and in them the rows
+pub record IsImageIn (v : Version) (rows : Rows) (db : Trees) : Type 0 where
+  pub sound : ∥ IsSound (schema_of v) db ∥₁
+  pub holds : AreRowsIn v rows db
 
--- the connection is open, and sees the rows
-pub record Shows (s : State) (rows : Rows) : Type 0 where
+-- the connection is open, and sees the rows in the tables of the version
+pub record ShowsIn (v : Version) (s : State) (rows : Rows) : Type 0 where
   pub is_open : IsTrue s.is_open
-  pub schema : s.now.schema ≡ docket_schema
+  pub schema : s.now.schema ≡ schema_of v
   pub live : IsDatabase s.now
-  pub holds : AreRows rows s.now.trees
+  pub holds : AreRowsIn v rows s.now.trees
 
--- the same inside a transaction
+-- no transaction is open, the connection sees the rows, and so does each database that a power failure may leave
+pub record IsSettledIn (v : Version) (s : State) (rows : Rows) : Type 0 where
+  pub idle : s.in_transaction ≡ false
+  pub shows : ShowsIn v s rows
+  pub committed : s.committed ≡ s.now
+  pub images : (db : Trees) → s.may_leave db → IsImageIn v rows db
+
+-- in the version that is kept
+
+abbrev pub IsImage : Rows → Trees → Type 0
+IsImage = IsImageIn Second
+
+abbrev pub Shows : State → Rows → Type 0
+Shows = ShowsIn Second
+
+abbrev pub IsSettled : State → Rows → Type 0
+IsSettled = IsSettledIn Second
+
+-- the connection sees the rows inside a transaction
 pub record Sees (s : State) (rows : Rows) : Type 0 where
   pub begun : IsTrue s.in_transaction
   pub shows : Shows s rows
 
--- no transaction is open, the connection sees the rows, and so does each database that a power failure may leave
-pub record IsSettled (s : State) (rows : Rows) : Type 0 where
-  pub idle : s.in_transaction ≡ false
-  pub shows : Shows s rows
-  pub committed : s.committed ≡ s.now
-  pub images : (db : Trees) → s.may_leave db → IsImage rows db
-
--- the same, but that the connection may be shut
+-- the rows are settled, but that the connection may be shut
 pub record IsLasting (s : State) (rows : Rows) : Type 0 where
   pub images : (db : Trees) → s.may_leave db → IsImage rows db
   pub settled : IsTrue s.is_open → IsSettled s rows
@@ -56,9 +69,12 @@ Inside old new rows next result answer =
     (HasCleanDisk old → Sees old rows) → StaysInside old new × (HasCleanDisk new → IfOk result (λ x. Sees new next × answer x))
 
 module _ {S : Type 0} (g : Ghosts S) where
-  -- the connection holds the rows
+  -- the connection holds the rows in the tables of the version
+  abbrev pub HoldsRowsIn : Version → Held S → Rows → Type 0
+  HoldsRowsIn v c rows = (c.in_transaction ≡ false) × (HasCleanDisk (state g c) → IsSettledIn v (state g c) rows)
+
   abbrev pub HoldsRows : Held S → Rows → Type 0
-  HoldsRows c rows = (c.in_transaction ≡ false) × (HasCleanDisk (state g c) → IsSettled (state g c) rows)
+  HoldsRows = HoldsRowsIn Second
 
   -- the same, but that the connection may be shut
   abbrev pub Lasts : Held S → Rows → Type 0

@@ -1,10 +1,12 @@
 -- The tables of the docket: what each is named, what its columns are, and what stands in them once. All else that is said of a
 -- table in SQL follows from this.
-use Rattle.std.specs.Prelude.{ℕ, Bool, true, false, List, [], ◌∷◌, codes}
+use Rattle.std.specs.Prelude.{ℕ, Bool, true, false, List, [], ◌∷◌, ◌++◌, codes}
 use Rattle.sqlite.specs.Kind.{Kind}
 use Rattle.sqlite.specs.Kind.TheVariants.{Integer, Text}
+use Rattle.docket_columns.specs.declared.version.Version.{Version}
+use Rattle.docket_columns.specs.declared.version.Version.TheVariants.{First, Second}
 use Rattle.docket_tables.specs.declared.table.Table.{Table}
-use Rattle.docket_tables.specs.declared.table.Table.TheVariants.{Court, Calendar, Cases, Parties, Entries, Deadlines, Acts, Receipts, Ends}
+use Rattle.docket_tables.specs.declared.table.Table.TheVariants.{Court, Calendar, Cases, Parties, Entries, Deadlines, Acts, Receipts, Ends, ShortDays, LocalRules}
 
 -- a column: its name, and what it holds. No column takes NULL.
 pub record Field : Type 0 where
@@ -112,7 +114,40 @@ layout_of Ends = record {
   uniques = (2 ∷ 3 ∷ 0 ∷ 1 ∷ []) ∷ [];
   parents = Deadlines ∷ [];
 }
+layout_of ShortDays = record {
+  at = 9;
+  name = codes "short_day";
+  fields = number (codes "row_no") ∷ number (codes "day") ∷ number (codes "close") ∷ words (codes "name") ∷ [];
+  is_rowid = true;
+  key = 1;
+  uniques = (1 ∷ []) ∷ [];
+  parents = [];
+}
+layout_of LocalRules = record {
+  at = 10;
+  name = codes "local_rule";
+  fields = number (codes "number") ∷ words (codes "name") ∷ number (codes "days") ∷ number (codes "direction") ∷ number (codes "three") ∷ number (codes "extendable") ∷ [];
+  is_rowid = true;
+  key = 1;
+  uniques = (1 ∷ []) ∷ [];
+  parents = [];
+}
 
--- the tables in the order in which they are made
+abbrev pub first_tables : List Table
+first_tables = Court ∷ Calendar ∷ Cases ∷ Parties ∷ Entries ∷ Deadlines ∷ Acts ∷ Receipts ∷ Ends ∷ []
+
+-- the tables of a version, in the order in which they are made
+abbrev pub tables_of : Version → List Table
+tables_of First = first_tables
+tables_of Second = first_tables ++ ShortDays ∷ LocalRules ∷ []
+
+-- those of the version that is kept: all that there are
 abbrev pub tables : List Table
-tables = Court ∷ Calendar ∷ Cases ∷ Parties ∷ Entries ∷ Deadlines ∷ Acts ∷ Receipts ∷ Ends ∷ []
+tables = tables_of Second
+
+-- the version has the table
+abbrev pub IsTableOf : Version → Table → Type 0
+IsTableOf First ShortDays = ⊥
+IsTableOf First LocalRules = ⊥
+IsTableOf First table = Unit {0}
+IsTableOf Second table = Unit {0}

@@ -35,5 +35,5 @@ pub use reading::{
     is_row_standing, kept, parties,
 };
 pub use recognition::{has_docket_table, is_bare};
-pub use statement::scan_text;
+pub use statement::{create_text, scan_text};
 pub use table::{Table, table_columns, table_name};

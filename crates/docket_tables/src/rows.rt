@@ -18,7 +18,7 @@ ghost use Rattle.docket_tables.specs.Readings.{IsReadAs};
 
 use crate::fault::ReadFault;
 use court_rules::Act;
-use docket_columns::{CourtRow, StoredRow, count_at, court_of, deadline_of, kept_by};
+use docket_columns::{CourtRow, StoredRow, Version, count_at, court_of, deadline_of, kept_by};
 use docket_core::{ActRow, DeadlineRow, Kept};
 use sqlite::Row;
 use std::alloc::{AllocError, Global};
@@ -86,7 +86,7 @@ pub(crate) fn court_in(alloc: Global, rows: &[Row]) -> Result<CourtRow, ReadFaul
         → IsReadAs (λ found. found ≡ record { zone = settings.zone_text; close = settings.close_minute; next_row = next }) result }
 {
     let row = rows.first().ok_or(ReadFault::Damaged)?;
-    court_of(alloc, row)?.ok_or(ReadFault::Damaged)
+    court_of(alloc, row, Version::KEPT)?.ok_or(ReadFault::Damaged)
 }
 
 /// What is kept under the key of the first row, for a command with this canonical text.

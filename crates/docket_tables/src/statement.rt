@@ -6,7 +6,7 @@ ghost use Rattle.docket_tables.specs.Statements.{delete_text, delete_end_text, m
 use crate::table::Table;
 
 /// Makes the table.
-pub(crate) fn create_text(table: Table) -> &'static str
+pub fn create_text(table: Table) -> &'static str
     ensures { result.now ≡ create_text table }
 {
     match table {
@@ -28,6 +28,10 @@ pub(crate) fn create_text(table: Table) -> &'static str
             "CREATE TABLE receipt (command_key TEXT NOT NULL PRIMARY KEY, body TEXT NOT NULL, reply INTEGER NOT NULL) STRICT",
         Table::Ends =>
             "CREATE TABLE due (case_no INTEGER NOT NULL, deadline_no INTEGER NOT NULL, day INTEGER NOT NULL, moment INTEGER NOT NULL, PRIMARY KEY (case_no, deadline_no), UNIQUE (day, moment, case_no, deadline_no), FOREIGN KEY (case_no, deadline_no) REFERENCES deadline (case_no, number)) STRICT",
+        Table::ShortDays =>
+            "CREATE TABLE short_day (row_no INTEGER PRIMARY KEY, day INTEGER NOT NULL UNIQUE, close INTEGER NOT NULL, name TEXT NOT NULL) STRICT",
+        Table::LocalRules =>
+            "CREATE TABLE local_rule (number INTEGER PRIMARY KEY, name TEXT NOT NULL UNIQUE, days INTEGER NOT NULL, direction INTEGER NOT NULL, three INTEGER NOT NULL, extendable INTEGER NOT NULL) STRICT",
     }
 }
 
@@ -61,6 +65,12 @@ pub(crate) fn insert_text(table: Table) -> &'static str
         Table::Ends => {
             "INSERT INTO due (case_no, deadline_no, day, moment) VALUES (?1, ?2, ?3, ?4)"
         }
+        Table::ShortDays => {
+            "INSERT INTO short_day (row_no, day, close, name) VALUES (?1, ?2, ?3, ?4)"
+        }
+        Table::LocalRules => {
+            "INSERT INTO local_rule (number, name, days, direction, three, extendable) VALUES (?1, ?2, ?3, ?4, ?5, ?6)"
+        }
     }
 }
 
@@ -81,6 +91,9 @@ pub fn scan_text(table: Table) -> &'static str
         Table::Receipts => "SELECT command_key, body, reply FROM receipt ORDER BY command_key",
         Table::Ends =>
             "SELECT case_no, deadline_no, day, moment FROM due ORDER BY case_no, deadline_no",
+        Table::ShortDays => "SELECT row_no, day, close, name FROM short_day ORDER BY row_no",
+        Table::LocalRules =>
+            "SELECT number, name, days, direction, three, extendable FROM local_rule ORDER BY number",
     }
 }
 

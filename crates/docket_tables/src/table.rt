@@ -17,10 +17,14 @@ pub enum Table {
     Receipts,
     /// The ends of the deadlines whose time runs.
     Ends,
+    /// The days on which the office is scheduled to close earlier than the court closes.
+    ShortDays,
+    /// The deadlines of the court's local rules.
+    LocalRules,
 }
 
 /// The tables, in the order in which they are made.
-pub(crate) const TABLES: [Table; 9] = [
+pub(crate) const TABLES: [Table; 11] = [
     Table::Court,
     Table::Calendar,
     Table::Cases,
@@ -30,6 +34,8 @@ pub(crate) const TABLES: [Table; 9] = [
     Table::Acts,
     Table::Receipts,
     Table::Ends,
+    Table::ShortDays,
+    Table::LocalRules,
 ];
 
 /// The name of the table in SQL.
@@ -46,6 +52,8 @@ pub fn table_name(table: Table) -> &'static str
         Table::Acts => "act",
         Table::Receipts => "receipt",
         Table::Ends => "due",
+        Table::ShortDays => "short_day",
+        Table::LocalRules => "local_rule",
     }
 }
 
@@ -73,5 +81,7 @@ pub fn table_columns(table: Table) -> &'static [&'static str]
         ],
         Table::Receipts => &["command_key", "body", "reply"],
         Table::Ends => &["case_no", "deadline_no", "day", "moment"],
+        Table::ShortDays => &["row_no", "day", "close", "name"],
+        Table::LocalRules => &["number", "name", "days", "direction", "three", "extendable"],
     }
 }

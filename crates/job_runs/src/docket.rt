@@ -25,6 +25,25 @@ impl<F: fmt::Display> fmt::Display for AtPath<'_, F> {
     }
 }
 
+/// Why a docket was not adopted, and what is to be done about it.
+#[derive(Drop)]
+struct NotAdopted {
+    fault: AdoptFault,
+}
+
+impl fmt::Display for NotAdopted {
+    fn fmt<W: fmt::Write>(&self, f: &mut fmt::Formatter<W>) -> fmt::Result {
+        match self.fault {
+            AdoptFault::OtherVersion => write!(
+                f,
+                "{}; `docketctl migrate` takes version 1 further",
+                self.fault
+            ),
+            fault => write!(f, "{fault}"),
+        }
+    }
+}
+
 /// Adopts the docket of a database, and tells how many rows were read.
 fn adopt_and_tell<S: Alter, E: Write>(
     rt: &HostRuntime,
@@ -67,7 +86,10 @@ pub(crate) fn adopted<S: Alter + Drop, E: Write>(
                 fault,
                 connection: _,
             },
-        ) => Err(failed(rt.alloc(), e, &AtPath { path, fault })),
+        ) => {
+            let fault = NotAdopted { fault };
+            Err(failed(rt.alloc(), e, &AtPath { path, fault }))
+        }
     }
 }
 

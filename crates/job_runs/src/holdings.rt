@@ -1,6 +1,6 @@
 //! What a sound docket holds, told a line for each kind of thing.
 
-use docket_store::{Holdings, VERSION};
+use docket_store::{Holdings, Version};
 use std::alloc::{AllocError, Global};
 use std::fmt;
 
@@ -31,9 +31,10 @@ fn deadlines_line(alloc: Global, held: &Holdings) -> Result<String, AllocError> 
 
 /// The lines of what the tables hold, behind that of their version.
 pub(crate) fn holdings_text(alloc: Global, held: &Holdings) -> Result<String, AllocError> {
+    let version = Version::KEPT.number();
     let deadlines = deadlines_line(alloc, held)?;
     format!(in alloc;
-        "version {VERSION}\ncalendar rows {}\ncases {}\nparties {}\nentries {}\n{deadlines}receipts {}\n",
+        "version {version}\ncalendar rows {}\ncases {}\nparties {}\nentries {}\n{deadlines}receipts {}\n",
         held.calendar_rows, held.cases, held.parties, held.entries, held.receipts
     )
 }

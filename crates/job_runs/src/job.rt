@@ -5,6 +5,7 @@ use crate::command::run_in_memory;
 use crate::create::create_docket;
 use crate::holiday::tell_holidays;
 use crate::import::import_days;
+use crate::migrate::migrate_docket;
 use crate::progress::Progress;
 use crate::status::Status;
 use crate::telling::failed;
@@ -45,6 +46,7 @@ pub fn run_job<R: Read, W: Write, E: Write>(
             return run_in_memory(rt, progress, zone, close, r, w, e);
         }
         Job::Import { file, key } => return import_days(rt, progress, file, key, r, w, e),
+        Job::Migrate { file } => return migrate_docket(rt, progress, file, w, e),
         Job::Holidays { year } => return tell_holidays(rt.alloc(), year, w, e),
         Job::Run {
             file: Some(file),

@@ -13,6 +13,7 @@ mod holdings;
 mod holiday;
 mod import;
 mod job;
+mod migrate;
 mod progress;
 mod serving;
 mod status;

@@ -2,6 +2,7 @@
 mod adopting;
 mod calendar;
 mod ends;
+mod migrating;
 mod records;
 
 use crate::asking::court;

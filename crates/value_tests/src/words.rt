@@ -13,10 +13,14 @@ fn words_of(alloc: Global, line: &str) -> Result<Vec<String>, AllocError> {
 }
 
 /// What the words ask for.
-const JOBS: [(&str, Job<'static>); 15] = [
+const JOBS: [(&str, Job<'static>); 16] = [
     (
         "docketctl check --db court.db",
         Job::Check { file: "court.db" },
+    ),
+    (
+        "docketctl migrate --db court.db",
+        Job::Migrate { file: "court.db" },
     ),
     ("docketctl", Job::Count),
     ("docketctl count", Job::Count),

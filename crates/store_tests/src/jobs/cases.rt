@@ -84,7 +84,7 @@ const CHECKED: Step<'static> = Step {
     input: "",
     output: "sound
 court EST5EDT,M3.2.0,M11.1.0 closes 17:00
-version 1
+version 2
 calendar rows 0
 cases 1
 parties 1
@@ -94,6 +94,15 @@ receipts 4
 ",
     errors: "",
     status: 0,
+};
+
+/// What this program made is in the second version already.
+const MIGRATED: Step<'static> = Step {
+    line: "docketctl migrate --db @/court.db",
+    input: "",
+    output: "",
+    errors: "docketctl: \"@/court.db\": the docket is not in version 1\n",
+    status: 3,
 };
 
 /// Lines that spell no command, and the last one without its end.
@@ -109,7 +118,7 @@ const NO_COMMANDS: Step<'static> = Step {
     status: 1,
 };
 
-const STEPS: [Step<'static>; 10] = [
+const STEPS: [Step<'static>; 11] = [
     OPENING,
     OPENED,
     NO_OTHER,
@@ -119,6 +128,7 @@ const STEPS: [Step<'static>; 10] = [
     OPENING,
     NO_COMMANDS,
     RECORDED,
+    MIGRATED,
     CHECKED,
 ];
 

@@ -7,7 +7,7 @@ use sqlite::{Alter, Connection, Error, MemStore};
 use std::alloc::Global;
 use std::test::Fail;
 
-type Database = Connection<MemStore>;
+pub(super) type Database = Connection<MemStore>;
 
 fn adopted<S: Alter + Drop>(alloc: Global, conn: Connection<S>) -> Result<Docket<S>, Fail> {
     match Docket::adopt(alloc, conn) {
@@ -17,7 +17,7 @@ fn adopted<S: Alter + Drop>(alloc: Global, conn: Connection<S>) -> Result<Docket
 }
 
 /// Why the database is not adopted, and the database.
-fn adopt_fault<S: Alter + Drop>(
+pub(super) fn adopt_fault<S: Alter + Drop>(
     alloc: Global,
     conn: Connection<S>,
 ) -> (Option<AdoptFault>, Connection<S>) {
@@ -212,7 +212,7 @@ const SERVED: [Step; 1] = [(
 )];
 
 /// The database of a docket with rows in its tables, after these statements.
-fn records_after(alloc: Global, sql: &str) -> Result<Database, Fail> {
+pub(super) fn records_after(alloc: Global, sql: &str) -> Result<Database, Fail> {
     let mut docket = created(alloc)?;
     let is_filled = answers(alloc, &mut docket, &OPENING) && answers(alloc, &mut docket, &SERVED);
     let mut conn = docket.close();
@@ -225,7 +225,7 @@ fn records_after(alloc: Global, sql: &str) -> Result<Database, Fail> {
 }
 
 // What one change comes to. A receipt may be missing: then its command is new when it comes again.
-const CHANGES: [(&str, Option<AdoptFault>); 8] = [
+const CHANGES: [(&str, Option<AdoptFault>); 10] = [
     (
         "UPDATE court SET version = 7",
         Some(AdoptFault::OtherVersion),
@@ -250,6 +250,14 @@ const CHANGES: [(&str, Option<AdoptFault>); 8] = [
     (
         "UPDATE due SET day = day + 1",
         Some(AdoptFault::Damaged(Table::Ends)),
+    ),
+    (
+        "INSERT INTO short_day VALUES (1, 20276, 780, 'Christmas Eve')",
+        Some(AdoptFault::Damaged(Table::ShortDays)),
+    ),
+    (
+        "INSERT INTO local_rule VALUES (1, 'local-7.1', 14, 1, 1, 1)",
+        Some(AdoptFault::Damaged(Table::LocalRules)),
     ),
     ("DELETE FROM receipt", None),
 ];

@@ -70,7 +70,7 @@ pub(super) fn court_cells(next_row: i64) -> [ValueRef<'static>; 6] {
     [
         Int(1),
         Text(b"civil docket"),
-        Int(1),
+        Int(2),
         Text(b"EST5EDT,M3.2.0,M11.1.0"),
         Int(1020),
         Int(next_row),

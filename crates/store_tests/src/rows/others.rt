@@ -1,7 +1,7 @@
 //! A row of SQL that is read as one of a table of the docket, and rows that are not.
 use docket_columns::{
-    act_of, calendar_of, case_of, court_of, deadline_of, entry_of, has_word, is_current, party_of,
-    reply_of,
+    Version, act_of, calendar_of, case_of, court_of, deadline_of, entry_of, has_word,
+    is_of_version, party_of, reply_of,
 };
 use sqlite::{Connection, Row};
 use std::alloc::{AllocError, Global};
@@ -22,7 +22,7 @@ enum Kind {
 
 fn is_read(alloc: Global, kind: Kind, row: &Row) -> Result<bool, AllocError> {
     Ok(match kind {
-        Kind::Court => court_of(alloc, row)?.is_some(),
+        Kind::Court => court_of(alloc, row, Version::Second)?.is_some(),
         Kind::Calendar => calendar_of(alloc, row)?.is_some(),
         Kind::Case => case_of(alloc, row)?.is_some(),
         Kind::Party => party_of(alloc, row)?.is_some(),
@@ -36,23 +36,23 @@ fn is_read(alloc: Global, kind: Kind, row: &Row) -> Result<bool, AllocError> {
 const ROWS: [(Kind, &str, bool); 26] = [
     (
         Kind::Court,
-        "SELECT 1, 'civil docket', 1, 'UTC0', 1020, 7",
+        "SELECT 1, 'civil docket', 2, 'UTC0', 1020, 7",
         true,
     ),
     // the calendar is full
     (
         Kind::Court,
-        "SELECT 1, 'civil docket', 1, 'UTC0', 1020, 4294967296",
+        "SELECT 1, 'civil docket', 2, 'UTC0', 1020, 4294967296",
         true,
     ),
     (
         Kind::Court,
-        "SELECT 1, 'civil docket', 0, 'UTC0', 1020, 7",
+        "SELECT 1, 'civil docket', 1, 'UTC0', 1020, 7",
         false,
     ),
     (
         Kind::Court,
-        "SELECT 1, 'criminal docket', 1, 'UTC0', 1020, 7",
+        "SELECT 1, 'criminal docket', 2, 'UTC0', 1020, 7",
         false,
     ),
     (Kind::Calendar, "SELECT 2, 3, 20276, 0, 'Snow'", true),
@@ -117,18 +117,32 @@ fn rows_are_read_or_none(rt: HostRuntime) -> Result<(), Fail> {
     Ok(())
 }
 
-/// Rows of a court's table, whether they bear the word of a docket, and whether the tables are laid out
-/// as this program's.
-const MARKS: [(&str, bool, bool); 4] = [
-    ("SELECT 1, 'civil docket', 1, 'UTC0', 1020, 7", true, true),
-    ("SELECT 1, 'civil docket', 0, 'UTC0', 1020, 7", true, false),
+/// Rows of a court's table, whether they bear the word of a docket, and the version that they tell.
+const MARKS: [(&str, bool, Option<Version>); 5] = [
     (
-        "SELECT 1, 'criminal docket', 1, 'UTC0', 1020, 7",
-        false,
+        "SELECT 1, 'civil docket', 2, 'UTC0', 1020, 7",
         true,
+        Some(Version::Second),
     ),
-    ("SELECT 1, 7, '1', 'UTC0', 1020, 7", false, false),
+    (
+        "SELECT 1, 'civil docket', 1, 'UTC0', 1020, 7",
+        true,
+        Some(Version::First),
+    ),
+    ("SELECT 1, 'civil docket', 0, 'UTC0', 1020, 7", true, None),
+    (
+        "SELECT 1, 'criminal docket', 2, 'UTC0', 1020, 7",
+        false,
+        Some(Version::Second),
+    ),
+    ("SELECT 1, 7, '2', 'UTC0', 1020, 7", false, None),
 ];
+
+/// Whether a row tells this version and no other.
+fn tells_version(row: &Row, version: Option<Version>) -> bool {
+    [Version::First, Version::Second].iter().all(|other| is_of_version(row, *other)
+        == (version == Some(*other)))
+}
 
 #[test]
 fn courts_are_told_by_word_and_version(rt: HostRuntime) -> Result<(), Fail> {
@@ -136,8 +150,8 @@ fn courts_are_told_by_word_and_version(rt: HostRuntime) -> Result<(), Fail> {
     for (sql, word, version) in MARKS {
         let row = conn.query_row(sql, &[])?;
         assert_eq!(rt;
-            (has_word(&row), is_current(&row)),
-            (word, version),
+            (has_word(&row), tells_version(&row, version)),
+            (word, true),
             "{sql}"
         );
     }

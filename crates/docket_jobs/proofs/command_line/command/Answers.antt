@@ -13,5 +13,6 @@ returns c =
     let cases = subcommand_added _ _ _ _ _ imports c.in_ok-case_command.ensures c.in_ok-subcommand-5.ensures in
     let calendars = subcommand_added _ _ _ _ _ cases c.in_ok-calendar_command.ensures c.in_ok-subcommand-6.ensures in
     let checks = subcommand_added _ _ _ _ _ calendars c.in_ok-check_command.ensures c.in_ok-subcommand-7.ensures in
-    let serves = subcommand_added _ _ _ _ _ checks c.in_ok-serve_command.ensures c.in_ok-subcommand-8.ensures in
-    IfOk-weaker c.subcommand-9.result _ _ (λ _ adds. subcommand_added _ _ _ _ _ serves c.in_ok-holidays_command.ensures adds) c.subcommand-9.ensures
+    let migrates = subcommand_added _ _ _ _ _ checks c.in_ok-migrate_command.ensures c.in_ok-subcommand-8.ensures in
+    let serves = subcommand_added _ _ _ _ _ migrates c.in_ok-serve_command.ensures c.in_ok-subcommand-9.ensures in
+    IfOk-weaker c.subcommand-10.result _ _ (λ _ adds. subcommand_added _ _ _ _ _ serves c.in_ok-holidays_command.ensures adds) c.subcommand-10.ensures

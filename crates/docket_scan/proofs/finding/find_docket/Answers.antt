@@ -11,8 +11,8 @@ returns-in_err-row-clause-docket g c clean =
     let new = state g.S.Store c.read_court.new.conn in
     let early : HasCleanDisk old = omega (arith, clean, c.read_court.ensures.writes_nothing.clean) in
     let told = rw c.in_err-row.was at (c.read_court.ensures.told clean) in
-    docket_found g.S.Store c.args.conn.now new c.from_residual.result early
-    (not_taken old new c.from_residual.result c.in_err-row.field-0.0 c.from_residual.ensures.1 told)
+    docket_found g.S.Store c.args.version c.args.conn.now new c.from_residual.result early
+    (not_taken c.args.version old new c.from_residual.result c.in_err-row.field-0.0 c.from_residual.ensures.1 told)
 
 pub returns-in_err-judged-clause-docket : goal.returns-in_err-judged-clause-docket
 returns-in_err-judged-clause-docket g c clean =
@@ -21,9 +21,9 @@ returns-in_err-judged-clause-docket g c clean =
     let early : HasCleanDisk old = omega (arith, clean, c.read_court.ensures.writes_nothing.clean) in
     let read = rw c.in_ok-row.was at (c.read_court.ensures.told clean) in
     let fault = c.in_err-judged.field-0.0 in
-    docket_found g.S.Store c.args.conn.now new c.from_residual-in_err-judged.result early
-    (not_taken old new c.from_residual-in_err-judged.result fault c.from_residual-in_err-judged.ensures.1
-    (court_refused old new c.in_ok-row.row fault read c.in_err-judged.ensures.err))
+    docket_found g.S.Store c.args.version c.args.conn.now new c.from_residual-in_err-judged.result early
+    (not_taken c.args.version old new c.from_residual-in_err-judged.result fault c.from_residual-in_err-judged.ensures.1
+    (court_refused c.args.version old new c.in_ok-row.row fault read c.in_err-judged.ensures.err))
 
 pub returns-in_err-held-clause-told : goal.returns-in_err-held-clause-told
 returns-in_err-held-clause-told g c clean =
@@ -32,17 +32,17 @@ returns-in_err-held-clause-told g c clean =
     let new = state g.S.Store c.judge_tables.new.conn in
     let between : HasCleanDisk mid = omega (arith, clean, c.judge_tables.ensures.writes_nothing.clean) in
     let read = rw c.in_ok-row.was at (c.read_court.ensures.told between) in
-    let has = court_had old mid c.in_ok-row.row c.in_ok-judged.judged read c.in_ok-judged.ensures.ok in
+    let has = court_had c.args.version old mid c.in_ok-row.row c.in_ok-judged.judged read c.in_ok-judged.ensures.ok in
     let fault = c.in_err-held.field-0.0 in
     let told = rw c.in_err-held.was at (c.judge_tables.ensures.told clean) in
-    not_taken old new c.from_residual-in_err-held.result fault c.from_residual-in_err-held.ensures.1
-    (judged_fault old mid read.0 c.in_ok-judged.judged c.in_ok-row.row.next_row has new fault told)
+    not_taken c.args.version old new c.from_residual-in_err-held.result fault c.from_residual-in_err-held.ensures.1
+    (judged_fault old mid read.0 c.args.version c.in_ok-judged.judged c.in_ok-row.row.next_row has new fault told)
 
 pub returns-in_err-held-clause-docket : goal.returns-in_err-held-clause-docket
 returns-in_err-held-clause-docket g c clean =
     let old = state g.S.Store c.args.conn.now in
     let early : HasCleanDisk old = omega (arith, clean, c.judge_tables.ensures.writes_nothing.clean, c.read_court.ensures.writes_nothing.clean) in
-    docket_found g.S.Store c.args.conn.now (state g.S.Store c.judge_tables.new.conn) c.from_residual-in_err-held.result early
+    docket_found g.S.Store c.args.version c.args.conn.now (state g.S.Store c.judge_tables.new.conn) c.from_residual-in_err-held.result early
     (returns-in_err-held-clause-told g c clean)
 
 pub returns-clause-told : goal.returns-clause-told
@@ -52,14 +52,14 @@ returns-clause-told g c clean =
     let new = state g.S.Store c.judge_tables.new.conn in
     let between : HasCleanDisk mid = omega (arith, clean, c.judge_tables.ensures.writes_nothing.clean) in
     let read = rw c.in_ok-row.was at (c.read_court.ensures.told between) in
-    let has = court_had old mid c.in_ok-row.row c.in_ok-judged.judged read c.in_ok-judged.ensures.ok in
+    let has = court_had c.args.version old mid c.in_ok-row.row c.in_ok-judged.judged read c.in_ok-judged.ensures.ok in
     let told = rw c.in_ok-held.was at (c.judge_tables.ensures.told clean) in
     let same = c.in_ok-court.ensures.ok.1 ∙ sym c.in_ok-judged.ensures.ok.1 in
-    judged_sound old mid read.0 c.in_ok-judged.judged c.in_ok-row.row.next_row has new (record { court = c.in_ok-court.court; held = c.in_ok-held.held }) same told
+    judged_sound old mid read.0 c.args.version c.in_ok-judged.judged c.in_ok-row.row.next_row has new (record { court = c.in_ok-court.court; held = c.in_ok-held.held }) same told
 
 pub returns-clause-docket : goal.returns-clause-docket
 returns-clause-docket g c clean =
     let old = state g.S.Store c.args.conn.now in
     let early : HasCleanDisk old = omega (arith, clean, c.judge_tables.ensures.writes_nothing.clean, c.read_court.ensures.writes_nothing.clean) in
-    docket_found g.S.Store c.args.conn.now (state g.S.Store c.judge_tables.new.conn) (Ok (record { court = c.in_ok-court.court; held = c.in_ok-held.held })) early
+    docket_found g.S.Store c.args.version c.args.conn.now (state g.S.Store c.judge_tables.new.conn) (Ok (record { court = c.in_ok-court.court; held = c.in_ok-held.held })) early
     (returns-clause-told g c clean)

@@ -1,17 +1,18 @@
-use Rattle.std.proofs.Common.{subst, sym}
 use Rattle.sqlite.specs.Held.{state}
-use Rattle.docket_scan.specs.Judging.{IsTold}
+use Rattle.docket_scan.specs.Judging.{IsSoundIn}
 use Rattle.docket_scan.specs.Records.{IsTable}
-use Rattle.docket_scan.specs.Scans.{FailsToScan}
-use Rattle.docket_scan.proofs.JudgingLemmas.{told_in}
+use Rattle.docket_scan.specs.Scans.{OfSoMany}
+use Rattle.docket_scan.specs.Taken.{IsRead}
+use Rattle.docket_scan.proofs.JudgingLemmas.{told_on}
 use Rattle.docket_scan.proofs.RecordLemmas.{none_read}
 use Rattle.docket_scan.proofs.judging.judge.Goals as goal
 
-pub returns-in-Err-clause-told : goal.returns-in-Err-clause-told
-returns-in-Err-clause-told g c clean has =
+pub returns-in_err-count-clause-told : goal.returns-in_err-count-clause-told
+returns-in_err-count-clause-told g c clean has =
     let old = state g.S.Store c.args.conn.now in
-    let new = state g.S.Store c.scan.new.conn in
+    let new = state g.S.Store c.judge_rows.new.conn in
     let sound = IsTable g.C.Record.StoredRow.Is g.C.Record.StoredRow.cells (g.C.RecordCheck.AreSound (g.C.RecordCheck.context c.args.check)) in
     let begun = none_read g.C.Record.StoredRow.Is g.C.Record.StoredRow.cells (g.C.RecordCheck.HasTaken c.args.check) has in
-    let failed : FailsToScan c.args.table old new c.in-Err.error = rw c.in-Err.is at (c.scan.ensures.told clean begun) in
-    subst (IsTold c.args.table old new sound) (sym c.fault_in.ensures) (told_in c.args.table old new sound c.in-Err.error failed)
+    let told = rw c.in_err-count.was at (c.judge_rows.ensures.told clean begun) in
+    told_on c.args.table old new (λ taken. IsSoundIn c.args.table old (OfSoMany taken.1 (IsRead g.C.Record.StoredRow.Is g.C.Record.StoredRow.cells (g.C.RecordCheck.HasTaken taken.0)))) sound
+    c.from_residual.result c.in_err-count.field-0.0 c.from_residual.ensures.1 told

@@ -13,24 +13,24 @@ use Rattle.docket_scan.specs.Records.{AreActRows}
 use Rattle.docket_scan.specs.Scans.{OfSoMany}
 use Rattle.docket_scan.specs.Taken.{ActContext, IsRead}
 use Rattle.docket_scan.proofs.ActLemmas.{acts_refused, acts_told, begun}
-use Rattle.docket_scan.proofs.JudgingLemmas.{failed, handed, sound_before}
+use Rattle.docket_scan.proofs.JudgingLemmas.{each_has, failed, handed, sound_before}
 use Rattle.docket_scan.proofs.judging.judge_acts.Goals as goal
 
 pub returns-in_err-check-2-clause-err : goal.returns-in_err-check-2-clause-err
-returns-in_err-check-2-clause-err g c first court next prior =
+returns-in_err-check-2-clause-err g c v first court next prior =
     let start = state g.S.Store first in
     let old = state g.S.Store c.args.conn.now in
     let new = state g.S.Store c.judge.new.conn in
     let made = c.in_ok-check.ensures in
     let check = c.in_ok-check.check in
     let fault = c.in_err-check-2.field-0.0 in
-    handed c.from_residual-in_err-check-2.result fault (FailsOver start court next new) c.from_residual-in_err-check-2.ensures.1
+    handed c.from_residual-in_err-check-2.result fault (FailsOver v start court next new) c.from_residual-in_err-check-2.ensures.1
     (λ clean.
     let early : HasCleanDisk old = omega (arith, clean, c.judge.ensures.writes_nothing.clean) in
     let was = prior early in
     let context = begun court was.rows c.args.read check was.said made.court made.deadlines made.calendar in
     let told = rw c.in_err-check-2.was at (c.judge.ensures.told clean (made.none (map deadline_key was.rows.deadlines) was.said.deadlines)) in
-    failed start old was.same table.Acts tt court next new was.rows (AreActRows check.court (cases_of check.deadlines) (counts_of check.deadlines)) fault
+    failed start old was.same v table.Acts (each_has v table.Acts tt) court next new was.rows (AreActRows check.court (cases_of check.deadlines) (counts_of check.deadlines)) fault
     (ap (λ (k : ActContext). AreActRows k.0 k.1 k.2) context) was.sound told)
 
 pub returns-in-Some-clause-ok : goal.returns-in-Some-clause-ok
@@ -53,7 +53,7 @@ returns-in-Some-clause-ok g c first court next prior clean =
     (λ few. rw c.in-Some.is at (c.in_ok-ends.ensures.standings read.records read.taken few))
 
 pub returns-clause-err : goal.returns-clause-err
-returns-clause-err g c first court next prior clean =
+returns-clause-err g c v first court next prior clean =
     let start = state g.S.Store first in
     let old = state g.S.Store c.args.conn.now in
     let new = state g.S.Store c.judge.new.conn in
@@ -65,5 +65,5 @@ returns-clause-err g c first court next prior clean =
     let taken = IsRead IsActRow act_cells (HasTakenActs c.in_ok-check-2.check) in
     let held = sound_before start old was.same table.Acts (OfSoMany c.in_ok-check-2.field-0-1 taken) told.1 in
     let read = held.3.1 in
-    acts_refused court next start old new c.args.read was c.in_ok-check-2.check c.in_ok-check-2.field-0-1 context told.0 held
+    acts_refused court next start old new c.args.read was c.in_ok-check-2.check c.in_ok-check-2.field-0-1 context told.0 held v
     (λ sound. false≢true ((rw c.in-None.is at (c.in_ok-ends.ensures.sound read.records read.taken)).1 sound))

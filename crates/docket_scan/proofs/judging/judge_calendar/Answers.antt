@@ -13,21 +13,21 @@ use Rattle.docket_scan.proofs.JudgingLemmas.{failed_first, handed, read_rows, so
 use Rattle.docket_scan.proofs.judging.judge_calendar.Goals as goal
 
 pub returns-in_err-check-clause-err : goal.returns-in_err-check-clause-err
-returns-in_err-check-clause-err g c =
+returns-in_err-check-clause-err g c v =
     let old = state g.S.Store c.args.conn.now in
     let new = state g.S.Store c.judge.new.conn in
     let made = c.new-check.ensures in
     let given : calendar_context c.new-check.result ≡ (c.args.court, c.args.next_row) = λ i. (made.court i, made.next_row i) in
     let fault = c.in_err-check.field-0.0 in
-    handed c.from_residual.result fault (FailsOver old c.args.court c.args.next_row new) c.from_residual.ensures.1
-    (λ clean. failed_first c.args.court c.args.next_row old new no_rows (AreCalendarRows c.new-check.result.court c.new-check.result.next_row) fault
+    handed c.from_residual.result fault (FailsOver v old c.args.court c.args.next_row new) c.from_residual.ensures.1
+    (λ clean. failed_first v c.args.court c.args.next_row old new no_rows (AreCalendarRows c.new-check.result.court c.new-check.result.next_row) fault
     (ap (λ (k : CalendarContext). AreCalendarRows k.0 k.1) given) (rw c.in_err-check.was at (c.judge.ensures.told clean made.none)))
 
 pub returns-in_err-read-clause-err : goal.returns-in_err-read-clause-err
-returns-in_err-read-clause-err g c =
+returns-in_err-read-clause-err g c v =
     let old = state g.S.Store c.args.conn.now in
     let new = state g.S.Store c.judge.new.conn in
-    handed c.from_residual-in_err-read.result NoMemory (FailsOver old c.args.court c.args.next_row new) c.from_residual-in_err-read.ensures.1
+    handed c.from_residual-in_err-read.result NoMemory (FailsOver v old c.args.court c.args.next_row new) c.from_residual-in_err-read.ensures.1
     (λ clean. let told = rw c.in_ok-check.was at (c.judge.ensures.told clean c.new-check.ensures.none) in inl told.0)
 
 pub returns-clause-ok : goal.returns-clause-ok

@@ -11,21 +11,21 @@ use Rattle.docket_scan.specs.Reading.{FailsOver}
 use Rattle.docket_scan.specs.Records.{AreCaseRows}
 use Rattle.docket_scan.specs.Scans.{OfSoMany}
 use Rattle.docket_scan.specs.Taken.{IsRead}
-use Rattle.docket_scan.proofs.JudgingLemmas.{all_more, failed, handed, read_rows, so_many, sound_before}
+use Rattle.docket_scan.proofs.JudgingLemmas.{all_more, each_has, failed, handed, read_rows, so_many, sound_before}
 use Rattle.docket_scan.proofs.judging.judge_cases.Goals as goal
 
 pub returns-in_err-check-clause-err : goal.returns-in_err-check-clause-err
-returns-in_err-check-clause-err g c first court next prior =
+returns-in_err-check-clause-err g c v first court next prior =
     let start = state g.S.Store first in
     let old = state g.S.Store c.args.conn.now in
     let new = state g.S.Store c.judge.new.conn in
     let fault = c.in_err-check.field-0.0 in
-    handed c.from_residual.result fault (FailsOver start court next new) c.from_residual.ensures.1
+    handed c.from_residual.result fault (FailsOver v start court next new) c.from_residual.ensures.1
     (λ clean.
     let early : HasCleanDisk old = omega (arith, clean, c.judge.ensures.writes_nothing.clean) in
     let was = prior early in
     let told = rw c.in_err-check.was at (c.judge.ensures.told clean c.new-check.ensures) in
-    failed start old was.same table.Cases tt court next new was.rows (AreCaseRows) fault (refl) was.sound told)
+    failed start old was.same v table.Cases (each_has v table.Cases tt) court next new was.rows (AreCaseRows) fault (refl) was.sound told)
 
 pub returns-clause-ok : goal.returns-clause-ok
 returns-clause-ok g c first court next prior clean =

@@ -13,21 +13,21 @@ use Rattle.docket_scan.specs.Reading.{FailsOver}
 use Rattle.docket_scan.specs.Records.{AreDeadlineRows, count_in}
 use Rattle.docket_scan.specs.Scans.{OfSoMany}
 use Rattle.docket_scan.specs.Taken.{DeadlineContext, IsRead, deadline_context}
-use Rattle.docket_scan.proofs.JudgingLemmas.{all_more, failed, handed, read_rows, so_many, sound_before}
+use Rattle.docket_scan.proofs.JudgingLemmas.{all_more, each_has, failed, handed, read_rows, so_many, sound_before}
 use Rattle.docket_scan.proofs.judging.judge_deadlines.Goals as goal
 
 pub returns-in_err-check-2-clause-err : goal.returns-in_err-check-2-clause-err
-returns-in_err-check-2-clause-err g c first court next prior =
+returns-in_err-check-2-clause-err g c v first court next prior =
     let start = state g.S.Store first in
     let old = state g.S.Store c.args.conn.now in
     let new = state g.S.Store c.judge.new.conn in
     let fault = c.in_err-check-2.field-0.0 in
-    handed c.from_residual-in_err-check-2.result fault (FailsOver start court next new) c.from_residual-in_err-check-2.ensures.1
+    handed c.from_residual-in_err-check-2.result fault (FailsOver v start court next new) c.from_residual-in_err-check-2.ensures.1
     (λ clean.
     let early : HasCleanDisk old = omega (arith, clean, c.judge.ensures.writes_nothing.clean) in
     let was = prior early in
     let told = rw c.in_err-check-2.was at (c.judge.ensures.told clean c.in_ok-check.ensures.none) in
-    failed start old was.same table.Deadlines tt court next new was.rows (AreDeadlineRows (deadlines_checked c.in_ok-check.check) (parties_of c.in_ok-check.check.parties)) fault (ap (λ (k : DeadlineContext). AreDeadlineRows k.0 k.1) (λ i. ((c.in_ok-check.ensures.cases ∙ was.said.cases) i, (ap parties_of c.in_ok-check.ensures.parties ∙ was.said.parties) i))) was.sound told)
+    failed start old was.same v table.Deadlines (each_has v table.Deadlines tt) court next new was.rows (AreDeadlineRows (deadlines_checked c.in_ok-check.check) (parties_of c.in_ok-check.check.parties)) fault (ap (λ (k : DeadlineContext). AreDeadlineRows k.0 k.1) (λ i. ((c.in_ok-check.ensures.cases ∙ was.said.cases) i, (ap parties_of c.in_ok-check.ensures.parties ∙ was.said.parties) i))) was.sound told)
 
 pub returns-clause-ok : goal.returns-clause-ok
 returns-clause-ok g c first court next prior clean =

@@ -7,31 +7,32 @@ use Rattle.docket_columns.specs.Cells.{end_cells}
 use Rattle.docket_columns.specs.Fits.{IsEndRow}
 use Rattle.docket_sound.specs.Dues.{HasTakenDues}
 use Rattle.docket_tables.specs.declared.table.Table.TheVariants as table
-use Rattle.docket_scan.specs.Holdings.{holdings_of}
 use Rattle.docket_scan.specs.Judging.{Holds, before}
+use Rattle.docket_scan.specs.Reading.{FailsOver}
 use Rattle.docket_scan.specs.Records.{AreEndRows}
 use Rattle.docket_scan.specs.Scans.{OfSoMany}
 use Rattle.docket_scan.specs.Taken.{IsRead, ends_expected}
-use Rattle.docket_scan.proofs.JudgingLemmas.{all_more, failed, read_rows, sound_before, told_of}
+use Rattle.docket_scan.proofs.JudgingLemmas.{all_more, each_has, failed, handed, read_rows, sound_before}
 use Rattle.docket_scan.proofs.RecordLemmas.{all_read}
 use Rattle.docket_scan.proofs.judging.judge_ends.Goals as goal
 
-pub returns-in_err-check-clause-told : goal.returns-in_err-check-clause-told
-returns-in_err-check-clause-told g c first court next prior clean =
+pub returns-in_err-check-clause-err : goal.returns-in_err-check-clause-err
+returns-in_err-check-clause-err g c v first court next prior =
     let start = state g.S.Store first in
     let old = state g.S.Store c.args.conn.now in
     let new = state g.S.Store c.judge.new.conn in
+    let fault = c.in_err-check.field-0.0 in
+    handed c.from_residual.result fault (FailsOver v start court next new) c.from_residual.ensures.1
+    (λ clean.
     let early : HasCleanDisk old = omega (arith, clean, c.judge.ensures.writes_nothing.clean) in
     let was = prior early in
     let made = c.new.ensures in
     let begun : ends_expected c.new.result ≡ c.args.read.ends.items = ap (λ l. l.items) made.expected in
     let told = rw c.in_err-check.was at (c.judge.ensures.told clean made.none) in
-    let fault = c.in_err-check.field-0.0 in
-    told_of court next start new (λ r held. held ≡ holdings_of court r) c.from_residual.result fault c.from_residual.ensures.1
-    (failed start old was.same table.Ends tt court next new was.rows (AreEndRows (ends_expected c.new.result)) fault (ap AreEndRows (begun ∙ was.said.ends)) was.sound told)
+    failed start old was.same v table.Ends (each_has v table.Ends tt) court next new was.rows (AreEndRows (ends_expected c.new.result)) fault (ap AreEndRows (begun ∙ was.said.ends)) was.sound told)
 
-pub returns-then-is_sound-clause-told : goal.returns-then-is_sound-clause-told
-returns-then-is_sound-clause-told g c first court next prior clean =
+pub returns-then-is_sound-clause-ok : goal.returns-then-is_sound-clause-ok
+returns-then-is_sound-clause-ok g c first court next prior clean =
     let start = state g.S.Store first in
     let old = state g.S.Store c.args.conn.now in
     let new = state g.S.Store c.judge.new.conn in
@@ -45,16 +46,17 @@ returns-then-is_sound-clause-told g c first court next prior clean =
     let held = sound_before start old was.same table.Ends (OfSoMany c.in_ok-check.field-0-1 (IsRead IsEndRow end_cells taken)) told.1 in
     let read = held.3.1 in
     let same = (c.is_sound.ensures read.records read.taken).0 c.if-is_sound.true ∙ given in
-    let rows = record was.rows { ends = read.records } in (
-      unchanged_then start old new was.same told.0,
-      rows,
-      all_more (Holds start court next rows) (before table.Ends) table.Ends was.sound
-          (read_rows table.Ends start IsEndRow end_cells taken c.in_ok-check.field-0-1 held (λ records. records ≡ _) same),
-      was.said.held,
-    )
+    let rows = record was.rows { ends = read.records } in
+    record {
+      same = unchanged_then start old new was.same told.0;
+      rows = rows;
+      sound = all_more (Holds start court next rows) (before table.Ends) table.Ends was.sound
+          (read_rows table.Ends start IsEndRow end_cells taken c.in_ok-check.field-0-1 held (λ records. records ≡ _) same);
+      said = was.said.held;
+    }
 
-pub returns-clause-told : goal.returns-clause-told
-returns-clause-told g c first court next prior clean =
+pub returns-clause-err : goal.returns-clause-err
+returns-clause-err g c v first court next prior clean =
     let start = state g.S.Store first in
     let old = state g.S.Store c.args.conn.now in
     let new = state g.S.Store c.judge.new.conn in
@@ -68,7 +70,7 @@ returns-clause-told g c first court next prior clean =
     let held = sound_before start old was.same table.Ends (OfSoMany c.in_ok-check.field-0-1 (IsRead IsEndRow end_cells taken)) told.1 in
     let read = held.3.1 in
     let exact = c.is_sound.ensures read.records read.taken in (
-      tt,
+      each_has v table.Ends tt,
       λ opened. unchanged_then start old new was.same told.0,
       was.rows,
       was.sound,

@@ -7,32 +7,35 @@ use Rattle.docket_scan.proofs.judging.judge_tables.Goals as goal
 pub returns-in_err-read-clause-told : goal.returns-in_err-read-clause-told
 returns-in_err-read-clause-told g c clean =
     let first = c.args.conn.now in
+    let version = c.args.version in
     let court = c.args.court in
     let next = c.args.next_row in
     let fault = c.in_err-read.field-0.0 in
-    told_of court next (state g.S.Store first) (state g.S.Store c.judge_calendar.new.conn) (λ r held. held ≡ holdings_of court r) c.from_residual.result fault c.from_residual.ensures.1
-    (c.in_err-read.ensures.err clean)
+    told_of version court next (state g.S.Store first) (state g.S.Store c.judge_calendar.new.conn) (λ r held. held ≡ holdings_of court r) c.from_residual.result fault c.from_residual.ensures.1
+    (c.in_err-read.ensures.err version clean)
 
 pub returns-in_err-read-2-clause-told : goal.returns-in_err-read-2-clause-told
 returns-in_err-read-2-clause-told g c clean =
     let first = c.args.conn.now in
+    let version = c.args.version in
     let court = c.args.court in
     let next = c.args.next_row in
     let read = c.in_ok-read.ensures.ok in
     let fault = c.in_err-read-2.field-0.0 in
-    told_of court next (state g.S.Store first) (state g.S.Store c.judge_cases.new.conn) (λ r held. held ≡ holdings_of court r) c.from_residual-in_err-read-2.result fault c.from_residual-in_err-read-2.ensures.1
-    (c.in_err-read-2.ensures.err first court next read clean)
+    told_of version court next (state g.S.Store first) (state g.S.Store c.judge_cases.new.conn) (λ r held. held ≡ holdings_of court r) c.from_residual-in_err-read-2.result fault c.from_residual-in_err-read-2.ensures.1
+    (c.in_err-read-2.ensures.err version first court next read clean)
 
 pub returns-in_err-read-3-clause-told : goal.returns-in_err-read-3-clause-told
 returns-in_err-read-3-clause-told g c clean =
     let first = c.args.conn.now in
+    let version = c.args.version in
     let court = c.args.court in
     let next = c.args.next_row in
     let read = c.in_ok-read.ensures.ok in
     let read = c.in_ok-read-2.ensures.ok first court next read in
     let fault = c.in_err-read-3.field-0.0 in
-    told_of court next (state g.S.Store first) (state g.S.Store c.judge_parties.new.conn) (λ r held. held ≡ holdings_of court r) c.from_residual-in_err-read-3.result fault c.from_residual-in_err-read-3.ensures.1
-    (c.in_err-read-3.ensures.err first court next read clean)
+    told_of version court next (state g.S.Store first) (state g.S.Store c.judge_parties.new.conn) (λ r held. held ≡ holdings_of court r) c.from_residual-in_err-read-3.result fault c.from_residual-in_err-read-3.ensures.1
+    (c.in_err-read-3.ensures.err version first court next read clean)
 
 pub returns-in_err-read-4-clause-writes_nothing : goal.returns-in_err-read-4-clause-writes_nothing
 returns-in_err-read-4-clause-writes_nothing g c = nothing_then (nothing_then (nothing_then c.judge_calendar.ensures.writes_nothing c.judge_cases.ensures.writes_nothing) c.judge_parties.ensures.writes_nothing) c.judge_entries.ensures.writes_nothing
@@ -40,14 +43,15 @@ returns-in_err-read-4-clause-writes_nothing g c = nothing_then (nothing_then (no
 pub returns-in_err-read-4-clause-told : goal.returns-in_err-read-4-clause-told
 returns-in_err-read-4-clause-told g c clean =
     let first = c.args.conn.now in
+    let version = c.args.version in
     let court = c.args.court in
     let next = c.args.next_row in
     let read = c.in_ok-read.ensures.ok in
     let read = c.in_ok-read-2.ensures.ok first court next read in
     let read = c.in_ok-read-3.ensures.ok first court next read in
     let fault = c.in_err-read-4.field-0.0 in
-    told_of court next (state g.S.Store first) (state g.S.Store c.judge_entries.new.conn) (λ r held. held ≡ holdings_of court r) c.from_residual-in_err-read-4.result fault c.from_residual-in_err-read-4.ensures.1
-    (c.in_err-read-4.ensures.err first court next read clean)
+    told_of version court next (state g.S.Store first) (state g.S.Store c.judge_entries.new.conn) (λ r held. held ≡ holdings_of court r) c.from_residual-in_err-read-4.result fault c.from_residual-in_err-read-4.ensures.1
+    (c.in_err-read-4.ensures.err version first court next read clean)
 
 pub returns-in_err-read-5-clause-writes_nothing : goal.returns-in_err-read-5-clause-writes_nothing
 returns-in_err-read-5-clause-writes_nothing g c = nothing_then (nothing_then (nothing_then (nothing_then c.judge_calendar.ensures.writes_nothing c.judge_cases.ensures.writes_nothing) c.judge_parties.ensures.writes_nothing) c.judge_entries.ensures.writes_nothing) c.judge_deadlines.ensures.writes_nothing
@@ -55,6 +59,7 @@ returns-in_err-read-5-clause-writes_nothing g c = nothing_then (nothing_then (no
 pub returns-in_err-read-5-clause-told : goal.returns-in_err-read-5-clause-told
 returns-in_err-read-5-clause-told g c clean =
     let first = c.args.conn.now in
+    let version = c.args.version in
     let court = c.args.court in
     let next = c.args.next_row in
     let read = c.in_ok-read.ensures.ok in
@@ -62,8 +67,8 @@ returns-in_err-read-5-clause-told g c clean =
     let read = c.in_ok-read-3.ensures.ok first court next read in
     let read = c.in_ok-read-4.ensures.ok first court next read in
     let fault = c.in_err-read-5.field-0.0 in
-    told_of court next (state g.S.Store first) (state g.S.Store c.judge_deadlines.new.conn) (λ r held. held ≡ holdings_of court r) c.from_residual-in_err-read-5.result fault c.from_residual-in_err-read-5.ensures.1
-    (c.in_err-read-5.ensures.err first court next read clean)
+    told_of version court next (state g.S.Store first) (state g.S.Store c.judge_deadlines.new.conn) (λ r held. held ≡ holdings_of court r) c.from_residual-in_err-read-5.result fault c.from_residual-in_err-read-5.ensures.1
+    (c.in_err-read-5.ensures.err version first court next read clean)
 
 pub returns-in_err-read-6-clause-writes_nothing : goal.returns-in_err-read-6-clause-writes_nothing
 returns-in_err-read-6-clause-writes_nothing g c = nothing_then (nothing_then (nothing_then (nothing_then (nothing_then c.judge_calendar.ensures.writes_nothing c.judge_cases.ensures.writes_nothing) c.judge_parties.ensures.writes_nothing) c.judge_entries.ensures.writes_nothing) c.judge_deadlines.ensures.writes_nothing) c.judge_acts.ensures.writes_nothing
@@ -71,6 +76,7 @@ returns-in_err-read-6-clause-writes_nothing g c = nothing_then (nothing_then (no
 pub returns-in_err-read-6-clause-told : goal.returns-in_err-read-6-clause-told
 returns-in_err-read-6-clause-told g c clean =
     let first = c.args.conn.now in
+    let version = c.args.version in
     let court = c.args.court in
     let next = c.args.next_row in
     let read = c.in_ok-read.ensures.ok in
@@ -79,8 +85,8 @@ returns-in_err-read-6-clause-told g c clean =
     let read = c.in_ok-read-4.ensures.ok first court next read in
     let read = c.in_ok-read-5.ensures.ok first court next read in
     let fault = c.in_err-read-6.field-0.0 in
-    told_of court next (state g.S.Store first) (state g.S.Store c.judge_acts.new.conn) (λ r held. held ≡ holdings_of court r) c.from_residual-in_err-read-6.result fault c.from_residual-in_err-read-6.ensures.1
-    (c.in_err-read-6.ensures.err first court next read clean)
+    told_of version court next (state g.S.Store first) (state g.S.Store c.judge_acts.new.conn) (λ r held. held ≡ holdings_of court r) c.from_residual-in_err-read-6.result fault c.from_residual-in_err-read-6.ensures.1
+    (c.in_err-read-6.ensures.err version first court next read clean)
 
 pub returns-in_err-read-7-clause-writes_nothing : goal.returns-in_err-read-7-clause-writes_nothing
 returns-in_err-read-7-clause-writes_nothing g c = nothing_then (nothing_then (nothing_then (nothing_then (nothing_then (nothing_then c.judge_calendar.ensures.writes_nothing c.judge_cases.ensures.writes_nothing) c.judge_parties.ensures.writes_nothing) c.judge_entries.ensures.writes_nothing) c.judge_deadlines.ensures.writes_nothing) c.judge_acts.ensures.writes_nothing) c.judge_receipts.ensures.writes_nothing
@@ -91,6 +97,7 @@ returns-in_err-read-7-clause-mode g c idle = c.judge_receipts.ensures.mode (c.ju
 pub returns-in_err-read-7-clause-told : goal.returns-in_err-read-7-clause-told
 returns-in_err-read-7-clause-told g c clean =
     let first = c.args.conn.now in
+    let version = c.args.version in
     let court = c.args.court in
     let next = c.args.next_row in
     let read = c.in_ok-read.ensures.ok in
@@ -100,14 +107,37 @@ returns-in_err-read-7-clause-told g c clean =
     let read = c.in_ok-read-5.ensures.ok first court next read in
     let read = c.in_ok-read-6.ensures.ok first court next read in
     let fault = c.in_err-read-7.field-0.0 in
-    told_of court next (state g.S.Store first) (state g.S.Store c.judge_receipts.new.conn) (λ r held. held ≡ holdings_of court r) c.from_residual-in_err-read-7.result fault c.from_residual-in_err-read-7.ensures.1
-    (c.in_err-read-7.ensures.err first court next read clean)
+    told_of version court next (state g.S.Store first) (state g.S.Store c.judge_receipts.new.conn) (λ r held. held ≡ holdings_of court r) c.from_residual-in_err-read-7.result fault c.from_residual-in_err-read-7.ensures.1
+    (c.in_err-read-7.ensures.err version first court next read clean)
+
+pub returns-in_err-held-clause-writes_nothing : goal.returns-in_err-held-clause-writes_nothing
+returns-in_err-held-clause-writes_nothing g c = nothing_then (nothing_then (nothing_then (nothing_then (nothing_then (nothing_then (nothing_then c.judge_calendar.ensures.writes_nothing c.judge_cases.ensures.writes_nothing) c.judge_parties.ensures.writes_nothing) c.judge_entries.ensures.writes_nothing) c.judge_deadlines.ensures.writes_nothing) c.judge_acts.ensures.writes_nothing) c.judge_receipts.ensures.writes_nothing) c.judge_ends.ensures.writes_nothing
+
+pub returns-in_err-held-clause-mode : goal.returns-in_err-held-clause-mode
+returns-in_err-held-clause-mode g c idle = c.judge_ends.ensures.mode (c.judge_receipts.ensures.mode (c.judge_acts.ensures.mode (c.judge_deadlines.ensures.mode (c.judge_entries.ensures.mode (c.judge_parties.ensures.mode (c.judge_cases.ensures.mode (c.judge_calendar.ensures.mode idle)))))))
+
+pub returns-in_err-held-clause-told : goal.returns-in_err-held-clause-told
+returns-in_err-held-clause-told g c clean =
+    let first = c.args.conn.now in
+    let version = c.args.version in
+    let court = c.args.court in
+    let next = c.args.next_row in
+    let read = c.in_ok-read.ensures.ok in
+    let read = c.in_ok-read-2.ensures.ok first court next read in
+    let read = c.in_ok-read-3.ensures.ok first court next read in
+    let read = c.in_ok-read-4.ensures.ok first court next read in
+    let read = c.in_ok-read-5.ensures.ok first court next read in
+    let read = c.in_ok-read-6.ensures.ok first court next read in
+    let read = c.in_ok-read-7.ensures.ok first court next read in
+    let fault = c.in_err-held.field-0.0 in
+    told_of version court next (state g.S.Store first) (state g.S.Store c.judge_ends.new.conn) (λ r held. held ≡ holdings_of court r) c.from_residual-in_err-held.result fault c.from_residual-in_err-held.ensures.1
+    (c.in_err-held.ensures.err version first court next read clean)
 
 pub returns-clause-writes_nothing : goal.returns-clause-writes_nothing
-returns-clause-writes_nothing g c = nothing_then (nothing_then (nothing_then (nothing_then (nothing_then (nothing_then (nothing_then c.judge_calendar.ensures.writes_nothing c.judge_cases.ensures.writes_nothing) c.judge_parties.ensures.writes_nothing) c.judge_entries.ensures.writes_nothing) c.judge_deadlines.ensures.writes_nothing) c.judge_acts.ensures.writes_nothing) c.judge_receipts.ensures.writes_nothing) c.judge_ends.ensures.writes_nothing
+returns-clause-writes_nothing g c = nothing_then (nothing_then (nothing_then (nothing_then (nothing_then (nothing_then (nothing_then (nothing_then c.judge_calendar.ensures.writes_nothing c.judge_cases.ensures.writes_nothing) c.judge_parties.ensures.writes_nothing) c.judge_entries.ensures.writes_nothing) c.judge_deadlines.ensures.writes_nothing) c.judge_acts.ensures.writes_nothing) c.judge_receipts.ensures.writes_nothing) c.judge_ends.ensures.writes_nothing) c.judge_more.ensures.writes_nothing
 
 pub returns-clause-mode : goal.returns-clause-mode
-returns-clause-mode g c idle = c.judge_ends.ensures.mode (c.judge_receipts.ensures.mode (c.judge_acts.ensures.mode (c.judge_deadlines.ensures.mode (c.judge_entries.ensures.mode (c.judge_parties.ensures.mode (c.judge_cases.ensures.mode (c.judge_calendar.ensures.mode idle)))))))
+returns-clause-mode g c idle = c.judge_more.ensures.mode (c.judge_ends.ensures.mode (c.judge_receipts.ensures.mode (c.judge_acts.ensures.mode (c.judge_deadlines.ensures.mode (c.judge_entries.ensures.mode (c.judge_parties.ensures.mode (c.judge_cases.ensures.mode (c.judge_calendar.ensures.mode idle))))))))
 
 pub returns-clause-told : goal.returns-clause-told
 returns-clause-told g c clean =
@@ -121,4 +151,5 @@ returns-clause-told g c clean =
     let read = c.in_ok-read-5.ensures.ok first court next read in
     let read = c.in_ok-read-6.ensures.ok first court next read in
     let read = c.in_ok-read-7.ensures.ok first court next read in
-    c.judge_ends.ensures.told first court next read clean
+    let held = c.in_ok-held.ensures.ok first court next read in
+    c.judge_more.ensures.told first court next held clean

@@ -28,3 +28,9 @@ returns-in-Receipts c = ap scan_text (sym c.in-Receipts.is)
 
 pub returns-in-Ends : goal.returns-in-Ends
 returns-in-Ends c = ap scan_text (sym c.in-Ends.is)
+
+pub returns-in-ShortDays : goal.returns-in-ShortDays
+returns-in-ShortDays c = ap scan_text (sym c.in-ShortDays.is)
+
+pub returns-in-LocalRules : goal.returns-in-LocalRules
+returns-in-LocalRules c = ap scan_text (sym c.in-LocalRules.is)

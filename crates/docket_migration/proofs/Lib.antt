@@ -1,0 +1,4 @@
+mod GrowLemmas
+mod MigrateLemmas
+mod SettleLemmas
+mod VersionLemmas

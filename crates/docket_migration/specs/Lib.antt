@@ -1,0 +1,4 @@
+pub mod Changing
+pub mod Growing
+pub mod Migrating
+pub mod Moving

@@ -1,0 +1,114 @@
+//! The change of the version, in one transaction.
+ghost use Rattle.std.specs.Prelude.{◌≡◌, ◌≢◌, ◌≤◌, ℕ, suc, [], ◌∷◌, length, Ok, Err, OnOk, false, true};
+ghost use Rattle.court_days.specs.Court.{CourtSettings};
+ghost use Rattle.docket_columns.specs.Cells.{court_cells, court_cells_of};
+ghost use Rattle.docket_columns.specs.declared.version.Version.TheVariants.{First};
+ghost use Rattle.sqlite.specs.Held.{state};
+ghost use Rattle.sqlite.specs.State.{HasCleanDisk, Executes, Shows as Turns};
+ghost use Rattle.sqlite.specs.View.{doubt};
+ghost use Rattle.sqlite.specs.declared.error.Error.TheVariants.{SqliteFailure};
+ghost use Rattle.sqlite.specs.declared.error.ErrorCode.TheVariants.{OutOfMemory};
+ghost use Rattle.docket_tables.specs.Layouts.{Rows, with_rows};
+ghost use Rattle.docket_tables.specs.Stands.{HoldsRowsIn, MakesNothing, Sees, StaysInside};
+ghost use Rattle.docket_tables.specs.Tables.{first_tables, layout_of};
+ghost use Rattle.docket_tables.specs.declared.fault.StoreFault.TheVariants.{NoMemory, StoreFailed};
+ghost use Rattle.docket_tables.specs.declared.table.Table.TheVariants as table;
+ghost use Rattle.docket_migration.specs.Changing.{Changes};
+ghost use Rattle.docket_migration.specs.Growing.{IsGrown, IsNew};
+ghost use Rattle.docket_migration.specs.Moving.{grown, moved, version_text};
+
+use docket_tables::{StoreFault, Table, create_text};
+use sqlite::{Alter, Connection, Error, ErrorCode, Transaction};
+
+/// Sets the version in the court's row. The number is that of `Version::Second`, by the contract.
+fn version_text() -> &'static str
+    ensures { result.now ≡ version_text }
+{
+    "UPDATE court SET version = 2 WHERE id = 1"
+}
+
+/// One statement of a transaction. Only the commit commits it.
+fn run<S: Alter>(tx: &mut Transaction<'_, S>, sql: &str) -> Result<(), Error>
+    ensures same_reference { tx.new.conn.ghost_name ≡ tx.old.conn.ghost_name }
+    ensures inside { StaysInside (state S.Store tx.old.conn.now) (state S.Store tx.new.conn.now) }
+    ensures runs { HasCleanDisk (state S.Store tx.new.conn.now) → OnOk result ((count : ℕ) × Executes sql.now [] (state S.Store tx.old.conn.now) (state S.Store tx.new.conn.now) (Ok count)
+        × Turns (state S.Store tx.old.conn.now) (state S.Store tx.new.conn.now) (state S.Store tx.new.conn.now).now (state S.Store tx.old.conn.now).committed true) }
+{
+    tx.execute(sql, &[])?;
+    Ok(())
+}
+
+/// Makes a table that the first version lacks.
+fn define<S: Alter>(tx: &mut Transaction<'_, S>, table: Table) -> Result<(), Error>
+    ensures same_reference { tx.new.conn.ghost_name ≡ tx.old.conn.ghost_name }
+    ensures inside { StaysInside (state S.Store tx.old.conn.now) (state S.Store tx.new.conn.now) }
+    ensures ok { HasCleanDisk (state S.Store tx.new.conn.now) → IsNew table → (rows : Rows) → IsGrown rows (layout_of table).at (state S.Store tx.old.conn.now)
+        → OnOk result (IsGrown rows (suc (layout_of table).at) (state S.Store tx.new.conn.now)) }
+{
+    run(tx, create_text(table))
+}
+
+/// Makes the tables that the first version lacks.
+fn add_tables<S: Alter>(tx: &mut Transaction<'_, S>) -> Result<(), Error>
+    ensures same_reference { tx.new.conn.ghost_name ≡ tx.old.conn.ghost_name }
+    ensures inside { StaysInside (state S.Store tx.old.conn.now) (state S.Store tx.new.conn.now) }
+    ensures ok { HasCleanDisk (state S.Store tx.new.conn.now) → (rows : Rows) → IsGrown rows (length first_tables) (state S.Store tx.old.conn.now)
+        → OnOk result (Sees (state S.Store tx.new.conn.now) (grown rows)) }
+{
+    define(tx, Table::ShortDays)?;
+    define(tx, Table::LocalRules)
+}
+
+/// Sets the second version in the court's row.
+fn set_version<S: Alter>(tx: &mut Transaction<'_, S>) -> Result<(), Error>
+    ensures same_reference { tx.new.conn.ghost_name ≡ tx.old.conn.ghost_name }
+    ensures inside { StaysInside (state S.Store tx.old.conn.now) (state S.Store tx.new.conn.now) }
+    ensures ok { HasCleanDisk (state S.Store tx.new.conn.now) → (court : CourtSettings) (next : ℕ) (rows : Rows) → rows table.Court ≡ court_cells_of First court next ∷ []
+        → Sees (state S.Store tx.old.conn.now) rows → OnOk result (Sees (state S.Store tx.new.conn.now) (with_rows table.Court (court_cells court next ∷ []) rows)) }
+{
+    run(tx, version_text())
+}
+
+/// Makes the tables, and sets the version.
+fn change_all<S: Alter>(tx: &mut Transaction<'_, S>) -> Result<(), Error>
+    ensures same_reference { tx.new.conn.ghost_name ≡ tx.old.conn.ghost_name }
+    ensures inside { StaysInside (state S.Store tx.old.conn.now) (state S.Store tx.new.conn.now) }
+    ensures ok { HasCleanDisk (state S.Store tx.new.conn.now) → (court : CourtSettings) (next : ℕ) (rows : Rows) → rows table.Court ≡ court_cells_of First court next ∷ []
+        → IsGrown rows (length first_tables) (state S.Store tx.old.conn.now) → OnOk result (Sees (state S.Store tx.new.conn.now) (moved court next rows)) }
+{
+    add_tables(tx)?;
+    set_version(tx)
+}
+
+/// What an error of a transaction that was dropped comes to.
+fn undone_fault(error: Error) -> StoreFault
+    ensures short { error ≡ SqliteFailure OutOfMemory → result ≡ NoMemory }
+    ensures other { error ≢ SqliteFailure OutOfMemory → result ≡ StoreFailed }
+{
+    if error == Error::SqliteFailure(ErrorCode::OutOfMemory) {
+        StoreFault::NoMemory
+    } else {
+        StoreFault::StoreFailed
+    }
+}
+
+/// Gives the tables of a docket the second version, in one transaction: the tables that the first lacks
+/// stand and the version is set, or nothing is changed. Where memory ran short nothing was changed, in
+/// whatever database; where the database failed, a power failure leaves the first version or the second.
+pub fn change_version<S: Alter>(conn: &mut Connection<S>) -> Result<(), StoreFault>
+    requires idle { conn.old.in_transaction ≡ false }
+    ensures idle { conn.new.in_transaction ≡ false }
+    ensures clean { doubt (state S.Store conn.old).is_clean ≤ doubt (state S.Store conn.new).is_clean }
+    ensures short { result ≡ Err NoMemory → MakesNothing S.Store conn.old conn.new }
+    ensures changed { (court : CourtSettings) (next : ℕ) (rows : Rows) → rows table.Court ≡ court_cells_of First court next ∷ [] → HoldsRowsIn S.Store First conn.old rows
+        → Changes S.Store conn.old conn.new rows (moved court next rows) result }
+{
+    let mut tx = conn.transaction();
+    if let Err(error) = change_all(&mut tx) {
+        return Err(undone_fault(error));
+    }
+    match tx.commit() {
+        Ok(()) => Ok(()),
+        Err(_) => Err(StoreFault::StoreFailed),
+    }
+}
