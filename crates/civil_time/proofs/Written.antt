@@ -75,6 +75,9 @@ clock_text-ascii minute h =
     IsAscii-append (two_digits (minute / 60)) (58 ∷ two_digits (minute % 60)) (two_digits-ascii (minute / 60) (omega arith))
     (IsAscii-cons 58 (two_digits (minute % 60)) (omega arith) (two_digits-ascii (minute % 60) (omega arith)))
 
+pub clock_text-utf8 : (minute : ℕ) → minute < 1440 → IsUtf8 (clock_text minute)
+clock_text-utf8 minute h = IsUtf8-from_ascii _ (clock_text-ascii minute h)
+
 hours_text-ascii : (n : ℕ) → n ≤ 13 → IsAscii (hours_text n)
 hours_text-ascii n h = IsAscii-append (two_digits n) (58 ∷ 48 ∷ 48 ∷ []) (two_digits-ascii n (omega arith)) (ascii_from (58 ∷ 48 ∷ 48 ∷ []) (omega arith, (omega arith, (omega arith, tt))))
 

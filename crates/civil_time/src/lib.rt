@@ -15,7 +15,7 @@ mod zone_text;
 pub use day::{Day, ymd_of};
 pub use day_text::{day_bytes, read_day};
 pub use laws::{months_are_found, texts_are_read_back};
-pub use moment::read_moment;
+pub use moment::{clock_bytes, read_moment};
 pub use months::{months_earlier, months_later};
 pub use reading::read_time_of_day;
 pub use zone::{ChangeDate, SummerTime, Zone};

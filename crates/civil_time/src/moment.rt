@@ -102,10 +102,11 @@ fn two_digits(number: u32) -> [u8; 2]
     [b'0' + (number / 10) as u8, b'0' + (number % 10) as u8]
 }
 
-/// A time of day, as `HH:MM`.
-fn clock_bytes(minute: u32) -> [u8; 5]
+/// A time of day, in minutes after 00:00, as `HH:MM`.
+pub fn clock_bytes(minute: u32) -> [u8; 5]
     requires { minute < 1440 }
-    ensures { result ≡ clock_text minute }
+    ensures value { result ≡ clock_text minute }
+    ensures text { IsUtf8 result }
 {
     let [h, hour] = two_digits(minute / 60);
     let [m, minute] = two_digits(minute % 60);

@@ -37,8 +37,8 @@ use Rattle.court_days.proofs.CourtLemmas.{zone_of-within}
 use Rattle.count_lines.proofs.CourtTexts.{moment_word, zone_text}
 use Rattle.count_lines.proofs.TextNames.{is_word_byte, is_word}
 use Rattle.count_lines.specs.declared.request.Request.{Request}
-use Rattle.count_lines.specs.declared.request.Request.TheVariants.{Enter, Span, Zone, CountDays, CountMonths, CountHours, ByRule}
-use Rattle.count_lines.specs.Requests.{◌>>=◌, value_if, cut_word, words_of, entered_day_of, is_number, number_of, enter_of, count_of, direction_named, months_of, hours_of, rule_of, span_of, court_named, zone_of_line, asked_by, request_of, IsAsked}
+use Rattle.count_lines.specs.declared.request.Request.TheVariants.{Enter, Span, Short, Zone, CountDays, CountMonths, CountHours, ByRule, Closing}
+use Rattle.count_lines.specs.Requests.{◌>>=◌, value_if, cut_word, words_of, entered_day_of, is_number, number_of, enter_of, count_of, direction_named, months_of, hours_of, rule_of, span_of, short_of, closing_of, court_named, zone_of_line, asked_by, request_of, IsAsked}
 use Rattle.count_lines.specs.Spelling.{spaced, kind_word, direction_word, day_and_count, SpellsSpan, SpellsHours, SpellsCourt, Spells}
 
 -- what a chain that succeeds went through
@@ -257,6 +257,35 @@ hours-read text request h =
     subst (λ r. IsAsked r × Spells r (spaced (codes "hours") text)) test.1
     ((moment.limits, limits.0, limits.1), (words.0.1, (rest.0.0, moment, behind), ap (spaced (codes "hours")) whole))
 
+time-read : (text : List ℕ) (minute : ℕ) → time_of_day_at text ≡ Some minute → SpellsTimeOfDay minute text
+time-read text minute h =
+    let clock = bound (clock_at text) (λ clock. if length clock.1 == 0 then Some clock.0 else None) minute h in
+    let ended = reading.tested (length clock.0.1 == 0) clock.0.0 minute clock.2 in
+    let spelled = reading.clock_sound text clock.0 clock.1 in
+    subst (λ m. SpellsTimeOfDay m text) ended.1
+    (spelled.0, spelled.1 ∙ ap (λ t. clock_text clock.0.0 ++ t) (reading.empty clock.0.1 ended.0) ∙ append-nil (clock_text clock.0.0))
+
+short-read : (text : List ℕ) (request : Request) → short_of text ≡ Some request
+    → IsAsked request × Spells request (spaced (codes "short") text)
+short-read text request h =
+    let words = bound (words_of text) (λ words. entered_day_of words.0 >>= λ day. time_of_day_at words.1 >>= λ minute. Some (Short day minute)) request h in
+    let day = bound (entered_day_of words.0.0) (λ day. time_of_day_at words.0.1 >>= λ minute. Some (Short day minute)) request words.2 in
+    let minute = bound (time_of_day_at words.0.1) (λ minute. Some (Short day.0 minute)) request day.2 in
+    let read = day-read words.0.0 day.0 day.1 in
+    let time = time-read words.0.1 minute.0 minute.1 in
+    let joined : text ≡ spaced (day_text day.0) (clock_text minute.0) =
+    cut-joined [] text words.0.0 words.0.1 words.1
+    ∙ ap (λ word. spaced word words.0.1) read.1 ∙ ap (spaced (day_text day.0)) time.1 in
+    subst (λ r. IsAsked r × Spells r (spaced (codes "short") text)) (some_same minute.2)
+    ((read.0, time.0), ap (spaced (codes "short")) joined)
+
+closing-read : (text : List ℕ) (request : Request) → closing_of text ≡ Some request
+    → IsAsked request × Spells request (spaced (codes "closing") text)
+closing-read text request h =
+    let day = bound (entered_day_of text) (λ day. Some (Closing day)) request h in
+    let read = day-read text day.0 day.1 in
+    subst (λ r. IsAsked r × Spells r (spaced (codes "closing") text)) (some_same day.2) (read.0, ap (spaced (codes "closing")) read.1)
+
 zone-read : (text : List ℕ) (request : Request) → zone_of_line text ≡ Some request
     → IsAsked request × Spells request (spaced (codes "zone") text)
 zone-read text request h =
@@ -264,15 +293,10 @@ zone-read text request h =
     let court = bound (court_named words.0.0 words.0.1) (λ court. Some (Zone court)) request words.2 in
     let zone = bound (zone_at words.0.0) (λ rules. time_of_day_at words.0.1 >>= λ minute. Some (record { zone_text = words.0.0; close_minute = minute })) court.0 court.1 in
     let close = bound (time_of_day_at words.0.1) (λ minute. Some (record { zone_text = words.0.0; close_minute = minute })) court.0 zone.2 in
-    let clock = bound (clock_at words.0.1) (λ clock. if length clock.1 == 0 then Some clock.0 else None) close.0 close.1 in
-    let ended = reading.tested (length clock.0.1 == 0) clock.0.0 close.0 clock.2 in
-    let spelled = reading.clock_sound words.0.1 clock.0 clock.1 in
-    let time : SpellsTimeOfDay clock.0.0 words.0.1 =
-    (spelled.0, spelled.1 ∙ ap (λ t. clock_text clock.0.0 ++ t) (reading.empty clock.0.1 ended.0) ∙ append-nil (clock_text clock.0.0)) in
     let own : CourtSettings = record { zone_text = words.0.0; close_minute = close.0 } in
     let within = zone_of-within own zone.0 zone.1 in
     let is_zone : SpellsZone (zone_of own) words.0.0 = subst (λ z. SpellsZone z words.0.0) (sym within.0) (zone_sound words.0.0 zone.0 zone.1) in
-    let is_time : SpellsTimeOfDay close.0 words.0.1 = subst (λ m. SpellsTimeOfDay m words.0.1) ended.1 time in
+    let is_time = time-read words.0.1 close.0 close.1 in
     subst (λ r. IsAsked r × Spells r (spaced (codes "zone") text)) (ap Zone (some_same close.2) ∙ some_same court.2)
     (tt, (text, (words.0.1, is_zone, is_time, cut-joined [] text words.0.0 words.0.1 words.1), refl))
 
@@ -297,7 +321,9 @@ by_word-read word text request h =
     either word (codes "months") _ _ request h (λ is read. rw is (months-read text request read)) (λ h.
     either word (codes "rule") _ _ request h (λ is read. rw is (rule-read text request read)) (λ h.
     either word (codes "span") _ _ request h (λ is read. rw is (span-read text request read)) (λ h.
-    either word (codes "hours") (hours_of text) None request h (λ is read. rw is (hours-read text request read)) (λ h. cc)))))))))
+    either word (codes "hours") _ _ request h (λ is read. rw is (hours-read text request read)) (λ h.
+    either word (codes "short") _ _ request h (λ is read. rw is (short-read text request read)) (λ h.
+    either word (codes "closing") (closing_of text) None request h (λ is read. rw is (closing-read text request read)) (λ h. cc)))))))))))
 
 pub read-spelled : (line : List ℕ) (request : Request) → request_of line ≡ Some request → IsAsked request × Spells request line
 read-spelled line request h =
@@ -353,6 +379,10 @@ zone-spelled : (court : CourtSettings) (text : List ℕ) → SpellsCourt court t
 zone-spelled court text (close, is_zone, is_close, is) =
     rw (is, cut-words [] court.zone_text close (zone_text (zone_of court) court.zone_text is_zone), (read_as_spelled court.zone_text (zone_at court.zone_text) refl (zone_of court)).1 is_zone, time-spelled court.close_minute close is_close) refl
 
+short-spelled : (day minute : ℕ) → IsAsked (Short day minute) → short_of (spaced (day_text day) (clock_text minute)) ≡ Some (Short day minute)
+short-spelled day minute asked =
+    rw (cut-day day (clock_text minute), day-spelled day asked.0, time-spelled minute (clock_text minute) (asked.1, refl)) refl
+
 pub spelled-read : (line : List ℕ) (request : Request) → IsAsked request → Spells request line → request_of line ≡ Some request
 spelled-read line (Enter Federal day) asked spells = rw (spells, day-spelled day asked) refl
 spelled-read line (Enter State day) asked spells = rw (spells, day-spelled day asked) refl
@@ -366,3 +396,5 @@ spelled-read line (Span start end) asked (text, spelled, is) = rw is (span-spell
 spelled-read line (Zone court) asked (text, spelled, is) = rw is (zone-spelled court text spelled)
 spelled-read line (CountHours Forward at count) asked (text, spelled, is) = rw is (hours-spelled Forward at count text asked spelled)
 spelled-read line (CountHours Backward at count) asked (text, spelled, is) = rw is (hours-spelled Backward at count text asked spelled)
+spelled-read line (Short day minute) asked spells = rw spells (short-spelled day minute asked)
+spelled-read line (Closing day) asked spells = rw (spells, day-spelled day asked) refl

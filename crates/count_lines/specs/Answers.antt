@@ -1,22 +1,24 @@
 -- The lines of `count`: what each is answered, by what the lines before it entered.
 use Rattle.std.specs.Prelude.{ℕ, ◌==◌, Bool, true, false, ◌&&◌, nat_le, nat_lt, List, [], ◌∷◌, ◌++◌, Option, None, Some, codes, if◌then◌else◌}
+use Rattle.std.specs.FinMap.{contains_key}
 use Rattle.std.specs.FinSet.{contains}
 use Rattle.civil_time.specs.DayText.{day_text}
 use Rattle.civil_time.specs.LocalTime.{local_day, seconds}
-use Rattle.civil_time.specs.MomentText.{moment_text}
-use Rattle.court_days.specs.Calendar.{Entered, no_days, days_of, with_day, with_span, rows_of}
+use Rattle.civil_time.specs.MomentText.{clock_text, moment_text}
+use Rattle.court_days.specs.Calendar.{Entered, no_days, days_of, with_day, with_span, with_short, rows_of}
 use Rattle.court_days.specs.Court.{CourtSettings, zone_of}
 use Rattle.court_days.specs.Ends.{end_of_days, end_of_months}
 use Rattle.court_days.specs.HourEnds.{end_of_hours}
+use Rattle.court_days.specs.Timely.{closing}
 use Rattle.court_days.specs.declared.calendar.Direction.{Direction}
 use Rattle.court_rules.specs.Ends.{end_by_rule}
 use Rattle.court_days.specs.declared.calendar.DayKind.{DayKind}
 use Rattle.line_io.specs.Report.{Judged}
 use Rattle.count_lines.specs.Requests.{request_of}
 use Rattle.count_lines.specs.declared.request.Request.{Request}
-use Rattle.count_lines.specs.declared.request.Request.TheVariants.{Enter, Span, Zone, CountDays, CountMonths, CountHours, ByRule}
+use Rattle.count_lines.specs.declared.request.Request.TheVariants.{Enter, Span, Short, Zone, CountDays, CountMonths, CountHours, ByRule, Closing}
 use Rattle.count_lines.specs.declared.answer.Answer.{Answer}
-use Rattle.count_lines.specs.declared.answer.Answer.TheVariants.{Empty, Done, Full, Bad, LastDay, Moment}
+use Rattle.count_lines.specs.declared.answer.Answer.TheVariants.{Empty, Done, Full, Bad, LastDay, Moment, Clock}
 use Rattle.count_lines.specs.declared.count.Counter.{Counter}
 
 -- what the lines so far left: the court in which they are read, and its calendar
@@ -58,6 +60,13 @@ spanning state start end =
     then entered_as state (contains state.calendar.spans (record { start = start; end = end })) (with_span state.calendar start end)
     else (Bad, state)
 
+-- a short day closes before the court does; it stays short where the court's closing time changes later
+abbrev pub shortening : CourtState → ℕ → ℕ → Outcome
+shortening state day minute =
+    if nat_lt minute state.court.close_minute
+    then entered_as state (contains_key state.calendar.short day) (with_short state.calendar day minute)
+    else (Bad, state)
+
 -- a time that the court ordered has no period of its own: `rule order ..` is bad
 abbrev pub last_day : Option ℕ → Answer
 last_day (Some day) = LastDay day
@@ -74,11 +83,13 @@ abbrev pub outcome_of : CourtState → Option Request → Outcome
 outcome_of state None = (Bad, state)
 outcome_of state (Some (Enter kind day)) = entering state kind day
 outcome_of state (Some (Span start end)) = spanning state (seconds start) (seconds end)
+outcome_of state (Some (Short day minute)) = shortening state day minute
 outcome_of state (Some (Zone court)) = (Done, record state { court = court })
 outcome_of state (Some (CountDays direction day count)) = (LastDay (end_of_days state.calendar direction day count), state)
 outcome_of state (Some (CountMonths direction day count)) = (LastDay (end_of_months state.calendar direction day count), state)
 outcome_of state (Some (CountHours direction at count)) = (after_hours state direction (seconds at) count, state)
 outcome_of state (Some (ByRule rule day method)) = (last_day (end_by_rule state.calendar rule day method), state)
+outcome_of state (Some (Closing day)) = (Clock (clock_text (closing state.court state.calendar day)), state)
 
 -- what a line comes to
 abbrev pub outcome : CourtState → List ℕ → Outcome
@@ -92,6 +103,7 @@ answer_text Full = codes "full"
 answer_text Bad = codes "bad"
 answer_text (LastDay day) = day_text day
 answer_text (Moment text) = text
+answer_text (Clock text) = text
 
 abbrev pub counts_as_bad : Answer → Bool
 counts_as_bad Full = true

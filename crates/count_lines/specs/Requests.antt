@@ -9,7 +9,7 @@ use Rattle.civil_time.specs.LocalTime.{IsMoment}
 use Rattle.civil_time.specs.MomentText.{moment_at}
 use Rattle.civil_time.specs.Reading.{time_of_day_at}
 use Rattle.civil_time.specs.ZoneText.{zone_at}
-use Rattle.court_days.specs.Civil.{IsEnteredDay}
+use Rattle.court_days.specs.Civil.{IsEnteredDay, IsEnteredShort}
 use Rattle.court_days.specs.Court.{CourtSettings}
 use Rattle.court_days.specs.declared.calendar.DayKind.{DayKind}
 use Rattle.court_days.specs.declared.calendar.DayKind.TheVariants.{Federal, State, Closed}
@@ -18,7 +18,7 @@ use Rattle.court_days.specs.declared.calendar.Direction.TheVariants.{Forward, Ba
 use Rattle.court_rules.specs.Methods.{method_named}
 use Rattle.court_rules.specs.Rules.{rule_named}
 use Rattle.count_lines.specs.declared.request.Request.{Request}
-use Rattle.count_lines.specs.declared.request.Request.TheVariants.{Enter, Span, Zone, CountDays, CountMonths, CountHours, ByRule}
+use Rattle.count_lines.specs.declared.request.Request.TheVariants.{Enter, Span, Short, Zone, CountDays, CountMonths, CountHours, ByRule, Closing}
 
 infixl 10 ◌>>=◌
 abbrev pub ◌>>=◌ : {A B : Type 0} → Option A → (A → Option B) → Option B
@@ -109,6 +109,20 @@ span_of text = do
   end ← moment_at words.1
   Some (Span start end)
 
+-- DAY HH:MM, after `short`
+abbrev pub short_of : List ℕ → Option Request
+short_of text = do
+  words ← words_of text
+  day ← entered_day_of words.0
+  minute ← time_of_day_at words.1
+  Some (Short day minute)
+
+-- DAY, after `closing`
+abbrev pub closing_of : List ℕ → Option Request
+closing_of text = do
+  day ← entered_day_of text
+  Some (Closing day)
+
 -- the court whose zone and closing time the texts spell
 abbrev pub court_named : List ℕ → List ℕ → Option CourtSettings
 court_named zone close = do
@@ -135,7 +149,9 @@ asked_by word text =
     else (if bytes_eq word (codes "rule") then rule_of text
     else (if bytes_eq word (codes "span") then span_of text
     else (if bytes_eq word (codes "hours") then hours_of text
-    else None))))))))
+    else (if bytes_eq word (codes "short") then short_of text
+    else (if bytes_eq word (codes "closing") then closing_of text
+    else None))))))))))
 
 -- what a line asks for, if it is of one of these forms and its values lie in their limits
 abbrev pub request_of : List ℕ → Option Request
@@ -143,7 +159,7 @@ request_of line = do
   words ← words_of line
   if bytes_eq words.0 (codes "zone") then zone_of_line words.1 else asked_by words.0 words.1
 
--- the days may be entered, the moments are in their range, and the counts within their limits
+-- the days may be entered, the moments and the times of day are in their range, and the counts within their limits
 abbrev pub IsAsked : Request → Type 0
 IsAsked (Enter kind day) = IsEnteredDay day
 IsAsked (CountDays direction day count) = IsEnteredDay day × (1 ≤ count) × (count ≤ 3650)
@@ -151,4 +167,6 @@ IsAsked (CountMonths direction day count) = IsEnteredDay day × (1 ≤ count) ×
 IsAsked (CountHours direction at count) = IsMoment at × (1 ≤ count) × (count ≤ 8760)
 IsAsked (ByRule rule day method) = IsEnteredDay day
 IsAsked (Span start end) = IsMoment start × IsMoment end
+IsAsked (Short day minute) = IsEnteredShort day minute
+IsAsked (Closing day) = IsEnteredDay day
 IsAsked (Zone court) = ⊤

@@ -3,6 +3,7 @@ use Rattle.std.specs.Prelude.{◌≡◌, ℕ, ℤ, List, ◌∷◌, ◌++◌, co
 use Rattle.std.specs.Fmt.{decimal}
 use Rattle.civil_time.specs.DayText.{day_text}
 use Rattle.civil_time.specs.MomentGrammar.{SpellsMoment, SpellsTimeOfDay}
+use Rattle.civil_time.specs.MomentText.{clock_text}
 use Rattle.civil_time.specs.ZoneGrammar.{SpellsZone}
 use Rattle.court_days.specs.Court.{CourtSettings, zone_of}
 use Rattle.court_days.specs.declared.calendar.DayKind.{DayKind}
@@ -12,7 +13,7 @@ use Rattle.court_days.specs.declared.calendar.Direction.TheVariants.{Forward, Ba
 use Rattle.court_rules.specs.Methods.{method_name}
 use Rattle.court_rules.specs.Rules.{name_of}
 use Rattle.count_lines.specs.declared.request.Request.{Request}
-use Rattle.count_lines.specs.declared.request.Request.TheVariants.{Enter, Span, Zone, CountDays, CountMonths, CountHours, ByRule}
+use Rattle.count_lines.specs.declared.request.Request.TheVariants.{Enter, Span, Short, Zone, CountDays, CountMonths, CountHours, ByRule, Closing}
 
 -- two texts with a space between them
 abbrev pub spaced : List ℕ → List ℕ → List ℕ
@@ -46,8 +47,8 @@ SpellsCourt court text =
     (close : List ℕ) × SpellsZone (zone_of court) court.zone_text × SpellsTimeOfDay court.close_minute close
     × (text ≡ spaced court.zone_text close)
 
--- `federal DAY`, `span MOMENT MOMENT`, `zone ZONE HH:MM`, `forward DAY N`, `months forward DAY N`, `hours forward MOMENT N`
--- and `rule NAME DAY METHOD`
+-- `federal DAY`, `span MOMENT MOMENT`, `short DAY HH:MM`, `zone ZONE HH:MM`, `forward DAY N`, `months forward DAY N`,
+-- `hours forward MOMENT N`, `rule NAME DAY METHOD` and `closing DAY`
 abbrev pub Spells : Request → List ℕ → Type 0
 Spells (Enter kind day) line = line ≡ spaced (kind_word kind) (day_text day)
 Spells (CountDays direction day count) line = line ≡ spaced (direction_word direction) (day_and_count day count)
@@ -56,6 +57,8 @@ Spells (CountMonths direction day count) line =
 Spells (ByRule rule day method) line =
     line ≡ spaced (codes "rule") (spaced (name_of rule) (spaced (day_text day) (method_name method)))
 Spells (Span start end) line = (text : List ℕ) × SpellsSpan start end text × (line ≡ spaced (codes "span") text)
+Spells (Short day minute) line = line ≡ spaced (codes "short") (spaced (day_text day) (clock_text minute))
+Spells (Closing day) line = line ≡ spaced (codes "closing") (day_text day)
 Spells (Zone court) line = (text : List ℕ) × SpellsCourt court text × (line ≡ spaced (codes "zone") text)
 Spells (CountHours direction at count) line =
     (text : List ℕ) × SpellsHours at count text × (line ≡ spaced (codes "hours") (spaced (direction_word direction) text))

@@ -21,6 +21,8 @@ pub enum Answer {
     LastDay(Day),
     /// The end of a period of hours, as the text of a moment.
     Moment([u8; 22]),
+    /// When the clerk's office closes, as the text of a time of day.
+    Clock([u8; 5]),
 }
 
 /// Writes the answer and a line feed behind `out`.
@@ -35,6 +37,7 @@ pub(crate) fn write_answer(answer: &Answer, out: &mut Vec<u8>) -> Result<(), All
         Answer::Bad => out.extend_from_slice(b"bad\n"),
         Answer::LastDay(day) => write_day(day, out),
         Answer::Moment(text) => write_moment(text, out),
+        Answer::Clock(text) => write_clock(text, out),
     }
 }
 
@@ -55,6 +58,16 @@ fn write_moment(text: [u8; 22], out: &mut Vec<u8>) -> Result<(), AllocError>
 {
     let mut line = [b'\n'; 23];
     line[..22].copy_from_slice(&text);
+    out.extend_from_slice(&line)
+}
+
+/// Writes the text of a time of day and a line feed behind `out`.
+fn write_clock(text: [u8; 5], out: &mut Vec<u8>) -> Result<(), AllocError>
+    ensures ok { OnOk result (out.new.items ≡ out.old.items ++ (text ++ 10 ∷ [])) }
+    ensures err { OnErr result (out.new.items ≡ out.old.items) }
+{
+    let mut line = [b'\n'; 6];
+    line[..5].copy_from_slice(&text);
     out.extend_from_slice(&line)
 }
 

@@ -4,16 +4,17 @@ ghost use Rattle.std.specs.Io.KnownBytes.{Appends};
 ghost use Rattle.line_io.specs.Lines.{lines_of};
 ghost use Rattle.line_io.specs.Output.{HasFront};
 ghost use Rattle.civil_time.specs.LocalTime.{IsMoment, seconds};
-ghost use Rattle.count_lines.specs.Answers.{outcome, outcome_of, entering, spanning, after_hours, last_day, state_of};
+ghost use Rattle.count_lines.specs.Answers.{outcome, outcome_of, entering, spanning, shortening, after_hours, last_day, state_of};
 ghost use Rattle.count_lines.specs.Requests.{IsAsked};
 ghost use Rattle.count_lines.specs.Count.{count_text, bad_answers};
 
 use crate::answer::{Answer, counts_as_bad, write_answer};
 use crate::fault::RunFault;
 use crate::request::{Request, read_request};
+use civil_time::clock_bytes;
 use court_days::{
-    Calendar, CalendarFault, Court, Day, DayKind, Direction, count_days, count_hours, count_months,
-    is_entered,
+    Calendar, CalendarFault, Court, Day, DayKind, Direction, closing, count_days, count_hours,
+    count_months, is_entered,
 };
 use line_io::{Answerer, CountEnd, run_lines};
 use std::alloc::{AllocError, Global};
@@ -101,6 +102,21 @@ impl Counter {
         }
     }
 
+    fn shorten(&mut self, day: Day, minute: u32) -> Result<Answer, AllocError>
+        requires { IsAsked (Request.Short day minute) }
+        ensures { IfOk result (λ answer. (answer, state_of self.new) ≡ shortening (state_of self.old) day minute) }
+    {
+        if minute >= self.court.close_minute() {
+            return Ok(Answer::Bad);
+        }
+        match self.calendar.add_short(day, minute) {
+            Ok(_) => Ok(Answer::Done),
+            Err(CalendarFault::Full) => Ok(Answer::Full),
+            Err(CalendarFault::OutOfRange) => Ok(Answer::Bad),
+            Err(CalendarFault::NoMemory) => Err(AllocError),
+        }
+    }
+
     /// The end of a period of hours, where its moment has a local day that a court may enter.
     fn after_hours(&self, direction: Direction, at: i64, count: u32) -> Answer
         requires moment { IsMoment at }
@@ -123,6 +139,7 @@ impl Counter {
         match request {
             Request::Enter(kind, day) => self.enter(kind, day),
             Request::Span(start, end) => self.span(start, end),
+            Request::Short(day, minute) => self.shorten(day, minute),
             Request::Zone(court) => {
                 self.court = court;
                 Ok(Answer::Done)
@@ -136,6 +153,10 @@ impl Counter {
             Request::CountHours(direction, at, count) => Ok(self.after_hours(direction, at, count)),
             Request::ByRule(rule, trigger, method) => {
                 Ok(last_day(rule.end(&self.calendar, trigger, method)))
+            }
+            Request::Closing(day) => {
+                let minute = closing(&self.court, &self.calendar, day);
+                Ok(Answer::Clock(clock_bytes(minute)))
             }
         }
     }

@@ -2,8 +2,9 @@
 ghost use Rattle.std.specs.Prelude.{◌≡◌, ◌≤◌, ℕ, [], option_map, IfOk, IfSome};
 ghost use Rattle.court_rules.specs.Methods.{method_named};
 ghost use Rattle.court_rules.specs.Rules.{rule_named};
-ghost use Rattle.count_lines.specs.Requests.{words_of, entered_day_of, number_of, enter_of, count_of, direction_named, months_of, hours_of, rule_of, span_of, court_named, zone_of_line, asked_by, request_of, IsAsked};
+ghost use Rattle.count_lines.specs.Requests.{words_of, entered_day_of, number_of, enter_of, count_of, direction_named, months_of, hours_of, rule_of, span_of, short_of, closing_of, court_named, zone_of_line, asked_by, request_of, IsAsked};
 
+use civil_time::read_time_of_day;
 use court_days::{Court, CourtFault, Day, DayKind, Direction, is_entered, read_day, read_moment};
 use court_rules::{Method, Rule};
 use memchr::memchr;
@@ -17,6 +18,8 @@ pub enum Request {
     Enter(DayKind, Day),
     /// `span MOMENT MOMENT`: enter a span of time, from its start up to but not with its end.
     Span(i64, i64),
+    /// `short DAY HH:MM`: enter a day on which the clerk's office closes earlier, at that minute.
+    Short(Day, u32),
     /// `zone ZONE HH:MM`: the court for the lines that follow.
     Zone(Court),
     /// `forward DAY N` or `backward DAY N`: the end of a period of that many days.
@@ -28,6 +31,8 @@ pub enum Request {
     /// `rule NAME DAY METHOD`: the end of the time that the rule sets, from that day, for a party
     /// that was served by the method.
     ByRule(Rule, Day, Method),
+    /// `closing DAY`: when the clerk's office is scheduled to close on the day.
+    Closing(Day),
 }
 
 /// The first word, and what stands behind the space after it.
@@ -166,6 +171,24 @@ fn read_span(text: &[u8]) -> Option<Request>
     Some(Request::Span(start, end))
 }
 
+fn read_short(text: &[u8]) -> Option<Request>
+    ensures value { result ≡ short_of text.now }
+    ensures asked { IfSome result IsAsked }
+{
+    let (day, close) = split_word(text)?;
+    let day = read_entered_day(day)?;
+    let minute = read_time_of_day(close)?;
+    Some(Request::Short(day, minute))
+}
+
+fn read_closing(text: &[u8]) -> Option<Request>
+    ensures value { result ≡ closing_of text.now }
+    ensures asked { IfSome result IsAsked }
+{
+    let day = read_entered_day(text)?;
+    Some(Request::Closing(day))
+}
+
 /// The court whose zone and closing time the texts spell.
 fn read_court(alloc: Global, zone: &[u8], close: &[u8]) -> Result<Option<Court>, AllocError>
     ensures { IfOk result (λ court. court ≡ court_named zone.now close.now) }
@@ -228,6 +251,12 @@ fn read_by_word(word: &[u8], text: &[u8]) -> Option<Request>
     }
     if word == b"hours".as_slice() {
         return read_hours(text);
+    }
+    if word == b"short".as_slice() {
+        return read_short(text);
+    }
+    if word == b"closing".as_slice() {
+        return read_closing(text);
     }
     None
 }

@@ -1,10 +1,12 @@
-//! What a court has entered: declared holidays, and the days and the spans of time in which the
-//! clerk's office was closed.
+//! What a court has entered: declared holidays, the days and the spans of time in which the clerk's
+//! office was closed, and the days on which it is scheduled to close earlier.
 ghost use Rattle.std.specs.Prelude.{◌≡◌, ℕ, ◌+◌, ◌-◌, ◌≤◌, ◌<◌, ◌↔◌, ◌≢◌, true, false, IsTrue, IfSome, IfNone, IfOk, OnOk, OnErr};
 ghost use Rattle.civil_time.specs.LocalTime.{seconds};
-ghost use Rattle.court_days.specs.Civil.{IsEnteredDay, IsEnteredSpan};
+ghost use Rattle.court_days.specs.Calendar.{short_close};
+ghost use Rattle.court_days.specs.Civil.{IsEnteredDay, IsEnteredSpan, IsEnteredShort};
 
 use crate::day_set::DaySet;
+use crate::short_days::ShortDays;
 use crate::span_set::{Span, SpanSet};
 use civil_time::Day;
 use std::alloc::{AllocFailed, Global};
@@ -21,6 +23,9 @@ const FIRST_ENTERED_INSTANT: i64 = 946_598_400;
 
 /// 2100-01-02T00:00Z, the last instant at which an entered span may end.
 const LAST_ENTERED_INSTANT: i64 = 4_102_531_200;
+
+/// How many minutes a day has.
+const MINUTES_OF_A_DAY: u32 = 1440;
 
 /// How many rows a calendar holds at most.
 const MAX_ROWS: usize = 4000;
@@ -43,9 +48,9 @@ pub enum DayKind {
     Closed,
 }
 
-/// Why a day or a span was not entered: the day is not one of 2000-01-01 to 2099-12-31, or the span
-/// is empty or not within 1999-12-31T00:00Z to 2100-01-02T00:00Z; the calendar holds 4,000 rows
-/// already; or memory ran out.
+/// Why a day or a span was not entered: the day is not one of 2000-01-01 to 2099-12-31, the minute at
+/// which the office closes is none of a day, or the span is empty or not within 1999-12-31T00:00Z to
+/// 2100-01-02T00:00Z; the calendar holds 4,000 rows already; or memory ran out.
 #[derive(Clone, Copy, Debug, PartialEq, Eq, Hash)]
 pub enum CalendarFault {
     OutOfRange,
@@ -53,14 +58,16 @@ pub enum CalendarFault {
     NoMemory,
 }
 
-/// What a court has entered: days of 2000-01-01 to 2099-12-31, each once under a kind, and spans of
-/// time in which the clerk's office was closed, each once. Together they are at most 4,000 rows.
+/// What a court has entered: days of 2000-01-01 to 2099-12-31, each once under a kind, spans of time
+/// in which the clerk's office was closed, each once, and days on which it is scheduled to close
+/// earlier, each once. Together they are at most 4,000 rows.
 #[derive(Debug, Drop)]
 pub struct Calendar {
     federal: DaySet,
     state: DaySet,
     closed: DaySet,
     spans: SpanSet,
+    short: ShortDays,
 }
 
 impl Model for Calendar {
@@ -110,8 +117,22 @@ fn entered_span(start: i64, end: i64) -> Option<Span>
     })
 }
 
+/// Whether a court may enter the day as one on which the office closes at the minute.
+fn is_entered_short(day: Day, minute: u32) -> bool
+    ensures { IsTrue result ↔ IsEnteredShort day minute }
+{
+    is_entered(day) && minute < MINUTES_OF_A_DAY
+}
+
+/// The minute of the day at which the office is scheduled to close, if the day is short.
+pub fn short_close(calendar: &Calendar, day: Day) -> Option<u32>
+    ensures { result ≡ short_close calendar.now day }
+{
+    calendar.short.get(day)
+}
+
 impl Calendar {
-    ghost use Rattle.court_days.specs.Calendar.{Holds, HoldsSpan, no_days, with_day, with_span, rows_of, IsWithinLimits};
+    ghost use Rattle.court_days.specs.Calendar.{Holds, HoldsSpan, IsShort, no_days, with_day, with_span, with_short, rows_of, IsWithinLimits};
     ghost use Rattle.court_days.specs.Spans.{Meets};
 
     /// A calendar in which nothing is entered. It takes no memory yet.
@@ -123,16 +144,18 @@ impl Calendar {
             state: DaySet::new(alloc),
             closed: DaySet::new(alloc),
             spans: SpanSet::new(alloc),
+            short: ShortDays::new(alloc),
         }
     }
 
-    /// How many rows stand, days and spans: at most 4,000.
+    /// How many rows stand, days, spans and short days: at most 4,000.
     pub fn len(&self) -> usize
         ensures value { result ≡ rows_of self.now }
         ensures limits { IsWithinLimits self.now }
         ensures room { rows_of self.now ≤ 4000 }
     {
-        self.federal.len() + self.state.len() + self.closed.len() + self.spans.len()
+        let days = self.federal.len() + self.state.len() + self.closed.len();
+        days + self.spans.len() + self.short.len()
     }
 
     /// Whether no row stands.
@@ -237,6 +260,40 @@ impl Calendar {
             return Err(CalendarFault::Full);
         }
         self.spans.insert(span)?;
+        Ok(true)
+    }
+
+    /// Enters a day on which the clerk's office is scheduled to close at the minute of the day, after
+    /// 00:00. Such a day counts for filings at the office alone, and moves no end. `true`: it is new;
+    /// `false`: it stood already, whatever its minute, and nothing changed. After an error the calendar
+    /// is as it was.
+    pub fn add_short(&mut self, day: Day, minute: u32) -> Result<bool, CalendarFault>
+        // The faults, in the order in which they are looked for.
+        ensures out_of_range { (result ≡ Err CalendarFault.OutOfRange) ↔ ¬ (IsEnteredShort day minute) }
+        ensures full { (result ≡ Err CalendarFault.Full)
+            ↔ (IsEnteredShort day minute × ¬ (IsShort self.old day) × (rows_of self.old ≡ 4000)) }
+        ensures err { OnErr result (self.new ≡ self.old) }
+
+        // What stands already stays, and what is new is entered.
+        ensures stood { (result ≡ Ok false) ↔ (IsEnteredShort day minute × IsShort self.old day) }
+        ensures kept { result ≡ Ok false → self.new ≡ self.old }
+        ensures entered { OnOk result (self.new ≡ with_short self.old day minute) }
+
+        // The calendar is within its limits, before and after.
+        ensures limits { IsWithinLimits self.old × IsWithinLimits self.new }
+        ensures room { (rows_of self.old ≤ 4000) × (rows_of self.new ≤ 4000) }
+    {
+        let rows = self.len();
+        if !is_entered_short(day, minute) {
+            return Err(CalendarFault::OutOfRange);
+        }
+        if self.short.get(day).is_some() {
+            return Ok(false);
+        }
+        if rows >= MAX_ROWS {
+            return Err(CalendarFault::Full);
+        }
+        self.short.insert(day, minute)?;
         Ok(true)
     }
 

@@ -1,8 +1,9 @@
 //! When a filing is in time (Fed. R. Civ. P. 6(a)(4)).
-ghost use Rattle.std.specs.Prelude.{◌≡◌, ◌↔◌, ◌<◌, ◌≤◌, ◌⊎◌, IsTrue};
+ghost use Rattle.std.specs.Prelude.{◌≡◌, ◌↔◌, ◌<◌, ◌≤◌, ◌⊎◌, min, IsTrue};
 ghost use Rattle.civil_time.specs.LocalTime.{IsMoment};
-ghost use Rattle.court_days.specs.Timely.{IsTimely, is_timely};
+ghost use Rattle.court_days.specs.Timely.{closing, IsTimely, is_timely};
 
+use crate::calendar::{Calendar, short_close};
 use crate::court::Court;
 use civil_time::Day;
 
@@ -28,28 +29,50 @@ fn is_by(at: (Day, u32), last: Day, close_minute: u32) -> bool
     day < last.epoch_day() || (day == last.epoch_day() && minute <= close_minute)
 }
 
+/// The lesser of two numbers.
+fn lesser(one: u32, other: u32) -> u32
+    ensures { result ≡ min one other }
+{
+    if one < other { one } else { other }
+}
+
+/// The minute of the day, after 00:00, at which the clerk's office is scheduled to close on the day: the
+/// court's, or an earlier one on a short day.
+pub fn closing(court: &Court, calendar: &Calendar, day: Day) -> u32
+    ensures value { result ≡ closing court.now calendar.now day }
+    ensures limit { result < 1440 }
+    ensures no_later { result ≤ court.now.close_minute }
+{
+    let close_minute = court.close_minute();
+    match short_close(calendar, day) {
+        Some(minute) => lesser(close_minute, minute),
+        None => close_minute,
+    }
+}
+
 /// Whether a filing at the instant is in time on the last day.
-fn is_by_end_of(court: &Court, last: Day, at: i64, way: Way) -> bool
+fn is_by_end_of(court: &Court, calendar: &Calendar, last: Day, at: i64, way: Way) -> bool
     requires { IsMoment at }
-    ensures { IsTrue result ↔ IsTimely court.now (End.LastDay last) at way }
+    ensures { IsTrue result ↔ IsTimely court.now calendar.now (End.LastDay last) at way }
 {
     let (day, minute) = court.local(at);
     match way {
         Way::Electronic => day.epoch_day() <= last.epoch_day(),
-        Way::Office => is_by((day, minute), last, court.close_minute()),
+        Way::Office => is_by((day, minute), last, closing(court, calendar, last)),
     }
 }
 
 /// Whether a filing at the instant is in time. A last day ends at midnight in the court's zone for
-/// electronic filing, and at the closing minute, which is still in time, for other filing (Fed. R.
-/// Civ. P. 6(a)(4)). The instant is one from 1980-01-03T00:00Z to 3999-12-29T00:00Z.
-pub fn timely(court: &Court, end: End, at: i64, way: Way) -> bool
+/// electronic filing, and for other filing at the minute at which the clerk's office is scheduled to
+/// close on that day, which is still in time (Fed. R. Civ. P. 6(a)(4)). The instant is one from
+/// 1980-01-03T00:00Z to 3999-12-29T00:00Z.
+pub fn timely(court: &Court, calendar: &Calendar, end: End, at: i64, way: Way) -> bool
     requires { IsMoment at }
-    ensures value { result ≡ is_timely court.now end at way }
-    ensures means { IsTrue result ↔ IsTimely court.now end at way }
+    ensures value { result ≡ is_timely court.now calendar.now end at way }
+    ensures means { IsTrue result ↔ IsTimely court.now calendar.now end at way }
 {
     match end {
-        End::LastDay(last) => is_by_end_of(court, last, at, way),
+        End::LastDay(last) => is_by_end_of(court, calendar, last, at, way),
         End::Moment(moment) => at <= moment,
     }
 }

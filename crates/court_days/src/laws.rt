@@ -4,12 +4,12 @@ ghost use Rattle.civil_time.specs.Civil.{IsDayNumber};
 ghost use Rattle.civil_time.specs.LocalTime.{local_day, IsInstant};
 ghost use Rattle.civil_time.specs.Zone.{ZoneRules, IsZone};
 ghost use Rattle.court_days.specs.Civil.{IsEnteredDay, IsEnteredSpan};
-ghost use Rattle.court_days.specs.Calendar.{Entered, no_days, with_day, with_span, IsWithinLimits};
+ghost use Rattle.court_days.specs.Calendar.{Entered, no_days, with_day, with_span, with_short, IsWithinLimits};
 ghost use Rattle.court_days.specs.Court.{CourtSettings, zone_of};
 ghost use Rattle.court_days.specs.Holiday.{IsStatutory, is_statutory};
 ghost use Rattle.court_days.specs.Legal.{IsLegalHoliday, is_legal_holiday, IsBusinessDay, is_business_day, IsOpen, is_open, IsOpenBusinessDay, is_open_business_day};
 ghost use Rattle.court_days.specs.Period.{IsEndOfDays, IsEndOfMonths, IsTrigger};
-ghost use Rattle.court_days.specs.Ends.{end_of_days, end_of_months};
+ghost use Rattle.court_days.specs.Ends.{end_of_days, end_of_months, service_end};
 ghost use Rattle.court_days.specs.Hours.{IsAccessible, IsEndOfHours, IsNearEntered};
 ghost use Rattle.court_days.specs.HourEnds.{is_accessible, end_of_hours};
 ghost use Rattle.court_days.specs.declared.calendar.Direction.{Direction};
@@ -69,11 +69,26 @@ pub fn courts_have_zones()
     ensures { (court : CourtSettings) → IsZone (zone_of court) }
 {}
 
-/// Days and spans that a court may enter keep a calendar within its limits.
+/// A short day moves no end.
+pub fn short_days_move_nothing()
+    ensures days { (entered : Entered) (day minute : ℕ) (direction : Direction) (trigger count : ℕ)
+        → end_of_days (with_short entered day minute) direction trigger count ≡ end_of_days entered direction trigger count }
+    ensures months { (entered : Entered) (day minute : ℕ) (direction : Direction) (trigger months : ℕ)
+        → end_of_months (with_short entered day minute) direction trigger months ≡ end_of_months entered direction trigger months }
+    ensures service { (entered : Entered) (day minute end : ℕ)
+        → service_end (with_short entered day minute) end ≡ service_end entered end }
+    ensures hours { (entered : Entered) (day minute : ℕ) (zone : ZoneRules) (direction : Direction) (start hours : ℕ)
+        → end_of_hours (with_short entered day minute) zone direction start hours
+        ≡ end_of_hours entered zone direction start hours }
+{}
+
+/// Days, spans and short days that a court may enter keep a calendar within its limits.
 pub fn limits_are_kept()
     ensures none { IsWithinLimits no_days }
     ensures with_day { (entered : Entered) (kind : DayKind) (day : ℕ)
         → IsWithinLimits entered → IsEnteredDay day → IsWithinLimits (with_day entered kind day) }
     ensures with_span { (entered : Entered) (start end : ℕ)
         → IsWithinLimits entered → IsEnteredSpan start end → IsWithinLimits (with_span entered start end) }
+    ensures with_short { (entered : Entered) (day minute : ℕ)
+        → IsWithinLimits entered → IsEnteredDay day → IsWithinLimits (with_short entered day minute) }
 {}

@@ -34,6 +34,7 @@ use Rattle.court_rules.specs.declared.act.Standing.{Standing}
 use Rattle.court_rules.specs.declared.act.Standing.TheVariants.{Running, Suspended, Awaiting, Done, Vacated}
 use Rattle.docket_core.specs.EndRows.{calendar_in, end_row, end_rows, end_running, row_of_deadline, time_of}
 use Rattle.docket_core.specs.Histories.{acts_of_deadline}
+use Rattle.docket_core.specs.Records.{close_of_end}
 use Rattle.docket_core.specs.Tables.{Tables}
 use Rattle.docket_core.specs.declared.end_row.EndRow.{EndRow}
 use Rattle.docket_core.specs.declared.record.DueRow.{DueRow}
@@ -157,11 +158,11 @@ module _ (court : CourtSettings) (from to : ℕ) where
   abbrev stored : DeadlineRow → End → EndRow
   stored d end = record { case = d.case; deadline = d.number; end = time_of (zone_of court) end }
 
-  abbrev listed_as : DeadlineRow → End → DueRow
-  listed_as d end = record { end = end; case = d.case; number = d.number; party = d.party; rule = name_of d.rule }
+  abbrev listed_as : ℕ → DeadlineRow → End → DueRow
+  listed_as close d end = record { end = end; close = close; case = d.case; number = d.number; party = d.party; rule = name_of d.rule }
 
-  passes_as : (d other : DeadlineRow) (end : End) → IsDueEnd end → passes params (end_cells (stored d end)) (deadline_cells other) ≡ (is_same d other && is_within court from to (listed_as d end))
-  passes_as d other end due =
+  passes_as : (close : ℕ) (d other : DeadlineRow) (end : End) → IsDueEnd end → passes params (end_cells (stored d end)) (deadline_cells other) ≡ (is_same d other && is_within court from to (listed_as close d end))
+  passes_as close d other end due =
       let day = day_of_end court end in
       let is = day_is court end due in
       let all : (a b c d : Bool) → Bool = λ a b c d. a && (b && (c && (d && true))) in
@@ -173,27 +174,27 @@ module _ (court : CourtSettings) (from to : ℕ) where
   abbrev show : DeadlineRow → End → DeadlineRow → Row
   show d end other = shown_cells (end_cells (stored d end)) (deadline_cells other)
 
-  shown_one : (d other : DeadlineRow) (end : End) → IsDueEnd end → cond (passes params (end_cells (stored d end)) (deadline_cells other)) (show d end other ∷ []) []
-      ≡ cond (is_within court from to (listed_as d end)) (cond (is_same d other) (show d end other ∷ []) []) []
-  shown_one d other end due =
-      ap (λ (b : Bool). cond b (show d end other ∷ []) []) (passes_as d other end due) ∙ nested (is_same d other) (is_within court from to (listed_as d end)) (show d end other ∷ [])
+  shown_one : (close : ℕ) (d other : DeadlineRow) (end : End) → IsDueEnd end → cond (passes params (end_cells (stored d end)) (deadline_cells other)) (show d end other ∷ []) []
+      ≡ cond (is_within court from to (listed_as close d end)) (cond (is_same d other) (show d end other ∷ []) []) []
+  shown_one close d other end due =
+      ap (λ (b : Bool). cond b (show d end other ∷ []) []) (passes_as close d other end due) ∙ nested (is_same d other) (is_within court from to (listed_as close d end)) (show d end other ∷ [])
 
   -- what the question shows of a row of ends, among these deadlines
   abbrev beside : List DeadlineRow → Row → List Row
   beside ds D = flat_map (λ L. cond (passes params D L) (shown_cells D L ∷ []) []) (map deadline_cells ds)
 
-  of_end : (d : DeadlineRow) (end : End) (ds : List DeadlineRow) → IsDueEnd end → flat_map (λ other. cond (is_same d other) (show d end other ∷ []) []) ds ≡ show d end d ∷ []
-      → beside ds (end_cells (stored d end)) ≡ map (due_cells court) (filter (is_within court from to) (listed_as d end ∷ []))
-  of_end d end ds due once =
+  of_end : (close : ℕ) (d : DeadlineRow) (end : End) (ds : List DeadlineRow) → IsDueEnd end → flat_map (λ other. cond (is_same d other) (show d end other ∷ []) []) ds ≡ show d end d ∷ []
+      → beside ds (end_cells (stored d end)) ≡ map (due_cells court) (filter (is_within court from to) (listed_as close d end ∷ []))
+  of_end close d end ds due once =
       flat_map-map (λ L. cond (passes params (end_cells (stored d end)) L) (shown_cells (end_cells (stored d end)) L ∷ []) []) deadline_cells ds
-      ∙ flat_map_same_on _ _ (λ other. shown_one d other end due) ds ∙ by (is_within court from to (listed_as d end))
+      ∙ flat_map_same_on _ _ (λ other. shown_one close d other end due) ds ∙ by (is_within court from to (listed_as close d end))
     where
-      by : (w : Bool) → flat_map (λ other. cond w (cond (is_same d other) (show d end other ∷ []) []) []) ds ≡ map (due_cells court) (cond w (listed_as d end ∷ []) [])
+      by : (w : Bool) → flat_map (λ other. cond w (cond (is_same d other) (show d end other ∷ []) []) []) ds ≡ map (due_cells court) (cond w (listed_as close d end ∷ []) [])
       by true = once
       by false = nothing_each ds
 
   abbrev part : Entered → List ActRow → DeadlineRow → List Row
-  part entered acts d = map (due_cells court) (filter (is_within court from to) (due_of (zone_of court) entered acts d))
+  part entered acts d = map (due_cells court) (filter (is_within court from to) (due_of court entered acts d))
 
   of_deadline : (entered : Entered) (acts : List ActRow) (ds : List DeadlineRow) (d : DeadlineRow)
       → ((end : End) → standing (zone_of court) entered (acts_of_deadline d.case d.number acts) ≡ Running end → IsDueEnd end)
@@ -202,8 +203,8 @@ module _ (court : CourtSettings) (from to : ℕ) where
   of_deadline entered acts ds d due once = by (standing (zone_of court) entered (acts_of_deadline d.case d.number acts)) refl
     where
       by : (s : Standing) → standing (zone_of court) entered (acts_of_deadline d.case d.number acts) ≡ s
-          → flat_map (λ e. beside ds (end_cells e)) (end_row d.case d.number (end_running (zone_of court) s)) ≡ map (due_cells court) (filter (is_within court from to) (row_where d s))
-      by (Running end) e = append-nil (beside ds (end_cells (stored d end))) ∙ of_end d end ds (due end e) (once (show d end))
+          → flat_map (λ e. beside ds (end_cells e)) (end_row d.case d.number (end_running (zone_of court) s)) ≡ map (due_cells court) (filter (is_within court from to) (row_where court entered d s))
+      by (Running end) e = append-nil (beside ds (end_cells (stored d end))) ∙ of_end (close_of_end court entered end) d end ds (due end e) (once (show d end))
       by Suspended e = refl
       by Awaiting e = refl
       by Done e = refl
@@ -223,7 +224,7 @@ module _ (court : CourtSettings) (from to : ℕ) where
 
   listed_parts : (t : Tables) → flat_map (part (calendar_in t) t.acts) t.deadlines ≡ map (due_cells court) (due_within court from to t)
   listed_parts t =
-      let due = due_of (zone_of court) (calendar_in t) t.acts in
+      let due = due_of court (calendar_in t) t.acts in
       let within = is_within court from to in
       sym (map-flat_map (due_cells court) (λ d. filter within (due d)) t.deadlines) ∙ ap (map (due_cells court)) (sym (filter-flat_map within due t.deadlines))
 
@@ -253,20 +254,23 @@ module _ (court : CourtSettings) (from to : ℕ) where
   abbrev IsPart : DeadlineRow → List Row → Type 0
   IsPart d rows = (rows ≡ []) ⊎ ((r : DueRow) × (rows ≡ due_cells court r ∷ []) × (r.case ≡ d.case) × (r.number ≡ d.number))
 
-  one_part : (d : DeadlineRow) (s : Standing) → IsPart d (map (due_cells court) (filter (is_within court from to) (row_where d s)))
-  one_part d (Running end) = by (is_within court from to (listed_as d end))
+  one_part : (entered : Entered) (d : DeadlineRow) (s : Standing) → IsPart d (map (due_cells court) (filter (is_within court from to) (row_where court entered d s)))
+  one_part entered d (Running end) = by (is_within court from to (listed_as (close_of_end court entered end) d end))
     where
-      by : (w : Bool) → IsPart d (map (due_cells court) (cond w (listed_as d end ∷ []) []))
-      by true = inr (listed_as d end, refl, refl, refl)
+      close : ℕ
+      close = close_of_end court entered end
+
+      by : (w : Bool) → IsPart d (map (due_cells court) (cond w (listed_as close d end ∷ []) []))
+      by true = inr (listed_as close d end, refl, refl, refl)
       by false = inl refl
-  one_part d Suspended = inl refl
-  one_part d Awaiting = inl refl
-  one_part d Done = inl refl
-  one_part d Vacated = inl refl
+  one_part entered d Suspended = inl refl
+  one_part entered d Awaiting = inl refl
+  one_part entered d Done = inl refl
+  one_part entered d Vacated = inl refl
 
   module _ (entered : Entered) (acts : List ActRow) where
     is_part : (d : DeadlineRow) → IsPart d (part entered acts d)
-    is_part d = one_part d (standing (zone_of court) entered (acts_of_deadline d.case d.number acts))
+    is_part d = one_part entered d (standing (zone_of court) entered (acts_of_deadline d.case d.number acts))
 
     abbrev IsNotTied : Row → Row → Type 0
     IsNotTied row other = is_eq (order row other) ≡ false
@@ -321,7 +325,7 @@ module _ (court : CourtSettings) (from to : ℕ) where
   sorted_cells : (listed : List DueRow) → All (λ (r : DueRow). IsDueEnd r.end) listed → IsSorted (calendar_cmp court) listed → IsSorted order (map (due_cells court) listed)
   sorted_cells listed due sorted k row low high =
       let inside : k + 1 < length listed = rw length-map at high in
-      let r : DueRow = record { end = LastDay 0; case = 0; number = 0; party = 0; rule = [] } in
+      let r : DueRow = record { end = LastDay 0; close = 0; case = 0; number = 0; party = 0; rule = [] } in
       let is = ap is_lt (ordered_as (get_or listed (k + 1) r) (get_or listed k r) (due (k + 1) r inside) (due k r (omega arith))) in
       rw (get_or-map (due_cells court) listed (k + 1) r row inside, get_or-map (due_cells court) listed k r row (omega arith)) (is ∙ sorted k r low inside)
 

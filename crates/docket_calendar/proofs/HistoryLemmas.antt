@@ -61,20 +61,20 @@ listable court h settings is all =
     }
 
 module _ (court : CourtSettings) (from to : ℕ) (t : Tables) (can : IsListable court t) where
-  one_due : (d : DeadlineRow) (s : Standing) → ((end : End) → s ≡ Running end → IsDueEnd end) → IsDeadlineRow d → AllByRecursion IsDue (row_where d s)
-  one_due d (Running end) due fit = ((due end refl, fit.0, fit.1, fit.2, name_utf8 d.rule), tt)
+  one_due : (d : DeadlineRow) (s : Standing) → ((end : End) → s ≡ Running end → IsDueEnd end) → IsDeadlineRow d → AllByRecursion (IsDue court (calendar_in t)) (row_where court (calendar_in t) d s)
+  one_due d (Running end) due fit = ((due end refl, fit.0, fit.1, fit.2, name_utf8 d.rule, refl), tt)
   one_due d Suspended due fit = tt
   one_due d Awaiting due fit = tt
   one_due d Done due fit = tt
   one_due d Vacated due fit = tt
 
-  all_due : AllByRecursion IsDue (due_within court from to t)
+  all_due : AllByRecursion (IsDue court (calendar_in t)) (due_within court from to t)
   all_due =
-      all-filter _ _ (running court t) (all-flat_map IsDue (due_of (zone_of court) (calendar_in t) t.acts) t.deadlines
-      (all_two _ _ (λ d. AllByRecursion IsDue (due_of (zone_of court) (calendar_in t) t.acts d)) t.deadlines (λ d due fit. one_due d (standing (zone_of court) (calendar_in t) (acts_of_deadline d.case d.number t.acts)) due fit) can.ends can.fit))
+      all-filter _ _ (running court t) (all-flat_map (IsDue court (calendar_in t)) (due_of court (calendar_in t) t.acts) t.deadlines
+      (all_two _ _ (λ d. AllByRecursion (IsDue court (calendar_in t)) (due_of court (calendar_in t) t.acts d)) t.deadlines (λ d due fit. one_due d (standing (zone_of court) (calendar_in t) (acts_of_deadline d.case d.number t.acts)) due fit) can.ends can.fit))
 
-  pub listed_due : (listed : List DueRow) → IsCalendar court (due_within court from to t) listed → All IsDue listed
-  listed_due listed calendar = All-permutation IsDue (due_within court from to t) listed calendar.same (All-from_recursion IsDue _ all_due)
+  pub listed_due : (listed : List DueRow) → IsCalendar court (due_within court from to t) listed → All (IsDue court (calendar_in t)) listed
+  listed_due listed calendar = All-permutation (IsDue court (calendar_in t)) (due_within court from to t) listed calendar.same (All-from_recursion (IsDue court (calendar_in t)) _ all_due)
 
   pub listed_few : (listed : List DueRow) → IsCalendar court (due_within court from to t) listed → length listed < 4_294_967_295
   listed_few listed calendar = omega (arith, few_listed court from to t listed calendar, can.few)

@@ -15,6 +15,7 @@ use Rattle.sqlite.specs.Program.{overlay}
 use Rattle.sqlite.specs.Query.{IsAnswerAs}
 use Rattle.sqlite.specs.Schema.{Schema}
 use Rattle.court_days.specs.Court.{CourtSettings}
+use Rattle.docket_core.specs.EndRows.{calendar_in}
 use Rattle.docket_core.specs.Tables.{Tables}
 use Rattle.docket_core.specs.declared.record.DueRow.{DueRow}
 use Rattle.docket_text.specs.CalendarOrder.{IsCalendar}
@@ -51,7 +52,7 @@ shown_front court listed xs ys e =
     taken (suc n) (d ∷ ds) = ap (λ (l : List Row). due_cells court d ∷ l) (taken n ds)
 
 pub lists : (court : CourtSettings) (from to : ℕ) (t : Tables) (listed : List DueRow) (db : Database) → IsListable court t → db.schema ≡ docket_schema → AreRows (rows_in court t) db.trees
-    → IsCalendar court (due_within court from to t) listed → Lists question (days_asked from to) court db listed
+    → IsCalendar court (due_within court from to t) listed → Lists question (days_asked from to) court (calendar_in t) db listed
 lists court from to t listed db can schema holds calendar =
     let back = sym schema in
     let params = days_asked from to in
@@ -67,6 +68,6 @@ lists court from to t listed db can schema holds calendar =
       unlisted = ap (λ (s : Schema). reads_listing s question) schema ∙ asks_no_listing;
       begins = λ rows first. let tail = first.1 in shown_front court listed rows tail.0 (rows_are (rows ++ tail.0) (tail.1 Null));
       whole = λ rows read. rows_are rows (read.answer Null);
-      sound = recursion_from_All IsDue listed due;
+      sound = recursion_from_All (IsDue court (calendar_in t)) listed due;
       few = listed_few court from to t can listed calendar;
     }

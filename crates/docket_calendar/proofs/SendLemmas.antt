@@ -1,5 +1,5 @@
 -- How the text of a calendar goes out, line after line.
-use Rattle.std.proofs.Common.{◌≡◌, ℕ, suc, ◌+◌, ◌<◌, ◌==◌, Bool, true, false, cond, List, [], ◌∷◌, ◌++◌, take, drop, length, append_assoc, append-nil, Option, Some, None, refl, sym, ap, ◌∙◌, arith}
+use Rattle.std.proofs.Common.{◌≡◌, ℕ, zero, suc, ◌+◌, ◌<◌, ◌≤◌, ◌==◌, Bool, true, false, cond, List, [], ◌∷◌, ◌++◌, take, drop, length, length-append, append_assoc, append-nil, Option, Some, None, refl, sym, ap, ◌∙◌, arith}
 use Rattle.std.specs.List.{flat_map, slice_get}
 use Rattle.std.specs.Io.KnownBytes.{Appends}
 use Rattle.std.proofs.KnownBytes.{Appends-trans}
@@ -10,9 +10,20 @@ use Rattle.std.proofs.lemmas.Grind.{flat_map-append}
 use Rattle.std.proofs.lemmas.Option.{get_or_from_slice_get, slice_get_within}
 use Rattle.court_days.specs.Court.{CourtSettings}
 use Rattle.docket_core.specs.declared.record.DueRow.{DueRow}
-use Rattle.docket_text.specs.CalendarTexts.{calendar_line, calendar_text, end_line}
+use Rattle.docket_text.specs.CalendarTexts.{calendar_line, calendar_text, end_columns, end_line}
 use Rattle.line_io.specs.Output.{HasFront}
-use Rattle.docket_calendar.specs.Sending.{text_at, IsAt, opening, sent}
+use Rattle.docket_calendar.specs.Sending.{text_at, IsAt, opening, sent, HasBegun}
+
+-- a line is not empty
+line_some : (text part rest : List ℕ) → text ≡ part ++ (32 ∷ rest) → 1 ≤ length text
+line_some text part rest is = omega (arith, ap length is ∙ length-append part (32 ∷ rest))
+
+lines_some : (court : CourtSettings) (listed : List DueRow) (n : ℕ) → 1 ≤ n → n ≤ length listed → 1 ≤ length (flat_map (calendar_line court) (take n listed))
+lines_some court listed zero some within = absurd (omega (arith, some))
+lines_some court [] (suc n) some within = absurd (omega (arith, within))
+lines_some court (due ∷ listed) (suc n) some within =
+    let some_line : 1 ≤ length (calendar_line court due) = line_some (calendar_line court due) (end_columns court due.close due.end) _ refl in
+    omega (arith, length-append (calendar_line court due) (flat_map (calendar_line court) (take n listed)), some_line)
 
 module _ (court : CourtSettings) (listed : List DueRow) where
   abbrev lines : ℕ → List ℕ
@@ -67,6 +78,13 @@ module _ (court : CourtSettings) (listed : List DueRow) where
     sent_lines : (n : ℕ) → sent court front listed (n + 1) ≡ front ++ lines (n + 1)
     sent_lines n = let no : (n + 1 == 0) ≡ false = grind (arith, nat_tests) in ap (λ b. cond b [] (front ++ lines (n + 1))) no
 
+    -- once a line went out, this is not empty
+    sent_some : (n : ℕ) → 1 ≤ n → n ≤ length listed → 1 ≤ length (sent court front listed n)
+    sent_some n some within =
+        let no : (n == 0) ≡ false = grind (arith, nat_tests, some) in
+        let is : sent court front listed n ≡ front ++ lines n = ap (λ b. cond b [] (front ++ lines n)) no in
+        omega (arith, ap length is ∙ length-append front (lines n), lines_some court listed n some within)
+
     -- one line more went out
     pub sent_more : (n : ℕ) (due : DueRow) → slice_get listed n ≡ Some due → sent court front listed n ++ (opening front n ++ calendar_line court due) ≡ sent court front listed (n + 1)
     sent_more n due at = joined n (calendar_line court due) ∙ ap (λ (t : List ℕ). front ++ t) (sym (one_more n due at)) ∙ sym (sent_lines n)
@@ -80,6 +98,11 @@ module _ (court : CourtSettings) (listed : List DueRow) where
     stopped_at n u v h =
         let rest = front_at n in
         record { out = sent court front listed n; lost = opening front n ++ rest.0; whole = ap (λ (t : List ℕ). front ++ t) rest.1 ∙ sym (joined n rest.0); appends = h }
+
+    -- the lines before it did, and they are not empty
+    pub begun_at : (n : ℕ) (u v : Option (List ℕ)) → 1 ≤ n → n ≤ length listed → Appends u v (sent court front listed n) → HasBegun u v (front ++ calendar_text court listed)
+    unfolding stopped_at
+    begun_at n u v some within h = record { front = stopped_at n u v h; begun = sent_some n some within }
 
     -- a front of what goes out next did
     pub stopped_in : (n : ℕ) (due : Option DueRow) (u v w : Option (List ℕ)) → IsAt listed n due → Appends u v (sent court front listed n)

@@ -11,6 +11,7 @@ use Rattle.sqlite.specs.View.{doubt}
 use Rattle.sqlite.proofs.Callers.{never_commits}
 use Rattle.sqlite.proofs.StateLemmas.{survives_weaker}
 use Rattle.court_days.specs.Court.{CourtSettings}
+use Rattle.docket_core.specs.EndRows.{calendar_in}
 use Rattle.docket_core.specs.Histories.{History}
 use Rattle.docket_core.specs.Tables.{rows_of}
 use Rattle.docket_tables.specs.Readings.{Fails}
@@ -61,7 +62,7 @@ module _ {S : Type 0} (g : Ghosts S) (court : CourtSettings) (h : History) (from
 
 -- a connection that holds the rows answers by the calendar of the history
 pub lists_of : {S : Type 0} (g : Ghosts S) (court : CourtSettings) (h : History) (from to : ℕ) (old : Held S) → IsHistoryOf court h → HoldsRows g old (history_rows court h) → HasCleanDisk (state g old)
-    → Lists question (days_asked from to) court (state g old).now (calendar_rows court h from to)
+    → Lists question (days_asked from to) court (calendar_in (rows_of court h)) (state g old).now (calendar_rows court h from to)
 lists_of g court h from to old is was clean =
     let held = was.1 clean in
     lists court from to (rows_of court h) (calendar_rows court h from to) (state g old).now (listable court h is.settings is.history is.commands) held.shows.schema held.shows.holds (is_calendar court h from to)

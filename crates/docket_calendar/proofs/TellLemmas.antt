@@ -8,6 +8,7 @@ use Rattle.sqlite.specs.Store.{Ghosts}
 use Rattle.sqlite.specs.State.{State, IsUnchanged, IsRolledBack}
 use Rattle.sqlite.specs.Held.{Held, state}
 use Rattle.sqlite.proofs.Callers.{unchanged_then}
+use Rattle.court_days.specs.Calendar.{Entered}
 use Rattle.court_days.specs.Court.{CourtSettings}
 use Rattle.docket_core.specs.declared.record.DueRow.{DueRow}
 use Rattle.line_io.specs.Output.{HasFront}
@@ -17,7 +18,7 @@ use Rattle.docket_calendar.specs.Asked.{Lists, Gave, Next}
 use Rattle.docket_calendar.specs.Sending.{text_at, IsAt, opening, sent, LeavesAt, SendsNext, SendsAll}
 use Rattle.docket_calendar.specs.declared.stop.Stop.{Stop}
 use Rattle.docket_calendar.specs.declared.stop.Stop.TheVariants.{NotBegun, Broken, WriteFailed}
-use Rattle.docket_calendar.proofs.SendLemmas.{sent_more, sent_whole, stopped_at, stopped_in}
+use Rattle.docket_calendar.proofs.SendLemmas.{sent_more, sent_whole, begun_at, stopped_in}
 
 pub unchanged_still : (s : State) → IsTrue s.is_open → IsUnchanged s s
 unchanged_still s is_open = (record { was_open = is_open; is_open = is_open; now_is = refl; committed_is = refl; mode = refl }, record { changes = refl; last_rowid = refl }, refl)
@@ -32,8 +33,8 @@ rolled_then a b c same r = record {
 }
 
 module _ {S : Type 0} (g : Ghosts S) (court : CourtSettings) (listed : List DueRow) where
-  pub lists_still : (sql : List ℕ) (params : Row) (old now : Held S) → IsUnchanged (state g old) (state g now) → Lists sql params court (state g old).now listed → Lists sql params court (state g now).now listed
-  lists_still sql params old now same lists = subst (λ (d : Database). Lists sql params court d listed) (sym same.0.now_is) lists
+  pub lists_still : {entered : Entered} (sql : List ℕ) (params : Row) (old now : Held S) → IsUnchanged (state g old) (state g now) → Lists sql params court entered (state g old).now listed → Lists sql params court entered (state g now).now listed
+  lists_still {entered} sql params old now same lists = subst (λ (d : Database). Lists sql params court entered d listed) (sym same.0.now_is) lists
 
   leaves_from : (old now new : Held S) (fault : ReadFault) → IsUnchanged (state g old) (state g now) → LeavesAt g now new fault → LeavesAt g old new fault
   leaves_from old now new (Store e) same (inl still) = inl (unchanged_then (state g old) (state g now) (state g new) same still)
@@ -84,7 +85,7 @@ module _ {S : Type 0} (g : Ghosts S) (court : CourtSettings) (listed : List DueR
           (Appends-trans u v w [] [] (subst (Appends u v) none told.went) sends.1, leaves_from old now new fault told.same sends.2)
       stops (Broken fault) sends =
           let went : Appends u w (sent court front listed n) = subst (Appends u w) (append-nil (sent court front listed n)) (Appends-trans u v w (sent court front listed n) [] told.went sends.1) in
-          (stopped_at court listed front n u w went, leaves_from old now new fault told.same sends.2)
+          (begun_at court listed front n u w sends.0 told.gave.1 went, leaves_from old now new fault told.same sends.2)
       stops WriteFailed sends =
           (stopped_in court listed front n sends.1.0 u v w sends.1.1 told.went sends.1.2, unchanged_then (state g old) (state g now) (state g new) told.same sends.0)
 

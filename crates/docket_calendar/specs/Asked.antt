@@ -12,6 +12,7 @@ use Rattle.sqlite_resolve.specs.declared.error.CompileError.{CompileError}
 use Rattle.sqlite.specs.Store.{Ghosts}
 use Rattle.sqlite.specs.State.{IsUnchanged, Fails}
 use Rattle.sqlite.specs.Held.{Held, state}
+use Rattle.court_days.specs.Calendar.{Entered}
 use Rattle.court_days.specs.Court.{CourtSettings}
 use Rattle.docket_core.specs.declared.record.DueRow.{DueRow}
 use Rattle.docket_tables.specs.declared.fault.ReadFault.{ReadFault}
@@ -24,14 +25,14 @@ command_of (Ok c) = c.command
 command_of (Err e) = Nothing
 
 -- in this database the answer to the question is the rows of these due deadlines, in this order
-pub record Lists (sql : List ℕ) (params : Row) (court : CourtSettings) (db : Database) (listed : List DueRow) : Type 0 where
+pub record Lists (sql : List ℕ) (params : Row) (court : CourtSettings) (entered : Entered) (db : Database) (listed : List DueRow) : Type 0 where
   pub command : Command
   pub is : command_of (understood db.schema sql) ≡ command
   pub plain : IsPlain (understood db.schema sql)
   pub unlisted : reads_listing db.schema sql ≡ false
   pub begins : (rows : List Row) → ReadsFirst command db params rows → (length rows ≤ length listed) × (rows ≡ map (due_cells court) (take (length rows) listed))
   pub whole : (rows : List Row) → Reads command db params rows → rows ≡ map (due_cells court) listed
-  pub sound : AllByRecursion IsDue listed
+  pub sound : AllByRecursion (IsDue court entered) listed
   pub few : length listed < 4_294_967_295
 
 module _ {S : Type 0} (g : Ghosts S) where

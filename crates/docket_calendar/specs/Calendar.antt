@@ -1,7 +1,6 @@
 -- The calendar of a history: the deadlines whose time runs, over a range of days.
 use Rattle.std.specs.Prelude.{ℕ, Bool, ◌&&◌, nat_le, List, [], ◌∷◌, filter}
 use Rattle.std.specs.List.{flat_map}
-use Rattle.civil_time.specs.Zone.{ZoneRules}
 use Rattle.court_days.specs.Calendar.{Entered}
 use Rattle.court_days.specs.Court.{CourtSettings, zone_of}
 use Rattle.court_rules.specs.Rules.{name_of}
@@ -10,6 +9,7 @@ use Rattle.court_rules.specs.declared.act.Standing.{Standing}
 use Rattle.court_rules.specs.declared.act.Standing.TheVariants.{Running}
 use Rattle.docket_core.specs.EndRows.{calendar_in}
 use Rattle.docket_core.specs.Histories.{History, acts_of_deadline}
+use Rattle.docket_core.specs.Records.{close_of_end}
 use Rattle.docket_core.specs.Tables.{Tables, rows_of}
 use Rattle.docket_core.specs.declared.record.DueRow.{DueRow}
 use Rattle.docket_core.specs.declared.row.ActRow.{ActRow}
@@ -19,17 +19,27 @@ use Rattle.docket_text.specs.CalendarTexts.{calendar_text}
 use Rattle.sqlite_keyed.specs.Lists.{sort_by}
 
 -- the row of a deadline that stands so, if its time runs
-abbrev pub row_where : DeadlineRow → Standing → List DueRow
-row_where d (Running end) = record { end = end; case = d.case; number = d.number; party = d.party; rule = name_of d.rule } ∷ []
-row_where d _ = []
+abbrev pub row_where : CourtSettings → Entered → DeadlineRow → Standing → List DueRow
+row_where court entered d (Running end) =
+    record {
+      end = end;
+      close = close_of_end court entered end;
+      case = d.case;
+      number = d.number;
+      party = d.party;
+      rule = name_of d.rule;
+    }
+    ∷ []
+row_where court entered d _ = []
 
 -- the row of a deadline, by its acts among those of all deadlines
-abbrev pub due_of : ZoneRules → Entered → List ActRow → DeadlineRow → List DueRow
-due_of zone entered acts d = row_where d (standing zone entered (acts_of_deadline d.case d.number acts))
+abbrev pub due_of : CourtSettings → Entered → List ActRow → DeadlineRow → List DueRow
+due_of court entered acts d =
+    row_where court entered d (standing (zone_of court) entered (acts_of_deadline d.case d.number acts))
 
 -- the rows of all deadlines of the tables whose time runs, by the calendar that stands there
 abbrev pub running : CourtSettings → Tables → List DueRow
-running court t = flat_map (due_of (zone_of court) (calendar_in t) t.acts) t.deadlines
+running court t = flat_map (due_of court (calendar_in t) t.acts) t.deadlines
 
 -- the day of its end lies in the range, both days included
 abbrev pub is_within : CourtSettings → ℕ → ℕ → DueRow → Bool

@@ -34,6 +34,11 @@ opening front n = if n == 0 then front else []
 abbrev pub sent : CourtSettings → List ℕ → List DueRow → ℕ → List ℕ
 sent court front listed n = if n == 0 then [] else front ++ flat_map (calendar_line court) (take n listed)
 
+-- a front of the text went out, and it is not empty
+pub record HasBegun (before after : Option (List ℕ)) (text : List ℕ) : Type 0 where
+  pub front : HasFront before after text
+  pub begun : 1 ≤ length front.out
+
 module _ {S : Type 0} (g : Ghosts S) where
   -- what a fault of the question leaves of the connection: it is as it was, but where the store failed
   abbrev pub LeavesAt : Held S → Held S → ReadFault → Type 0
@@ -52,10 +57,10 @@ module _ {S : Type 0} (g : Ghosts S) where
   SendsNext sql params court listed n front before after old new (Err WriteFailed) =
       IsUnchanged (state g old) (state g new) × ((due : Option DueRow) × IsAt listed n due × HasFront before after (front ++ text_at court n due))
 
-  -- the text went out whole behind the front, with so many lines, or a front of it all did
+  -- the text went out whole behind the front, with so many lines; or nothing did, or a front of it all
   abbrev pub SendsAll : CourtSettings → List DueRow → List ℕ → Option (List ℕ) → Option (List ℕ) → Held S → Held S → Result ℕ Stop → Type 0
   SendsAll court listed front before after old new (Ok lines) =
       IsUnchanged (state g old) (state g new) × Appends before after (front ++ calendar_text court listed) × (lines ≡ length listed)
   SendsAll court listed front before after old new (Err (NotBegun fault)) = Appends before after [] × LeavesAt old new fault
-  SendsAll court listed front before after old new (Err (Broken fault)) = HasFront before after (front ++ calendar_text court listed) × LeavesAt old new fault
+  SendsAll court listed front before after old new (Err (Broken fault)) = HasBegun before after (front ++ calendar_text court listed) × LeavesAt old new fault
   SendsAll court listed front before after old new (Err WriteFailed) = HasFront before after (front ++ calendar_text court listed) × IsUnchanged (state g old) (state g new)

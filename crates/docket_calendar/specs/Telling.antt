@@ -17,6 +17,7 @@ use Rattle.docket_tables.specs.Readings.{Fails}
 use Rattle.docket_tables.specs.Stands.{HoldsRows}
 use Rattle.line_io.specs.Output.{HasFront}
 use Rattle.docket_calendar.specs.Calendar.{calendar_rows, text_of_calendar}
+use Rattle.docket_calendar.specs.Sending.{HasBegun}
 use Rattle.docket_calendar.specs.declared.stop.Stop.{Stop}
 use Rattle.docket_calendar.specs.declared.stop.Stop.TheVariants.{NotBegun, Broken, WriteFailed}
 
@@ -30,14 +31,14 @@ abbrev pub history_rows : CourtSettings → History → Rows
 history_rows court h = rows_in court (rows_of court h)
 
 module _ {S : Type 0} (g : Ghosts S) (court : CourtSettings) (h : History) (from to : ℕ) (front : List ℕ) where
-  -- the bytes and the text of the calendar went out whole, with so many lines; or nothing did, or a front of it. The rows stand as they
-  -- were; where the store failed, the connection may be shut
+  -- the bytes and the text of the calendar went out whole, with so many lines; or nothing did, or a front of it that is not empty unless
+  -- the writer failed. The rows stand as they were; where the store failed, the connection may be shut
   abbrev pub Tells : Option (List ℕ) → Option (List ℕ) → Held S → Result ℕ Stop → Type 0
   Tells before after new (Ok lines) =
       HoldsRows g new (history_rows court h)
       × (HasCleanDisk (state g new) → Appends before after (front ++ text_of_calendar court h from to) × (lines ≡ length (calendar_rows court h from to)))
   Tells before after new (Err (NotBegun fault)) = Fails g new (history_rows court h) fault × (HasCleanDisk (state g new) → Appends before after [])
   Tells before after new (Err (Broken fault)) =
-      Fails g new (history_rows court h) fault × (HasCleanDisk (state g new) → HasFront before after (front ++ text_of_calendar court h from to))
+      Fails g new (history_rows court h) fault × (HasCleanDisk (state g new) → HasBegun before after (front ++ text_of_calendar court h from to))
   Tells before after new (Err WriteFailed) =
       HoldsRows g new (history_rows court h) × (HasCleanDisk (state g new) → HasFront before after (front ++ text_of_calendar court h from to))

@@ -3,11 +3,11 @@ ghost use Rattle.std.specs.Prelude.{◌≡◌, false, ℕ, List};
 ghost use Rattle.sqlite.specs.Order.{Row as Cells};
 ghost use Rattle.sqlite.specs.Held.{state};
 ghost use Rattle.sqlite.specs.State.{HasCleanDisk, Survives};
-ghost use Rattle.court_days.specs.Court.{CourtSettings};
 ghost use Rattle.docket_core.specs.declared.record.DueRow.{DueRow as Due};
 ghost use Rattle.docket_calendar.specs.Asked.{Lists, Gave, Next};
 
 use crate::row::due_of;
+use court_days::{Calendar, Court};
 use docket_core::DueRow;
 use docket_tables::ReadFault;
 use sqlite::{Alter, Rows};
@@ -16,22 +16,24 @@ use std::alloc::Global;
 /// The deadline of the next row, or `None` after the last.
 pub(crate) fn next_due<S: Alter>(
     alloc: Global,
+    court: &Court,
+    entered: &Calendar,
     rows: &mut Rows<'_, S>,
 ) -> Result<Option<DueRow>, ReadFault>
     ensures same_reference { rows.new.conn.ghost_name ≡ rows.old.conn.ghost_name }
     ensures mode { rows.old.conn.now.in_transaction ≡ false → rows.new.conn.now.in_transaction ≡ false }
     ensures survives { Survives (state S.Store rows.old.conn.now) (state S.Store rows.new.conn.now) (λ _. ⊥) }
-    ensures next { (sql : List ℕ) (params : Cells) (court : CourtSettings) (listed : List Due) (n : ℕ)
+    ensures next { (sql : List ℕ) (params : Cells) (listed : List Due) (n : ℕ)
         → HasCleanDisk (state S.Store rows.new.conn.now)
-        → Lists sql params court (state S.Store rows.old.conn.now).now listed
-        → Gave S.Store sql params court listed n rows.old.conn.now
-        → Next S.Store sql params court listed n rows.old.conn.now rows.new.conn.now result }
+        → Lists sql params court.now entered.now (state S.Store rows.old.conn.now).now listed
+        → Gave S.Store sql params court.now listed n rows.old.conn.now
+        → Next S.Store sql params court.now listed n rows.old.conn.now rows.new.conn.now result }
 {
     rows.advance()?;
     let Some(row) = rows.get() else {
         return Ok(None);
     };
-    match due_of(alloc, row)? {
+    match due_of(alloc, court, entered, row)? {
         Some(due) => Ok(Some(due)),
         None => Err(ReadFault::Damaged),
     }

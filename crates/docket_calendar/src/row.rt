@@ -10,10 +10,10 @@ ghost use Rattle.docket_core.specs.EndRows.{time_of};
 ghost use Rattle.docket_core.specs.declared.record.DueRow.{DueRow as Due};
 ghost use Rattle.docket_calendar.specs.DueCells.{due_cells, IsDueEnd, IsDue};
 
-use court_days::{Day, End};
+use court_days::{Calendar, Court, Day, End};
 use docket_columns::count_at;
 use docket_command::Text;
-use docket_core::DueRow;
+use docket_core::{DueRow, close_of_end};
 use sqlite::Row;
 use sqlite::types::ValueRef;
 use std::alloc::{AllocError, Global};
@@ -64,9 +64,16 @@ fn end_of(row: &Row) -> Option<End>
     }
 }
 
-/// The deadline of a row: day, moment, case, deadline, party, rule. `None`: it is none.
-pub(crate) fn due_of(alloc: Global, row: &Row) -> Result<Option<DueRow>, AllocError>
-    ensures { (court : CourtSettings) (d : Due) → IsDue d → row.now ≡ due_cells court d → IfOk result (λ found. found ≡ Some d) }
+/// The deadline of a row: day, moment, case, deadline, party, rule. When the clerk's office closes on
+/// its last day is told by the calendar. `None`: it is none.
+pub(crate) fn due_of(
+    alloc: Global,
+    court: &Court,
+    entered: &Calendar,
+    row: &Row,
+) -> Result<Option<DueRow>, AllocError>
+    ensures { (d : Due) → IsDue court.now entered.now d → row.now ≡ due_cells court.now d
+        → IfOk result (λ found. found ≡ Some d) }
 {
     let Some(end) = end_of(row) else {
         return Ok(None);
@@ -85,6 +92,7 @@ pub(crate) fn due_of(alloc: Global, row: &Row) -> Result<Option<DueRow>, AllocEr
     };
     Ok(Some(DueRow {
         end,
+        close: close_of_end(court, entered, end),
         case,
         number,
         party,

@@ -13,7 +13,7 @@ ghost use Rattle.docket_calendar.specs.Stops.{IsStopAt};
 
 use crate::next::next_due;
 use crate::stop::Stop;
-use court_days::Court;
+use court_days::{Calendar, Court};
 use docket_core::DueRow;
 use docket_tables::ReadFault;
 use docket_text::{calendar_line, end_line};
@@ -74,6 +74,7 @@ fn send<W: Write>(writer: &mut W, front: &[u8], text: &str) -> Result<(), Stop>
 fn send_next<S: Alter, W: Write>(
     alloc: Global,
     court: &Court,
+    entered: &Calendar,
     front: &[u8],
     lines: u32,
     rows: &mut Rows<'_, S>,
@@ -84,11 +85,11 @@ fn send_next<S: Alter, W: Write>(
     ensures survives { Survives (state S.Store rows.old.conn.now) (state S.Store rows.new.conn.now) (λ _. ⊥) }
     ensures sends { (sql : List ℕ) (params : Cells) (listed : List Due)
         → HasCleanDisk (state S.Store rows.new.conn.now)
-        → Lists sql params court.now (state S.Store rows.old.conn.now).now listed
+        → Lists sql params court.now entered.now (state S.Store rows.old.conn.now).now listed
         → Gave S.Store sql params court.now listed lines rows.old.conn.now
         → SendsNext S.Store sql params court.now listed lines front.now (W.contents writer.old) (W.contents writer.new) rows.old.conn.now rows.new.conn.now result }
 {
-    let due = match next_due(alloc, rows) {
+    let due = match next_due(alloc, court, entered, rows) {
         Ok(due) => due,
         Err(fault) => return Err(stop_at(lines, fault)),
     };
@@ -106,6 +107,7 @@ fn send_next<S: Alter, W: Write>(
 pub(crate) fn send_all<S: Alter, W: Write>(
     alloc: Global,
     court: &Court,
+    entered: &Calendar,
     front: &[u8],
     rows: &mut Rows<'_, S>,
     writer: &mut W,
@@ -115,13 +117,14 @@ pub(crate) fn send_all<S: Alter, W: Write>(
     ensures survives { Survives (state S.Store rows.old.conn.now) (state S.Store rows.new.conn.now) (λ _. ⊥) }
     ensures sends { (sql : List ℕ) (params : Cells) (listed : List Due)
         → HasCleanDisk (state S.Store rows.new.conn.now)
-        → Lists sql params court.now (state S.Store rows.old.conn.now).now listed
+        → Lists sql params court.now entered.now (state S.Store rows.old.conn.now).now listed
         → Gave S.Store sql params court.now listed 0 rows.old.conn.now
         → IsTrue (state S.Store rows.old.conn.now).is_open
         → SendsAll S.Store court.now listed front.now (W.contents writer.old) (W.contents writer.new) rows.old.conn.now rows.new.conn.now result }
 {
     'rows: for lines in 0..u32::MAX {
-        if !send_next(alloc, court, opening(front, lines), lines, rows, writer)? {
+        let front = opening(front, lines);
+        if !send_next(alloc, court, entered, front, lines, rows, writer)? {
             return Ok(lines);
         }
     }

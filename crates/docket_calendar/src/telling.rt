@@ -6,7 +6,9 @@ ghost use Rattle.sqlite.specs.Listing.{understood};
 ghost use Rattle.sqlite.specs.State.{HasCleanDisk, Survives};
 ghost use Rattle.sqlite.specs.Values.{bound};
 ghost use Rattle.sqlite.specs.View.{doubt};
+ghost use Rattle.docket_core.specs.EndRows.{calendar_in};
 ghost use Rattle.docket_core.specs.Histories.{History};
+ghost use Rattle.docket_core.specs.Tables.{rows_of};
 ghost use Rattle.docket_core.specs.declared.record.DueRow.{DueRow as Due};
 ghost use Rattle.docket_tables.specs.Stands.{HoldsRows};
 ghost use Rattle.docket_calendar.specs.Asked.{Lists};
@@ -16,7 +18,7 @@ ghost use Rattle.docket_calendar.specs.Telling.{IsHistoryOf, Tells, history_rows
 
 use crate::sending::send_all;
 use crate::stop::Stop;
-use court_days::{Court, Day};
+use court_days::{Calendar, Court, Day};
 use docket_tables::ReadFault;
 use sqlite::types::ValueRef;
 use sqlite::{Alter, Connection, params};
@@ -36,6 +38,7 @@ fn tell<S: Alter, W: Write>(
     conn: &mut Connection<S>,
     alloc: Global,
     court: &Court,
+    entered: &Calendar,
     sql: &str,
     values: &[ValueRef<'_>],
     front: &[u8],
@@ -45,11 +48,11 @@ fn tell<S: Alter, W: Write>(
     ensures clean { doubt (state S.Store conn.old).is_clean ≤ doubt (state S.Store conn.new).is_clean }
     ensures survives { IsPlain (understood conn.old.schema sql.now) → Survives (state S.Store conn.old) (state S.Store conn.new) (λ _. ⊥) }
     ensures sends { (listed : List Due) → HasCleanDisk (state S.Store conn.new)
-        → Lists sql.now (bound values.now) court.now (state S.Store conn.old).now listed
+        → Lists sql.now (bound values.now) court.now entered.now (state S.Store conn.old).now listed
         → SendsAll S.Store court.now listed front.now (W.contents writer.old) (W.contents writer.new) conn.old conn.new result }
 {
     match conn.query(sql, values) {
-        Ok(mut rows) => send_all(alloc, court, front, &mut rows, writer),
+        Ok(mut rows) => send_all(alloc, court, entered, front, &mut rows, writer),
         Err(error) => Err(Stop::NotBegun(ReadFault::Store(error))),
     }
 }
@@ -59,6 +62,7 @@ fn tell_days<S: Alter, W: Write>(
     conn: &mut Connection<S>,
     alloc: Global,
     court: &Court,
+    entered: &Calendar,
     from: Day,
     to: Day,
     front: &[u8],
@@ -68,21 +72,22 @@ fn tell_days<S: Alter, W: Write>(
     ensures clean { doubt (state S.Store conn.old).is_clean ≤ doubt (state S.Store conn.new).is_clean }
     ensures survives { IsPlain (understood conn.old.schema question) → Survives (state S.Store conn.old) (state S.Store conn.new) (λ _. ⊥) }
     ensures sends { (listed : List Due) → HasCleanDisk (state S.Store conn.new)
-        → Lists question (days_asked from to) court.now (state S.Store conn.old).now listed
+        → Lists question (days_asked from to) court.now entered.now (state S.Store conn.old).now listed
         → SendsAll S.Store court.now listed front.now (W.contents writer.old) (W.contents writer.new) conn.old conn.new result }
 {
     let days = params![from.epoch_day(), to.epoch_day()];
-    tell(conn, alloc, court, question(), days, front, writer)
+    tell(conn, alloc, court, entered, question(), days, front, writer)
 }
 
 /// Writes the bytes, then the calendar of the days from one to another, both included, and counts its
-/// lines. Each line is written before the next row is read, and the bytes go out with the first: where
-/// there is not even a first line, nothing does. What went out is all of it, or a front; the tables stay
-/// as they are.
+/// lines. `entered` is what the docket's calendar holds: it tells when the clerk's office closes. Each line
+/// is written before the next row is read, and the bytes go out with the first: where there is not even a
+/// first line, nothing does. What went out is all of it, or a front; the tables stay as they are.
 pub fn calendar<S: Alter, W: Write>(
     conn: &mut Connection<S>,
     alloc: Global,
     court: &Court,
+    entered: &Calendar,
     from: Day,
     to: Day,
     front: &[u8],
@@ -91,7 +96,8 @@ pub fn calendar<S: Alter, W: Write>(
     ensures mode { conn.old.in_transaction ≡ false → conn.new.in_transaction ≡ false }
     ensures clean { doubt (state S.Store conn.old).is_clean ≤ doubt (state S.Store conn.new).is_clean }
     ensures tells { (h : History) → IsHistoryOf court.now h → HoldsRows S.Store conn.old (history_rows court.now h)
+        → (HasCleanDisk (state S.Store conn.new) → entered.now ≡ calendar_in (rows_of court.now h))
         → Tells S.Store court.now h from to front.now (W.contents writer.old) (W.contents writer.new) conn.new result }
 {
-    tell_days(conn, alloc, court, from, to, front, writer)
+    tell_days(conn, alloc, court, entered, from, to, front, writer)
 }

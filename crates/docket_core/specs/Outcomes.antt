@@ -11,6 +11,7 @@ use Rattle.docket_command.specs.declared.command.Action.TheVariants.{DeclareDay,
 use Rattle.docket_command.specs.declared.refusal.Refusal.{Refusal}
 use Rattle.docket_command.specs.declared.refusal.Reply.{Reply}
 use Rattle.docket_core.specs.Actions.{case_named, asks_calendar, asks_cases, asks_next_row, if_asked}
+use Rattle.docket_core.specs.CalendarItems.{calendar_of}
 use Rattle.docket_core.specs.Histories.{History, standing_rows, items_of, next_row, case_rows, party_rows, parties_of_case, entry_rows, entries_of_case, deadlines}
 use Rattle.docket_core.specs.Refusals.{refusal_of, count_added, wants_statement}
 use Rattle.docket_core.specs.Times.{standing_shown, is_in_time}
@@ -66,7 +67,8 @@ reply_to court v (RuleMotion a) = a.deadline
 reply_to court v (Dispose a) = if wants_statement a.outcome then count_deadlines v.case + 1 else a.deadline
 reply_to court v (StatementServed a) = a.deadline
 reply_to court v (Extend a) = a.deadline
-reply_to court v (Satisfy a) = if is_in_time court (standing_shown court v) a.at a.way then 1 else 0
+reply_to court v (Satisfy a) =
+    if is_in_time court (calendar_of v.calendar) (standing_shown court v) a.at a.way then 1 else 0
 reply_to court v (Vacate a) = a.deadline
 -- every other command makes deadlines: the reply is the number of the first
 reply_to court v _ = count_deadlines v.case + 1

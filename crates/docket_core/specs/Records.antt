@@ -1,10 +1,14 @@
 -- What a history tells of its cases and deadlines.
 use Rattle.std.specs.Prelude.{ℕ, zero, suc, ◌+◌, ◌&&◌, if◌then◌else◌, nat_le, List, [], ◌∷◌, length, slice_get, Option, Some, None}
-use Rattle.civil_time.specs.Zone.{ZoneRules}
 use Rattle.court_days.specs.Calendar.{Entered}
 use Rattle.court_days.specs.Court.{CourtSettings, zone_of}
+use Rattle.court_days.specs.Timely.{closing}
+use Rattle.court_days.specs.declared.filing.End.{End}
+use Rattle.court_days.specs.declared.filing.End.TheVariants.{LastDay, Moment}
 use Rattle.court_rules.specs.Rules.{name_of}
 use Rattle.court_rules.specs.Standings.{standing}
+use Rattle.court_rules.specs.declared.act.Standing.{Standing}
+use Rattle.court_rules.specs.declared.act.Standing.TheVariants.{Running}
 use Rattle.docket_core.specs.CalendarItems.{calendar_of}
 use Rattle.docket_core.specs.Histories.{History, standing_rows, items_of, case_rows, party_rows, parties_of_case, entry_rows, entries_of_case, deadlines}
 use Rattle.docket_core.specs.declared.record.CaseRecord.{CaseRecord}
@@ -35,12 +39,32 @@ record_of parties entries (Some row) =
 abbrev pub case_record : History → ℕ → Option CaseRecord
 case_record h k = record_of (party_rows h) (entry_rows h) (case_at (case_rows h) k)
 
+-- when the clerk's office is scheduled to close on the last day of a time; 0 where the time ends at an instant
+abbrev pub close_of_end : CourtSettings → Entered → End → ℕ
+close_of_end court entered (LastDay day) = closing court entered day
+close_of_end court entered (Moment at) = 0
+
+-- 0 too where no time runs
+abbrev pub close_of_standing : CourtSettings → Entered → Standing → ℕ
+close_of_standing court entered (Running end) = close_of_end court entered end
+close_of_standing court entered _ = 0
+
+-- a deadline with where it stands
+abbrev pub line_of : CourtSettings → Entered → ℕ → DeadlineView → Standing → DeadlineLine
+line_of court entered number d stands = record {
+  number = number;
+  party = d.party;
+  rule = name_of d.rule;
+  standing = stands;
+  close = close_of_standing court entered stands;
+}
+
 -- deadlines numbered from a number on, each with where it stands
-abbrev pub lines_from : ZoneRules → Entered → ℕ → List DeadlineView → List DeadlineLine
-lines_from zone entered number [] = []
-lines_from zone entered number (d ∷ ds) =
-    record { number = number; party = d.party; rule = name_of d.rule; standing = standing zone entered d.acts }
-    ∷ lines_from zone entered (number + 1) ds
+abbrev pub lines_from : CourtSettings → Entered → ℕ → List DeadlineView → List DeadlineLine
+lines_from court entered number [] = []
+lines_from court entered number (d ∷ ds) =
+    line_of court entered number d (standing (zone_of court) entered d.acts)
+    ∷ lines_from court entered (number + 1) ds
 
 -- the calendar of a history
 abbrev pub calendar : History → Entered
@@ -50,5 +74,5 @@ calendar h = calendar_of (items_of (standing_rows h))
 abbrev pub deadline_lines : CourtSettings → History → ℕ → Option (List DeadlineLine)
 deadline_lines court h k =
     if nat_le 1 k && nat_le k (length (case_rows h))
-    then Some (lines_from (zone_of court) (calendar h) 1 (deadlines k h))
+    then Some (lines_from court (calendar h) 1 (deadlines k h))
     else None

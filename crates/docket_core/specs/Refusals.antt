@@ -165,7 +165,8 @@ may_not_extend v _ = false
 
 -- the court acts, or the request is made, before the time expires, or there was excusable neglect (6(b)(1))
 abbrev pub is_expired : CourtSettings → View → Action → Bool
-is_expired court v (Extend a) = not a.neglect && not (is_in_time court (standing_shown court v) a.at Electronic)
+is_expired court v (Extend a) =
+    not a.neglect && not (is_in_time court (calendar_of v.calendar) (standing_shown court v) a.at Electronic)
 is_expired court v _ = false
 
 -- an extension to a day goes past the last day

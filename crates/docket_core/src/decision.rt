@@ -97,7 +97,11 @@ fn reply(matter: &Matter<'_>, view: &View, action: &Action) -> u32
         },
         Action::StatementServed(a) => a.deadline,
         Action::Extend(a) => a.deadline,
-        Action::Satisfy(a) => u32::from(is_in_time(matter.court, matter.standing, a.at, a.way)),
+        Action::Satisfy(a) => {
+            let standing = matter.standing;
+            let is_in_time = is_in_time(matter.court, matter.calendar, standing, a.at, a.way);
+            u32::from(is_in_time)
+        }
         Action::Vacate(a) => a.deadline,
         _ => view.deadlines() + 1,
     }

@@ -26,7 +26,7 @@ pub use laws::{
     acts_are_in_order, limits_are_kept, rows_are_numbered_in_order, rows_stand_until_withdrawn,
     worked_dockets,
 };
-pub use lines::deadline_lines;
+pub use lines::{close_of_end, close_of_standing, deadline_lines, line_of};
 pub use moving::{acts_named, acts_with, end_moves};
 pub use named::{
     asks_calendar, asks_cases, asks_deadlines, asks_entries, asks_next_row, asks_parties,

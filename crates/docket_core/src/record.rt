@@ -76,19 +76,25 @@ pub struct CaseRecord {
     pub entries: EntryRows,
 }
 
-/// A deadline of a case, and where it stands. The party is 0 for every party, the rule is its name.
+/// A deadline of a case, and where it stands. The party is 0 for every party, the rule is its name;
+/// `close` is the minute of the day at which the clerk's office is scheduled to close on the last day,
+/// and 0 where the time ends at an instant or none runs.
 #[derive(Drop)]
 pub struct DeadlineLine {
     pub number: u32,
     pub party: u32,
     pub rule: Text,
     pub standing: Standing,
+    pub close: u32,
 }
 
-/// The end of a deadline whose time runs. The party is 0 for every party, the rule is its name.
+/// The end of a deadline whose time runs. The party is 0 for every party, the rule is its name;
+/// `close` is the minute of the day at which the clerk's office is scheduled to close on the last day,
+/// and 0 where the time ends at an instant.
 #[derive(Drop)]
 pub struct DueRow {
     pub end: End,
+    pub close: u32,
     pub case: u32,
     pub number: u32,
     pub party: u32,

@@ -196,20 +196,30 @@ fn may_not_extend(view: &View, action: &Action) -> bool
 }
 
 /// Whether a filing at the moment is in time, or no time was running.
-pub(crate) fn is_in_time(court: &Court, standing: Standing, at: Moment, way: Way) -> bool
-    ensures { result ≡ is_in_time court.now standing at way }
+pub(crate) fn is_in_time(
+    court: &Court,
+    calendar: &Calendar,
+    standing: Standing,
+    at: Moment,
+    way: Way,
+) -> bool
+    ensures { result ≡ is_in_time court.now calendar.now standing at way }
 {
     match standing {
-        Standing::Running(end) => timely(court, end, at.seconds(), way),
+        Standing::Running(end) => timely(court, calendar, end, at.seconds(), way),
         _ => true,
     }
 }
 
-fn is_expired(court: &Court, action: &Action, standing: Standing) -> bool
-    ensures { (v : ViewOf) → standing ≡ standing_shown court.now v → result ≡ is_expired court.now v action.now }
+fn is_expired(court: &Court, calendar: &Calendar, action: &Action, standing: Standing) -> bool
+    ensures { (v : ViewOf) → calendar.now ≡ calendar_of v.calendar → standing ≡ standing_shown court.now v
+        → result ≡ is_expired court.now v action.now }
 {
     match action {
-        Action::Extend(a) => !a.neglect && !is_in_time(court, standing, a.at, Way::Electronic),
+        Action::Extend(a) => {
+            let is_late = !is_in_time(court, calendar, standing, a.at, Way::Electronic);
+            !a.neglect && is_late
+        }
         _ => false,
     }
 }
@@ -312,7 +322,10 @@ fn state_refusal(matter: &Matter<'_>, view: &View, action: &Action) -> Option<Re
         (is_short_waiver(action), Refusal::ShortWaiver),
         (is_late_waiver(matter.calendar, action), Refusal::LateWaiver),
         (may_not_extend(view, action), Refusal::MayNotExtend),
-        (is_expired(court, action, matter.standing), Refusal::Expired),
+        (
+            is_expired(court, matter.calendar, action, matter.standing),
+            Refusal::Expired,
+        ),
         (
             is_not_later(court, action, matter.standing),
             Refusal::NotLater,

@@ -6,6 +6,7 @@ use Rattle.sqlite.specs.State.{HasCleanDisk}
 use Rattle.sqlite.specs.Held.{state}
 use Rattle.court_days.specs.Court.{CourtSettings}
 use Rattle.docket_calendar.specs.Calendar.{text_of_calendar}
+use Rattle.docket_calendar.specs.Sending.{HasBegun}
 use Rattle.docket_core.specs.Histories.{History}
 use Rattle.docket_store.specs.Applying.{Stands}
 use Rattle.docket_store.specs.Dockets.{Docket}
@@ -19,7 +20,7 @@ use Rattle.http_request.specs.declared.wish.Wish.TheVariants.{Calendar}
 use Rattle.docket_http.specs.Answer.{response_bytes, problem_response, head_bytes, open_text}
 use Rattle.docket_http.specs.Asking.{problem_of_fault}
 use Rattle.docket_http.specs.Reply.{reply_bytes, reply_status}
-use Rattle.docket_http.specs.Serve.{IsServed, IsCut, IsBroken, IsAsked, Serves, Fails, fault_of_broken}
+use Rattle.docket_http.specs.Serve.{Begins, IsServed, IsCut, IsBroken, IsAsked, Serves, Fails, fault_of_broken}
 use Rattle.docket_http.specs.declared.head.Form.TheVariants.{OpenText}
 use Rattle.docket_http.specs.declared.problem.Problem.{Problem}
 use Rattle.docket_http.specs.declared.problem.Problem.TheVariants.{NoMemory}
@@ -38,6 +39,10 @@ front_of a b text f =
       within = omega (arith, size);
       front = subst (λ (x : List ℕ). Appends a b x) (sym (ap (λ t. take (length f.out) t) f.whole ∙ take_at f.out f.lost (length f.out) refl)) f.appends;
     }
+
+begins_of : (a b : Option (List ℕ)) (text : List ℕ) → HasBegun a b text → Begins a b text
+unfolding front_of
+begins_of a b text f = record { front = front_of a b text f.front; begun = f.begun }
 
 -- what comes behind nothing
 nothing_appends : (a b c : Option (List ℕ)) (x : List ℕ) → Appends a b [] → Appends b c x → Appends a c x
@@ -117,13 +122,13 @@ module _ {S : Type 0} (g : Ghosts S) where
   calendar_fails d old (Err e) a b body o n same fails = λ h stands clean. subst (λ (w : Wish). IsBroken g d h w body o n e) (sym same) (fails h body stands clean)
 
   -- a request that was read
-  pub read_whole : (d old : Docket S) (r : Result Served ServeFault) (input : Option (List ℕ)) (wish : Wish) (body : List ℕ) (o n : Option (List ℕ)) → IsAsked g input wish body
+  pub read_whole : (d old : Docket S) (r : Result Served ServeFault) (input : Option (List ℕ)) (wish : Wish) (body : List ℕ) (o n : Option (List ℕ)) → IsAsked input wish body
       → IfOk r (λ s. (h : History) → Stands g old h → HasCleanDisk (state g d.conn) → IsServed g d h wish body o n s.status)
       → IfOk r (λ s. (h : History) → Stands g old h → HasCleanDisk (state g d.conn) → Serves g input old d h o n s.status)
   read_whole d old (Err e) input wish body o n asked whole = tt
   read_whole d old (Ok s) input wish body o n asked whole = λ h stands clean. inl (wish, body, asked, whole h stands clean)
 
-  read_broken : (d old : Docket S) (e : ServeFault) (h : History) (input : Option (List ℕ)) (wish : Wish) (body : List ℕ) (o n : Option (List ℕ)) → IsAsked g input wish body
+  read_broken : (d old : Docket S) (e : ServeFault) (h : History) (input : Option (List ℕ)) (wish : Wish) (body : List ℕ) (o n : Option (List ℕ)) → IsAsked input wish body
       → IsBroken g d h wish body o n e → Fails g input old d h o n e
   read_broken d old serve.ReadFailed h input wish body o n asked is = absurd is
   read_broken d old serve.EndedEarly h input wish body o n asked is = absurd is
@@ -131,7 +136,7 @@ module _ {S : Type 0} (g : Ghosts S) where
   read_broken d old serve.NoMemory h input wish body o n asked is = (wish, body, asked, is)
   read_broken d old serve.StoreFailed h input wish body o n asked is = (wish, body, asked, is)
 
-  pub read_fails : (d old : Docket S) (r : Result Served ServeFault) (input : Option (List ℕ)) (wish : Wish) (body : List ℕ) (o n : Option (List ℕ)) → IsAsked g input wish body
+  pub read_fails : (d old : Docket S) (r : Result Served ServeFault) (input : Option (List ℕ)) (wish : Wish) (body : List ℕ) (o n : Option (List ℕ)) → IsAsked input wish body
       → IfErr r (λ e. (h : History) → Stands g old h → HasCleanDisk (state g d.conn) → IsBroken g d h wish body o n e)
       → IfErr r (λ e. (h : History) → Stands g old h → HasCleanDisk (state g d.conn) → Fails g input old d h o n e)
   read_fails d old (Ok s) input wish body o n asked fails = tt
@@ -183,9 +188,9 @@ module _ {S : Type 0} (g : Ghosts S) where
       → ((len : ℕ) → front ≡ head_bytes 200 OpenText len) → Lists g d h from to front o n (Err (listing.Broken f)) → HasCleanDisk (state g d.conn)
       → IsBroken g d h (Calendar from to) body o n (fault_of_broken f)
   calendar_broken d h from to body front o n fault.NoMemory head lists clean =
-      ((refl, inl lists.0), subst (λ (b : List ℕ). AppendsFront o n b) (calendar_bytes d.court h from to front head) (front_of o n _ (lists.1 clean)), λ built. built)
+      ((refl, inl lists.0), subst (λ (b : List ℕ). Begins o n b) (calendar_bytes d.court h from to front head) (begins_of o n _ (lists.1 clean)), λ built. built)
   calendar_broken d h from to body front o n fault.StoreFailed head lists clean =
-      ((refl, either_from_lasts g d h lists.0), subst (λ (b : List ℕ). AppendsFront o n b) (calendar_bytes d.court h from to front head) (front_of o n _ (lists.1 clean)), λ built. built)
+      ((refl, either_from_lasts g d h lists.0), subst (λ (b : List ℕ). Begins o n b) (calendar_bytes d.court h from to front head) (begins_of o n _ (lists.1 clean)), λ built. built)
   calendar_broken d h from to body front o n fault.Damaged head lists clean = absurd (lists.0 clean)
   calendar_broken d h from to body front o n fault.Closed head lists clean = absurd lists.0
   calendar_broken d h from to body front o n (fault.Refused r) head lists clean = absurd lists.0

@@ -131,3 +131,26 @@ module _ {S : Type 0} (g : Ghosts S) where
     pub problem : Option Problem
     pub is : response ≡ told problem (response_to d.court h wish body)
     pub left : LeftBy problem d h wish body
+
+-- what a closed docket answers to the text of a command: one that spells none is told its fault
+abbrev pub closed_command : Result Command WireFault → Response
+closed_command (Ok c) = problem_response Closed
+closed_command (Err fault) = json 400 (fault_text fault)
+
+-- what is answered on a closed docket: where it is asked, that it is closed. What does not ask it is answered as ever. Memory may be short
+-- where it is taken: to read a command, and to tell holidays
+abbrev pub IsClosedAnswer : Wish → List ℕ → Response → Type 0
+IsClosedAnswer (Reject rejection) body response = response ≡ problem_response (Rejected rejection)
+IsClosedAnswer (CommandWish len) body response = (response ≡ closed_command (command_in body)) ⊎ (response ≡ problem_response NoMemory)
+IsClosedAnswer (Case number) body response = response ≡ problem_response Closed
+IsClosedAnswer (Deadlines number) body response = response ≡ problem_response Closed
+IsClosedAnswer (Calendar from to) body response = response ≡ problem_response Closed
+IsClosedAnswer (Holidays year) body response = (response ≡ text (holiday_text year)) ⊎ (response ≡ problem_response NoMemory)
+
+-- the reply of a closed docket, and what it replies before a fault is told as a problem
+abbrev pub IsClosedReply : Wish → List ℕ → Reply → Type 0
+IsClosedReply wish body reply = (response : Response) × IsReply reply response × IsClosedAnswer wish body response
+
+abbrev pub RepliesClosed : Wish → List ℕ → Result Reply Fault → Type 0
+RepliesClosed wish body (Ok reply) = IsClosedReply wish body reply
+RepliesClosed wish body (Err fault) = IsClosedAnswer wish body (problem_response (problem_of_fault fault))

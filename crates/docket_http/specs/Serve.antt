@@ -1,5 +1,5 @@
 -- What a connection is served, and what is left where it is not served whole.
-use Rattle.std.specs.Prelude.{◌≡◌, ◌⊎◌, ℕ, List, Option, Some, IfSome}
+use Rattle.std.specs.Prelude.{◌≡◌, ◌≤◌, ◌⊎◌, ℕ, List, Option, Some, IfSome, Result, Ok, Err}
 use Rattle.std.specs.Io.KnownBytes.{Appends, Keeps}
 use Rattle.sqlite.specs.Store.{Ghosts}
 use Rattle.docket_core.specs.Histories.{History}
@@ -10,10 +10,11 @@ use Rattle.line_io.specs.Output.{AppendsFront}
 use Rattle.http_request.specs.Request.{IsRequest, EndsEarly}
 use Rattle.http_request.specs.declared.wish.Wish.{Wish}
 use Rattle.docket_http.specs.Answer.{Response, response_bytes, problem_response}
-use Rattle.docket_http.specs.Asking.{IsAnswered, IsBuilt, LeftBy, response_to}
+use Rattle.docket_http.specs.Asking.{IsAnswered, IsBuilt, IsClosedAnswer, LeftBy, response_to}
 use Rattle.docket_http.specs.declared.problem.Problem.TheVariants.{NoMemory, Store}
 use Rattle.docket_http.specs.declared.fault.ServeFault.{ServeFault}
 use Rattle.docket_http.specs.declared.fault.ServeFault.TheVariants as serve
+use Rattle.docket_http.specs.declared.sending.Served.{Served}
 
 -- what a calendar comes to whose docket failed in the middle
 abbrev pub fault_of_broken : Fault → ServeFault
@@ -22,6 +23,35 @@ fault_of_broken fault.StoreFailed = serve.StoreFailed
 fault_of_broken fault.Closed = serve.StoreFailed
 fault_of_broken fault.Damaged = serve.StoreFailed
 fault_of_broken (fault.Refused r) = serve.StoreFailed
+
+-- a front of the bytes went out, and it is not empty
+pub record Begins (before after : Option (List ℕ)) (bytes : List ℕ) : Type 0 where
+  pub front : AppendsFront before after bytes
+  pub begun : 1 ≤ front.count
+
+-- the input asks for this, where it is known
+abbrev pub IsAsked : Option (List ℕ) → Wish → List ℕ → Type 0
+IsAsked input wish body = IfSome input (λ bytes. IsRequest bytes wish body)
+
+-- the answer went out, or a front of it where the writer failed
+abbrev pub Sends : Response → Option (List ℕ) → Option (List ℕ) → Result Served ServeFault → Type 0
+Sends response before after (Ok served) = Appends before after (response_bytes response) × (served.status ≡ response.status)
+Sends response before after (Err serve.WriteFailed) = AppendsFront before after (response_bytes response)
+Sends response before after (Err _) = ⊥
+
+-- a closed docket's answer to this went out, or a front of it
+pub record SendsClosed (wish : Wish) (body : List ℕ) (before after : Option (List ℕ)) (result : Result Served ServeFault) : Type 0 where
+  pub response : Response
+  pub closed : IsClosedAnswer wish body response
+  pub sent : Sends response before after result
+
+-- what a connection comes to on a closed docket: its answer to what was read, or what tells that memory was short before it was read whole
+abbrev pub ServesClosed : Option (List ℕ) → Option (List ℕ) → Option (List ℕ) → Result Served ServeFault → Type 0
+ServesClosed input before after (Err serve.ReadFailed) = Keeps before after
+ServesClosed input before after (Err serve.EndedEarly) = Keeps before after × IfSome input EndsEarly
+ServesClosed input before after result =
+    ((wish : Wish) × (body : List ℕ) × IsAsked input wish body × SendsClosed wish body before after result)
+    ⊎ Sends (problem_response NoMemory) before after result
 
 module _ {S : Type 0} (g : Ghosts S) where
   -- an answer went out whole, and the docket is left as it says
@@ -37,18 +67,15 @@ module _ {S : Type 0} (g : Ghosts S) where
     pub answered : IsAnswered g d h wish body response
     pub front : AppendsFront before after (response_bytes response)
 
-  -- what is left of a request that was read and not answered whole: only a calendar breaks off for another cause than a writer that failed
+  -- what is left of a request that was read and not answered whole: only a calendar, once it has begun, breaks off for another cause than a
+  -- writer that failed
   abbrev pub IsBroken : Docket S → History → Wish → List ℕ → Option (List ℕ) → Option (List ℕ) → ServeFault → Type 0
   IsBroken d h wish body before after serve.WriteFailed = IsCut d h wish body before after
   IsBroken d h wish body before after serve.NoMemory =
-      LeftBy g (Some NoMemory) d h wish body × AppendsFront before after (response_bytes (response_to d.court h wish body)) × (IsBuilt wish → ⊥)
+      LeftBy g (Some NoMemory) d h wish body × Begins before after (response_bytes (response_to d.court h wish body)) × (IsBuilt wish → ⊥)
   IsBroken d h wish body before after serve.StoreFailed =
-      LeftBy g (Some Store) d h wish body × AppendsFront before after (response_bytes (response_to d.court h wish body)) × (IsBuilt wish → ⊥)
+      LeftBy g (Some Store) d h wish body × Begins before after (response_bytes (response_to d.court h wish body)) × (IsBuilt wish → ⊥)
   IsBroken d h wish body before after _ = ⊥
-
-  -- the input asks for this, where it is known
-  abbrev pub IsAsked : Option (List ℕ) → Wish → List ℕ → Type 0
-  IsAsked input wish body = IfSome input (λ bytes. IsRequest bytes wish body)
 
   -- memory was short before the request was read whole, and this was told, or a front of it
   pub record GivesUp (old new : Docket S) (before after : Option (List ℕ)) (status : ℕ) : Type 0 where

@@ -8,7 +8,7 @@ ghost use Rattle.docket_store.specs.Applying.{Stands};
 ghost use Rattle.http_request.specs.Request.{body_of};
 ghost use Rattle.http_request.specs.Wish.{IsWithinLimits};
 ghost use Rattle.docket_http.specs.Answer.{Response};
-ghost use Rattle.docket_http.specs.Asking.{IsBuilt, Replies, IsAnswered};
+ghost use Rattle.docket_http.specs.Asking.{IsBuilt, Replies, RepliesClosed, IsAnswered, IsClosedReply};
 ghost use Rattle.docket_http.specs.Reply.{IsReply};
 
 use crate::asking::{case_reply, deadlines_reply, holidays_reply};
@@ -31,7 +31,8 @@ fn reply_to<S: Alter>(
     requires within { request.now.start ≤ request.now.end × request.now.end ≤ vec_len request.now.came }
     ensures court { docket.new.court ≡ docket.old.court }
     ensures clean { doubt (state S.Store docket.old.conn).is_clean ≤ doubt (state S.Store docket.new.conn).is_clean }
-    ensures closed { docket.old.closed ≡ true → docket.new ≡ docket.old }
+    ensures closed { docket.old.closed ≡ true → (docket.new ≡ docket.old)
+        × RepliesClosed request.now.wish (body_of request.now) result }
     ensures replies { (h : History) → Stands S.Store docket.old h
         → Replies S.Store docket.new h request.now.wish (body_of request.now) result }
 {
@@ -55,7 +56,8 @@ pub(crate) fn reply_of<S: Alter>(alloc: Global, docket: &mut Docket<S>, request:
     requires within { request.now.start ≤ request.now.end × request.now.end ≤ vec_len request.now.came }
     ensures court { docket.new.court ≡ docket.old.court }
     ensures clean { doubt (state S.Store docket.old.conn).is_clean ≤ doubt (state S.Store docket.new.conn).is_clean }
-    ensures closed { docket.old.closed ≡ true → docket.new ≡ docket.old }
+    ensures closed { docket.old.closed ≡ true → (docket.new ≡ docket.old)
+        × IsClosedReply request.now.wish (body_of request.now) result }
     ensures answered { (h : History) → Stands S.Store docket.old h → HasCleanDisk (state S.Store docket.new.conn)
         → (response : Response) × IsReply result response
         × IsAnswered S.Store docket.new h request.now.wish (body_of request.now) response }

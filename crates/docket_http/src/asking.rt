@@ -1,5 +1,5 @@
 //! Questions to the docket, and what they are answered.
-ghost use Rattle.std.specs.Prelude.{◌≡◌, ◌≤◌, ℕ, List, Some, IfOk, true};
+ghost use Rattle.std.specs.Prelude.{◌≡◌, ◌≤◌, ℕ, List, Some, IfOk, Err, true};
 ghost use Rattle.std.specs.Int.{IsInRange};
 ghost use Rattle.sqlite.specs.Held.{state};
 ghost use Rattle.sqlite.specs.State.{HasCleanDisk};
@@ -7,6 +7,7 @@ ghost use Rattle.sqlite.specs.View.{doubt};
 ghost use Rattle.docket_core.specs.Histories.{History};
 ghost use Rattle.docket_core.specs.Records.{case_record};
 ghost use Rattle.docket_store.specs.Applying.{Stands};
+ghost use Rattle.docket_store.specs.declared.fault.Fault.TheVariants as fault;
 ghost use Rattle.docket_text.specs.CaseTexts.{case_text as text_of_case, deadlines_text as text_of_deadlines};
 ghost use Rattle.docket_text.specs.HolidayTexts.{holiday_text as text_of_holidays};
 ghost use Rattle.http_request.specs.declared.wish.Wish.TheVariants.{Case, Deadlines};
@@ -32,14 +33,14 @@ fn told_case(
     ensures { IfOk result (λ reply. IsReply reply (text (text_of_case court.now case.now lines.now))) }
 {
     let body = case_text(alloc, court, case, lines)?;
-    text_reply(alloc, body.as_str())
+    text_reply(alloc, body)
 }
 
 fn told_deadlines(alloc: Global, court: &Court, lines: &[DeadlineLine]) -> Result<Reply, AllocError>
     ensures { IfOk result (λ reply. IsReply reply (text (text_of_deadlines court.now lines.now))) }
 {
     let body = deadlines_text(alloc, court, lines)?;
-    text_reply(alloc, body.as_str())
+    text_reply(alloc, body)
 }
 
 /// The holidays of a year.
@@ -48,7 +49,7 @@ pub(crate) fn holidays_reply(alloc: Global, year: u32) -> Result<Reply, AllocErr
     ensures { IfOk result (λ reply. IsReply reply (text (text_of_holidays year))) }
 {
     let body = holiday_text(alloc, year)?;
-    text_reply(alloc, body.as_str())
+    text_reply(alloc, body)
 }
 
 /// A case that was found, with its deadlines.
@@ -60,7 +61,7 @@ fn found_reply<S: Alter>(
 ) -> Result<Reply, Fault>
     ensures court { docket.new.court ≡ docket.old.court }
     ensures clean { doubt (state S.Store docket.old.conn).is_clean ≤ doubt (state S.Store docket.new.conn).is_clean }
-    ensures closed { docket.old.closed ≡ true → docket.new ≡ docket.old }
+    ensures closed { docket.old.closed ≡ true → (result ≡ Err fault.Closed) × (docket.new ≡ docket.old) }
     ensures replies { (h : History) (body : List ℕ) → Stands S.Store docket.old h
         → (HasCleanDisk (state S.Store docket.old.conn) → Some case.now ≡ case_record h number)
         → Replies S.Store docket.new h (Case number) body result }
@@ -79,7 +80,7 @@ pub(crate) fn case_reply<S: Alter>(
 ) -> Result<Reply, Fault>
     ensures court { docket.new.court ≡ docket.old.court }
     ensures clean { doubt (state S.Store docket.old.conn).is_clean ≤ doubt (state S.Store docket.new.conn).is_clean }
-    ensures closed { docket.old.closed ≡ true → docket.new ≡ docket.old }
+    ensures closed { docket.old.closed ≡ true → (result ≡ Err fault.Closed) × (docket.new ≡ docket.old) }
     ensures replies { (h : History) (body : List ℕ) → Stands S.Store docket.old h
         → Replies S.Store docket.new h (Case number) body result }
 {
@@ -97,7 +98,7 @@ pub(crate) fn deadlines_reply<S: Alter>(
 ) -> Result<Reply, Fault>
     ensures court { docket.new.court ≡ docket.old.court }
     ensures clean { doubt (state S.Store docket.old.conn).is_clean ≤ doubt (state S.Store docket.new.conn).is_clean }
-    ensures closed { docket.old.closed ≡ true → docket.new ≡ docket.old }
+    ensures closed { docket.old.closed ≡ true → (result ≡ Err fault.Closed) × (docket.new ≡ docket.old) }
     ensures replies { (h : History) (body : List ℕ) → Stands S.Store docket.old h
         → Replies S.Store docket.new h (Deadlines number) body result }
 {

@@ -6,7 +6,9 @@ ghost use Rattle.sqlite.specs.View.{doubt};
 ghost use Rattle.docket_core.specs.Histories.{History};
 ghost use Rattle.docket_store.specs.Applying.{Stands};
 ghost use Rattle.http_request.specs.declared.wish.Wish.TheVariants.{Calendar};
-ghost use Rattle.docket_http.specs.Serve.{IsServed, IsBroken, fault_of_broken};
+ghost use Rattle.docket_http.specs.Answer.{problem_response};
+ghost use Rattle.docket_http.specs.Serve.{IsServed, IsBroken, Sends, fault_of_broken};
+ghost use Rattle.docket_http.specs.declared.problem.Problem.TheVariants.{Closed};
 
 use crate::fault::ServeFault;
 use crate::head::open_head;
@@ -39,7 +41,8 @@ pub(crate) fn serve_calendar<W: Write, S: Alter>(
 ) -> Result<Served, ServeFault>
     ensures court { docket.new.court ≡ docket.old.court }
     ensures clean { doubt (state S.Store docket.old.conn).is_clean ≤ doubt (state S.Store docket.new.conn).is_clean }
-    ensures closed { docket.old.closed ≡ true → docket.new ≡ docket.old }
+    ensures closed { docket.old.closed ≡ true → (docket.new ≡ docket.old)
+        × Sends (problem_response Closed) (W.contents writer.old) (W.contents writer.new) result }
     ensures served { IfOk result (λ served. (h : History) (body : List ℕ) → Stands S.Store docket.old h
         → HasCleanDisk (state S.Store docket.new.conn)
         → IsServed S.Store docket.new h (Calendar from to) body (W.contents writer.old) (W.contents writer.new) served.status) }

@@ -1,5 +1,5 @@
 //! Commands, and what they are answered.
-ghost use Rattle.std.specs.Prelude.{◌≡◌, ◌≤◌, ℕ, List, IfOk, IfErr, Ok, true};
+ghost use Rattle.std.specs.Prelude.{◌≡◌, ◌≤◌, ℕ, List, IfOk, IfErr, Ok, Err, true};
 ghost use Rattle.sqlite.specs.Held.{state};
 ghost use Rattle.sqlite.specs.View.{doubt};
 ghost use Rattle.docket_core.specs.Histories.{History};
@@ -9,7 +9,7 @@ ghost use Rattle.docket_store.specs.declared.fault.Fault.TheVariants as fault;
 ghost use Rattle.docket_wire.specs.Reading.{command_in};
 ghost use Rattle.docket_wire.specs.Texts.{fault_text};
 ghost use Rattle.docket_http.specs.Answer.{json};
-ghost use Rattle.docket_http.specs.Asking.{Replies, said_status};
+ghost use Rattle.docket_http.specs.Asking.{Replies, RepliesClosed, said_status};
 ghost use Rattle.docket_http.specs.Reply.{IsReply};
 
 use crate::reply::{Reply, json_reply};
@@ -37,7 +37,7 @@ fn applied_reply<S: Alter>(
 ) -> Result<Reply, Fault>
     ensures court { docket.new.court ≡ docket.old.court }
     ensures clean { doubt (state S.Store docket.old.conn).is_clean ≤ doubt (state S.Store docket.new.conn).is_clean }
-    ensures closed { docket.old.closed ≡ true → docket.new ≡ docket.old }
+    ensures closed { docket.old.closed ≡ true → (result ≡ Err fault.Closed) × (docket.new ≡ docket.old) }
     ensures replies { (h : History) (len : ℕ) (body : List ℕ) → Stands S.Store docket.old h → command_in body ≡ Ok command.now
         → Replies S.Store docket.new h (CommandWish len) body result }
 {
@@ -74,7 +74,8 @@ pub(crate) fn command_reply<S: Alter>(
 ) -> Result<Reply, Fault>
     ensures court { docket.new.court ≡ docket.old.court }
     ensures clean { doubt (state S.Store docket.old.conn).is_clean ≤ doubt (state S.Store docket.new.conn).is_clean }
-    ensures closed { docket.old.closed ≡ true → docket.new ≡ docket.old }
+    ensures closed { docket.old.closed ≡ true → (docket.new ≡ docket.old)
+        × ((len : ℕ) → RepliesClosed (CommandWish len) body.now result) }
     ensures replies { (h : History) (len : ℕ) → Stands S.Store docket.old h
         → Replies S.Store docket.new h (CommandWish len) body.now result }
 {

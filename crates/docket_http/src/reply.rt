@@ -1,7 +1,7 @@
 //! Answers, whole.
 ghost use Rattle.std.specs.Prelude.{◌≡◌, IfOk, string_bytes};
 ghost use Rattle.docket_http.specs.Answer.{json, text};
-ghost use Rattle.docket_http.specs.Reply.{IsReply, reply_bytes, reply_status};
+ghost use Rattle.docket_http.specs.Reply.{IsReply, reply_status};
 
 use crate::head::{Form, Head};
 use crate::problem::Problem;
@@ -11,40 +11,34 @@ use std::alloc::{AllocError, Global};
 /// An answer.
 #[derive(Drop)]
 pub(crate) enum Reply {
-    /// One that was built: its status and all its bytes.
-    Built { status: StatusCode, text: String },
+    /// One that was built. Its body, which may be long, is not copied behind its head.
+    Built {
+        status: StatusCode,
+        head: String,
+        body: String,
+    },
     /// One that tells a problem.
     Fixed(Problem),
 }
 
 impl Reply {
-    /// All the bytes of the answer.
-    pub(crate) fn bytes(&self) -> &[u8]
-        ensures { result.now ≡ reply_bytes self.now }
-    {
-        match self {
-            Reply::Built { status: _, text } => text.as_bytes(),
-            Reply::Fixed(problem) => problem.answer(),
-        }
-    }
-
     pub(crate) fn status(&self) -> StatusCode
         ensures { result ≡ reply_status self.now }
     {
         match self {
-            Reply::Built { status, text: _ } => *status,
+            Reply::Built { status, .. } => *status,
             Reply::Fixed(problem) => problem.status(),
         }
     }
 }
 
-fn built(alloc: Global, status: StatusCode, form: Form, body: &str) -> Result<Reply, AllocError>
-    ensures { IfOk result (λ reply. IsReply reply (record { status = status; form = form; body = body.now })) }
+fn built(alloc: Global, status: StatusCode, form: Form, body: String) -> Result<Reply, AllocError>
+    ensures { IfOk result (λ reply. IsReply reply (record { status = status; form = form; body = string_bytes body })) }
 {
     let len = body.len();
     let head = Head { status, form, len };
-    let text = format!(in alloc; "{head}{body}")?;
-    Ok(Reply::Built { status, text })
+    let head = format!(in alloc; "{head}")?;
+    Ok(Reply::Built { status, head, body })
 }
 
 /// An answer in JSON, which ends with a line feed.
@@ -56,12 +50,12 @@ pub(crate) fn json_reply(
     ensures { IfOk result (λ reply. IsReply reply (json status (string_bytes text))) }
 {
     text.push('\n')?;
-    built(alloc, status, Form::Json, text.as_str())
+    built(alloc, status, Form::Json, text)
 }
 
 /// An answer that is a text.
-pub(crate) fn text_reply(alloc: Global, body: &str) -> Result<Reply, AllocError>
-    ensures { IfOk result (λ reply. IsReply reply (text body.now)) }
+pub(crate) fn text_reply(alloc: Global, body: String) -> Result<Reply, AllocError>
+    ensures { IfOk result (λ reply. IsReply reply (text (string_bytes body))) }
 {
     built(alloc, StatusCode::OK, Form::Text, body)
 }

@@ -1,5 +1,5 @@
 //! Writing an answer that is whole.
-ghost use Rattle.std.specs.Prelude.{◌≡◌, IfOk, IfErr};
+ghost use Rattle.std.specs.Prelude.{◌≡◌, IfOk, IfErr, OnOk, OnErr};
 ghost use Rattle.std.specs.Io.KnownBytes.{Appends};
 ghost use Rattle.line_io.specs.Output.{AppendsFront};
 ghost use Rattle.docket_http.specs.Reply.{reply_bytes, reply_status};
@@ -16,6 +16,20 @@ pub struct Served {
     pub status: u16,
 }
 
+/// Writes the bytes of an answer, its head and then its body.
+fn write_reply<W: Write>(writer: &mut W, reply: &Reply) -> Result<(), WriteFailed>
+    ensures whole { OnOk result (Appends (W.contents writer.old) (W.contents writer.new) (reply_bytes reply.now)) }
+    ensures front { OnErr result (AppendsFront (W.contents writer.old) (W.contents writer.new) (reply_bytes reply.now)) }
+{
+    match reply {
+        Reply::Built { head, body, .. } => {
+            write_bytes(writer, head.as_bytes())?;
+            write_bytes(writer, body.as_bytes())
+        }
+        Reply::Fixed(problem) => write_bytes(writer, problem.answer()),
+    }
+}
+
 /// Writes an answer.
 pub(crate) fn send<W: Write>(writer: &mut W, reply: &Reply) -> Result<Served, ServeFault>
     ensures whole { IfOk result (λ served. Appends (W.contents writer.old) (W.contents writer.new) (reply_bytes reply.now)
@@ -23,7 +37,7 @@ pub(crate) fn send<W: Write>(writer: &mut W, reply: &Reply) -> Result<Served, Se
     ensures front { IfErr result (λ e. (e ≡ ServeFault.WriteFailed)
         × AppendsFront (W.contents writer.old) (W.contents writer.new) (reply_bytes reply.now)) }
 {
-    match write_bytes(writer, reply.bytes()) {
+    match write_reply(writer, reply) {
         Ok(()) => Ok(Served {
             status: reply.status().as_u16(),
         }),

@@ -10,7 +10,7 @@ ghost use Rattle.http_request.specs.Request.{body_of};
 ghost use Rattle.http_request.specs.Wish.{IsWithinLimits};
 ghost use Rattle.http_request.specs.declared.wish.Wish.TheVariants.{Calendar};
 ghost use Rattle.docket_http.specs.Asking.{IsBuilt};
-ghost use Rattle.docket_http.specs.Serve.{IsServed, IsBroken, Serves, Fails};
+ghost use Rattle.docket_http.specs.Serve.{IsServed, IsBroken, Serves, Fails, SendsClosed, ServesClosed};
 
 use crate::answering::reply_of;
 use crate::calendar::serve_calendar;
@@ -47,7 +47,8 @@ fn serve_request<W: Write, S: Alter>(
     requires within { request.now.start ≤ request.now.end × request.now.end ≤ vec_len request.now.came }
     ensures court { docket.new.court ≡ docket.old.court }
     ensures clean { doubt (state S.Store docket.old.conn).is_clean ≤ doubt (state S.Store docket.new.conn).is_clean }
-    ensures closed { docket.old.closed ≡ true → docket.new ≡ docket.old }
+    ensures closed { docket.old.closed ≡ true → (docket.new ≡ docket.old)
+        × SendsClosed request.now.wish (body_of request.now) (W.contents writer.old) (W.contents writer.new) result }
     ensures served { IfOk result (λ served. (h : History) → Stands S.Store docket.old h
         → HasCleanDisk (state S.Store docket.new.conn)
         → IsServed S.Store docket.new h request.now.wish (body_of request.now) (W.contents writer.old) (W.contents writer.new) served.status) }
@@ -66,7 +67,8 @@ fn serve_request<W: Write, S: Alter>(
 }
 
 /// Serves one request of a connection: what is written is the answer to what was read, and the docket
-/// then stands for the history that this answer reports.
+/// then stands for the history that this answer reports. A closed docket stays as it is, and a request
+/// that asks it is told that it is closed.
 pub fn serve_one<R: Read, W: Write, S: Alter>(
     alloc: Global,
     reader: &mut R,
@@ -75,7 +77,8 @@ pub fn serve_one<R: Read, W: Write, S: Alter>(
 ) -> Result<Served, ServeFault>
     ensures court { docket.new.court ≡ docket.old.court }
     ensures clean { doubt (state S.Store docket.old.conn).is_clean ≤ doubt (state S.Store docket.new.conn).is_clean }
-    ensures closed { docket.old.closed ≡ true → docket.new ≡ docket.old }
+    ensures closed { docket.old.closed ≡ true → (docket.new ≡ docket.old)
+        × ServesClosed (R.remaining reader.old) (W.contents writer.old) (W.contents writer.new) result }
     ensures served { IfOk result (λ served. (h : History) → Stands S.Store docket.old h
         → HasCleanDisk (state S.Store docket.new.conn)
         → Serves S.Store (R.remaining reader.old) docket.old docket.new h

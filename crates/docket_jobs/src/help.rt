@@ -7,8 +7,9 @@ Each line is answered by one line. Lines that enter something answer `ok`:
   closed DAY      a day on which the clerk's office is inaccessible
   span MOMENT MOMENT
                   a time in which it is, for periods of hours
+  short DAY HH:MM a day on which it closes earlier than on others; no period ends otherwise
   zone ZONE HH:MM the court's zone and closing time; UTC0 17:00 before
-Lines that ask answer the end of a period:
+Lines that ask answer the end of a period, or the closing of the office:
   forward DAY N, backward DAY N
                   of N days after or before DAY
   months forward DAY N, months backward DAY N
@@ -18,10 +19,11 @@ Lines that ask answer the end of a period:
   rule NAME DAY METHOD
                   of the time that a rule sets, as 12(a)(1)(B), from DAY, for a party served
                   by METHOD: A to F of Rule 5(b)(2), rule4 or none
+  closing DAY     when the clerk's office closes on DAY, as HH:MM
 DAY is YYYY-MM-DD from 2000-01-01 to 2099-12-31, MOMENT is YYYY-MM-DDTHH:MM+HH:00, ZONE is as
 EST5EDT,M3.2.0,M11.1.0, and N is 1 to 3650 days, 120 months or 8760 hours. What would be new
-where 4,000 days and spans stand answers `full`, an empty line an empty line, and any other
-line `bad`.
+where 4,000 days, spans and short days stand answers `full`, an empty line an empty line, and
+any other line `bad`.
 
 Exit status: 0 all lines were answered, 1 one of them with `bad` or `full`, 2 bad command
 line, 3 reading, writing or memory failed.";

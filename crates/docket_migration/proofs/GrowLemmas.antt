@@ -1,7 +1,6 @@
 -- What each CREATE does, and what both leave.
-use Rattle.std.proofs.Common.{◌≡◌, ◌∙◌, ℕ, true, false, zero, suc, List, [], ◌∷◌, slice_get, length, Some, Ok, map, IsPermutation, refl, sym, ap, subst}
+use Rattle.std.proofs.Common.{◌≡◌, ◌∙◌, ℕ, true, false, suc, List, [], slice_get, length, Some, Ok, refl, sym, ap, subst}
 use Rattle.std.specs.List.{AllByRecursion}
-use Rattle.std.proofs.lemmas.List.Sorted.{IsPermutation-refl}
 use Rattle.sqlite.specs.Compile.{table_defined_by}
 use Rattle.sqlite.specs.Change.{created, next_tree}
 use Rattle.sqlite.specs.Does.{Tally, lacks_sequence}
@@ -12,12 +11,9 @@ use Rattle.sqlite.specs.Effect.{Database, IsDatabase}
 use Rattle.sqlite.specs.Listing.{understood}
 use Rattle.sqlite.specs.Command.TheVariants.{CreateTable}
 use Rattle.sqlite.specs.State.{State, Executes, Shows as Turns}
-use Rattle.sqlite.proofs.Callers.{command_of, statement_of, IsPlain, runs_as}
+use Rattle.sqlite.proofs.Callers.{runs_as}
 use Rattle.sqlite_tied.specs.Compute.{everything}
-use Rattle.sqlite_trees.specs.View.{IsShaped}
-use Rattle.sqlite_trees.specs.declared.store.Shape.TheVariants as shape
 use Rattle.docket_columns.specs.declared.version.Version.TheVariants.{First}
-use Rattle.docket_tables.specs.Holds.{Holds, cells}
 use Rattle.docket_tables.specs.Layouts.{Rows, AreRows, AreRowsIn}
 use Rattle.docket_tables.specs.Schema.{made, definition_of, shape_of, tree_of, places_of}
 use Rattle.docket_tables.specs.Stands.{IsSettledIn, Sees}
@@ -26,19 +22,13 @@ use Rattle.docket_tables.specs.Texts.{create_text}
 use Rattle.docket_tables.specs.declared.table.Table.{Table}
 use Rattle.docket_tables.specs.declared.table.Table.TheVariants.{ShortDays, LocalRules}
 use Rattle.docket_tables.proofs.CellLemmas.{holds_same}
+use Rattle.docket_tables.proofs.CreateLemmas.{Defines, holds_none}
 use Rattle.docket_tables.proofs.InsertLemmas.{went, same_value}
+use Rattle.docket_tables.proofs.LayoutLemmas.{all_at}
 use Rattle.docket_migration.specs.Growing.{IsGrown, IsNew}
 use Rattle.docket_migration.specs.Moving.{grown}
 
--- what the text of a table means where those before it stand
-record Defines (n : ℕ) (sql : List ℕ) (table : Shape) : Type 0 where
-  pub command : command_of (understood (made n) sql) ≡ CreateTable
-  pub plain : IsPlain (understood (made n) sql)
-  pub words : statement_of sql (understood (made n) sql) ≡ sql
-  pub defined : table_defined_by sql ≡ Ok table
-  pub next : made (suc n) ≡ created (made n) table
-  pub uncounted : lacks_sequence (made (suc n)) ≡ false
-
+-- what the text of each means where those before it stand
 defines : (table : Table) → IsNew table → Defines (layout_of table).at (create_text table) (definition_of table)
 unfolding understood everything
 defines ShortDays lacks = record { command = refl; plain = (refl, refl); words = refl; defined = refl; next = refl; uncounted = refl }
@@ -58,11 +48,6 @@ stands_before LocalRules ShortDays lacks is = absurd is
 stands_before LocalRules LocalRules lacks is = absurd is
 stands_before LocalRules t lacks is = refl
 stands_before table t lacks is = absurd (lacks tt)
-
-all_at : {X : Type 0} (P : X → Type 0) (xs : List X) (n : ℕ) (x : X) → AllByRecursion P xs → slice_get xs n ≡ Some x → P x
-all_at P [] n x all is = absurd cc
-all_at P (y ∷ ys) zero x all is = let same : y ≡ x = cc in subst P same all.0
-all_at P (y ∷ ys) (suc n) x all is = all_at P ys n x all.1 is
 
 rows_stay : (table : Table) → IsNew table → (rows : Rows) (old new : Trees) → Stay table old new → AreRowsIn First rows old → AreRowsIn First rows new
 rows_stay table lacks rows old new stay are t is =
@@ -139,9 +124,6 @@ none_yet start begun rows was begins =
       holds = was.shows.holds;
       empty = tt;
     })
-
-holds_none : (tree : ℕ) (places : List ℕ) (db : Trees) → db tree ≡ [] → Holds tree places [] db
-holds_none tree places db none = ∣ subst (λ rows. IsPermutation (map (cells places) rows) [] × IsShaped shape.Table rows) (sym none) (IsPermutation-refl [], (tt, tt)) ∣₁
 
 -- behind the last, all tables stand
 pub all_stand : (s : State) (rows : Rows) → IsGrown rows (suc (layout_of LocalRules).at) s → Sees s (grown rows)

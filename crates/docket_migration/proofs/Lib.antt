@@ -1,4 +1,15 @@
+mod AddLemmas
+mod CommandLemmas
+mod ExtendLemmas
+mod GoneLemmas
 mod GrowLemmas
+mod KeepLemmas
+mod KeptReads
+mod ListLemmas
 mod MigrateLemmas
+mod PlainSelects
+mod ReadLemmas
+mod ScanTexts
 mod SettleLemmas
+mod TextLemmas
 mod VersionLemmas

@@ -1,14 +1,18 @@
 -- What the judging and the change of the version leave of a database, one after the other.
-use Rattle.std.proofs.Common.{◌≡◌, ◌∙◌, ◌≤◌, ◌⊎◌, inl, inr, true, false, refl, sym, ap, subst, Result, Ok, Err, IfErr, arith}
+use Rattle.std.proofs.Common.{◌≡◌, ◌≢◌, ◌∙◌, ◌≤◌, ◌⊎◌, inl, inr, ℕ, pos, [], ◌∷◌, true, false, append-nil, refl, sym, ap, subst, Result, Ok, Err, IfErr, OnErr, OnOk, arith}
 use Rattle.sqlite.specs.Effect.{Database, IsDatabase}
+use Rattle.sqlite.specs.Order.{Row, column}
+use Rattle.sqlite.specs.Tree.{Trees}
+use Rattle.sqlite.specs.declared.types.Value.TheVariants.{Int}
 use Rattle.sqlite.specs.Store.{Ghosts}
 use Rattle.sqlite.specs.State.{State, HasCleanDisk, IsUnchanged, Survives}
 use Rattle.sqlite.specs.Held.{Held, state}
 use Rattle.sqlite.specs.View.{doubt}
 use Rattle.sqlite_schema.specs.Names.{same_name}
 use Rattle.court_days.specs.Court.{CourtSettings}
+use Rattle.docket_columns.specs.Cells.{court_cells, court_cells_of, settings_of}
 use Rattle.docket_columns.specs.declared.version.Version.{Version}
-use Rattle.docket_columns.specs.declared.version.Version.TheVariants.{First}
+use Rattle.docket_columns.specs.declared.version.Version.TheVariants.{First, Second}
 use Rattle.docket_core.specs.Histories.{History}
 use Rattle.docket_core.specs.Tables.{Tables, rows_of}
 use Rattle.docket_tables.specs.Contents.{rows_by, rows_in}
@@ -16,17 +20,23 @@ use Rattle.docket_tables.specs.Layouts.{Rows, AreRowsIn}
 use Rattle.docket_tables.specs.Schema.{schema_of}
 use Rattle.docket_tables.specs.Stands.{HoldsRowsIn, IsSettledIn, MakesNothing}
 use Rattle.docket_tables.specs.declared.table.Table.{Table}
-use Rattle.docket_tables.specs.declared.table.Table.TheVariants.{Court}
+use Rattle.docket_tables.specs.declared.table.Table.TheVariants.{Court, Calendar, Cases, Parties, Entries, Deadlines, Acts, Receipts, Ends, ShortDays, LocalRules}
 use Rattle.docket_scan.specs.Dockets.{IsFoundOfDocket}
-use Rattle.docket_scan.specs.Finding.{IsTaken, AreSound}
-use Rattle.docket_scan.specs.Judging.{Rows as SoundRows}
-use Rattle.docket_scan.specs.Shapes.{has_named}
+use Rattle.docket_scan.specs.Finding.{AreSound, HasCourt, IsTaken}
+use Rattle.docket_scan.specs.Judging.{Holds, Rows as SoundRows, cells_in}
+use Rattle.docket_scan.specs.Scans.{AreRowsOf}
+use Rattle.docket_scan.specs.Shapes.{has_named, has_table}
 use Rattle.docket_scan.specs.declared.fault.AdoptFault.{AdoptFault}
 use Rattle.docket_scan.specs.declared.fault.AdoptFault.TheVariants.{NoMemory, StoreFailed}
 use Rattle.docket_scan.specs.declared.finding.FoundDocket.{FoundDocket}
 use Rattle.docket_migration.specs.Changing.{IsEitherVersion}
-use Rattle.docket_migration.specs.Migrating.{KeepsImages, Migrates, Tells}
+use Rattle.docket_migration.specs.Growing.{IsNew}
+use Rattle.docket_migration.specs.Keeping.{HasGone, IsCommitted, IsImageOfGone, seeing}
+use Rattle.docket_migration.specs.Migrating.{HasMoved, KeepsImages, Migrates, Tells}
 use Rattle.docket_migration.specs.Moving.{moved}
+use Rattle.docket_migration.proofs.GoneLemmas.{gone_between}
+use Rattle.docket_migration.proofs.KeepLemmas.{keeps_rows, named_once_before, there_still}
+use Rattle.docket_migration.proofs.KeptReads.{one_row, there_in}
 
 -- the rows of a docket go from one version to the other
 pub moved_rows : (court : CourtSettings) (t : Tables) → moved court t.next_row (rows_by First court t) ≡ rows_in court t
@@ -50,6 +60,46 @@ still_settled v old new rows crash clean was same = record {
   images = λ db may. elim (crash.crash clean db may) [ inl earlier ↦ was.images db earlier | inr none ↦ absurd none ];
 }
 
+-- a database that has gone over from sound tables has sound ones
+
+module _ (old new : State) (gone : HasGone old new) (court : CourtSettings) (rows : SoundRows) where
+  holds_still : (next : ℕ) (t : Table) → t ≢ Court → Holds old court next rows t → Holds new court next rows t
+  holds_still next t other h =
+      (there_still t old.now.schema new.now.schema gone.tables.more gone.tables.tables h.0, keeps_rows old new gone.tables t other h.0 (cells_in t rows) h.1, h.2)
+
+  -- the row that was read is the court's
+  has_court_still : (next : ℕ) → HasCourt First old court next → HasCourt Second new court next
+  has_court_still next h =
+      let there = there_in Court old.now.schema (named_once_before old.now.schema new.now gone.tables.more gone.tables.tables gone.tables.live) h.1.0 in
+      let read = one_row Court old.now.schema old.now.schema [] (sym (append-nil old.now.schema.tables)) there old h.0 _ refl h.1.1 gone.was in
+      let cells : court_cells_of First court next ≡ court_cells_of First (settings_of gone.court) gone.court.next_row = sym h.2.same ∙ read in
+      let moved_cells : court_cells_of Second (settings_of gone.court) gone.court.next_row ≡ court_cells court next = ap in_second (sym cells) in (
+        court_cells court next,
+        (there_still Court old.now.schema new.now.schema gone.tables.more gone.tables.tables h.1.0, subst (λ row. AreRowsOf Court new (row ∷ [])) moved_cells gone.is, refl),
+        record { same = refl; held = h.2.held; sound = h.2.sound },
+      )
+    where
+      in_second : Row → Row
+      in_second row = column row 0 ∷ column row 1 ∷ Int (pos 2) ∷ column row 3 ∷ column row 4 ∷ column row 5 ∷ []
+
+  pub moved_from : AreSound First old court rows → HasMoved old new
+  moved_from was =
+      let n = was.next_row in
+      let b = was.behind in
+      let new_one : (t : Table) → IsNew t → has_table new.now.schema t ≡ true = gone.tables.there in
+      record {
+        court = court;
+        rows = rows;
+        was = was;
+        is = record {
+          next_row = n;
+          has_court = has_court_still n was.has_court;
+          behind = (holds_still n Calendar (λ e. cc) b.0, (holds_still n Cases (λ e. cc) b.1.0, (holds_still n Parties (λ e. cc) b.1.1.0, (holds_still n Entries (λ e. cc) b.1.1.1.0, (holds_still n Deadlines (λ e. cc) b.1.1.1.1.0, (holds_still n Acts (λ e. cc) b.1.1.1.1.1.0, (holds_still n Receipts (λ e. cc) b.1.1.1.1.1.1.0, (holds_still n Ends (λ e. cc) b.1.1.1.1.1.1.1.0, ((new_one ShortDays (λ none. none), gone.empty ShortDays (λ none. none), refl), ((new_one LocalRules (λ none. none), gone.empty LocalRules (λ none. none), refl), tt))))))))));
+        };
+        next_row = refl;
+        live = gone.tables.live;
+      }
+
 module _ {S : Type 0} (g : Ghosts S) (old mid : Held S) (crash : Survives (state g old) (state g mid) (λ _. ⊥)) where
   pub images_kept : KeepsImages g old mid
   images_kept clean db may = elim (crash.crash clean db may) [ inl before ↦ before | inr none ↦ absurd none ]
@@ -71,7 +121,7 @@ module _ {S : Type 0} (g : Ghosts S) (old mid : Held S) (crash : Survives (state
   not_found court h fault was mode told = told
 
   pub told_not_found : (fault : AdoptFault) → (HasCleanDisk (state g mid) → IsTaken First (state g old) (state g mid) (Err fault)) → Tells g old mid (Err fault)
-  told_not_found StoreFailed told = tt
+  told_not_found StoreFailed told = λ clean db may. inl (images_kept clean db may)
   told_not_found fault told = (images_kept, λ clean. (told clean).1)
 
   -- it was found
@@ -79,8 +129,13 @@ module _ {S : Type 0} (g : Ghosts S) (old mid : Held S) (crash : Survives (state
     pub still_holds : (rows : Rows) → HoldsRowsIn g First old rows → mid.in_transaction ≡ false → HoldsRowsIn g First mid rows
     still_holds rows was mode = (mode, λ clean. still_settled First (state g old) (state g mid) rows crash clean (was.1 (since clean)) (told clean).0)
 
-    pub was_sound : HasCleanDisk (state g mid) → (court : CourtSettings) × (r : SoundRows) × AreSound First (state g old) court r
-    was_sound clean = let it = told clean in (found.court, it.1, it.2)
+    -- and has a court's table
+    pub has_court : HasCleanDisk (state g mid) → has_table mid.schema Court ≡ true
+    has_court clean = let it = told clean in subst (λ (d : Database). has_table d.schema Court ≡ true) (sym it.0.0.now_is) it.2.has_court.1.0
+
+    -- where the schema is another's, nothing is changed
+    pub not_tried : Tells g old mid (Err StoreFailed)
+    not_tried clean db may = inl (images_kept clean db may)
 
   -- and then the version was changed, or not
   module _ (end : Held S) (grows : doubt (state g mid).is_clean ≤ doubt (state g end).is_clean) where
@@ -92,14 +147,26 @@ module _ {S : Type 0} (g : Ghosts S) (old mid : Held S) (crash : Survives (state
     then_migrates court h (Err NoMemory) it = then_nothing it
     then_migrates court h (Err fault) it = it
 
-    no_other : (fault : AdoptFault) → (fault ≡ NoMemory) ⊎ (fault ≡ StoreFailed) → (fault ≡ NoMemory → MakesNothing g mid end) → Tells g old end (Err fault)
-    no_other fault (inl short) nothing = subst (λ f. Tells g old end (Err f)) (sym short) ((then_nothing (nothing short)).1, λ clean. tt)
-    no_other fault (inr failed) nothing = subst (λ f. Tells g old end (Err f)) (sym failed) tt
+    module _ (found : FoundDocket) (told : HasCleanDisk (state g mid) → IsTaken First (state g old) (state g mid) (Ok found)) where
+      gone_on : HasCleanDisk (state g end) → (s : State) → HasGone (state g mid) s → HasMoved (state g old) s
+      gone_on clean s it =
+          let was = told (omega (arith, grows, clean)) in
+          moved_from (state g old) s (gone_between (state g mid) (state g old) s s (sym was.0.0.now_is) refl it) found.court was.1 was.2
 
-    pub then_told : (found : FoundDocket) → (HasCleanDisk (state g mid) → IsTaken First (state g old) (state g mid) (Ok found)) → (result : Result (Unit {0}) AdoptFault)
-        → IfErr result (λ fault. (fault ≡ NoMemory) ⊎ (fault ≡ StoreFailed)) → (result ≡ Err NoMemory → MakesNothing g mid end) → Tells g old end result
-    then_told found told (Ok done) only nothing = λ clean. was_sound found told (omega (arith, grows, clean))
-    then_told found told (Err fault) only nothing = no_other fault only (λ short. nothing (ap Err short))
+      then_failed : (fault : AdoptFault) → (fault ≡ NoMemory) ⊎ (fault ≡ StoreFailed) → (fault ≡ NoMemory → MakesNothing g mid end)
+          → (HasCleanDisk (state g end) → (db : Trees) → (state g end).may_leave db → (state g mid).may_leave db ⊎ IsImageOfGone (state g mid) db) → Tells g old end (Err fault)
+      then_failed fault (inl short) nothing may_go = subst (λ f. Tells g old end (Err f)) (sym short) ((then_nothing (nothing short)).1, λ clean. tt)
+      then_failed fault (inr failed) nothing may_go = subst (λ f. Tells g old end (Err f)) (sym failed) (λ clean db may. elim (may_go clean db may) [
+        | inl before ↦ inl (images_kept (omega (arith, grows, clean)) db before)
+        | inr it ↦ inr (it.0, gone_on clean (seeing (state g old) it.0) (gone_between (state g mid) (state g mid) (seeing (state g mid) it.0) (seeing (state g old) it.0) refl refl it.1), it.2)
+      ])
+
+      pub then_told : (result : Result (Unit {0}) AdoptFault) → IfErr result (λ fault. (fault ≡ NoMemory) ⊎ (fault ≡ StoreFailed)) → (result ≡ Err NoMemory → MakesNothing g mid end)
+          → (HasCleanDisk (state g end) → OnOk result (HasGone (state g mid) (state g end) × IsCommitted (state g end)))
+          → (HasCleanDisk (state g end) → OnErr result ((db : Trees) → (state g end).may_leave db → (state g mid).may_leave db ⊎ IsImageOfGone (state g mid) db))
+          → Tells g old end result
+      then_told (Ok done) only nothing gone may_go = λ clean. (gone_on clean (state g end) (gone clean).0, (gone clean).1)
+      then_told (Err fault) only nothing gone may_go = then_failed fault only (λ short. nothing (ap Err short)) may_go
 
 -- the first version's schema has a table of a court
 court_is_named : has_named (schema_of First) Court ≡ true

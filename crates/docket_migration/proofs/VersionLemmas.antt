@@ -1,6 +1,5 @@
 -- The version in the row of the court.
-use Rattle.std.proofs.Common.{◌≡◌, ◌∙◌, ◌==◌, ℕ, pos, negsuc, List, [], ◌∷◌, map, filter, length, true, false, cond, not, drop, Ok, IsPermutation, codes, refl, sym, ap, subst, arith}
-use Rattle.std.specs.List.{flat_map, filter_map}
+use Rattle.std.proofs.Common.{◌≡◌, ◌∙◌, ℕ, pos, negsuc, List, [], ◌∷◌, map, filter, length, true, cond, not, drop, Ok, IsPermutation, codes, refl, sym, ap, subst, arith}
 use Rattle.std.proofs.Math.Logic.{∥∥₁_map}
 use Rattle.std.proofs.lemmas.List.Sorted.{IsPermutation-sym, IsPermutation-refl}
 use Rattle.sqlite_trees.proofs.ListLemmas.{filter_all}
@@ -20,9 +19,6 @@ use Rattle.sqlite.specs.Rowids.TheVariants.{Given}
 use Rattle.sqlite.specs.Cast.{cast, cast_row}
 use Rattle.sqlite.specs.Kind.TheVariants.{Integer}
 use Rattle.sqlite_rules.specs.Calls.{ids_of}
-use Rattle.sqlite_rules.specs.Action.{works, work_by, pairs, deed_for}
-use Rattle.sqlite_schema.specs.Rules.{parent_key}
-use Rattle.sqlite_schema.specs.declared.schema.Keys.TheVariants.{Enforced}
 use Rattle.sqlite_sql.specs.declared.ops.BinaryOp.TheVariants.{Compare}
 use Rattle.sqlite_sql.specs.declared.ops.CompareOp.TheVariants.{Eq}
 use Rattle.sqlite.specs.Listing.{understood}
@@ -40,16 +36,10 @@ use Rattle.docket_tables.proofs.CellLemmas.{cast_int}
 use Rattle.docket_tables.proofs.CourtLemmas.{found_by}
 use Rattle.docket_tables.proofs.HoldsLemmas.{keyed_by, keyed_as, rowid_as}
 use Rattle.docket_tables.proofs.LayoutLemmas.{rows_changed}
-use Rattle.docket_tables.proofs.UpdateLemmas.{UpdatesIn, updates}
+use Rattle.docket_tables.proofs.UpdateLemmas.{UpdatesIn, no_actions, updates}
 use Rattle.docket_migration.specs.Moving.{version_text}
 
 -- what the text means
-
-no_actions : (olds news : List Row) → works docket_schema Enforced 0 0 olds news ≡ []
-no_actions olds news =
-    elim (length news == 0) as (λ b. flat_map (λ child. filter_map (λ ref. work_by 0 0 (pairs olds news) child ref (deed_for Enforced b ref) (parent_key docket_schema.tables ref)) child.references) docket_schema.tables ≡ [])
-    [ true ↦ refl | false ↦ refl ]
-
 abbrev keeps : List Term
 keeps = op2 (Compare Eq Binary) (col 1 0) (lit (Int (pos 1))) ∷ []
 

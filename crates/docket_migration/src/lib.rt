@@ -4,10 +4,16 @@
 //! tables that the first version lacks stand then and hold nothing, and the court's row is of the second
 //! version, which is the one that is kept (`Version::KEPT`). `change_version` is the change alone. A power
 //! failure at any moment leaves the docket in one version or the other (`IsEitherVersion`).
+//!
+//! Of a database that stands for no history, whatever its schema is, the same is known by what is looked at
+//! as it runs: before the transaction, that no foreign key acts on the court's table; inside it, that the
+//! court's row is the same but for the version. No other row is read twice (`HasMoved`).
 #![tactic(auto)]
 
+mod apart;
 mod changing;
 mod migrating;
+mod reading;
 
 pub use changing::change_version;
 pub use migrating::migrate;

@@ -16,6 +16,7 @@ use Rattle.docket_command.specs.declared.refusal.Refusal.{Refusal}
 use Rattle.docket_command.specs.declared.refusal.Refusal.TheVariants as refusal
 use Rattle.docket_command.specs.declared.refusal.Reply.{Reply}
 use Rattle.docket_core.specs.Actions.{case_named, asks_deadlines, if_asked, day_row}
+use Rattle.docket_core.specs.CalendarItems.{calendar_of}
 use Rattle.docket_core.specs.Histories.{History, case_rows, deadline_rows, act_rows, deadlines_of_case, deadlines}
 use Rattle.docket_core.specs.Limits.{IsWithinLimits}
 use Rattle.docket_core.specs.Outcomes.{IsHistory, accepted, answer_kept, answer_by, repeated, refused, case_of_number, kept, kept_by, receipts, reply_to, replied, shown, shown_fresh}
@@ -132,7 +133,7 @@ reply_counts court h (action.Dispose a) within is new room =
 reply_counts court h (action.StatementServed a) within is new room = is.1.0
 reply_counts court h (action.Extend a) within is new room = is.1.0
 reply_counts court h (action.Satisfy a) within is new room =
-    either (is_in_time court (standing_shown court (shown_fresh h (action.Satisfy a))) a.at a.way) 1 0 (omega arith) (omega arith)
+    either (is_in_time court (calendar_of (shown_fresh h (action.Satisfy a)).calendar) (standing_shown court (shown_fresh h (action.Satisfy a))) a.at a.way) 1 0 (omega arith) (omega arith)
 reply_counts court h (action.Vacate a) within is new room = is.1.0
 reply_counts court h a within is new room = omega (arith, few_deadlines h a (case_named a) within.deadlines)
 

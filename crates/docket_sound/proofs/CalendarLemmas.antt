@@ -5,6 +5,7 @@ use Rattle.std.proofs.lemmas.Bool.Decides.{nat_tests}
 use Rattle.std.proofs.lemmas.List.{length-append, map-append, append_assoc}
 use Rattle.std.proofs.lemmas.List.Folds.{list_any-append}
 use Rattle.std.specs.List.{AllByRecursion}
+use Rattle.std.specs.FinMap as fin_map
 use Rattle.std.specs.FinSet.{FinSet, contains, insert, len, contains-insert, len-insert, contains-empty, len-empty}
 use Rattle.std.specs.Ordering.{nat_cmp, eq_by_cmp}
 use Rattle.std.specs.declared.cmp.Ordering.{Ordering}
@@ -208,7 +209,7 @@ none_taken check last empty = record {
   last = last;
   calendar = empty;
   standing = λ item. ap (λ e. stands e item) empty ∙ none_stands item;
-  counted = ap rows_of empty ∙ omega (arith, len-empty nat_cmp, len-empty span_cmp);
+  counted = ap rows_of empty ∙ omega (arith, len-empty nat_cmp, len-empty span_cmp, fin_map.len-empty nat_cmp ℕ);
   sound = record { rising = tt; given = tt; apart = tt; few = omega arith; within = tt };
 }
   where

@@ -49,12 +49,18 @@ module _ {S : Type 0} (g : Ghosts S) where
   asks_kept conn court kept h answer true result failed asks =
       subst (λ r. Asks g (record { conn = conn; court = court; closed = true; calendar = kept }) h answer r) (sym (failed refl)) (subst (λ r. Asks g (serving conn court kept) h answer r) (failed refl) asks)
 
-  fault_of_other : {X Y : Type 0} (d : Docket S) (h : History) (P : X → Type 0) (Q : Y → Type 0) (f : Fault) → Asks g d h P (Err f) → Asks g d h Q (Err f)
+  -- the same of another question
+  pub fault_of_other : {X Y : Type 0} (d : Docket S) (h : History) (P : X → Type 0) (Q : Y → Type 0) (f : Fault) → Asks g d h P (Err f) → Asks g d h Q (Err f)
   fault_of_other d h P Q (Refused r) asks = absurd asks
   fault_of_other d h P Q NoMemory asks = asks
   fault_of_other d h P Q StoreFailed asks = asks
   fault_of_other d h P Q Closed asks = absurd asks
   fault_of_other d h P Q Damaged asks = asks
+
+  -- a question whose part was not answered
+  pub asks_err : {X Y : Type 0} (d : Docket S) (h : History) (P : X → Type 0) (Q : Y → Type 0) (f : Fault) (result : Result Y Fault) → IsErrAnd result (λ e. e ≡ f) → Asks g d h P (Err f) → Asks g d h Q result
+  asks_err d h P Q f (Ok y) same asks = absurd same
+  asks_err d h P Q f (Err e) same asks = subst (λ (k : Fault). Asks g d h Q (Err k)) (sym same) (fault_of_other d h P Q f asks)
 
   -- what the answer says says more
   pub asks_weaker : {X : Type 0} (d : Docket S) (h : History) (P Q : X → Type 0) (result : Result X Fault) → (HasCleanDisk (state g d.conn) → (x : X) → P x → Q x) → Asks g d h P result → Asks g d h Q result
@@ -121,8 +127,8 @@ if_some true x y e = ap (λ o. unwrap_or o y) (sym e)
 if_some false x y e = absurd (cc)
 
 -- the deadlines of the case that are shown are those that are told
-pub lines_shown : (court : CourtSettings) (h : History) (k : ℕ) → option_map (lines_from (zone_of court) (calendar h) 1) (case_deadlines (rows_of court h) k) ≡ deadline_lines court h k
-lines_shown court h k = if_mapped (lines_from (zone_of court) (calendar h) 1) (nat_le 1 k && nat_le k (length (case_rows h))) _
+pub lines_shown : (court : CourtSettings) (h : History) (k : ℕ) → option_map (lines_from court (calendar h) 1) (case_deadlines (rows_of court h) k) ≡ deadline_lines court h k
+lines_shown court h k = if_mapped (lines_from court (calendar h) 1) (nat_le 1 k && nat_le k (length (case_rows h))) _
 
 pub deadlines_shown : (court : CourtSettings) (h : History) (k : ℕ) (ds : List DeadlineView) → case_deadlines (rows_of court h) k ≡ Some ds → ds ≡ deadlines k h
 deadlines_shown court h k ds e = if_some (nat_le 1 k && nat_le k (length (case_rows h))) _ ds e

@@ -7,13 +7,12 @@ use Rattle.court_days.specs.Calendar.{Entered, IsWithinLimits}
 use Rattle.court_days.specs.Court.{CourtSettings, zone_of}
 use Rattle.court_days.specs.declared.filing.End.{End}
 use Rattle.court_days.proofs.CourtLemmas.{zone_of-is_zone}
-use Rattle.court_rules.specs.Rules.{name_of}
 use Rattle.court_rules.specs.Standings.{AreActs, standing}
 use Rattle.court_rules.specs.declared.act.Act.{Act}
 use Rattle.court_rules.specs.declared.act.Standing.{Standing}
 use Rattle.court_rules.specs.declared.act.Standing.TheVariants.{Running, Suspended, Awaiting, Done, Vacated}
 use Rattle.docket_core.specs.EndRows.{time_of, end_running, ends_running, end_rows_from, first_end, after_first}
-use Rattle.docket_core.specs.Records.{lines_from}
+use Rattle.docket_core.specs.Records.{line_of, lines_from}
 use Rattle.docket_core.specs.declared.end_row.EndRow.{EndRow}
 use Rattle.docket_core.specs.declared.end_row.EndTime.{EndTime}
 use Rattle.docket_core.specs.declared.record.DeadlineLine.{DeadlineLine}
@@ -64,20 +63,19 @@ next_taken zone entered k n i ds d rows low are =
     subst (IsTaken k n end ends) (sym (are ∙ ap (λ all. end_rows_from k n (ends_running zone entered all)) (drop_more ds i d low))) (taken k n end ends)
 
 -- one line more, and the rows that are left then
-pub next_line : (zone : ZoneRules) (entered : Entered) (k n i : ℕ) (ds : List DeadlineView) (d : DeadlineView) (rows left : List EndRow) (end : Option EndTime) (s : Standing) (lines more all : List DeadlineLine) → i < length ds
-    → (rows ≡ end_rows_from k n (ends_running zone entered (drop i ds))) × (lines ++ lines_from zone entered n (drop i ds) ≡ all)
+pub next_line : (court : CourtSettings) (entered : Entered) (k n i : ℕ) (ds : List DeadlineView) (d : DeadlineView) (rows left : List EndRow) (end : Option EndTime) (s : Standing) (lines more all : List DeadlineLine) → i < length ds
+    → (rows ≡ end_rows_from k n (ends_running (zone_of court) entered (drop i ds))) × (lines ++ lines_from court entered n (drop i ds) ≡ all)
     → end ≡ first_end n rows → left ≡ after_first n rows
-    → (end ≡ end_running zone (standing zone entered (get_or ds i d).acts) → s ≡ standing zone entered (get_or ds i d).acts)
-    → more ≡ lines ++ record { number = n; party = (get_or ds i d).party; rule = name_of (get_or ds i d).rule; standing = s } ∷ []
-    → (left ≡ end_rows_from k (n + 1) (ends_running zone entered (drop (i + 1) ds))) × (more ++ lines_from zone entered (n + 1) (drop (i + 1) ds) ≡ all)
-next_line zone entered k n i ds d rows left end s lines more all low was first rest told pushed =
+    → (end ≡ end_running (zone_of court) (standing (zone_of court) entered (get_or ds i d).acts) → s ≡ standing (zone_of court) entered (get_or ds i d).acts)
+    → more ≡ lines ++ line_of court entered n (get_or ds i d) s ∷ []
+    → (left ≡ end_rows_from k (n + 1) (ends_running (zone_of court) entered (drop (i + 1) ds))) × (more ++ lines_from court entered (n + 1) (drop (i + 1) ds) ≡ all)
+next_line court entered k n i ds d rows left end s lines more all low was first rest told pushed =
     let x = get_or ds i d in
-    let it = next_taken zone entered k n i ds d rows low was.0 in
-    let stands : s ≡ standing zone entered x.acts = told (first ∙ it.0) in
-    let line : Standing → DeadlineLine = λ at. record { number = n; party = x.party; rule = name_of x.rule; standing = at } in
-    let others = lines_from zone entered (n + 1) (drop (i + 1) ds) in (
+    let it = next_taken (zone_of court) entered k n i ds d rows low was.0 in
+    let stands : s ≡ standing (zone_of court) entered x.acts = told (first ∙ it.0) in
+    let others = lines_from court entered (n + 1) (drop (i + 1) ds) in (
       rest ∙ it.1,
-      ap (λ l. l ++ others) (pushed ∙ ap (λ at. lines ++ line at ∷ []) stands)
-          ∙ append_assoc lines (line (standing zone entered x.acts) ∷ []) others
-          ∙ ap (λ l. lines ++ lines_from zone entered n l) (sym (drop_more ds i d low)) ∙ was.1,
+      ap (λ l. l ++ others) (pushed ∙ ap (λ at. lines ++ line_of court entered n x at ∷ []) stands)
+          ∙ append_assoc lines (line_of court entered n x (standing (zone_of court) entered x.acts) ∷ []) others
+          ∙ ap (λ l. lines ++ lines_from court entered n l) (sym (drop_more ds i d low)) ∙ was.1,
     )

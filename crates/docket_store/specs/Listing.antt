@@ -6,6 +6,7 @@ use Rattle.sqlite.specs.State.{HasCleanDisk}
 use Rattle.sqlite.specs.Held.{state}
 use Rattle.docket_core.specs.Histories.{History}
 use Rattle.docket_calendar.specs.Calendar.{calendar_rows, text_of_calendar}
+use Rattle.docket_calendar.specs.Sending.{HasBegun}
 use Rattle.docket_store.specs.Applying.{Stands, Asks}
 use Rattle.docket_store.specs.Dockets.{Docket}
 use Rattle.docket_store.specs.declared.listing.CalendarEnd.{CalendarEnd}
@@ -15,8 +16,8 @@ use Rattle.docket_store.specs.declared.listing.ListingEnd.TheVariants as listing
 use Rattle.line_io.specs.Output.{HasFront}
 
 module _ {S : Type 0} (g : Ghosts S) (d : Docket S) (h : History) (from to : ℕ) where
-  -- bytes and the calendar of the range behind them: all went out, with so many lines; or nothing did, or a front. The docket is as after
-  -- any question
+  -- bytes and the calendar of the range behind them: all went out, with so many lines; or nothing did, or a front, which is not empty
+  -- unless the writer failed. The docket is as after any question
   abbrev pub Lists : List ℕ → Option (List ℕ) → Option (List ℕ) → Result ℕ ListingEnd → Type 0
   Lists front before after (Ok lines) =
       Stands g d h
@@ -24,7 +25,7 @@ module _ {S : Type 0} (g : Ghosts S) (d : Docket S) (h : History) (from to : ℕ
   Lists front before after (Err (listing_end.NotBegun fault)) =
       Asks g d h (λ (lines : ℕ). ⊥) (Err fault) × (HasCleanDisk (state g d.conn) → Appends before after [])
   Lists front before after (Err (listing_end.Broken fault)) =
-      Asks g d h (λ (lines : ℕ). ⊥) (Err fault) × (HasCleanDisk (state g d.conn) → HasFront before after (front ++ text_of_calendar d.court h from to))
+      Asks g d h (λ (lines : ℕ). ⊥) (Err fault) × (HasCleanDisk (state g d.conn) → HasBegun before after (front ++ text_of_calendar d.court h from to))
   Lists front before after (Err listing_end.WriteFailed) =
       Stands g d h × (HasCleanDisk (state g d.conn) → HasFront before after (front ++ text_of_calendar d.court h from to))
 

@@ -129,11 +129,13 @@ fn ends_shown<S: Alter>(
     }
 }
 
-/// The deadlines of a case, with where each stands by the ends that are stored.
+/// The deadlines of a case, with where each stands by the ends that are stored, and when the clerk's
+/// office closes on its last day.
 fn lines_of_case<S: Alter>(
     conn: &mut Connection<S>,
     alloc: Global,
     court: &Court,
+    entered: &Calendar,
     number: u32,
     deadlines: &[DeadlineView],
 ) -> Result<Vec<DeadlineLine>, Fault>
@@ -141,31 +143,33 @@ fn lines_of_case<S: Alter>(
     ensures idle { conn.new.in_transaction ≡ false }
     ensures clean { doubt (state S.Store conn.old).is_clean ≤ doubt (state S.Store conn.new).is_clean }
     ensures answer { (kept : Option (List Item)) (h : History) → Stands S.Store (serving conn.old court.now kept) h
+        → (HasCleanDisk (state S.Store conn.old) → entered.now ≡ calendar h)
         → (HasCleanDisk (state S.Store conn.old) → case_deadlines (rows_of court.now h) number ≡ Some deadlines.now)
         → Asks S.Store (serving conn.new court.now kept) h (λ lines. Some lines.items ≡ deadline_lines court.now h number) result }
 {
     let stored = ends_shown(conn, alloc, number)?;
-    lines_told(alloc, court, deadlines, stored.as_slice())
+    lines_told(alloc, court, entered, deadlines, stored.as_slice())
 }
 
-/// The deadlines of the case of a number, with where each stands by the ends that are stored.
+/// The deadlines of the case of a number, with where each stands by the ends that are stored. The
+/// calendar is kept.
 pub(crate) fn lines_numbered<S: Alter>(
     conn: &mut Connection<S>,
     alloc: Global,
     court: &Court,
+    kept: &mut Option<CalendarItems>,
     number: u32,
 ) -> Result<Option<Vec<DeadlineLine>>, Fault>
     requires { conn.old.in_transaction ≡ false }
     ensures idle { conn.new.in_transaction ≡ false }
     ensures clean { doubt (state S.Store conn.old).is_clean ≤ doubt (state S.Store conn.new).is_clean }
-    ensures answer { (kept : Option (List Item)) (h : History) → Stands S.Store (serving conn.old court.now kept) h
-        → Asks S.Store (serving conn.new court.now kept) h (λ found. option_map (λ lines. lines.items) found ≡ deadline_lines court.now h number) result }
+    ensures answer { (h : History) → Stands S.Store (serving conn.old court.now kept.old) h
+        → Asks S.Store (serving conn.new court.now kept.new) h (λ found. option_map (λ lines. lines.items) found ≡ deadline_lines court.now h number) result }
 {
-    match deadlines_shown(conn, alloc, number)? {
-        Some(deadlines) => {
-            let lines = lines_of_case(conn, alloc, court, number, deadlines.as_slice())?;
-            Ok(Some(lines))
-        }
-        None => Ok(None),
-    }
+    let Some(deadlines) = deadlines_shown(conn, alloc, number)? else {
+        return Ok(None);
+    };
+    let entered = calendar_told(conn, alloc, court, kept)?;
+    let lines = lines_of_case(conn, alloc, court, &entered, number, deadlines.as_slice())?;
+    Ok(Some(lines))
 }

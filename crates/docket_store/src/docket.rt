@@ -165,8 +165,9 @@ impl<S: Alter> Docket<S> {
 
     /// Takes the docket of a database from the first version of the tables to the second, whatever
     /// database it is: its tables are judged by the first version, as by `adopt`, and then changed in one
-    /// transaction. After a fault a power failure leaves what it could leave before; where the database
-    /// failed, it leaves the docket of a history in one version or in the other.
+    /// transaction, which changes no row but the court's, and of that the version alone. After a fault a power
+    /// failure leaves what it could leave before; where the database failed, it leaves one version or the
+    /// other.
     pub fn migrate(
         alloc: Global,
         conn: Connection<S>,
@@ -176,7 +177,8 @@ impl<S: Alter> Docket<S> {
         ensures migrated { (court : CourtSettings) (h : History) → IsDocket court h → HoldsRowsIn S.Store First conn (rows_by First court (rows_of court h))
             → MatchResult result (λ now. StandsFor S.Store now court h)
             (λ returned. Migrates S.Store conn returned.connection court h (Err (cause_of returned.fault))) }
-        // Of any database, the tables of the first version were sound, or a fault tells why not.
+        // Any database whose tables of the first version were sound holds the same rows in the second, which
+        // is sound too, or a fault tells why not.
         ensures told { MatchResult result (λ now. Tells S.Store conn now (Ok tt))
             (λ returned. Tells S.Store conn returned.connection (Err (cause_of returned.fault))) }
         // Without a court there is no docket, and the connection comes back as it was.
@@ -268,7 +270,9 @@ impl<S: Alter> Docket<S> {
         if self.closed {
             return Err(Fault::Closed);
         }
-        let answer = lines_numbered(&mut self.conn, self.alloc, &self.court, number);
+        let conn = &mut self.conn;
+        let kept = &mut self.calendar;
+        let answer = lines_numbered(conn, self.alloc, &self.court, kept, number);
         self.closed = is_store_failure(&answer);
         answer
     }
@@ -297,7 +301,8 @@ impl<S: Alter> Docket<S> {
             return Err(ListingEnd::NotBegun(Fault::Closed));
         }
         let conn = &mut self.conn;
-        let answer = list_days(conn, self.alloc, &self.court, from, to, front, writer);
+        let kept = &mut self.calendar;
+        let answer = list_days(conn, self.alloc, &self.court, kept, from, to, front, writer);
         self.closed = is_broken_store(&answer);
         answer
     }

@@ -4,10 +4,9 @@ ghost use Rattle.std.specs.List.{All};
 ghost use Rattle.std.specs.Option.{option_map};
 ghost use Rattle.civil_time.specs.Civil.{IsDayNumber};
 ghost use Rattle.civil_time.specs.Zone.{ZoneRules};
-ghost use Rattle.court_days.specs.Calendar.{Entered, IsWithinLimits};
+ghost use Rattle.court_days.specs.Calendar.{IsWithinLimits};
 ghost use Rattle.court_days.specs.Court.{zone_of};
 ghost use Rattle.court_days.specs.declared.filing.End.{End as Limit};
-ghost use Rattle.court_rules.specs.Rules.{name_of};
 ghost use Rattle.court_rules.specs.Standings.{AreActs, standing};
 ghost use Rattle.docket_core.specs.EndRows.{after_first, end_rows_of, end_running, first_end, time_of};
 ghost use Rattle.docket_core.specs.Records.{lines_from};
@@ -18,8 +17,7 @@ use crate::fault::Fault;
 use court_days::{Calendar, Court, Day, End};
 use court_rules::{Act, Standing, due};
 use docket_changes::is_sound_case;
-use docket_command::Text;
-use docket_core::{DeadlineLine, DeadlineView, EndRow, EndTime};
+use docket_core::{DeadlineLine, DeadlineView, EndRow, EndTime, line_of};
 use std::alloc::{AllocError, Global};
 
 /// What stands in place of an instant where the time runs to the end of its last day.
@@ -45,18 +43,17 @@ fn end_told(stored: EndTime) -> Option<End>
 /// Where a deadline stands, by its acts and the end that is stored of it. `None`: the end is none.
 fn standing_told(
     court: &Court,
-    empty: &Calendar,
+    calendar: &Calendar,
     acts: &[Act],
     stored: Option<EndTime>,
 ) -> Option<Standing>
     requires { AreActs (zone_of court.now) acts.now }
-    ensures { (entered : Entered) → IsWithinLimits entered → stored ≡ end_running (zone_of court.now) (standing (zone_of court.now) entered acts.now)
-        → result ≡ Some (standing (zone_of court.now) entered acts.now) }
+    ensures { IsWithinLimits calendar.now → stored ≡ end_running (zone_of court.now) (standing (zone_of court.now) calendar.now acts.now)
+        → result ≡ Some (standing (zone_of court.now) calendar.now acts.now) }
 {
     match stored {
         Some(stored) => Some(Standing::Running(end_told(stored)?)),
-        // Where no time runs the calendar makes no difference.
-        None => Some(due(court, empty, acts)),
+        None => Some(due(court, calendar, acts)),
     }
 }
 
@@ -71,67 +68,51 @@ fn take_end(rows: &[EndRow], deadline: u32) -> (Option<EndTime>, &[EndRow])
     }
 }
 
-/// The line of a deadline.
-fn line(
-    alloc: Global,
-    number: u32,
-    deadline: &DeadlineView,
-    standing: Standing,
-) -> Result<DeadlineLine, AllocError>
-    ensures { IfOk result (λ line. line ≡ record { number = number; party = deadline.now.party; rule = name_of deadline.now.rule; standing = standing }) }
-{
-    Ok(DeadlineLine {
-        number,
-        party: deadline.party,
-        rule: Text::from_str(alloc, deadline.rule.name())?,
-        standing,
-    })
-}
-
 /// The deadlines, numbered from 1, with where each stands by the rows of their ends. `None`: a row has
 /// no end.
 fn lines_by_ends(
     alloc: Global,
     court: &Court,
+    calendar: &Calendar,
     deadlines: &[DeadlineView],
     stored: &[EndRow],
 ) -> Result<Option<Vec<DeadlineLine>>, AllocError>
     requires few { length deadlines.now ≤ 1000 }
     requires acts { All (λ d. AreActs (zone_of court.now) d.acts) deadlines.now }
-    ensures { (entered : Entered) (case : ℕ) → IsWithinLimits entered → stored.now ≡ end_rows_of (zone_of court.now) entered case deadlines.now
-        → IfOk result (λ found. option_map (λ lines. lines.items) found ≡ Some (lines_from (zone_of court.now) entered 1 deadlines.now)) }
+    ensures { (case : ℕ) → IsWithinLimits calendar.now → stored.now ≡ end_rows_of (zone_of court.now) calendar.now case deadlines.now
+        → IfOk result (λ found. option_map (λ lines. lines.items) found ≡ Some (lines_from court.now calendar.now 1 deadlines.now)) }
 {
-    let empty = Calendar::new(alloc);
     let mut lines = Vec::new(alloc);
     let mut rest = stored;
     let mut number = 1;
     for deadline in deadlines {
         let (end, later) = take_end(rest, number);
-        let Some(standing) = standing_told(court, &empty, deadline.acts.as_slice(), end) else {
+        let Some(standing) = standing_told(court, calendar, deadline.acts.as_slice(), end) else {
             return Ok(None);
         };
-        lines.push(line(alloc, number, deadline, standing)?)?;
+        lines.push(line_of(alloc, court, calendar, number, deadline, standing)?)?;
         rest = later;
         number += 1;
     }
     Ok(Some(lines))
 }
 
-/// The lines of the deadlines of a case, by the rows of their ends.
+/// The lines of the deadlines of a case, by the rows of their ends and the calendar.
 pub(crate) fn lines_told(
     alloc: Global,
     court: &Court,
+    calendar: &Calendar,
     deadlines: &[DeadlineView],
     stored: &[EndRow],
 ) -> Result<Vec<DeadlineLine>, Fault>
-    ensures { (entered : Entered) (case : ℕ) → MatchResult result
-        (λ lines. AreEndsBy court.now entered case deadlines.now stored.now → lines.items ≡ lines_from (zone_of court.now) entered 1 deadlines.now)
-        (IsNotTold (AreEndsBy court.now entered case deadlines.now stored.now)) }
+    ensures { (case : ℕ) → MatchResult result
+        (λ lines. AreEndsBy court.now calendar.now case deadlines.now stored.now → lines.items ≡ lines_from court.now calendar.now 1 deadlines.now)
+        (IsNotTold (AreEndsBy court.now calendar.now case deadlines.now stored.now)) }
 {
     if !is_sound_case(court, &[], deadlines) {
         return Err(Fault::Damaged);
     }
-    match lines_by_ends(alloc, court, deadlines, stored)? {
+    match lines_by_ends(alloc, court, calendar, deadlines, stored)? {
         Some(lines) => Ok(lines),
         None => Err(Fault::Damaged),
     }

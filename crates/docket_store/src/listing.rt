@@ -2,16 +2,20 @@
 ghost use Rattle.std.specs.Prelude.{◌≡◌, ◌≤◌, ◌⊎◌, ◌↔◌, List, Option, Err, true, false, MatchResult};
 ghost use Rattle.sqlite.specs.Held.{state};
 ghost use Rattle.sqlite.specs.View.{doubt};
+ghost use Rattle.sqlite.specs.State.{HasCleanDisk};
 ghost use Rattle.docket_core.specs.Histories.{History};
+ghost use Rattle.docket_core.specs.Records.{calendar as entered_by};
 ghost use Rattle.docket_core.specs.declared.item.CalendarItem.{CalendarItem as Item};
 ghost use Rattle.docket_store.specs.Applying.{Stands};
 ghost use Rattle.docket_store.specs.Dockets.{serving};
 ghost use Rattle.docket_store.specs.Listing.{Lists};
 ghost use Rattle.docket_store.specs.declared.fault.Fault.TheVariants as fault;
 
+use crate::asking::calendar_told;
 use crate::fault::{Fault, read_fault};
-use court_days::{Court, Day};
+use court_days::{Calendar, Court, Day};
 use docket_calendar::{Stop, calendar};
+use docket_core::CalendarItems;
 use sqlite::{Alter, Connection};
 use std::alloc::Global;
 use std::io::Write;
@@ -46,11 +50,13 @@ pub(crate) fn is_broken_store(answer: &Result<u32, ListingEnd>) -> bool
     )
 }
 
-/// Writes the bytes, and the calendar of the days from one to another behind them.
-pub(crate) fn list_days<S: Alter, W: Write>(
+/// Writes the bytes, and the calendar of the days from one to another behind them, by a calendar that
+/// tells when the clerk's office closes.
+fn list_by<S: Alter, W: Write>(
     conn: &mut Connection<S>,
     alloc: Global,
     court: &Court,
+    entered: &Calendar,
     from: Day,
     to: Day,
     front: &[u8],
@@ -60,12 +66,38 @@ pub(crate) fn list_days<S: Alter, W: Write>(
     ensures idle { conn.new.in_transaction ≡ false }
     ensures clean { doubt (state S.Store conn.old).is_clean ≤ doubt (state S.Store conn.new).is_clean }
     ensures lists { (kept : Option (List Item)) (h : History) → Stands S.Store (serving conn.old court.now kept) h
+        → (HasCleanDisk (state S.Store conn.old) → entered.now ≡ entered_by h)
         → Lists S.Store (serving conn.new court.now kept) h from to front.now (W.contents writer.old) (W.contents writer.new) result }
 {
-    match calendar(conn, alloc, court, from, to, front, writer) {
+    match calendar(conn, alloc, court, entered, from, to, front, writer) {
         Ok(lines) => Ok(lines),
         Err(Stop::NotBegun(fault)) => Err(ListingEnd::NotBegun(read_fault(conn, fault))),
         Err(Stop::Broken(fault)) => Err(ListingEnd::Broken(read_fault(conn, fault))),
         Err(Stop::WriteFailed) => Err(ListingEnd::WriteFailed),
     }
+}
+
+/// Writes the bytes, and the calendar of the days from one to another behind them. What the court
+/// entered is kept.
+pub(crate) fn list_days<S: Alter, W: Write>(
+    conn: &mut Connection<S>,
+    alloc: Global,
+    court: &Court,
+    kept: &mut Option<CalendarItems>,
+    from: Day,
+    to: Day,
+    front: &[u8],
+    writer: &mut W,
+) -> Result<u32, ListingEnd>
+    requires { conn.old.in_transaction ≡ false }
+    ensures idle { conn.new.in_transaction ≡ false }
+    ensures clean { doubt (state S.Store conn.old).is_clean ≤ doubt (state S.Store conn.new).is_clean }
+    ensures lists { (h : History) → Stands S.Store (serving conn.old court.now kept.old) h
+        → Lists S.Store (serving conn.new court.now kept.new) h from to front.now (W.contents writer.old) (W.contents writer.new) result }
+{
+    let entered = match calendar_told(conn, alloc, court, kept) {
+        Ok(entered) => entered,
+        Err(fault) => return Err(ListingEnd::NotBegun(fault)),
+    };
+    list_by(conn, alloc, court, &entered, from, to, front, writer)
 }

@@ -1,10 +1,11 @@
 //! Commands in order, each in a transaction of its own.
-ghost use Rattle.std.specs.Prelude.{◌≡◌, ◌≤◌, IfOk, IfErr, true};
+ghost use Rattle.std.specs.Prelude.{◌≡◌, ◌≤◌, IfOk, IfErr, Err, true};
 ghost use Rattle.sqlite.specs.Held.{state};
 ghost use Rattle.sqlite.specs.View.{doubt};
 ghost use Rattle.docket_core.specs.Histories.{History};
 ghost use Rattle.docket_store.specs.Applying.{Stands};
 ghost use Rattle.docket_store.specs.Sequence.{Answers, AnswersAll, Halts, BreaksOff};
+ghost use Rattle.docket_store.specs.declared.fault.Fault.TheVariants as fault;
 
 use crate::docket::Docket;
 use crate::fault::Fault;
@@ -18,7 +19,7 @@ pub fn answer<S: Alter>(
     command: &Command,
 ) -> Result<Result<Reply, Refusal>, Fault>
     ensures court { docket.new.court ≡ docket.old.court }
-    ensures closed { docket.old.closed ≡ true → docket.new ≡ docket.old }
+    ensures closed { docket.old.closed ≡ true → (result ≡ Err fault.Closed) × (docket.new ≡ docket.old) }
     ensures clean { doubt (state S.Store docket.old.conn).is_clean ≤ doubt (state S.Store docket.new.conn).is_clean }
     ensures answer { (h : History) → Stands S.Store docket.old h → IfOk result (Answers S.Store docket.new h command.now) }
     ensures halts { (h : History) → Stands S.Store docket.old h → IfErr result (Halts S.Store docket.new h command.now) }

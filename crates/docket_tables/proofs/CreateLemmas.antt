@@ -31,7 +31,7 @@ use Rattle.docket_tables.proofs.InsertLemmas.{went, same_value}
 use Rattle.docket_tables.proofs.LayoutLemmas.{of_each}
 
 -- what the text of a table means where those before it stand
-record Defines (n : ℕ) (sql : List ℕ) (table : Shape) : Type 0 where
+pub record Defines (n : ℕ) (sql : List ℕ) (table : Shape) : Type 0 where
   pub command : command_of (understood (made n) sql) ≡ CreateTable
   pub plain : IsPlain (understood (made n) sql)
   pub words : statement_of sql (understood (made n) sql) ≡ sql
@@ -92,7 +92,7 @@ one_more table old new count was ran turns =
 pub nothing_yet : (s : State) → s.now.schema ≡ no_schema → IsMade s 0
 nothing_yet s is = record { schema = is; serves = λ low. absurd (omega (arith, low)); empty = tt }
 
-holds_none : (tree : ℕ) (places : List ℕ) (db : Trees) → db tree ≡ [] → Holds tree places [] db
+pub holds_none : (tree : ℕ) (places : List ℕ) (db : Trees) → db tree ≡ [] → Holds tree places [] db
 holds_none tree places db none = ∣ subst (λ rows. IsPermutation (map (cells places) rows) [] × IsShaped shape.Table rows) (sym none) (IsPermutation-refl [], (tt, tt)) ∣₁
 
 holds_nothing : (s : State) → IsMade s (length tables) → AreRows no_rows s.now.trees

@@ -50,7 +50,7 @@ stands_at : (table : Table) → slice_get docket_schema.tables (layout_of table)
 stands_at Court = refl
 stands_at table = refl
 
-all_at : {X : Type 0} (P : X → Type 0) (xs : List X) (n : ℕ) (x : X) → AllByRecursion P xs → slice_get xs n ≡ Some x → P x
+pub all_at : {X : Type 0} (P : X → Type 0) (xs : List X) (n : ℕ) (x : X) → AllByRecursion P xs → slice_get xs n ≡ Some x → P x
 all_at P [] n x all is = absurd cc
 all_at P (y ∷ ys) zero x all is = let same : y ≡ x = cc in subst P same all.0
 all_at P (y ∷ ys) (suc n) x all is = all_at P ys n x all.1 is

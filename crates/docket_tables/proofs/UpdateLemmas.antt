@@ -80,7 +80,7 @@ updates schema sql table q text params old new count has h =
     let changed = changes (task table) q db done.0 refl text.no_work done.1 in
     (ap (λ (d : Database). d.schema) now, w.sound, subst (Changes schema table q params db) (sym (ap (λ (d : Database). d.trees) now)) changed)
 
-no_actions : (olds news : List Row) → works docket_schema Enforced 0 0 olds news ≡ []
+pub no_actions : (olds news : List Row) → works docket_schema Enforced 0 0 olds news ≡ []
 no_actions olds news =
     elim (length news == 0) as (λ b. flat_map (λ child. filter_map (λ ref. work_by 0 0 (pairs olds news) child ref (deed_for Enforced b ref) (parent_key docket_schema.tables ref)) child.references) docket_schema.tables ≡ [])
     [ true ↦ refl | false ↦ refl ]

@@ -64,7 +64,7 @@ fn define_docket<S: Alter>(tx: &mut Transaction<'_, S>, court: &Court) -> Result
 }
 
 /// What an error of a transaction that was dropped comes to.
-fn undone_fault(error: Error) -> StoreFault
+pub fn undone_fault(error: Error) -> StoreFault
     ensures short { error ≡ SqliteFailure OutOfMemory → result ≡ NoMemory }
     ensures other { error ≢ SqliteFailure OutOfMemory → result ≡ StoreFailed }
 {

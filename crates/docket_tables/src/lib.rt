@@ -25,7 +25,7 @@ mod store;
 mod table;
 
 pub use changing::{change_ends, record};
-pub use creation::make;
+pub use creation::{make, undone_fault};
 pub use fault::{ReadFault, StoreFault};
 pub use laws::dockets_are_recognized;
 pub use probe::fault_of;

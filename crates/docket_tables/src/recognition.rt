@@ -1,21 +1,24 @@
 //! What tells the tables of a docket from others, by the schema alone.
-ghost use Rattle.std.specs.Prelude.{◌≡◌, ◌↔◌, bytes_eq, IsTrue};
+ghost use Rattle.std.specs.Prelude.{◌≡◌, ◌↔◌, IsTrue};
 ghost use Rattle.std.specs.List.{list_any};
+ghost use Rattle.sqlite_schema.specs.Names.{same_name};
 ghost use Rattle.docket_tables.specs.Recognition.{has_docket_table};
 ghost use Rattle.docket_tables.specs.Tables.{layout_of};
 ghost use Rattle.docket_tables.specs.Schema.{no_schema};
 
 use crate::table::{TABLES, Table, table_name};
+use sqlite_schema::names::same_name;
 use sqlite_schema::schema::Schema;
 
 fn is_table_name(name: &[u8], all: &[Table]) -> bool
-    ensures { result ≡ list_any (λ table. bytes_eq name.now (layout_of table).name) all.now }
+    ensures { result ≡ list_any (λ table. same_name name.now (layout_of table).name) all.now }
 {
     all.iter()
-        .any(|table| name == table_name(*table).as_bytes())
+        .any(|table| same_name(name, table_name(*table).as_bytes()))
 }
 
-/// Whether a table has the name of one of a docket's.
+/// Whether a table has the name of one of a docket's. Names are compared without regard to ASCII case,
+/// as SQL does.
 pub fn has_docket_table(schema: &Schema) -> bool
     ensures { result ≡ has_docket_table schema.now }
 {

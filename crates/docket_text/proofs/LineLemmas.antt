@@ -30,14 +30,14 @@ party_text-length : (party : ℕ) → party < 10_000 → length (party_text part
 party_text-length party small =
     cond_both (party == 0) _ _ (λ text. length text ≤ 4) (λ _. omega arith) (λ _. length-decimal-le 4 party (omega arith) (omega arith) (omega arith))
 
-end_columns-length : (court : CourtSettings) (end : End) → length (end_columns court end) ≡ 22
-end_columns-length court (LastDay day) = simp length-append (omega (arith, day_text-length day))
-end_columns-length court (Moment at) = simp length-append (omega (arith, day_text-length (local_day (zone_of court) (shown at))))
+end_columns-length : (court : CourtSettings) (close : ℕ) (end : End) → length (end_columns court close end) ≡ 22
+end_columns-length court close (LastDay day) = simp length-append (omega (arith, day_text-length day))
+end_columns-length court close (Moment at) = simp length-append (omega (arith, day_text-length (local_day (zone_of court) (shown at))))
 
 -- 57 bytes and LF
 pub calendar_line-length : (court : CourtSettings) (row : DueRow) → row.case < 10_000_000 → row.number < 10_000 → length row.rule ≤ 16 → row.party < 10_000 → length (calendar_line court row) ≡ 58
 calendar_line-length court row case number rule party =
-    let columns = end_columns-length court row.end in
+    let columns = end_columns-length court row.close row.end in
     let case_column = right_in-length 7 (decimal row.case) (length-decimal-le 7 row.case (omega arith) (omega arith) (omega arith)) in
     let number_column = right_in-length 4 (decimal row.number) (length-decimal-le 4 row.number (omega arith) (omega arith) (omega arith)) in
     let rule_column = left_in-length 16 row.rule rule in

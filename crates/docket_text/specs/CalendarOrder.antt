@@ -18,7 +18,7 @@ use Rattle.docket_text.specs.Times.{shown}
 -- the row of a deadline of the case that stands so, if its time runs
 abbrev pub row_where : ℕ → DeadlineLine → Standing → List DueRow
 row_where case line (Running end) =
-    record { end = end; case = case; number = line.number; party = line.party; rule = line.rule } ∷ []
+    record { end = end; close = line.close; case = case; number = line.number; party = line.party; rule = line.rule } ∷ []
 row_where case line Suspended = []
 row_where case line Awaiting = []
 row_where case line Done = []

@@ -17,6 +17,7 @@ fn push_running(rows: &mut Vec<DueRow>, case: u32, line: &DeadlineLine) -> Resul
         Standing::Running(end) => {
             rows.push(DueRow {
                 end,
+                close: line.close,
                 case,
                 number: line.number,
                 party: line.party,

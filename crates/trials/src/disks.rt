@@ -168,6 +168,14 @@ pub(crate) fn left<D: Tried>(alloc: Global, mut files: Files<D>) -> Result<Remai
 }
 
 impl Remains {
+    /// Whether there is something to lose on each disk that loses. Where there is not, the same is left as
+    /// by another loss.
+    pub(crate) fn is_lost(&self, loss: Loss) -> bool {
+        let is_log_lost = self.written.log.as_slice() != self.synced.log.as_slice();
+        let is_db_lost = self.written.db.as_slice() != self.synced.db.as_slice();
+        (is_log_lost || !loss.log) && (is_db_lost || !loss.db)
+    }
+
     /// What is left where a power failure loses so much.
     pub(crate) fn after(&self, alloc: Global, loss: Loss) -> Result<Bytes, AllocError> {
         let log = if loss.log {

@@ -11,7 +11,7 @@
 //! each command of standard input, or the fault of its line. `text` writes a calendar of so many lines.
 //! `tables` fills the docket's tables with so many rows, 500 or more, in the file or in memory, and times
 //! transactions on them and reads. Times go to standard error, in nanoseconds. `stops` plays the inputs that
-//! are stopped at each call of a disk, and tells how many stops there were.
+//! are stopped at each call of a disk, commands and a migration, and tells how many stops there were.
 #![tactic(auto)]
 
 mod disks;

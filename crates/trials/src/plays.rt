@@ -1,8 +1,9 @@
 //! Stored inputs, whose outputs are stored beside them: of `count`, of `run` and of the canonical texts
 //! of commands, whose outputs an independent model of the rules and of the docket computed, of dockets
-//! that were worked out by hand from the rules, and of requests of HTTP with their answers. Commands are
+//! that were worked out by hand from the rules, of requests of HTTP with their answers, and of a docket of
+//! version 1 of the tables, of which the last program of that version told what is stored. Commands are
 //! played over the docket in SQLite's tables, and once more over the docket in vectors; some are stopped at
-//! each call of a disk.
+//! each call of a disk, and so is the migration of that docket.
 mod comparing;
 mod counting;
 mod requests;
@@ -11,7 +12,7 @@ mod texts;
 pub(crate) mod vectors;
 mod worked;
 
-use crate::stops::{sessions, stopped};
+use crate::stops::{migrations, sessions, stopped};
 use anyhow::Error;
 pub(crate) use comparing::input;
 use comparing::is_as_stored;
@@ -42,14 +43,17 @@ enum Play {
     Stopped,
     /// By stopping the commands as one session.
     Session,
+    /// By stopping the migration of the docket of version 1 that the SQL makes.
+    Migrated,
 }
 
 /// The input is data/NAME.in, and what is to be written is data/NAME.out.
-const INPUTS: [(Play, &str); 37] = [
+const INPUTS: [(Play, &str); 39] = [
     (Play::Count, "count-days"),
     (Play::Count, "count-1"),
     (Play::Count, "count-2"),
     (Play::Count, "count-3"),
+    (Play::Count, "count-short"),
     (Play::Texts, "texts-wire"),
     (Play::Run, "run-calendar"),
     (Play::Run, "run-chain"),
@@ -83,6 +87,7 @@ const INPUTS: [(Play, &str); 37] = [
     (Play::Cut, "requests-cut"),
     (Play::Stopped, "stops"),
     (Play::Session, "session"),
+    (Play::Migrated, "migrated"),
 ];
 
 /// What is written on the input.
@@ -96,14 +101,20 @@ fn played(alloc: Global, play: Play, input: &[u8]) -> Result<Vec<u8>, Error> {
         Play::Cut => requests::cut(alloc, input),
         Play::Stopped => stopped(alloc, input),
         Play::Session => Ok(sessions(alloc, input)?.0),
+        Play::Migrated => Ok(migrations(alloc, input)?.0),
     }
 }
 
 /// What is written on the input over the docket in vectors, if it is one of commands.
 fn played_in_vectors(alloc: Global, play: Play, input: &[u8]) -> Option<Result<Vec<u8>, Error>> {
     match play {
-        Play::Count | Play::Texts | Play::Served(_) | Play::Cut | Play::Stopped | Play::Session =>
-            None,
+        Play::Count
+        | Play::Texts
+        | Play::Served(_)
+        | Play::Cut
+        | Play::Stopped
+        | Play::Session
+        | Play::Migrated => None,
         Play::Run => Some(vectors::ran(alloc, input)),
         Play::Worked => Some(vectors::worked_out(alloc, input)),
     }

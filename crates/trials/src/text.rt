@@ -16,6 +16,9 @@ const DAY: i32 = 20_241;
 /// 2025-06-02T00:00Z, in seconds since 1970-01-01T00:00Z.
 const INSTANT: i64 = 1_748_822_400;
 
+/// Five in the afternoon, in minutes of the day.
+const CLOSE: u32 = 1020;
+
 const RULES: [&str; 4] = ["12(a)(1)(A)(i)", "6(c)(1)", "59(e)", "order"];
 
 /// One of seven is an instant.
@@ -27,9 +30,19 @@ fn end_of(number: u32) -> Result<End, Error> {
     Ok(End::LastDay(day))
 }
 
+/// When the clerk's office closes on the last day, and 0 where the time ends at an instant.
+fn close_of(end: End) -> u32 {
+    match end {
+        End::LastDay(_) => CLOSE,
+        End::Moment(_) => 0,
+    }
+}
+
 fn row(alloc: Global, number: u32) -> Result<DueRow, Error> {
+    let end = end_of(number)?;
     Ok(DueRow {
-        end: end_of(number)?,
+        end,
+        close: close_of(end),
         case: 1 + number % 100_000,
         number: 1 + number % 1000,
         party: number % 4,

@@ -66,13 +66,16 @@ fn read_end(text: &[u8]) -> Option<End> {
     }
 }
 
-/// Whether a filing at the moment is in time, if the texts spell an end and a moment.
-fn is_in_time(court: &Court, end: &[u8], at: &[u8], way: Way) -> Option<bool> {
-    Some(timely(court, read_end(end)?, read_moment(at)?, way))
+/// An end, a moment, a way of filing, and whether the filing is in time.
+type Filing = (&'static [u8], &'static [u8], Way, bool);
+
+/// Whether the filing is in time, if the texts spell an end and a moment.
+fn is_in_time(court: &Court, calendar: &Calendar, (end, at, way, _): Filing) -> Option<bool> {
+    let (end, at) = (read_end(end)?, read_moment(at)?);
+    Some(timely(court, calendar, end, at, way))
 }
 
-/// An end, a moment, a way of filing, and whether the filing is in time.
-const FILINGS: [(&[u8], &[u8], Way, bool); 8] = [
+const FILINGS: [Filing; 8] = [
     (b"2025-07-07", b"2025-07-07T23:59-04:00", Electronic, true),
     (b"2025-07-07", b"2025-07-08T00:00-04:00", Electronic, false),
     (b"2025-07-07", b"2025-07-07T17:00-04:00", Office, true),
@@ -93,10 +96,18 @@ const FILINGS: [(&[u8], &[u8], Way, bool); 8] = [
     ),
 ];
 
+/// Filings on 2025-07-07, on which the clerk's office closes at 12:00, and on the day after it.
+const SHORT_FILINGS: [Filing; 4] = [
+    (b"2025-07-07", b"2025-07-07T12:00-04:00", Office, true),
+    (b"2025-07-07", b"2025-07-07T12:01-04:00", Office, false),
+    (b"2025-07-07", b"2025-07-07T23:59-04:00", Electronic, true),
+    (b"2025-07-08", b"2025-07-08T17:00-04:00", Office, true),
+];
+
 /// Whether each filing is in time, or not, as it is told.
-fn are_as_told(court: &Court) -> bool {
-    for (end, at, way, is_timely) in FILINGS {
-        if is_in_time(court, end, at, way) != Some(is_timely) {
+fn are_as_told(court: &Court, calendar: &Calendar, filings: &[Filing]) -> bool {
+    for filing in filings {
+        if is_in_time(court, calendar, *filing) != Some(filing.3) {
             return false;
         }
     }
@@ -106,7 +117,11 @@ fn are_as_told(court: &Court) -> bool {
 #[test]
 fn filings(rt: HostRuntime) -> Result<(), Fail> {
     let court = Court::read(rt.alloc(), EASTERN, "17:00")?;
-    assert!(rt; are_as_told(&court));
+    let mut calendar = Calendar::new(rt.alloc());
+    assert!(rt; are_as_told(&court, &calendar, &FILINGS));
+    let day = read_day(b"2025-07-07").ok_or("no day")?;
+    assert!(rt; calendar.add_short(day, 720) == Ok(true));
+    assert!(rt; are_as_told(&court, &calendar, &SHORT_FILINGS));
     Ok(())
 }
 
@@ -174,6 +189,54 @@ fn enters_spans(calendar: &mut Calendar) -> bool {
         }
     }
     true
+}
+
+/// A day, a minute at which the clerk's office closes on it, and how entering that is answered.
+const SHORT_DAYS: [(&[u8], u32, Entered); 6] = [
+    (b"2025-12-24", 720, Ok(true)),
+    (b"2025-12-24", 780, Ok(false)),
+    (b"2025-11-28", 0, Ok(true)),
+    (b"2025-12-23", 1440, OUT_OF_RANGE),
+    (b"1999-12-31", 720, OUT_OF_RANGE),
+    (b"2100-01-01", 720, OUT_OF_RANGE),
+];
+
+fn enters_short_days(calendar: &mut Calendar) -> bool {
+    for (text, minute, entered) in SHORT_DAYS {
+        match read_day(text) {
+            Some(day) if calendar.add_short(day, minute) == entered => {}
+            _ => return false,
+        }
+    }
+    true
+}
+
+/// A day, when the clerk's office closes on it as a short day, and when it closes at all.
+const CLOSINGS: [(&[u8], Option<u32>, u32); 3] = [
+    (b"2025-12-24", Some(720), 720),
+    (b"2025-11-28", Some(0), 0),
+    (b"2025-12-23", None, 1020),
+];
+
+fn close_as_told(court: &Court, calendar: &Calendar) -> bool {
+    for (text, short, minute) in CLOSINGS {
+        let Some(day) = read_day(text) else {
+            return false;
+        };
+        if short_close(calendar, day) != short || closing(court, calendar, day) != minute {
+            return false;
+        }
+    }
+    true
+}
+
+#[test]
+fn short_days(rt: HostRuntime) -> Result<(), Fail> {
+    let court = Court::read(rt.alloc(), EASTERN, "17:00")?;
+    let mut calendar = Calendar::new(rt.alloc());
+    assert!(rt; enters_short_days(&mut calendar) && calendar.len() == 2);
+    assert!(rt; close_as_told(&court, &calendar));
+    Ok(())
 }
 
 #[test]

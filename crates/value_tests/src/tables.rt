@@ -15,16 +15,8 @@ const ZONE: &str = "EST5EDT,M3.2.0,M11.1.0";
 const WHOLE_DAY: i64 = 9_999_999_999_999;
 
 /// A day of July 2025.
-fn july(day: u32) -> Day {
-    match Day::from_ymd(2025, 7, day) {
-        Some(day) => day,
-        None => july_first(),
-    }
-}
-
-/// 2025-07-01.
-fn july_first() -> Day {
-    Day::new(20_270).unwrap()
+fn july(day: u32) -> Result<Day, Fail> {
+    Ok(Day::from_ymd(2025, 7, day).ok_or("no day")?)
 }
 
 /// The court, where its row has these values.
@@ -45,12 +37,12 @@ fn court_of(
 }
 
 /// Whether a calendar with these numbers and days is taken whole, before row 4.
-fn takes_days(alloc: Global, court: Court, rows: &[(u32, u32)]) -> Result<bool, AllocError> {
+fn takes_days(alloc: Global, court: Court, rows: &[(u32, u32)]) -> Result<bool, Fail> {
     let mut check = CalendarCheck::new(alloc, court, 4);
     for (number, day) in rows {
         let row = CalendarRow {
             number: *number,
-            item: CalendarItem::Day(DayKind::Closed, july(*day)),
+            item: CalendarItem::Day(DayKind::Closed, july(*day)?),
             name: Text::from_str(alloc, "Storm")?,
         };
         if !check.take(&row)? {
@@ -60,14 +52,14 @@ fn takes_days(alloc: Global, court: Court, rows: &[(u32, u32)]) -> Result<bool, 
     Ok(true)
 }
 
-fn takes_cases(alloc: Global, rows: &[(u32, &str)]) -> Result<bool, AllocError> {
+fn takes_cases(alloc: Global, rows: &[(u32, &str)]) -> Result<bool, Fail> {
     let mut check = CaseCheck::new(alloc);
     for (number, label) in rows {
         let row = CaseRow {
             number: *number,
             label: Text::from_str(alloc, label)?,
             caption: Text::from_str(alloc, "A v. B")?,
-            filed: july(1),
+            filed: july(1)?,
         };
         if !check.take(alloc, &row)? {
             return Ok(false);
@@ -93,13 +85,13 @@ fn parties(alloc: Global, rows: &[(u32, u32)]) -> Result<Option<Numbering>, Allo
     Ok(Some(check.counts()))
 }
 
-fn takes_entries(alloc: Global, rows: &[(u32, u32)]) -> Result<bool, AllocError> {
+fn takes_entries(alloc: Global, rows: &[(u32, u32)]) -> Result<bool, Fail> {
     let mut check = EntryCheck::new(alloc, 2)?;
     for (case, number) in rows {
         let row = EntryRow {
             case: *case,
             number: *number,
-            day: july(1),
+            day: july(1)?,
             text: Text::from_str(alloc, "Complaint")?,
         };
         if !check.take(&row) {
@@ -131,16 +123,16 @@ fn deadlines(alloc: Global, rows: &[(u32, u32, u32)]) -> Result<Option<Numbering
 }
 
 /// The first act, or the second: a motion on the day.
-fn act_of(number: u32, day: u32) -> Act {
+fn act_of(number: u32, day: u32) -> Result<Act, Fail> {
     if number == 1 {
-        return Act::Start(Start::Days(DayPeriod {
-            trigger: july(day),
+        return Ok(Act::Start(Start::Days(DayPeriod {
+            trigger: july(day)?,
             period: Period::Days(21),
             direction: Direction::Forward,
             three_days: false,
-        }));
+        })));
     }
-    Act::Motion(july(day), MotionKind::B)
+    Ok(Act::Motion(july(day)?, MotionKind::B))
 }
 
 /// The ends of the running deadlines of case 1, which has two, by these acts: deadline, number and day.
@@ -148,7 +140,7 @@ fn ends(
     alloc: Global,
     court: Court,
     acts: &[(u32, u32, u32)],
-) -> Result<Option<Vec<EndRow>>, AllocError> {
+) -> Result<Option<Vec<EndRow>>, Fail> {
     let Some(counts) = deadlines(alloc, &[(1, 1, 1), (1, 2, 0)])? else {
         return Ok(None);
     };
@@ -158,37 +150,38 @@ fn ends(
             case: 1,
             deadline: *deadline,
             number: *number,
-            act: act_of(*number, *day),
+            act: act_of(*number, *day)?,
         };
         if !check.take(&row)? {
             return Ok(None);
         }
     }
-    check.dues()
+    Ok(check.dues()?)
 }
 
-fn is_end(rows: &[EndRow], deadline: u32, day: u32) -> bool {
-    match rows {
+fn is_end(rows: &[EndRow], deadline: u32, day: u32) -> Result<bool, Fail> {
+    let day = i64::from(july(day)?.epoch_day());
+    Ok(match rows {
         [row] => row.case == 1
             && row.deadline == deadline
-            && row.end.day == i64::from(july(day).epoch_day())
+            && row.end.day == day
             && row.end.moment == WHOLE_DAY,
         _ => false,
-    }
+    })
 }
 
 /// Whether the one row is that of deadline 2, until the day.
-fn takes_end(expected: Vec<EndRow>, day: u32) -> bool {
+fn takes_end(expected: Vec<EndRow>, day: u32) -> Result<bool, Fail> {
     let mut check = DueCheck::new(expected);
     let row = EndRow {
         case: 1,
         deadline: 2,
         end: EndTime {
-            day: i64::from(july(day).epoch_day()),
+            day: i64::from(july(day)?.epoch_day()),
             moment: WHOLE_DAY,
         },
     };
-    check.take(row) && check.is_sound()
+    Ok(check.take(row) && check.is_sound())
 }
 
 fn takes_receipts(alloc: Global, rows: &[(&str, &str)]) -> Result<bool, AllocError> {
@@ -255,12 +248,13 @@ fn acts(rt: HostRuntime) -> Result<(), Fail> {
         assert!(rt; false);
         return Ok(());
     };
-    assert!(rt; is_end(rows.as_slice(), 2, 28));
-    assert!(rt; takes_end(rows, 28));
+    assert!(rt; is_end(rows.as_slice(), 2, 28)?);
+    assert!(rt; takes_end(rows, 28)?);
     let Some(rows) = ends(alloc, read()?, &sound)? else {
+        assert!(rt; false);
         return Ok(());
     };
-    assert!(rt; !takes_end(rows, 29));
+    assert!(rt; !takes_end(rows, 29)?);
     assert!(rt; ends(alloc, read()?, &[(1, 1, 1)])?.is_none());
     assert!(rt; ends(alloc, read()?, &[(1, 1, 1), (1, 3, 3), (2, 1, 7)])?.is_none());
     assert!(rt; ends(alloc, read()?, &[(1, 1, 1), (2, 2, 7)])?.is_none());

@@ -147,14 +147,19 @@ fn other_tables_are_left_alone(rt: HostRuntime) -> Result<(), Fail> {
     Ok(())
 }
 
-// Tables under the names of a docket's. Of the first two the court has other columns or no row.
-const NAMESAKES: [(&str, AdoptFault); 3] = [
+// Tables under the names of a docket's, which are compared without regard to case. Of the first three
+// the court has other columns or no row.
+const NAMESAKES: [(&str, AdoptFault); 4] = [
     (
         "CREATE TABLE court (id INTEGER PRIMARY KEY, name TEXT NOT NULL) STRICT; INSERT INTO court (id, name) VALUES (1, 'E')",
         AdoptFault::NotADocket,
     ),
     (
         "CREATE TABLE court (id INTEGER PRIMARY KEY, word TEXT NOT NULL, version INTEGER NOT NULL, zone TEXT NOT NULL, close INTEGER NOT NULL, next_row INTEGER NOT NULL) STRICT",
+        AdoptFault::NotADocket,
+    ),
+    (
+        "CREATE TABLE Court (name TEXT NOT NULL) STRICT",
         AdoptFault::NotADocket,
     ),
     (

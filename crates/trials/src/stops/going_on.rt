@@ -5,10 +5,11 @@ use crate::stops::telling::told;
 use anyhow::{Error, anyhow};
 use docket_command::{Command, Reply};
 use docket_store::{
-    AdoptFault, CreateFault, Docket, Fault, RecoverFault, apply_again, recover, reopen, stop,
+    AdoptFault, CreateFault, Docket, Fault, MigrateFault, RecoverFault, apply_again, recover,
+    reopen, stop,
 };
 use docket_wire::read_command;
-use sqlite::{Alter, FileStore, Files};
+use sqlite::{Alter, Connection, FileStore, Files};
 use sqlite_disk::Disk;
 use std::alloc::Global;
 
@@ -20,6 +21,7 @@ pub(super) enum End {
     NotOpened,
     NotMade(CreateFault),
     NotAdopted(AdoptFault),
+    NotMigrated(MigrateFault),
     NotTold,
 }
 
@@ -31,6 +33,7 @@ impl End {
             End::NotOpened
                 | End::NotMade(CreateFault::StoreFailed)
                 | End::NotAdopted(AdoptFault::StoreFailed)
+                | End::NotMigrated(MigrateFault::StoreFailed)
         )
     }
 }
@@ -49,6 +52,21 @@ pub(super) fn ended<D: Disk + Drop>(fault: RecoverFault<D>) -> (End, Files<D>) {
 /// The files of a docket.
 fn closed<D: Disk + Drop>(docket: Docket<FileStore<D>>) -> Files<D> {
     docket.close().into_store().close()
+}
+
+/// The connection over the files, or why there is none, and its files.
+fn opened<D: Disk + Drop>(
+    alloc: Global,
+    files: Files<D>,
+    frames: usize,
+) -> Result<Connection<FileStore<D>>, (End, Files<D>)> {
+    if !files.may_be_used() {
+        return Err((End::NotUsable, files));
+    }
+    match reopen(alloc, files, options(frames)) {
+        Ok(conn) => Ok(conn),
+        Err((_, left)) => Err((End::NotOpened, left.into_files())),
+    }
 }
 
 /// The docket from which the run goes on, or why there is none, and its files.
@@ -103,12 +121,9 @@ pub(super) fn created<D: Disk + Drop>(
     let Ok(court) = eastern_court(alloc) else {
         return (Err(End::NoCourt), files);
     };
-    if !files.may_be_used() {
-        return (Err(End::NotUsable), files);
-    }
-    let conn = match reopen(alloc, files, options(frames)) {
+    let conn = match opened(alloc, files, frames) {
         Ok(conn) => conn,
-        Err((_, left)) => return (Err(End::NotOpened), left.into_files()),
+        Err((end, files)) => return (Err(end), files),
     };
     match Docket::create(alloc, conn, court) {
         Ok(docket) => (Ok(()), closed(docket)),
@@ -161,6 +176,50 @@ pub(super) fn given<D: Disk + Drop>(
 ) -> (Result<Result<Reply, Fault>, End>, Files<D>) {
     match gone_on_with(alloc, files, frames, command) {
         Ok((docket, answer)) => (Ok(answer), closed(docket)),
+        Err((end, files)) => (Err(end), files),
+    }
+}
+
+/// Executes the SQL.
+pub(super) fn executed<D: Disk + Drop>(
+    alloc: Global,
+    files: Files<D>,
+    frames: usize,
+    sql: &str,
+) -> Result<Files<D>, Error> {
+    match opened(alloc, files, frames) {
+        Ok(mut conn) => {
+            let executed = conn.execute_batch(sql);
+            let files = stop(conn).close();
+            executed?;
+            Ok(files)
+        }
+        Err(_) => Err(anyhow!("the files are not opened")),
+    }
+}
+
+/// What the migration of a docket is answered, and the connection.
+fn migrate<S: Alter>(
+    alloc: Global,
+    conn: Connection<S>,
+) -> (Result<(), MigrateFault>, Connection<S>) {
+    match Docket::migrate(alloc, conn) {
+        Ok(conn) => (Ok(()), conn),
+        Err(returned) => (Err(returned.fault), returned.connection),
+    }
+}
+
+/// Migrates the docket of the files.
+pub(super) fn migrated<D: Disk + Drop>(
+    alloc: Global,
+    files: Files<D>,
+    frames: usize,
+) -> (Result<(), End>, Files<D>) {
+    match opened(alloc, files, frames) {
+        Ok(conn) => {
+            let (answer, conn) = migrate(alloc, conn);
+            (answer.map_err(End::NotMigrated), stop(conn).close())
+        }
         Err((end, files)) => (Err(end), files),
     }
 }

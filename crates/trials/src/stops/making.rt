@@ -1,8 +1,8 @@
 //! The making of a docket, stopped after each number of calls of each disk until it meets no stop.
 use crate::disks::{Bytes, Fused, LOSSES, NO_STOP, Stop, Tried, calls_of, files_with, left};
+use crate::stops::FRAMES;
 use crate::stops::going_on::{End, created, found};
-use crate::stops::stopping::{EACH, Stopping, Tally};
-use crate::stops::{CALLS, FRAMES};
+use crate::stops::sweeping::{Stoppable, Stopping, Tally, swept};
 use anyhow::{Error, anyhow};
 use docket_store::AdoptFault;
 use sqlite::Files;
@@ -10,6 +10,19 @@ use std::alloc::Global;
 
 /// What a docket without any record tells.
 const NOTHING: &[u8] = b"end 0\n";
+
+/// The making of a docket in files that hold none.
+#[derive(Clone, Copy)]
+struct Making {
+    frames: usize,
+}
+
+impl Stoppable for Making {
+    fn stopped(&self, alloc: Global, stopping: Stopping, calls: u64) -> Result<(bool, u64), Error> {
+        let is_stopped = stopped_once::<Fused>(alloc, self.frames, stopping.after(calls))?;
+        Ok((is_stopped, LOSSES.len() as u64))
+    }
+}
 
 /// Makes a docket in files that hold none.
 fn made_now<D: Tried>(alloc: Global, files: Files<D>, frames: usize) -> Result<(), Error> {
@@ -59,35 +72,12 @@ fn stopped_once<D: Tried>(alloc: Global, frames: usize, stop: Stop) -> Result<bo
     Ok(is_stopped)
 }
 
-/// Stops the disk after each number of calls, until it does not stop. How many stops there were.
-fn stops_of<D: Tried>(alloc: Global, frames: usize, stopping: Stopping) -> Result<u64, Error> {
-    for calls in 0..CALLS {
-        if !stopped_once::<D>(alloc, frames, stopping.after(calls))? {
-            return Ok(calls);
-        }
-    }
-    Err(anyhow!("no end of the stops"))
-}
-
-/// Stops each disk. Each sweep ends with a run that meets no stop.
-fn swept<D: Tried>(alloc: Global, frames: usize) -> Result<Tally, Error> {
-    let mut tally = Tally::NONE;
-    for stopping in EACH {
-        let stops = stops_of::<D>(alloc, frames, stopping)?;
-        tally = tally.with(Tally {
-            stops,
-            reopenings: stops.saturating_add(1).saturating_mul(LOSSES.len() as u64),
-        });
-    }
-    Ok(tally)
-}
-
 /// How many stops there are of the making of a docket, which is made whole or not at all wherever it is
 /// stopped.
 pub(super) fn made(alloc: Global) -> Result<Tally, Error> {
     let mut tally = Tally::NONE;
     for frames in FRAMES {
-        tally = tally.with(swept::<Fused>(alloc, frames)?);
+        tally = tally.with(swept(alloc, &Making { frames })?);
     }
     Ok(tally)
 }

@@ -3,7 +3,7 @@
 use crate::disks::{Bytes, Fused, Stop, Tried, files_with, options};
 use crate::plays::{ZONE, eastern_court, vectors};
 use crate::stops::going_on::{End, ended};
-use crate::stops::stopping::{EACH, Stopping, Tally};
+use crate::stops::sweeping::{EACH, Stopping, Tally};
 use crate::stops::telling::{told, told_by_vectors};
 use crate::stops::trial::prepared;
 use crate::stops::{CALLS, FEW};

@@ -1,74 +1,27 @@
 //! Each command of an input, stopped after each number of calls of each disk until it meets no stop.
 use crate::disks::{Bytes, Fused, LOSSES, NO_STOP, Stop, Tried, calls_of, files_with, left};
+use crate::stops::FRAMES;
 use crate::stops::going_on::{End, found, given};
 use crate::stops::making::made;
+use crate::stops::sweeping::{Stoppable, Stopping, Tally, swept};
 use crate::stops::trial::{Trial, parted};
-use crate::stops::{CALLS, FRAMES};
 use anyhow::{Error, anyhow};
 use docket_command::Reply;
 use docket_store::Fault;
 use docket_wire::reply_text;
 use sqlite::Files;
 use std::alloc::Global;
-use std::fmt;
-
-/// Which disk stops.
-#[derive(Clone, Copy)]
-pub(super) enum Stopping {
-    Log,
-    Database,
-}
-
-pub(super) const EACH: [Stopping; 2] = [Stopping::Log, Stopping::Database];
-
-impl Stopping {
-    /// The stop after so many calls.
-    pub(super) fn after(self, calls: u64) -> Stop {
-        match self {
-            Stopping::Log => Stop {
-                log: calls,
-                ..NO_STOP
-            },
-            Stopping::Database => Stop {
-                db: calls,
-                ..NO_STOP
-            },
-        }
-    }
-}
-
-/// How many stops there were, and how often the files were opened anew after one.
-#[derive(Clone, Copy)]
-pub(crate) struct Tally {
-    pub(crate) stops: u64,
-    pub(crate) reopenings: u64,
-}
-
-impl Tally {
-    pub(crate) const NONE: Tally = Tally {
-        stops: 0,
-        reopenings: 0,
-    };
-
-    /// Both together.
-    pub(crate) fn with(self, other: Tally) -> Tally {
-        Tally {
-            stops: self.stops.saturating_add(other.stops),
-            reopenings: self.reopenings.saturating_add(other.reopenings),
-        }
-    }
-}
-
-impl fmt::Display for Tally {
-    fn fmt<W: fmt::Write>(&self, f: &mut fmt::Formatter<W>) -> fmt::Result {
-        let Tally { stops, reopenings } = *self;
-        write!(f, "{stops} stops, {reopenings} reopenings")
-    }
-}
 
 /// After each of the four losses the files are opened to see what stands, and after one of them to give the
 /// command again, and to see that it stands once.
 const REOPENINGS: u64 = 6;
+
+impl Stoppable for Trial {
+    fn stopped(&self, alloc: Global, stopping: Stopping, calls: u64) -> Result<(bool, u64), Error> {
+        let is_stopped = stopped_once::<Fused>(alloc, self, stopping.after(calls), calls % 4)?;
+        Ok((is_stopped, REOPENINGS))
+    }
+}
 
 /// Whether the command was acknowledged, with its answer. Where a disk stopped it may have none.
 fn is_acknowledged(
@@ -152,29 +105,6 @@ fn stopped_once<D: Tried>(
     Ok(is_stopped)
 }
 
-/// Stops the disk after each number of calls, until it does not stop. How many stops there were.
-fn stops_of<D: Tried>(alloc: Global, trial: &Trial, stopping: Stopping) -> Result<u64, Error> {
-    for calls in 0..CALLS {
-        if !stopped_once::<D>(alloc, trial, stopping.after(calls), calls % 4)? {
-            return Ok(calls);
-        }
-    }
-    Err(anyhow!("no end of the stops"))
-}
-
-/// Stops each disk. Each sweep ends with a run that meets no stop.
-fn swept<D: Tried>(alloc: Global, trial: &Trial) -> Result<Tally, Error> {
-    let mut tally = Tally::NONE;
-    for stopping in EACH {
-        let stops = stops_of::<D>(alloc, trial, stopping)?;
-        tally = tally.with(Tally {
-            stops,
-            reopenings: stops.saturating_add(1).saturating_mul(REOPENINGS),
-        });
-    }
-    Ok(tally)
-}
-
 /// The answer to the command of a line, which comes to the docket of the lines and stands whole wherever
 /// it is stopped, and how many stops there were.
 fn answered(alloc: Global, lines: &[u8], line: &[u8]) -> Result<(String, Tally), Error> {
@@ -182,7 +112,7 @@ fn answered(alloc: Global, lines: &[u8], line: &[u8]) -> Result<(String, Tally),
     let mut tally = Tally::NONE;
     for frames in FRAMES {
         let trial = Trial::new::<Fused>(alloc, lines, line, frames)?;
-        tally = tally.with(swept::<Fused>(alloc, &trial)?);
+        tally = tally.with(swept(alloc, &trial)?);
         answer = trial.answer;
     }
     Ok((answer, tally))

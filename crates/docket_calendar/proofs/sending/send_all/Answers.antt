@@ -15,7 +15,7 @@ returns-in_err-send_next-clause-sends g c = λ sql params listed clean lists gav
     let told = c.rows.invariant.told before sql params listed lists gave is_open in
     let sends = c.in_err-send_next.ensures.sends sql params listed clean (lists_still g.S.Store court listed sql params old now told.same lists) told.gave in
     stops_as g.S.Store court listed c.args.front.now sql params c.rows.lines (g.W.Write.contents c.args.writer.now) (g.W.Write.contents c.rows.writer) (g.W.Write.contents c.send_next.new.writer) old now new told
-    c.opening.result.now c.from_residual.result _ c.opening.ensures c.from_residual.ensures.1 sends
+    c.opening-front.result.now c.from_residual.result _ c.opening-front.ensures c.from_residual.ensures.1 sends
 
 pub returns-then-not-branch-clause-sends : goal.returns-then-not-branch-clause-sends
 returns-then-not-branch-clause-sends g c = λ sql params listed clean lists gave is_open.
@@ -27,7 +27,7 @@ returns-then-not-branch-clause-sends g c = λ sql params listed clean lists gave
     let told = c.rows.invariant.told before sql params listed lists gave is_open in
     let sends = c.in_ok-send_next.ensures.sends sql params listed clean (lists_still g.S.Store court listed sql params old now told.same lists) told.gave in
     whole_as g.S.Store court listed c.args.front.now sql params c.rows.lines (g.W.Write.contents c.args.writer.now) (g.W.Write.contents c.rows.writer) (g.W.Write.contents c.send_next.new.writer) old now new told
-    c.opening.result.now c.in_ok-send_next.field-0 c.opening.ensures c.if-not-branch.true sends
+    c.opening-front.result.now c.in_ok-send_next.field-0 c.opening-front.ensures c.if-not-branch.true sends
 
 pub rows-preserved : goal.rows-preserved
 rows-preserved g c =
@@ -44,7 +44,7 @@ rows-preserved g c =
           let told = c.rows.invariant.told before sql params listed lists gave is_open in
           let sends = c.in_ok-send_next.ensures.sends sql params listed clean (lists_still g.S.Store court listed sql params old now told.same lists) told.gave in
           goes_on_as g.S.Store court listed c.args.front.now sql params c.rows.lines (g.W.Write.contents c.args.writer.now) (g.W.Write.contents c.rows.writer) (g.W.Write.contents c.send_next.new.writer) old now new told
-          c.opening.result.now c.in_ok-send_next.field-0 c.opening.ensures c.if-not-branch.false sends;
+          c.opening-front.result.now c.in_ok-send_next.field-0 c.opening-front.ensures c.if-not-branch.false sends;
     }
 
 pub returns-clause-sends : goal.returns-clause-sends

@@ -16,6 +16,6 @@ invariant-rows g l =
       same_reference : l.rows.conn.ghost_name ≡ l.fn.rows.conn.ghost_name;
       mode : old.in_transaction ≡ false → now.in_transaction ≡ false;
       survives : Survives (state g.S.Store old) (state g.S.Store now) (λ _. ⊥);
-      told : HasCleanDisk (state g.S.Store now) → (sql : List ℕ) (params : Row) (listed : List DueRow) → Lists sql params l.court (state g.S.Store old).now listed → Gave g.S.Store sql params l.court listed 0 old
+      told : HasCleanDisk (state g.S.Store now) → (sql : List ℕ) (params : Row) (listed : List DueRow) → Lists sql params l.court l.entered (state g.S.Store old).now listed → Gave g.S.Store sql params l.court listed 0 old
           → IsTrue (state g.S.Store old).is_open → IsTold g.S.Store l.court listed l.fn.front sql params l.lines (g.W.Write.contents l.fn.writer) (g.W.Write.contents l.writer) old now;
     }

@@ -6,6 +6,6 @@ use Rattle.docket_core.proofs.lines.deadline_lines.Given as goal
 abbrev pub invariant-loop-deadline : goal.invariant-loop-deadline
 invariant-loop-deadline l = record {
   counted : l.number ≡ 1 + l.deadline-index;
-  rest : l.lines.items ++ lines_from (zone_of l.court) l.calendar l.number (drop l.deadline-index l.deadlines)
-      ≡ lines_from (zone_of l.court) l.calendar 1 l.deadlines;
+  rest : l.lines.items ++ lines_from l.court l.calendar l.number (drop l.deadline-index l.deadlines)
+      ≡ lines_from l.court l.calendar 1 l.deadlines;
 }

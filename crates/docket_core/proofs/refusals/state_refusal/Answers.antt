@@ -23,7 +23,7 @@ returns c =
       c.is_short_waiver.ensures,
       c.is_late_waiver.ensures v c.requires.matter.calendar,
       c.may_not_extend.ensures,
-      c.is_expired.ensures v standing,
+      c.is_expired.ensures v c.requires.matter.calendar standing,
       c.is_not_later.ensures v standing,
       c.is_full.ensures,
     )

@@ -1,9 +1,14 @@
-use Rattle.std.proofs.Common.{sym, ap, refl, subst}
+use Rattle.std.proofs.Common.{sym, ap, refl, subst, inl, Ok}
 use Rattle.std.specs.List.{slice_range}
 use Rattle.http_request.specs.Request.{body_of}
-use Rattle.http_request.specs.declared.wish.Wish.TheVariants.{Command, Case, Deadlines}
+use Rattle.http_request.specs.declared.wish.Wish.TheVariants.{Reject, Command, Case, Deadlines, Holidays}
+use Rattle.docket_text.specs.HolidayTexts.{holiday_text}
+use Rattle.docket_http.specs.Answer.{text, problem_response}
 use Rattle.docket_http.specs.Asking.{IsBuilt}
+use Rattle.docket_http.specs.declared.problem.Problem.TheVariants.{Rejected}
+use Rattle.docket_http.specs.declared.reply.Reply.TheVariants.{Fixed}
 use Rattle.docket_http.proofs.AskingLemmas.{replies_as}
+use Rattle.docket_http.proofs.ClosedLemmas.{closed_as}
 use Rattle.docket_http.proofs.answering.reply_to.Goals as goal
 
 pub returns-in-Command-clause-replies : goal.returns-in-Command-clause-replies
@@ -25,3 +30,25 @@ returns-in-Deadlines-clause-replies g c h stands =
 
 pub returns-in-Calendar-clause-replies : goal.returns-in-Calendar-clause-replies
 returns-in-Calendar-clause-replies g c h stands = absurd (subst IsBuilt c.in-Calendar.is c.requires.whole)
+
+pub returns-in-Reject-clause-closed : goal.returns-in-Reject-clause-closed
+returns-in-Reject-clause-closed g c shut =
+    let body = body_of c.args.request.now in
+    let told = problem_response (Rejected c.in-Reject.rejection) in
+    (refl, closed_as (Reject c.in-Reject.rejection) c.args.request.now.wish body body (Ok (Fixed (Rejected c.in-Reject.rejection))) (sym c.in-Reject.is) refl (told, (refl, refl), refl))
+
+pub returns-in-Command-clause-closed : goal.returns-in-Command-clause-closed
+returns-in-Command-clause-closed g c shut =
+    let closed = c.command_reply.ensures.closed shut in (
+      closed.0,
+      closed_as (Command c.in-Command.field-0) c.args.request.now.wish
+          (slice_range c.deref.result.now c.args.request.now.start c.args.request.now.end) (body_of c.args.request.now) c.command_reply.result (sym c.in-Command.is)
+          (ap (λ xs. slice_range xs c.args.request.now.start c.args.request.now.end) c.deref.ensures.value) (closed.1 c.in-Command.field-0),
+    )
+
+pub returns-in_ok-holidays_reply-in-Holidays-clause-closed : goal.returns-in_ok-holidays_reply-in-Holidays-clause-closed
+returns-in_ok-holidays_reply-in-Holidays-clause-closed g c shut =
+    let body = body_of c.args.request.now in
+    let reply = c.in_ok-holidays_reply-in-Holidays.field-0 in
+    let told = text (holiday_text c.in-Holidays.year) in
+    (refl, closed_as (Holidays c.in-Holidays.year) c.args.request.now.wish body body (Ok reply) (sym c.in-Holidays.is) refl (told, c.in_ok-holidays_reply-in-Holidays.ensures, inl refl))

@@ -6,6 +6,7 @@ use Rattle.docket_http.specs.Asking.{problem_of_fault}
 use Rattle.docket_http.specs.Serve.{IsServed, IsBroken, fault_of_broken}
 use Rattle.docket_http.specs.declared.reply.Reply.TheVariants.{Fixed}
 use Rattle.docket_http.specs.declared.fault.ServeFault.{ServeFault}
+use Rattle.docket_http.proofs.ClosedLemmas.{closed_sent}
 use Rattle.docket_http.proofs.ServeLemmas.{sent_whole, sent_cut, calendar_told, calendar_served, calendar_cut, calendar_broken}
 use Rattle.docket_http.proofs.calendar.serve_calendar.Goals as goal
 
@@ -54,3 +55,12 @@ returns-in-Err-WriteFailed-clause-fails g c h body stands clean =
     let lists = subst (λ (e : ListingEnd). Lists g.S.Store c.calendar_after.new.self h c.args.from c.args.to c.open_head.result.now
     (g.W.Write.contents c.args.writer.now) (g.W.Write.contents c.calendar_after.new.writer) (Err e)) c.in-Err-WriteFailed.field-0-is (c.in-Err-WriteFailed.ensures.answer h stands) in
     calendar_cut g.S.Store c.calendar_after.new.self h c.args.from c.args.to body c.open_head.result.now _ _ c.open_head.ensures lists clean
+
+pub returns-in-Err-NotBegun-clause-closed : goal.returns-in-Err-NotBegun-clause-closed
+returns-in-Err-NotBegun-clause-closed g c shut =
+    let closed = c.in-Err-NotBegun.ensures.closed shut in (
+      closed.1,
+      closed_sent c.in-Err-NotBegun.field-0 c.in-Err-NotBegun.fault c.problem_of.result (g.W.Write.contents c.args.writer.now) (g.W.Write.contents c.calendar_after.new.writer)
+          (g.W.Write.contents c.send.new.writer) c.send.result c.in-Err-NotBegun.field-0-is (c.problem_of.ensures ∙ ap problem_of_fault c.in-Err-NotBegun.fault-is) closed.0
+          (ap g.W.Write.contents closed.2) c.send.ensures.whole c.send.ensures.front,
+    )

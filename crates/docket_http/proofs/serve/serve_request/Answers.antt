@@ -1,4 +1,5 @@
 use Rattle.http_request.specs.Request.{body_of}
+use Rattle.docket_http.proofs.ClosedLemmas.{closed_calendar}
 use Rattle.docket_http.proofs.ServeLemmas.{reply_whole, reply_cut, calendar_whole, calendar_fails}
 use Rattle.docket_http.proofs.serve.serve_request.Goals as goal
 
@@ -21,3 +22,8 @@ pub returns-in-Some-clause-fails : goal.returns-in-Some-clause-fails
 returns-in-Some-clause-fails g c =
     calendar_fails g.S.Store c.serve_calendar.new.docket c.args.docket.now c.serve_calendar.result _ c.args.request.now.wish (body_of c.args.request.now) _ _
     c.in-Some.ensures c.serve_calendar.ensures.fails
+
+pub returns-in-Some-clause-closed : goal.returns-in-Some-clause-closed
+returns-in-Some-clause-closed g c shut =
+    let closed = c.serve_calendar.ensures.closed shut in
+    (closed.0, closed_calendar _ _ c.args.request.now.wish (body_of c.args.request.now) _ _ c.serve_calendar.result c.in-Some.ensures closed.1)

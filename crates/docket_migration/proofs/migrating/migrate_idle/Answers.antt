@@ -1,7 +1,9 @@
+use Rattle.std.proofs.Common.{◌≡◌, true, rules, arith}
 use Rattle.docket_columns.specs.declared.version.Version.TheVariants.{First}
 use Rattle.docket_core.specs.Tables.{rows_of}
 use Rattle.docket_tables.specs.Contents.{rows_by}
-use Rattle.docket_migration.proofs.MigrateLemmas.{not_found, told_not_found, still_holds, then_migrates, then_told}
+use Rattle.docket_migration.specs.Keeping.{is_court_apart}
+use Rattle.docket_migration.proofs.MigrateLemmas.{has_court, not_found, told_not_found, still_holds, then_migrates, then_told}
 use Rattle.docket_migration.proofs.migrating.migrate_idle.Goals as goal
 
 pub returns-in-Err-clause-docket : goal.returns-in-Err-clause-docket
@@ -24,5 +26,9 @@ returns-clause-docket g c court h settings zone history commands was =
 pub returns-clause-told : goal.returns-clause-told
 returns-clause-told g c =
     let told = c.in_default.ensures in
+    let has = has_court g.S.Store c.args.conn.now c.find_docket.new.conn told.writes_nothing c.in_default.field-0 told.told in
+    let apart : is_court_apart c.find_docket.new.conn.schema ≡ true = search rules in
     then_told g.S.Store c.args.conn.now c.find_docket.new.conn told.writes_nothing c.change_judged.new.conn c.change_judged.ensures.clean c.in_default.field-0 told.told c.change_judged.result
     c.change_judged.ensures.only c.change_judged.ensures.short
+    (λ clean. c.change_judged.ensures.gone (has (omega (arith, c.change_judged.ensures.clean, clean))) apart clean)
+    (λ clean. c.change_judged.ensures.may_go (has (omega (arith, c.change_judged.ensures.clean, clean))) apart clean)

@@ -2,6 +2,7 @@ use Rattle.std.proofs.Common.{◌≡◌, ◌∙◌, List, Vec, Global, Some, sym
 use Rattle.std.specs.Option.{option_map}
 use Rattle.sqlite.specs.Held.{state}
 use Rattle.sqlite.specs.State.{HasCleanDisk}
+use Rattle.court_days.specs.Calendar.{Entered}
 use Rattle.court_days.specs.Court.{zone_of}
 use Rattle.docket_core.specs.EndRows.{end_rows_of}
 use Rattle.docket_core.specs.Histories.{deadlines}
@@ -15,23 +16,26 @@ use Rattle.docket_store.proofs.AskLemmas.{asks_told, sound_ends, lines_shown, de
 use Rattle.docket_store.proofs.asking.lines_of_case.Goals as goal
 
 pub returns-clause-answer : goal.returns-clause-answer
-returns-clause-answer g c kept h stands shows =
+returns-clause-answer g c kept h stands entered shows =
     let court = c.args.court.now in
     let conn = c.ends_shown.new.conn in
     let number = c.args.number in
+    let by : Entered = c.args.entered.now in
     let ds : List DeadlineView = c.args.deadlines.now in
     let rows : List EndRow = c.as_slice.result.now in
     let asked = c.in_ok-stored.ensures.answer court kept h stands in
     let early : HasCleanDisk (state g.S.Store conn) → HasCleanDisk (state g.S.Store c.args.conn.now) = λ clean. omega (arith, c.ends_shown.ensures.clean) in
     let are_made : HasCleanDisk (state g.S.Store conn) → ds ≡ deadlines number h = λ clean. deadlines_shown court h number _ (shows (early clean)) in
     let are_ends : HasCleanDisk (state g.S.Store conn) → rows ≡ end_rows_of (zone_of court) (calendar h) number (deadlines number h) = λ clean. c.as_slice.ensures.value ∙ asked.1 clean in
-    let sound : HasCleanDisk (state g.S.Store conn) → AreEndsBy court (calendar h) number ds rows = λ clean.
-    subst (λ (all : List EndRow). AreEndsBy court (calendar h) number ds all) (sym (are_ends clean))
-    (subst (λ (all : List DeadlineView). AreEndsBy court (calendar h) number all (end_rows_of (zone_of court) (calendar h) number (deadlines number h))) (sym (are_made clean)) (sound_ends court h number stands.docket)) in
-    asks_told g.S.Store (serving conn court kept) h (AreEndsBy court (calendar h) number ds rows)
-    (λ (lines : Vec DeadlineLine Global). AreEndsBy court (calendar h) number ds rows → lines.items ≡ lines_from (zone_of court) (calendar h) 1 ds)
+    let sound : HasCleanDisk (state g.S.Store conn) → AreEndsBy court by number ds rows = λ clean.
+    subst (λ (k : Entered). AreEndsBy court k number ds rows) (sym (entered (early clean)))
+    (subst (λ (all : List EndRow). AreEndsBy court (calendar h) number ds all) (sym (are_ends clean))
+    (subst (λ (all : List DeadlineView). AreEndsBy court (calendar h) number all (end_rows_of (zone_of court) (calendar h) number (deadlines number h))) (sym (are_made clean)) (sound_ends court h number stands.docket))) in
+    asks_told g.S.Store (serving conn court kept) h (AreEndsBy court by number ds rows)
+    (λ (lines : Vec DeadlineLine Global). AreEndsBy court by number ds rows → lines.items ≡ lines_from court by 1 ds)
     (λ lines. Some lines.items ≡ deadline_lines court h number) c.lines_told.result asked.0 sound
     (λ clean lines is.
     (λ i. Some (is (sound clean) i))
-    ∙ ap (option_map (lines_from (zone_of court) (calendar h) 1)) (sym (shows (early clean))) ∙ lines_shown court h number)
-    (c.lines_told.ensures (calendar h) number)
+    ∙ ap (λ (k : Entered). Some (lines_from court k 1 ds)) (entered (early clean))
+    ∙ ap (option_map (lines_from court (calendar h) 1)) (sym (shows (early clean))) ∙ lines_shown court h number)
+    (c.lines_told.ensures number)

@@ -1,46 +1,19 @@
-use Rattle.std.proofs.Common.{ℕ, Err, subst, arith}
-use Rattle.docket_calendar.specs.Telling.{Tells}
-use Rattle.docket_calendar.specs.declared.stop.Stop.{Stop}
-use Rattle.docket_store.specs.Applying.{docket_rows}
-use Rattle.docket_store.proofs.AskLemmas.{asks_failed}
-use Rattle.docket_store.proofs.ListingLemmas.{history_of}
+use Rattle.std.proofs.Common.{◌≡◌, ℕ}
+use Rattle.std.proofs.KnownBytes.{Appends-nil}
+use Rattle.court_days.specs.Calendar.{Entered}
+use Rattle.docket_core.specs.Records.{calendar}
+use Rattle.docket_store.specs.Dockets.{serving}
+use Rattle.docket_store.proofs.AskLemmas.{fault_of_other}
 use Rattle.docket_store.proofs.listing.list_days.Goals as goal
 
-pub returns-in-Ok-clause-lists : goal.returns-in-Ok-clause-lists
-returns-in-Ok-clause-lists g c kept h stands =
-    let told = c.in-Ok.ensures.tells h (history_of c.args.court.now h stands.docket) stands.rows in
-    (record { docket = stands.docket; serves = stands.serves; rows = told.0; calendar = λ clean. stands.calendar (omega (arith, c.calendar.ensures.clean)) }, told.1)
-
-pub returns-in-Err-NotBegun-clause-lists : goal.returns-in-Err-NotBegun-clause-lists
-returns-in-Err-NotBegun-clause-lists g c kept h stands =
-    let court = c.args.court.now in
-    let new = c.calendar.new.conn in
-    let writer = c.calendar.new.writer in
-    let told = subst (λ (stop : Stop). Tells g.S.Store court h c.args.from c.args.to c.args.front.now (g.W.Write.contents c.args.writer.now) (g.W.Write.contents writer) new (Err stop)) c.in-Err-NotBegun.field-0-is
-    (c.in-Err-NotBegun.ensures.tells h (history_of court h stands.docket) stands.rows) in (
-      asks_failed g.S.Store {X = ℕ} c.read_fault.new.conn court kept h (λ (lines : ℕ). ⊥) c.read_fault.result stands.docket
-          (λ clean. stands.calendar (omega (arith, c.calendar.ensures.clean, c.read_fault.ensures.clean)))
-          (c.read_fault.ensures.left (docket_rows court h) (docket_rows court h) told.0),
-      λ clean. told.1 (omega (arith, c.read_fault.ensures.clean, clean)),
+pub returns-in-Err-clause-lists : goal.returns-in-Err-clause-lists
+returns-in-Err-clause-lists g c h stands =
+    let left = serving c.calendar_told.new.conn c.args.court.now c.calendar_told.new.kept in (
+      fault_of_other g.S.Store left h (λ (found : Entered). found ≡ calendar h) (λ (lines : ℕ). ⊥) c.in-Err.fault (c.in-Err.ensures.answer h stands),
+      λ clean. Appends-nil (g.W.Write.contents c.args.writer.now),
     )
 
-pub returns-in-Err-Broken-clause-lists : goal.returns-in-Err-Broken-clause-lists
-returns-in-Err-Broken-clause-lists g c kept h stands =
-    let court = c.args.court.now in
-    let new = c.calendar.new.conn in
-    let writer = c.calendar.new.writer in
-    let read = c.read_fault-in-Err-Broken in
-    let told = subst (λ (stop : Stop). Tells g.S.Store court h c.args.from c.args.to c.args.front.now (g.W.Write.contents c.args.writer.now) (g.W.Write.contents writer) new (Err stop)) c.in-Err-Broken.field-0-is
-    (c.in-Err-Broken.ensures.tells h (history_of court h stands.docket) stands.rows) in (
-      asks_failed g.S.Store {X = ℕ} read.new.conn court kept h (λ (lines : ℕ). ⊥) read.result stands.docket
-          (λ clean. stands.calendar (omega (arith, c.calendar.ensures.clean, read.ensures.clean)))
-          (read.ensures.left (docket_rows court h) (docket_rows court h) told.0),
-      λ clean. told.1 (omega (arith, read.ensures.clean, clean)),
-    )
-
-pub returns-in-Err-WriteFailed-clause-lists : goal.returns-in-Err-WriteFailed-clause-lists
-returns-in-Err-WriteFailed-clause-lists g c kept h stands =
-    let court = c.args.court.now in
-    let told = subst (λ (stop : Stop). Tells g.S.Store court h c.args.from c.args.to c.args.front.now (g.W.Write.contents c.args.writer.now) (g.W.Write.contents c.calendar.new.writer) c.calendar.new.conn (Err stop)) c.in-Err-WriteFailed.field-0-is
-    (c.in-Err-WriteFailed.ensures.tells h (history_of court h stands.docket) stands.rows) in
-    (record { docket = stands.docket; serves = stands.serves; rows = told.0; calendar = λ clean. stands.calendar (omega (arith, c.calendar.ensures.clean)) }, told.1)
+pub returns-clause-lists : goal.returns-clause-lists
+returns-clause-lists g c h stands =
+    let told = c.in-Ok.ensures.answer h stands in
+    c.list_by.ensures.lists c.calendar_told.new.kept h told.0 told.1

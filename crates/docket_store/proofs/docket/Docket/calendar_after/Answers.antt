@@ -8,9 +8,10 @@ pub returns-clause-answer : goal.returns-clause-answer
 returns-clause-answer g c h stands =
     let conn = c.list_days-answer.new.conn in
     let court = c.self.inside.court in
-    let kept = c.self.inside.calendar in
+    let old = c.self.inside.calendar in
+    let kept = c.list_days-answer.new.kept in
     let here = subst (λ (d : Docket g.row.S.Denot). Stands g.S.Store d h) (sym c.self.view_is) stands in
-    let serves : Stands g.S.Store (serving c.self.inside.conn court kept) h = record { docket = here.docket; serves = refl; rows = here.rows; calendar = here.calendar } in
+    let serves : Stands g.S.Store (serving c.self.inside.conn court old) h = record { docket = here.docket; serves = refl; rows = here.rows; calendar = here.calendar } in
     lists_kept g.S.Store h c.args.from c.args.to c.args.front.now (g.W.Write.contents c.args.writer.now) (g.W.Write.contents c.list_days-answer.new.writer) conn court kept
     c.is_broken_store-self-inside.result c.list_days-answer.result c.is_broken_store-self-inside.ensures.0
-    (c.list_days-answer.ensures.lists kept h serves)
+    (c.list_days-answer.ensures.lists h serves)

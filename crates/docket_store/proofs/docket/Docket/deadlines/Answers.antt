@@ -10,10 +10,11 @@ pub returns-clause-answer : goal.returns-clause-answer
 returns-clause-answer g c h stands =
     let conn = c.lines_numbered-answer.new.conn in
     let court = c.self.inside.court in
-    let kept = c.self.inside.calendar in
+    let old = c.self.inside.calendar in
+    let kept = c.lines_numbered-answer.new.kept in
     let closed = c.is_store_failure-self-inside.result in
     let here = subst (λ (d : Docket g.row.S.Denot). Stands g.S.Store d h) (sym c.self.view_is) stands in
-    let serves : Stands g.S.Store (serving c.self.inside.conn court kept) h = record { docket = here.docket; serves = refl; rows = here.rows; calendar = here.calendar } in
+    let serves : Stands g.S.Store (serving c.self.inside.conn court old) h = record { docket = here.docket; serves = refl; rows = here.rows; calendar = here.calendar } in
     subst (λ (d : Docket g.row.S.Denot). Asks g.S.Store (record { conn = conn; court = court; closed = closed; calendar = kept }) h (λ found. option_map (λ lines. lines.items) found ≡ deadline_lines d.court h c.args.number) c.lines_numbered-answer.result) c.self.view_is
     (asks_kept g.S.Store conn court kept h (λ found. option_map (λ lines. lines.items) found ≡ deadline_lines court h c.args.number) closed c.lines_numbered-answer.result c.is_store_failure-self-inside.ensures.0
-    (c.lines_numbered-answer.ensures.answer kept h serves))
+    (c.lines_numbered-answer.ensures.answer h serves))

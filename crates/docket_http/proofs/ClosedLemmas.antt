@@ -1,0 +1,59 @@
+-- What a closed docket answers.
+use Rattle.std.proofs.Common.{◌≡◌, ◌∙◌, IfOk, IfErr, inl, ℕ, List, Option, Result, Ok, Err, refl, sym, ap, subst}
+use Rattle.std.specs.Io.KnownBytes.{Appends}
+use Rattle.docket_store.specs.declared.fault.Fault.{Fault}
+use Rattle.docket_store.specs.declared.fault.Fault.TheVariants as fault
+use Rattle.docket_store.specs.declared.listing.ListingEnd.{ListingEnd}
+use Rattle.docket_store.specs.declared.listing.ListingEnd.TheVariants as listing
+use Rattle.docket_wire.specs.Reading.{command_in}
+use Rattle.docket_wire.specs.Texts.{fault_text}
+use Rattle.docket_wire.specs.declared.fault.WireFault.{WireFault}
+use Rattle.line_io.specs.Output.{AppendsFront}
+use Rattle.http_request.specs.declared.wish.Wish.{Wish}
+use Rattle.http_request.specs.declared.wish.Wish.TheVariants.{Command as CommandWish, Calendar}
+use Rattle.docket_http.specs.Answer.{Response, response_bytes, json, problem_response, problem_status}
+use Rattle.docket_http.specs.Asking.{closed_command, problem_of_fault, RepliesClosed}
+use Rattle.docket_http.specs.Reply.{IsReply, reply_bytes, reply_status}
+use Rattle.docket_http.specs.Serve.{Sends, SendsClosed}
+use Rattle.docket_http.specs.declared.problem.Problem.{Problem}
+use Rattle.docket_http.specs.declared.problem.Problem.TheVariants.{Closed}
+use Rattle.docket_http.specs.declared.reply.Reply.{Reply}
+use Rattle.docket_http.specs.declared.reply.Reply.TheVariants.{Fixed}
+use Rattle.docket_http.specs.declared.fault.ServeFault.{ServeFault}
+use Rattle.docket_http.specs.declared.fault.ServeFault.TheVariants as serve
+use Rattle.docket_http.specs.declared.sending.Served.{Served}
+
+-- a text that spells no command
+pub closed_faulty : (len : ℕ) (body : List ℕ) (f : WireFault) (reply : Reply) → command_in body ≡ Err f → IsReply reply (json 400 (fault_text f))
+    → RepliesClosed (CommandWish len) body (Ok reply)
+closed_faulty len body f reply spells is = (json 400 (fault_text f), is, inl (ap closed_command (sym spells)))
+
+pub closed_as : (a b : Wish) (x y : List ℕ) (r : Result Reply Fault) → a ≡ b → x ≡ y → RepliesClosed a x r → RepliesClosed b y r
+closed_as a b x y r same_wish same_body closed =
+    subst (λ (w : Wish). RepliesClosed w y r) same_wish (subst (λ (z : List ℕ). RepliesClosed a z r) same_body closed)
+
+-- the writing of a reply
+sends_reply : (r : Result Served ServeFault) (reply : Reply) (response : Response) (o n : Option (List ℕ)) → IsReply reply response
+    → IfOk r (λ s. Appends o n (reply_bytes reply) × (s.status ≡ reply_status reply))
+    → IfErr r (λ e. (e ≡ serve.WriteFailed) × AppendsFront o n (reply_bytes reply))
+    → Sends response o n r
+sends_reply (Ok s) reply response o n is whole front = (subst (λ (b : List ℕ). Appends o n b) is.0 whole.0, whole.1 ∙ is.1)
+sends_reply (Err e) reply response o n is whole front =
+    subst (λ (x : ServeFault). Sends response o n (Err x)) (sym front.0) (subst (λ (b : List ℕ). AppendsFront o n b) is.0 front.1)
+
+-- a calendar that did not begin since the docket is closed
+pub closed_sent : (e : ListingEnd) (f : Fault) (p : Problem) (o m n : Option (List ℕ)) (r : Result Served ServeFault)
+    → e ≡ listing.NotBegun f → p ≡ problem_of_fault f → ◌≡◌ {A = Result ℕ ListingEnd} (Err e) (Err (listing.NotBegun fault.Closed)) → m ≡ o
+    → IfOk r (λ s. Appends m n (reply_bytes (Fixed p)) × (s.status ≡ problem_status p))
+    → IfErr r (λ x. (x ≡ serve.WriteFailed) × AppendsFront m n (reply_bytes (Fixed p)))
+    → Sends (problem_response Closed) o n r
+closed_sent e f p o m n r is told shut kept whole front =
+    let fault_is : f ≡ fault.Closed = cc in
+    let closed = told ∙ ap problem_of_fault fault_is in
+    subst (λ (b : Option (List ℕ)). Sends (problem_response Closed) b n r) kept
+    (sends_reply r (Fixed p) (problem_response Closed) m n (ap (λ q. response_bytes (problem_response q)) closed, ap problem_status closed) whole front)
+
+pub closed_calendar : (from to : ℕ) (wish : Wish) (body : List ℕ) (o n : Option (List ℕ)) (r : Result Served ServeFault) → wish ≡ Calendar from to
+    → Sends (problem_response Closed) o n r → SendsClosed wish body o n r
+closed_calendar from to wish body o n r same sent =
+    subst (λ (w : Wish). SendsClosed w body o n r) (sym same) (record { response = problem_response Closed; closed = refl; sent = sent })

@@ -1,0 +1,19 @@
+-- Fronts of what goes out in two parts.
+use Rattle.std.proofs.Common.{◌+◌, ℕ, List, ◌++◌, Option, Result, Ok, Err, OnErr, length, take, length-append, sym, subst, arith}
+use Rattle.std.specs.Io.KnownBytes.{Appends}
+use Rattle.std.proofs.KnownBytes.{Appends-trans}
+use Rattle.std.proofs.Math.Seq.{take-append-add}
+use Rattle.line_io.specs.Output.{AppendsFront}
+
+-- the first part, and a front of the second
+front_of_second : (a b c : Option (List ℕ)) (x y : List ℕ) → Appends a b x → AppendsFront b c y → AppendsFront a c (x ++ y)
+front_of_second a b c x y whole f = record {
+  count = length x + f.count;
+  within = omega (arith, length-append x y, f.within);
+  front = subst (λ (z : List ℕ). Appends a c z) (sym (take-append-add x y f.count)) (Appends-trans a b c x (take f.count y) whole f.front);
+}
+
+pub front_of_parts : {E : Type 0} (r : Result (Unit {0}) E) (a b c : Option (List ℕ)) (x y : List ℕ) → Appends a b x
+    → OnErr r (AppendsFront b c y) → OnErr r (AppendsFront a c (x ++ y))
+front_of_parts (Ok done) a b c x y whole front = tt
+front_of_parts (Err e) a b c x y whole front = front_of_second a b c x y whole front

@@ -1,0 +1,26 @@
+use Rattle.std.proofs.Common.{◌≡◌, ◌∙◌, Option, Some, Vec, Global, sym, ap, arith}
+use Rattle.std.specs.Option.{option_map}
+use Rattle.sqlite.specs.Held.{state}
+use Rattle.sqlite.specs.State.{HasCleanDisk}
+use Rattle.docket_core.specs.Records.{deadline_lines}
+use Rattle.docket_core.specs.Tables.{case_deadlines, rows_of}
+use Rattle.docket_core.specs.declared.record.DeadlineLine.{DeadlineLine}
+use Rattle.docket_core.specs.declared.view.DeadlineView.{DeadlineView}
+use Rattle.docket_store.specs.Dockets.{serving}
+use Rattle.docket_store.proofs.AskLemmas.{asks_err}
+use Rattle.docket_store.proofs.asking.lines_numbered.Goals as goal
+
+pub returns-in_err-lines-clause-answer : goal.returns-in_err-lines-clause-answer
+returns-in_err-lines-clause-answer g c h stands =
+    let court = c.args.court.now in
+    let number = c.args.number in
+    let kept = c.calendar_told.new.kept in
+    let shown = c.in_ok-deadlines.ensures.answer court c.args.kept.now h stands in
+    let told = c.in_ok-entered.ensures.answer h shown.0 in
+    let shows : HasCleanDisk (state g.S.Store c.calendar_told.new.conn) → case_deadlines (rows_of court h) number ≡ Some c.as_slice.result.now = λ clean.
+    sym (shown.1 (omega (arith, c.calendar_told.ensures.clean)))
+    ∙ ap (option_map (λ (deadlines : Vec DeadlineView Global). deadlines.items)) c.in-Some.is ∙ ap Some (sym c.as_slice.ensures.value) in
+    asks_err g.S.Store (serving c.lines_of_case.new.conn court kept) h (λ (lines : Vec DeadlineLine Global). Some lines.items ≡ deadline_lines court h number)
+    (λ (found : Option (Vec DeadlineLine Global)). option_map (λ lines. lines.items) found ≡ deadline_lines court h number)
+    c.in_err-lines.field-0.0 c.from_residual-in_err-lines.result c.from_residual-in_err-lines.ensures.1
+    (c.in_err-lines.ensures.answer kept h told.0 told.1 shows)
