@@ -11,15 +11,20 @@ use Rattle.clap.specs.Faults.{fault_of}
 use Rattle.clap.specs.Kinds.{Kinds, or_else}
 use Rattle.clap.specs.declared.error.kind.ErrorKind.TheVariants.{ValueValidation}
 use Rattle.civil_time.specs.DayText.{day_of_text}
+use Rattle.civil_time.specs.Reading.{time_of_day_at}
+use Rattle.civil_time.specs.Zone.{ZoneRules}
+use Rattle.civil_time.specs.ZoneText.{zone_at}
+use Rattle.court_days.specs.Court.{CourtSettings}
 use Rattle.docket_jobs.specs.CommandLine.{docketctl}
 use Rattle.docket_jobs.specs.declared.job.Job.{Job}
 use Rattle.docket_jobs.specs.declared.job.Job.TheVariants as job
 
--- what is asked for, with the texts of files, zones, closing times and keys
+-- what is asked for, with the texts of files and keys, and the courts
 pub data Asked : Type 0 where
   to_count : Asked
-  to_create : Text → Text → Text → Asked
-  to_run : Option Text → Text → Text → Asked
+  to_create : Text → CourtSettings → Asked
+  to_run : Text → Asked
+  to_run_in_memory : CourtSettings → Asked
   to_import : Text → Text → Asked
   to_tell_case : Text → ℕ → Asked
   to_tell_calendar : Text → ℕ → ℕ → Asked
@@ -30,8 +35,9 @@ pub data Asked : Type 0 where
 
 abbrev pub asked : Job → Asked
 asked job.Count = to_count
-asked (job.Create file zone close) = to_create file.now zone.now close.now
-asked (job.Run file zone close) = to_run (option_map (λ f. f.now) file) zone.now close.now
+asked (job.Create file court) = to_create file.now court
+asked (job.Run file) = to_run file.now
+asked (job.RunInMemory court) = to_run_in_memory court
 asked (job.Import file key) = to_import file.now key.now
 asked (job.Case file number) = to_tell_case file.now number
 asked (job.Calendar file from to) = to_tell_calendar file.now from to
@@ -73,11 +79,28 @@ count_of text = option_and_then count_if (number_of text)
 abbrev pub value_of : Text → List Row → Text
 value_of name found = unwrap_or (first_of name found) []
 
-abbrev pub create_asked : List Row → Asked
-create_asked found = to_create (value_of (codes "db") found) (value_of (codes "zone") found) (value_of (codes "close") found)
+-- a court that has that zone and closes at that minute of the day
+abbrev pub court_if : Text → Option ZoneRules → Option ℕ → Option CourtSettings
+court_if zone (Some rules) (Some minute) = Some (record { zone_text = zone; close_minute = minute })
+court_if zone _ _ = None
 
-abbrev pub run_asked : List Row → Asked
-run_asked found = to_run (first_of (codes "db") found) (value_of (codes "zone") found) (value_of (codes "close") found)
+-- the court whose zone and closing time the texts spell
+abbrev pub court_named : Text → Text → Option CourtSettings
+court_named zone close = court_if zone (zone_at zone) (time_of_day_at close)
+
+abbrev pub court_asked : List Row → Option CourtSettings
+court_asked found = court_named (value_of (codes "zone") found) (value_of (codes "close") found)
+
+abbrev pub create_asked : List Row → Option Asked
+create_asked found = option_map (to_create (value_of (codes "db") found)) (court_asked found)
+
+-- beside a file the zone and the closing time are not looked at
+abbrev pub run_if : Option Text → Option CourtSettings → Option Asked
+run_if (Some file) court = Some (to_run file)
+run_if None court = option_map to_run_in_memory court
+
+abbrev pub run_asked : List Row → Option Asked
+run_asked found = run_if (first_of (codes "db") found) (court_asked found)
 
 abbrev pub import_asked : List Row → Asked
 import_asked found = to_import (value_of (codes "db") found) (value_of (codes "key") found)
@@ -115,8 +138,8 @@ holidays_asked found = option_map to_tell_holidays (year_of (value_of (codes "ye
 -- what a subcommand asks for with what was found for it; the last is `count`
 abbrev pub asked_by : Text → List Row → Option Asked
 asked_by name found =
-    if bytes_eq name (codes "create") then Some (create_asked found)
-    else (if bytes_eq name (codes "run") then Some (run_asked found)
+    if bytes_eq name (codes "create") then create_asked found
+    else (if bytes_eq name (codes "run") then run_asked found
     else (if bytes_eq name (codes "import") then Some (import_asked found)
     else (if bytes_eq name (codes "case") then case_asked found
     else (if bytes_eq name (codes "calendar") then calendar_asked found
@@ -139,7 +162,7 @@ asked_of words = asked_in (subcommand_of docketctl words)
 abbrev pub line_faults : List Text → Kinds
 line_faults words = or_else (fault_of docketctl words) (if is_some (asked_of words) then [] else ValueValidation ∷ [])
 
--- a year is one from 2000 to 2099; the texts of a court may spell none
+-- a year is one from 2000 to 2099
 abbrev pub IsLimited : Job → Type 0
 IsLimited (job.Holidays year) = IsInRange 2000 2099 year
 IsLimited _ = ⊤

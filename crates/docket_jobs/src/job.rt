@@ -3,34 +3,37 @@ ghost use Rattle.std.specs.Prelude.{◌≡◌, IfOk, MatchResult, None, Some, ma
 ghost use Rattle.clap.specs.Kinds.{FailsBy};
 ghost use Rattle.clap.specs.Matches.{found_of};
 ghost use Rattle.clap.specs.Simple.{subcommand_rows_of};
+ghost use Rattle.clap.specs.Values.{kind_of};
 ghost use Rattle.clap.specs.Walk.{rows_of};
 ghost use Rattle.civil_time.specs.DayText.{day_of_text};
-ghost use Rattle.docket_jobs.specs.Jobs.{IsLimited, asked, asked_by, asked_in, asked_of, calendar_asked, case_asked, check_asked, create_asked, holidays_asked, import_asked, line_faults, migrate_asked, run_asked, serve_asked, value_of};
+ghost use Rattle.docket_jobs.specs.Jobs.{IsLimited, asked, asked_by, asked_in, asked_of, calendar_asked, case_asked, check_asked, court_asked, create_asked, holidays_asked, import_asked, line_faults, migrate_asked, run_asked, serve_asked, value_of};
 
 use crate::command_line::command;
 use crate::number::{read_count, read_number, read_port, read_year};
 use civil_time::{Day, read_day};
 use clap::error::ErrorKind;
-use clap::{ArgMatches, Error};
-use std::alloc::Global;
+use clap::{ArgMatches, Command, Error};
+use court_days::{Court, CourtFault};
+use std::alloc::{AllocError, Global};
+use std::fmt;
 
-/// What the program is to do. The texts of a court, its zone and its closing time, may spell none.
-#[derive(Clone, Copy, Debug, PartialEq, Eq)]
+/// What the program is to do.
+#[derive(Debug, Drop)]
 pub enum Job<'a> {
     /// `count`, or no word at all: answer lines of days from the input.
     Count,
     /// `create`: make the docket of a court in a file.
     Create {
         file: &'a str,
-        zone: &'a str,
-        close: &'a str,
+        court: Court,
     },
-    /// `run`: answer commands from the input, of the docket in a file, or of a new docket in memory of
-    /// the court.
+    /// `run` with a file: answer commands from the input, of the docket in the file.
     Run {
-        file: Option<&'a str>,
-        zone: &'a str,
-        close: &'a str,
+        file: &'a str,
+    },
+    /// `run` without a file: answer commands from the input, of a new docket in memory, of the court.
+    RunInMemory {
+        court: Court,
     },
     /// `import`: enter the days of a table from the input in the calendar of the docket in a file.
     Import {
@@ -72,7 +75,9 @@ pub enum Job<'a> {
 
 /// A value of the command line that lies outside its limits.
 #[derive(Drop)]
-enum BadValue {
+enum BadValue<'a> {
+    Zone(&'a str),
+    Close(&'a str),
     Number,
     Day,
     Range,
@@ -81,15 +86,30 @@ enum BadValue {
     Year,
 }
 
-impl BadValue {
-    fn message(&self) -> &'static str {
+impl fmt::Display for BadValue<'_> {
+    fn fmt<W: fmt::Write>(&self, f: &mut fmt::Formatter<W>) -> fmt::Result {
         match self {
-            BadValue::Number => "NUMBER is a number from 1 to 4294967295, without a leading zero",
-            BadValue::Day => "FROM and TO are days from 1980-01-01 to 3999-12-31, as 2027-04-19",
-            BadValue::Range => "FROM is after TO",
-            BadValue::Port => "P is a port from 0 to 65535, without a leading zero",
-            BadValue::Count => "N is a number from 1 to 1000000, without a leading zero",
-            BadValue::Year => "YEAR is a year from 2000 to 2099",
+            BadValue::Zone(zone) => {
+                write!(
+                    f,
+                    "--zone {zone:?} is no zone, as EST5EDT,M3.2.0,M11.1.0 is"
+                )
+            }
+            BadValue::Close(close) => {
+                write!(f, "--close {close:?} is no time from 00:00 to 23:59")
+            }
+            BadValue::Number => f.write_str(
+                "NUMBER is a number from 1 to 4294967295, without a leading zero",
+            ),
+            BadValue::Day => f.write_str(
+                "FROM and TO are days from 1980-01-01 to 3999-12-31, as 2027-04-19",
+            ),
+            BadValue::Range => f.write_str("FROM is after TO"),
+            BadValue::Port => f.write_str("P is a port from 0 to 65535, without a leading zero"),
+            BadValue::Count => f.write_str(
+                "N is a number from 1 to 1000000, without a leading zero",
+            ),
+            BadValue::Year => f.write_str("YEAR is a year from 2000 to 2099"),
         }
     }
 }
@@ -102,24 +122,54 @@ fn value<'a>(found: &ArgMatches<'a>, id: &str) -> &'a str
     found.get_str(id).unwrap_or("")
 }
 
-fn create_job<'a>(found: &ArgMatches<'a>) -> Job<'a>
-    ensures { asked result ≡ create_asked (rows_of (found_of found.now)) }
+/// The court that the zone and the closing time spell, unless memory runs out.
+fn court<'a>(
+    alloc: Global,
+    found: &ArgMatches<'a>,
+) -> Result<Result<Court, BadValue<'a>>, AllocError>
+    ensures { IfOk result (λ read. MatchResult read (λ court. court_asked (rows_of (found_of found.now)) ≡ Some court)
+        (λ _. court_asked (rows_of (found_of found.now)) ≡ None)) }
 {
-    Job::Create {
-        file: value(found, "db"),
-        zone: value(found, "zone"),
-        close: value(found, "close"),
+    let zone = value(found, "zone");
+    let close = value(found, "close");
+    match Court::read(alloc, zone, close) {
+        Ok(court) => Ok(Ok(court)),
+        Err(CourtFault::BadZone) => Ok(Err(BadValue::Zone(zone))),
+        Err(CourtFault::BadClose) => Ok(Err(BadValue::Close(close))),
+        Err(CourtFault::NoMemory) => Err(AllocError),
+    }
+}
+
+fn create_job<'a>(
+    alloc: Global,
+    found: &ArgMatches<'a>,
+) -> Result<Result<Job<'a>, BadValue<'a>>, AllocError>
+    ensures limited { IfOk result (λ read. IfOk read IsLimited) }
+    ensures job { IfOk result (λ read. MatchResult read (λ job. create_asked (rows_of (found_of found.now)) ≡ Some (asked job))
+        (λ _. create_asked (rows_of (found_of found.now)) ≡ None)) }
+{
+    let file = value(found, "db");
+    match court(alloc, found)? {
+        Ok(court) => Ok(Ok(Job::Create { file, court })),
+        Err(bad) => Ok(Err(bad)),
     }
 }
 
 #[tactic(auto, using(crate::proofs::MatchLemmas::first_value_is))]
-fn run_job<'a>(found: &ArgMatches<'a>) -> Job<'a>
-    ensures { asked result ≡ run_asked (rows_of (found_of found.now)) }
+fn run_job<'a>(
+    alloc: Global,
+    found: &ArgMatches<'a>,
+) -> Result<Result<Job<'a>, BadValue<'a>>, AllocError>
+    ensures limited { IfOk result (λ read. IfOk read IsLimited) }
+    ensures job { IfOk result (λ read. MatchResult read (λ job. run_asked (rows_of (found_of found.now)) ≡ Some (asked job))
+        (λ _. run_asked (rows_of (found_of found.now)) ≡ None)) }
 {
-    Job::Run {
-        file: found.get_str("db"),
-        zone: value(found, "zone"),
-        close: value(found, "close"),
+    if let Some(file) = found.get_str("db") {
+        return Ok(Ok(Job::Run { file }));
+    }
+    match court(alloc, found)? {
+        Ok(court) => Ok(Ok(Job::RunInMemory { court })),
+        Err(bad) => Ok(Err(bad)),
     }
 }
 
@@ -132,7 +182,7 @@ fn import_job<'a>(found: &ArgMatches<'a>) -> Job<'a>
     }
 }
 
-fn case_job<'a>(found: &ArgMatches<'a>) -> Result<Job<'a>, BadValue>
+fn case_job<'a>(found: &ArgMatches<'a>) -> Result<Job<'a>, BadValue<'a>>
     ensures { MatchResult result (λ job. case_asked (rows_of (found_of found.now)) ≡ Some (asked job))
         (λ _. case_asked (rows_of (found_of found.now)) ≡ None) }
 {
@@ -143,14 +193,14 @@ fn case_job<'a>(found: &ArgMatches<'a>) -> Result<Job<'a>, BadValue>
     })
 }
 
-fn day(found: &ArgMatches<'_>, id: &str) -> Result<Day, BadValue>
+fn day<'a>(found: &ArgMatches<'a>, id: &str) -> Result<Day, BadValue<'a>>
     ensures { MatchResult result (λ day. day_of_text (value_of id.now (rows_of (found_of found.now))) ≡ Some day)
         (λ _. day_of_text (value_of id.now (rows_of (found_of found.now))) ≡ None) }
 {
     read_day(value(found, id).as_bytes()).ok_or(BadValue::Day)
 }
 
-fn calendar_job<'a>(found: &ArgMatches<'a>) -> Result<Job<'a>, BadValue>
+fn calendar_job<'a>(found: &ArgMatches<'a>) -> Result<Job<'a>, BadValue<'a>>
     ensures { MatchResult result (λ job. calendar_asked (rows_of (found_of found.now)) ≡ Some (asked job))
         (λ _. calendar_asked (rows_of (found_of found.now)) ≡ None) }
 {
@@ -182,7 +232,7 @@ fn migrate_job<'a>(found: &ArgMatches<'a>) -> Job<'a>
     }
 }
 
-fn serve_job<'a>(found: &ArgMatches<'a>) -> Result<Job<'a>, BadValue>
+fn serve_job<'a>(found: &ArgMatches<'a>) -> Result<Job<'a>, BadValue<'a>>
     ensures { MatchResult result (λ job. serve_asked (rows_of (found_of found.now)) ≡ Some (asked job))
         (λ _. serve_asked (rows_of (found_of found.now)) ≡ None) }
 {
@@ -195,7 +245,7 @@ fn serve_job<'a>(found: &ArgMatches<'a>) -> Result<Job<'a>, BadValue>
     })
 }
 
-fn holidays_job<'a>(found: &ArgMatches<'a>) -> Result<Job<'a>, BadValue>
+fn holidays_job<'a>(found: &ArgMatches<'a>) -> Result<Job<'a>, BadValue<'a>>
     ensures limited { IfOk result IsLimited }
     ensures job { MatchResult result (λ job. holidays_asked (rows_of (found_of found.now)) ≡ Some (asked job))
         (λ _. holidays_asked (rows_of (found_of found.now)) ≡ None) }
@@ -204,35 +254,54 @@ fn holidays_job<'a>(found: &ArgMatches<'a>) -> Result<Job<'a>, BadValue>
     Ok(Job::Holidays { year })
 }
 
-/// The job of a subcommand, with what was found for it.
-fn job_by<'a>(name: &str, found: &ArgMatches<'a>) -> Result<Job<'a>, BadValue>
-    ensures limited { IfOk result IsLimited }
-    ensures job { MatchResult result (λ job. asked_by name.now (rows_of (found_of found.now)) ≡ Some (asked job))
-        (λ _. asked_by name.now (rows_of (found_of found.now)) ≡ None) }
+/// The job of a subcommand, with what was found for it, unless memory runs out.
+fn job_by<'a>(
+    alloc: Global,
+    name: &str,
+    found: &ArgMatches<'a>,
+) -> Result<Result<Job<'a>, BadValue<'a>>, AllocError>
+    ensures limited { IfOk result (λ read. IfOk read IsLimited) }
+    ensures job { IfOk result (λ read. MatchResult read (λ job. asked_by name.now (rows_of (found_of found.now)) ≡ Some (asked job))
+        (λ _. asked_by name.now (rows_of (found_of found.now)) ≡ None)) }
 {
     match name {
-        "create" => Ok(create_job(found)),
-        "run" => Ok(run_job(found)),
-        "import" => Ok(import_job(found)),
-        "case" => case_job(found),
-        "calendar" => calendar_job(found),
-        "check" => Ok(check_job(found)),
-        "migrate" => Ok(migrate_job(found)),
-        "serve" => serve_job(found),
-        "holidays" => holidays_job(found),
-        _ => Ok(Job::Count),
+        "create" => create_job(alloc, found),
+        "run" => run_job(alloc, found),
+        "import" => Ok(Ok(import_job(found))),
+        "case" => Ok(case_job(found)),
+        "calendar" => Ok(calendar_job(found)),
+        "check" => Ok(Ok(check_job(found))),
+        "migrate" => Ok(Ok(migrate_job(found))),
+        "serve" => Ok(serve_job(found)),
+        "holidays" => Ok(holidays_job(found)),
+        _ => Ok(Ok(Job::Count)),
     }
 }
 
-fn job_in<'a>(matches: &ArgMatches<'a>) -> Result<Job<'a>, BadValue>
-    ensures limited { IfOk result IsLimited }
-    ensures job { MatchResult result (λ job. asked_in (subcommand_rows_of matches.now) ≡ Some (asked job))
-        (λ _. asked_in (subcommand_rows_of matches.now) ≡ None) }
+fn job_in<'a>(
+    alloc: Global,
+    matches: &ArgMatches<'a>,
+) -> Result<Result<Job<'a>, BadValue<'a>>, AllocError>
+    ensures limited { IfOk result (λ read. IfOk read IsLimited) }
+    ensures job { IfOk result (λ read. MatchResult read (λ job. asked_in (subcommand_rows_of matches.now) ≡ Some (asked job))
+        (λ _. asked_in (subcommand_rows_of matches.now) ≡ None)) }
 {
     match matches.subcommand() {
-        Some((name, found)) => job_by(name, found),
-        None => Ok(Job::Count),
+        Some((name, found)) => job_by(alloc, name, found),
+        None => Ok(Ok(Job::Count)),
     }
+}
+
+/// The error that tells a bad value, with the usage of the command.
+fn told<'a>(
+    alloc: Global,
+    command: &mut Command<'_>,
+    bad: &BadValue<'a>,
+) -> Result<Error, AllocError>
+    ensures { IfOk result (λ e. kind_of e ≡ ErrorKind.ValueValidation) }
+{
+    let message = format!(in alloc; "{bad}")?;
+    command.error(ErrorKind::ValueValidation, message.as_str())
 }
 
 /// What the words ask for, the first of which is the program's name. The error is what to print: a
@@ -244,8 +313,9 @@ pub fn read_job<'a>(alloc: Global, words: &'a [String]) -> Result<Job<'a>, Error
 {
     let mut command = command(alloc)?;
     let matches = command.try_get_matches_from_mut(words)?;
-    match job_in(&matches) {
-        Ok(job) => Ok(job),
-        Err(bad) => Err(command.error(ErrorKind::ValueValidation, bad.message())?),
+    match job_in(alloc, &matches) {
+        Ok(Ok(job)) => Ok(job),
+        Ok(Err(bad)) => Err(told(alloc, &mut command, &bad)?),
+        Err(error) => Err(error.into()),
     }
 }

@@ -57,7 +57,7 @@ fn run(rt: &HostRuntime) -> io::Result<Status> {
     };
     Ok(run_job(
         rt,
-        &job,
+        job,
         progress(rt),
         &mut rt.stdin(),
         &mut rt.stdout(),

@@ -1,6 +1,5 @@
 //! Commands of a docket, one a line.
 
-use crate::court::read_court;
 use crate::create::created;
 use crate::progress::{LineCounter, Progress};
 use crate::status::Status;
@@ -103,7 +102,8 @@ fn answer_of_new<R: Read, W: Write, E: Write, S: Alter + Drop>(
     }
 }
 
-fn answer_in_memory<R: Read, W: Write, E: Write>(
+/// Answers commands of a new docket of the court in memory.
+pub(crate) fn run_in_memory<R: Read, W: Write, E: Write>(
     rt: &HostRuntime,
     progress: Progress,
     court: Court,
@@ -115,22 +115,6 @@ fn answer_in_memory<R: Read, W: Write, E: Write>(
     match Connection::open_files(alloc, MemoryFile::pair(alloc), Options::new(0)) {
         Ok(conn) => answer_of_new(rt, progress, conn, court, r, w, e),
         Err(_) => out_of_memory(w),
-    }
-}
-
-/// Answers commands of a new docket in memory, of the court that the texts spell.
-pub(crate) fn run_in_memory<R: Read, W: Write, E: Write>(
-    rt: &HostRuntime,
-    progress: Progress,
-    zone: &str,
-    close: &str,
-    r: &mut R,
-    w: &mut W,
-    e: &mut E,
-) -> Status {
-    match read_court(rt.alloc(), zone, close, e) {
-        Ok(court) => answer_in_memory(rt, progress, court, r, w, e),
-        Err(status) => status,
     }
 }
 

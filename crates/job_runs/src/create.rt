@@ -1,6 +1,5 @@
 //! A new docket in a file.
 
-use crate::court::read_court;
 use crate::docket::{AtPath, close_connection};
 use crate::file::open_or_make_file;
 use crate::status::Status;
@@ -57,20 +56,16 @@ fn make<E: Write>(rt: &HostRuntime, path: &str, court: Court, e: &mut E) -> Stat
     }
 }
 
-/// Makes a docket of the court that the texts spell, in a file that holds none.
+/// Makes a docket of the court in a file that holds none.
 pub(crate) fn create_docket<W: Write, E: Write>(
     rt: &HostRuntime,
     path: &str,
-    zone: &str,
-    close: &str,
+    court: Court,
     w: &mut W,
     e: &mut E,
 ) -> Status {
-    match read_court(rt.alloc(), zone, close, e) {
-        Ok(court) => match make(rt, path, court, e) {
-            Status::Done => write_text(rt.alloc(), "created\n", Status::Done, w, e),
-            other => other,
-        },
-        Err(status) => status,
+    match make(rt, path, court, e) {
+        Status::Done => write_text(rt.alloc(), "created\n", Status::Done, w, e),
+        other => other,
     }
 }

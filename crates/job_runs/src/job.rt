@@ -27,31 +27,22 @@ fn count<R: Read, W: Write, E: Write>(alloc: Global, r: &mut R, w: &mut W, e: &m
 /// Does a job, with `r`, `w` and `e` for the standard input, output and error.
 pub fn run_job<R: Read, W: Write, E: Write>(
     rt: &HostRuntime,
-    job: &Job<'_>,
+    job: Job<'_>,
     progress: Progress,
     r: &mut R,
     w: &mut W,
     e: &mut E,
 ) -> Status
-    requires { IsLimited job.now }
+    requires { IsLimited job }
 {
-    let (file, work) = match *job {
+    let (file, work) = match job {
         Job::Count => return count(rt.alloc(), r, w, e),
-        Job::Create { file, zone, close } => return create_docket(rt, file, zone, close, w, e),
-        Job::Run {
-            file: None,
-            zone,
-            close,
-        } => {
-            return run_in_memory(rt, progress, zone, close, r, w, e);
-        }
+        Job::Create { file, court } => return create_docket(rt, file, court, w, e),
+        Job::RunInMemory { court } => return run_in_memory(rt, progress, court, r, w, e),
         Job::Import { file, key } => return import_days(rt, progress, file, key, r, w, e),
         Job::Migrate { file } => return migrate_docket(rt, progress, file, w, e),
         Job::Holidays { year } => return tell_holidays(rt.alloc(), year, w, e),
-        Job::Run {
-            file: Some(file),
-            ..
-        } => (file, Work::Run),
+        Job::Run { file } => (file, Work::Run),
         Job::Case { file, number } => (file, Work::Case(number)),
         Job::Calendar { file, from, to } => (file, Work::Calendar(from, to)),
         Job::Check { file } => (file, Work::Check),

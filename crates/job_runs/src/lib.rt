@@ -5,7 +5,6 @@ mod calendar;
 mod case;
 mod check;
 mod command;
-mod court;
 mod create;
 mod docket;
 mod file;

@@ -7,7 +7,7 @@ pub enum Status {
     Done,
     /// A line was answered as bad or full, or with a refusal or a fault; or there is no such case.
     SomeBad,
-    /// A value of the command line is none.
+    /// The words of the command line are no job.
     BadLine,
     /// Reading, writing, memory or the database failed.
     Failed,

@@ -26,23 +26,13 @@ fn line_of<F: fmt::Display>(alloc: Global, fault: &F) -> Result<String, AllocErr
     format!(in alloc; "docketctl: {fault}\n")
 }
 
-/// Tells in one line why a job was not done. Where it can't be told, the status alone says it.
-pub(crate) fn told<E: Write, F: fmt::Display>(
-    alloc: Global,
-    e: &mut E,
-    fault: &F,
-    status: Status,
-) -> Status {
+/// Tells in one line why the program failed. Where it can't be told, the status alone says it.
+pub(crate) fn failed<E: Write, F: fmt::Display>(alloc: Global, e: &mut E, fault: &F) -> Status {
     let _ = match line_of(alloc, fault) {
         Ok(line) => write_bytes(e, line.as_bytes()),
         Err(_) => write_bytes(e, NO_MEMORY),
     };
-    status
-}
-
-/// Tells in one line why the program failed.
-pub(crate) fn failed<E: Write, F: fmt::Display>(alloc: Global, e: &mut E, fault: &F) -> Status {
-    told(alloc, e, fault, Status::Failed)
+    Status::Failed
 }
 
 /// Tells in one line that there is not enough memory, which takes none.

@@ -61,7 +61,7 @@ fn done(
     let Ok(job) = read_job(rt.alloc(), words) else {
         return Status::BadLine;
     };
-    run_job(rt, &job, Progress::untold(), input, output, errors)
+    run_job(rt, job, Progress::untold(), input, output, errors)
 }
 
 /// A writer that fails after so many writes.

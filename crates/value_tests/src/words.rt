@@ -1,6 +1,6 @@
 //! The words of the command line.
 
-use civil_time::Day;
+use court_days::Court;
 use docket_jobs::{Job, read_job};
 use std::alloc::{AllocError, Global};
 
@@ -12,162 +12,114 @@ fn words_of(alloc: Global, line: &str) -> Result<Vec<String>, AllocError> {
     Ok(words)
 }
 
-/// What the words ask for.
-const JOBS: [(&str, Job<'static>); 16] = [
-    (
-        "docketctl check --db court.db",
-        Job::Check { file: "court.db" },
-    ),
-    (
-        "docketctl migrate --db court.db",
-        Job::Migrate { file: "court.db" },
-    ),
-    ("docketctl", Job::Count),
-    ("docketctl count", Job::Count),
-    (
-        "docketctl run",
-        Job::Run {
-            file: None,
-            zone: "UTC0",
-            close: "17:00",
-        },
-    ),
+/// What the words ask for, as `told` tells it.
+const JOBS: [(&str, &str); 19] = [
+    ("docketctl check --db court.db", "check court.db"),
+    ("docketctl migrate --db court.db", "migrate court.db"),
+    ("docketctl", "count"),
+    ("docketctl count", "count"),
+    ("docketctl run", "run in memory UTC0 1020"),
     (
         "docketctl run --zone EST5EDT,M3.2.0,M11.1.0",
-        Job::Run {
-            file: None,
-            zone: "EST5EDT,M3.2.0,M11.1.0",
-            close: "17:00",
-        },
+        "run in memory EST5EDT,M3.2.0,M11.1.0 1020",
     ),
     (
         "docketctl run --close=16:30 --zone CST6",
-        Job::Run {
-            file: None,
-            zone: "CST6",
-            close: "16:30",
-        },
+        "run in memory CST6 990",
     ),
+    ("docketctl run --db court.db", "run court.db"),
+    // Beside a file the zone and the closing time are not looked at.
     (
-        "docketctl run --db court.db",
-        Job::Run {
-            file: Some("court.db"),
-            zone: "UTC0",
-            close: "17:00",
-        },
+        "docketctl run --db court.db --zone UTC --close 5pm",
+        "run court.db",
     ),
     (
         "docketctl create --zone CST6 --db court.db --close 16:30",
-        Job::Create {
-            file: "court.db",
-            zone: "CST6",
-            close: "16:30",
-        },
+        "create court.db CST6 990",
     ),
     (
         "docketctl import --key k1 --db=court.db",
-        Job::Import {
-            file: "court.db",
-            key: "k1",
-        },
+        "import court.db k1",
     ),
-    (
-        "docketctl case --db court.db 1",
-        Job::Case {
-            file: "court.db",
-            number: 1,
-        },
-    ),
+    ("docketctl case --db court.db 1", "case court.db 1"),
     (
         "docketctl case 4294967295 --db court.db",
-        Job::Case {
-            file: "court.db",
-            number: 4294967295,
-        },
+        "case court.db 4294967295",
+    ),
+    // Days are told as days since 1970-01-01.
+    (
+        "docketctl calendar --db court.db 2025-07-01 2025-07-31",
+        "calendar court.db 20270 20300",
+    ),
+    (
+        "docketctl calendar 1980-01-01 1980-01-01 --db=court.db",
+        "calendar court.db 3652 3652",
     ),
     (
         "docketctl serve --db court.db --port 0 --count 1",
-        Job::Serve {
-            file: "court.db",
-            port: 0,
-            count: 1,
-        },
+        "serve court.db 0 1",
     ),
     (
         "docketctl serve --count=1000000 --db court.db --port=65535",
-        Job::Serve {
-            file: "court.db",
-            port: 65535,
-            count: 1_000_000,
-        },
+        "serve court.db 65535 1000000",
     ),
-    ("docketctl holidays 2000", Job::Holidays { year: 2000 }),
-    ("docketctl holidays 2099", Job::Holidays { year: 2099 }),
+    ("docketctl holidays 2000", "holidays 2000"),
+    ("docketctl holidays 2099", "holidays 2099"),
 ];
 
-fn is_same(job: &Job<'_>, wanted: &Job<'_>) -> bool {
-    *job == *wanted
+/// A job in words.
+fn told(alloc: Global, job: &Job<'_>) -> Result<String, AllocError> {
+    match job {
+        Job::Count => String::from_str(alloc, "count"),
+        Job::Create { file, court } => told_court(alloc, "create", file, court),
+        Job::Run { file } => format!(in alloc; "run {file}"),
+        Job::RunInMemory { court } => told_court(alloc, "run in", "memory", court),
+        Job::Import { file, key } => format!(in alloc; "import {file} {key}"),
+        Job::Case { file, number } => format!(in alloc; "case {file} {number}"),
+        Job::Calendar { file, from, to } => {
+            format!(in alloc; "calendar {file} {} {}", from.number(), to.number())
+        }
+        Job::Check { file } => format!(in alloc; "check {file}"),
+        Job::Migrate { file } => format!(in alloc; "migrate {file}"),
+        Job::Serve { file, port, count } => format!(in alloc; "serve {file} {port} {count}"),
+        Job::Holidays { year } => format!(in alloc; "holidays {year}"),
+    }
 }
 
-/// Whether the words ask for that job.
-fn are_for(alloc: Global, words: &[String], wanted: &Job<'_>) -> bool {
+fn told_court(alloc: Global, what: &str, file: &str, court: &Court) -> Result<String, AllocError> {
+    let zone = court.zone_text();
+    let close = court.close_minute();
+    format!(in alloc; "{what} {file} {zone} {close}")
+}
+
+/// Whether the words ask for the job that is told so.
+fn are_for(alloc: Global, words: &[String], wanted: &str) -> bool {
     let Ok(job) = read_job(alloc, words) else {
         return false;
     };
-    is_same(&job, wanted)
+    match told(alloc, &job) {
+        Ok(told) => told.as_str() == wanted,
+        Err(_) => false,
+    }
 }
 
 /// Whether the words of the line ask for that job.
-fn asks_for(alloc: Global, line: &str, wanted: &Job<'_>) -> bool {
+fn asks_for(alloc: Global, line: &str, wanted: &str) -> bool {
     match words_of(alloc, line) {
         Ok(words) => are_for(alloc, words.as_slice(), wanted),
         Err(_) => false,
     }
 }
 
-/// Whether each line asks for its job.
-fn ask_for(alloc: Global, jobs: &[(&str, Job<'_>)]) -> bool {
-    for (line, wanted) in jobs {
-        if !asks_for(alloc, line, wanted) {
-            return false;
-        }
-    }
-    true
-}
-
 #[test]
 fn jobs(rt: HostRuntime) {
-    assert!(rt; ask_for(rt.alloc(), &JOBS));
-}
-
-/// The calendar of days, which are told as days since 1970-01-01.
-fn calendar(from: i32, to: i32) -> Option<Job<'static>> {
-    Some(Job::Calendar {
-        file: "court.db",
-        from: Day::new(from)?,
-        to: Day::new(to)?,
-    })
-}
-
-/// Whether the words of the line ask for the calendar of these days.
-fn asks_for_days(alloc: Global, line: &str, from: i32, to: i32) -> bool {
-    match calendar(from, to) {
-        Some(wanted) => asks_for(alloc, line, &wanted),
-        None => false,
+    for (line, wanted) in JOBS {
+        assert!(rt; asks_for(rt.alloc(), line, wanted), "{line}");
     }
-}
-
-#[test]
-fn calendars(rt: HostRuntime) {
-    let alloc = rt.alloc();
-    let month = "docketctl calendar --db court.db 2025-07-01 2025-07-31";
-    assert!(rt; asks_for_days(alloc, month, 20_270, 20_300));
-    let day = "docketctl calendar 1980-01-01 1980-01-01 --db=court.db";
-    assert!(rt; asks_for_days(alloc, day, 3652, 3652));
 }
 
 /// What is printed where the words ask for no job, and whether that is a mistake.
-const TEXTS: [(&str, &str, bool); 28] = [
+const TEXTS: [(&str, &str, bool); 33] = [
     ("docketctl --help", "Usage: docketctl [COMMAND]", false),
     ("docketctl --version", "docketctl 0.1.0", false),
     ("docketctl count --help", "forward DAY N", false),
@@ -239,6 +191,32 @@ const TEXTS: [(&str, &str, bool); 28] = [
     (
         "docketctl create --db court.db --zone UTC0",
         "the following required arguments were not provided",
+        true,
+    ),
+    (
+        "docketctl create --db court.db --zone EST --close 17:00",
+        "error: --zone \"EST\" is no zone, as EST5EDT,M3.2.0,M11.1.0 is\n",
+        true,
+    ),
+    (
+        "docketctl create --db court.db --zone UTC0 --close 24:00",
+        "error: --close \"24:00\" is no time from 00:00 to 23:59\n",
+        true,
+    ),
+    // The zone is looked at first.
+    (
+        "docketctl run --close 5pm --zone UTC",
+        "error: --zone \"UTC\" is no zone, as EST5EDT,M3.2.0,M11.1.0 is\n",
+        true,
+    ),
+    (
+        "docketctl run --close 5pm",
+        "error: --close \"5pm\" is no time from 00:00 to 23:59\n",
+        true,
+    ),
+    (
+        "docketctl run --zone=",
+        "error: --zone \"\" is no zone, as EST5EDT,M3.2.0,M11.1.0 is\n",
         true,
     ),
     ("docketctl import --help", "kind,day,name", false),

