@@ -14,6 +14,7 @@ use Rattle.sqlite_wal.specs.Recovery.{Image}
 use Rattle.court_days.specs.Court.{CourtSettings}
 use Rattle.docket_core.specs.Histories.{History}
 use Rattle.docket_store.specs.Reopening.{HoldDocket, HoldEither, MayLeave}
+use Rattle.power_failure.specs.PowerFailures.{IsLeftOf}
 
 module _ {D : Type 0} {g : Ghosts D} (store : FileStore D g) (log db log_left db_left : D) (given : (log, db) ≡ files store)
     (log_clean : IsTrue (g.is_clean log_left) → IsTrue (g.is_clean log)) (db_clean : IsTrue (g.is_clean db_left) → IsTrue (g.is_clean db)) where
@@ -30,6 +31,12 @@ module _ {D : Type 0} {g : Ghosts D} (store : FileStore D g) (log db log_left db
   left_may log_may db_may clean =
       may_leave_is store.pool (seen_image g log_left db_left) (were_clean clean)
       (subst (λ p. outcomes g p.0 p.1 (seen_image g log_left db_left)) given (log_may, db_may))
+
+  pub left_of : g.may_leave log (g.seen log_left) → g.may_leave db (g.seen db_left) → IsLeftOf store (record { log = log_left; db = db_left })
+  left_of log_may db_may = record {
+    log = subst (λ p. g.may_leave p.0 (g.seen log_left)) given log_may;
+    db = subst (λ p. g.may_leave p.1 (g.seen db_left)) given db_may;
+  }
 
 -- the one or the same
 pub hold_one : (files : Image) (court : CourtSettings) (h : History) → HoldEither files court h h → HoldDocket files court h

@@ -13,14 +13,11 @@ use Rattle.docket_core.specs.Outcomes.{Answer, repeated, refused, accepted, outc
 use Rattle.docket_tables.specs.Stands.{LastsAsEither}
 use Rattle.docket_wire.specs.Valid.{IsCommand}
 use Rattle.docket_store.specs.Applying.{IsDocket, StandsFor, docket_rows}
-use Rattle.docket_store.specs.Reopening.{HoldDocket, HoldEither, IsNotRecovered}
+use Rattle.docket_store.specs.Reopening.{HoldDocket, HoldEither}
 use Rattle.docket_store.specs.Sessions.{LeftBy}
 use Rattle.docket_store.specs.declared.fault.Fault.{Fault}
 use Rattle.docket_store.specs.declared.fault.Fault.TheVariants.{Refused, NoMemory, StoreFailed, Closed, Damaged}
-use Rattle.docket_store.specs.declared.recovering.RecoverFault.{RecoverFault}
-use Rattle.docket_store.specs.declared.recovering.RecoverFault.TheVariants.{NotOpened, NotAdopted}
-use Rattle.sqlite_disk.specs.declared.Disk.{Ghosts as Disk}
-use Rattle.power_failure.specs.Headline.{IsPrefix, KeepsPrefix, OfPrefix, StopsAt, Tells}
+use Rattle.power_failure.specs.Headline.{IsPrefix, OfPrefix, StopsAt, Tells}
 use Rattle.power_failure.specs.declared.telling.Question.{Question}
 use Rattle.power_failure.specs.declared.telling.Told.{Told}
 
@@ -74,13 +71,6 @@ pub stops_at : {S : Type 0} (g : Ghosts S) (conn : Held S) (court : CourtSetting
     → LeftBy g conn court h cs n end → StopsAt cs n end
 stops_at g conn court h cs n None left = left.0
 stops_at g conn court h cs n (Some at) left = (left.0, left.1)
-
--- a run that found no docket in the beginning leaves that of no command
-pub keeps_none : {D : Type 0} {g : Disk D} (court : CourtSettings) (h : History) (cs : List Command) (fault : RecoverFault D g)
-    → IsNotRecovered court h h fault → KeepsPrefix court h cs fault
-keeps_none court h cs (NotOpened error left) not = not
-keeps_none court h cs (NotAdopted returned) not =
-    (λ clean. ∥∥₁_map not (λ one. (0, omega arith, elim one [ inl was ↦ was | inr is ↦ is ])))
 
 -- what holds of an error holds of the result that is told by it
 pub err_told : {T E : Type 0} (P : E → Type 0) (r : Result T E) (e : E) → IsErrAnd r (λ f. f ≡ e) → P e → IfErr r P

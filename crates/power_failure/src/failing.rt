@@ -1,5 +1,6 @@
 //! A power failure, between one run and the next.
 ghost use Rattle.std.specs.Prelude.{IsTrue};
+ghost use Rattle.sqlite_store.specs.declared.store.FileStore.{FileStore as Stopped};
 ghost use Rattle.sqlite_wal.specs.Reads.{AreClean};
 ghost use Rattle.sqlite.specs.Files.{over_files, image_of};
 ghost use Rattle.sqlite.specs.Held.{state};
@@ -9,6 +10,7 @@ ghost use Rattle.docket_core.specs.Histories.{History};
 ghost use Rattle.docket_tables.specs.Stands.{LastsAsEither};
 ghost use Rattle.docket_store.specs.Applying.{StandsFor, docket_rows};
 ghost use Rattle.docket_store.specs.Reopening.{HoldDocket, HoldEither};
+ghost use Rattle.power_failure.specs.PowerFailures.{IsStopOf};
 
 use docket_store::{power_failures_leave_dockets, stop};
 use sqlite::{Connection, FileStore, Files};
@@ -24,6 +26,8 @@ pub fn fail_power<D: Crash + Drop>(conn: Connection<FileStore<D>>) -> Files<D>
         → AreClean D.Disk result.log result.db → HoldDocket (image_of D.Disk result) court h }
     ensures either { (court : CourtSettings) (h next : History) → LastsAsEither over_files conn (docket_rows court h) (docket_rows court next)
         → AreClean D.Disk result.log result.db → HoldEither (image_of D.Disk result) court h next }
+    // A disk may leave all that was written, too: so it is said of whatever the disks may leave.
+    ensures every { (last : Stopped D D.Disk) × IsStopOf conn result last }
 {
     power_failures_leave_dockets::<D>();
     let mut files = stop(conn).close();

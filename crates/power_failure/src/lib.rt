@@ -8,5 +8,7 @@ mod running;
 mod telling;
 
 pub use failing::fail_power;
-pub use running::{Interrupted, Reopened, reopen_after_power_failure, run_until_power_fails};
+pub use running::{
+    Interrupted, NotReopened, Reopened, reopen_after_power_failure, run_until_power_fails,
+};
 pub use telling::{Question, TellFault, Told, Untold, tell, tell_after_power_failure};

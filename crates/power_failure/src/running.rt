@@ -7,7 +7,7 @@ ghost use Rattle.docket_core.specs.Histories.{History};
 ghost use Rattle.docket_wire.specs.Valid.{IsCommand};
 ghost use Rattle.docket_store.specs.Applying.{IsDocket};
 ghost use Rattle.docket_store.specs.Reopening.{HoldDocket, IsNotOpened, IsNotRecovered};
-ghost use Rattle.power_failure.specs.Headline.{LeavesPrefix, IsPrefixReopened, KeepsPrefix};
+ghost use Rattle.power_failure.specs.Headline.{LeavesOnlyPrefixes, LeavesPrefix, IsPrefixReopened, KeepsFiles, KeepsPrefix};
 
 use crate::failing::fail_power;
 use docket_command::{Command, Refusal, Reply};
@@ -33,6 +33,29 @@ pub struct Reopened<D: Disk> {
     pub docket: Docket<FileStore<D>>,
 }
 
+/// Why no docket was found, before the power failed or after it.
+pub enum NotReopened<D: Disk> {
+    /// The first run found none.
+    Before(RecoverFault<D>),
+    /// The next run found none. The first was told this, and got no answer there.
+    After {
+        replies: Vec<Result<Reply, Refusal>>,
+        stopped_at: Option<(usize, Fault)>,
+        fault: RecoverFault<D>,
+    },
+}
+
+impl<D: Disk> From<RecoverFault<D>> for NotReopened<D> {
+    ghost use Rattle.std.specs.Prelude.{◌≡◌};
+    ghost use Rattle.power_failure.specs.declared.running.NotReopened.TheVariants.{Before};
+
+    ghost from_gives = { λ e fault. fault ≡ Before e };
+
+    fn from(fault: RecoverFault<D>) -> NotReopened<D> {
+        NotReopened::Before(fault)
+    }
+}
+
 /// Opens the files of a docket and answers commands in order, until all are answered or a disk fails;
 /// then the power fails. A disk that fails from some call on is a stop before or within that call.
 pub fn run_until_power_fails<D: Crash + Drop>(
@@ -46,6 +69,8 @@ pub fn run_until_power_fails<D: Crash + Drop>(
     ensures prefix { (court : CourtSettings) (h : History) → IsDocket court h → AllByRecursion IsCommand commands.now
         → HoldDocket (image_of D.Disk files) court h
         → MatchResult result (LeavesPrefix D.Disk court h commands.now) (IsNotRecovered court h h) }
+    ensures every { (court : CourtSettings) (h : History) → IsDocket court h → AllByRecursion IsCommand commands.now
+        → HoldDocket (image_of D.Disk files) court h → IfOk result (LeavesOnlyPrefixes D.Disk court h commands.now) }
     ensures log { IfOk result (λ run. IsTrue (D.Disk.is_usable run.files.log)) }
     ensures db { IfOk result (λ run. IsTrue (D.Disk.is_usable run.files.db)) }
     ensures opened { IfErr result (IsNotOpened files) }
@@ -69,19 +94,39 @@ pub fn reopen_after_power_failure<D: Crash + Drop>(
     files: Files<D>,
     options: Options,
     commands: &[Command],
-) -> Result<Reopened<D>, RecoverFault<D>>
+) -> Result<Reopened<D>, NotReopened<D>>
     requires log { IsTrue (D.Disk.is_usable files.log) }
     requires db { IsTrue (D.Disk.is_usable files.db) }
     ensures headline { (court : CourtSettings) (h : History) → IsDocket court h → AllByRecursion IsCommand commands.now
         → HoldDocket (image_of D.Disk files) court h
         → MatchResult result (IsPrefixReopened court h commands.now) (KeepsPrefix court h commands.now) }
+    ensures opened { IfErr result (KeepsFiles files) }
 {
-    let run = run_until_power_fails(alloc, files, options, commands)?;
-    let conn = reopen(alloc, run.files, options)?;
-    let docket = Docket::adopt(alloc, conn)?;
-    Ok(Reopened {
-        replies: run.replies,
-        stopped_at: run.stopped_at,
-        docket,
-    })
+    let Interrupted {
+        replies,
+        stopped_at,
+        files,
+    } = run_until_power_fails(alloc, files, options, commands)?;
+    let conn = match reopen(alloc, files, options) {
+        Ok(conn) => conn,
+        Err((error, left)) => {
+            return Err(NotReopened::After {
+                replies,
+                stopped_at,
+                fault: RecoverFault::NotOpened(error, left),
+            });
+        }
+    };
+    match Docket::adopt(alloc, conn) {
+        Ok(docket) => Ok(Reopened {
+            replies,
+            stopped_at,
+            docket,
+        }),
+        Err(returned) => Err(NotReopened::After {
+            replies,
+            stopped_at,
+            fault: RecoverFault::NotAdopted(returned),
+        }),
+    }
 }

@@ -1,5 +1,5 @@
 //! What the docket that is found tells.
-ghost use Rattle.std.specs.Prelude.{◌≡◌, ◌≤◌, IfOk, IsTrue, MatchResult};
+ghost use Rattle.std.specs.Prelude.{◌≡◌, ◌≤◌, IfErr, IfOk, IsTrue, MatchResult};
 ghost use Rattle.std.specs.List.{AllByRecursion};
 ghost use Rattle.sqlite.specs.Files.{image_of};
 ghost use Rattle.sqlite.specs.Held.{state};
@@ -10,13 +10,13 @@ ghost use Rattle.docket_core.specs.Histories.{History};
 ghost use Rattle.docket_wire.specs.Valid.{IsCommand};
 ghost use Rattle.docket_store.specs.Applying.{IsDocket, Stands};
 ghost use Rattle.docket_store.specs.Reopening.{HoldDocket};
-ghost use Rattle.power_failure.specs.Headline.{IsPrefixTold, KeepsUntold, Tells};
+ghost use Rattle.power_failure.specs.Headline.{IsPrefixTold, KeepsFilesUntold, KeepsUntold, StaysUntold, Tells};
 
-use crate::running::{Reopened, reopen_after_power_failure};
+use crate::running::{NotReopened, Reopened, reopen_after_power_failure};
 use court_days::Day;
 use docket_command::Command;
 use docket_core::{CaseRecord, DeadlineLine};
-use docket_store::{CalendarEnd, Docket, Fault, RecoverFault};
+use docket_store::{CalendarEnd, Docket, Fault};
 use sqlite::{Alter, Files, Options};
 use sqlite_disk::{Crash, Disk};
 use std::alloc::Global;
@@ -69,29 +69,23 @@ impl From<CalendarEnd> for TellFault {
 
 /// Why nothing was told after a power failure.
 pub enum Untold<D: Disk> {
-    NotReopened(RecoverFault<D>),
-    NotTold(TellFault),
+    /// No docket was found.
+    NotReopened(NotReopened<D>),
+    /// One was found, and not told, or not whole.
+    NotTold {
+        found: Reopened<D>,
+        fault: TellFault,
+    },
 }
 
-impl<D: Disk> From<RecoverFault<D>> for Untold<D> {
+impl<D: Disk> From<NotReopened<D>> for Untold<D> {
     ghost use Rattle.std.specs.Prelude.{◌≡◌};
     ghost use Rattle.power_failure.specs.declared.telling.Untold.TheVariants.{NotReopened};
 
     ghost from_gives = { λ e fault. fault ≡ NotReopened e };
 
-    fn from(fault: RecoverFault<D>) -> Untold<D> {
+    fn from(fault: NotReopened<D>) -> Untold<D> {
         Untold::NotReopened(fault)
-    }
-}
-
-impl<D: Disk> From<TellFault> for Untold<D> {
-    ghost use Rattle.std.specs.Prelude.{◌≡◌};
-    ghost use Rattle.power_failure.specs.declared.telling.Untold.TheVariants.{NotTold};
-
-    ghost from_gives = { λ e fault. fault ≡ NotTold e };
-
-    fn from(fault: TellFault) -> Untold<D> {
-        Untold::NotTold(fault)
     }
 }
 
@@ -106,6 +100,7 @@ pub fn tell<S: Alter, W: Write>(
     ensures told { (h : History) → Stands S.Store docket.old h
         → IfOk result (λ told. Stands S.Store docket.new h
         × (HasCleanDisk (state S.Store docket.new.conn) → Tells docket.new.court h asked (W.contents writer.old) (W.contents writer.new) told)) }
+    ensures untold { (h : History) → Stands S.Store docket.old h → IfErr result (StaysUntold S.Store docket.new h) }
 {
     let case = docket.case(asked.number)?;
     let deadlines = docket.deadlines(asked.number)?;
@@ -135,8 +130,11 @@ pub fn tell_after_power_failure<D: Crash + Drop, W: Write>(
         → HoldDocket (image_of D.Disk files) court h
         → MatchResult result (λ r. IsPrefixTold court h commands.now asked (W.contents writer.old) (W.contents writer.new) r.0 r.1)
         (KeepsUntold court h commands.now) }
+    ensures opened { IfErr result (KeepsFilesUntold files) }
 {
     let mut found = reopen_after_power_failure(alloc, files, options, commands)?;
-    let told = tell(&mut found.docket, asked, writer)?;
-    Ok((found, told))
+    match tell(&mut found.docket, asked, writer) {
+        Ok(told) => Ok((found, told)),
+        Err(fault) => Err(Untold::NotTold { found, fault }),
+    }
 }

@@ -11,7 +11,7 @@ use anyhow::{Error, anyhow};
 use docket_command::{Command, Refusal, Reply};
 use docket_store::Docket;
 use docket_wire::{read_command, reply_text};
-use power_failure::{Reopened, reopen_after_power_failure};
+use power_failure::{NotReopened, Reopened, reopen_after_power_failure};
 use sqlite::{Alter, Files};
 use std::alloc::Global;
 
@@ -88,7 +88,14 @@ fn reopened<D: Tried>(alloc: Global, course: &Course, files: Files<D>) -> Result
     let commands = course.commands.as_slice();
     match reopen_after_power_failure(alloc, files, options(course.frames), commands) {
         Ok(found) => Ok(found),
-        Err(fault) => Err(ended(fault).0),
+        Err(NotReopened::Before(fault)) => Err(ended(fault).0),
+        Err(
+            NotReopened::After {
+                replies: _,
+                stopped_at: _,
+                fault,
+            },
+        ) => Err(ended(fault).0),
     }
 }
 

@@ -28,3 +28,15 @@ returns-clause-prefix g c court h is lawful held clean =
           (λ now stands. c.fail_power.ensures.settled court now stands clean) (λ now next lasts. c.fail_power.ensures.either court now next lasts clean) _
           end.stopped_at ends.1,
     )
+
+pub returns-clause-every : goal.returns-clause-every
+returns-clause-every g c court h is lawful held =
+    let end = c.in_ok-replies.field-0 in
+    let stopped = c.fail_power.ensures.every in (
+      stopped.0,
+      stopped.1.files_left,
+      λ clean image may.
+          let ends = c.in_ok-replies.ensures.ends court h is (c.in_ok-conn.ensures.docket court h held) (c.fail_power.ensures.clean clean) in
+          leaves_prefix over_files end.connection image court h c.args.commands.now is lawful (λ now stands. stopped.1.settled clean court now stands image may)
+          (λ now next lasts. stopped.1.either clean court now next lasts image may) _ end.stopped_at ends.1,
+    )
