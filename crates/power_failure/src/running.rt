@@ -123,10 +123,13 @@ pub fn reopen_after_power_failure<D: Crash + Drop>(
             stopped_at,
             docket,
         }),
-        Err(returned) => Err(NotReopened::After {
-            replies,
-            stopped_at,
-            fault: RecoverFault::NotAdopted(returned),
-        }),
+        Err(returned) => {
+            let fault = RecoverFault::NotAdopted(returned);
+            Err(NotReopened::After {
+                replies,
+                stopped_at,
+                fault,
+            })
+        }
     }
 }
