@@ -1,19 +1,21 @@
 -- What is said of a command is what its line is judged by, and what a fault leaves.
-use Rattle.std.proofs.Common.{◌≡◌, inl, inr, Result, Ok, Err, is_err, sym, ap, subst}
+use Rattle.std.proofs.Common.{◌≡◌, ◌⊎◌, inl, inr, Result, Ok, Err, is_err, sym, ap, subst}
 use Rattle.sqlite.specs.Store.{Ghosts}
 use Rattle.sqlite.specs.Held.{state}
 use Rattle.sqlite.specs.State.{HasCleanDisk}
 use Rattle.docket_command.specs.declared.command.Command.{Command}
 use Rattle.docket_command.specs.declared.refusal.Refusal.{Refusal}
 use Rattle.docket_command.specs.declared.refusal.Reply.{Reply}
-use Rattle.docket_core.specs.Outcomes.{Answer, after}
+use Rattle.docket_core.specs.Outcomes.{Answer, accepted, after, after_answer, outcome, refused, repeated}
 use Rattle.docket_tables.specs.Stands.{LastsAsEither}
-use Rattle.docket_store.specs.Applying.{Faults, docket_rows}
+use Rattle.docket_store.specs.AnyRows.{WritesAtMostOne}
+use Rattle.docket_store.specs.Applying.{Applies, Faults, Stands, docket_rows}
+use Rattle.docket_store.proofs.AnyLemmas.{lasting}
 use Rattle.docket_store.specs.Dockets.{Docket as Stored}
 use Rattle.docket_store.specs.declared.fault.Fault.{Fault}
 use Rattle.docket_store.specs.declared.fault.Fault.TheVariants.{Refused, NoMemory, StoreFailed, Closed, Damaged}
 use Rattle.docket_wire.specs.Texts.{reply_text}
-use Rattle.command_lines.specs.Ending.{FailsAt}
+use Rattle.command_lines.specs.Ending.{FailsAt, StandsAs}
 use Rattle.command_lines.specs.Lines.{Docket, answer_text, docket_with, is_refused, IsSaid}
 
 -- its text, and whether it is a refusal
@@ -35,3 +37,22 @@ left_by g new docket c same clean StoreFailed plain faults =
     subst (λ court. LastsAsEither g new.conn (docket_rows court docket.history) (docket_rows court (after court docket.history c))) same faults
 left_by g new docket c same clean Closed plain faults = absurd faults
 left_by g new docket c same clean Damaged plain faults = absurd (faults clean)
+
+-- what a reply says, and the docket that it leaves
+pub says : {S : Type 0} (g : Ghosts S) (new : Stored S) (docket : Docket) (c : Command) → new.court ≡ docket.court → HasCleanDisk (state g new.conn) → (reply : Reply) → Applies g new docket.history c (Ok reply)
+    → IsSaid (Ok reply) (outcome docket.court docket.history c) × StandsAs g new (docket_with docket c)
+says g new docket c same clean reply it = (
+  elim (subst (λ court. (outcome court docket.history c ≡ accepted reply) ⊎ (outcome court docket.history c ≡ repeated reply)) same (it.1 clean)) [ inl accepts ↦ inr accepts | inr repeats ↦ inl repeats ],
+  record { court = same; stands = subst (λ court. Stands g new (after court docket.history c)) same it.0 },
+)
+
+-- and a refusal, which leaves the docket as it was
+pub refuses : {S : Type 0} (g : Ghosts S) (new : Stored S) (docket : Docket) (c : Command) → new.court ≡ docket.court → HasCleanDisk (state g new.conn) → (refusal : Refusal) → Faults g new docket.history c (Refused refusal)
+    → IsSaid (Err refusal) (outcome docket.court docket.history c) × StandsAs g new (docket_with docket c)
+refuses g new docket c same clean refusal it =
+    let is = subst (λ court. outcome court docket.history c ≡ refused refusal) same (it.1 clean) in
+    (is, record { court = same; stands = subst (Stands g new) (sym (ap (λ a. after_answer a docket.history c) is)) it.0 })
+
+-- a line that spells no command writes nothing
+pub nothing_written : {S : Type 0} (g : Ghosts S) (d : Stored S) → WritesAtMostOne g d d
+nothing_written g d rows n stored are small holds = inl (lasting g d.conn rows holds)

@@ -4,6 +4,7 @@ ghost use Rattle.sqlite.specs.Held.{state};
 ghost use Rattle.sqlite.specs.State.{HasCleanDisk};
 ghost use Rattle.docket_core.specs.Outcomes.{outcome};
 ghost use Rattle.docket_wire.specs.Texts.{fault_text};
+ghost use Rattle.docket_store.specs.AnyRows.{WritesAtMostOne};
 ghost use Rattle.command_lines.specs.Ending.{StandsAs, FailsAt};
 ghost use Rattle.command_lines.specs.Lines.{Docket as Told, IsSaid, docket_with};
 
@@ -64,6 +65,13 @@ impl<S: Alter> Clerk<S> {
         Clerk { alloc, docket }
     }
 
+    /// Whether the docket is closed since its database failed.
+    pub fn is_closed(&self) -> bool
+        ensures { result ≡ self.now.closed }
+    {
+        self.docket.is_closed()
+    }
+
     /// The docket as the commands left it.
     pub fn into_docket(self) -> Docket<S>
         ensures { result ≡ self }
@@ -75,6 +83,7 @@ impl<S: Alter> Clerk<S> {
     /// The reply to a command, or its refusal.
     fn apply(&mut self, command: &Command) -> Result<Result<Reply, Refusal>, Fault>
         ensures trust { HasCleanDisk (state S.Store self.new.conn) → HasCleanDisk (state S.Store self.old.conn) }
+        ensures steps { WritesAtMostOne S.Store self.old self.new }
         ensures said { IfOk result (λ said. (docket : Told) → StandsAs S.Store self.old docket
             → HasCleanDisk (state S.Store self.new.conn)
             → IsSaid said (outcome docket.court docket.history command.now)
@@ -97,6 +106,7 @@ impl<S: Alter> Clerk<S> {
 impl<S: Alter> Answerer for Clerk<S> {
     ghost use Rattle.sqlite.specs.Held.{state};
     ghost use Rattle.sqlite.specs.State.{HasCleanDisk};
+    ghost use Rattle.docket_store.specs.AnyRows.{WritesAtMostOne};
     ghost use Rattle.command_lines.specs.Ending.{StandsAs, FailsAt};
     ghost use Rattle.command_lines.specs.Lines.{Docket, judged, judged_long};
 
@@ -118,6 +128,8 @@ impl<S: Alter> Answerer for Clerk<S> {
     ghost Trusts = { λ clerk. HasCleanDisk (state S.Store clerk.conn) };
 
     ghost Fails = { λ clerk fault before next. FailsAt S.Store clerk fault before next };
+
+    ghost Steps = { λ before next. WritesAtMostOne S.Store before next };
 
     ghost judge = { judged };
 

@@ -1,5 +1,5 @@
 //! The engine of `run`: commands in, one answer each out.
-ghost use Rattle.std.specs.Prelude.{◌≡◌, length, IfOk, IfErr, OnErr, IfSome};
+ghost use Rattle.std.specs.Prelude.{◌≡◌, length, true, Err, IfOk, IfErr, OnErr, IfSome};
 ghost use Rattle.std.specs.Io.KnownBytes.{Appends};
 ghost use Rattle.sqlite.specs.Held.{state};
 ghost use Rattle.sqlite.specs.State.{HasCleanDisk};
@@ -7,11 +7,16 @@ ghost use Rattle.line_io.specs.Lines.{lines_of};
 ghost use Rattle.line_io.specs.Output.{HasFront};
 ghost use Rattle.line_io.specs.Ending.{BreaksOff};
 ghost use Rattle.line_io.specs.Report.{within};
+ghost use Rattle.line_io.specs.Steps.{Reaches};
+ghost use Rattle.docket_store.specs.AnyRows.{WritesAtMostOne};
+ghost use Rattle.docket_store.specs.declared.fault.Fault.TheVariants as fault;
 ghost use Rattle.command_lines.specs.Ending.{StandsAs, Leaves};
+ghost use Rattle.command_lines.specs.declared.fault.RunFault.TheVariants as run;
 ghost use Rattle.command_lines.specs.Lines.{Docket, run_text, bad_answers, docket_after, judged, judged_long};
 
 use crate::clerk::Clerk;
 use crate::fault::RunFault;
+use docket_store::Fault;
 use line_io::{CountEnd, run_lines};
 use sqlite::Alter;
 use std::alloc::Global;
@@ -20,7 +25,8 @@ use std::io::{Read, Write};
 /// Answers each line of the reader: a command of the docket with its reply or its refusal, and what
 /// spells no command with its fault; and counts the lines, and the refusals and faults among the
 /// answers. Each answer is written before the next command is applied. On a fault a front of the
-/// answers went out, and no further line was answered.
+/// answers went out, and no further line was answered: `Store(Closed)` where the docket is closed at
+/// the start, and nothing is read then.
 ///
 /// All this is said where the disk gives back what it took when the run ends; then it did from the
 /// start.
@@ -45,7 +51,15 @@ pub fn command_run<R: Read, W: Write, S: Alter>(
         → HasCleanDisk (state S.Store clerk.new.conn) → IfSome (R.remaining reader.old) (λ input.
         BreaksOff (within 1_048_576 judged judged_long) (Leaves S.Store clerk.new fault) 0 docket (lines_of input)
         (W.contents writer.old) (W.contents writer.new))) }
+    // Whatever docket it was: each line wrote nothing, or one command whole, with its receipt.
+    ensures steps { Reaches (WritesAtMostOne S.Store) clerk.old clerk.new }
+    // A closed docket answers nothing: no line is read, and nothing is written.
+    ensures closed { clerk.old.closed ≡ true
+        → (result ≡ Err (run.Store fault.Closed)) × (clerk.new ≡ clerk.old) × (reader.new ≡ reader.old) × (writer.new ≡ writer.old) }
 {
+    if clerk.is_closed() {
+        return Err(RunFault::Store(Fault::Closed));
+    }
     match run_lines(alloc, reader, writer, clerk) {
         Ok(end) => Ok(end),
         Err(fault) => Err(RunFault::from(fault)),

@@ -51,6 +51,8 @@ impl Answerer for Counter {
     // The calendar is let go after a fault.
     ghost Fails = { λ _ _ _ _. ⊤ };
 
+    ghost Steps = { λ _ _. ⊤ };
+
     ghost judge = { judged };
 
     ghost judge_long = { judged_long };

@@ -14,16 +14,17 @@ use Rattle.court_days.specs.Court.{CourtSettings}
 use Rattle.docket_core.specs.EndRows.{calendar_in}
 use Rattle.docket_core.specs.Histories.{History}
 use Rattle.docket_core.specs.Tables.{rows_of}
-use Rattle.docket_tables.specs.Readings.{Fails}
+use Rattle.docket_tables.specs.Layouts.{Rows}
+use Rattle.docket_tables.specs.Readings.{Fails, StaysAt}
 use Rattle.docket_tables.specs.Stands.{HoldsRows, IsSettled, IsLasting}
 use Rattle.docket_tables.specs.declared.fault.ReadFault.{ReadFault}
 use Rattle.docket_tables.specs.declared.fault.ReadFault.TheVariants.{Store, NoMemory, Damaged}
 use Rattle.docket_tables.proofs.StandsLemmas.{unchanged_settled, undone_lasting}
-use Rattle.docket_calendar.specs.Asked.{Lists}
+use Rattle.docket_calendar.specs.Asked.{Lists, RemainsAt}
 use Rattle.docket_calendar.specs.Calendar.{calendar_rows}
 use Rattle.docket_calendar.specs.Question.{question, days_asked}
-use Rattle.docket_calendar.specs.Sending.{LeavesAt, SendsAll}
-use Rattle.docket_calendar.specs.Telling.{IsHistoryOf, Tells, history_rows}
+use Rattle.docket_calendar.specs.Sending.{LeavesAt, Remains, SendsAll}
+use Rattle.docket_calendar.specs.Telling.{IsHistoryOf, Stays, Tells, history_rows}
 use Rattle.docket_calendar.specs.declared.stop.Stop.{Stop}
 use Rattle.docket_calendar.specs.declared.stop.Stop.TheVariants.{NotBegun, Broken, WriteFailed}
 use Rattle.docket_calendar.proofs.HistoryLemmas.{listable, is_calendar}
@@ -33,32 +34,51 @@ use Rattle.docket_calendar.proofs.ListsLemmas.{lists}
 pub reads_only : (sql : List ℕ) (params : Row) (old new : State) → IsPlain (understood old.now.schema sql) → Survives old new (CommitsShowing sql params old) → Survives old new (λ _. ⊥)
 reads_only sql params old new plain = survives_weaker old new _ _ (λ _ db. never_commits sql params old db plain)
 
-module _ {S : Type 0} (g : Ghosts S) (court : CourtSettings) (h : History) (from to : ℕ) (front : List ℕ) (u v : Option (List ℕ)) (old new : Held S) (is : IsHistoryOf court h) (was : HoldsRows g old (history_rows court h))
-    (mode : old.in_transaction ≡ false → new.in_transaction ≡ false) (early : doubt (state g old).is_clean ≤ doubt (state g new).is_clean)
+-- a question that is plain for the tables of a docket leaves any rows as they were
+module _ {S : Type 0} (g : Ghosts S) (rows : Rows) (old new : Held S) (was : HoldsRows g old rows) (mode : old.in_transaction ≡ false → new.in_transaction ≡ false) (early : doubt (state g old).is_clean ≤ doubt (state g new).is_clean)
     (crash : IsPlain (understood old.schema question) → Survives (state g old) (state g new) (λ _. ⊥)) where
   before : HasCleanDisk (state g new) → HasCleanDisk (state g old)
   before clean = omega (arith, early)
 
-  -- the question is plain for the tables of a docket
   plainly : HasCleanDisk (state g new) → IsPlain (understood old.schema question)
   plainly clean = subst (λ (s : Schema). IsPlain (understood s question)) (sym (was.1 (before clean)).shows.schema) asks_plainly
 
-  settled : HasCleanDisk (state g new) → IsUnchanged (state g old) (state g new) → IsSettled (state g new) (history_rows court h)
-  settled clean same = unchanged_settled (state g old) (state g new) (history_rows court h) (crash (plainly clean)) clean (was.1 (before clean)) same
+  settled : HasCleanDisk (state g new) → IsUnchanged (state g old) (state g new) → IsSettled (state g new) rows
+  settled clean same = unchanged_settled (state g old) (state g new) rows (crash (plainly clean)) clean (was.1 (before clean)) same
 
-  lasting : HasCleanDisk (state g new) → IsUnchanged (state g old) (state g new) ⊎ IsRolledBack (state g old) (state g new) → IsLasting (state g new) (history_rows court h)
-  lasting clean left = undone_lasting (state g old) (state g new) (history_rows court h) (crash (plainly clean)) clean (was.1 (before clean)) left
+  lasting : HasCleanDisk (state g new) → IsUnchanged (state g old) (state g new) ⊎ IsRolledBack (state g old) (state g new) → IsLasting (state g new) rows
+  lasting clean left = undone_lasting (state g old) (state g new) rows (crash (plainly clean)) clean (was.1 (before clean)) left
 
-  fails : (fault : ReadFault) → (HasCleanDisk (state g new) → LeavesAt g old new fault) → Fails g new (history_rows court h) fault
+  fails : (fault : ReadFault) → (HasCleanDisk (state g new) → LeavesAt g old new fault) → Fails g new rows fault
   fails (Store e) left = (mode was.0, λ clean. lasting clean (left clean))
   fails NoMemory left = (mode was.0, λ clean. settled clean (left clean))
   fails Damaged left = left
 
+  stays_at : (fault : ReadFault) → (HasCleanDisk (state g new) → RemainsAt g old new fault) → StaysAt g new rows fault
+  stays_at (Store e) left = (mode was.0, λ clean. lasting clean (left clean))
+  stays_at NoMemory left = (mode was.0, λ clean. settled clean (left clean))
+  stays_at Damaged left = (mode was.0, λ clean. settled clean (left clean))
+
+  pub stays : (res : Result ℕ Stop) → (IsPlain (understood old.schema question) → HasCleanDisk (state g new) → Remains g old new res) → Stays g new rows res
+  stays (Ok n) left = (mode was.0, λ clean. settled clean (left (plainly clean) clean))
+  stays (Err (NotBegun fault)) left = stays_at fault (λ clean. left (plainly clean) clean)
+  stays (Err (Broken fault)) left = stays_at fault (λ clean. left (plainly clean) clean)
+  stays (Err WriteFailed) left = (mode was.0, λ clean. settled clean (left (plainly clean) clean))
+
+module _ {S : Type 0} (g : Ghosts S) (court : CourtSettings) (h : History) (from to : ℕ) (front : List ℕ) (u v : Option (List ℕ)) (old new : Held S) (is : IsHistoryOf court h) (was : HoldsRows g old (history_rows court h))
+    (mode : old.in_transaction ≡ false → new.in_transaction ≡ false) (early : doubt (state g old).is_clean ≤ doubt (state g new).is_clean)
+    (crash : IsPlain (understood old.schema question) → Survives (state g old) (state g new) (λ _. ⊥)) where
+  as_settled : HasCleanDisk (state g new) → IsUnchanged (state g old) (state g new) → IsSettled (state g new) (history_rows court h)
+  as_settled = settled g (history_rows court h) old new was mode early crash
+
+  failing : (fault : ReadFault) → (HasCleanDisk (state g new) → LeavesAt g old new fault) → Fails g new (history_rows court h) fault
+  failing = fails g (history_rows court h) old new was mode early crash
+
   pub tells : (res : Result ℕ Stop) → (HasCleanDisk (state g new) → SendsAll g court (calendar_rows court h from to) front u v old new res) → Tells g court h from to front u v new res
-  tells (Ok n) sends = ((mode was.0, λ clean. settled clean (sends clean).0), λ clean. ((sends clean).1, (sends clean).2))
-  tells (Err (NotBegun fault)) sends = (fails fault (λ clean. (sends clean).1), λ clean. (sends clean).0)
-  tells (Err (Broken fault)) sends = (fails fault (λ clean. (sends clean).1), λ clean. (sends clean).0)
-  tells (Err WriteFailed) sends = ((mode was.0, λ clean. settled clean (sends clean).1), λ clean. (sends clean).0)
+  tells (Ok n) sends = ((mode was.0, λ clean. as_settled clean (sends clean).0), λ clean. ((sends clean).1, (sends clean).2))
+  tells (Err (NotBegun fault)) sends = (failing fault (λ clean. (sends clean).1), λ clean. (sends clean).0)
+  tells (Err (Broken fault)) sends = (failing fault (λ clean. (sends clean).1), λ clean. (sends clean).0)
+  tells (Err WriteFailed) sends = ((mode was.0, λ clean. as_settled clean (sends clean).1), λ clean. (sends clean).0)
 
 -- a connection that holds the rows answers by the calendar of the history
 pub lists_of : {S : Type 0} (g : Ghosts S) (court : CourtSettings) (h : History) (from to : ℕ) (old : Held S) → IsHistoryOf court h → HoldsRows g old (history_rows court h) → HasCleanDisk (state g old)

@@ -1,11 +1,12 @@
 -- What a calendar that is written row by row comes to, wherever it stops.
-use Rattle.std.proofs.Common.{◌≡◌, inl, inr, ℕ, ◌+◌, Bool, true, false, List, [], ◌++◌, Option, Some, None, Result, Ok, Err, IsTrue, IsErrAnd, append-nil, refl, sym, ap, subst, subst₂, ◌∙◌}
+use Rattle.std.proofs.Common.{◌≡◌, ◌⊎◌, inl, inr, ℕ, ◌+◌, Bool, true, false, List, [], ◌++◌, Option, Some, None, Result, Ok, Err, IsTrue, IsErrAnd, append-nil, refl, sym, ap, subst, subst₂, ◌∙◌}
 use Rattle.std.specs.Io.KnownBytes.{Appends}
 use Rattle.std.proofs.KnownBytes.{Appends-nil, Appends-trans}
 use Rattle.sqlite.specs.Order.{Row}
 use Rattle.sqlite.specs.Effect.{Database}
 use Rattle.sqlite.specs.Store.{Ghosts}
-use Rattle.sqlite.specs.State.{State, IsUnchanged, IsRolledBack}
+use Rattle.sqlite.specs.State.{State, IsUnchanged, IsRolledBack, Fails}
+use Rattle.sqlite.specs.declared.error.Error.{Error}
 use Rattle.sqlite.specs.Held.{Held, state}
 use Rattle.sqlite.proofs.Callers.{unchanged_then}
 use Rattle.court_days.specs.Calendar.{Entered}
@@ -14,8 +15,9 @@ use Rattle.docket_core.specs.declared.record.DueRow.{DueRow}
 use Rattle.line_io.specs.Output.{HasFront}
 use Rattle.docket_tables.specs.declared.fault.ReadFault.{ReadFault}
 use Rattle.docket_tables.specs.declared.fault.ReadFault.TheVariants.{Store, NoMemory, Damaged}
-use Rattle.docket_calendar.specs.Asked.{Lists, Gave, Next}
-use Rattle.docket_calendar.specs.Sending.{text_at, IsAt, opening, sent, LeavesAt, SendsNext, SendsAll}
+use Rattle.docket_calendar.specs.Asked.{Lists, Gave, Next, RemainsAt, RemainsAfter}
+use Rattle.docket_calendar.specs.Sending.{text_at, IsAt, opening, sent, LeavesAt, Remains, RemainsStopped, SendsNext, SendsAll}
+use Rattle.docket_calendar.specs.Stops.{IsStopAt}
 use Rattle.docket_calendar.specs.declared.stop.Stop.{Stop}
 use Rattle.docket_calendar.specs.declared.stop.Stop.TheVariants.{NotBegun, Broken, WriteFailed}
 use Rattle.docket_calendar.proofs.SendLemmas.{sent_more, sent_whole, begun_at, stopped_in}
@@ -31,6 +33,35 @@ rolled_then a b c same r = record {
   unmarked = r.unmarked;
   counts = record { changes = r.counts.changes ∙ same.1.changes; last_rowid = r.counts.last_rowid ∙ same.1.last_rowid };
 }
+
+-- what any question leaves of the connection
+module _ {S : Type 0} (g : Ghosts S) where
+  pub advance_remains : {X : Type 0} (old new : Held S) (e : Error) (res : Result X ReadFault) → IsErrAnd res (λ f. f ≡ Store e) → Fails (state g old) (state g new) ⊥ e ⊎ IsUnchanged (state g old) (state g new) → RemainsAfter g old new res
+  advance_remains old new e (Ok x) same left = absurd same
+  advance_remains old new e (Err f) same (inl fails) = subst (RemainsAt g old new) (sym same) (inr fails.3)
+  advance_remains old new e (Err f) same (inr still) = subst (RemainsAt g old new) (sym same) (inl still)
+
+  pub stop_remains : (old new : Held S) (n : ℕ) (fault : ReadFault) (stop : Stop) → IsStopAt n fault stop → RemainsAt g old new fault → RemainsStopped g old new stop
+  stop_remains old new n fault (NotBegun f) at left = subst (RemainsAt g old new) (sym at.1) left
+  stop_remains old new n fault (Broken f) at left = subst (RemainsAt g old new) (sym at.1) left
+  stop_remains old new n fault WriteFailed at left = absurd at
+
+  pub err_remains : {X : Type 0} (old new : Held S) (stop : Stop) (res : Result X Stop) → IsErrAnd res (λ f. f ≡ stop) → RemainsStopped g old new stop → Remains g old new res
+  err_remains old new stop (Ok x) same left = absurd same
+  err_remains old new stop (Err f) same left = subst (RemainsStopped g old new) (sym same) left
+
+  remains_at : (old mid new : Held S) (fault : ReadFault) → IsUnchanged (state g old) (state g mid) → RemainsAt g mid new fault → RemainsAt g old new fault
+  remains_at old mid new (Store e) same (inl still) = inl (unchanged_then (state g old) (state g mid) (state g new) same still)
+  remains_at old mid new (Store e) same (inr undone) = inr (rolled_then (state g old) (state g mid) (state g new) same undone)
+  remains_at old mid new NoMemory same still = unchanged_then (state g old) (state g mid) (state g new) same still
+  remains_at old mid new Damaged same still = unchanged_then (state g old) (state g mid) (state g new) same still
+
+  -- the same after what changed nothing
+  pub remains_from : {X : Type 0} (old mid new : Held S) (res : Result X Stop) → IsUnchanged (state g old) (state g mid) → Remains g mid new res → Remains g old new res
+  remains_from old mid new (Ok x) same still = unchanged_then (state g old) (state g mid) (state g new) same still
+  remains_from old mid new (Err (NotBegun fault)) same left = remains_at old mid new fault same left
+  remains_from old mid new (Err (Broken fault)) same left = remains_at old mid new fault same left
+  remains_from old mid new (Err WriteFailed) same still = unchanged_then (state g old) (state g mid) (state g new) same still
 
 module _ {S : Type 0} (g : Ghosts S) (court : CourtSettings) (listed : List DueRow) where
   pub lists_still : {entered : Entered} (sql : List ℕ) (params : Row) (old now : Held S) → IsUnchanged (state g old) (state g now) → Lists sql params court entered (state g old).now listed → Lists sql params court entered (state g now).now listed

@@ -10,7 +10,7 @@ use Rattle.sqlite.specs.Listing.{understood, reads_listing}
 use Rattle.sqlite_resolve.specs.declared.compiled.Compiled.{Compiled}
 use Rattle.sqlite_resolve.specs.declared.error.CompileError.{CompileError}
 use Rattle.sqlite.specs.Store.{Ghosts}
-use Rattle.sqlite.specs.State.{IsUnchanged, Fails}
+use Rattle.sqlite.specs.State.{IsUnchanged, IsRolledBack, Fails}
 use Rattle.sqlite.specs.Held.{Held, state}
 use Rattle.court_days.specs.Calendar.{Entered}
 use Rattle.court_days.specs.Court.{CourtSettings}
@@ -47,3 +47,14 @@ module _ {S : Type 0} (g : Ghosts S) where
   Next sql params court listed n old new (Err (Store e)) = Fails (state g old) (state g new) ⊥ e ⊎ IsUnchanged (state g old) (state g new)
   Next sql params court listed n old new (Err NoMemory) = IsUnchanged (state g old) (state g new)
   Next sql params court listed n old new (Err Damaged) = ⊥
+
+  -- what a fault of any question leaves of the connection: it is as it was, but where the store failed
+  abbrev pub RemainsAt : Held S → Held S → ReadFault → Type 0
+  RemainsAt old new (Store e) = IsUnchanged (state g old) (state g new) ⊎ IsRolledBack (state g old) (state g new)
+  RemainsAt old new NoMemory = IsUnchanged (state g old) (state g new)
+  RemainsAt old new Damaged = IsUnchanged (state g old) (state g new)
+
+  -- what the next row of any question leaves of the connection
+  abbrev pub RemainsAfter : {X : Type 0} → Held S → Held S → Result X ReadFault → Type 0
+  RemainsAfter old new (Ok x) = IsUnchanged (state g old) (state g new)
+  RemainsAfter old new (Err fault) = RemainsAt old new fault

@@ -12,7 +12,7 @@ use Rattle.docket_tables.specs.declared.fault.ReadFault.{ReadFault}
 use Rattle.docket_tables.specs.declared.fault.ReadFault.TheVariants.{Store, NoMemory, Damaged}
 use Rattle.docket_text.specs.CalendarTexts.{calendar_line, calendar_text, end_line}
 use Rattle.line_io.specs.Output.{HasFront}
-use Rattle.docket_calendar.specs.Asked.{Gave}
+use Rattle.docket_calendar.specs.Asked.{Gave, RemainsAt}
 use Rattle.docket_calendar.specs.declared.stop.Stop.{Stop}
 use Rattle.docket_calendar.specs.declared.stop.Stop.TheVariants.{NotBegun, Broken, WriteFailed}
 
@@ -64,3 +64,14 @@ module _ {S : Type 0} (g : Ghosts S) where
   SendsAll court listed front before after old new (Err (NotBegun fault)) = Appends before after [] × LeavesAt old new fault
   SendsAll court listed front before after old new (Err (Broken fault)) = HasBegun before after (front ++ calendar_text court listed) × LeavesAt old new fault
   SendsAll court listed front before after old new (Err WriteFailed) = HasFront before after (front ++ calendar_text court listed) × IsUnchanged (state g old) (state g new)
+
+  -- what the writing of any question's rows leaves of the connection where it stops
+  abbrev pub RemainsStopped : Held S → Held S → Stop → Type 0
+  RemainsStopped old new (NotBegun fault) = RemainsAt g old new fault
+  RemainsStopped old new (Broken fault) = RemainsAt g old new fault
+  RemainsStopped old new WriteFailed = IsUnchanged (state g old) (state g new)
+
+  -- and wherever it ends
+  abbrev pub Remains : {X : Type 0} → Held S → Held S → Result X Stop → Type 0
+  Remains old new (Ok x) = IsUnchanged (state g old) (state g new)
+  Remains old new (Err stop) = RemainsStopped old new stop

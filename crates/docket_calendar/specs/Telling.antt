@@ -13,7 +13,7 @@ use Rattle.docket_wire.specs.Valid.{IsCommand}
 use Rattle.docket_tables.specs.Contents.{rows_in}
 use Rattle.docket_tables.specs.Layouts.{Rows}
 use Rattle.docket_orderly.specs.Orderly.{IsCourtSettings}
-use Rattle.docket_tables.specs.Readings.{Fails}
+use Rattle.docket_tables.specs.Readings.{Fails, StaysAt}
 use Rattle.docket_tables.specs.Stands.{HoldsRows}
 use Rattle.line_io.specs.Output.{HasFront}
 use Rattle.docket_calendar.specs.Calendar.{calendar_rows, text_of_calendar}
@@ -29,6 +29,13 @@ pub record IsHistoryOf (court : CourtSettings) (h : History) : Type 0 where
 
 abbrev pub history_rows : CourtSettings → History → Rows
 history_rows court h = rows_in court (rows_of court h)
+
+-- what the writing of a calendar leaves of rows, whatever they are: the connection holds them still, but where the store failed it may be shut
+abbrev pub Stays : {S : Type 0} (g : Ghosts S) → Held S → Rows → Result ℕ Stop → Type 0
+Stays g new rows (Ok lines) = HoldsRows g new rows
+Stays g new rows (Err (NotBegun fault)) = StaysAt g new rows fault
+Stays g new rows (Err (Broken fault)) = StaysAt g new rows fault
+Stays g new rows (Err WriteFailed) = HoldsRows g new rows
 
 module _ {S : Type 0} (g : Ghosts S) (court : CourtSettings) (h : History) (from to : ℕ) (front : List ℕ) where
   -- the bytes and the text of the calendar went out whole, with so many lines; or nothing did, or a front of it that is not empty unless

@@ -4,7 +4,7 @@ ghost use Rattle.sqlite.specs.Order.{Row as Cells};
 ghost use Rattle.sqlite.specs.Held.{state};
 ghost use Rattle.sqlite.specs.State.{HasCleanDisk, Survives};
 ghost use Rattle.docket_core.specs.declared.record.DueRow.{DueRow as Due};
-ghost use Rattle.docket_calendar.specs.Asked.{Lists, Gave, Next};
+ghost use Rattle.docket_calendar.specs.Asked.{Lists, Gave, Next, RemainsAfter};
 
 use crate::row::due_of;
 use court_days::{Calendar, Court};
@@ -23,6 +23,7 @@ pub(crate) fn next_due<S: Alter>(
     ensures same_reference { rows.new.conn.ghost_name ≡ rows.old.conn.ghost_name }
     ensures mode { rows.old.conn.now.in_transaction ≡ false → rows.new.conn.now.in_transaction ≡ false }
     ensures survives { Survives (state S.Store rows.old.conn.now) (state S.Store rows.new.conn.now) (λ _. ⊥) }
+    ensures remains { HasCleanDisk (state S.Store rows.new.conn.now) → RemainsAfter S.Store rows.old.conn.now rows.new.conn.now result }
     ensures next { (sql : List ℕ) (params : Cells) (listed : List Due) (n : ℕ)
         → HasCleanDisk (state S.Store rows.new.conn.now)
         → Lists sql params court.now entered.now (state S.Store rows.old.conn.now).now listed

@@ -8,7 +8,7 @@ ghost use Rattle.sqlite.specs.State.{HasCleanDisk, Survives};
 ghost use Rattle.docket_core.specs.declared.record.DueRow.{DueRow as Due};
 ghost use Rattle.line_io.specs.Output.{HasFront};
 ghost use Rattle.docket_calendar.specs.Asked.{Lists, Gave};
-ghost use Rattle.docket_calendar.specs.Sending.{opening, text_at, SendsNext, SendsAll};
+ghost use Rattle.docket_calendar.specs.Sending.{opening, text_at, Remains, SendsNext, SendsAll};
 ghost use Rattle.docket_calendar.specs.Stops.{IsStopAt};
 
 use crate::next::next_due;
@@ -83,6 +83,7 @@ fn send_next<S: Alter, W: Write>(
     ensures same_reference { rows.new.conn.ghost_name ≡ rows.old.conn.ghost_name }
     ensures mode { rows.old.conn.now.in_transaction ≡ false → rows.new.conn.now.in_transaction ≡ false }
     ensures survives { Survives (state S.Store rows.old.conn.now) (state S.Store rows.new.conn.now) (λ _. ⊥) }
+    ensures remains { HasCleanDisk (state S.Store rows.new.conn.now) → Remains S.Store rows.old.conn.now rows.new.conn.now result }
     ensures sends { (sql : List ℕ) (params : Cells) (listed : List Due)
         → HasCleanDisk (state S.Store rows.new.conn.now)
         → Lists sql params court.now entered.now (state S.Store rows.old.conn.now).now listed
@@ -115,6 +116,7 @@ pub(crate) fn send_all<S: Alter, W: Write>(
     ensures same_reference { rows.new.conn.ghost_name ≡ rows.old.conn.ghost_name }
     ensures mode { rows.old.conn.now.in_transaction ≡ false → rows.new.conn.now.in_transaction ≡ false }
     ensures survives { Survives (state S.Store rows.old.conn.now) (state S.Store rows.new.conn.now) (λ _. ⊥) }
+    ensures remains { HasCleanDisk (state S.Store rows.new.conn.now) → IsTrue (state S.Store rows.old.conn.now).is_open → Remains S.Store rows.old.conn.now rows.new.conn.now result }
     ensures sends { (sql : List ℕ) (params : Cells) (listed : List Due)
         → HasCleanDisk (state S.Store rows.new.conn.now)
         → Lists sql params court.now entered.now (state S.Store rows.old.conn.now).now listed

@@ -10,11 +10,12 @@ ghost use Rattle.docket_core.specs.EndRows.{calendar_in};
 ghost use Rattle.docket_core.specs.Histories.{History};
 ghost use Rattle.docket_core.specs.Tables.{rows_of};
 ghost use Rattle.docket_core.specs.declared.record.DueRow.{DueRow as Due};
+ghost use Rattle.docket_tables.specs.Layouts.{Rows};
 ghost use Rattle.docket_tables.specs.Stands.{HoldsRows};
 ghost use Rattle.docket_calendar.specs.Asked.{Lists};
 ghost use Rattle.docket_calendar.specs.Question.{question, days_asked};
-ghost use Rattle.docket_calendar.specs.Sending.{SendsAll};
-ghost use Rattle.docket_calendar.specs.Telling.{IsHistoryOf, Tells, history_rows};
+ghost use Rattle.docket_calendar.specs.Sending.{Remains, SendsAll};
+ghost use Rattle.docket_calendar.specs.Telling.{IsHistoryOf, Stays, Tells, history_rows};
 
 use crate::sending::send_all;
 use crate::stop::Stop;
@@ -47,6 +48,7 @@ fn tell<S: Alter, W: Write>(
     ensures mode { conn.old.in_transaction ≡ false → conn.new.in_transaction ≡ false }
     ensures clean { doubt (state S.Store conn.old).is_clean ≤ doubt (state S.Store conn.new).is_clean }
     ensures survives { IsPlain (understood conn.old.schema sql.now) → Survives (state S.Store conn.old) (state S.Store conn.new) (λ _. ⊥) }
+    ensures remains { IsPlain (understood conn.old.schema sql.now) → HasCleanDisk (state S.Store conn.new) → Remains S.Store conn.old conn.new result }
     ensures sends { (listed : List Due) → HasCleanDisk (state S.Store conn.new)
         → Lists sql.now (bound values.now) court.now entered.now (state S.Store conn.old).now listed
         → SendsAll S.Store court.now listed front.now (W.contents writer.old) (W.contents writer.new) conn.old conn.new result }
@@ -71,6 +73,7 @@ fn tell_days<S: Alter, W: Write>(
     ensures mode { conn.old.in_transaction ≡ false → conn.new.in_transaction ≡ false }
     ensures clean { doubt (state S.Store conn.old).is_clean ≤ doubt (state S.Store conn.new).is_clean }
     ensures survives { IsPlain (understood conn.old.schema question) → Survives (state S.Store conn.old) (state S.Store conn.new) (λ _. ⊥) }
+    ensures remains { IsPlain (understood conn.old.schema question) → HasCleanDisk (state S.Store conn.new) → Remains S.Store conn.old conn.new result }
     ensures sends { (listed : List Due) → HasCleanDisk (state S.Store conn.new)
         → Lists question (days_asked from to) court.now entered.now (state S.Store conn.old).now listed
         → SendsAll S.Store court.now listed front.now (W.contents writer.old) (W.contents writer.new) conn.old conn.new result }
@@ -82,7 +85,8 @@ fn tell_days<S: Alter, W: Write>(
 /// Writes the bytes, then the calendar of the days from one to another, both included, and counts its
 /// lines. `entered` is what the docket's calendar holds: it tells when the clerk's office closes. Each line
 /// is written before the next row is read, and the bytes go out with the first: where there is not even a
-/// first line, nothing does. What went out is all of it, or a front; the tables stay as they are.
+/// first line, nothing does. What went out is all of it, or a front; the tables stay as they are, whatever is in
+/// them.
 pub fn calendar<S: Alter, W: Write>(
     conn: &mut Connection<S>,
     alloc: Global,
@@ -95,6 +99,7 @@ pub fn calendar<S: Alter, W: Write>(
 ) -> Result<u32, Stop>
     ensures mode { conn.old.in_transaction ≡ false → conn.new.in_transaction ≡ false }
     ensures clean { doubt (state S.Store conn.old).is_clean ≤ doubt (state S.Store conn.new).is_clean }
+    ensures stays { (rows : Rows) → HoldsRows S.Store conn.old rows → Stays S.Store conn.new rows result }
     ensures tells { (h : History) → IsHistoryOf court.now h → HoldsRows S.Store conn.old (history_rows court.now h)
         → (HasCleanDisk (state S.Store conn.new) → entered.now ≡ calendar_in (rows_of court.now h))
         → Tells S.Store court.now h from to front.now (W.contents writer.old) (W.contents writer.new) conn.new result }

@@ -1,3 +1,4 @@
+mod AnyLemmas
 mod GatherLemmas
 pub mod HistoryLemmas
 mod RunningLemmas

@@ -53,6 +53,11 @@ abbrev pub MayUpdate : CourtSettings → EndUpdate → Tables → List EndRow �
 MayUpdate court (Moves moves) t ends = Unit {0}
 MayUpdate court (Calendar cases) t ends = IsOrderly court t × ((k : ℕ) → AreStored k ends) × ((k : ℕ) → RunsOnlyWhereStored court t ends k)
 
+-- what may be stored after it, whether or not a history leads to the rows: where it is moves, the ends so moved
+abbrev pub MayLeave : EndUpdate → List EndRow → List EndRow → Type 0
+MayLeave (Moves moves) stored next = next ≡ all_changed_ends moves.items stored
+MayLeave (Calendar cases) stored next = Unit {0}
+
 -- the action changes the calendar
 abbrev pub changes_calendar : Action → Bool
 changes_calendar (DeclareDay a) = true

@@ -9,9 +9,11 @@ ghost use Rattle.docket_core.specs.CalendarItems.{calendar_of};
 ghost use Rattle.docket_core.specs.Histories.{deadlines_of_case, deadlines_from, items_of};
 ghost use Rattle.docket_core.specs.Tables.{Tables};
 ghost use Rattle.docket_core.specs.declared.end_row.EndRow.{EndRow as Ended};
+ghost use Rattle.docket_tables.specs.AnyRows.{with_stored};
 ghost use Rattle.docket_tables.specs.Contents.{AreStored, rows_with};
+ghost use Rattle.docket_tables.specs.Layouts.{Rows};
 ghost use Rattle.docket_orderly.specs.Orderly.{IsOrderly};
-ghost use Rattle.docket_changes.specs.Settling.{RunsOnlyWhereStored, MayUpdate, settled_case, settled_cases, updated_ends};
+ghost use Rattle.docket_changes.specs.Settling.{RunsOnlyWhereStored, MayLeave, MayUpdate, settled_case, settled_cases, updated_ends};
 ghost use Rattle.docket_tables.specs.Stands.{Inside};
 
 use crate::gathering::{items_of, with_acts};
@@ -34,6 +36,7 @@ fn views_of_case<S: Alter>(
     ensures inside { (court : CourtSettings) (t : Tables) (ends : List Ended) → IsOrderly court t
         → Inside (state S.Store tx.old.conn.now) (state S.Store tx.new.conn.now) (rows_with court t ends) (rows_with court t ends) result
         (λ found. found.items ≡ deadlines_from case 1 t.acts (deadlines_of_case case t.deadlines)) }
+    ensures still { (rows : Rows) → Inside (state S.Store tx.old.conn.now) (state S.Store tx.new.conn.now) rows rows result (λ _. Unit {0}) }
 {
     let rows = inside::deadlines_of_case(tx, alloc, case)?;
     let acts = inside::acts_of_case(tx, alloc, case)?;
@@ -71,6 +74,8 @@ fn settle_case<S: Alter>(
     ensures clean { doubt (state S.Store tx.old.conn.now).is_clean ≤ doubt (state S.Store tx.new.conn.now).is_clean }
     ensures inside { (t : Tables) (ends : List Ended) → IsOrderly court.now t → AreStored case ends → RunsOnlyWhereStored court.now t ends case
         → Inside (state S.Store tx.old.conn.now) (state S.Store tx.new.conn.now) (rows_with court.now t ends) (rows_with court.now t (settled_case court.now calendar.now t case ends)) result (λ _. Unit {0}) }
+    ensures any { (stored : List Ended) (rows : Rows) → (next : List Ended)
+        × Inside (state S.Store tx.old.conn.now) (state S.Store tx.new.conn.now) (with_stored stored rows) (with_stored next rows) result (λ _. Unit {0}) }
 {
     let stored = inside::ends_of_case(tx, alloc, case)?;
     if stored.is_empty() {
@@ -100,6 +105,8 @@ fn settle_cases<S: Alter>(
     ensures clean { doubt (state S.Store tx.old.conn.now).is_clean ≤ doubt (state S.Store tx.new.conn.now).is_clean }
     ensures inside { (t : Tables) (ends : List Ended) → IsOrderly court.now t → ((k : ℕ) → AreStored k ends) → ((k : ℕ) → RunsOnlyWhereStored court.now t ends k)
         → Inside (state S.Store tx.old.conn.now) (state S.Store tx.new.conn.now) (rows_with court.now t ends) (rows_with court.now t (settled_cases court.now calendar.now t cases ends)) result (λ _. Unit {0}) }
+    ensures any { (stored : List Ended) (rows : Rows) → (next : List Ended)
+        × Inside (state S.Store tx.old.conn.now) (state S.Store tx.new.conn.now) (with_stored stored rows) (with_stored next rows) result (λ _. Unit {0}) }
 {
     'cases: for done in 0..cases {
         settle_case(tx, alloc, court, calendar, done + 1)?;
@@ -132,6 +139,7 @@ fn calendar_standing<S: Alter>(
     ensures clean { doubt (state S.Store tx.old.conn.now).is_clean ≤ doubt (state S.Store tx.new.conn.now).is_clean }
     ensures inside { (t : Tables) (ends : List Ended) → IsOrderly court.now t
         → Inside (state S.Store tx.old.conn.now) (state S.Store tx.new.conn.now) (rows_with court.now t ends) (rows_with court.now t ends) result (λ calendar. calendar ≡ calendar_in t) }
+    ensures still { (rows : Rows) → Inside (state S.Store tx.old.conn.now) (state S.Store tx.new.conn.now) rows rows result (λ _. Unit {0}) }
 {
     let rows = inside::calendar(tx, alloc)?;
     calendar_of_rows(alloc, court, rows.as_slice())
@@ -148,6 +156,8 @@ fn settle_by_rows<S: Alter>(
     ensures clean { doubt (state S.Store tx.old.conn.now).is_clean ≤ doubt (state S.Store tx.new.conn.now).is_clean }
     ensures inside { (t : Tables) (ends : List Ended) → IsOrderly court.now t → ((k : ℕ) → AreStored k ends) → ((k : ℕ) → RunsOnlyWhereStored court.now t ends k)
         → Inside (state S.Store tx.old.conn.now) (state S.Store tx.new.conn.now) (rows_with court.now t ends) (rows_with court.now t (settled_cases court.now (calendar_in t) t cases ends)) result (λ _. Unit {0}) }
+    ensures any { (stored : List Ended) (rows : Rows) → (next : List Ended)
+        × Inside (state S.Store tx.old.conn.now) (state S.Store tx.new.conn.now) (with_stored stored rows) (with_stored next rows) result (λ _. Unit {0}) }
 {
     let calendar = calendar_standing(tx, alloc, court)?;
     settle_cases(tx, alloc, court, &calendar, cases)
@@ -164,6 +174,8 @@ pub(crate) fn update_ends<S: Alter>(
     ensures clean { doubt (state S.Store tx.old.conn.now).is_clean ≤ doubt (state S.Store tx.new.conn.now).is_clean }
     ensures inside { (t : Tables) (ends : List Ended) → MayUpdate court.now update.now t ends
         → Inside (state S.Store tx.old.conn.now) (state S.Store tx.new.conn.now) (rows_with court.now t ends) (rows_with court.now t (updated_ends court.now update.now t ends)) result (λ _. Unit {0}) }
+    ensures any { (stored : List Ended) (rows : Rows) → (next : List Ended) × MayLeave update.now stored next
+        × Inside (state S.Store tx.old.conn.now) (state S.Store tx.new.conn.now) (with_stored stored rows) (with_stored next rows) result (λ _. Unit {0}) }
 {
     match update {
         EndUpdate::Moves(moves) => change_ends(tx, moves.as_slice()),

@@ -3,7 +3,9 @@ ghost use Rattle.std.specs.Prelude.{◌≡◌, ◌≤◌, false, Some};
 ghost use Rattle.sqlite.specs.Held.{state};
 ghost use Rattle.sqlite.specs.View.{doubt};
 ghost use Rattle.docket_core.specs.Records.{case_at, record_of};
-ghost use Rattle.docket_tables.specs.Readings.{Reads};
+ghost use Rattle.docket_tables.specs.Layouts.{Rows};
+ghost use Rattle.docket_tables.specs.Readings.{Reads, Stays};
+ghost use Rattle.docket_tables.specs.Stands.{HoldsRows};
 
 use docket_core::{CaseRecord, CaseRow, EntryRows, PartyRows};
 use docket_tables::{ReadFault, case, entries, parties};
@@ -17,6 +19,7 @@ fn record_of<S: Alter>(
     row: CaseRow,
 ) -> Result<CaseRecord, ReadFault>
     ensures read { Reads S.Store conn.old conn.new result (λ _ t found. Some found ≡ record_of t.parties t.entries (Some row)) }
+    ensures stays { (rows : Rows) → HoldsRows S.Store conn.old rows → Stays S.Store conn.new rows result }
     ensures clean { doubt (state S.Store conn.old).is_clean ≤ doubt (state S.Store conn.new).is_clean }
     ensures mode { conn.old.in_transaction ≡ false → conn.new.in_transaction ≡ false }
 {
@@ -39,6 +42,7 @@ pub fn case_record<S: Alter>(
     number: u32,
 ) -> Result<Option<CaseRecord>, ReadFault>
     ensures read { Reads S.Store conn.old conn.new result (λ _ t found. found ≡ record_of t.parties t.entries (case_at t.cases number)) }
+    ensures stays { (rows : Rows) → HoldsRows S.Store conn.old rows → Stays S.Store conn.new rows result }
     ensures clean { doubt (state S.Store conn.old).is_clean ≤ doubt (state S.Store conn.new).is_clean }
     ensures mode { conn.old.in_transaction ≡ false → conn.new.in_transaction ≡ false }
 {

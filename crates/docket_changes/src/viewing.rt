@@ -10,7 +10,9 @@ ghost use Rattle.docket_core.specs.Tables.{case_in, case_deadlines, deadlines_in
 ghost use Rattle.docket_core.specs.Views.{deadline_at, deadline_of, is_served_among};
 ghost use Rattle.docket_wire.specs.Valid.{IsCommand};
 ghost use Rattle.docket_wire.specs.Writing.{canonical};
-ghost use Rattle.docket_tables.specs.Readings.{Reads};
+ghost use Rattle.docket_tables.specs.Layouts.{Rows};
+ghost use Rattle.docket_tables.specs.Readings.{Reads, Stays};
+ghost use Rattle.docket_tables.specs.Stands.{HoldsRows};
 
 use crate::gathering::{items_of, with_acts};
 use docket_command::{Action, Command};
@@ -28,6 +30,7 @@ use std::alloc::Global;
 /// How many cases there are, if the action asks.
 fn cases_if_asked<S: Alter>(conn: &mut Connection<S>, action: &Action) -> Result<u32, ReadFault>
     ensures read { Reads S.Store conn.old conn.new result (λ _ t found. found ≡ if_asked (asks_cases action.now) (length t.cases)) }
+    ensures stays { (rows : Rows) → HoldsRows S.Store conn.old rows → Stays S.Store conn.new rows result }
     ensures clean { doubt (state S.Store conn.old).is_clean ≤ doubt (state S.Store conn.new).is_clean }
     ensures mode { conn.old.in_transaction ≡ false → conn.new.in_transaction ≡ false }
 {
@@ -44,6 +47,7 @@ fn next_row_if_asked<S: Alter>(
     action: &Action,
 ) -> Result<u64, ReadFault>
     ensures read { Reads S.Store conn.old conn.new result (λ _ t found. found ≡ if_asked (asks_next_row action.now) t.next_row) }
+    ensures stays { (rows : Rows) → HoldsRows S.Store conn.old rows → Stays S.Store conn.new rows result }
     ensures clean { doubt (state S.Store conn.old).is_clean ≤ doubt (state S.Store conn.new).is_clean }
     ensures mode { conn.old.in_transaction ≡ false → conn.new.in_transaction ≡ false }
 {
@@ -59,6 +63,7 @@ fn is_asked_label_taken<S: Alter>(
     action: &Action,
 ) -> Result<bool, ReadFault>
     ensures read { Reads S.Store conn.old conn.new result (λ _ t found. found ≡ is_label_taken action.now t.cases) }
+    ensures stays { (rows : Rows) → HoldsRows S.Store conn.old rows → Stays S.Store conn.new rows result }
     ensures clean { doubt (state S.Store conn.old).is_clean ≤ doubt (state S.Store conn.new).is_clean }
     ensures mode { conn.old.in_transaction ≡ false → conn.new.in_transaction ≡ false }
 {
@@ -73,6 +78,7 @@ fn is_asked_row_standing<S: Alter>(
     action: &Action,
 ) -> Result<bool, ReadFault>
     ensures read { Reads S.Store conn.old conn.new result (λ _ t found. found ≡ is_row_standing action.now t.calendar) }
+    ensures stays { (rows : Rows) → HoldsRows S.Store conn.old rows → Stays S.Store conn.new rows result }
     ensures clean { doubt (state S.Store conn.old).is_clean ≤ doubt (state S.Store conn.new).is_clean }
     ensures mode { conn.old.in_transaction ≡ false → conn.new.in_transaction ≡ false }
 {
@@ -88,6 +94,7 @@ pub fn calendar_items<S: Alter>(
     alloc: Global,
 ) -> Result<CalendarItems, ReadFault>
     ensures read { Reads S.Store conn.old conn.new result (λ _ t found. found ≡ items_of t.calendar) }
+    ensures stays { (rows : Rows) → HoldsRows S.Store conn.old rows → Stays S.Store conn.new rows result }
     ensures clean { doubt (state S.Store conn.old).is_clean ≤ doubt (state S.Store conn.new).is_clean }
     ensures mode { conn.old.in_transaction ≡ false → conn.new.in_transaction ≡ false }
 {
@@ -102,6 +109,7 @@ fn deadline_views<S: Alter>(
     case: u32,
 ) -> Result<Vec<DeadlineView>, ReadFault>
     ensures read { Reads S.Store conn.old conn.new result (λ _ t found. found.items ≡ deadlines_from case 1 t.acts (deadlines_of_case case t.deadlines)) }
+    ensures stays { (rows : Rows) → HoldsRows S.Store conn.old rows → Stays S.Store conn.new rows result }
     ensures clean { doubt (state S.Store conn.old).is_clean ≤ doubt (state S.Store conn.new).is_clean }
     ensures mode { conn.old.in_transaction ≡ false → conn.new.in_transaction ≡ false }
 {
@@ -124,6 +132,7 @@ fn deadline_view<S: Alter>(
     number: u32,
 ) -> Result<Option<DeadlineView>, ReadFault>
     ensures read { Reads S.Store conn.old conn.new result (λ _ t found. found ≡ deadline_at (deadlines_in t case) number) }
+    ensures stays { (rows : Rows) → HoldsRows S.Store conn.old rows → Stays S.Store conn.new rows result }
     ensures clean { doubt (state S.Store conn.old).is_clean ≤ doubt (state S.Store conn.new).is_clean }
     ensures mode { conn.old.in_transaction ≡ false → conn.new.in_transaction ≡ false }
 {
@@ -147,6 +156,7 @@ fn deadline_asked<S: Alter>(
     action: &Action,
 ) -> Result<Option<DeadlineView>, ReadFault>
     ensures read { Reads S.Store conn.old conn.new result (λ _ t found. found ≡ deadline_of (deadlines_in t case) action.now) }
+    ensures stays { (rows : Rows) → HoldsRows S.Store conn.old rows → Stays S.Store conn.new rows result }
     ensures clean { doubt (state S.Store conn.old).is_clean ≤ doubt (state S.Store conn.new).is_clean }
     ensures mode { conn.old.in_transaction ≡ false → conn.new.in_transaction ≡ false }
 {
@@ -163,6 +173,7 @@ fn parties_if_asked<S: Alter>(
     action: &Action,
 ) -> Result<u32, ReadFault>
     ensures read { Reads S.Store conn.old conn.new result (λ _ t found. found ≡ if_asked (asks_parties action.now) (length (parties_of_case case t.parties))) }
+    ensures stays { (rows : Rows) → HoldsRows S.Store conn.old rows → Stays S.Store conn.new rows result }
     ensures clean { doubt (state S.Store conn.old).is_clean ≤ doubt (state S.Store conn.new).is_clean }
     ensures mode { conn.old.in_transaction ≡ false → conn.new.in_transaction ≡ false }
 {
@@ -179,6 +190,7 @@ fn entries_if_asked<S: Alter>(
     action: &Action,
 ) -> Result<u32, ReadFault>
     ensures read { Reads S.Store conn.old conn.new result (λ _ t found. found ≡ if_asked (asks_entries action.now) (length (entries_of_case case t.entries))) }
+    ensures stays { (rows : Rows) → HoldsRows S.Store conn.old rows → Stays S.Store conn.new rows result }
     ensures clean { doubt (state S.Store conn.old).is_clean ≤ doubt (state S.Store conn.new).is_clean }
     ensures mode { conn.old.in_transaction ≡ false → conn.new.in_transaction ≡ false }
 {
@@ -195,6 +207,7 @@ fn deadlines_if_asked<S: Alter>(
     action: &Action,
 ) -> Result<u32, ReadFault>
     ensures read { Reads S.Store conn.old conn.new result (λ _ t found. found ≡ if_asked (asks_deadlines action.now) (length (deadlines_of_case case t.deadlines))) }
+    ensures stays { (rows : Rows) → HoldsRows S.Store conn.old rows → Stays S.Store conn.new rows result }
     ensures clean { doubt (state S.Store conn.old).is_clean ≤ doubt (state S.Store conn.new).is_clean }
     ensures mode { conn.old.in_transaction ≡ false → conn.new.in_transaction ≡ false }
 {
@@ -213,6 +226,7 @@ fn is_served<S: Alter>(
     action: &Action,
 ) -> Result<bool, ReadFault>
     ensures read { Reads S.Store conn.old conn.new result (λ _ t found. found ≡ is_served_among (deadlines_in t case) action.now) }
+    ensures stays { (rows : Rows) → HoldsRows S.Store conn.old rows → Stays S.Store conn.new rows result }
     ensures clean { doubt (state S.Store conn.old).is_clean ≤ doubt (state S.Store conn.new).is_clean }
     ensures mode { conn.old.in_transaction ≡ false → conn.new.in_transaction ≡ false }
 {
@@ -232,6 +246,7 @@ fn case_view<S: Alter>(
     action: &Action,
 ) -> Result<Option<CaseView>, ReadFault>
     ensures read { Reads S.Store conn.old conn.new result (λ _ t found. found ≡ case_in t action.now number) }
+    ensures stays { (rows : Rows) → HoldsRows S.Store conn.old rows → Stays S.Store conn.new rows result }
     ensures clean { doubt (state S.Store conn.old).is_clean ≤ doubt (state S.Store conn.new).is_clean }
     ensures mode { conn.old.in_transaction ≡ false → conn.new.in_transaction ≡ false }
 {
@@ -260,6 +275,7 @@ fn case_asked<S: Alter>(
     action: &Action,
 ) -> Result<Option<CaseView>, ReadFault>
     ensures read { Reads S.Store conn.old conn.new result (λ _ t found. found ≡ option_and_then (case_in t action.now) (case_named action.now)) }
+    ensures stays { (rows : Rows) → HoldsRows S.Store conn.old rows → Stays S.Store conn.new rows result }
     ensures clean { doubt (state S.Store conn.old).is_clean ≤ doubt (state S.Store conn.new).is_clean }
     ensures mode { conn.old.in_transaction ≡ false → conn.new.in_transaction ≡ false }
 {
@@ -276,6 +292,7 @@ pub fn case_deadlines<S: Alter>(
     number: u32,
 ) -> Result<Option<Vec<DeadlineView>>, ReadFault>
     ensures read { Reads S.Store conn.old conn.new result (λ _ t found. option_map (λ deadlines. deadlines.items) found ≡ case_deadlines t number) }
+    ensures stays { (rows : Rows) → HoldsRows S.Store conn.old rows → Stays S.Store conn.new rows result }
     ensures clean { doubt (state S.Store conn.old).is_clean ≤ doubt (state S.Store conn.new).is_clean }
     ensures mode { conn.old.in_transaction ≡ false → conn.new.in_transaction ≡ false }
 {
@@ -298,6 +315,7 @@ pub fn view<S: Alter>(
     requires body { body.now ≡ canonical command.now }
     requires lawful { IsCommand command.now }
     ensures read { Reads S.Store conn.old conn.new result (λ _ t found. found ≡ record (view_in t command.now) { calendar = calendar }) }
+    ensures stays { (rows : Rows) → HoldsRows S.Store conn.old rows → Stays S.Store conn.new rows result }
     ensures clean { doubt (state S.Store conn.old).is_clean ≤ doubt (state S.Store conn.new).is_clean }
     ensures mode { conn.old.in_transaction ≡ false → conn.new.in_transaction ≡ false }
 {

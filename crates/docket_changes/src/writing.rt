@@ -1,14 +1,16 @@
 //! All that a command changes, in one transaction.
-ghost use Rattle.std.specs.Prelude.{◌≡◌, ◌<◌, ◌≤◌, ◌+◌, ◌^◌, List, length, false, MatchResult};
+ghost use Rattle.std.specs.Prelude.{◌≡◌, ◌<◌, ◌≤◌, ◌+◌, ◌^◌, ℕ, List, length, false, MatchResult};
 ghost use Rattle.docket_core.specs.Tables.{Tables, all_changed, with_receipt};
 ghost use Rattle.docket_wire.specs.Writing.{canonical};
 ghost use Rattle.sqlite.specs.Held.{state};
 ghost use Rattle.sqlite.specs.State.{HasCleanDisk};
 ghost use Rattle.sqlite.specs.View.{doubt};
 ghost use Rattle.docket_core.specs.declared.end_row.EndRow.{EndRow as Ended};
+ghost use Rattle.docket_tables.specs.AnyRows.{AreDocketRows, recorded, with_stored};
 ghost use Rattle.docket_tables.specs.Contents.{rows_in, rows_with};
+ghost use Rattle.docket_tables.specs.Layouts.{Rows};
 ghost use Rattle.docket_tables.specs.Stands.{HoldsRows, Inside, LastsAsEither};
-ghost use Rattle.docket_changes.specs.Settling.{IsUpdate, MayUpdate, updated_ends};
+ghost use Rattle.docket_changes.specs.Settling.{IsUpdate, MayLeave, MayUpdate, updated_ends};
 
 use crate::moving::EndUpdate;
 use crate::settling::update_ends;
@@ -46,6 +48,9 @@ fn fill<S: Alter>(
         → MayUpdate court.now update.now (with_receipt command.now changes.now.reply (all_changed changes.now.rows.items t)) ends
         → Inside (state S.Store tx.old.conn.now) (state S.Store tx.new.conn.now) (rows_with court.now t ends)
         (rows_with court.now (with_receipt command.now changes.now.reply (all_changed changes.now.rows.items t)) (updated_ends court.now update.now (with_receipt command.now changes.now.reply (all_changed changes.now.rows.items t)) ends)) result (λ _. Unit {0}) }
+    ensures any { (n : ℕ) (stored : List Ended) (rows : Rows) → AreDocketRows court.now n stored rows → n + length changes.now.rows.items < 2 ^ 63
+        → (next : List Ended) × MayLeave update.now stored next
+        × Inside (state S.Store tx.old.conn.now) (state S.Store tx.new.conn.now) rows (with_stored next (recorded court.now n command.now changes.now.reply changes.now.rows.items rows)) result (λ _. Unit {0}) }
 {
     record(tx, command, body, changes)?;
     match update_ends(tx, alloc, court, update) {
@@ -75,6 +80,11 @@ pub fn write<S: Alter>(
         → (HasCleanDisk (state S.Store conn.old) → IsUpdate court.now update.now t (with_receipt command.now changes.now.reply (all_changed changes.now.rows.items t)))
         → MatchResult result (λ _. HoldsRows S.Store conn.new (rows_in court.now (with_receipt command.now changes.now.reply (all_changed changes.now.rows.items t))))
         (λ _. LastsAsEither S.Store conn.new (rows_in court.now t) (rows_in court.now (with_receipt command.now changes.now.reply (all_changed changes.now.rows.items t)))) }
+    // Whether or not a history leads to the rows: all changes of the command, its receipt, and some ends.
+    ensures any { (n : ℕ) (stored : List Ended) (rows : Rows) → AreDocketRows court.now n stored rows → n + length changes.now.rows.items < 2 ^ 63 → HoldsRows S.Store conn.old rows
+        → (next : List Ended) × MayLeave update.now stored next
+        × MatchResult result (λ _. HoldsRows S.Store conn.new (with_stored next (recorded court.now n command.now changes.now.reply changes.now.rows.items rows)))
+        (λ _. LastsAsEither S.Store conn.new rows (with_stored next (recorded court.now n command.now changes.now.reply changes.now.rows.items rows))) }
 {
     let mut tx = conn.transaction();
     fill(&mut tx, alloc, court, update, command, body, changes)?;

@@ -4,6 +4,7 @@ ghost use Rattle.sqlite.specs.Held.{state};
 ghost use Rattle.sqlite.specs.State.{HasCleanDisk};
 ghost use Rattle.sqlite.specs.View.{doubt};
 ghost use Rattle.docket_core.specs.Histories.{History};
+ghost use Rattle.docket_store.specs.AnyRows.{WritesAtMostOne};
 ghost use Rattle.docket_store.specs.Applying.{Stands};
 ghost use Rattle.http_request.specs.Request.{body_of};
 ghost use Rattle.http_request.specs.Wish.{IsWithinLimits};
@@ -31,6 +32,7 @@ fn reply_to<S: Alter>(
     requires within { request.now.start ≤ request.now.end × request.now.end ≤ vec_len request.now.came }
     ensures court { docket.new.court ≡ docket.old.court }
     ensures clean { doubt (state S.Store docket.old.conn).is_clean ≤ doubt (state S.Store docket.new.conn).is_clean }
+    ensures any { WritesAtMostOne S.Store docket.old docket.new }
     ensures closed { docket.old.closed ≡ true → (docket.new ≡ docket.old)
         × RepliesClosed request.now.wish (body_of request.now) result }
     ensures replies { (h : History) → Stands S.Store docket.old h
@@ -56,6 +58,7 @@ pub(crate) fn reply_of<S: Alter>(alloc: Global, docket: &mut Docket<S>, request:
     requires within { request.now.start ≤ request.now.end × request.now.end ≤ vec_len request.now.came }
     ensures court { docket.new.court ≡ docket.old.court }
     ensures clean { doubt (state S.Store docket.old.conn).is_clean ≤ doubt (state S.Store docket.new.conn).is_clean }
+    ensures any { WritesAtMostOne S.Store docket.old docket.new }
     ensures closed { docket.old.closed ≡ true → (docket.new ≡ docket.old)
         × IsClosedReply request.now.wish (body_of request.now) result }
     ensures answered { (h : History) → Stands S.Store docket.old h → HasCleanDisk (state S.Store docket.new.conn)

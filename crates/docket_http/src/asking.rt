@@ -6,6 +6,9 @@ ghost use Rattle.sqlite.specs.State.{HasCleanDisk};
 ghost use Rattle.sqlite.specs.View.{doubt};
 ghost use Rattle.docket_core.specs.Histories.{History};
 ghost use Rattle.docket_core.specs.Records.{case_record};
+ghost use Rattle.docket_tables.specs.Layouts.{Rows};
+ghost use Rattle.docket_tables.specs.Stands.{HoldsRows};
+ghost use Rattle.docket_store.specs.AnyRows.{Preserves};
 ghost use Rattle.docket_store.specs.Applying.{Stands};
 ghost use Rattle.docket_store.specs.declared.fault.Fault.TheVariants as fault;
 ghost use Rattle.docket_text.specs.CaseTexts.{case_text as text_of_case, deadlines_text as text_of_deadlines};
@@ -61,6 +64,7 @@ fn found_reply<S: Alter>(
 ) -> Result<Reply, Fault>
     ensures court { docket.new.court ≡ docket.old.court }
     ensures clean { doubt (state S.Store docket.old.conn).is_clean ≤ doubt (state S.Store docket.new.conn).is_clean }
+    ensures stays { (rows : Rows) → HoldsRows S.Store docket.old.conn rows → Preserves S.Store docket.new.conn rows result }
     ensures closed { docket.old.closed ≡ true → (result ≡ Err fault.Closed) × (docket.new ≡ docket.old) }
     ensures replies { (h : History) (body : List ℕ) → Stands S.Store docket.old h
         → (HasCleanDisk (state S.Store docket.old.conn) → Some case.now ≡ case_record h number)
@@ -80,6 +84,7 @@ pub(crate) fn case_reply<S: Alter>(
 ) -> Result<Reply, Fault>
     ensures court { docket.new.court ≡ docket.old.court }
     ensures clean { doubt (state S.Store docket.old.conn).is_clean ≤ doubt (state S.Store docket.new.conn).is_clean }
+    ensures stays { (rows : Rows) → HoldsRows S.Store docket.old.conn rows → Preserves S.Store docket.new.conn rows result }
     ensures closed { docket.old.closed ≡ true → (result ≡ Err fault.Closed) × (docket.new ≡ docket.old) }
     ensures replies { (h : History) (body : List ℕ) → Stands S.Store docket.old h
         → Replies S.Store docket.new h (Case number) body result }
@@ -98,6 +103,7 @@ pub(crate) fn deadlines_reply<S: Alter>(
 ) -> Result<Reply, Fault>
     ensures court { docket.new.court ≡ docket.old.court }
     ensures clean { doubt (state S.Store docket.old.conn).is_clean ≤ doubt (state S.Store docket.new.conn).is_clean }
+    ensures stays { (rows : Rows) → HoldsRows S.Store docket.old.conn rows → Preserves S.Store docket.new.conn rows result }
     ensures closed { docket.old.closed ≡ true → (result ≡ Err fault.Closed) × (docket.new ≡ docket.old) }
     ensures replies { (h : History) (body : List ℕ) → Stands S.Store docket.old h
         → Replies S.Store docket.new h (Deadlines number) body result }

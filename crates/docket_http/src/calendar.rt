@@ -4,6 +4,8 @@ ghost use Rattle.sqlite.specs.Held.{state};
 ghost use Rattle.sqlite.specs.State.{HasCleanDisk};
 ghost use Rattle.sqlite.specs.View.{doubt};
 ghost use Rattle.docket_core.specs.Histories.{History};
+ghost use Rattle.docket_tables.specs.Layouts.{Rows};
+ghost use Rattle.docket_tables.specs.Stands.{HoldsRows, Lasts};
 ghost use Rattle.docket_store.specs.Applying.{Stands};
 ghost use Rattle.http_request.specs.declared.wish.Wish.TheVariants.{Calendar};
 ghost use Rattle.docket_http.specs.Answer.{problem_response};
@@ -41,6 +43,7 @@ pub(crate) fn serve_calendar<W: Write, S: Alter>(
 ) -> Result<Served, ServeFault>
     ensures court { docket.new.court ≡ docket.old.court }
     ensures clean { doubt (state S.Store docket.old.conn).is_clean ≤ doubt (state S.Store docket.new.conn).is_clean }
+    ensures stays { (rows : Rows) → HoldsRows S.Store docket.old.conn rows → Lasts S.Store docket.new.conn rows }
     ensures closed { docket.old.closed ≡ true → (docket.new ≡ docket.old)
         × Sends (problem_response Closed) (W.contents writer.old) (W.contents writer.new) result }
     ensures served { IfOk result (λ served. (h : History) (body : List ℕ) → Stands S.Store docket.old h

@@ -3,6 +3,7 @@ ghost use Rattle.std.specs.Prelude.{◌≡◌, ◌≤◌, ℕ, List, IfOk, IfErr
 ghost use Rattle.sqlite.specs.Held.{state};
 ghost use Rattle.sqlite.specs.View.{doubt};
 ghost use Rattle.docket_core.specs.Histories.{History};
+ghost use Rattle.docket_store.specs.AnyRows.{WritesAtMostOne};
 ghost use Rattle.docket_store.specs.Applying.{Stands};
 ghost use Rattle.http_request.specs.declared.wish.Wish.TheVariants.{Command as CommandWish};
 ghost use Rattle.docket_store.specs.declared.fault.Fault.TheVariants as fault;
@@ -37,6 +38,7 @@ fn applied_reply<S: Alter>(
 ) -> Result<Reply, Fault>
     ensures court { docket.new.court ≡ docket.old.court }
     ensures clean { doubt (state S.Store docket.old.conn).is_clean ≤ doubt (state S.Store docket.new.conn).is_clean }
+    ensures any { WritesAtMostOne S.Store docket.old docket.new }
     ensures closed { docket.old.closed ≡ true → (result ≡ Err fault.Closed) × (docket.new ≡ docket.old) }
     ensures replies { (h : History) (len : ℕ) (body : List ℕ) → Stands S.Store docket.old h → command_in body ≡ Ok command.now
         → Replies S.Store docket.new h (CommandWish len) body result }
@@ -74,6 +76,7 @@ pub(crate) fn command_reply<S: Alter>(
 ) -> Result<Reply, Fault>
     ensures court { docket.new.court ≡ docket.old.court }
     ensures clean { doubt (state S.Store docket.old.conn).is_clean ≤ doubt (state S.Store docket.new.conn).is_clean }
+    ensures any { WritesAtMostOne S.Store docket.old docket.new }
     ensures closed { docket.old.closed ≡ true → (docket.new ≡ docket.old)
         × ((len : ℕ) → RepliesClosed (CommandWish len) body.now result) }
     ensures replies { (h : History) (len : ℕ) → Stands S.Store docket.old h

@@ -5,6 +5,7 @@ ghost use Rattle.sqlite.specs.Held.{state};
 ghost use Rattle.sqlite.specs.State.{HasCleanDisk};
 ghost use Rattle.sqlite.specs.View.{doubt};
 ghost use Rattle.docket_core.specs.Histories.{History};
+ghost use Rattle.docket_store.specs.AnyRows.{WritesAtMostOne};
 ghost use Rattle.docket_store.specs.Applying.{Stands};
 ghost use Rattle.http_request.specs.Request.{body_of};
 ghost use Rattle.http_request.specs.Wish.{IsWithinLimits};
@@ -47,6 +48,7 @@ fn serve_request<W: Write, S: Alter>(
     requires within { request.now.start ≤ request.now.end × request.now.end ≤ vec_len request.now.came }
     ensures court { docket.new.court ≡ docket.old.court }
     ensures clean { doubt (state S.Store docket.old.conn).is_clean ≤ doubt (state S.Store docket.new.conn).is_clean }
+    ensures any { WritesAtMostOne S.Store docket.old docket.new }
     ensures closed { docket.old.closed ≡ true → (docket.new ≡ docket.old)
         × SendsClosed request.now.wish (body_of request.now) (W.contents writer.old) (W.contents writer.new) result }
     ensures served { IfOk result (λ served. (h : History) → Stands S.Store docket.old h
@@ -77,6 +79,7 @@ pub fn serve_one<R: Read, W: Write, S: Alter>(
 ) -> Result<Served, ServeFault>
     ensures court { docket.new.court ≡ docket.old.court }
     ensures clean { doubt (state S.Store docket.old.conn).is_clean ≤ doubt (state S.Store docket.new.conn).is_clean }
+    ensures any { WritesAtMostOne S.Store docket.old docket.new }
     ensures closed { docket.old.closed ≡ true → (docket.new ≡ docket.old)
         × ServesClosed (R.remaining reader.old) (W.contents writer.old) (W.contents writer.new) result }
     ensures served { IfOk result (λ served. (h : History) → Stands S.Store docket.old h

@@ -1,3 +1,4 @@
+pub mod AnyLemmas
 mod AgainLemmas
 mod ApplyLemmas
 mod AskLemmas

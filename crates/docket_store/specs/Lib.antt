@@ -1,3 +1,4 @@
+pub mod AnyRows
 pub mod Applying
 pub mod Dockets
 pub mod Listing

@@ -1,14 +1,16 @@
 //! The docket that a database holds.
 ghost use Rattle.std.specs.Prelude.{◌≡◌, ◌⊎◌, ◌≤◌, Err, OnOk, IsErrAnd, false};
 ghost use Rattle.sqlite.specs.Held.{state};
+ghost use Rattle.sqlite.specs.State.{Survives};
 ghost use Rattle.sqlite.specs.View.{doubt};
 ghost use Rattle.court_days.specs.Court.{CourtSettings};
 ghost use Rattle.docket_core.specs.Histories.{History};
 ghost use Rattle.docket_scan.specs.Shapes.{has_named};
 ghost use Rattle.docket_scan.specs.declared.fault.AdoptFault.TheVariants.{Empty, NoMemory, StoreFailed};
 ghost use Rattle.docket_tables.specs.Layouts.{Rows};
-ghost use Rattle.docket_tables.specs.Stands.{Lasts};
+ghost use Rattle.docket_tables.specs.Stands.{HoldsRows, Lasts};
 ghost use Rattle.docket_tables.specs.declared.table.Table.TheVariants as table;
+ghost use Rattle.docket_store.specs.AnyRows.{PreservesJudged};
 ghost use Rattle.docket_store.specs.Applying.{IsDocket, StandsFor};
 ghost use Rattle.docket_store.specs.Opening.{Finds, IsNotAdopted, IsToldOf};
 
@@ -22,6 +24,7 @@ use std::alloc::Global;
 fn want_of_memory<S: Alter>(conn: &mut Connection<S>) -> AdoptFault
     requires { conn.old.in_transaction ≡ false }
     ensures clean { doubt (state S.Store conn.old).is_clean ≤ doubt (state S.Store conn.new).is_clean }
+    ensures writes_nothing { Survives (state S.Store conn.old) (state S.Store conn.new) (λ _. ⊥) }
     ensures left { (rows : Rows) → Lasts S.Store conn.old rows → IsNotAdopted S.Store conn.new rows result }
     ensures fault { (result ≡ NoMemory) ⊎ (result ≡ StoreFailed) }
 {
@@ -40,6 +43,8 @@ fn judged_docket<S: Alter, W: Watch>(
     requires { conn.old.in_transaction ≡ false }
     ensures idle { OnOk result (conn.new.in_transaction ≡ false) }
     ensures clean { doubt (state S.Store conn.old).is_clean ≤ doubt (state S.Store conn.new).is_clean }
+    ensures writes_nothing { Survives (state S.Store conn.old) (state S.Store conn.new) (λ _. ⊥) }
+    ensures stays { (rows : Rows) → HoldsRows S.Store conn.old rows → PreservesJudged S.Store conn.new rows result }
     ensures found { (court : CourtSettings) (h : History) → IsDocket court h → StandsFor S.Store conn.old court h
         → Finds S.Store conn.new court h result }
     ensures told { IsToldOf S.Store conn.old conn.new result }
@@ -52,6 +57,7 @@ fn judged_docket<S: Alter, W: Watch>(
 }
 
 /// The docket that a database holds, whatever database it is. The faults are looked for in their order.
+/// Nothing is written.
 pub(crate) fn adopt_from<S: Alter, W: Watch>(
     conn: &mut Connection<S>,
     alloc: Global,
@@ -59,6 +65,8 @@ pub(crate) fn adopt_from<S: Alter, W: Watch>(
 ) -> Result<FoundDocket, AdoptFault>
     ensures idle { OnOk result (conn.new.in_transaction ≡ false) }
     ensures clean { doubt (state S.Store conn.old).is_clean ≤ doubt (state S.Store conn.new).is_clean }
+    ensures writes_nothing { Survives (state S.Store conn.old) (state S.Store conn.new) (λ _. ⊥) }
+    ensures stays { (rows : Rows) → HoldsRows S.Store conn.old rows → PreservesJudged S.Store conn.new rows result }
     ensures found { (court : CourtSettings) (h : History) → IsDocket court h → StandsFor S.Store conn.old court h
         → Finds S.Store conn.new court h result }
     ensures told { IsToldOf S.Store conn.old conn.new result }

@@ -1,5 +1,5 @@
 //! One command, in one transaction.
-ghost use Rattle.std.specs.Prelude.{◌≡◌, ◌≤◌, ◌<◌, ◌^◌, ◌∷◌, List, Option, length, false};
+ghost use Rattle.std.specs.Prelude.{◌≡◌, ◌≤◌, ◌<◌, ◌^◌, ◌∷◌, ℕ, List, Option, length, false};
 ghost use Rattle.sqlite.specs.Held.{state};
 ghost use Rattle.sqlite.specs.State.{HasCleanDisk};
 ghost use Rattle.sqlite.specs.View.{doubt};
@@ -12,6 +12,11 @@ ghost use Rattle.docket_changes.specs.Settling.{IsUpdate, changes_calendar};
 ghost use Rattle.docket_changes.specs.declared.moving.EndUpdate.TheVariants as update;
 ghost use Rattle.docket_wire.specs.Valid.{IsCommand};
 ghost use Rattle.docket_wire.specs.Writing.{canonical};
+ghost use Rattle.docket_core.specs.declared.end_row.EndRow.{EndRow as Ended};
+ghost use Rattle.docket_tables.specs.AnyRows.{AreDocketRows};
+ghost use Rattle.docket_tables.specs.Layouts.{Rows};
+ghost use Rattle.docket_tables.specs.Stands.{HoldsRows};
+ghost use Rattle.docket_store.specs.AnyRows.{Preserves, WritesWhole};
 ghost use Rattle.docket_store.specs.Applying.{IsDocket, StandsFor, Keeps, Stands, IsAccepted, AreNamed, Applies, Asks};
 ghost use Rattle.docket_store.specs.Dockets.{serving};
 
@@ -52,6 +57,7 @@ fn calendar_update<S: Alter>(conn: &mut Connection<S>) -> Result<EndUpdate, Faul
     requires { conn.old.in_transaction ≡ false }
     ensures idle { conn.new.in_transaction ≡ false }
     ensures clean { doubt (state S.Store conn.old).is_clean ≤ doubt (state S.Store conn.new).is_clean }
+    ensures stays { (rows : Rows) → HoldsRows S.Store conn.old rows → Preserves S.Store conn.new rows result }
     ensures update { (court : CourtSettings) (kept : Option (List Item)) (h : History) → Stands S.Store (serving conn.old court kept) h
         → Asks S.Store (serving conn.new court kept) h (λ found. found ≡ update.Calendar (length (case_rows h))) result }
 {
@@ -75,6 +81,7 @@ fn case_update<S: Alter>(
     requires calm { changes_calendar command.now.action ≡ false }
     ensures idle { conn.new.in_transaction ≡ false }
     ensures clean { doubt (state S.Store conn.old).is_clean ≤ doubt (state S.Store conn.new).is_clean }
+    ensures stays { (rows : Rows) → HoldsRows S.Store conn.old rows → Preserves S.Store conn.new rows result }
     ensures update { (h : History) → Stands S.Store (serving conn.old court.now kept.old) h
         → (HasCleanDisk (state S.Store conn.old) → IsAccepted court.now h command.now changes.now × AreNamed h command.now named.now)
         → Asks S.Store (serving conn.new court.now kept.new) h (λ found. IsUpdate court.now found (rows_of court.now h) (rows_of court.now (command.now ∷ h))) result }
@@ -101,6 +108,7 @@ fn end_update<S: Alter>(
     requires lawful { IsCommand command.now }
     ensures idle { conn.new.in_transaction ≡ false }
     ensures clean { doubt (state S.Store conn.old).is_clean ≤ doubt (state S.Store conn.new).is_clean }
+    ensures stays { (rows : Rows) → HoldsRows S.Store conn.old rows → Preserves S.Store conn.new rows result }
     ensures update { (h : History) → Stands S.Store (serving conn.old court.now kept.old) h
         → (HasCleanDisk (state S.Store conn.old) → IsAccepted court.now h command.now changes.now × AreNamed h command.now named.now)
         → Asks S.Store (serving conn.new court.now kept.new) h (λ found. IsUpdate court.now found (rows_of court.now h) (rows_of court.now (command.now ∷ h))) result }
@@ -130,6 +138,8 @@ fn keep<S: Alter>(
     requires lawful { IsCommand command.now }
     ensures idle { conn.new.in_transaction ≡ false }
     ensures clean { doubt (state S.Store conn.old).is_clean ≤ doubt (state S.Store conn.new).is_clean }
+    ensures any { (rows : Rows) (n : ℕ) (stored : List Ended) → AreDocketRows court.now n stored rows → n < 2 ^ 62 → HoldsRows S.Store conn.old rows
+        → WritesWhole S.Store conn.new court.now n rows command.now result }
     ensures kept { (h : History) → Stands S.Store (serving conn.old court.now kept.old) h
         → (HasCleanDisk (state S.Store conn.old) → IsAccepted court.now h command.now changes.now × AreNamed h command.now named.now)
         → Applies S.Store (serving conn.new court.now kept.new) h command.now result }
@@ -154,6 +164,8 @@ pub(crate) fn apply_to<S: Alter>(
     requires { conn.old.in_transaction ≡ false }
     ensures idle { conn.new.in_transaction ≡ false }
     ensures clean { doubt (state S.Store conn.old).is_clean ≤ doubt (state S.Store conn.new).is_clean }
+    ensures any { (rows : Rows) (n : ℕ) (stored : List Ended) → AreDocketRows court.now n stored rows → n < 2 ^ 62 → HoldsRows S.Store conn.old rows
+        → WritesWhole S.Store conn.new court.now n rows command.now result }
     ensures answer { (h : History) → Stands S.Store (serving conn.old court.now kept.old) h
         → Applies S.Store (serving conn.new court.now kept.new) h command.now result }
 {

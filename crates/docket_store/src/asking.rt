@@ -12,6 +12,9 @@ ghost use Rattle.docket_core.specs.Records.{calendar, case_record, deadline_line
 ghost use Rattle.docket_core.specs.Tables.{case_deadlines, rows_of};
 ghost use Rattle.docket_core.specs.declared.item.CalendarItem.{CalendarItem as Item};
 ghost use Rattle.docket_changes.specs.Sound.{IsSoundCase};
+ghost use Rattle.docket_tables.specs.Layouts.{Rows};
+ghost use Rattle.docket_tables.specs.Stands.{HoldsRows};
+ghost use Rattle.docket_store.specs.AnyRows.{Preserves};
 ghost use Rattle.docket_store.specs.Applying.{Stands, Asks};
 ghost use Rattle.docket_store.specs.Dockets.{serving};
 ghost use Rattle.docket_store.specs.Sound.{IsNotTold};
@@ -37,6 +40,7 @@ pub(crate) fn record_numbered<S: Alter>(
     requires { conn.old.in_transaction ≡ false }
     ensures idle { conn.new.in_transaction ≡ false }
     ensures clean { doubt (state S.Store conn.old).is_clean ≤ doubt (state S.Store conn.new).is_clean }
+    ensures stays { (rows : Rows) → HoldsRows S.Store conn.old rows → Preserves S.Store conn.new rows result }
     ensures answer { (court : CourtSettings) (kept : Option (List Item)) (h : History) → Stands S.Store (serving conn.old court kept) h
         → Asks S.Store (serving conn.new court kept) h (λ found. found ≡ case_record h number) result }
 {
@@ -55,6 +59,7 @@ fn deadlines_shown<S: Alter>(
     requires { conn.old.in_transaction ≡ false }
     ensures idle { conn.new.in_transaction ≡ false }
     ensures clean { doubt (state S.Store conn.old).is_clean ≤ doubt (state S.Store conn.new).is_clean }
+    ensures stays { (rows : Rows) → HoldsRows S.Store conn.old rows → Preserves S.Store conn.new rows result }
     ensures answer { (court : CourtSettings) (kept : Option (List Item)) (h : History) → Stands S.Store (serving conn.old court kept) h
         → Asks S.Store (serving conn.new court kept) h (λ found. option_map (λ deadlines. deadlines.items) found ≡ case_deadlines (rows_of court h) number) result }
 {
@@ -73,6 +78,7 @@ fn calendar_shown<S: Alter>(
     requires { conn.old.in_transaction ≡ false }
     ensures idle { conn.new.in_transaction ≡ false }
     ensures clean { doubt (state S.Store conn.old).is_clean ≤ doubt (state S.Store conn.new).is_clean }
+    ensures stays { (rows : Rows) → HoldsRows S.Store conn.old rows → Preserves S.Store conn.new rows result }
     ensures answer { (court : CourtSettings) (h : History) → Stands S.Store (serving conn.old court kept.old) h
         → Asks S.Store (serving conn.new court kept.new) h (λ items. items ≡ items_of (standing_rows h)) result }
 {
@@ -102,6 +108,7 @@ pub(crate) fn calendar_told<S: Alter>(
     requires { conn.old.in_transaction ≡ false }
     ensures idle { conn.new.in_transaction ≡ false }
     ensures clean { doubt (state S.Store conn.old).is_clean ≤ doubt (state S.Store conn.new).is_clean }
+    ensures stays { (rows : Rows) → HoldsRows S.Store conn.old rows → Preserves S.Store conn.new rows result }
     ensures answer { (h : History) → Stands S.Store (serving conn.old court.now kept.old) h
         → Asks S.Store (serving conn.new court.now kept.new) h (λ found. found ≡ calendar h) result }
 {
@@ -120,6 +127,7 @@ fn ends_shown<S: Alter>(
     requires { conn.old.in_transaction ≡ false }
     ensures idle { conn.new.in_transaction ≡ false }
     ensures clean { doubt (state S.Store conn.old).is_clean ≤ doubt (state S.Store conn.new).is_clean }
+    ensures stays { (rows : Rows) → HoldsRows S.Store conn.old rows → Preserves S.Store conn.new rows result }
     ensures answer { (court : CourtSettings) (kept : Option (List Item)) (h : History) → Stands S.Store (serving conn.old court kept) h
         → Asks S.Store (serving conn.new court kept) h (λ found. found.items ≡ end_rows_of (zone_of court) (calendar h) number (deadlines number h)) result }
 {
@@ -142,6 +150,7 @@ fn lines_of_case<S: Alter>(
     requires { conn.old.in_transaction ≡ false }
     ensures idle { conn.new.in_transaction ≡ false }
     ensures clean { doubt (state S.Store conn.old).is_clean ≤ doubt (state S.Store conn.new).is_clean }
+    ensures stays { (rows : Rows) → HoldsRows S.Store conn.old rows → Preserves S.Store conn.new rows result }
     ensures answer { (kept : Option (List Item)) (h : History) → Stands S.Store (serving conn.old court.now kept) h
         → (HasCleanDisk (state S.Store conn.old) → entered.now ≡ calendar h)
         → (HasCleanDisk (state S.Store conn.old) → case_deadlines (rows_of court.now h) number ≡ Some deadlines.now)
@@ -163,6 +172,7 @@ pub(crate) fn lines_numbered<S: Alter>(
     requires { conn.old.in_transaction ≡ false }
     ensures idle { conn.new.in_transaction ≡ false }
     ensures clean { doubt (state S.Store conn.old).is_clean ≤ doubt (state S.Store conn.new).is_clean }
+    ensures stays { (rows : Rows) → HoldsRows S.Store conn.old rows → Preserves S.Store conn.new rows result }
     ensures answer { (h : History) → Stands S.Store (serving conn.old court.now kept.old) h
         → Asks S.Store (serving conn.new court.now kept.new) h (λ found. option_map (λ lines. lines.items) found ≡ deadline_lines court.now h number) result }
 {

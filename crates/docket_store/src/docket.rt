@@ -1,7 +1,7 @@
 //! The docket of a court in a database.
-ghost use Rattle.std.specs.Prelude.{◌≡◌, ◌↔◌, ◌⊎◌, ◌≤◌, [], true, false, Ok, Err, IfOk, OnOk, IfErr, IsErrAnd, IsTrue, MatchResult};
+ghost use Rattle.std.specs.Prelude.{◌≡◌, ◌↔◌, ◌⊎◌, ◌≤◌, ◌<◌, ◌^◌, ℕ, List, [], true, false, Ok, Err, IfOk, OnOk, IfErr, IsErrAnd, IsTrue, MatchResult};
 ghost use Rattle.sqlite.specs.Held.{state};
-ghost use Rattle.sqlite.specs.State.{HasCleanDisk};
+ghost use Rattle.sqlite.specs.State.{HasCleanDisk, Survives};
 ghost use Rattle.sqlite.specs.View.{doubt};
 ghost use Rattle.court_days.specs.Court.{CourtSettings};
 ghost use Rattle.std.specs.Option.{option_map};
@@ -15,8 +15,12 @@ ghost use Rattle.docket_scan.specs.Shapes.{has_named};
 ghost use Rattle.docket_scan.specs.declared.fault.AdoptFault.TheVariants.{Empty};
 ghost use Rattle.docket_tables.specs.Contents.{rows_by};
 ghost use Rattle.docket_tables.specs.Recognition.{has_docket_table};
-ghost use Rattle.docket_tables.specs.Stands.{HoldsRowsIn};
+ghost use Rattle.docket_core.specs.declared.end_row.EndRow.{EndRow};
+ghost use Rattle.docket_tables.specs.AnyRows.{AreDocketRows};
+ghost use Rattle.docket_tables.specs.Layouts.{Rows};
+ghost use Rattle.docket_tables.specs.Stands.{HoldsRows, HoldsRowsIn};
 ghost use Rattle.docket_tables.specs.declared.table.Table.TheVariants as table;
+ghost use Rattle.docket_store.specs.AnyRows.{Preserves, PreservesCalendar, PreservesListing, PreservesRejected, WritesWhole};
 ghost use Rattle.docket_store.specs.Applying.{IsDocket, StandsFor, Stands, Applies, Asks, docket_rows};
 ghost use Rattle.docket_store.specs.Listing.{Lists, ListsCalendar};
 ghost use Rattle.docket_store.specs.Migrating.{cause_of};
@@ -118,6 +122,12 @@ impl<S: Alter> Docket<S> {
         // Without a court there is no docket, and the connection comes back as it was.
         ensures empty { has_named conn.schema table.Court ≡ false
             → IsErrAnd result (λ returned. (returned.fault ≡ Empty) × (returned.connection ≡ conn)) }
+        // Nothing is written, whatever the answer.
+        ensures writes_nothing { MatchResult result
+            (λ docket. Survives (state S.Store conn) (state S.Store docket.conn) (λ _. ⊥))
+            (λ returned. Survives (state S.Store conn) (state S.Store returned.connection) (λ _. ⊥)) }
+        ensures stays { (rows : Rows) → HoldsRows S.Store conn rows → MatchResult result (λ docket. HoldsRows S.Store docket.conn rows)
+            (λ returned. PreservesRejected S.Store returned.connection rows returned.fault) }
         ensures clean { MatchResult result
             (λ docket. doubt (state S.Store conn).is_clean ≤ doubt (state S.Store docket.conn).is_clean)
             (λ returned. doubt (state S.Store conn).is_clean ≤ doubt (state S.Store returned.connection).is_clean) }
@@ -143,6 +153,12 @@ impl<S: Alter> Docket<S> {
             (λ returned. IsRejected S.Store conn returned.connection returned.fault) }
         ensures empty { has_named conn.schema table.Court ≡ false
             → IsErrAnd result (λ returned. (returned.fault ≡ Empty) × (returned.connection ≡ conn)) }
+        // Nothing is written, whatever the answer.
+        ensures writes_nothing { MatchResult result
+            (λ found. Survives (state S.Store conn) (state S.Store found.0.conn) (λ _. ⊥))
+            (λ returned. Survives (state S.Store conn) (state S.Store returned.connection) (λ _. ⊥)) }
+        ensures stays { (rows : Rows) → HoldsRows S.Store conn rows → MatchResult result (λ found. HoldsRows S.Store found.0.conn rows)
+            (λ returned. PreservesRejected S.Store returned.connection rows returned.fault) }
         ensures clean { MatchResult result
             (λ found. doubt (state S.Store conn).is_clean ≤ doubt (state S.Store found.0.conn).is_clean)
             (λ returned. doubt (state S.Store conn).is_clean ≤ doubt (state S.Store returned.connection).is_clean) }
@@ -228,6 +244,9 @@ impl<S: Alter> Docket<S> {
         ensures answer { (h : History) → Stands S.Store self.old h → Applies S.Store self.new h command.now result }
         // A closed docket takes no memory and touches no disk.
         ensures closed { self.old.closed ≡ true → (result ≡ Err fault.Closed) × (self.new ≡ self.old) }
+        // Of any docket, the command is written whole, with its receipt, or not at all.
+        ensures any { (rows : Rows) (n : ℕ) (stored : List EndRow) → AreDocketRows self.old.court n stored rows → n < 2 ^ 62 → HoldsRows S.Store self.old.conn rows
+            → WritesWhole S.Store self.new.conn self.new.court n rows command.now result }
         ensures clean { doubt (state S.Store self.old.conn).is_clean ≤ doubt (state S.Store self.new.conn).is_clean }
         ensures closes { self.old.closed ≡ false → (self.new.closed ≡ true) ↔ (result ≡ Err fault.StoreFailed) }
     {
@@ -247,6 +266,8 @@ impl<S: Alter> Docket<S> {
         ensures answer { (h : History) → Stands S.Store self.old h
             → Asks S.Store self.new h (λ found. found ≡ case_record h number) result }
         ensures closed { self.old.closed ≡ true → (result ≡ Err fault.Closed) × (self.new ≡ self.old) }
+        // Of any docket, no row changes.
+        ensures stays { (rows : Rows) → HoldsRows S.Store self.old.conn rows → Preserves S.Store self.new.conn rows result }
         ensures clean { doubt (state S.Store self.old.conn).is_clean ≤ doubt (state S.Store self.new.conn).is_clean }
         ensures closes { self.old.closed ≡ false → (self.new.closed ≡ true) ↔ (result ≡ Err fault.StoreFailed) }
     {
@@ -264,6 +285,8 @@ impl<S: Alter> Docket<S> {
         ensures answer { (h : History) → Stands S.Store self.old h
             → Asks S.Store self.new h (λ found. option_map (λ lines. lines.items) found ≡ deadline_lines self.old.court h number) result }
         ensures closed { self.old.closed ≡ true → (result ≡ Err fault.Closed) × (self.new ≡ self.old) }
+        // Of any docket, no row changes.
+        ensures stays { (rows : Rows) → HoldsRows S.Store self.old.conn rows → Preserves S.Store self.new.conn rows result }
         ensures clean { doubt (state S.Store self.old.conn).is_clean ≤ doubt (state S.Store self.new.conn).is_clean }
         ensures closes { self.old.closed ≡ false → (self.new.closed ≡ true) ↔ (result ≡ Err fault.StoreFailed) }
     {
@@ -293,6 +316,8 @@ impl<S: Alter> Docket<S> {
             → Lists S.Store self.new h from to front.now (W.contents writer.old) (W.contents writer.new) result }
         ensures closed { self.old.closed ≡ true
             → (result ≡ Err (listing_end.NotBegun fault.Closed)) × (self.new ≡ self.old) × (writer.new ≡ writer.old) }
+        // Of any docket, no row changes.
+        ensures stays { (rows : Rows) → HoldsRows S.Store self.old.conn rows → PreservesListing S.Store self.new.conn rows result }
         ensures clean { doubt (state S.Store self.old.conn).is_clean ≤ doubt (state S.Store self.new.conn).is_clean }
         ensures closes { self.old.closed ≡ false → (self.new.closed ≡ true)
             ↔ ((result ≡ Err (listing_end.NotBegun fault.StoreFailed)) ⊎ (result ≡ Err (listing_end.Broken fault.StoreFailed))) }
@@ -320,15 +345,16 @@ impl<S: Alter> Docket<S> {
             → ListsCalendar S.Store self.new h from to (W.contents writer.old) (W.contents writer.new) result }
         ensures closed { self.old.closed ≡ true
             → (result ≡ Err (calendar_end.Store fault.Closed)) × (self.new ≡ self.old) × (writer.new ≡ writer.old) }
+        // Of any docket, no row changes.
+        ensures stays { (rows : Rows) → HoldsRows S.Store self.old.conn rows → PreservesCalendar S.Store self.new.conn rows result }
         ensures clean { doubt (state S.Store self.old.conn).is_clean ≤ doubt (state S.Store self.new.conn).is_clean }
         ensures closes { self.old.closed ≡ false
             → (self.new.closed ≡ true) ↔ (result ≡ Err (calendar_end.Store fault.StoreFailed)) }
     {
         match self.calendar_after(&[], from, to, writer) {
             Ok(lines) => Ok(lines),
-            Err(ListingEnd::NotBegun(fault) | ListingEnd::Broken(fault)) => {
-                Err(CalendarEnd::Store(fault))
-            }
+            Err(ListingEnd::NotBegun(fault)) => Err(CalendarEnd::Store(fault)),
+            Err(ListingEnd::Broken(fault)) => Err(CalendarEnd::Store(fault)),
             Err(ListingEnd::WriteFailed) => Err(CalendarEnd::WriteFailed),
         }
     }
@@ -338,6 +364,13 @@ impl<S: Alter> Docket<S> {
         ensures { result.now ≡ self.now.court }
     {
         &self.court
+    }
+
+    /// Whether the database failed: each call but `court`, `is_closed` and `close` answers Closed then.
+    pub fn is_closed(&self) -> bool
+        ensures { result ≡ self.now.closed }
+    {
+        self.closed
     }
 
     /// The connection, with whatever it holds.

@@ -3,8 +3,9 @@ ghost use Rattle.std.specs.Prelude.{◌≡◌, ◌≤◌, false};
 ghost use Rattle.sqlite.specs.Held.{state};
 ghost use Rattle.sqlite.specs.View.{doubt};
 ghost use Rattle.docket_tables.specs.Layouts.{Rows};
-ghost use Rattle.docket_tables.specs.Readings.{Fails};
-ghost use Rattle.docket_tables.specs.Stands.{LastsAsEither};
+ghost use Rattle.docket_tables.specs.Readings.{Fails, StaysAt};
+ghost use Rattle.docket_tables.specs.Stands.{Lasts, LastsAsEither};
+ghost use Rattle.docket_store.specs.AnyRows.{PreservesAt};
 ghost use Rattle.docket_store.specs.Applying.{FailsAs};
 
 use docket_command::Refusal;
@@ -68,6 +69,7 @@ pub(crate) fn store_fault<S: Alter>(conn: &mut Connection<S>, error: Error) -> F
     requires { conn.old.in_transaction ≡ false }
     ensures idle { conn.new.in_transaction ≡ false }
     ensures clean { doubt (state S.Store conn.old).is_clean ≤ doubt (state S.Store conn.new).is_clean }
+    ensures stays { (rows : Rows) → Lasts S.Store conn.old rows → PreservesAt S.Store conn.new rows result }
     ensures left { (rows next : Rows) → LastsAsEither S.Store conn.old rows next → FailsAs S.Store conn.new rows next result }
 {
     match fault_of(conn, error) {
@@ -81,6 +83,7 @@ pub(crate) fn read_fault<S: Alter>(conn: &mut Connection<S>, fault: ReadFault) -
     requires { conn.old.in_transaction ≡ false }
     ensures idle { conn.new.in_transaction ≡ false }
     ensures clean { doubt (state S.Store conn.old).is_clean ≤ doubt (state S.Store conn.new).is_clean }
+    ensures stays { (rows : Rows) → StaysAt S.Store conn.old rows fault → PreservesAt S.Store conn.new rows result }
     ensures left { (rows next : Rows) → Fails S.Store conn.old rows fault → FailsAs S.Store conn.new rows next result }
 {
     match fault {

@@ -9,7 +9,10 @@ ghost use Rattle.docket_core.specs.Histories.{History, items_of, standing_rows};
 ghost use Rattle.docket_core.specs.Outcomes.{shown};
 ghost use Rattle.docket_wire.specs.Valid.{IsCommand};
 ghost use Rattle.docket_wire.specs.Writing.{canonical};
-ghost use Rattle.docket_tables.specs.Readings.{Gives};
+ghost use Rattle.docket_tables.specs.Layouts.{Rows};
+ghost use Rattle.docket_tables.specs.Readings.{Gives, Stays};
+ghost use Rattle.docket_tables.specs.Stands.{HoldsRows};
+ghost use Rattle.docket_store.specs.AnyRows.{Preserves};
 ghost use Rattle.docket_store.specs.Applying.{IsDocket, StandsFor, Keeps, Stands, Shows, Judges, docket_rows};
 ghost use Rattle.docket_store.specs.Dockets.{serving};
 
@@ -31,6 +34,7 @@ pub(crate) fn take_calendar<S: Alter>(
 ) -> Result<CalendarItems, ReadFault>
     ensures mode { conn.old.in_transaction ≡ false → conn.new.in_transaction ≡ false }
     ensures clean { doubt (state S.Store conn.old).is_clean ≤ doubt (state S.Store conn.new).is_clean }
+    ensures stays { (rows : Rows) → HoldsRows S.Store conn.old rows → Stays S.Store conn.new rows result }
     ensures kept { (h : History) → Keeps kept.old h → Keeps kept.new h }
     ensures read { (court : CourtSettings) (h : History) → Stands S.Store (serving conn.old court kept.old) h
         → Gives S.Store conn.new (docket_rows court h) (λ items. items ≡ items_of (standing_rows h)) result }
@@ -50,6 +54,7 @@ fn calendar_asked<S: Alter>(
 ) -> Result<CalendarItems, ReadFault>
     ensures mode { conn.old.in_transaction ≡ false → conn.new.in_transaction ≡ false }
     ensures clean { doubt (state S.Store conn.old).is_clean ≤ doubt (state S.Store conn.new).is_clean }
+    ensures stays { (rows : Rows) → HoldsRows S.Store conn.old rows → Stays S.Store conn.new rows result }
     ensures kept { (h : History) → Keeps kept.old h → Keeps kept.new h }
     ensures read { (court : CourtSettings) (h : History) → Stands S.Store (serving conn.old court kept.old) h
         → Gives S.Store conn.new (docket_rows court h) (λ items. items ≡ (if asks_calendar action.now then items_of (standing_rows h) else [])) result }
@@ -72,6 +77,7 @@ fn shown<S: Alter>(
     requires lawful { IsCommand command.now }
     ensures mode { conn.old.in_transaction ≡ false → conn.new.in_transaction ≡ false }
     ensures clean { doubt (state S.Store conn.old).is_clean ≤ doubt (state S.Store conn.new).is_clean }
+    ensures stays { (rows : Rows) → HoldsRows S.Store conn.old rows → Stays S.Store conn.new rows result }
     ensures kept { (h : History) → Keeps kept.old h → Keeps kept.new h }
     ensures read { (court : CourtSettings) (h : History) → Stands S.Store (serving conn.old court kept.old) h
         → Gives S.Store conn.new (docket_rows court h) (λ view. view ≡ shown court h command.now) result }
@@ -93,6 +99,7 @@ fn look<S: Alter>(
     requires lawful { IsCommand command.now }
     ensures idle { conn.new.in_transaction ≡ false }
     ensures clean { doubt (state S.Store conn.old).is_clean ≤ doubt (state S.Store conn.new).is_clean }
+    ensures stays { (rows : Rows) → HoldsRows S.Store conn.old rows → Preserves S.Store conn.new rows result }
     ensures shown { (court : CourtSettings) (h : History) → Stands S.Store (serving conn.old court kept.old) h
         → Shows S.Store (serving conn.new court kept.new) h command.now result }
 {
@@ -123,6 +130,7 @@ pub(crate) fn judge<S: Alter>(
     requires lawful { IsCommand command.now }
     ensures idle { conn.new.in_transaction ≡ false }
     ensures clean { doubt (state S.Store conn.old).is_clean ≤ doubt (state S.Store conn.new).is_clean }
+    ensures stays { (rows : Rows) → HoldsRows S.Store conn.old rows → Preserves S.Store conn.new rows result }
     ensures judged { (h : History) → Stands S.Store (serving conn.old court.now kept.old) h
         → Judges S.Store (serving conn.new court.now kept.new) h command.now result }
 {

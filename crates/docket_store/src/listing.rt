@@ -6,6 +6,9 @@ ghost use Rattle.sqlite.specs.State.{HasCleanDisk};
 ghost use Rattle.docket_core.specs.Histories.{History};
 ghost use Rattle.docket_core.specs.Records.{calendar as entered_by};
 ghost use Rattle.docket_core.specs.declared.item.CalendarItem.{CalendarItem as Item};
+ghost use Rattle.docket_tables.specs.Layouts.{Rows};
+ghost use Rattle.docket_tables.specs.Stands.{HoldsRows};
+ghost use Rattle.docket_store.specs.AnyRows.{PreservesListing};
 ghost use Rattle.docket_store.specs.Applying.{Stands};
 ghost use Rattle.docket_store.specs.Dockets.{serving};
 ghost use Rattle.docket_store.specs.Listing.{Lists};
@@ -65,6 +68,7 @@ fn list_by<S: Alter, W: Write>(
     requires { conn.old.in_transaction ≡ false }
     ensures idle { conn.new.in_transaction ≡ false }
     ensures clean { doubt (state S.Store conn.old).is_clean ≤ doubt (state S.Store conn.new).is_clean }
+    ensures stays { (rows : Rows) → HoldsRows S.Store conn.old rows → PreservesListing S.Store conn.new rows result }
     ensures lists { (kept : Option (List Item)) (h : History) → Stands S.Store (serving conn.old court.now kept) h
         → (HasCleanDisk (state S.Store conn.old) → entered.now ≡ entered_by h)
         → Lists S.Store (serving conn.new court.now kept) h from to front.now (W.contents writer.old) (W.contents writer.new) result }
@@ -92,6 +96,7 @@ pub(crate) fn list_days<S: Alter, W: Write>(
     requires { conn.old.in_transaction ≡ false }
     ensures idle { conn.new.in_transaction ≡ false }
     ensures clean { doubt (state S.Store conn.old).is_clean ≤ doubt (state S.Store conn.new).is_clean }
+    ensures stays { (rows : Rows) → HoldsRows S.Store conn.old rows → PreservesListing S.Store conn.new rows result }
     ensures lists { (h : History) → Stands S.Store (serving conn.old court.now kept.old) h
         → Lists S.Store (serving conn.new court.now kept.new) h from to front.now (W.contents writer.old) (W.contents writer.new) result }
 {

@@ -1,8 +1,13 @@
 //! Commands in order, each in a transaction of its own.
-ghost use Rattle.std.specs.Prelude.{◌≡◌, ◌≤◌, IfOk, IfErr, Err, true};
+ghost use Rattle.std.specs.Prelude.{◌≡◌, ◌≤◌, ◌<◌, ◌^◌, ℕ, List, IfOk, IfErr, Err, true};
 ghost use Rattle.sqlite.specs.Held.{state};
 ghost use Rattle.sqlite.specs.View.{doubt};
 ghost use Rattle.docket_core.specs.Histories.{History};
+ghost use Rattle.docket_core.specs.declared.end_row.EndRow.{EndRow};
+ghost use Rattle.docket_tables.specs.AnyRows.{AreDocketRows};
+ghost use Rattle.docket_tables.specs.Layouts.{Rows};
+ghost use Rattle.docket_tables.specs.Stands.{HoldsRows};
+ghost use Rattle.docket_store.specs.AnyRows.{AnswersWhole};
 ghost use Rattle.docket_store.specs.Applying.{Stands};
 ghost use Rattle.docket_store.specs.Sequence.{Answers, AnswersAll, Halts, BreaksOff};
 ghost use Rattle.docket_store.specs.declared.fault.Fault.TheVariants as fault;
@@ -21,6 +26,8 @@ pub fn answer<S: Alter>(
     ensures court { docket.new.court ≡ docket.old.court }
     ensures closed { docket.old.closed ≡ true → (result ≡ Err fault.Closed) × (docket.new ≡ docket.old) }
     ensures clean { doubt (state S.Store docket.old.conn).is_clean ≤ doubt (state S.Store docket.new.conn).is_clean }
+    ensures any { (rows : Rows) (n : ℕ) (stored : List EndRow) → AreDocketRows docket.old.court n stored rows → n < 2 ^ 62 → HoldsRows S.Store docket.old.conn rows
+        → AnswersWhole S.Store docket.new.conn docket.new.court n rows command.now result }
     ensures answer { (h : History) → Stands S.Store docket.old h → IfOk result (Answers S.Store docket.new h command.now) }
     ensures halts { (h : History) → Stands S.Store docket.old h → IfErr result (Halts S.Store docket.new h command.now) }
 {

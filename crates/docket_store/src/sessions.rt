@@ -1,5 +1,6 @@
 //! A session: the docket of a database is adopted, commands are applied, and the connection goes back.
-ghost use Rattle.std.specs.Prelude.{◌≡◌, ◌≤◌, [], length, false, IsErrAnd, MatchResult, vec_capacity, vec_len};
+ghost use Rattle.std.specs.Prelude.{◌≡◌, ◌≤◌, [], length, false, IfErr, IfOk, IsErrAnd, MatchResult, vec_capacity, vec_len};
+ghost use Rattle.line_io.specs.Steps.{Reaches};
 ghost use Rattle.sqlite.specs.Held.{state};
 ghost use Rattle.sqlite.specs.View.{doubt};
 ghost use Rattle.court_days.specs.Court.{CourtSettings};
@@ -7,7 +8,11 @@ ghost use Rattle.docket_core.specs.Histories.{History};
 ghost use Rattle.docket_scan.specs.Shapes.{has_named};
 ghost use Rattle.docket_scan.specs.declared.fault.AdoptFault.TheVariants.{Empty};
 ghost use Rattle.docket_tables.specs.declared.table.Table.TheVariants as table;
+ghost use Rattle.docket_tables.specs.Layouts.{Rows};
+ghost use Rattle.docket_tables.specs.Stands.{HoldsRows};
+ghost use Rattle.docket_store.specs.AnyRows.{PreservesRejected, WritesAtMostOne};
 ghost use Rattle.docket_store.specs.Applying.{IsDocket, StandsFor, Stands, docket_rows};
+ghost use Rattle.docket_store.specs.Dockets.{Docket as Kept};
 ghost use Rattle.docket_store.specs.Opening.{IsNotAdopted, IsRejected, WasSound};
 ghost use Rattle.docket_store.specs.Sessions.{EndsSession};
 
@@ -40,6 +45,7 @@ fn answer_until<S: Alter>(
     requires room { length commands.now ≤ vec_capacity replies.old }
     ensures clean { doubt (state S.Store docket.old.conn).is_clean ≤ doubt (state S.Store docket.new.conn).is_clean }
     ensures court { docket.new.court ≡ docket.old.court }
+    ensures steps { Reaches (WritesAtMostOne S.Store) docket.old docket.new }
     ensures ends { (h : History) → Stands S.Store docket.old h
         → EndsSession S.Store docket.new.conn docket.new.court h commands.now replies.new.items result }
 {
@@ -66,6 +72,12 @@ pub fn session<S: Alter>(
     // Without a court there is no docket, and the connection comes back as it was.
     ensures empty { has_named connection.schema table.Court ≡ false
         → IsErrAnd result (λ returned. (returned.fault ≡ Empty) × (returned.connection ≡ connection)) }
+    // Of any docket, each command wrote nothing, or was written whole, with its receipt.
+    ensures steps { IfOk result (λ end. (adopted last : Kept S)
+        × ((rows : Rows) → HoldsRows S.Store connection rows → HoldsRows S.Store adopted.conn rows)
+        × Reaches (WritesAtMostOne S.Store) adopted last × (last.conn ≡ end.connection)) }
+    ensures stays { (rows : Rows) → HoldsRows S.Store connection rows
+        → IfErr result (λ returned. PreservesRejected S.Store returned.connection rows returned.fault) }
     // Of any database, its tables were sound, or a fault tells why it is no docket's.
     ensures told { MatchResult result (λ end. WasSound S.Store connection end.connection)
         (λ returned. IsRejected S.Store connection returned.connection returned.fault) }

@@ -1,4 +1,5 @@
 pub mod AnswerLemmas
+pub mod AnyLemmas
 mod CalendarLemmas
 pub mod CaseActs
 pub mod CellLemmas

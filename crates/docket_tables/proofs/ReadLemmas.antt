@@ -7,7 +7,7 @@ use Rattle.sqlite.specs.State.{HasCleanDisk}
 use Rattle.sqlite.specs.Held.{Held, state}
 use Rattle.docket_tables.specs.Layouts.{Rows}
 use Rattle.docket_orderly.specs.Orderly.{RunsFrom}
-use Rattle.docket_tables.specs.Readings.{IsReadAs, Fails, Gives}
+use Rattle.docket_tables.specs.Readings.{IsReadAs, Fails, Gives, StaysAt, Stays}
 use Rattle.docket_tables.specs.Stands.{HoldsRows}
 use Rattle.docket_tables.specs.declared.fault.ReadFault.{ReadFault}
 use Rattle.docket_tables.specs.declared.fault.ReadFault.TheVariants.{Store, NoMemory, Damaged}
@@ -19,6 +19,22 @@ gives g new rows answer (Ok x) holds read = (holds, read)
 gives g new rows answer (Err (Store e)) holds read = (holds.0, λ clean. record { images = (holds.1 clean).images; settled = λ _. holds.1 clean })
 gives g new rows answer (Err NoMemory) holds read = holds
 gives g new rows answer (Err Damaged) holds read = read
+
+-- the rows are held, whatever was answered
+pub stays : {S : Type 0} (g : Ghosts S) {X : Type 0} (new : Held S) (rows : Rows) (result : Result X ReadFault) → HoldsRows g new rows → Stays g new rows result
+stays g new rows (Ok x) holds = holds
+stays g new rows (Err (Store e)) holds = (holds.0, λ clean. record { images = (holds.1 clean).images; settled = λ _. holds.1 clean })
+stays g new rows (Err NoMemory) holds = holds
+stays g new rows (Err Damaged) holds = holds
+
+-- what a failure of one question leaves, the failure of the whole leaves
+pub err_stays : {S : Type 0} (g : Ghosts S) {X : Type 0} (new : Held S) (rows : Rows) (e : ReadFault) (res : Result X ReadFault) → IsErrAnd res (λ f. f ≡ e) → StaysAt g new rows e → Stays g new rows res
+err_stays g new rows e (Ok x) same left = absurd same
+err_stays g new rows e (Err f) same left = subst (StaysAt g new rows) (sym same) left
+
+-- want of memory
+pub short_stays : {S : Type 0} (g : Ghosts S) {X : Type 0} (new : Held S) (rows : Rows) (res : Result X ReadFault) → IsErrAnd res (λ f. f ≡ NoMemory) → HoldsRows g new rows → Stays g new rows res
+short_stays g new rows = err_stays g new rows NoMemory
 
 -- a failure of one question is a failure of the whole
 pub err_given : {S : Type 0} (g : Ghosts S) {X : Type 0} (new : Held S) (rows : Rows) (Q : X → Type 0) (e : ReadFault) (res : Result X ReadFault) → IsErrAnd res (λ f. f ≡ e)

@@ -1,3 +1,4 @@
+pub mod AnyRows
 pub mod Contents
 pub mod Creation
 pub mod Holds

@@ -42,6 +42,17 @@ module _ {S : Type 0} (g : Ghosts S) where
   Gives new rows answer (Ok x) = HoldsRows g new rows × (HasCleanDisk (state g new) → answer x)
   Gives new rows answer (Err fault) = Fails new rows fault
 
+  -- what a question that fails leaves of rows, whatever they are: the connection holds them still, but where the store failed it may be shut
+  abbrev pub StaysAt : Held S → Rows → ReadFault → Type 0
+  StaysAt new rows (Store e) = Lasts g new rows
+  StaysAt new rows NoMemory = HoldsRows g new rows
+  StaysAt new rows Damaged = HoldsRows g new rows
+
+  -- what a question leaves of rows, whatever they are
+  abbrev pub Stays : {X : Type 0} → Held S → Rows → Result X ReadFault → Type 0
+  Stays new rows (Ok x) = HoldsRows g new rows
+  Stays new rows (Err fault) = StaysAt new rows fault
+
   -- of a connection that holds a docket's tables
   abbrev pub Reads : {X : Type 0} → Held S → Held S → Result X ReadFault → (CourtSettings → Tables → X → Type 0) → Type 0
   Reads old new result answer = (court : CourtSettings) (t : Tables) → IsOrderly court t → HoldsRows g old (rows_in court t) → Gives new (rows_in court t) (answer court t) result

@@ -1,5 +1,5 @@
 //! Changes of rows, inside a transaction.
-ghost use Rattle.std.specs.Prelude.{◌≡◌, ◌<◌, ◌≤◌, ◌+◌, ◌^◌, List, length, OnOk};
+ghost use Rattle.std.specs.Prelude.{◌≡◌, ◌<◌, ◌≤◌, ◌+◌, ◌^◌, ℕ, List, length, OnOk};
 ghost use Rattle.court_days.specs.Court.{CourtSettings};
 ghost use Rattle.docket_core.specs.EndRows.{changed_ends, all_changed_ends};
 ghost use Rattle.docket_core.specs.Tables.{Tables, changed, all_changed, with_receipt};
@@ -9,7 +9,9 @@ ghost use Rattle.sqlite.specs.Held.{state};
 ghost use Rattle.sqlite.specs.State.{HasCleanDisk};
 ghost use Rattle.sqlite.specs.View.{doubt};
 ghost use Rattle.docket_core.specs.declared.end_row.EndRow.{EndRow as Ended};
+ghost use Rattle.docket_tables.specs.AnyRows.{AreDocketRows, all_rows_changed, recorded, row_changed, with_stored};
 ghost use Rattle.docket_tables.specs.Contents.{rows_with};
+ghost use Rattle.docket_tables.specs.Layouts.{Rows};
 ghost use Rattle.docket_tables.specs.Stands.{Inside, Sees, StaysInside};
 
 use crate::fault::ReadFault;
@@ -29,6 +31,8 @@ fn add_calendar_row<S: Alter>(tx: &mut Transaction<'_, S>, row: &CalendarRow) ->
     ensures inside { StaysInside (state S.Store tx.old.conn.now) (state S.Store tx.new.conn.now) }
     ensures ok { HasCleanDisk (state S.Store tx.new.conn.now) → (court : CourtSettings) (t : Tables) (ends : List Ended) → t.next_row + 1 < 2 ^ 63
         → Sees (state S.Store tx.old.conn.now) (rows_with court t ends) → OnOk result (Sees (state S.Store tx.new.conn.now) (rows_with court (changed (change.AddCalendar row.now) t) ends)) }
+    ensures any { HasCleanDisk (state S.Store tx.new.conn.now) → (court : CourtSettings) (n : ℕ) (stored : List Ended) (rows : Rows) → AreDocketRows court n stored rows → n + 1 < 2 ^ 63
+        → Sees (state S.Store tx.old.conn.now) rows → OnOk result (Sees (state S.Store tx.new.conn.now) (row_changed court n (change.AddCalendar row.now) rows)) }
 {
     insert(tx, Table::Calendar, &calendar_values(row))?;
     count_calendar_row(tx)
@@ -40,6 +44,8 @@ fn change_row<S: Alter>(tx: &mut Transaction<'_, S>, change: &Change) -> Result<
     ensures inside { StaysInside (state S.Store tx.old.conn.now) (state S.Store tx.new.conn.now) }
     ensures ok { HasCleanDisk (state S.Store tx.new.conn.now) → (court : CourtSettings) (t : Tables) (ends : List Ended) → t.next_row + 1 < 2 ^ 63
         → Sees (state S.Store tx.old.conn.now) (rows_with court t ends) → OnOk result (Sees (state S.Store tx.new.conn.now) (rows_with court (changed change.now t) ends)) }
+    ensures any { HasCleanDisk (state S.Store tx.new.conn.now) → (court : CourtSettings) (n : ℕ) (stored : List Ended) (rows : Rows) → AreDocketRows court n stored rows → n + 1 < 2 ^ 63
+        → Sees (state S.Store tx.old.conn.now) rows → OnOk result (Sees (state S.Store tx.new.conn.now) (row_changed court n change.now rows)) }
 {
     match change {
         Change::AddCalendar(row) => add_calendar_row(tx, row),
@@ -58,6 +64,8 @@ fn change_all<S: Alter>(tx: &mut Transaction<'_, S>, changes: &[Change]) -> Resu
     ensures inside { StaysInside (state S.Store tx.old.conn.now) (state S.Store tx.new.conn.now) }
     ensures ok { HasCleanDisk (state S.Store tx.new.conn.now) → (court : CourtSettings) (t : Tables) (ends : List Ended) → t.next_row + length changes.now < 2 ^ 63
         → Sees (state S.Store tx.old.conn.now) (rows_with court t ends) → OnOk result (Sees (state S.Store tx.new.conn.now) (rows_with court (all_changed changes.now t) ends)) }
+    ensures any { HasCleanDisk (state S.Store tx.new.conn.now) → (court : CourtSettings) (n : ℕ) (stored : List Ended) (rows : Rows) → AreDocketRows court n stored rows → n + length changes.now < 2 ^ 63
+        → Sees (state S.Store tx.old.conn.now) rows → OnOk result (Sees (state S.Store tx.new.conn.now) (all_rows_changed court n changes.now rows)) }
 {
     'changes: for change in changes {
         change_row(tx, change)?;
@@ -78,6 +86,8 @@ pub fn record<S: Alter>(
     ensures ok { HasCleanDisk (state S.Store tx.new.conn.now) → (court : CourtSettings) (t : Tables) (ends : List Ended) → t.next_row + length changes.now.rows.items < 2 ^ 63
         → Sees (state S.Store tx.old.conn.now) (rows_with court t ends)
         → OnOk result (Sees (state S.Store tx.new.conn.now) (rows_with court (with_receipt command.now changes.now.reply (all_changed changes.now.rows.items t)) ends)) }
+    ensures any { HasCleanDisk (state S.Store tx.new.conn.now) → (court : CourtSettings) (n : ℕ) (stored : List Ended) (rows : Rows) → AreDocketRows court n stored rows → n + length changes.now.rows.items < 2 ^ 63
+        → Sees (state S.Store tx.old.conn.now) rows → OnOk result (Sees (state S.Store tx.new.conn.now) (recorded court n command.now changes.now.reply changes.now.rows.items rows)) }
 {
     change_all(tx, changes.rows.as_slice())?;
     insert(
@@ -93,6 +103,8 @@ fn change_end<S: Alter>(tx: &mut Transaction<'_, S>, change: &EndChange) -> Resu
     ensures clean { doubt (state S.Store tx.old.conn.now).is_clean ≤ doubt (state S.Store tx.new.conn.now).is_clean }
     ensures inside { (court : CourtSettings) (t : Tables) (ends : List Ended)
         → Inside (state S.Store tx.old.conn.now) (state S.Store tx.new.conn.now) (rows_with court t ends) (rows_with court t (changed_ends change.now ends)) result (λ _. Unit {0}) }
+    ensures any { (stored : List Ended) (rows : Rows)
+        → Inside (state S.Store tx.old.conn.now) (state S.Store tx.new.conn.now) (with_stored stored rows) (with_stored (changed_ends change.now stored) rows) result (λ _. Unit {0}) }
 {
     match change {
         EndChange::Add(row) => insert(tx, Table::Ends, &end_values(row))?,
@@ -111,6 +123,8 @@ pub fn change_ends<S: Alter>(
     ensures clean { doubt (state S.Store tx.old.conn.now).is_clean ≤ doubt (state S.Store tx.new.conn.now).is_clean }
     ensures inside { (court : CourtSettings) (t : Tables) (ends : List Ended)
         → Inside (state S.Store tx.old.conn.now) (state S.Store tx.new.conn.now) (rows_with court t ends) (rows_with court t (all_changed_ends changes.now ends)) result (λ _. Unit {0}) }
+    ensures any { (stored : List Ended) (rows : Rows)
+        → Inside (state S.Store tx.old.conn.now) (state S.Store tx.new.conn.now) (with_stored stored rows) (with_stored (all_changed_ends changes.now stored) rows) result (λ _. Unit {0}) }
 {
     'changes: for change in changes {
         change_end(tx, change)?;

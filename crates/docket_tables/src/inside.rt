@@ -8,6 +8,7 @@ ghost use Rattle.docket_core.specs.Tables.{Tables};
 ghost use Rattle.docket_core.specs.declared.end_row.EndRow.{EndRow as Ended};
 ghost use Rattle.docket_tables.specs.Contents.{AreStored, ends_of, rows_with};
 ghost use Rattle.docket_orderly.specs.Orderly.{IsOrderly};
+ghost use Rattle.docket_tables.specs.Layouts.{Rows};
 ghost use Rattle.docket_tables.specs.Readings.{AreActsOf};
 ghost use Rattle.docket_tables.specs.Stands.{Inside};
 
@@ -29,6 +30,7 @@ pub fn calendar<S: Alter>(
     ensures clean { doubt (state S.Store tx.old.conn.now).is_clean ≤ doubt (state S.Store tx.new.conn.now).is_clean }
     ensures inside { (court : CourtSettings) (t : Tables) (ends : List Ended) → IsOrderly court t
         → Inside (state S.Store tx.old.conn.now) (state S.Store tx.new.conn.now) (rows_with court t ends) (rows_with court t ends) result (λ found. found.items ≡ t.calendar) }
+    ensures still { (rows : Rows) → Inside (state S.Store tx.old.conn.now) (state S.Store tx.new.conn.now) rows rows result (λ _. Unit {0}) }
 {
     let rows = ask_inside(tx, Query::Calendar, &[])?;
     all_in(alloc, rows.as_slice())
@@ -44,6 +46,7 @@ pub fn ends_of_case<S: Alter>(
     ensures clean { doubt (state S.Store tx.old.conn.now).is_clean ≤ doubt (state S.Store tx.new.conn.now).is_clean }
     ensures inside { (court : CourtSettings) (t : Tables) (ends : List Ended) → AreStored case ends
         → Inside (state S.Store tx.old.conn.now) (state S.Store tx.new.conn.now) (rows_with court t ends) (rows_with court t ends) result (λ found. found.items ≡ ends_of case ends) }
+    ensures still { (rows : Rows) → Inside (state S.Store tx.old.conn.now) (state S.Store tx.new.conn.now) rows rows result (λ _. Unit {0}) }
 {
     let rows = ask_inside(tx, Query::Ends, &[case.to_sql()])?;
     all_in(alloc, rows.as_slice())
@@ -59,6 +62,7 @@ pub fn deadlines_of_case<S: Alter>(
     ensures clean { doubt (state S.Store tx.old.conn.now).is_clean ≤ doubt (state S.Store tx.new.conn.now).is_clean }
     ensures inside { (court : CourtSettings) (t : Tables) (ends : List Ended) → IsOrderly court t
         → Inside (state S.Store tx.old.conn.now) (state S.Store tx.new.conn.now) (rows_with court t ends) (rows_with court t ends) result (λ found. found.items ≡ deadlines_of_case case t.deadlines) }
+    ensures still { (rows : Rows) → Inside (state S.Store tx.old.conn.now) (state S.Store tx.new.conn.now) rows rows result (λ _. Unit {0}) }
 {
     let rows = ask_inside(tx, Query::Deadlines, &[case.to_sql()])?;
     all_in(alloc, rows.as_slice())
@@ -74,6 +78,7 @@ pub fn acts_of_case<S: Alter>(
     ensures clean { doubt (state S.Store tx.old.conn.now).is_clean ≤ doubt (state S.Store tx.new.conn.now).is_clean }
     ensures inside { (court : CourtSettings) (t : Tables) (ends : List Ended) → IsOrderly court t
         → Inside (state S.Store tx.old.conn.now) (state S.Store tx.new.conn.now) (rows_with court t ends) (rows_with court t ends) result (λ found. AreActsOf case t.acts found.items) }
+    ensures still { (rows : Rows) → Inside (state S.Store tx.old.conn.now) (state S.Store tx.new.conn.now) rows rows result (λ _. Unit {0}) }
 {
     let rows = ask_inside(tx, Query::Acts, &[case.to_sql()])?;
     all_in(alloc, rows.as_slice())

@@ -27,7 +27,7 @@ mod table;
 pub use changing::{change_ends, record};
 pub use creation::{make, undone_fault};
 pub use fault::{ReadFault, StoreFault};
-pub use laws::dockets_are_recognized;
+pub use laws::{commands_keep_docket_rows, dockets_are_recognized};
 pub use probe::fault_of;
 pub use reading::{
     acts_of_case, acts_of_deadline, calendar, case, cases, count_deadlines, count_entries,

@@ -1,6 +1,7 @@
 //! Want of memory told from a database that failed.
 ghost use Rattle.std.specs.Prelude.{◌≡◌, ◌≢◌, ◌≤◌, false, IsTrue};
 ghost use Rattle.sqlite.specs.Held.{state};
+ghost use Rattle.sqlite.specs.State.{Survives};
 ghost use Rattle.sqlite.specs.View.{doubt};
 ghost use Rattle.sqlite.specs.declared.error.Error.TheVariants.{SqliteFailure};
 ghost use Rattle.sqlite.specs.declared.error.ErrorCode.TheVariants.{OutOfMemory};
@@ -9,29 +10,25 @@ ghost use Rattle.docket_tables.specs.Layouts.{Rows};
 ghost use Rattle.docket_tables.specs.Stands.{HoldsRows, LastsAsEither, Leaves};
 
 use crate::fault::StoreFault;
-use crate::store::change;
 use sqlite::{Alter, Connection, Error, ErrorCode};
 
-/// Whether the store still answers. An empty statement and its commit write nothing.
+/// Whether the store still answers. The empty statement is only prepared, so nothing is written.
 fn is_alive<S: Alter>(conn: &mut Connection<S>) -> bool
     requires { conn.old.in_transaction ≡ false }
     ensures idle { conn.new.in_transaction ≡ false }
-    ensures clean { doubt (state S.Store conn.old).is_clean ≤ doubt (state S.Store conn.new).is_clean }
+    ensures writes_nothing { Survives (state S.Store conn.old) (state S.Store conn.new) (λ _. ⊥) }
     ensures either { (rows next : Rows) → LastsAsEither S.Store conn.old rows next → LastsAsEither S.Store conn.new rows next }
     ensures alive { (rows next : Rows) → LastsAsEither S.Store conn.old rows next → IsTrue result → HoldsRows S.Store conn.new rows }
 {
-    let mut tx = conn.transaction();
-    if change(&mut tx, "", &[]).is_err() {
-        return false;
-    }
-    tx.commit().is_ok()
+    conn.prepare("").is_ok()
 }
 
 /// What an error of a question or of a write comes to: want of memory, where the store still answers
-/// and the rows are as they were, or a database that failed.
+/// and the rows are as they were, or a database that failed. Nothing is written.
 pub fn fault_of<S: Alter>(conn: &mut Connection<S>, error: Error) -> StoreFault
     requires { conn.old.in_transaction ≡ false }
     ensures idle { conn.new.in_transaction ≡ false }
+    ensures writes_nothing { Survives (state S.Store conn.old) (state S.Store conn.new) (λ _. ⊥) }
     ensures clean { doubt (state S.Store conn.old).is_clean ≤ doubt (state S.Store conn.new).is_clean }
     ensures other { error ≢ SqliteFailure OutOfMemory → result ≡ StoreFailed }
     ensures left { (rows next : Rows) → LastsAsEither S.Store conn.old rows next → Leaves S.Store conn.new rows next result }

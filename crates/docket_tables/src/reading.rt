@@ -11,7 +11,9 @@ ghost use Rattle.docket_core.specs.Records.{case_at};
 ghost use Rattle.docket_wire.specs.Valid.{IsCommand};
 ghost use Rattle.docket_wire.specs.Writing.{canonical};
 ghost use Rattle.docket_tables.specs.Contents.{ends_of};
-ghost use Rattle.docket_tables.specs.Readings.{AreActsOf, Reads, row_at};
+ghost use Rattle.docket_tables.specs.Layouts.{Rows};
+ghost use Rattle.docket_tables.specs.Readings.{AreActsOf, Reads, Stays, row_at};
+ghost use Rattle.docket_tables.specs.Stands.{HoldsRows};
 
 use crate::fault::ReadFault;
 use crate::query::Query;
@@ -28,6 +30,7 @@ use std::alloc::Global;
 /// The court, with the number of the next calendar row.
 pub fn court<S: Alter>(conn: &mut Connection<S>, alloc: Global) -> Result<CourtRow, ReadFault>
     ensures read { Reads S.Store conn.old conn.new result (λ court t found. found ≡ record { zone = court.zone_text; close = court.close_minute; next_row = t.next_row }) }
+    ensures stays { (rows : Rows) → HoldsRows S.Store conn.old rows → Stays S.Store conn.new rows result }
     ensures clean { doubt (state S.Store conn.old).is_clean ≤ doubt (state S.Store conn.new).is_clean }
     ensures mode { conn.old.in_transaction ≡ false → conn.new.in_transaction ≡ false }
 {
@@ -41,6 +44,7 @@ pub fn calendar<S: Alter>(
     alloc: Global,
 ) -> Result<Vec<CalendarRow>, ReadFault>
     ensures read { Reads S.Store conn.old conn.new result (λ _ t found. found.items ≡ t.calendar) }
+    ensures stays { (rows : Rows) → HoldsRows S.Store conn.old rows → Stays S.Store conn.new rows result }
     ensures clean { doubt (state S.Store conn.old).is_clean ≤ doubt (state S.Store conn.new).is_clean }
     ensures mode { conn.old.in_transaction ≡ false → conn.new.in_transaction ≡ false }
 {
@@ -51,6 +55,7 @@ pub fn calendar<S: Alter>(
 /// Whether the calendar row of a number stands.
 pub fn is_row_standing<S: Alter>(conn: &mut Connection<S>, number: u32) -> Result<bool, ReadFault>
     ensures read { Reads S.Store conn.old conn.new result (λ _ t found. found ≡ list_any (λ row. row.number == number) t.calendar) }
+    ensures stays { (rows : Rows) → HoldsRows S.Store conn.old rows → Stays S.Store conn.new rows result }
     ensures clean { doubt (state S.Store conn.old).is_clean ≤ doubt (state S.Store conn.new).is_clean }
     ensures mode { conn.old.in_transaction ≡ false → conn.new.in_transaction ≡ false }
 {
@@ -61,6 +66,7 @@ pub fn is_row_standing<S: Alter>(conn: &mut Connection<S>, number: u32) -> Resul
 /// How many cases there are.
 pub fn cases<S: Alter>(conn: &mut Connection<S>) -> Result<u32, ReadFault>
     ensures read { Reads S.Store conn.old conn.new result (λ _ t found. found ≡ length t.cases) }
+    ensures stays { (rows : Rows) → HoldsRows S.Store conn.old rows → Stays S.Store conn.new rows result }
     ensures clean { doubt (state S.Store conn.old).is_clean ≤ doubt (state S.Store conn.new).is_clean }
     ensures mode { conn.old.in_transaction ≡ false → conn.new.in_transaction ≡ false }
 {
@@ -71,6 +77,7 @@ pub fn cases<S: Alter>(conn: &mut Connection<S>) -> Result<u32, ReadFault>
 /// Whether a case has the label.
 pub fn is_label_taken<S: Alter>(conn: &mut Connection<S>, label: &str) -> Result<bool, ReadFault>
     ensures read { Reads S.Store conn.old conn.new result (λ _ t found. found ≡ list_any (λ row. bytes_eq row.label label.now) t.cases) }
+    ensures stays { (rows : Rows) → HoldsRows S.Store conn.old rows → Stays S.Store conn.new rows result }
     ensures clean { doubt (state S.Store conn.old).is_clean ≤ doubt (state S.Store conn.new).is_clean }
     ensures mode { conn.old.in_transaction ≡ false → conn.new.in_transaction ≡ false }
 {
@@ -85,6 +92,7 @@ pub fn case<S: Alter>(
     number: u32,
 ) -> Result<Option<CaseRow>, ReadFault>
     ensures read { Reads S.Store conn.old conn.new result (λ _ t found. found ≡ case_at t.cases number) }
+    ensures stays { (rows : Rows) → HoldsRows S.Store conn.old rows → Stays S.Store conn.new rows result }
     ensures clean { doubt (state S.Store conn.old).is_clean ≤ doubt (state S.Store conn.new).is_clean }
     ensures mode { conn.old.in_transaction ≡ false → conn.new.in_transaction ≡ false }
 {
@@ -95,6 +103,7 @@ pub fn case<S: Alter>(
 /// How many parties a case has.
 pub fn count_parties<S: Alter>(conn: &mut Connection<S>, case: u32) -> Result<u32, ReadFault>
     ensures read { Reads S.Store conn.old conn.new result (λ _ t found. found ≡ length (parties_of_case case t.parties)) }
+    ensures stays { (rows : Rows) → HoldsRows S.Store conn.old rows → Stays S.Store conn.new rows result }
     ensures clean { doubt (state S.Store conn.old).is_clean ≤ doubt (state S.Store conn.new).is_clean }
     ensures mode { conn.old.in_transaction ≡ false → conn.new.in_transaction ≡ false }
 {
@@ -109,6 +118,7 @@ pub fn parties<S: Alter>(
     case: u32,
 ) -> Result<Vec<PartyRow>, ReadFault>
     ensures read { Reads S.Store conn.old conn.new result (λ _ t found. found.items ≡ parties_of_case case t.parties) }
+    ensures stays { (rows : Rows) → HoldsRows S.Store conn.old rows → Stays S.Store conn.new rows result }
     ensures clean { doubt (state S.Store conn.old).is_clean ≤ doubt (state S.Store conn.new).is_clean }
     ensures mode { conn.old.in_transaction ≡ false → conn.new.in_transaction ≡ false }
 {
@@ -119,6 +129,7 @@ pub fn parties<S: Alter>(
 /// How many entries a case has.
 pub fn count_entries<S: Alter>(conn: &mut Connection<S>, case: u32) -> Result<u32, ReadFault>
     ensures read { Reads S.Store conn.old conn.new result (λ _ t found. found ≡ length (entries_of_case case t.entries)) }
+    ensures stays { (rows : Rows) → HoldsRows S.Store conn.old rows → Stays S.Store conn.new rows result }
     ensures clean { doubt (state S.Store conn.old).is_clean ≤ doubt (state S.Store conn.new).is_clean }
     ensures mode { conn.old.in_transaction ≡ false → conn.new.in_transaction ≡ false }
 {
@@ -133,6 +144,7 @@ pub fn entries<S: Alter>(
     case: u32,
 ) -> Result<Vec<EntryRow>, ReadFault>
     ensures read { Reads S.Store conn.old conn.new result (λ _ t found. found.items ≡ entries_of_case case t.entries) }
+    ensures stays { (rows : Rows) → HoldsRows S.Store conn.old rows → Stays S.Store conn.new rows result }
     ensures clean { doubt (state S.Store conn.old).is_clean ≤ doubt (state S.Store conn.new).is_clean }
     ensures mode { conn.old.in_transaction ≡ false → conn.new.in_transaction ≡ false }
 {
@@ -143,6 +155,7 @@ pub fn entries<S: Alter>(
 /// How many deadlines a case has.
 pub fn count_deadlines<S: Alter>(conn: &mut Connection<S>, case: u32) -> Result<u32, ReadFault>
     ensures read { Reads S.Store conn.old conn.new result (λ _ t found. found ≡ length (deadlines_of_case case t.deadlines)) }
+    ensures stays { (rows : Rows) → HoldsRows S.Store conn.old rows → Stays S.Store conn.new rows result }
     ensures clean { doubt (state S.Store conn.old).is_clean ≤ doubt (state S.Store conn.new).is_clean }
     ensures mode { conn.old.in_transaction ≡ false → conn.new.in_transaction ≡ false }
 {
@@ -157,6 +170,7 @@ pub fn deadline<S: Alter>(
     number: u32,
 ) -> Result<Option<DeadlineRow>, ReadFault>
     ensures read { Reads S.Store conn.old conn.new result (λ _ t found. found ≡ row_at (deadlines_of_case case t.deadlines) number) }
+    ensures stays { (rows : Rows) → HoldsRows S.Store conn.old rows → Stays S.Store conn.new rows result }
     ensures clean { doubt (state S.Store conn.old).is_clean ≤ doubt (state S.Store conn.new).is_clean }
     ensures mode { conn.old.in_transaction ≡ false → conn.new.in_transaction ≡ false }
 {
@@ -172,6 +186,7 @@ pub fn acts_of_deadline<S: Alter>(
     deadline: u32,
 ) -> Result<Vec<Act>, ReadFault>
     ensures read { Reads S.Store conn.old conn.new result (λ _ t found. found.items ≡ acts_of_deadline case deadline t.acts) }
+    ensures stays { (rows : Rows) → HoldsRows S.Store conn.old rows → Stays S.Store conn.new rows result }
     ensures clean { doubt (state S.Store conn.old).is_clean ≤ doubt (state S.Store conn.new).is_clean }
     ensures mode { conn.old.in_transaction ≡ false → conn.new.in_transaction ≡ false }
 {
@@ -190,6 +205,7 @@ pub fn deadlines<S: Alter>(
     case: u32,
 ) -> Result<Vec<DeadlineRow>, ReadFault>
     ensures read { Reads S.Store conn.old conn.new result (λ _ t found. found.items ≡ deadlines_of_case case t.deadlines) }
+    ensures stays { (rows : Rows) → HoldsRows S.Store conn.old rows → Stays S.Store conn.new rows result }
     ensures clean { doubt (state S.Store conn.old).is_clean ≤ doubt (state S.Store conn.new).is_clean }
     ensures mode { conn.old.in_transaction ≡ false → conn.new.in_transaction ≡ false }
 {
@@ -204,6 +220,7 @@ pub fn acts_of_case<S: Alter>(
     case: u32,
 ) -> Result<Vec<ActRow>, ReadFault>
     ensures read { Reads S.Store conn.old conn.new result (λ _ t found. AreActsOf case t.acts found.items) }
+    ensures stays { (rows : Rows) → HoldsRows S.Store conn.old rows → Stays S.Store conn.new rows result }
     ensures clean { doubt (state S.Store conn.old).is_clean ≤ doubt (state S.Store conn.new).is_clean }
     ensures mode { conn.old.in_transaction ≡ false → conn.new.in_transaction ≡ false }
 {
@@ -218,6 +235,7 @@ pub fn ends_of_case<S: Alter>(
     case: u32,
 ) -> Result<Vec<EndRow>, ReadFault>
     ensures read { Reads S.Store conn.old conn.new result (λ court t found. found.items ≡ ends_of case (end_rows court t)) }
+    ensures stays { (rows : Rows) → HoldsRows S.Store conn.old rows → Stays S.Store conn.new rows result }
     ensures clean { doubt (state S.Store conn.old).is_clean ≤ doubt (state S.Store conn.new).is_clean }
     ensures mode { conn.old.in_transaction ≡ false → conn.new.in_transaction ≡ false }
 {
@@ -234,6 +252,7 @@ pub fn kept<S: Alter>(
     requires body { body.now ≡ canonical command.now }
     requires lawful { IsCommand command.now }
     ensures read { Reads S.Store conn.old conn.new result (λ _ t found. found ≡ kept t.receipts command.now) }
+    ensures stays { (rows : Rows) → HoldsRows S.Store conn.old rows → Stays S.Store conn.new rows result }
     ensures clean { doubt (state S.Store conn.old).is_clean ≤ doubt (state S.Store conn.new).is_clean }
     ensures mode { conn.old.in_transaction ≡ false → conn.new.in_transaction ≡ false }
 {

@@ -36,6 +36,9 @@ pub trait Answerer {
     // is that which an answer would have left.
     ghost Fails: { Self → Self.Fault → State → State → Type 0 };
 
+    // What the answering of a line does to the answerer, also where it fails.
+    ghost Steps: { Self → Self → Type 0 };
+
     // What a line within the limit comes to: its answer, whether that is bad, and the state it leaves.
     ghost judge: { State → List ℕ → Judged State };
 
@@ -48,6 +51,7 @@ pub trait Answerer {
         ensures ok { IfOk result (λ bad. (s : State) → Shows self.old s → Trusts self.new
             → Answers (Shows self.new) out.old.items out.new.items bad (judge s line.now)) }
         ensures trust { Trusts self.new → Trusts self.old }
+        ensures steps { Steps self.old self.new }
         ensures err { OnErr result (out.new.items ≡ out.old.items) }
         ensures fails { IfErr result (λ fault. (s : State) → Shows self.old s → Trusts self.new
             → Fails self.new fault s (judge s line.now).after) };
@@ -57,6 +61,7 @@ pub trait Answerer {
         ensures ok { IfOk result (λ bad. (s : State) → Shows self.old s → Trusts self.new
             → Answers (Shows self.new) out.old.items out.new.items bad (judge_long s)) }
         ensures trust { Trusts self.new → Trusts self.old }
+        ensures steps { Steps self.old self.new }
         ensures err { OnErr result (out.new.items ≡ out.old.items) }
         ensures fails { IfErr result (λ fault. (s : State) → Shows self.old s → Trusts self.new
             → Fails self.new fault s (judge_long s).after) };

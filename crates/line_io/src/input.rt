@@ -5,6 +5,7 @@ ghost use Rattle.line_io.specs.Ending.{BreaksOff, Leaves};
 ghost use Rattle.line_io.specs.Lines.{lines_from, lines_of};
 ghost use Rattle.line_io.specs.Report.{within, text_of, bad_of, after_of};
 ghost use Rattle.line_io.specs.Output.{HasFront};
+ghost use Rattle.line_io.specs.Steps.{Reaches};
 ghost use Rattle.line_io.specs.Progress.{FromEach, Stops, Takes, Tells};
 
 use crate::answerer::Answerer;
@@ -38,6 +39,7 @@ fn take_piece<W: Write, A: Answerer>(
         progress.old.counts.lines progress.old.counts.bad
         progress.new.counts.lines progress.new.counts.bad)) }
     ensures trust { A.Trusts answerer.new → A.Trusts answerer.old }
+    ensures steps { Reaches A.Steps answerer.old answerer.new }
     ensures kept { OnOk result (vec_len progress.new.kept ≤ A.LIMIT + 2) }
     ensures counts { OnOk result ((progress.new.counts.bad ≤ progress.new.counts.lines)
         × (progress.new.counts.lines ≤ progress.old.counts.lines + length piece.now)) }
@@ -78,6 +80,7 @@ fn answer_lines<R: Read, W: Write, A: Answerer>(
         (W.contents writer.old) (W.contents writer.new)
         progress.new.pending.items progress.new.counts.lines progress.new.counts.bad)) }
     ensures trust { A.Trusts answerer.new → A.Trusts answerer.old }
+    ensures steps { Reaches A.Steps answerer.old answerer.new }
     ensures stops { IfErr result (λ fault. (s : A.State) → A.Shows answerer.old s → A.Trusts answerer.new
         → IfSome (R.remaining reader.old) (λ input.
         Stops (within A.LIMIT A.judge A.judge_long)
@@ -109,7 +112,8 @@ fn answer_lines<R: Read, W: Write, A: Answerer>(
 /// After a fault the answerer stands for what the lines answered so far left, or one line more. Of the
 /// answers to the lines without the one more at most `A::MAX_PENDING` bytes were not written.
 ///
-/// All this is said where the answerer still has what it relies on when the run ends.
+/// All this is said where the answerer still has what it relies on when the run ends. Whatever became
+/// of that, the answerer went no other way than by answers to lines.
 pub fn run_lines<R: Read, W: Write, A: Answerer>(
     alloc: Global,
     reader: &mut R,
@@ -124,6 +128,7 @@ pub fn run_lines<R: Read, W: Write, A: Answerer>(
         × (end.bad ≡ bad_of (within A.LIMIT A.judge A.judge_long) s (lines_of input))
         × A.Shows answerer.new (after_of (within A.LIMIT A.judge A.judge_long) s (lines_of input)))) }
     ensures trust { A.Trusts answerer.new → A.Trusts answerer.old }
+    ensures steps { Reaches A.Steps answerer.old answerer.new }
     ensures front { OnErr result ((s : A.State) → A.Shows answerer.old s → A.Trusts answerer.new
         → IfSome (R.remaining reader.old) (λ input.
         HasFront (W.contents writer.old) (W.contents writer.new)

@@ -3,6 +3,7 @@ ghost use Rattle.std.specs.Prelude.{◌≡◌, ◌+◌, ◌<◌, ◌≤◌, ◌^
 ghost use Rattle.line_io.specs.Ending.{Leaves};
 ghost use Rattle.line_io.specs.Lines.{without_cr, last_line, lines_from, HasNoFeed};
 ghost use Rattle.line_io.specs.Report.{Answers, within, after_of};
+ghost use Rattle.line_io.specs.Steps.{Reaches};
 ghost use Rattle.line_io.specs.Progress.{FromEach, Stops, Takes, Ends};
 
 use crate::answerer::Answerer;
@@ -57,6 +58,7 @@ fn answer_line<A: Answerer>(
         → Answers (A.Shows answerer.new) pending.old.items pending.new.items bad
         (within A.LIMIT A.judge A.judge_long s line.now)) }
     ensures trust { A.Trusts answerer.new → A.Trusts answerer.old }
+    ensures steps { A.Steps answerer.old answerer.new }
     ensures err { OnErr result (pending.new.items ≡ pending.old.items) }
     ensures fails { IfErr result (λ fault. (s : A.State) → A.Shows answerer.old s → A.Trusts answerer.new
         → Leaves (A.Shows answerer.new) (A.Fails answerer.new) fault s
@@ -88,6 +90,7 @@ fn end_line<A: Answerer>(
     ensures len { OnOk result (vec_len progress.new.kept ≡ 0) }
     ensures counts { progress.new.counts ≡ progress.old.counts }
     ensures trust { A.Trusts answerer.new → A.Trusts answerer.old }
+    ensures steps { Reaches A.Steps answerer.old answerer.new }
     ensures err { OnErr result (progress.new.pending.items ≡ progress.old.pending.items) }
     ensures fails { IfErr result (λ fault.
         FromEach (A.Trusts answerer.new) (A.Shows answerer.old) (A.LIMIT + 2) progress.old.kept.items (λ s part.
@@ -138,6 +141,7 @@ pub(crate) fn take_line<W: Write, A: Answerer>(
         progress.old.counts.lines progress.old.counts.bad
         progress.new.counts.lines progress.new.counts.bad)) }
     ensures trust { A.Trusts answerer.new → A.Trusts answerer.old }
+    ensures steps { Reaches A.Steps answerer.old answerer.new }
     ensures kept { OnOk result (vec_len progress.new.kept ≡ 0) }
     ensures counts { OnOk result ((progress.new.counts.bad ≤ progress.new.counts.lines)
         × (progress.new.counts.lines ≡ progress.old.counts.lines + 1)) }
@@ -175,6 +179,7 @@ pub(crate) fn finish<A: Answerer>(
         progress.old.counts.lines progress.old.counts.bad
         progress.new.counts.lines progress.new.counts.bad)) }
     ensures trust { A.Trusts answerer.new → A.Trusts answerer.old }
+    ensures steps { Reaches A.Steps answerer.old answerer.new }
     ensures err { OnErr result (progress.new.pending.items ≡ progress.old.pending.items) }
     ensures fails { IfErr result (λ fault.
         FromEach (A.Trusts answerer.new) (A.Shows answerer.old) (A.LIMIT + 2) progress.old.kept.items (λ s part.

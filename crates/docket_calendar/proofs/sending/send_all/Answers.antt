@@ -1,8 +1,9 @@
 use Rattle.std.proofs.Common.{◌∙◌, arith}
 use Rattle.sqlite.specs.State.{HasCleanDisk}
 use Rattle.sqlite.specs.Held.{state}
+use Rattle.sqlite.proofs.Callers.{unchanged_then}
 use Rattle.sqlite.proofs.StateLemmas.{survives_then}
-use Rattle.docket_calendar.proofs.TellLemmas.{lists_still, goes_on_as, whole_as, stops_as}
+use Rattle.docket_calendar.proofs.TellLemmas.{lists_still, goes_on_as, whole_as, stops_as, err_remains, remains_from}
 use Rattle.docket_calendar.proofs.sending.send_all.Goals as goal
 
 pub returns-in_err-send_next-clause-sends : goal.returns-in_err-send_next-clause-sends
@@ -39,6 +40,9 @@ rows-preserved g c =
       same_reference = c.send_next.ensures.same_reference ∙ c.rows.invariant.same_reference;
       mode = λ idle. c.send_next.ensures.mode (c.rows.invariant.mode idle);
       survives = survives_then (state g.S.Store old) (state g.S.Store now) (state g.S.Store new) _ _ _ (λ _ db none. none) (λ _ db none. none) c.rows.invariant.survives c.send_next.ensures.survives;
+      remains = λ clean is_open.
+          let early : HasCleanDisk (state g.S.Store now) = omega (arith, c.send_next.ensures.survives.clean, clean) in
+          unchanged_then (state g.S.Store old) (state g.S.Store now) (state g.S.Store new) (c.rows.invariant.remains early is_open) (c.in_ok-send_next.ensures.remains clean);
       told = λ clean sql params listed lists gave is_open.
           let before : HasCleanDisk (state g.S.Store now) = omega (arith, c.send_next.ensures.survives.clean, clean) in
           let told = c.rows.invariant.told before sql params listed lists gave is_open in
@@ -51,3 +55,19 @@ pub returns-clause-sends : goal.returns-clause-sends
 returns-clause-sends g c = λ sql params listed clean lists gave is_open.
     let told = c.rows.invariant.told clean sql params listed lists gave is_open in
     absurd (omega (arith, told.gave.1, lists.few, c.rows-test.false))
+
+pub returns-in_err-send_next-clause-remains : goal.returns-in_err-send_next-clause-remains
+returns-in_err-send_next-clause-remains g c = λ clean is_open.
+    let old = c.args.rows.now.conn.now in
+    let now = c.rows.rows.conn.now in
+    let new = c.send_next.new.rows.conn.now in
+    let early : HasCleanDisk (state g.S.Store now) = omega (arith, c.send_next.ensures.survives.clean, clean) in
+    remains_from g.S.Store old now new c.from_residual.result (c.rows.invariant.remains early is_open) (err_remains g.S.Store now new _ c.from_residual.result c.from_residual.ensures.1 (c.in_err-send_next.ensures.remains clean))
+
+pub returns-then-not-branch-clause-remains : goal.returns-then-not-branch-clause-remains
+returns-then-not-branch-clause-remains g c = λ clean is_open.
+    let old = c.args.rows.now.conn.now in
+    let now = c.rows.rows.conn.now in
+    let new = c.send_next.new.rows.conn.now in
+    let early : HasCleanDisk (state g.S.Store now) = omega (arith, c.send_next.ensures.survives.clean, clean) in
+    unchanged_then (state g.S.Store old) (state g.S.Store now) (state g.S.Store new) (c.rows.invariant.remains early is_open) (c.in_ok-send_next.ensures.remains clean)

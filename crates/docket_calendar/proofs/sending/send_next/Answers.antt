@@ -1,5 +1,5 @@
 use Rattle.std.proofs.Common.{◌∙◌}
-use Rattle.docket_calendar.proofs.TellLemmas.{write_stops}
+use Rattle.docket_calendar.proofs.TellLemmas.{write_stops, stop_remains}
 use Rattle.docket_calendar.proofs.sending.send_next.Goals as goal
 
 pub returns-in_err-send-clause-sends : goal.returns-in_err-send-clause-sends
@@ -10,3 +10,7 @@ returns-in_err-send-clause-sends g c = λ sql params listed clean lists gave.
     let next = c.in-Ok.ensures.next sql params listed c.args.lines clean lists gave in
     write_stops g.S.Store court listed sql params c.args.lines c.args.front.now c.as_str.result.now (g.W.Write.contents c.args.writer.now) (g.W.Write.contents c.send.new.writer) old new c.in-Ok.due
     c.from_residual.result _ next (c.as_str.ensures.value ∙ c.in-Ok-text_at.ensures) c.in_err-send.ensures.1 c.in_err-send.ensures.0 c.from_residual.ensures.1
+
+pub returns-in-Err-clause-remains : goal.returns-in-Err-clause-remains
+returns-in-Err-clause-remains g c = λ clean.
+    stop_remains g.S.Store c.args.rows.now.conn.now c.next_due.new.rows.conn.now c.args.lines c.in-Err.fault c.stop_at.result c.stop_at.ensures (c.in-Err.ensures.remains clean)

@@ -7,9 +7,9 @@ use Rattle.sqlite.proofs.StateLemmas.{survives_then}
 use Rattle.sqlite.proofs.Callers.{begun_plain}
 use Rattle.std.proofs.KnownBytes.{Appends-nil}
 use Rattle.docket_tables.proofs.StandsLemmas.{failed_query}
-use Rattle.docket_calendar.specs.Sending.{SendsAll}
+use Rattle.docket_calendar.specs.Sending.{Remains, SendsAll}
 use Rattle.docket_calendar.proofs.StandsLemmas.{reads_only}
-use Rattle.docket_calendar.proofs.TellLemmas.{lists_still, sends_from}
+use Rattle.docket_calendar.proofs.TellLemmas.{lists_still, remains_from, sends_from}
 use Rattle.docket_calendar.proofs.telling.tell.Goals as goal
 
 pub returns-in-Ok-clause-clean : goal.returns-in-Ok-clause-clean
@@ -60,3 +60,19 @@ returns-in-Err-clause-sends g c = λ listed clean lists.
     let new = state g.S.Store c.query.follows.lender-at-none in
     let refused = rw c.in-Err.is at c.query.follows.holds-at-none in
     (Appends-nil (g.W.Write.contents c.args.writer.now), failed_query c.args.sql.now (bound c.args.values.now) old new c.in-Err.error lists.plain (refused.err clean))
+
+pub returns-in-Ok-clause-remains : goal.returns-in-Ok-clause-remains
+returns-in-Ok-clause-remains g c = λ plain clean.
+    let old = c.args.conn.now in
+    let mid = c.in-Ok.rows.conn.now in
+    let new = c.send_all.new.rows.conn.now in
+    let end : new ≡ c.conn-1.given.0 = search rules in
+    let late : HasCleanDisk (state g.S.Store new) = subst (λ h. HasCleanDisk (state g.S.Store h)) (sym end) clean in
+    let early : HasCleanDisk (state g.S.Store mid) = omega (arith, c.send_all.ensures.survives.clean, late) in
+    let begun = begun_plain g.S.Store c.args.sql.now (bound c.args.values.now) old mid plain (c.in-Ok.ensures.begun early) in
+    subst (λ h. Remains g.S.Store old h c.send_all.result) end (remains_from g.S.Store old mid new c.send_all.result begun.1 (c.send_all.ensures.remains late begun.1.0.is_open))
+
+pub returns-in-Err-clause-remains : goal.returns-in-Err-clause-remains
+returns-in-Err-clause-remains g c = λ plain clean.
+    let refused = rw c.in-Err.is at c.query.follows.holds-at-none in
+    failed_query c.args.sql.now (bound c.args.values.now) (state g.S.Store c.args.conn.now) (state g.S.Store c.query.follows.lender-at-none) c.in-Err.error plain (refused.err clean)

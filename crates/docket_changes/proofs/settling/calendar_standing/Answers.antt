@@ -4,6 +4,7 @@ use Rattle.sqlite.specs.Held.{state}
 use Rattle.docket_core.specs.CalendarItems.{calendar_of}
 use Rattle.docket_core.specs.Histories.{items_of}
 use Rattle.docket_tables.specs.Contents.{rows_with}
+use Rattle.docket_tables.proofs.AnyLemmas.{still_read}
 use Rattle.docket_tables.proofs.InsideLemmas.{failed_after}
 use Rattle.docket_changes.proofs.settling.calendar_standing.Goals as goal
 
@@ -21,3 +22,11 @@ returns-clause-inside g c t ends orderly sees =
           let found = read.1 clean in
           IfOk-weaker c.calendar_of_rows.result _ _ (λ calendar is. (found.0, is ∙ ap (λ rows. calendar_of (items_of rows)) (c.as_slice.ensures.value ∙ found.1))) c.calendar_of_rows.ensures,
     )
+
+pub returns-in_err-rows-clause-still : goal.returns-in_err-rows-clause-still
+returns-in_err-rows-clause-still g c rows =
+    failed_after (state g.S.Store c.args.tx.now.conn.now) (state g.S.Store c.calendar.new.tx.conn.now) rows rows c.from_residual.result _ (λ sees. (c.calendar.ensures.still rows sees).0) c.from_residual.ensures.0
+
+pub returns-clause-still : goal.returns-clause-still
+returns-clause-still g c rows sees =
+    let read = c.in_ok-rows.ensures.still rows sees in (read.0, λ clean. still_read c.calendar_of_rows.result _ (read.1 clean).0)

@@ -2,10 +2,11 @@ use Rattle.std.proofs.Common.{◌≡◌, subst}
 use Rattle.std.proofs.lemmas.Result.{IfOk-weaker}
 use Rattle.sqlite.specs.Held.{state}
 use Rattle.docket_core.specs.EndRows.{calendar_in}
+use Rattle.docket_tables.specs.AnyRows.{with_stored}
 use Rattle.docket_tables.specs.Contents.{rows_with}
 use Rattle.docket_changes.specs.Settling.{settled_cases}
 use Rattle.docket_tables.specs.Stands.{Sees}
-use Rattle.docket_tables.proofs.InsideLemmas.{failed_after, inside_with}
+use Rattle.docket_tables.proofs.InsideLemmas.{failed_after, inside_after, inside_with}
 use Rattle.docket_changes.proofs.settling.settle_by_rows.Goals as goal
 
 pub returns-in_err-calendar-clause-inside : goal.returns-in_err-calendar-clause-inside
@@ -27,3 +28,20 @@ returns-clause-inside g c t ends orderly stored only =
     (λ sees. (c.settle_cases.ensures.inside t ends orderly stored only sees).0)
     (λ clean same sees.
     IfOk-weaker c.settle_cases.result _ _ (λ u h. (subst (λ e. Sees new (rows_with court t (settled_cases court e t n ends))) same h.0, h.1)) ((c.settle_cases.ensures.inside t ends orderly stored only (λ _. sees)).1 clean))
+
+pub returns-in_err-calendar-clause-any : goal.returns-in_err-calendar-clause-any
+returns-in_err-calendar-clause-any g c stored rows =
+    let held = with_stored stored rows in (
+      stored,
+      failed_after (state g.S.Store c.args.tx.now.conn.now) (state g.S.Store c.calendar_standing.new.tx.conn.now) held held c.from_residual.result _
+          (λ sees. (c.calendar_standing.ensures.still held sees).0) c.from_residual.ensures.0,
+    )
+
+pub returns-clause-any : goal.returns-clause-any
+returns-clause-any g c stored rows =
+    let start = state g.S.Store c.args.tx.now.conn.now in
+    let mid = state g.S.Store c.calendar_standing.new.tx.conn.now in
+    let new = state g.S.Store c.settle_cases.new.tx.conn.now in
+    let held = with_stored stored rows in
+    let settled = c.settle_cases.ensures.any stored rows in
+    (settled.0, inside_after start mid new held held (with_stored settled.0 rows) (Unit {0}) c.settle_cases.result (λ _. Unit {0}) (λ _. Unit {0}) (c.in_ok-calendar.ensures.still held) settled.1 (λ a y b. tt))

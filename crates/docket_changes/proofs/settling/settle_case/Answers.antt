@@ -2,11 +2,12 @@ use Rattle.std.proofs.Common.{◌≡◌, ◌∙◌, ◌++◌, length, sym, subst
 use Rattle.std.proofs.lemmas.Bool.Decides.{nat_tests}
 use Rattle.std.proofs.lemmas.List.{nil_from_length}
 use Rattle.sqlite.specs.Held.{state}
-use Rattle.docket_core.specs.EndRows.{AreRowsFrom}
+use Rattle.docket_core.specs.EndRows.{AreRowsFrom, all_changed_ends}
 use Rattle.docket_core.specs.Histories.{deadlines_of_case, deadlines_from}
+use Rattle.docket_tables.specs.AnyRows.{with_stored}
 use Rattle.docket_tables.specs.Contents.{rows_with, ends_of}
 use Rattle.docket_changes.specs.Settling.{settled_case}
-use Rattle.docket_tables.proofs.InsideLemmas.{failed_after, stays_after, went_after, inside_with}
+use Rattle.docket_tables.proofs.InsideLemmas.{failed_after, stays_after, went_after, inside_after, inside_with}
 use Rattle.docket_tables.proofs.EndLemmas.{sees_permuted}
 use Rattle.docket_changes.proofs.SettlingLemmas.{others_of, others_apart, parted, settled_bare, settling_ends}
 use Rattle.docket_changes.proofs.settling.settle_case.Goals as goal
@@ -73,3 +74,47 @@ returns-clause-inside g c t ends orderly are only =
     (λ clean facts sees.
     settling_ends court entered t k ends are read new c.change_ends.result c.in_ok-changes.changes.items stored deadlines step
     (rw (c.as_slice.ensures.value, c.as_slice-2.ensures.value) at (c.in_ok-changes.ensures (others_of k ends) (others_apart k ends) (subst (AreRowsFrom k 1) (sym (c.as_slice-2.ensures.value ∙ facts.1)) are.rows))) facts.0 facts.1 clean sees)
+
+pub returns-in_err-stored-clause-any : goal.returns-in_err-stored-clause-any
+returns-in_err-stored-clause-any g c stored rows =
+    let held = with_stored stored rows in (
+      stored,
+      failed_after (state g.S.Store c.args.tx.now.conn.now) (state g.S.Store c.ends_of_case.new.tx.conn.now) held held c.from_residual.result _
+          (λ sees. (c.ends_of_case.ensures.still held sees).0) c.from_residual.ensures.0,
+    )
+
+pub returns-then-is_empty-clause-any : goal.returns-then-is_empty-clause-any
+returns-then-is_empty-clause-any g c stored rows = (stored, c.in_ok-stored.ensures.still (with_stored stored rows))
+
+pub returns-in_err-deadlines-clause-any : goal.returns-in_err-deadlines-clause-any
+returns-in_err-deadlines-clause-any g c stored rows =
+    let held = with_stored stored rows in
+    let start = state g.S.Store c.args.tx.now.conn.now in
+    let mid = state g.S.Store c.ends_of_case.new.tx.conn.now in
+    let new = state g.S.Store c.views_of_case.new.tx.conn.now in (
+      stored,
+      failed_after start new held held c.from_residual-in_err-deadlines.result _
+          (stays_after start mid new held held _ (c.in_ok-stored.ensures.still held) (λ sees. (c.views_of_case.ensures.still held sees).0)) c.from_residual-in_err-deadlines.ensures.0,
+    )
+
+pub returns-in_err-changes-clause-any : goal.returns-in_err-changes-clause-any
+returns-in_err-changes-clause-any g c stored rows =
+    let held = with_stored stored rows in
+    let start = state g.S.Store c.args.tx.now.conn.now in
+    let mid = state g.S.Store c.ends_of_case.new.tx.conn.now in
+    let new = state g.S.Store c.views_of_case.new.tx.conn.now in (
+      stored,
+      failed_after start new held held c.from_residual-in_err-changes.result _
+          (stays_after start mid new held held _ (c.in_ok-stored.ensures.still held) (λ sees. (c.in_ok-deadlines.ensures.still held sees).0)) c.from_residual-in_err-changes.ensures.0,
+    )
+
+pub returns-clause-any : goal.returns-clause-any
+returns-clause-any g c stored rows =
+    let held = with_stored stored rows in
+    let start = state g.S.Store c.args.tx.now.conn.now in
+    let mid = state g.S.Store c.ends_of_case.new.tx.conn.now in
+    let read = state g.S.Store c.views_of_case.new.tx.conn.now in
+    let new = state g.S.Store c.change_ends.new.tx.conn.now in
+    let next = all_changed_ends c.as_slice-3.result.now stored in
+    let both = went_after start mid read held held held (Unit {0}) (Unit {0}) (Unit {0}) (c.in_ok-stored.ensures.still held) (c.in_ok-deadlines.ensures.still held) (λ a b. tt) in
+    (next, inside_after start read new held held (with_stored next rows) (Unit {0}) c.change_ends.result (λ _. Unit {0}) (λ _. Unit {0}) both (c.change_ends.ensures.any stored rows) (λ a y b. tt))

@@ -1,5 +1,6 @@
 use Rattle.std.proofs.Common.{◌≡◌, ◌∙◌, ◌+◌, suc, refl, subst, arith}
 use Rattle.sqlite.specs.Held.{state}
+use Rattle.docket_tables.specs.AnyRows.{with_stored}
 use Rattle.docket_tables.specs.Contents.{rows_with}
 use Rattle.docket_changes.specs.Settling.{settled_case, settled_cases}
 use Rattle.docket_tables.proofs.CommitLemmas.{inside_still}
@@ -8,7 +9,7 @@ use Rattle.docket_changes.proofs.SettlingLemmas.{still_stored, still_runs_only}
 use Rattle.docket_changes.proofs.settling.settle_cases.Goals as goal
 
 pub cases-init : goal.cases-init
-cases-init g c = (refl, λ t ends orderly are only sees. (inside_still _, λ clean. (sees clean, tt)), omega arith)
+cases-init g c = (refl, λ t ends orderly are only sees. (inside_still _, λ clean. (sees clean, tt)), omega arith, λ stored rows. (stored, λ sees. (inside_still _, λ clean. (sees clean, tt))))
 
 pub returns-in_err-settle_case-clause-same_reference : goal.returns-in_err-settle_case-clause-same_reference
 returns-in_err-settle_case-clause-same_reference g c = c.settle_case.ensures.same_reference ∙ c.cases.invariant.0
@@ -44,6 +45,13 @@ cases-preserved g c = (
       (went_after start mid new (rows_with court t ends) (rows_with court t settled) (rows_with court t (settled_case court entered t (n + 1) settled)) (Unit {0}) (Unit {0}) (Unit {0})
       (c.cases.invariant.1 t ends orderly are only) (c.in_ok-settle_case.ensures.inside t settled orderly stored runs) (λ a b. tt)),
   omega (arith, c.cases.invariant.2, c.settle_case.ensures.clean),
+  λ stored rows.
+      let start = state g.S.Store c.args.tx.now.conn.now in
+      let mid = state g.S.Store c.cases.tx.conn.now in
+      let new = state g.S.Store c.settle_case.new.tx.conn.now in
+      let was = c.cases.invariant.3 stored rows in
+      let now = c.in_ok-settle_case.ensures.any was.0 rows in
+      (now.0, went_after start mid new (with_stored stored rows) (with_stored was.0 rows) (with_stored now.0 rows) (Unit {0}) (Unit {0}) (Unit {0}) was.1 now.1 (λ a b. tt)),
 )
 
 pub returns-clause-same_reference : goal.returns-clause-same_reference
@@ -60,3 +68,18 @@ returns-in_err-settle_case-clause-clean g c = omega (arith, c.cases.invariant.2,
 
 pub returns-clause-clean : goal.returns-clause-clean
 returns-clause-clean g c = c.cases.invariant.2
+
+pub returns-in_err-settle_case-clause-any : goal.returns-in_err-settle_case-clause-any
+returns-in_err-settle_case-clause-any g c stored rows =
+    let start = state g.S.Store c.args.tx.now.conn.now in
+    let mid = state g.S.Store c.cases.tx.conn.now in
+    let new = state g.S.Store c.settle_case.new.tx.conn.now in
+    let held = with_stored stored rows in
+    let was = c.cases.invariant.3 stored rows in (
+      stored,
+      failed_after start new held held c.from_residual.result _
+          (stays_after start mid new held (with_stored was.0 rows) (Unit {0}) was.1 (λ sees. ((c.settle_case.ensures.any was.0 rows).1 sees).0)) c.from_residual.ensures.0,
+    )
+
+pub returns-clause-any : goal.returns-clause-any
+returns-clause-any g c stored rows = c.cases.invariant.3 stored rows

@@ -3,7 +3,9 @@ use Rattle.sqlite.specs.Held.{state}
 use Rattle.sqlite.specs.View.{doubt}
 use Rattle.docket_core.specs.Tables.{Tables}
 use Rattle.docket_core.specs.declared.end_row.EndRow.{EndRow}
+use Rattle.docket_tables.specs.AnyRows.{with_stored}
 use Rattle.docket_tables.specs.Contents.{rows_with}
+use Rattle.docket_tables.specs.Layouts.{Rows}
 use Rattle.docket_orderly.specs.Orderly.{IsOrderly}
 use Rattle.docket_tables.specs.Contents.{AreStored}
 use Rattle.docket_changes.specs.Settling.{RunsOnlyWhereStored, settled_cases}
@@ -16,3 +18,5 @@ invariant-cases g l =
     × ((t : Tables) (ends : List EndRow) → IsOrderly l.court t → ((k : ℕ) → AreStored k ends) → ((k : ℕ) → RunsOnlyWhereStored l.court t ends k)
     → Went (state g.S.Store l.fn.tx.conn.now) (state g.S.Store l.tx.conn.now) (rows_with l.court t ends) (rows_with l.court t (settled_cases l.court l.calendar t l.done ends)) (Unit {0}))
     × (doubt (state g.S.Store l.fn.tx.conn.now).is_clean ≤ doubt (state g.S.Store l.tx.conn.now).is_clean)
+    × ((stored : List EndRow) (rows : Rows) → (next : List EndRow)
+    × Went (state g.S.Store l.fn.tx.conn.now) (state g.S.Store l.tx.conn.now) (with_stored stored rows) (with_stored next rows) (Unit {0}))

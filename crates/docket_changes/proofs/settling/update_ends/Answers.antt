@@ -1,8 +1,10 @@
-use Rattle.std.proofs.Common.{sym, subst}
+use Rattle.std.proofs.Common.{List, ap, sym, subst}
 use Rattle.sqlite.specs.Held.{state}
 use Rattle.docket_core.specs.EndRows.{all_changed_ends}
+use Rattle.docket_core.specs.declared.end_row.EndRow.{EndRow}
+use Rattle.docket_tables.specs.AnyRows.{with_stored}
 use Rattle.docket_tables.specs.Contents.{rows_with}
-use Rattle.docket_changes.specs.Settling.{MayUpdate, updated_ends}
+use Rattle.docket_changes.specs.Settling.{MayLeave, MayUpdate, updated_ends}
 use Rattle.docket_tables.specs.Stands.{Inside}
 use Rattle.docket_changes.proofs.settling.update_ends.Goals as goal
 
@@ -22,3 +24,18 @@ returns-in-Calendar-clause-inside g c t ends may =
     let asked = subst (λ u. MayUpdate court u t ends) c.in-Calendar.is may in
     subst (λ u. Inside old new (rows_with court t ends) (rows_with court t (updated_ends court u t ends)) c.settle_by_rows.result (λ _. Unit {0})) (sym c.in-Calendar.is)
     (c.settle_by_rows.ensures.inside t ends asked.0 asked.1 asked.2)
+
+pub returns-in-Moves-clause-any : goal.returns-in-Moves-clause-any
+returns-in-Moves-clause-any g c stored rows =
+    let old = state g.S.Store c.args.tx.now.conn.now in
+    let new = state g.S.Store c.change_ends.new.tx.conn.now in
+    subst (λ u. (next : List EndRow) × MayLeave u stored next × Inside old new (with_stored stored rows) (with_stored next rows) c.change_ends.result (λ _. Unit {0})) (sym c.in-Moves.is)
+    (all_changed_ends c.as_slice.result.now stored, ap (λ xs. all_changed_ends xs stored) c.as_slice.ensures.value, c.change_ends.ensures.any stored rows)
+
+pub returns-in-Calendar-clause-any : goal.returns-in-Calendar-clause-any
+returns-in-Calendar-clause-any g c stored rows =
+    let old = state g.S.Store c.args.tx.now.conn.now in
+    let new = state g.S.Store c.settle_by_rows.new.tx.conn.now in
+    let settled = c.settle_by_rows.ensures.any stored rows in
+    subst (λ u. (next : List EndRow) × MayLeave u stored next × Inside old new (with_stored stored rows) (with_stored next rows) c.settle_by_rows.result (λ _. Unit {0})) (sym c.in-Calendar.is)
+    (settled.0, tt, settled.1)

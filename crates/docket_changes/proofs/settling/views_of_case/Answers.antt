@@ -42,3 +42,31 @@ returns-clause-inside g c court t ends orderly =
     let rows = c.as_slice.ensures.value ∙ are in
     c.in_ok-with_acts.ensures k t.acts (subst (λ rs. RunsFrom 1 (map (λ r. r.number) rs)) (sym rows) (orderly.deadlines_run k)) (subst (AreActsOf k t.acts) (sym c.as_slice-2.ensures.value) acts)
     ∙ ap (deadlines_from k 1 t.acts) rows)
+
+pub returns-in_err-rows-clause-still : goal.returns-in_err-rows-clause-still
+returns-in_err-rows-clause-still g c rows =
+    failed_after (state g.S.Store c.args.tx.now.conn.now) (state g.S.Store c.deadlines_of_case.new.tx.conn.now) rows rows c.from_residual.result _
+    (λ sees. (c.deadlines_of_case.ensures.still rows sees).0) c.from_residual.ensures.0
+
+pub returns-in_err-acts-clause-still : goal.returns-in_err-acts-clause-still
+returns-in_err-acts-clause-still g c rows =
+    let start = state g.S.Store c.args.tx.now.conn.now in
+    let mid = state g.S.Store c.deadlines_of_case.new.tx.conn.now in
+    let new = state g.S.Store c.acts_of_case.new.tx.conn.now in
+    failed_after start new rows rows c.from_residual-in_err-acts.result _
+    (stays_after start mid new rows rows _ (c.in_ok-rows.ensures.still rows) (λ sees. (c.acts_of_case.ensures.still rows sees).0)) c.from_residual-in_err-acts.ensures.0
+
+pub returns-in_err-with_acts-clause-still : goal.returns-in_err-with_acts-clause-still
+returns-in_err-with_acts-clause-still g c rows =
+    let start = state g.S.Store c.args.tx.now.conn.now in
+    let mid = state g.S.Store c.deadlines_of_case.new.tx.conn.now in
+    let new = state g.S.Store c.acts_of_case.new.tx.conn.now in
+    failed_after start new rows rows c.from_residual-in_err-with_acts.result _
+    (stays_after start mid new rows rows _ (c.in_ok-rows.ensures.still rows) (λ sees. (c.in_ok-acts.ensures.still rows sees).0)) c.from_residual-in_err-with_acts.ensures.0
+
+pub returns-clause-still : goal.returns-clause-still
+returns-clause-still g c rows =
+    let start = state g.S.Store c.args.tx.now.conn.now in
+    let mid = state g.S.Store c.deadlines_of_case.new.tx.conn.now in
+    let new = state g.S.Store c.acts_of_case.new.tx.conn.now in
+    went_after start mid new rows rows rows (Unit {0}) (Unit {0}) (Unit {0}) (c.in_ok-rows.ensures.still rows) (c.in_ok-acts.ensures.still rows) (λ a b. tt)

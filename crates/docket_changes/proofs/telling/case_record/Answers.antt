@@ -3,7 +3,7 @@ use Rattle.sqlite.specs.Held.{state}
 use Rattle.sqlite.specs.State.{HasCleanDisk}
 use Rattle.docket_core.specs.Records.{record_of}
 use Rattle.docket_tables.specs.Contents.{rows_in}
-use Rattle.docket_tables.proofs.ReadLemmas.{err_given}
+use Rattle.docket_tables.proofs.ReadLemmas.{err_given, err_stays}
 use Rattle.docket_changes.proofs.telling.case_record.Goals as goal
 
 pub returns-in_err-row-clause-read : goal.returns-in_err-row-clause-read
@@ -32,3 +32,15 @@ returns-in-None-clause-read g c court t orderly holds =
       first.0,
       λ clean. ap (record_of t.parties t.entries) (sym c.in-None.is ∙ first.1 clean),
     )
+
+pub returns-in_err-row-clause-stays : goal.returns-in_err-row-clause-stays
+returns-in_err-row-clause-stays g c rows holds = err_stays g.S.Store c.case.new.conn rows c.in_err-row.field-0.0 c.from_residual.result c.from_residual.ensures.1 (c.in_err-row.ensures.stays rows holds)
+
+pub returns-in_err-record_of-in-Some-clause-stays : goal.returns-in_err-record_of-in-Some-clause-stays
+returns-in_err-record_of-in-Some-clause-stays g c rows holds = err_stays g.S.Store c.record_of.new.conn rows c.in_err-record_of-in-Some.field-0.0 c.from_residual-in_err-record_of-in-Some.result c.from_residual-in_err-record_of-in-Some.ensures.1 (c.in_err-record_of-in-Some.ensures.stays rows (c.in_ok-row.ensures.stays rows holds))
+
+pub returns-in_ok-record_of-in-Some-clause-stays : goal.returns-in_ok-record_of-in-Some-clause-stays
+returns-in_ok-record_of-in-Some-clause-stays g c rows holds = c.in_ok-record_of-in-Some.ensures.stays rows (c.in_ok-row.ensures.stays rows holds)
+
+pub returns-in-None-clause-stays : goal.returns-in-None-clause-stays
+returns-in-None-clause-stays g c rows holds = c.in_ok-row.ensures.stays rows holds

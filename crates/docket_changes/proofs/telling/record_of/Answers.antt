@@ -2,7 +2,7 @@ use Rattle.std.proofs.Common.{◌∙◌, Some, arith}
 use Rattle.sqlite.specs.Held.{state}
 use Rattle.sqlite.specs.State.{HasCleanDisk}
 use Rattle.docket_tables.specs.Contents.{rows_in}
-use Rattle.docket_tables.proofs.ReadLemmas.{err_given}
+use Rattle.docket_tables.proofs.ReadLemmas.{err_given, err_stays}
 use Rattle.docket_changes.proofs.telling.record_of.Goals as goal
 
 pub returns-in_err-parties-clause-read : goal.returns-in_err-parties-clause-read
@@ -24,3 +24,12 @@ returns-clause-read g c court t orderly holds =
           let early : HasCleanDisk (state g.S.Store c.parties.new.conn) = omega (arith, c.entries.ensures.clean) in
           λ i. Some (record { number = row.number; label = row.label; caption = row.caption; filed = row.filed; parties = (c.new.ensures ∙ first.1 early) i; entries = (c.new-2.ensures ∙ second.1 clean) i }),
     )
+
+pub returns-in_err-parties-clause-stays : goal.returns-in_err-parties-clause-stays
+returns-in_err-parties-clause-stays g c rows holds = err_stays g.S.Store c.parties.new.conn rows c.in_err-parties.field-0.0 c.from_residual.result c.from_residual.ensures.1 (c.in_err-parties.ensures.stays rows holds)
+
+pub returns-in_err-entries-clause-stays : goal.returns-in_err-entries-clause-stays
+returns-in_err-entries-clause-stays g c rows holds = err_stays g.S.Store c.entries.new.conn rows c.in_err-entries.field-0.0 c.from_residual-in_err-entries.result c.from_residual-in_err-entries.ensures.1 (c.in_err-entries.ensures.stays rows (c.in_ok-parties.ensures.stays rows holds))
+
+pub returns-clause-stays : goal.returns-clause-stays
+returns-clause-stays g c rows holds = c.in_ok-entries.ensures.stays rows (c.in_ok-parties.ensures.stays rows holds)

@@ -1,7 +1,7 @@
 use Rattle.std.proofs.Common.{◌∙◌, ap}
 use Rattle.docket_core.specs.Histories.{items_of}
 use Rattle.docket_tables.specs.Contents.{rows_in}
-use Rattle.docket_tables.proofs.ReadLemmas.{err_given, short_given}
+use Rattle.docket_tables.proofs.ReadLemmas.{err_given, short_given, err_stays, short_stays}
 use Rattle.docket_changes.proofs.viewing.calendar_items.Goals as goal
 
 pub returns-in_err-rows-clause-read : goal.returns-in_err-rows-clause-read
@@ -19,3 +19,12 @@ returns-clause-read g c court t orderly holds =
       read.0,
       λ clean. c.new.ensures ∙ c.in_ok-items_of.ensures ∙ ap items_of (c.as_slice.ensures.value ∙ read.1 clean),
     )
+
+pub returns-in_err-rows-clause-stays : goal.returns-in_err-rows-clause-stays
+returns-in_err-rows-clause-stays g c rows holds = err_stays g.S.Store c.calendar.new.conn rows c.in_err-rows.field-0.0 c.from_residual.result c.from_residual.ensures.1 (c.in_err-rows.ensures.stays rows holds)
+
+pub returns-in_err-items_of-clause-stays : goal.returns-in_err-items_of-clause-stays
+returns-in_err-items_of-clause-stays g c rows holds = short_stays g.S.Store c.calendar.new.conn rows c.from_residual-in_err-items_of.result c.from_residual-in_err-items_of.ensures.1 (c.in_ok-rows.ensures.stays rows holds)
+
+pub returns-clause-stays : goal.returns-clause-stays
+returns-clause-stays g c rows holds = c.in_ok-rows.ensures.stays rows holds

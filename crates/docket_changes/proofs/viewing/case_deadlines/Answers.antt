@@ -3,7 +3,7 @@ use Rattle.sqlite.specs.Held.{state}
 use Rattle.sqlite.specs.State.{HasCleanDisk}
 use Rattle.docket_core.specs.Tables.{is_case_in}
 use Rattle.docket_tables.specs.Contents.{rows_in}
-use Rattle.docket_tables.proofs.ReadLemmas.{err_given}
+use Rattle.docket_tables.proofs.ReadLemmas.{err_given, err_stays}
 use Rattle.docket_changes.proofs.ViewLemmas.{none_told, deadlines_told}
 use Rattle.docket_changes.proofs.viewing.case_deadlines.Goals as goal
 
@@ -37,3 +37,15 @@ returns-clause-read g c court t orderly holds =
           ap (λ n. nat_le 1 c.args.number && nat_le c.args.number n) (sym (read0.1 clean0)) ∙ sym c.is_among.ensures ∙ c.if-not-is_among.false in
           sym (deadlines_told t c.args.number _ among (read1.1 clean1)),
     )
+
+pub returns-in_err-count-clause-stays : goal.returns-in_err-count-clause-stays
+returns-in_err-count-clause-stays g c rows holds = err_stays g.S.Store c.cases.new.conn rows c.in_err-count.field-0.0 c.from_residual.result c.from_residual.ensures.1 (c.in_err-count.ensures.stays rows holds)
+
+pub returns-then-not-is_among-clause-stays : goal.returns-then-not-is_among-clause-stays
+returns-then-not-is_among-clause-stays g c rows holds = c.in_ok-count.ensures.stays rows holds
+
+pub returns-in_err-deadline_views-clause-stays : goal.returns-in_err-deadline_views-clause-stays
+returns-in_err-deadline_views-clause-stays g c rows holds = err_stays g.S.Store c.deadline_views.new.conn rows c.in_err-deadline_views.field-0.0 c.from_residual-in_err-deadline_views.result c.from_residual-in_err-deadline_views.ensures.1 (c.in_err-deadline_views.ensures.stays rows (c.in_ok-count.ensures.stays rows holds))
+
+pub returns-clause-stays : goal.returns-clause-stays
+returns-clause-stays g c rows holds = c.in_ok-deadline_views.ensures.stays rows (c.in_ok-count.ensures.stays rows holds)

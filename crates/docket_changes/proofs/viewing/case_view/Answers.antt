@@ -3,7 +3,7 @@ use Rattle.sqlite.specs.Held.{state}
 use Rattle.sqlite.specs.State.{HasCleanDisk}
 use Rattle.docket_core.specs.Tables.{is_case_in}
 use Rattle.docket_tables.specs.Contents.{rows_in}
-use Rattle.docket_tables.proofs.ReadLemmas.{err_given}
+use Rattle.docket_tables.proofs.ReadLemmas.{err_given, err_stays}
 use Rattle.docket_changes.proofs.ViewLemmas.{no_case, one_case}
 use Rattle.docket_changes.proofs.viewing.case_view.Goals as goal
 
@@ -76,3 +76,27 @@ returns-clause-read g c court t orderly holds =
           ap (λ n. nat_le 1 k && nat_le k n) (sym (read0.1 clean0)) ∙ sym c.is_among.ensures ∙ c.if-not-is_among.false in
           sym (one_case t c.args.action.now k _ _ _ _ _ among (read1.1 clean1) (read2.1 clean2) (read3.1 clean3) (read4.1 clean4) (read5.1 clean5)),
     )
+
+pub returns-in_err-count-clause-stays : goal.returns-in_err-count-clause-stays
+returns-in_err-count-clause-stays g c rows holds = err_stays g.S.Store c.cases.new.conn rows c.in_err-count.field-0.0 c.from_residual.result c.from_residual.ensures.1 (c.in_err-count.ensures.stays rows holds)
+
+pub returns-then-not-is_among-clause-stays : goal.returns-then-not-is_among-clause-stays
+returns-then-not-is_among-clause-stays g c rows holds = c.in_ok-count.ensures.stays rows holds
+
+pub returns-in_err-parties-clause-stays : goal.returns-in_err-parties-clause-stays
+returns-in_err-parties-clause-stays g c rows holds = err_stays g.S.Store c.parties_if_asked.new.conn rows c.in_err-parties.field-0.0 c.from_residual-in_err-parties.result c.from_residual-in_err-parties.ensures.1 (c.in_err-parties.ensures.stays rows (c.in_ok-count.ensures.stays rows holds))
+
+pub returns-in_err-entries-clause-stays : goal.returns-in_err-entries-clause-stays
+returns-in_err-entries-clause-stays g c rows holds = err_stays g.S.Store c.entries_if_asked.new.conn rows c.in_err-entries.field-0.0 c.from_residual-in_err-entries.result c.from_residual-in_err-entries.ensures.1 (c.in_err-entries.ensures.stays rows (c.in_ok-parties.ensures.stays rows (c.in_ok-count.ensures.stays rows holds)))
+
+pub returns-in_err-deadlines-clause-stays : goal.returns-in_err-deadlines-clause-stays
+returns-in_err-deadlines-clause-stays g c rows holds = err_stays g.S.Store c.deadlines_if_asked.new.conn rows c.in_err-deadlines.field-0.0 c.from_residual-in_err-deadlines.result c.from_residual-in_err-deadlines.ensures.1 (c.in_err-deadlines.ensures.stays rows (c.in_ok-entries.ensures.stays rows (c.in_ok-parties.ensures.stays rows (c.in_ok-count.ensures.stays rows holds))))
+
+pub returns-in_err-named-clause-stays : goal.returns-in_err-named-clause-stays
+returns-in_err-named-clause-stays g c rows holds = err_stays g.S.Store c.deadline_asked.new.conn rows c.in_err-named.field-0.0 c.from_residual-in_err-named.result c.from_residual-in_err-named.ensures.1 (c.in_err-named.ensures.stays rows (c.in_ok-deadlines.ensures.stays rows (c.in_ok-entries.ensures.stays rows (c.in_ok-parties.ensures.stays rows (c.in_ok-count.ensures.stays rows holds)))))
+
+pub returns-in_err-is_served-clause-stays : goal.returns-in_err-is_served-clause-stays
+returns-in_err-is_served-clause-stays g c rows holds = err_stays g.S.Store c.is_served.new.conn rows c.in_err-is_served.field-0.0 c.from_residual-in_err-is_served.result c.from_residual-in_err-is_served.ensures.1 (c.in_err-is_served.ensures.stays rows (c.in_ok-named.ensures.stays rows (c.in_ok-deadlines.ensures.stays rows (c.in_ok-entries.ensures.stays rows (c.in_ok-parties.ensures.stays rows (c.in_ok-count.ensures.stays rows holds))))))
+
+pub returns-clause-stays : goal.returns-clause-stays
+returns-clause-stays g c rows holds = c.in_ok-is_served.ensures.stays rows (c.in_ok-named.ensures.stays rows (c.in_ok-deadlines.ensures.stays rows (c.in_ok-entries.ensures.stays rows (c.in_ok-parties.ensures.stays rows (c.in_ok-count.ensures.stays rows holds)))))

@@ -2,7 +2,7 @@ use Rattle.std.proofs.Common.{◌∙◌, sym, arith}
 use Rattle.sqlite.specs.Held.{state}
 use Rattle.sqlite.specs.State.{HasCleanDisk}
 use Rattle.docket_tables.specs.Contents.{rows_in}
-use Rattle.docket_tables.proofs.ReadLemmas.{err_given}
+use Rattle.docket_tables.proofs.ReadLemmas.{err_given, err_stays}
 use Rattle.docket_changes.proofs.ViewLemmas.{no_deadline, one_deadline}
 use Rattle.docket_changes.proofs.viewing.deadline_view.Goals as goal
 
@@ -31,3 +31,15 @@ returns-clause-read g c court t orderly holds =
           let clean0 : HasCleanDisk (state g.S.Store c.deadline.new.conn) = omega (arith, c.acts_of_deadline.ensures.clean) in
           sym (one_deadline t c.args.case c.args.number c.in-Some.row _ (sym (read0.1 clean0) ∙ c.in-Some.is) (c.new.ensures ∙ read1.1 clean1)),
     )
+
+pub returns-in_err-row-clause-stays : goal.returns-in_err-row-clause-stays
+returns-in_err-row-clause-stays g c rows holds = err_stays g.S.Store c.deadline.new.conn rows c.in_err-row.field-0.0 c.from_residual.result c.from_residual.ensures.1 (c.in_err-row.ensures.stays rows holds)
+
+pub returns-in_default-clause-stays : goal.returns-in_default-clause-stays
+returns-in_default-clause-stays g c rows holds = c.in_ok-row.ensures.stays rows holds
+
+pub returns-in_err-acts-clause-stays : goal.returns-in_err-acts-clause-stays
+returns-in_err-acts-clause-stays g c rows holds = err_stays g.S.Store c.acts_of_deadline.new.conn rows c.in_err-acts.field-0.0 c.from_residual-in_err-acts.result c.from_residual-in_err-acts.ensures.1 (c.in_err-acts.ensures.stays rows (c.in_ok-row.ensures.stays rows holds))
+
+pub returns-clause-stays : goal.returns-clause-stays
+returns-clause-stays g c rows holds = c.in_ok-acts.ensures.stays rows (c.in_ok-row.ensures.stays rows holds)

@@ -3,7 +3,7 @@ use Rattle.docket_core.specs.Histories.{deadlines_from}
 use Rattle.docket_tables.specs.Contents.{rows_in}
 use Rattle.docket_orderly.specs.Orderly.{RunsFrom}
 use Rattle.docket_tables.specs.Readings.{AreActsOf}
-use Rattle.docket_tables.proofs.ReadLemmas.{err_given, short_given}
+use Rattle.docket_tables.proofs.ReadLemmas.{err_given, short_given, err_stays, short_stays}
 use Rattle.docket_changes.proofs.viewing.deadline_views.Goals as goal
 
 pub returns-in_err-rows-clause-read : goal.returns-in_err-rows-clause-read
@@ -32,3 +32,15 @@ returns-clause-read g c court t orderly holds =
           c.in_ok-with_acts.ensures k t.acts (subst (λ rs. RunsFrom 1 (map (λ r. r.number) rs)) (sym rows) (orderly.deadlines_run k)) (subst (AreActsOf k t.acts) (sym c.as_slice-2.ensures.value) (second.1 clean))
           ∙ ap (deadlines_from k 1 t.acts) rows,
     )
+
+pub returns-in_err-rows-clause-stays : goal.returns-in_err-rows-clause-stays
+returns-in_err-rows-clause-stays g c rows holds = err_stays g.S.Store c.deadlines.new.conn rows c.in_err-rows.field-0.0 c.from_residual.result c.from_residual.ensures.1 (c.in_err-rows.ensures.stays rows holds)
+
+pub returns-in_err-acts-clause-stays : goal.returns-in_err-acts-clause-stays
+returns-in_err-acts-clause-stays g c rows holds = err_stays g.S.Store c.acts_of_case.new.conn rows c.in_err-acts.field-0.0 c.from_residual-in_err-acts.result c.from_residual-in_err-acts.ensures.1 (c.in_err-acts.ensures.stays rows (c.in_ok-rows.ensures.stays rows holds))
+
+pub returns-in_err-with_acts-clause-stays : goal.returns-in_err-with_acts-clause-stays
+returns-in_err-with_acts-clause-stays g c rows holds = short_stays g.S.Store c.acts_of_case.new.conn rows c.from_residual-in_err-with_acts.result c.from_residual-in_err-with_acts.ensures.1 (c.in_ok-acts.ensures.stays rows (c.in_ok-rows.ensures.stays rows holds))
+
+pub returns-clause-stays : goal.returns-clause-stays
+returns-clause-stays g c rows holds = c.in_ok-acts.ensures.stays rows (c.in_ok-rows.ensures.stays rows holds)

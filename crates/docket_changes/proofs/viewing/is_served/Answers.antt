@@ -1,7 +1,7 @@
 use Rattle.std.proofs.Common.{◌∙◌, ap}
 use Rattle.docket_core.specs.Views.{is_served_among}
 use Rattle.docket_tables.specs.Contents.{rows_in}
-use Rattle.docket_tables.proofs.ReadLemmas.{err_given}
+use Rattle.docket_tables.proofs.ReadLemmas.{err_given, err_stays}
 use Rattle.docket_changes.proofs.viewing.is_served.Goals as goal
 
 pub returns-in_err-deadlines-clause-read : goal.returns-in_err-deadlines-clause-read
@@ -14,3 +14,9 @@ returns-clause-read g c court t orderly holds =
       read.0,
       λ clean. c.is_served_among.ensures ∙ ap (λ deadlines. is_served_among deadlines c.args.action.now) (c.as_slice.ensures.value ∙ read.1 clean),
     )
+
+pub returns-in_err-deadlines-clause-stays : goal.returns-in_err-deadlines-clause-stays
+returns-in_err-deadlines-clause-stays g c rows holds = err_stays g.S.Store c.deadline_views.new.conn rows c.in_err-deadlines.field-0.0 c.from_residual.result c.from_residual.ensures.1 (c.in_err-deadlines.ensures.stays rows holds)
+
+pub returns-clause-stays : goal.returns-clause-stays
+returns-clause-stays g c rows holds = c.in_ok-deadlines.ensures.stays rows holds

@@ -1,7 +1,7 @@
 use Rattle.std.proofs.Common.{◌≡◌, ◌∙◌, false, true, ap, sym}
 use Rattle.docket_core.specs.Actions.{asks_next_row, if_asked}
 use Rattle.docket_tables.specs.Contents.{rows_in}
-use Rattle.docket_tables.proofs.ReadLemmas.{err_given}
+use Rattle.docket_tables.proofs.ReadLemmas.{err_given, err_stays}
 use Rattle.docket_changes.proofs.viewing.next_row_if_asked.Goals as goal
 
 pub returns-then-not-asks_next_row-clause-read : goal.returns-then-not-asks_next_row-clause-read
@@ -18,3 +18,9 @@ returns-clause-read g c court t orderly holds =
     let asked : asks_next_row c.args.action.now ≡ true = sym c.asks_next_row.ensures ∙ c.if-not-asks_next_row.false in
     let read = c.in_ok-court.ensures.read court t orderly holds in
     (read.0, λ clean. ap (λ r. r.next_row) (read.1 clean) ∙ ap (λ asked. if_asked asked t.next_row) (sym asked))
+
+pub returns-in_err-court-clause-stays : goal.returns-in_err-court-clause-stays
+returns-in_err-court-clause-stays g c rows holds = err_stays g.S.Store c.court.new.conn rows c.in_err-court.field-0.0 c.from_residual.result c.from_residual.ensures.1 (c.in_err-court.ensures.stays rows holds)
+
+pub returns-clause-stays : goal.returns-clause-stays
+returns-clause-stays g c rows holds = c.in_ok-court.ensures.stays rows holds

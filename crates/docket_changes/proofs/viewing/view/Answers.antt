@@ -2,7 +2,7 @@ use Rattle.std.proofs.Common.{arith}
 use Rattle.sqlite.specs.Held.{state}
 use Rattle.sqlite.specs.State.{HasCleanDisk}
 use Rattle.docket_tables.specs.Contents.{rows_in}
-use Rattle.docket_tables.proofs.ReadLemmas.{err_given}
+use Rattle.docket_tables.proofs.ReadLemmas.{err_given, err_stays}
 use Rattle.docket_changes.proofs.ViewLemmas.{whole_view}
 use Rattle.docket_changes.proofs.viewing.view.Goals as goal
 
@@ -62,3 +62,24 @@ returns-clause-read g c court t orderly holds =
           let clean0 : HasCleanDisk (state g.S.Store c.kept.new.conn) = omega (arith, c.cases_if_asked.ensures.clean) in
           whole_view t c.args.command.now _ _ _ _ _ _ _ (read0.1 clean0) (read1.1 clean1) (read2.1 clean2) (read3.1 clean3) (read4.1 clean4) (read5.1 clean5),
     )
+
+pub returns-in_err-kept-clause-stays : goal.returns-in_err-kept-clause-stays
+returns-in_err-kept-clause-stays g c rows holds = err_stays g.S.Store c.kept.new.conn rows c.in_err-kept.field-0.0 c.from_residual.result c.from_residual.ensures.1 (c.in_err-kept.ensures.stays rows holds)
+
+pub returns-in_err-cases-clause-stays : goal.returns-in_err-cases-clause-stays
+returns-in_err-cases-clause-stays g c rows holds = err_stays g.S.Store c.cases_if_asked.new.conn rows c.in_err-cases.field-0.0 c.from_residual-in_err-cases.result c.from_residual-in_err-cases.ensures.1 (c.in_err-cases.ensures.stays rows (c.in_ok-kept.ensures.stays rows holds))
+
+pub returns-in_err-label_taken-clause-stays : goal.returns-in_err-label_taken-clause-stays
+returns-in_err-label_taken-clause-stays g c rows holds = err_stays g.S.Store c.is_asked_label_taken.new.conn rows c.in_err-label_taken.field-0.0 c.from_residual-in_err-label_taken.result c.from_residual-in_err-label_taken.ensures.1 (c.in_err-label_taken.ensures.stays rows (c.in_ok-cases.ensures.stays rows (c.in_ok-kept.ensures.stays rows holds)))
+
+pub returns-in_err-case-clause-stays : goal.returns-in_err-case-clause-stays
+returns-in_err-case-clause-stays g c rows holds = err_stays g.S.Store c.case_asked.new.conn rows c.in_err-case.field-0.0 c.from_residual-in_err-case.result c.from_residual-in_err-case.ensures.1 (c.in_err-case.ensures.stays rows (c.in_ok-label_taken.ensures.stays rows (c.in_ok-cases.ensures.stays rows (c.in_ok-kept.ensures.stays rows holds))))
+
+pub returns-in_err-row_stands-clause-stays : goal.returns-in_err-row_stands-clause-stays
+returns-in_err-row_stands-clause-stays g c rows holds = err_stays g.S.Store c.is_asked_row_standing.new.conn rows c.in_err-row_stands.field-0.0 c.from_residual-in_err-row_stands.result c.from_residual-in_err-row_stands.ensures.1 (c.in_err-row_stands.ensures.stays rows (c.in_ok-case.ensures.stays rows (c.in_ok-label_taken.ensures.stays rows (c.in_ok-cases.ensures.stays rows (c.in_ok-kept.ensures.stays rows holds)))))
+
+pub returns-in_err-next_row-clause-stays : goal.returns-in_err-next_row-clause-stays
+returns-in_err-next_row-clause-stays g c rows holds = err_stays g.S.Store c.next_row_if_asked.new.conn rows c.in_err-next_row.field-0.0 c.from_residual-in_err-next_row.result c.from_residual-in_err-next_row.ensures.1 (c.in_err-next_row.ensures.stays rows (c.in_ok-row_stands.ensures.stays rows (c.in_ok-case.ensures.stays rows (c.in_ok-label_taken.ensures.stays rows (c.in_ok-cases.ensures.stays rows (c.in_ok-kept.ensures.stays rows holds))))))
+
+pub returns-clause-stays : goal.returns-clause-stays
+returns-clause-stays g c rows holds = c.in_ok-next_row.ensures.stays rows (c.in_ok-row_stands.ensures.stays rows (c.in_ok-case.ensures.stays rows (c.in_ok-label_taken.ensures.stays rows (c.in_ok-cases.ensures.stays rows (c.in_ok-kept.ensures.stays rows holds)))))

@@ -2,8 +2,13 @@ use Rattle.std.proofs.Common.{arith}
 use Rattle.sqlite.specs.Held.{state}
 use Rattle.sqlite.specs.State.{HasCleanDisk}
 use Rattle.docket_core.specs.Tables.{Tables, all_changed, with_receipt}
+use Rattle.docket_tables.specs.AnyRows.{recorded, with_stored}
 use Rattle.docket_tables.specs.Contents.{rows_with}
+use Rattle.docket_tables.specs.Layouts.{Rows}
+use Rattle.docket_tables.proofs.AnyLemmas.{recorded_stored}
+use Rattle.docket_tables.proofs.ContentsLemmas.{sees_same}
 use Rattle.docket_tables.proofs.InsideLemmas.{Went, Stays, failed_after, stays_after, went_after}
+use Rattle.docket_changes.proofs.AnyLemmas.{one_left}
 use Rattle.docket_changes.proofs.writing.fill.Goals as goal
 
 pub returns-in_err-record-clause-inside : goal.returns-in_err-record-clause-inside
@@ -32,3 +37,44 @@ returns-in-Err-clause-inside g c t ends small may =
     let recorded : Went start mid (rows_with court t ends) (rows_with court then ends) (Unit {0}) = λ sees. (c.record.ensures.inside, λ clean. (c.in_ok-record.ensures.ok clean court t ends small (sees (before clean)), tt)) in
     let stays : Stays start new (rows_with court t ends) = stays_after start mid new (rows_with court t ends) (rows_with court then ends) (Unit {0}) recorded (λ sees. (c.update_ends.ensures.inside then ends may sees).0) in
     λ sees. (stays sees, λ clean. tt)
+
+pub returns-in_err-record-clause-any : goal.returns-in_err-record-clause-any
+returns-in_err-record-clause-any g c n stored rows are small =
+    let left = one_left c.args.update.now stored in (
+      left.0,
+      left.1,
+      failed_after (state g.S.Store c.args.tx.now.conn.now) (state g.S.Store c.record.new.tx.conn.now) rows _ c.from_residual.result _ (λ sees. c.record.ensures.inside) c.from_residual.ensures.0,
+    )
+
+pub returns-in-Ok-clause-any : goal.returns-in-Ok-clause-any
+returns-in-Ok-clause-any g c n stored rows are small =
+    let court = c.args.court.now in
+    let command = c.args.command.now in
+    let reply = c.args.changes.now.reply in
+    let changes = c.args.changes.now.rows.items in
+    let then : Rows = recorded court n command reply changes rows in
+    let start = state g.S.Store c.args.tx.now.conn.now in
+    let mid = state g.S.Store c.record.new.tx.conn.now in
+    let new = state g.S.Store c.update_ends.new.tx.conn.now in
+    let before : HasCleanDisk mid → HasCleanDisk start = λ clean. omega (arith, c.record.ensures.inside.survives.clean) in
+    let done : Went start mid rows (with_stored stored then) (Unit {0}) =
+    λ sees. (c.record.ensures.inside, λ clean. (sees_same mid then (with_stored stored then) (recorded_stored court n stored command reply changes rows are) (c.in_ok-record.ensures.any clean court n stored rows are small (sees (before clean))), tt)) in
+    let left = c.in-Ok.ensures.any stored then in
+    (left.0, left.1, went_after start mid new rows (with_stored stored then) (with_stored left.0 then) (Unit {0}) (Unit {0}) (Unit {0}) done left.2 (λ a b. tt))
+
+pub returns-in-Err-clause-any : goal.returns-in-Err-clause-any
+returns-in-Err-clause-any g c n stored rows are small =
+    let court = c.args.court.now in
+    let command = c.args.command.now in
+    let reply = c.args.changes.now.reply in
+    let changes = c.args.changes.now.rows.items in
+    let then : Rows = recorded court n command reply changes rows in
+    let start = state g.S.Store c.args.tx.now.conn.now in
+    let mid = state g.S.Store c.record.new.tx.conn.now in
+    let new = state g.S.Store c.update_ends.new.tx.conn.now in
+    let before : HasCleanDisk mid → HasCleanDisk start = λ clean. omega (arith, c.record.ensures.inside.survives.clean) in
+    let done : Went start mid rows (with_stored stored then) (Unit {0}) =
+    λ sees. (c.record.ensures.inside, λ clean. (sees_same mid then (with_stored stored then) (recorded_stored court n stored command reply changes rows are) (c.in_ok-record.ensures.any clean court n stored rows are small (sees (before clean))), tt)) in
+    let left = c.update_ends.ensures.any stored then in
+    let stays : Stays start new rows = stays_after start mid new rows (with_stored stored then) (Unit {0}) done (λ sees. (left.2 sees).0) in
+    (left.0, left.1, λ sees. (stays sees, λ clean. tt))

@@ -4,6 +4,7 @@ use Rattle.sqlite.specs.Steps.{FailsToCommit}
 use Rattle.sqlite.specs.Held.{state}
 use Rattle.docket_core.specs.EndRows.{end_rows}
 use Rattle.docket_core.specs.Tables.{Tables, all_changed, with_receipt}
+use Rattle.docket_tables.specs.AnyRows.{recorded, with_stored}
 use Rattle.docket_tables.specs.Contents.{rows_in}
 use Rattle.docket_tables.specs.Layouts.{Rows}
 use Rattle.docket_changes.specs.Settling.{updated_ends}
@@ -71,3 +72,54 @@ returns-clause-either g c t small holds ready =
       )
     ] c.commit.ensures.ok c.commit.ensures.err in
     subst (λ h. MatchResult c.commit.result (λ _. HoldsRows g.S.Store h next) (λ _. LastsAsEither g.S.Store h rows next)) same ended
+
+pub returns-in_err-fill-clause-any : goal.returns-in_err-fill-clause-any
+returns-in_err-fill-clause-any g c n stored rows are small holds =
+    let start = state g.S.Store c.args.conn.now in
+    let begun = state g.S.Store c.transaction-tx.result.conn.now in
+    let last = state g.S.Store c.fill.new.tx.conn.now in
+    let end = c.drop-tx.new.self.0 in
+    let left = c.fill.ensures.any n stored rows are small in
+    let next : Rows = with_stored left.0 (recorded c.args.court.now n c.args.command.now c.args.changes.now.reply c.args.changes.now.rows.items rows) in
+    let begins = ap (state g.S.Store) c.transaction-tx.ensures.begun in
+    let either : LastsAsEither g.S.Store end rows next = (
+      c.drop-tx.ensures.ended,
+      λ clean.
+          let before : HasCleanDisk last = omega (arith, c.drop-tx.ensures.survives.clean) in
+          let at_begin : HasCleanDisk begun = omega (arith, c.fill.ensures.clean) in
+          let was = holds.1 (subst HasCleanDisk begins at_begin) in
+          let inside : StaysInside begun last = (left.2 (λ _. begins_seeing start begun rows was begins)).0 in
+          dropped start begun last (state g.S.Store end) rows next was begins (inside.kept before) inside.survives (λ db is_open may. g.met.S.Store.settled end.store db is_open may) clean
+          c.drop-tx.ensures.survives (c.drop-tx.ensures.undone clean),
+    ) in
+    let same : end ≡ c.conn-1.given.0 = search rules in
+    (left.0, left.1, when_err c.from_residual.result _ _ c.from_residual.ensures.0 (subst (λ h. LastsAsEither g.S.Store h rows next) same either))
+
+pub returns-clause-any : goal.returns-clause-any
+returns-clause-any g c n stored rows are small holds =
+    let start = state g.S.Store c.args.conn.now in
+    let begun = state g.S.Store c.transaction-tx.result.conn.now in
+    let last = state g.S.Store c.fill.new.tx.conn.now in
+    let end = c.commit.new.self.0 in
+    let left = c.in_ok-fill.ensures.any n stored rows are small in
+    let next : Rows = with_stored left.0 (recorded c.args.court.now n c.args.command.now c.args.changes.now.reply c.args.changes.now.rows.items rows) in
+    let begins = ap (state g.S.Store) c.transaction-tx.ensures.begun in
+    let law : LeavesCommit (state g.S.Store end) = λ db is_open may. g.met.S.Store.settled end.store db is_open may in
+    let before : HasCleanDisk (state g.S.Store end) → HasCleanDisk last = λ clean. omega (arith, c.commit.ensures.survives.clean) in
+    let at_start : HasCleanDisk (state g.S.Store end) → HasCleanDisk start = λ clean.
+    let there = before clean in
+    let at_begin : HasCleanDisk begun = omega (arith, c.fill.ensures.clean) in
+    subst HasCleanDisk begins at_begin in
+    let was = λ (clean : HasCleanDisk (state g.S.Store end)). holds.1 (at_start clean) in
+    let done = λ (clean : HasCleanDisk (state g.S.Store end)). left.2 (λ _. begins_seeing start begun rows (was clean) begins) in
+    let sees : HasCleanDisk (state g.S.Store end) → Sees last next = λ clean. ((done clean).1 (before clean)).0 in
+    let same : end ≡ c.conn-2-1.given.0 = search rules in
+    let ended = elim c.commit.result as (λ r. (HasCleanDisk (state g.S.Store end) → OnOk r (IsTrue last.in_transaction × Turns last (state g.S.Store end) last.now last.now false × KeepsCounts last (state g.S.Store end) × ((state g.S.Store end).marks ≡ []))) → (HasCleanDisk (state g.S.Store end) → IfErr r (FailsToCommit last (state g.S.Store end))) → MatchResult r (λ _. HoldsRows g.S.Store end next) (λ _. LastsAsEither g.S.Store end rows next)) [
+      | Ok u ↦ λ ok err. (c.commit.ensures.ended, λ clean. committed start begun last (state g.S.Store end) rows next (was clean) begins ((done clean).0.kept (before clean)) (done clean).0.survives law (sees clean) (ok clean).1)
+      | Err e ↦ λ ok err. (
+        c.commit.ensures.ended,
+        λ clean.
+            not_committed start begun last (state g.S.Store end) rows next (was clean) begins ((done clean).0.kept (before clean)) (done clean).0.survives law clean (sees clean) c.commit.ensures.survives e (err clean),
+      )
+    ] c.commit.ensures.ok c.commit.ensures.err in
+    (left.0, left.1, subst (λ h. MatchResult c.commit.result (λ _. HoldsRows g.S.Store h next) (λ _. LastsAsEither g.S.Store h rows next)) same ended)

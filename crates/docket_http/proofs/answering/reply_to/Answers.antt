@@ -9,6 +9,8 @@ use Rattle.docket_http.specs.declared.problem.Problem.TheVariants.{Rejected}
 use Rattle.docket_http.specs.declared.reply.Reply.TheVariants.{Fixed}
 use Rattle.docket_http.proofs.AskingLemmas.{replies_as}
 use Rattle.docket_http.proofs.ClosedLemmas.{closed_as}
+use Rattle.std.proofs.Common.{inl as left}
+use Rattle.docket_store.proofs.AnyLemmas.{lasts_after}
 use Rattle.docket_http.proofs.answering.reply_to.Goals as goal
 
 pub returns-in-Command-clause-replies : goal.returns-in-Command-clause-replies
@@ -52,3 +54,11 @@ returns-in_ok-holidays_reply-in-Holidays-clause-closed g c shut =
     let reply = c.in_ok-holidays_reply-in-Holidays.field-0 in
     let told = text (holiday_text c.in-Holidays.year) in
     (refl, closed_as (Holidays c.in-Holidays.year) c.args.request.now.wish body body (Ok reply) (sym c.in-Holidays.is) refl (told, c.in_ok-holidays_reply-in-Holidays.ensures, inl refl))
+
+pub returns-in-Case-clause-any : goal.returns-in-Case-clause-any
+returns-in-Case-clause-any g c = λ rows n stored are small holds.
+    left (lasts_after g.S.Store c.case_reply.new.docket.conn rows c.case_reply.result (c.case_reply.ensures.stays rows holds))
+
+pub returns-in-Deadlines-clause-any : goal.returns-in-Deadlines-clause-any
+returns-in-Deadlines-clause-any g c = λ rows n stored are small holds.
+    left (lasts_after g.S.Store c.deadlines_reply.new.docket.conn rows c.deadlines_reply.result (c.deadlines_reply.ensures.stays rows holds))

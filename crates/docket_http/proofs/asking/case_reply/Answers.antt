@@ -1,5 +1,6 @@
 use Rattle.std.proofs.Common.{◌∙◌, sym}
 use Rattle.docket_http.proofs.AskingLemmas.{unknown_case}
+use Rattle.docket_store.proofs.AnyLemmas.{err_preserves}
 use Rattle.docket_http.proofs.asking.case_reply.Goals as goal
 
 pub returns-in-Some-clause-replies : goal.returns-in-Some-clause-replies
@@ -11,3 +12,9 @@ pub returns-in-None-clause-replies : goal.returns-in-None-clause-replies
 returns-in-None-clause-replies g c h body stands =
     let asked = c.in_ok-case.ensures.answer h stands in
     unknown_case g.S.Store c.case.new.self h c.args.number body asked.0 (λ clean. sym c.in-None.is ∙ asked.1 clean)
+
+pub returns-in_err-case-clause-stays : goal.returns-in_err-case-clause-stays
+returns-in_err-case-clause-stays g c rows holds = err_preserves g.S.Store c.case.new.self.conn rows c.in_err-case.field-0.0 c.from_residual.result c.from_residual.ensures.1 (c.in_err-case.ensures.stays rows holds)
+
+pub returns-in-Some-clause-stays : goal.returns-in-Some-clause-stays
+returns-in-Some-clause-stays g c rows holds = c.found_reply.ensures.stays rows (c.in_ok-case.ensures.stays rows holds)

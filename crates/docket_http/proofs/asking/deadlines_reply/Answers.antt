@@ -1,6 +1,7 @@
 use Rattle.std.proofs.Common.{◌∙◌, sym, ap, Some}
 use Rattle.std.specs.Option.{option_map}
 use Rattle.docket_http.proofs.AskingLemmas.{deadlines_replied, unknown_deadlines}
+use Rattle.docket_store.proofs.AnyLemmas.{err_preserves, short_preserves}
 use Rattle.docket_http.proofs.asking.deadlines_reply.Goals as goal
 
 pub returns-in_ok-told_deadlines-in-Some-clause-replies : goal.returns-in_ok-told_deadlines-in-Some-clause-replies
@@ -16,3 +17,10 @@ returns-in-None-clause-replies g c h body stands =
     let asked = c.in_ok-lines.ensures.answer h stands in
     unknown_deadlines g.S.Store c.deadlines.new.self h c.args.number body c.args.docket.now.court asked.0 c.in_ok-lines.ensures.court
     (λ clean. ap (option_map (λ lines. lines.items)) (sym c.in-None.is) ∙ asked.1 clean)
+
+pub returns-in_err-lines-clause-stays : goal.returns-in_err-lines-clause-stays
+returns-in_err-lines-clause-stays g c rows holds = err_preserves g.S.Store c.deadlines.new.self.conn rows c.in_err-lines.field-0.0 c.from_residual.result c.from_residual.ensures.1 (c.in_err-lines.ensures.stays rows holds)
+
+pub returns-in_err-told_deadlines-in-Some-clause-stays : goal.returns-in_err-told_deadlines-in-Some-clause-stays
+returns-in_err-told_deadlines-in-Some-clause-stays g c rows holds =
+    short_preserves g.S.Store c.deadlines.new.self.conn rows c.from_residual-in_err-told_deadlines-in-Some.result c.from_residual-in_err-told_deadlines-in-Some.ensures.1 (c.in_ok-lines.ensures.stays rows holds)

@@ -2,6 +2,7 @@ use Rattle.std.proofs.Common.{◌∙◌, ℕ, sym, ap, refl, Some}
 use Rattle.std.specs.Option.{option_map}
 use Rattle.http_request.specs.declared.wish.Wish.TheVariants.{Case}
 use Rattle.docket_http.proofs.AskingLemmas.{case_replied, case_missing, clean_before, asked_replied, passed_on}
+use Rattle.docket_store.proofs.AnyLemmas.{err_preserves, short_preserves}
 use Rattle.docket_http.proofs.asking.found_reply.Goals as goal
 
 pub returns-in_ok-told_case-in-Some-clause-replies : goal.returns-in_ok-told_case-in-Some-clause-replies
@@ -23,3 +24,10 @@ pub returns-in_err-lines-clause-replies : goal.returns-in_err-lines-clause-repli
 returns-in_err-lines-clause-replies g c h body stands recorded =
     passed_on g.S.Store c.deadlines.new.self h (Case c.args.number) body c.from_residual.result _ c.from_residual.ensures.1
     (asked_replied g.S.Store c.deadlines.new.self h (Case c.args.number) body _ (λ (n : ℕ). ⊥) refl refl refl (c.in_err-lines.ensures.answer h stands))
+
+pub returns-in_err-lines-clause-stays : goal.returns-in_err-lines-clause-stays
+returns-in_err-lines-clause-stays g c rows holds = err_preserves g.S.Store c.deadlines.new.self.conn rows c.in_err-lines.field-0.0 c.from_residual.result c.from_residual.ensures.1 (c.in_err-lines.ensures.stays rows holds)
+
+pub returns-in_err-told_case-in-Some-clause-stays : goal.returns-in_err-told_case-in-Some-clause-stays
+returns-in_err-told_case-in-Some-clause-stays g c rows holds =
+    short_preserves g.S.Store c.deadlines.new.self.conn rows c.from_residual-in_err-told_case-in-Some.result c.from_residual-in_err-told_case-in-Some.ensures.1 (c.in_ok-lines.ensures.stays rows holds)

@@ -8,6 +8,9 @@ use Rattle.docket_http.specs.declared.reply.Reply.TheVariants.{Fixed}
 use Rattle.docket_http.specs.declared.fault.ServeFault.{ServeFault}
 use Rattle.docket_http.proofs.ClosedLemmas.{closed_sent}
 use Rattle.docket_http.proofs.ServeLemmas.{sent_whole, sent_cut, calendar_told, calendar_served, calendar_cut, calendar_broken}
+use Rattle.std.proofs.Common.{Err as Failed, subst as over}
+use Rattle.docket_store.specs.AnyRows.{PreservesListing}
+use Rattle.docket_store.proofs.AnyLemmas.{lasting, lasts_at}
 use Rattle.docket_http.proofs.calendar.serve_calendar.Goals as goal
 
 pub returns-in-Ok-clause-served : goal.returns-in-Ok-clause-served
@@ -64,3 +67,15 @@ returns-in-Err-NotBegun-clause-closed g c shut =
           (g.W.Write.contents c.send.new.writer) c.send.result c.in-Err-NotBegun.field-0-is (c.problem_of.ensures ∙ ap problem_of_fault c.in-Err-NotBegun.fault-is) closed.0
           (ap g.W.Write.contents closed.2) c.send.ensures.whole c.send.ensures.front,
     )
+
+pub returns-in-Ok-clause-stays : goal.returns-in-Ok-clause-stays
+returns-in-Ok-clause-stays g c rows holds = lasting g.S.Store c.calendar_after.new.self.conn rows (c.in-Ok.ensures.stays rows holds)
+
+pub returns-in-Err-NotBegun-clause-stays : goal.returns-in-Err-NotBegun-clause-stays
+returns-in-Err-NotBegun-clause-stays g c rows holds = lasts_at g.S.Store c.calendar_after.new.self.conn rows c.in-Err-NotBegun.fault (over (λ (end : ListingEnd). PreservesListing g.S.Store c.calendar_after.new.self.conn rows (Failed end)) c.in-Err-NotBegun.field-0-is (c.in-Err-NotBegun.ensures.stays rows holds))
+
+pub returns-in-Err-Broken-clause-stays : goal.returns-in-Err-Broken-clause-stays
+returns-in-Err-Broken-clause-stays g c rows holds = lasts_at g.S.Store c.calendar_after.new.self.conn rows c.in-Err-Broken.fault (over (λ (end : ListingEnd). PreservesListing g.S.Store c.calendar_after.new.self.conn rows (Failed end)) c.in-Err-Broken.field-0-is (c.in-Err-Broken.ensures.stays rows holds))
+
+pub returns-in-Err-WriteFailed-clause-stays : goal.returns-in-Err-WriteFailed-clause-stays
+returns-in-Err-WriteFailed-clause-stays g c rows holds = lasting g.S.Store c.calendar_after.new.self.conn rows (over (λ (end : ListingEnd). PreservesListing g.S.Store c.calendar_after.new.self.conn rows (Failed end)) c.in-Err-WriteFailed.field-0-is (c.in-Err-WriteFailed.ensures.stays rows holds))

@@ -1,5 +1,6 @@
 use Rattle.http_request.specs.declared.wish.Wish.TheVariants.{Command}
 use Rattle.docket_http.proofs.AskingLemmas.{said_replied, halted_replied, passed_on}
+use Rattle.docket_store.proofs.AnyLemmas.{answered_one}
 use Rattle.docket_http.proofs.commands.applied_reply.Goals as goal
 
 pub returns-clause-replies : goal.returns-clause-replies
@@ -11,3 +12,19 @@ pub returns-in_err-said-clause-replies : goal.returns-in_err-said-clause-replies
 returns-in_err-said-clause-replies g c h len body stands spells =
     passed_on g.S.Store c.answer.new.docket h (Command len) body c.from_residual.result _ c.from_residual.ensures.1
     (halted_replied g.S.Store c.answer.new.docket h c.args.command.now _ len body spells (c.in_err-said.ensures.halts h stands))
+
+pub returns-in_err-said-clause-any : goal.returns-in_err-said-clause-any
+returns-in_err-said-clause-any g c = λ rows n stored are small holds.
+    answered_one g.S.Store c.answer.new.docket.conn rows c.answer.new.docket.court n c.args.command.now c.answer.result (c.answer.ensures.any rows n stored are small holds)
+
+pub returns-in_err-text-clause-any : goal.returns-in_err-text-clause-any
+returns-in_err-text-clause-any g c = λ rows n stored are small holds.
+    answered_one g.S.Store c.answer.new.docket.conn rows c.answer.new.docket.court n c.args.command.now c.answer.result (c.answer.ensures.any rows n stored are small holds)
+
+pub returns-in_err-json_reply-clause-any : goal.returns-in_err-json_reply-clause-any
+returns-in_err-json_reply-clause-any g c = λ rows n stored are small holds.
+    answered_one g.S.Store c.answer.new.docket.conn rows c.answer.new.docket.court n c.args.command.now c.answer.result (c.answer.ensures.any rows n stored are small holds)
+
+pub returns-clause-any : goal.returns-clause-any
+returns-clause-any g c = λ rows n stored are small holds.
+    answered_one g.S.Store c.answer.new.docket.conn rows c.answer.new.docket.court n c.args.command.now c.answer.result (c.answer.ensures.any rows n stored are small holds)

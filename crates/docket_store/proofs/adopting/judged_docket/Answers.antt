@@ -2,6 +2,7 @@ use Rattle.std.proofs.Common.{◌≡◌, rules}
 use Rattle.docket_scan.specs.declared.fault.AdoptFault.TheVariants.{NoMemory}
 use Rattle.docket_store.specs.Applying.{docket_rows}
 use Rattle.docket_store.proofs.OpeningLemmas.{found_docket, lacks_memory, not_found}
+use Rattle.docket_store.proofs.AnyLemmas.{rejected_preserves, short_lasts, short_rejected, taken_preserves}
 use Rattle.docket_store.proofs.adopting.judged_docket.Goals as goal
 
 pub returns-in-Ok-clause-found : goal.returns-in-Ok-clause-found
@@ -23,3 +24,20 @@ returns-in-Err-2-clause-found g c court h is stands =
     let other : c.in-Err.fault ≡ NoMemory → ⊥ = search rules in
     not_found g.S.Store c.args.conn.now c.find_docket.new.conn court h told.writes_nothing (told.mode c.requires) stands c.in-Err.fault other told.told
     (λ clean. told.docket clean court h is.settings is.zone is.history is.commands stands)
+
+pub returns-in-Ok-clause-stays : goal.returns-in-Ok-clause-stays
+returns-in-Ok-clause-stays g c rows holds =
+    taken_preserves g.S.Store c.args.conn.now c.find_docket.new.conn rows c.in-Ok.ensures.writes_nothing (c.in-Ok.ensures.mode c.requires) holds c.in-Ok.found c.in-Ok.ensures.told
+
+pub returns-in-Err-clause-stays : goal.returns-in-Err-clause-stays
+returns-in-Err-clause-stays g c rows holds =
+    let told = c.in-Err.ensures in
+    let short : c.in-Err.fault ≡ NoMemory = search rules in
+    short_rejected g.S.Store c.want_of_memory.new.conn rows c.want_of_memory.result c.want_of_memory.ensures.fault
+    (c.want_of_memory.ensures.left rows (short_lasts g.S.Store c.args.conn.now c.find_docket.new.conn rows told.writes_nothing (told.mode c.requires) holds c.in-Err.fault short told.told))
+
+pub returns-in-Err-2-clause-stays : goal.returns-in-Err-2-clause-stays
+returns-in-Err-2-clause-stays g c rows holds =
+    let told = c.in-Err.ensures in
+    let other : c.in-Err.fault ≡ NoMemory → ⊥ = search rules in
+    rejected_preserves g.S.Store c.args.conn.now c.find_docket.new.conn rows told.writes_nothing (told.mode c.requires) holds c.in-Err.fault other told.told

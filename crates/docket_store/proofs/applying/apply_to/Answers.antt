@@ -7,6 +7,9 @@ use Rattle.docket_core.specs.Outcomes.{outcome, repeated}
 use Rattle.docket_core.specs.declared.decision.Decision.{Decision}
 use Rattle.docket_store.specs.Applying.{IsAccepted, Keeps, docket_rows}
 use Rattle.docket_store.proofs.ApplyLemmas.{docket_after, after_repeated, holds_same}
+use Rattle.docket_store.proofs.AnyLemmas.{unwritten}
+use Rattle.std.proofs.Common.{inl as left}
+use Rattle.docket_store.specs.declared.fault.Fault.TheVariants as fault
 use Rattle.docket_store.proofs.applying.apply_to.Goals as goal
 
 pub returns-in-Repeat-clause-answer : goal.returns-in-Repeat-clause-answer
@@ -36,3 +39,17 @@ returns-clause-answer g c h stands =
       subst (λ (d : Decision). LeadsTo court h command d) c.in-Change.is (judged.1 clean).1,
     ) in
     c.keep.ensures.kept h judged.0 (λ clean. (accepts clean, c.as_slice.ensures.value ∙ (judged.1 clean).2 _ (accepts clean).0))
+
+pub returns-in_err-body-clause-any : goal.returns-in_err-body-clause-any
+returns-in_err-body-clause-any g c rows n stored are small holds = unwritten g.S.Store c.args.conn.now rows c.args.court.now n c.args.command.now fault.NoMemory c.from_residual.result c.from_residual.ensures.1 holds
+
+pub returns-in_err-decision-clause-any : goal.returns-in_err-decision-clause-any
+returns-in_err-decision-clause-any g c rows n stored are small holds =
+    unwritten g.S.Store c.judge.new.conn rows c.args.court.now n c.args.command.now c.in_err-decision.field-0.0 c.from_residual-in_err-decision.result c.from_residual-in_err-decision.ensures.1
+    (c.in_err-decision.ensures.stays rows holds)
+
+pub returns-in-Repeat-clause-any : goal.returns-in-Repeat-clause-any
+returns-in-Repeat-clause-any g c rows n stored are small holds = left (c.in_ok-decision.ensures.stays rows holds)
+
+pub returns-clause-any : goal.returns-clause-any
+returns-clause-any g c rows n stored are small holds = c.keep.ensures.any rows n stored are small (c.in_ok-decision.ensures.stays rows holds)

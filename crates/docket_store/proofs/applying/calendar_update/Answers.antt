@@ -21,3 +21,9 @@ returns-in-Err-clause-update g c court kept h stands =
     asks_failed g.S.Store {X = EndUpdate} c.read_fault.new.conn court kept h (λ found. found ≡ Calendar (length (case_rows h))) c.read_fault.result stands.docket
     (λ clean. stands.calendar (omega (arith, c.cases.ensures.clean, c.read_fault.ensures.clean)))
     (c.read_fault.ensures.left (docket_rows court h) (docket_rows court h) fails)
+
+pub returns-in-Ok-clause-stays : goal.returns-in-Ok-clause-stays
+returns-in-Ok-clause-stays g c rows holds = c.in-Ok.ensures.stays rows holds
+
+pub returns-in-Err-clause-stays : goal.returns-in-Err-clause-stays
+returns-in-Err-clause-stays g c rows holds = c.read_fault.ensures.stays rows (c.in-Err.ensures.stays rows holds)

@@ -9,6 +9,7 @@ use Rattle.docket_changes.specs.declared.moving.EndUpdate.{EndUpdate}
 use Rattle.docket_store.specs.Applying.{docket_rows}
 use Rattle.docket_store.proofs.ApplyLemmas.{fails_apart, follows_accepted}
 use Rattle.docket_store.proofs.AskLemmas.{asks_failed}
+use Rattle.docket_store.proofs.AnyLemmas.{err_preserves, read_held_at}
 use Rattle.docket_store.proofs.applying.case_update.Goals as goal
 
 pub returns-in-Ok-clause-update : goal.returns-in-Ok-clause-update
@@ -40,3 +41,9 @@ returns-clause-update g c h stands accepts =
     asks_failed g.S.Store {X = EndUpdate} c.read_fault.new.conn court c.calendar_told.new.kept h answer c.read_fault.result stands.docket
     (λ clean. asked.0.calendar (omega (arith, c.read_fault.ensures.clean)))
     (c.read_fault.ensures.left (docket_rows court h) (docket_rows court h) fails)
+
+pub returns-in_err-calendar-clause-stays : goal.returns-in_err-calendar-clause-stays
+returns-in_err-calendar-clause-stays g c rows holds = err_preserves g.S.Store c.calendar_told.new.conn rows c.in_err-calendar.field-0.0 c.from_residual.result c.from_residual.ensures.1 (c.in_err-calendar.ensures.stays rows holds)
+
+pub returns-clause-stays : goal.returns-clause-stays
+returns-clause-stays g c rows holds = c.read_fault.ensures.stays rows (read_held_at g.S.Store c.calendar_told.new.conn rows c.in-Err.fault (c.in_ok-calendar.ensures.stays rows holds))

@@ -9,6 +9,8 @@ use Rattle.docket_store.specs.Applying.{Keeps}
 use Rattle.docket_store.specs.Dockets.{serving}
 use Rattle.docket_store.proofs.ApplyLemmas.{after_accepted, docket_after, numbers_fit, rows_after, update_written, holds_same, either_same, faults_of}
 use Rattle.docket_store.proofs.AskLemmas.{applies_err}
+use Rattle.docket_store.proofs.AnyLemmas.{unwritten, written_or_not}
+use Rattle.std.proofs.Common.{◌+◌, ◌<◌, ◌^◌, inr as right, length}
 use Rattle.docket_store.proofs.applying.keep.Goals as goal
 
 pub returns-in_err-update-clause-kept : goal.returns-in_err-update-clause-kept
@@ -54,3 +56,22 @@ returns-clause-kept g c h stands accepts =
     let fails = c.store_fault.ensures.left _ _ (either_same g.S.Store c.write.new.conn _ _ _ (λ clean. rows_after court h command changes (accepted (early clean))) wrote) in
     faults_of g.S.Store c.store_fault.new.conn court c.keep_calendar.new.kept h command c.store_fault.result stands.docket
     (λ clean. (c.keep_calendar.ensures h command refl (asked.0.calendar (early (omega (arith, c.store_fault.ensures.clean))))).0) fails
+
+pub returns-in_err-update-clause-any : goal.returns-in_err-update-clause-any
+returns-in_err-update-clause-any g c rows n stored are small holds =
+    unwritten g.S.Store c.end_update.new.conn rows c.args.court.now n c.args.command.now c.in_err-update.field-0.0 c.from_residual.result c.from_residual.ensures.1 (c.in_err-update.ensures.stays rows holds)
+
+pub returns-in-Ok-clause-any : goal.returns-in-Ok-clause-any
+returns-in-Ok-clause-any g c rows n stored are small holds =
+    let changes = c.args.changes.now.rows.items in
+    let fits : n + length changes < 2 ^ 63 = omega (arith, small, c.changes_fit.ensures) in
+    let wrote = c.in-Ok.ensures.any n stored rows are fits (c.in_ok-update.ensures.stays rows holds) in
+    right (_, record { changes = changes; stored = wrote.0; is = refl }, wrote.2)
+
+pub returns-clause-any : goal.returns-clause-any
+returns-clause-any g c rows n stored are small holds =
+    let changes = c.args.changes.now.rows.items in
+    let fits : n + length changes < 2 ^ 63 = omega (arith, small, c.changes_fit.ensures) in
+    let wrote = c.in-Err.ensures.any n stored rows are fits (c.in_ok-update.ensures.stays rows holds) in
+    written_or_not g.S.Store c.store_fault.new.conn rows c.args.court.now n c.args.command.now c.args.changes.now.reply _ (record { changes = changes; stored = wrote.0; is = refl }) c.store_fault.ensures.idle c.store_fault.result
+    (c.store_fault.ensures.left rows _ wrote.2)

@@ -9,6 +9,7 @@ use Rattle.docket_changes.specs.Sound.{IsSoundCase}
 use Rattle.docket_store.specs.Applying.{Stands}
 use Rattle.docket_store.specs.Dockets.{serving}
 use Rattle.docket_store.proofs.AskLemmas.{asks_told, sound_calendar}
+use Rattle.docket_store.proofs.AnyLemmas.{err_preserves, held_after}
 use Rattle.docket_store.proofs.asking.calendar_told.Goals as goal
 
 pub returns-clause-answer : goal.returns-clause-answer
@@ -23,3 +24,9 @@ returns-clause-answer g c h stands =
     subst (λ (all : List CalendarItem). IsSoundCase court all []) (sym (is_calendar clean)) (sound_calendar court h stands.docket) in
     asks_told g.S.Store (serving conn court (Some c.in_ok-items.items)) h (IsSoundCase court items []) (λ found. found ≡ calendar_of items) (λ found. found ≡ calendar h) c.calendar_by-answer.result now sound
     (λ clean found is. is ∙ ap calendar_of (is_calendar clean)) c.calendar_by-answer.ensures
+
+pub returns-in_err-items-clause-stays : goal.returns-in_err-items-clause-stays
+returns-in_err-items-clause-stays g c rows holds = err_preserves g.S.Store c.calendar_shown.new.conn rows c.in_err-items.field-0.0 c.from_residual.result c.from_residual.ensures.1 (c.in_err-items.ensures.stays rows holds)
+
+pub returns-clause-stays : goal.returns-clause-stays
+returns-clause-stays g c rows holds = held_after g.S.Store c.calendar_shown.new.conn rows c.calendar_by-answer.result (c.in_ok-items.ensures.stays rows holds)

@@ -8,6 +8,7 @@ use Rattle.docket_core.specs.declared.record.DeadlineLine.{DeadlineLine}
 use Rattle.docket_core.specs.declared.view.DeadlineView.{DeadlineView}
 use Rattle.docket_store.specs.Dockets.{serving}
 use Rattle.docket_store.proofs.AskLemmas.{asks_err}
+use Rattle.docket_store.proofs.AnyLemmas.{err_preserves}
 use Rattle.docket_store.proofs.asking.lines_numbered.Goals as goal
 
 pub returns-in_err-lines-clause-answer : goal.returns-in_err-lines-clause-answer
@@ -24,3 +25,15 @@ returns-in_err-lines-clause-answer g c h stands =
     (λ (found : Option (Vec DeadlineLine Global)). option_map (λ lines. lines.items) found ≡ deadline_lines court h number)
     c.in_err-lines.field-0.0 c.from_residual-in_err-lines.result c.from_residual-in_err-lines.ensures.1
     (c.in_err-lines.ensures.answer kept h told.0 told.1 shows)
+
+pub returns-in_err-deadlines-clause-stays : goal.returns-in_err-deadlines-clause-stays
+returns-in_err-deadlines-clause-stays g c rows holds = err_preserves g.S.Store c.deadlines_shown.new.conn rows c.in_err-deadlines.field-0.0 c.from_residual.result c.from_residual.ensures.1 (c.in_err-deadlines.ensures.stays rows holds)
+
+pub returns-in_err-entered-clause-stays : goal.returns-in_err-entered-clause-stays
+returns-in_err-entered-clause-stays g c rows holds = err_preserves g.S.Store c.calendar_told.new.conn rows c.in_err-entered.field-0.0 c.from_residual-in_err-entered.result c.from_residual-in_err-entered.ensures.1 (c.in_err-entered.ensures.stays rows (c.in_ok-deadlines.ensures.stays rows holds))
+
+pub returns-in_err-lines-clause-stays : goal.returns-in_err-lines-clause-stays
+returns-in_err-lines-clause-stays g c rows holds = err_preserves g.S.Store c.lines_of_case.new.conn rows c.in_err-lines.field-0.0 c.from_residual-in_err-lines.result c.from_residual-in_err-lines.ensures.1 (c.in_err-lines.ensures.stays rows (c.in_ok-entered.ensures.stays rows (c.in_ok-deadlines.ensures.stays rows holds)))
+
+pub returns-clause-stays : goal.returns-clause-stays
+returns-clause-stays g c rows holds = c.in_ok-lines.ensures.stays rows (c.in_ok-entered.ensures.stays rows (c.in_ok-deadlines.ensures.stays rows holds))

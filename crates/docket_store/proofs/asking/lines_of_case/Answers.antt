@@ -13,6 +13,7 @@ use Rattle.docket_core.specs.declared.view.DeadlineView.{DeadlineView}
 use Rattle.docket_store.specs.Dockets.{serving}
 use Rattle.docket_store.specs.Sound.{AreEndsBy}
 use Rattle.docket_store.proofs.AskLemmas.{asks_told, sound_ends, lines_shown, deadlines_shown}
+use Rattle.docket_store.proofs.AnyLemmas.{err_preserves, held_after}
 use Rattle.docket_store.proofs.asking.lines_of_case.Goals as goal
 
 pub returns-clause-answer : goal.returns-clause-answer
@@ -39,3 +40,9 @@ returns-clause-answer g c kept h stands entered shows =
     ∙ ap (λ (k : Entered). Some (lines_from court k 1 ds)) (entered (early clean))
     ∙ ap (option_map (lines_from court (calendar h) 1)) (sym (shows (early clean))) ∙ lines_shown court h number)
     (c.lines_told.ensures number)
+
+pub returns-in_err-stored-clause-stays : goal.returns-in_err-stored-clause-stays
+returns-in_err-stored-clause-stays g c rows holds = err_preserves g.S.Store c.ends_shown.new.conn rows c.in_err-stored.field-0.0 c.from_residual.result c.from_residual.ensures.1 (c.in_err-stored.ensures.stays rows holds)
+
+pub returns-clause-stays : goal.returns-clause-stays
+returns-clause-stays g c rows holds = held_after g.S.Store c.ends_shown.new.conn rows c.lines_told.result (c.in_ok-stored.ensures.stays rows holds)

@@ -1,5 +1,6 @@
 use Rattle.std.proofs.Common.{IsTrue}
 use Rattle.docket_store.proofs.ApplyLemmas.{shown_sound}
+use Rattle.docket_store.proofs.AnyLemmas.{err_preserves, short_preserves}
 use Rattle.docket_store.proofs.judging.judge.Goals as goal
 
 pub returns-then-not-is_sound-clause-judged : goal.returns-then-not-is_sound-clause-judged
@@ -7,3 +8,9 @@ returns-then-not-is_sound-clause-judged g c h stands clean =
     let seen = c.in_ok-view.ensures.shown c.args.court.now h stands in
     let sound : IsTrue c.is_sound.result = c.is_sound.ensures.1 (shown_sound c.args.court.now h c.args.command.now _ stands.docket (seen.1 clean)) in
     absurd (let no = c.if-not-is_sound.true in cc)
+
+pub returns-in_err-view-clause-stays : goal.returns-in_err-view-clause-stays
+returns-in_err-view-clause-stays g c rows holds = err_preserves g.S.Store c.look.new.conn rows c.in_err-view.field-0.0 c.from_residual.result c.from_residual.ensures.1 (c.in_err-view.ensures.stays rows holds)
+
+pub returns-in_err-named-clause-stays : goal.returns-in_err-named-clause-stays
+returns-in_err-named-clause-stays g c rows holds = short_preserves g.S.Store c.look.new.conn rows c.from_residual-in_err-named.result c.from_residual-in_err-named.ensures.1 (c.in_ok-view.ensures.stays rows holds)

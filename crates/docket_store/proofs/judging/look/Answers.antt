@@ -17,3 +17,9 @@ returns-in-Err-clause-shown g c court h stands =
     let fails = c.read_fault.ensures.left (docket_rows court h) (docket_rows court (after court h command)) (c.in-Err.ensures.read court h stands) in
     faults_of g.S.Store c.read_fault.new.conn court c.shown.new.kept h command c.read_fault.result stands.docket
     (λ clean. c.shown.ensures.kept h (stands.calendar (omega (arith, c.shown.ensures.clean, c.read_fault.ensures.clean)))) fails
+
+pub returns-in-Ok-clause-stays : goal.returns-in-Ok-clause-stays
+returns-in-Ok-clause-stays g c rows holds = c.in-Ok.ensures.stays rows holds
+
+pub returns-in-Err-clause-stays : goal.returns-in-Err-clause-stays
+returns-in-Err-clause-stays g c rows holds = c.read_fault.ensures.stays rows (c.in-Err.ensures.stays rows holds)

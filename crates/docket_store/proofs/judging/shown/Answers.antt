@@ -3,6 +3,7 @@ use Rattle.docket_core.specs.Tables.{rows_of, view_in}
 use Rattle.docket_tables.proofs.ReadLemmas.{err_given, gives_clean}
 use Rattle.docket_store.specs.Applying.{docket_rows}
 use Rattle.docket_store.proofs.ApplyLemmas.{docket_orderly}
+use Rattle.docket_tables.proofs.ReadLemmas.{err_stays}
 use Rattle.docket_store.proofs.judging.shown.Goals as goal
 
 pub returns-in_err-calendar-clause-read : goal.returns-in_err-calendar-clause-read
@@ -15,3 +16,9 @@ returns-clause-read g c court h stands =
     gives_clean g.S.Store c.view.new.conn (docket_rows court h) _ _ c.view.result
     (λ clean found is. is ∙ ap (λ items. record (view_in (rows_of court h) c.args.command.now) { calendar = items }) (asked.1 (omega (arith, c.view.ensures.clean))))
     (c.view.ensures.read court (rows_of court h) (docket_orderly court h stands.docket) asked.0)
+
+pub returns-in_err-calendar-clause-stays : goal.returns-in_err-calendar-clause-stays
+returns-in_err-calendar-clause-stays g c rows holds = err_stays g.S.Store c.calendar_asked.new.conn rows c.in_err-calendar.field-0.0 c.from_residual.result c.from_residual.ensures.1 (c.in_err-calendar.ensures.stays rows holds)
+
+pub returns-clause-stays : goal.returns-clause-stays
+returns-clause-stays g c rows holds = c.view.ensures.stays rows (c.in_ok-calendar.ensures.stays rows holds)

@@ -1,5 +1,5 @@
 use Rattle.std.proofs.Common.{ℕ, Err, subst, arith}
-use Rattle.docket_calendar.specs.Telling.{Tells}
+use Rattle.docket_calendar.specs.Telling.{Stays, Tells}
 use Rattle.docket_calendar.specs.declared.stop.Stop.{Stop}
 use Rattle.docket_store.specs.Applying.{docket_rows}
 use Rattle.docket_store.proofs.AskLemmas.{asks_failed}
@@ -44,3 +44,14 @@ returns-in-Err-WriteFailed-clause-lists g c kept h stands entered =
     let told = subst (λ (stop : Stop). Tells g.S.Store court h c.args.from c.args.to c.args.front.now (g.W.Write.contents c.args.writer.now) (g.W.Write.contents c.calendar.new.writer) c.calendar.new.conn (Err stop)) c.in-Err-WriteFailed.field-0-is
     (c.in-Err-WriteFailed.ensures.tells h (history_of court h stands.docket) stands.rows (λ clean. entered (omega (arith, c.calendar.ensures.clean)))) in
     (record { docket = stands.docket; serves = stands.serves; rows = told.0; calendar = λ clean. stands.calendar (omega (arith, c.calendar.ensures.clean)) }, told.1)
+
+pub returns-in-Err-NotBegun-clause-stays : goal.returns-in-Err-NotBegun-clause-stays
+returns-in-Err-NotBegun-clause-stays g c rows holds =
+    c.read_fault.ensures.stays rows (subst (λ (stop : Stop). Stays g.S.Store c.calendar.new.conn rows (Err stop)) c.in-Err-NotBegun.field-0-is (c.in-Err-NotBegun.ensures.stays rows holds))
+
+pub returns-in-Err-Broken-clause-stays : goal.returns-in-Err-Broken-clause-stays
+returns-in-Err-Broken-clause-stays g c rows holds =
+    c.read_fault-in-Err-Broken.ensures.stays rows (subst (λ (stop : Stop). Stays g.S.Store c.calendar.new.conn rows (Err stop)) c.in-Err-Broken.field-0-is (c.in-Err-Broken.ensures.stays rows holds))
+
+pub returns-in-Err-WriteFailed-clause-stays : goal.returns-in-Err-WriteFailed-clause-stays
+returns-in-Err-WriteFailed-clause-stays g c rows holds = subst (λ (stop : Stop). Stays g.S.Store c.calendar.new.conn rows (Err stop)) c.in-Err-WriteFailed.field-0-is (c.in-Err-WriteFailed.ensures.stays rows holds)

@@ -17,3 +17,6 @@ pub returns-clause-lists : goal.returns-clause-lists
 returns-clause-lists g c h stands =
     let told = c.in-Ok.ensures.answer h stands in
     c.list_by.ensures.lists c.calendar_told.new.kept h told.0 told.1
+
+pub returns-clause-stays : goal.returns-clause-stays
+returns-clause-stays g c rows holds = c.list_by.ensures.stays rows (c.in-Ok.ensures.stays rows holds)

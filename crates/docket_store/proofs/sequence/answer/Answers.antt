@@ -3,6 +3,8 @@ use Rattle.docket_core.specs.Histories.{History}
 use Rattle.docket_core.specs.Outcomes.{after_answer}
 use Rattle.docket_store.specs.Applying.{Faults, Stands}
 use Rattle.docket_store.specs.declared.fault.Fault.{Fault}
+use Rattle.std.proofs.Common.{Err}
+use Rattle.docket_store.specs.AnyRows.{WritesWhole}
 use Rattle.docket_store.proofs.sequence.answer.Goals as goal
 
 pub returns-in-Err-Refused-clause-answer : goal.returns-in-Err-Refused-clause-answer
@@ -10,3 +12,11 @@ returns-in-Err-Refused-clause-answer g c h stands clean =
     let told = subst (λ (f : Fault). Faults g.S.Store c.apply.new.self h c.args.command.now f) c.in-Err-Refused.field-0-is (c.in-Err-Refused.ensures.answer h stands) in
     let refused = told.1 clean in
     (subst (λ (x : History). Stands g.S.Store c.apply.new.self x) (sym (ap (λ a. after_answer a h c.args.command.now) refused)) told.0, refused)
+
+pub returns-in-Err-Refused-clause-any : goal.returns-in-Err-Refused-clause-any
+returns-in-Err-Refused-clause-any g c rows n stored are small holds =
+    let new = c.apply.new.self in
+    subst (λ (f : Fault). WritesWhole g.S.Store new.conn new.court n rows c.args.command.now (Err f)) c.in-Err-Refused.field-0-is (c.in-Err-Refused.ensures.any rows n stored are small holds)
+
+pub returns-in-Err-clause-any : goal.returns-in-Err-clause-any
+returns-in-Err-clause-any g c rows n stored are small holds = c.in-Err.ensures.any rows n stored are small holds

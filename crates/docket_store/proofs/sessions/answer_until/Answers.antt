@@ -7,6 +7,9 @@ use Rattle.docket_store.specs.Applying.{IsDocket, Stands}
 use Rattle.docket_store.specs.Sequence.{AreReplies}
 use Rattle.docket_store.proofs.RunLemmas.{run_more, replies_more, halts_more}
 use Rattle.docket_store.proofs.SessionLemmas.{answered, stopped}
+use Rattle.line_io.proofs.StepLemmas.{here, one_step, steps_then}
+use Rattle.docket_store.specs.AnyRows.{WritesAtMostOne}
+use Rattle.docket_store.proofs.AnyLemmas.{answered_one}
 use Rattle.docket_store.proofs.sessions.answer_until.Goals as goal
 
 pub returns-in-Err-clause-ends : goal.returns-in-Err-clause-ends
@@ -37,6 +40,8 @@ commands-preserved g c =
       len = omega (arith, c.push_reserved.ensures.len, c.commands.invariant.len);
       count = ap length c.push_reserved.ensures.items ∙ length-append told (c.in-Ok.reply ∷ []) ∙ ap (λ (n : ℕ). n + 1) c.commands.invariant.count;
       room = omega (arith, c.push_reserved.ensures.capacity, c.commands.invariant.room);
+      steps = steps_then (WritesAtMostOne g.S.Store) _ _ _ c.commands.invariant.steps (one_step (WritesAtMostOne g.S.Store) _ _ (λ rows n stored are small holds.
+          answered_one g.S.Store c.answer.new.docket.conn rows c.answer.new.docket.court n c.command-item.result c.answer.result (c.answer.ensures.any rows n stored are small holds)));
       answers = λ h stands clean.
           let court = c.answer.new.docket.court in
           let was = c.commands.invariant.answers h stands (omega (arith, c.answer.ensures.clean)) in
@@ -54,3 +59,22 @@ returns-clause-ends g c h stands clean =
     let all : i ≡ length cs = omega (arith, c.commands.auto.command-index-end, c.commands-test.false) in
     let was = c.commands.invariant.answers h stands clean in
     answered g.S.Store c.commands.docket h cs c.commands.replies.items i (sym c.commands.invariant.count) all was.0 was.1
+
+pub commands-init : goal.commands-init
+commands-init g c = record {
+  court = refl;
+  clean = omega arith;
+  len = c.requires.none;
+  count = ap length c.requires.fresh;
+  room = c.requires.room;
+  steps = here (WritesAtMostOne g.S.Store) _;
+  answers = λ h stands clean. (stands, subst (λ rs. AreReplies rs []) (sym c.requires.fresh) tt);
+}
+
+pub returns-in-Err-clause-steps : goal.returns-in-Err-clause-steps
+returns-in-Err-clause-steps g c =
+    steps_then (WritesAtMostOne g.S.Store) _ _ _ c.commands.invariant.steps (one_step (WritesAtMostOne g.S.Store) _ _ (λ rows n stored are small holds.
+    answered_one g.S.Store c.answer.new.docket.conn rows c.answer.new.docket.court n c.command-item.result c.answer.result (c.answer.ensures.any rows n stored are small holds)))
+
+pub returns-clause-steps : goal.returns-clause-steps
+returns-clause-steps g c = c.commands.invariant.steps

@@ -2,6 +2,8 @@ use Rattle.std.proofs.Common.{◌≡◌, ◌≤◌, length, take, vec_len, vec_c
 use Rattle.sqlite.specs.Held.{state}
 use Rattle.sqlite.specs.View.{doubt}
 use Rattle.docket_core.specs.Histories.{History}
+use Rattle.line_io.specs.Steps.{Reaches}
+use Rattle.docket_store.specs.AnyRows.{WritesAtMostOne}
 use Rattle.docket_store.specs.Applying.{Stands}
 use Rattle.docket_store.specs.Sequence.{AnswersAll}
 use Rattle.docket_store.proofs.sessions.answer_until.Given as goal
@@ -13,5 +15,6 @@ invariant-commands g l = record {
   len : vec_len l.replies ≡ l.command-index;
   count : length l.replies.items ≡ l.command-index;
   room : length l.commands ≤ vec_capacity l.replies;
+  steps : Reaches (WritesAtMostOne g.S.Store) l.fn.docket l.docket;
   answers : (h : History) → Stands g.S.Store l.fn.docket h → AnswersAll g.S.Store l.docket h (take l.command-index l.commands) l.replies.items;
 }

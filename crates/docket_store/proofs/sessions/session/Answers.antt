@@ -2,6 +2,10 @@ use Rattle.std.proofs.Common.{◌∙◌, subst, arith}
 use Rattle.sqlite.specs.State.{HasCleanDisk}
 use Rattle.sqlite.specs.Held.{Held, state}
 use Rattle.docket_store.proofs.SessionLemmas.{ended, not_begun}
+use Rattle.std.proofs.Common.{sym}
+use Rattle.docket_tables.specs.Stands.{HoldsRows}
+use Rattle.docket_store.specs.AnyRows.{PreservesRejected}
+use Rattle.docket_store.proofs.AnyLemmas.{err_if}
 use Rattle.docket_store.proofs.sessions.session.Goals as goal
 
 pub returns-in-Ok-clause-ends : goal.returns-in-Ok-clause-ends
@@ -23,3 +27,15 @@ returns-in-Ok-clause-told g c clean =
     let was : HasCleanDisk (state g.S.Store until.new.docket.conn) = subst (λ (x : Held g.row.S.Denot). HasCleanDisk (state g.S.Store x)) c.close.ensures.conn clean in
     let sound = c.in_ok-docket.ensures.told (omega (arith, was, until.ensures.clean)) in
     (c.in_ok-docket.docket.court, sound.0, sound.1.1)
+
+pub returns-in_err-docket-clause-stays : goal.returns-in_err-docket-clause-stays
+returns-in_err-docket-clause-stays g c rows holds =
+    err_if c.from_residual.result (λ returned. PreservesRejected g.S.Store returned.connection rows returned.fault) c.in_err-docket.field-0.0 c.from_residual.ensures.1 (c.in_err-docket.ensures.stays rows holds)
+
+pub returns-in-Ok-clause-steps : goal.returns-in-Ok-clause-steps
+returns-in-Ok-clause-steps g c =
+    let until = c.answer_until-stopped_at in
+    (c.in_ok-docket.docket, until.new.docket, c.in_ok-docket.ensures.stays, until.ensures.steps, sym c.close.ensures.conn)
+
+pub returns-in-Err-clause-stays : goal.returns-in-Err-clause-stays
+returns-in-Err-clause-stays g c rows holds = subst (λ (conn : Held g.row.S.Denot). HoldsRows g.S.Store conn rows) (sym c.close-in-Err.ensures.conn) (c.in_ok-docket.ensures.stays rows holds)

@@ -23,3 +23,12 @@ returns-clause-ok g c clean court t ends small sees =
     let there = subst (λ r. Sees mid (with_row Calendar r (rows_with court t ends))) c.calendar_values.ensures added in
     IfOk-weaker c.count_calendar_row.result _ _ (λ _ h. sees_same last _ _ (calendar_added court t ends row) h)
     (c.count_calendar_row.ensures.ok clean court t.next_row (with_row Calendar (calendar_cells row) (rows_with court t ends)) small refl there)
+
+pub returns-clause-any : goal.returns-clause-any
+returns-clause-any g c clean court n stored rows are small sees =
+    let mid = state g.S.Store c.insert.new.tx.conn.now in
+    let row = c.args.row.now in
+    let fits = subst (Fits Calendar) (sym c.calendar_values.ensures) refl in
+    let added = c.in_ok-insert.ensures.ok (omega (arith, c.count_calendar_row.ensures.inside.survives.clean)) fits rows sees in
+    let there = subst (λ r. Sees mid (with_row Calendar r rows)) c.calendar_values.ensures added in
+    c.count_calendar_row.ensures.ok clean court n (with_row Calendar (calendar_cells row) rows) small are.court there

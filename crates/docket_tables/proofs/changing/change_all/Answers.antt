@@ -2,14 +2,16 @@ use Rattle.std.proofs.Common.{◌≡◌, ◌∙◌, ◌<◌, length, take, get_o
 use Rattle.std.proofs.lemmas.List.{take_all}
 use Rattle.sqlite.specs.Held.{state}
 use Rattle.docket_core.specs.Tables.{all_changed}
+use Rattle.docket_tables.specs.AnyRows.{all_rows_changed, next_after_all}
 use Rattle.docket_tables.specs.Contents.{rows_with}
 use Rattle.docket_tables.specs.Stands.{Sees}
+use Rattle.docket_tables.proofs.AnyLemmas.{all_kept, any_changed_next, next_within}
 use Rattle.docket_tables.proofs.ChangesLemmas.{counted_within, changed_next}
 use Rattle.docket_tables.proofs.CommitLemmas.{inside_then, inside_still}
 use Rattle.docket_tables.proofs.changing.change_all.Goals as goal
 
 pub changes-init : goal.changes-init
-changes-init g c = (refl, inside_still _, λ clean court t ends small sees. sees)
+changes-init g c = (refl, inside_still _, λ clean court t ends small sees. sees, λ clean court n stored rows are small sees. sees)
 
 pub returns-in_err-change_row-clause-same_reference : goal.returns-in_err-change_row-clause-same_reference
 returns-in_err-change_row-clause-same_reference g c = c.change_row.ensures.same_reference ∙ c.changes.invariant.0
@@ -30,6 +32,11 @@ changes-preserved g c =
           let was = c.changes.invariant.2 (omega (arith, c.change_row.ensures.inside.survives.clean)) court t ends small sees in
           let now = c.in_ok-change_row.ensures.ok clean court (all_changed (take i all) t) ends (omega (arith, small, counted_within all t i inside)) was in
           subst (λ s. Sees (state g.S.Store c.change_row.new.tx.conn.now) (rows_with court s ends)) (changed_next all change t i inside is) now,
+      λ clean court n stored rows are small sees.
+          let was = c.changes.invariant.3 (omega (arith, c.change_row.ensures.inside.survives.clean)) court n stored rows are small sees in
+          let done = take i all in
+          let now = c.in_ok-change_row.ensures.any clean court (next_after_all done n) stored (all_rows_changed court n done rows) (all_kept court n stored done rows are) (omega (arith, small, next_within all n i inside)) was in
+          subst (Sees (state g.S.Store c.change_row.new.tx.conn.now)) (any_changed_next court n all change rows i inside is) now,
     )
 
 pub returns-clause-same_reference : goal.returns-clause-same_reference
@@ -43,3 +50,9 @@ returns-clause-ok g c clean court t ends small sees =
     let all = c.args.changes.now in
     let done : take c.changes.change-index all ≡ all = take_all _ all (omega (arith, c.changes-test.false)) in
     subst (λ xs. Sees (state g.S.Store c.changes.tx.conn.now) (rows_with court (all_changed xs t) ends)) done (c.changes.invariant.2 clean court t ends small sees)
+
+pub returns-clause-any : goal.returns-clause-any
+returns-clause-any g c clean court n stored rows are small sees =
+    let all = c.args.changes.now in
+    let done : take c.changes.change-index all ≡ all = take_all _ all (omega (arith, c.changes-test.false)) in
+    subst (λ xs. Sees (state g.S.Store c.changes.tx.conn.now) (all_rows_changed court n xs rows)) done (c.changes.invariant.3 clean court n stored rows are small sees)

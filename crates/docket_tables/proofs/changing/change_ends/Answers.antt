@@ -2,6 +2,7 @@ use Rattle.std.proofs.Common.{◌≡◌, ◌<◌, ◌∙◌, length, take, refl,
 use Rattle.std.proofs.lemmas.List.{take_all}
 use Rattle.sqlite.specs.Held.{state}
 use Rattle.docket_core.specs.EndRows.{all_changed_ends}
+use Rattle.docket_tables.specs.AnyRows.{with_stored}
 use Rattle.docket_tables.specs.Contents.{rows_with}
 use Rattle.docket_tables.proofs.CommitLemmas.{inside_still}
 use Rattle.docket_tables.proofs.EndLemmas.{changed_next_end}
@@ -9,7 +10,7 @@ use Rattle.docket_tables.proofs.InsideLemmas.{Went, failed_after, stays_after, w
 use Rattle.docket_tables.proofs.changing.change_ends.Goals as goal
 
 pub changes-init : goal.changes-init
-changes-init g c = (refl, λ court t ends sees. (inside_still _, λ clean. (sees clean, tt)), omega arith)
+changes-init g c = (refl, λ court t ends sees. (inside_still _, λ clean. (sees clean, tt)), omega arith, λ stored rows sees. (inside_still _, λ clean. (sees clean, tt)))
 
 pub returns-in_err-change_end-clause-same_reference : goal.returns-in_err-change_end-clause-same_reference
 returns-in_err-change_end-clause-same_reference g c = c.change_end.ensures.same_reference ∙ c.changes.invariant.0
@@ -37,6 +38,13 @@ changes-preserved g c =
           subst (λ es. Went start new (rows_with court t ends) (rows_with court t es) (Unit {0})) (changed_next_end all ends i _ inside)
           (went_after start mid new (rows_with court t ends) (rows_with court t done) _ (Unit {0}) (Unit {0}) (Unit {0}) (c.changes.invariant.1 court t ends) (c.in_ok-change_end.ensures.inside court t done) (λ a b. tt)),
       omega (arith, c.changes.invariant.2, c.change_end.ensures.clean),
+      λ stored rows.
+          let start = state g.S.Store c.args.tx.now.conn.now in
+          let mid = state g.S.Store c.changes.tx.conn.now in
+          let new = state g.S.Store c.change_end.new.tx.conn.now in
+          let done = all_changed_ends (take i all) stored in
+          subst (λ es. Went start new (with_stored stored rows) (with_stored es rows) (Unit {0})) (changed_next_end all stored i _ inside)
+          (went_after start mid new (with_stored stored rows) (with_stored done rows) _ (Unit {0}) (Unit {0}) (Unit {0}) (c.changes.invariant.3 stored rows) (c.in_ok-change_end.ensures.any done rows) (λ a b. tt)),
     )
 
 pub returns-clause-same_reference : goal.returns-clause-same_reference
@@ -55,3 +63,20 @@ returns-in_err-change_end-clause-clean g c = omega (arith, c.changes.invariant.2
 
 pub returns-clause-clean : goal.returns-clause-clean
 returns-clause-clean g c = c.changes.invariant.2
+
+pub returns-in_err-change_end-clause-any : goal.returns-in_err-change_end-clause-any
+returns-in_err-change_end-clause-any g c stored rows =
+    let start = state g.S.Store c.args.tx.now.conn.now in
+    let mid = state g.S.Store c.changes.tx.conn.now in
+    let new = state g.S.Store c.change_end.new.tx.conn.now in
+    let done = all_changed_ends (take c.changes.change-index c.args.changes.now) stored in
+    failed_after start new (with_stored stored rows) _ c.from_residual.result _
+    (stays_after start mid new (with_stored stored rows) (with_stored done rows) (Unit {0}) (c.changes.invariant.3 stored rows) (λ sees. (c.change_end.ensures.any done rows sees).0)) c.from_residual.ensures.0
+
+pub returns-clause-any : goal.returns-clause-any
+returns-clause-any g c stored rows =
+    let all = c.args.changes.now in
+    let start = state g.S.Store c.args.tx.now.conn.now in
+    let new = state g.S.Store c.changes.tx.conn.now in
+    let done : take c.changes.change-index all ≡ all = take_all _ all (omega (arith, c.changes-test.false)) in
+    subst (λ xs. Went start new (with_stored stored rows) (with_stored (all_changed_ends xs stored) rows) (Unit {0})) done (c.changes.invariant.3 stored rows)

@@ -5,7 +5,9 @@ use Rattle.court_days.specs.Court.{CourtSettings}
 use Rattle.docket_core.specs.EndRows.{all_changed_ends}
 use Rattle.docket_core.specs.Tables.{Tables}
 use Rattle.docket_core.specs.declared.end_row.EndRow.{EndRow}
+use Rattle.docket_tables.specs.AnyRows.{with_stored}
 use Rattle.docket_tables.specs.Contents.{rows_with}
+use Rattle.docket_tables.specs.Layouts.{Rows}
 use Rattle.docket_tables.proofs.InsideLemmas.{Went}
 use Rattle.docket_tables.proofs.changing.change_ends.Given as goal
 
@@ -15,3 +17,5 @@ invariant-changes g l =
     × ((court : CourtSettings) (t : Tables) (ends : List EndRow)
     → Went (state g.S.Store l.fn.tx.conn.now) (state g.S.Store l.tx.conn.now) (rows_with court t ends) (rows_with court t (all_changed_ends (take l.change-index l.changes) ends)) (Unit {0}))
     × (doubt (state g.S.Store l.fn.tx.conn.now).is_clean ≤ doubt (state g.S.Store l.tx.conn.now).is_clean)
+    × ((stored : List EndRow) (rows : Rows)
+    → Went (state g.S.Store l.fn.tx.conn.now) (state g.S.Store l.tx.conn.now) (with_stored stored rows) (with_stored (all_changed_ends (take l.change-index l.changes) stored) rows) (Unit {0}))

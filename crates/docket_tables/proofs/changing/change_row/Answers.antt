@@ -3,6 +3,7 @@ use Rattle.std.proofs.lemmas.Result.{IfOk-weaker}
 use Rattle.sqlite.specs.Held.{state}
 use Rattle.docket_core.specs.Tables.{changed}
 use Rattle.docket_columns.specs.Cells.{case_cells, party_cells, entry_cells, deadline_cells, act_cells}
+use Rattle.docket_tables.specs.AnyRows.{row_changed}
 use Rattle.docket_tables.specs.Contents.{rows_with}
 use Rattle.docket_tables.specs.Stands.{Sees}
 use Rattle.docket_tables.specs.declared.table.Table.TheVariants.{Cases, Parties, Entries, Deadlines, Acts}
@@ -60,3 +61,48 @@ returns-in-AddAct-clause-ok g c clean court t ends small sees =
     let new = state g.S.Store c.insert-in-AddAct.new.tx.conn.now in
     row_inserted c.insert-in-AddAct.result old new Acts _ (act_cells row) (rows_with court t ends) (rows_with court (changed c.args.change.now t) ends) c.act_values.ensures refl
     (λ other. act_added court t ends row other ∙ ap (λ x. rows_with court (changed x t) ends other) (sym c.in-AddAct.is)) (c.insert-in-AddAct.ensures.ok clean) sees
+
+pub returns-in-AddCalendar-clause-any : goal.returns-in-AddCalendar-clause-any
+returns-in-AddCalendar-clause-any g c clean court n stored rows are small sees =
+    IfOk-weaker c.add_calendar_row.result _ _ (λ _ h. subst (λ x. Sees (state g.S.Store c.add_calendar_row.new.tx.conn.now) (row_changed court n x rows)) (sym c.in-AddCalendar.is) h)
+    (c.add_calendar_row.ensures.any clean court n stored rows are small sees)
+
+pub returns-in-RemoveCalendar-clause-any : goal.returns-in-RemoveCalendar-clause-any
+returns-in-RemoveCalendar-clause-any g c clean court n stored rows are small sees =
+    IfOk-weaker c.remove_calendar_row.result _ _ (λ _ h. subst (λ x. Sees (state g.S.Store c.remove_calendar_row.new.tx.conn.now) (row_changed court n x rows)) (sym c.in-RemoveCalendar.is) h)
+    (c.remove_calendar_row.ensures.ok clean rows are.keyed sees)
+
+pub returns-in-AddCase-clause-any : goal.returns-in-AddCase-clause-any
+returns-in-AddCase-clause-any g c clean court n stored rows are small sees =
+    let old = state g.S.Store c.args.tx.now.conn.now in
+    let new = state g.S.Store c.insert.new.tx.conn.now in
+    row_inserted c.insert.result old new Cases _ (case_cells c.in-AddCase.row) rows (row_changed court n c.args.change.now rows) c.case_values.ensures refl
+    (λ other. ap (λ x. row_changed court n x rows other) (sym c.in-AddCase.is)) (c.insert.ensures.ok clean) sees
+
+pub returns-in-AddParty-clause-any : goal.returns-in-AddParty-clause-any
+returns-in-AddParty-clause-any g c clean court n stored rows are small sees =
+    let old = state g.S.Store c.args.tx.now.conn.now in
+    let new = state g.S.Store c.insert-in-AddParty.new.tx.conn.now in
+    row_inserted c.insert-in-AddParty.result old new Parties _ (party_cells c.in-AddParty.row) rows (row_changed court n c.args.change.now rows) c.party_values.ensures refl
+    (λ other. ap (λ x. row_changed court n x rows other) (sym c.in-AddParty.is)) (c.insert-in-AddParty.ensures.ok clean) sees
+
+pub returns-in-AddEntry-clause-any : goal.returns-in-AddEntry-clause-any
+returns-in-AddEntry-clause-any g c clean court n stored rows are small sees =
+    let old = state g.S.Store c.args.tx.now.conn.now in
+    let new = state g.S.Store c.insert-in-AddEntry.new.tx.conn.now in
+    row_inserted c.insert-in-AddEntry.result old new Entries _ (entry_cells c.in-AddEntry.row) rows (row_changed court n c.args.change.now rows) c.entry_values.ensures refl
+    (λ other. ap (λ x. row_changed court n x rows other) (sym c.in-AddEntry.is)) (c.insert-in-AddEntry.ensures.ok clean) sees
+
+pub returns-in-AddDeadline-clause-any : goal.returns-in-AddDeadline-clause-any
+returns-in-AddDeadline-clause-any g c clean court n stored rows are small sees =
+    let old = state g.S.Store c.args.tx.now.conn.now in
+    let new = state g.S.Store c.insert-in-AddDeadline.new.tx.conn.now in
+    row_inserted c.insert-in-AddDeadline.result old new Deadlines _ (deadline_cells c.in-AddDeadline.row) rows (row_changed court n c.args.change.now rows) c.deadline_values.ensures refl
+    (λ other. ap (λ x. row_changed court n x rows other) (sym c.in-AddDeadline.is)) (c.insert-in-AddDeadline.ensures.ok clean) sees
+
+pub returns-in-AddAct-clause-any : goal.returns-in-AddAct-clause-any
+returns-in-AddAct-clause-any g c clean court n stored rows are small sees =
+    let old = state g.S.Store c.args.tx.now.conn.now in
+    let new = state g.S.Store c.insert-in-AddAct.new.tx.conn.now in
+    row_inserted c.insert-in-AddAct.result old new Acts _ (act_cells c.in-AddAct.row) rows (row_changed court n c.args.change.now rows) c.act_values.ensures refl
+    (λ other. ap (λ x. row_changed court n x rows other) (sym c.in-AddAct.is)) (c.insert-in-AddAct.ensures.ok clean) sees

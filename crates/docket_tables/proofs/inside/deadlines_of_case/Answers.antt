@@ -5,6 +5,7 @@ use Rattle.sqlite.specs.declared.types.Value.TheVariants.{Int}
 use Rattle.sqlite_trees.proofs.ListLemmas.{all-filter}
 use Rattle.docket_tables.specs.Contents.{rows_with}
 use Rattle.docket_tables.specs.declared.query.Query.TheVariants as ask
+use Rattle.docket_tables.proofs.AnyLemmas.{still_read}
 use Rattle.docket_tables.proofs.InsideLemmas.{failed_after, read_inside}
 use Rattle.docket_columns.specs.Cells.{deadline_cells}
 use Rattle.docket_core.specs.Histories.{deadlines_of_case}
@@ -33,3 +34,12 @@ returns-clause-inside g c court t ends orderly sees =
           let are = in_order ask.Deadlines (Int (pos k) ∷ []) deadline_cells (λ row. row.case == k) (λ row. and_yes _ ∙ equal_number row.case k) t.deadlines shown (λ row. row.number) (λ row. refl) refl refl (rises_running 1 _ (orderly.deadlines_run k)) answer in
           read_inside c.all_in.result _ _ (c.all_in.ensures (deadlines_of_case k t.deadlines) (all-filter _ _ t.deadlines orderly.deadlines) (c.as_slice.ensures.value ∙ are)) asked.0,
     )
+
+pub returns-in_err-rows-clause-still : goal.returns-in_err-rows-clause-still
+returns-in_err-rows-clause-still g c rows =
+    failed_after (state g.S.Store c.args.tx.now.conn.now) (state g.S.Store c.ask_inside.new.tx.conn.now) rows rows c.from_residual.result _ (λ sees. c.ask_inside.ensures.inside rows sees) c.from_residual.ensures.0
+
+pub returns-clause-still : goal.returns-clause-still
+returns-clause-still g c rows sees =
+    let before : HasCleanDisk (state g.S.Store c.ask_inside.new.tx.conn.now) → HasCleanDisk (state g.S.Store c.args.tx.now.conn.now) = λ clean. omega (arith, c.ask_inside.ensures.clean) in
+    (c.in_ok-rows.ensures.inside rows sees, λ clean. still_read c.all_in.result _ (c.in_ok-rows.ensures.ok clean rows (sees (before clean))).0)

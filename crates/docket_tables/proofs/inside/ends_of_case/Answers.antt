@@ -2,6 +2,7 @@ use Rattle.std.proofs.Common.{◌∙◌, arith}
 use Rattle.sqlite.specs.Held.{state}
 use Rattle.sqlite.specs.State.{HasCleanDisk}
 use Rattle.docket_tables.specs.Contents.{rows_with, ends_of}
+use Rattle.docket_tables.proofs.AnyLemmas.{still_read}
 use Rattle.docket_tables.proofs.InsideLemmas.{failed_after, read_inside}
 use Rattle.docket_tables.proofs.EndLemmas.{ends_shown}
 use Rattle.docket_tables.proofs.inside.ends_of_case.Goals as goal
@@ -26,3 +27,12 @@ returns-clause-inside g c court t ends are sees =
           let shown = c.in_ok-rows.rows.items in
           read_inside c.all_in.result _ _ (c.all_in.ensures (ends_of k ends) are.fit (c.as_slice.ensures.value ∙ ends_shown k ends shown are.rows answer)) asked.0,
     )
+
+pub returns-in_err-rows-clause-still : goal.returns-in_err-rows-clause-still
+returns-in_err-rows-clause-still g c rows =
+    failed_after (state g.S.Store c.args.tx.now.conn.now) (state g.S.Store c.ask_inside.new.tx.conn.now) rows rows c.from_residual.result _ (λ sees. c.ask_inside.ensures.inside rows sees) c.from_residual.ensures.0
+
+pub returns-clause-still : goal.returns-clause-still
+returns-clause-still g c rows sees =
+    let before : HasCleanDisk (state g.S.Store c.ask_inside.new.tx.conn.now) → HasCleanDisk (state g.S.Store c.args.tx.now.conn.now) = λ clean. omega (arith, c.ask_inside.ensures.clean) in
+    (c.in_ok-rows.ensures.inside rows sees, λ clean. still_read c.all_in.result _ (c.in_ok-rows.ensures.ok clean rows (sees (before clean))).0)

@@ -4,7 +4,7 @@ use Rattle.docket_core.specs.declared.row.ActRow.{ActRow}
 use Rattle.docket_columns.specs.Fits.{IsActRow}
 use Rattle.docket_tables.specs.Contents.{rows_in}
 use Rattle.docket_tables.proofs.CaseActs.{in_turn, in_turn_of, in_turn_rises, in_turn_all, answered_in_turn}
-use Rattle.docket_tables.proofs.ReadLemmas.{gives, read_as}
+use Rattle.docket_tables.proofs.ReadLemmas.{gives, read_as, stays}
 use Rattle.docket_tables.proofs.reading.acts_of_case.Goals as goal
 
 pub returns-clause-read : goal.returns-clause-read
@@ -21,3 +21,6 @@ returns-clause-read g c court t orderly holds =
       subst (IsNonDecreasingBy (λ (row : ActRow). row.deadline)) (sym are) (in_turn_rises k t.acts runs),
     ))
     (c.all_in.ensures turn (in_turn_all k t.acts runs IsActRow orderly.acts) (c.as_slice.ensures.value ∙ answered_in_turn k t.acts runs rows answer)))
+
+pub returns-clause-stays : goal.returns-clause-stays
+returns-clause-stays g c rows holds = stays g.S.Store c.ask.new.conn rows c.all_in.result (c.in_ok-rows.ensures.ok rows holds).0

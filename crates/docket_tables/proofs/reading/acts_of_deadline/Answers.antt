@@ -9,7 +9,7 @@ use Rattle.docket_orderly.specs.Orderly.{acts_on}
 use Rattle.docket_tables.specs.declared.query.Query.TheVariants as ask
 use Rattle.docket_tables.proofs.AnswerLemmas.{in_order, rises_running}
 use Rattle.docket_tables.proofs.FoundLemmas.{equal_numbers}
-use Rattle.docket_tables.proofs.ReadLemmas.{gives}
+use Rattle.docket_tables.proofs.ReadLemmas.{gives, stays}
 use Rattle.docket_tables.proofs.reading.acts_of_deadline.Goals as goal
 
 pub returns-clause-read : goal.returns-clause-read
@@ -23,3 +23,6 @@ returns-clause-read g c court t orderly holds =
     let are = in_order ask.DeadlineActs (Int (pos k) ∷ Int (pos n) ∷ []) act_cells (λ (row : ActRow). row.case == k && row.deadline == n) (λ row. equal_numbers row.case k row.deadline n) t.acts rows (λ row. row.number) (λ row. refl) refl refl
     (rises_running 1 _ (orderly.acts_run k n)) answer in
     c.acts_alone_in.ensures (acts_on k n t.acts) (all-filter IsActRow _ t.acts orderly.acts) (c.as_slice.ensures.value ∙ are))
+
+pub returns-clause-stays : goal.returns-clause-stays
+returns-clause-stays g c rows holds = stays g.S.Store c.ask.new.conn rows c.acts_alone_in.result (c.in_ok-rows.ensures.ok rows holds).0

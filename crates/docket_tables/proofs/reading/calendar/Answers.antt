@@ -3,7 +3,7 @@ use Rattle.docket_columns.specs.Cells.{calendar_cells}
 use Rattle.docket_tables.specs.Contents.{rows_in}
 use Rattle.docket_tables.specs.declared.query.Query.TheVariants as ask
 use Rattle.docket_tables.proofs.AnswerLemmas.{all_in_order}
-use Rattle.docket_tables.proofs.ReadLemmas.{gives}
+use Rattle.docket_tables.proofs.ReadLemmas.{gives, stays}
 use Rattle.docket_tables.proofs.reading.calendar.Goals as goal
 
 pub returns-clause-read : goal.returns-clause-read
@@ -12,3 +12,6 @@ returns-clause-read g c court t orderly holds =
     gives g.S.Store c.ask.new.conn (rows_in court t) _ c.all_in.result asked.0 (λ clean.
     let are = all_in_order ask.Calendar calendar_cells (λ row. row.number) t.calendar c.in_ok-rows.rows.items (λ row. refl) (λ row. refl) refl refl orderly.calendar_rises (asked.1 clean) in
     c.all_in.ensures t.calendar orderly.calendar (c.as_slice.ensures.value ∙ are))
+
+pub returns-clause-stays : goal.returns-clause-stays
+returns-clause-stays g c rows holds = stays g.S.Store c.ask.new.conn rows c.all_in.result (c.in_ok-rows.ensures.ok rows holds).0

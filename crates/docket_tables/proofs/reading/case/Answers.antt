@@ -1,6 +1,6 @@
 use Rattle.std.proofs.Common.{◌∙◌}
 use Rattle.docket_tables.specs.Contents.{rows_in}
-use Rattle.docket_tables.proofs.ReadLemmas.{gives}
+use Rattle.docket_tables.proofs.ReadLemmas.{gives, stays}
 use Rattle.docket_tables.proofs.FoundLemmas.{case_read}
 use Rattle.docket_tables.proofs.reading.case.Goals as goal
 
@@ -12,3 +12,6 @@ returns-clause-read g c court t orderly holds =
     let answer = rw c.to_sql.ensures at (asked.1 clean) in
     case_read c.args.number c.first_in.result rows t.cases orderly.cases orderly.cases_run answer (λ none. c.first_in.ensures.none (c.as_slice.ensures.value ∙ none))
     (λ row typed one. c.first_in.ensures.one row typed (c.as_slice.ensures.value ∙ one)))
+
+pub returns-clause-stays : goal.returns-clause-stays
+returns-clause-stays g c rows holds = stays g.S.Store c.ask.new.conn rows c.first_in.result (c.in_ok-rows.ensures.ok rows holds).0

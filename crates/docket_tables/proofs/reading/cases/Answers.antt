@@ -4,7 +4,7 @@ use Rattle.docket_columns.specs.Cells.{case_cells}
 use Rattle.docket_tables.specs.Contents.{rows_in}
 use Rattle.docket_tables.specs.declared.query.Query.TheVariants as ask
 use Rattle.docket_tables.proofs.AnswerLemmas.{the_last}
-use Rattle.docket_tables.proofs.ReadLemmas.{gives, read_ok}
+use Rattle.docket_tables.proofs.ReadLemmas.{gives, read_ok, stays}
 use Rattle.std.specs.List.{AllByRecursion}
 use Rattle.docket_columns.specs.Fits.{IsCaseRow}
 use Rattle.docket_orderly.specs.Orderly.{RunsFrom}
@@ -22,3 +22,6 @@ returns-clause-read g c court t orderly holds =
       | inl none ↦ read_ok _ c.number_in.result 0 (c.number_in.ensures.none (c.as_slice.ensures.value ∙ none.1)) (sym (ap length (sym all) ∙ none.0))
       | inr one ↦ read_ok _ c.number_in.result one.0.number (c.number_in.ensures.first (case_cells one.0) one.0.number one.2.0 (c.as_slice.ensures.value ∙ one.3) refl) (one.1 ∙ ap length all)
     ])
+
+pub returns-clause-stays : goal.returns-clause-stays
+returns-clause-stays g c rows holds = stays g.S.Store c.ask.new.conn rows c.number_in.result (c.in_ok-rows.ensures.ok rows holds).0

@@ -6,7 +6,7 @@ use Rattle.docket_tables.specs.Contents.{rows_in}
 use Rattle.docket_tables.specs.declared.query.Query.TheVariants as ask
 use Rattle.docket_tables.proofs.AnswerLemmas.{the_last, equal_number}
 use Rattle.docket_tables.proofs.HoldsLemmas.{and_yes}
-use Rattle.docket_tables.proofs.ReadLemmas.{gives, read_ok}
+use Rattle.docket_tables.proofs.ReadLemmas.{gives, read_ok, stays}
 use Rattle.docket_columns.specs.Fits.{IsPartyRow}
 use Rattle.docket_tables.proofs.reading.count_parties.Goals as goal
 
@@ -22,3 +22,6 @@ returns-clause-read g c court t orderly holds =
       | inl none ↦ read_ok _ c.number_in.result 0 (c.number_in.ensures.none (c.as_slice.ensures.value ∙ none.1)) (sym none.0)
       | inr one ↦ read_ok _ c.number_in.result one.0.number (c.number_in.ensures.first (party_cells one.0) one.0.number one.2.1 (c.as_slice.ensures.value ∙ one.3) refl) one.1
     ])
+
+pub returns-clause-stays : goal.returns-clause-stays
+returns-clause-stays g c rows holds = stays g.S.Store c.ask.new.conn rows c.number_in.result (c.in_ok-rows.ensures.ok rows holds).0

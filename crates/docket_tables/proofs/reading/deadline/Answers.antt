@@ -1,6 +1,6 @@
 use Rattle.std.proofs.Common.{◌∙◌}
 use Rattle.docket_tables.specs.Contents.{rows_in}
-use Rattle.docket_tables.proofs.ReadLemmas.{gives}
+use Rattle.docket_tables.proofs.ReadLemmas.{gives, stays}
 use Rattle.docket_tables.proofs.FoundLemmas.{deadline_read}
 use Rattle.docket_tables.proofs.reading.deadline.Goals as goal
 
@@ -12,3 +12,6 @@ returns-clause-read g c court t orderly holds =
     let answer = rw (c.to_sql.ensures, c.to_sql-2.ensures) at (asked.1 clean) in
     deadline_read c.args.case c.args.number c.deadline_in.result rows t.deadlines orderly.deadlines (orderly.deadlines_run c.args.case) answer (λ none. c.deadline_in.ensures.none (c.as_slice.ensures.value ∙ none))
     (λ row typed one. c.deadline_in.ensures.one row typed (c.as_slice.ensures.value ∙ one)))
+
+pub returns-clause-stays : goal.returns-clause-stays
+returns-clause-stays g c rows holds = stays g.S.Store c.ask.new.conn rows c.deadline_in.result (c.in_ok-rows.ensures.ok rows holds).0

@@ -2,7 +2,7 @@ use Rattle.std.proofs.Common.{◌∙◌}
 use Rattle.docket_core.specs.EndRows.{end_rows}
 use Rattle.docket_tables.specs.Contents.{rows_in, ends_of}
 use Rattle.docket_tables.proofs.EndLemmas.{ends_shown}
-use Rattle.docket_tables.proofs.ReadLemmas.{gives}
+use Rattle.docket_tables.proofs.ReadLemmas.{gives, stays}
 use Rattle.docket_tables.proofs.StoredLemmas.{all_stored}
 use Rattle.docket_tables.proofs.reading.ends_of_case.Goals as goal
 
@@ -16,3 +16,6 @@ returns-clause-read g c court t orderly holds =
     gives g.S.Store c.ask.new.conn (rows_in court t) _ c.all_in.result asked.0 (λ clean.
     let answer = rw c.to_sql.ensures at (asked.1 clean) in
     c.all_in.ensures (ends_of k ends) are.fit (c.as_slice.ensures.value ∙ ends_shown k ends rows are.rows answer))
+
+pub returns-clause-stays : goal.returns-clause-stays
+returns-clause-stays g c rows holds = stays g.S.Store c.ask.new.conn rows c.all_in.result (c.in_ok-rows.ensures.ok rows holds).0

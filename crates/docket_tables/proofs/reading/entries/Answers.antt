@@ -6,7 +6,7 @@ use Rattle.docket_tables.specs.Contents.{rows_in}
 use Rattle.docket_tables.specs.declared.query.Query.TheVariants as ask
 use Rattle.docket_tables.proofs.AnswerLemmas.{in_order, rises_running, equal_number}
 use Rattle.docket_tables.proofs.HoldsLemmas.{and_yes}
-use Rattle.docket_tables.proofs.ReadLemmas.{gives}
+use Rattle.docket_tables.proofs.ReadLemmas.{gives, stays}
 use Rattle.docket_core.specs.Histories.{entries_of_case}
 use Rattle.docket_tables.proofs.reading.entries.Goals as goal
 
@@ -20,3 +20,6 @@ returns-clause-read g c court t orderly holds =
     let are = in_order ask.Entries (Int (pos k) ∷ []) entry_cells (λ row. row.case == k) (λ row. and_yes _ ∙ equal_number row.case k) t.entries rows (λ row. row.number) (λ row. refl) refl refl
     (rises_running 1 _ (orderly.entries_run k)) answer in
     c.all_in.ensures (entries_of_case k t.entries) (all-filter _ _ t.entries orderly.entries) (c.as_slice.ensures.value ∙ are))
+
+pub returns-clause-stays : goal.returns-clause-stays
+returns-clause-stays g c rows holds = stays g.S.Store c.ask.new.conn rows c.all_in.result (c.in_ok-rows.ensures.ok rows holds).0

@@ -21,3 +21,6 @@ returns-clause-read g c court t orderly holds =
           let many = so_many ask.CaseLabelled (Text label ∷ []) case_cells (λ row. bytes_eq row.label label) (λ row. and_yes _ ∙ equal_text row.label label) t.cases rows refl answer in
           ap (nat_lt 0) (ap length c.as_slice.ensures.value ∙ many) ∙ any_kept (λ row. bytes_eq row.label label) t.cases,
     )
+
+pub returns-clause-stays : goal.returns-clause-stays
+returns-clause-stays g c rows holds = (c.in_ok-rows.ensures.ok rows holds).0

@@ -19,3 +19,6 @@ returns-clause-read g c court t orderly holds =
           let many = so_many ask.CalendarRow (Int (pos n) ∷ []) calendar_cells (λ row. row.number == n) (λ row. and_yes _ ∙ equal_number row.number n) t.calendar rows refl answer in
           ap (nat_lt 0) (ap length c.as_slice.ensures.value ∙ many) ∙ any_kept (λ row. row.number == n) t.calendar,
     )
+
+pub returns-clause-stays : goal.returns-clause-stays
+returns-clause-stays g c rows holds = (c.in_ok-rows.ensures.ok rows holds).0

@@ -1,6 +1,6 @@
 use Rattle.std.proofs.Common.{◌∙◌}
 use Rattle.docket_tables.specs.Contents.{rows_in}
-use Rattle.docket_tables.proofs.ReadLemmas.{gives}
+use Rattle.docket_tables.proofs.ReadLemmas.{gives, stays}
 use Rattle.docket_tables.proofs.FoundLemmas.{kept_read}
 use Rattle.docket_tables.proofs.reading.kept.Goals as goal
 
@@ -12,3 +12,6 @@ returns-clause-read g c court t orderly holds =
     let answer = rw (c.to_sql.ensures, c.as_str.ensures) at (asked.1 clean) in
     kept_read c.args.command.now c.kept_in.result rows t.receipts orderly.receipts (orderly.one_receipt c.args.command.now.key) answer (λ none. c.kept_in.ensures.none (c.as_slice.ensures.value ∙ none))
     (λ row typed one. c.kept_in.ensures.one row c.args.command.now typed c.requires.lawful c.requires.body (c.as_slice.ensures.value ∙ one)))
+
+pub returns-clause-stays : goal.returns-clause-stays
+returns-clause-stays g c rows holds = stays g.S.Store c.ask.new.conn rows c.kept_in.result (c.in_ok-rows.ensures.ok rows holds).0

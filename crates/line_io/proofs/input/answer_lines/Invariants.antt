@@ -1,6 +1,7 @@
 use Rattle.std.proofs.Common.{◌≡◌, ◌+◌, ◌*◌, ◌≤◌, [], ℕ, List, vec_len}
 use Rattle.std.specs.Io.KnownBytes.{Consumes}
 use Rattle.line_io.specs.Report.{within}
+use Rattle.line_io.specs.Steps.{Reaches}
 use Rattle.line_io.specs.Progress.{Takes}
 use Rattle.line_io.proofs.input.answer_lines.Given as goal
 
@@ -13,6 +14,7 @@ invariant-reads g l =
     × (now.pending.items ≡ [])
     × (now.counts.bad ≤ now.counts.lines)
     × (now.counts.lines ≤ 16_384 * l.counter)
+    × Reaches g.A.Answerer.Steps l.fn.answerer l.answerer
     × (g.A.Answerer.Trusts l.answerer → g.A.Answerer.Trusts l.fn.answerer)
     × ((s : g.A.Answerer.State) → g.A.Answerer.Shows l.fn.answerer s → g.A.Answerer.Trusts l.answerer
     → Takes (within g.A.Answerer.LIMIT g.A.Answerer.judge g.A.Answerer.judge_long) (g.A.Answerer.Shows l.answerer) (g.A.Answerer.LIMIT + 2) s [] came now.kept.items

@@ -3,6 +3,7 @@ use Rattle.std.proofs.lemmas.Result.{err_from_is_err_and}
 use Rattle.line_io.specs.Lines.{lines_from}
 use Rattle.line_io.specs.Report.{within}
 use Rattle.line_io.proofs.Cutting.{piece-on, more-len, take-again, free-from}
+use Rattle.line_io.proofs.StepLemmas.{here, steps_then}
 use Rattle.line_io.proofs.Stopping.{stops-here, takes-stops}
 use Rattle.line_io.proofs.Taking.{takes-none, takes-open, takes-then, takes-same}
 use Rattle.line_io.proofs.input.take_piece.Goals as goal
@@ -15,6 +16,7 @@ lines-init g c = (
   c.requires.pending,
   c.requires.counts.0,
   omega arith,
+  here g.A.Answerer.Steps c.args.answerer.now,
   λ trusts. trusts,
   λ s part shows trusts kept. takes-none (within g.A.Answerer.LIMIT g.A.Answerer.judge g.A.Answerer.judge_long) _ _ s part _ _ _ _ _ shows kept,
 )
@@ -29,7 +31,7 @@ returns-in_err-take_line-clause-stops g c =
     let line = take at left ++ 10 ∷ [] in
     let behind = take (length left - (at + 1)) (drop (at + 1) left) in
     rw (p.1, p.2) (λ s part shows trusts kept rest.
-    let h = now.7 s part shows (c.in_err-take_line.ensures.trust trusts) kept in
+    let h = now.8 s part shows (c.in_err-take_line.ensures.trust trusts) kept in
     takes-stops J _ _ _ _ s part _ _ (lines_from h.open_part (line ++ (behind ++ rest))) _ _ _ _ _ _ _ _ _ _ _ h
     (ap (λ z. lines_from part (z ++ rest)) (piece-on c.args.piece.now now.0 left at now.1 c.in-Some.ensures.0.high c.in-Some.ensures.1)
     ∙ ap (lines_from part) (append_assoc (now.0 ++ line) behind rest ∙ append_assoc now.0 line (behind ++ rest))
@@ -49,9 +51,10 @@ lines-preserved g c =
       c.in_ok-take_line.ensures.pending,
       counts.0,
       omega (arith, counts.1, now.5, more-len now.0 (take at rest)),
-      λ trusts. now.6 (c.in_ok-take_line.ensures.trust trusts),
+      steps_then g.A.Answerer.Steps _ _ _ now.6 c.in_ok-take_line.ensures.steps,
+      λ trusts. now.7 (c.in_ok-take_line.ensures.trust trusts),
       λ s part shows trusts kept.
-          let h = now.7 s part shows (c.in_ok-take_line.ensures.trust trusts) kept in
+          let h = now.8 s part shows (c.in_ok-take_line.ensures.trust trusts) kept in
           takes-then J _ _ _ s part _ _ _ _ _ _ _ _ _ _ _ _ _ _ _ _ h (c.in_ok-take_line.ensures.takes _ h.open_part h.shows trusts h.keeps),
     )
 
@@ -60,7 +63,7 @@ returns-in-Ok-clause-takes g c = λ s part shows trusts kept.
     let J = within g.A.Answerer.LIMIT g.A.Answerer.judge g.A.Answerer.judge_long in
     let now = c.lines.invariant in
     let rest = c.lines.rest.now in
-    let h = now.7 s part shows trusts kept in
+    let h = now.8 s part shows trusts kept in
     let most = g.A.Answerer.LIMIT + 2 in
     let keeps : c.keep.new.kept.items ≡ take most (h.open_part ++ rest) =
     c.in-Ok.ensures ∙ ap (λ n. take (n + 2) (c.lines.progress.kept.items ++ rest)) c.LIMIT.ensures
@@ -74,7 +77,10 @@ returns-in-Err-clause-stops g c = λ s part shows trusts kept rest.
     let J = within g.A.Answerer.LIMIT g.A.Answerer.judge g.A.Answerer.judge_long in
     let now = c.lines.invariant in
     let left = c.lines.rest.now in
-    let h = now.7 s part shows trusts kept in
+    let h = now.8 s part shows trusts kept in
     takes-stops J _ _ _ _ s part _ _ (lines_from h.open_part (left ++ rest)) _ _ _ _ _ _ _ _ _ _ _ h
     (ap (λ z. lines_from part (z ++ rest)) now.1 ∙ ap (lines_from part) (append_assoc now.0 left rest) ∙ h.goes (left ++ rest))
     (stops-here J _ _ _ _ _ _ _ h.shows refl now.3)
+
+pub returns-in_err-take_line-clause-steps : goal.returns-in_err-take_line-clause-steps
+returns-in_err-take_line-clause-steps g c = steps_then g.A.Answerer.Steps _ _ _ c.lines.invariant.6 c.in_err-take_line.ensures.steps

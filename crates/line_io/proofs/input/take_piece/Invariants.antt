@@ -1,5 +1,6 @@
 use Rattle.std.proofs.Common.{◌≡◌, ◌+◌, ◌≤◌, ◌++◌, ℕ, List, length, take, vec_len}
 use Rattle.line_io.specs.Report.{within}
+use Rattle.line_io.specs.Steps.{Reaches}
 use Rattle.line_io.specs.Progress.{Takes}
 use Rattle.line_io.proofs.input.take_piece.Given as goal
 
@@ -13,6 +14,7 @@ invariant-lines g l =
     × (length now.pending.items ≤ g.A.Answerer.MAX_PENDING)
     × (now.counts.bad ≤ now.counts.lines)
     × (now.counts.lines ≤ old.counts.lines + length done)
+    × Reaches g.A.Answerer.Steps l.fn.answerer l.answerer
     × (g.A.Answerer.Trusts l.answerer → g.A.Answerer.Trusts l.fn.answerer)
     × ((s : g.A.Answerer.State) (part : List ℕ) → g.A.Answerer.Shows l.fn.answerer s → g.A.Answerer.Trusts l.answerer → old.kept.items ≡ take (g.A.Answerer.LIMIT + 2) part
     → Takes (within g.A.Answerer.LIMIT g.A.Answerer.judge g.A.Answerer.judge_long) (g.A.Answerer.Shows l.answerer) (g.A.Answerer.LIMIT + 2) s part done now.kept.items

@@ -5,6 +5,7 @@ use Rattle.line_io.specs.Report.{Judged}
 use Rattle.command_lines.specs.Ending.{StandsAs}
 use Rattle.command_lines.specs.Lines.{Docket, judged_read}
 use Rattle.command_lines.proofs.AnswerLemmas.{said_is}
+use Rattle.command_lines.proofs.AnswerLemmas.{nothing_written}
 use Rattle.command_lines.proofs.clerk.ClerkAnswerer.answer.Goals as goal
 
 pub returns-in_ok-push_line-in-Ok-clause-ok : goal.returns-in_ok-push_line-in-Ok-clause-ok
@@ -18,3 +19,9 @@ returns-in_ok-push_line-in-Ok-clause-ok g c s shows clean =
       (let bad = same.1 ∙ ap (λ (j : Judged Docket). j.bad) judged_is in search rules),
       subst (λ (j : Judged Docket). StandsAs g.S.Store c.apply.new.self j.after) judged_is told.1,
     )
+
+pub returns-in_err-push_fault-in-Err-clause-steps : goal.returns-in_err-push_fault-in-Err-clause-steps
+returns-in_err-push_fault-in-Err-clause-steps g c = nothing_written g.S.Store c.args.self.now
+
+pub returns-in_ok-push_fault-in-Err-clause-steps : goal.returns-in_ok-push_fault-in-Err-clause-steps
+returns-in_ok-push_fault-in-Err-clause-steps g c = nothing_written g.S.Store c.args.self.now

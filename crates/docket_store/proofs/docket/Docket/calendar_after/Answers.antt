@@ -2,6 +2,7 @@ use Rattle.std.proofs.Common.{refl, sym, subst}
 use Rattle.docket_store.specs.Applying.{Stands}
 use Rattle.docket_store.specs.Dockets.{Docket, serving}
 use Rattle.docket_store.proofs.ListingLemmas.{lists_kept}
+use Rattle.docket_tables.specs.Stands.{HoldsRows}
 use Rattle.docket_store.proofs.docket.Docket.calendar_after.Goals as goal
 
 pub returns-clause-answer : goal.returns-clause-answer
@@ -15,3 +16,6 @@ returns-clause-answer g c h stands =
     lists_kept g.S.Store h c.args.from c.args.to c.args.front.now (g.W.Write.contents c.args.writer.now) (g.W.Write.contents c.list_days-answer.new.writer) conn court kept
     c.is_broken_store-self-inside.result c.list_days-answer.result c.is_broken_store-self-inside.ensures.0
     (c.list_days-answer.ensures.lists h serves)
+
+pub returns-clause-stays : goal.returns-clause-stays
+returns-clause-stays g c rows holds = c.list_days-answer.ensures.stays rows (subst (λ (d : Docket g.row.S.Denot). HoldsRows g.S.Store d.conn rows) (sym c.self.view_is) holds)

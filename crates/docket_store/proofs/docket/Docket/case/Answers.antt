@@ -3,6 +3,7 @@ use Rattle.docket_core.specs.Records.{case_record}
 use Rattle.docket_store.specs.Applying.{Stands}
 use Rattle.docket_store.specs.Dockets.{Docket, serving}
 use Rattle.docket_store.proofs.AskLemmas.{asks_kept}
+use Rattle.docket_tables.specs.Stands.{HoldsRows}
 use Rattle.docket_store.proofs.docket.Docket.case.Goals as goal
 
 pub returns-clause-answer : goal.returns-clause-answer
@@ -14,3 +15,6 @@ returns-clause-answer g c h stands =
     let serves : Stands g.S.Store (serving c.self.inside.conn court kept) h = record { docket = here.docket; serves = refl; rows = here.rows; calendar = here.calendar } in
     asks_kept g.S.Store conn court kept h (λ found. found ≡ case_record h c.args.number) c.is_store_failure-self-inside.result c.record_numbered-answer.result c.is_store_failure-self-inside.ensures.0
     (c.record_numbered-answer.ensures.answer court kept h serves)
+
+pub returns-clause-stays : goal.returns-clause-stays
+returns-clause-stays g c rows holds = c.record_numbered-answer.ensures.stays rows (subst (λ (d : Docket g.row.S.Denot). HoldsRows g.S.Store d.conn rows) (sym c.self.view_is) holds)

@@ -4,6 +4,7 @@ use Rattle.docket_core.specs.Records.{deadline_lines}
 use Rattle.docket_store.specs.Applying.{Asks, Stands}
 use Rattle.docket_store.specs.Dockets.{Docket, serving}
 use Rattle.docket_store.proofs.AskLemmas.{asks_kept}
+use Rattle.docket_tables.specs.Stands.{HoldsRows}
 use Rattle.docket_store.proofs.docket.Docket.deadlines.Goals as goal
 
 pub returns-clause-answer : goal.returns-clause-answer
@@ -18,3 +19,6 @@ returns-clause-answer g c h stands =
     subst (λ (d : Docket g.row.S.Denot). Asks g.S.Store (record { conn = conn; court = court; closed = closed; calendar = kept }) h (λ found. option_map (λ lines. lines.items) found ≡ deadline_lines d.court h c.args.number) c.lines_numbered-answer.result) c.self.view_is
     (asks_kept g.S.Store conn court kept h (λ found. option_map (λ lines. lines.items) found ≡ deadline_lines court h c.args.number) closed c.lines_numbered-answer.result c.is_store_failure-self-inside.ensures.0
     (c.lines_numbered-answer.ensures.answer h serves))
+
+pub returns-clause-stays : goal.returns-clause-stays
+returns-clause-stays g c rows holds = c.lines_numbered-answer.ensures.stays rows (subst (λ (d : Docket g.row.S.Denot). HoldsRows g.S.Store d.conn rows) (sym c.self.view_is) holds)

@@ -1,0 +1,13 @@
+use Rattle.std.proofs.Common.{Err, subst}
+use Rattle.docket_store.specs.AnyRows.{PreservesListing}
+use Rattle.docket_store.specs.declared.listing.ListingEnd.{ListingEnd}
+use Rattle.docket_store.proofs.docket.Docket.calendar.Goals as goal
+
+pub returns-in-Err-NotBegun-clause-stays : goal.returns-in-Err-NotBegun-clause-stays
+returns-in-Err-NotBegun-clause-stays g c rows holds = subst (λ (end : ListingEnd). PreservesListing g.S.Store c.calendar_after.new.self.conn rows (Err end)) c.in-Err-NotBegun.field-0-is (c.in-Err-NotBegun.ensures.stays rows holds)
+
+pub returns-in-Err-Broken-clause-stays : goal.returns-in-Err-Broken-clause-stays
+returns-in-Err-Broken-clause-stays g c rows holds = subst (λ (end : ListingEnd). PreservesListing g.S.Store c.calendar_after.new.self.conn rows (Err end)) c.in-Err-Broken.field-0-is (c.in-Err-Broken.ensures.stays rows holds)
+
+pub returns-in-Err-WriteFailed-clause-stays : goal.returns-in-Err-WriteFailed-clause-stays
+returns-in-Err-WriteFailed-clause-stays g c rows holds = subst (λ (end : ListingEnd). PreservesListing g.S.Store c.calendar_after.new.self.conn rows (Err end)) c.in-Err-WriteFailed.field-0-is (c.in-Err-WriteFailed.ensures.stays rows holds)
