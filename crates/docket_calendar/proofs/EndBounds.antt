@@ -7,7 +7,7 @@ use Rattle.civil_time.specs.Zone.{ZoneRules, IsZone}
 use Rattle.civil_time.proofs.MonthsAway.{months_later-finds, months_earlier-finds}
 use Rattle.civil_time.specs.Months.{months_later, months_earlier}
 use Rattle.court_days.specs.Civil.{IsEnteredDay}
-use Rattle.court_days.specs.Calendar.{Entered, no_days, with_day, with_span, IsWithinLimits}
+use Rattle.court_days.specs.Calendar.{Entered, no_days, with_day, with_span, with_short, IsWithinLimits}
 use Rattle.court_days.specs.Ends.{end_from, end_of_days}
 use Rattle.court_days.specs.Hours.{IsNearEntered}
 use Rattle.court_days.specs.declared.calendar.Direction.{Direction}
@@ -18,7 +18,7 @@ use Rattle.court_days.proofs.Accessible.{near_entered_day}
 use Rattle.court_days.proofs.Ends.{last_business-finds, last_business-is, end_from-finds, end_of_days-near}
 use Rattle.court_days.proofs.EndsOfHours.{end_of_hours-near}
 use Rattle.court_days.proofs.MonthEnds.{end_of_months-near}
-use Rattle.court_days.proofs.Entries.{no_days-limits, with_day-limits, with_span-limits}
+use Rattle.court_days.proofs.Entries.{no_days-limits, with_day-limits, with_span-limits, with_short-limits}
 use Rattle.court_rules.specs.Acts.{is_entered_day, is_period, is_start, is_within}
 use Rattle.court_rules.specs.Ends.{end_of_period, end_after_service}
 use Rattle.court_rules.specs.Standings.{end_of_start, extended_by, resumed_end, standing_after, standing_through, standing, begins_on_entered_day, AreActs}
@@ -32,7 +32,7 @@ use Rattle.court_rules.specs.declared.table.Period.{Period}
 use Rattle.court_rules.specs.declared.table.Period.TheVariants as period
 use Rattle.docket_core.specs.CalendarItems.{IsEnteredItem, entered_with, calendar_of}
 use Rattle.docket_core.specs.declared.item.CalendarItem.{CalendarItem}
-use Rattle.docket_core.specs.declared.item.CalendarItem.TheVariants.{Day, Span}
+use Rattle.docket_core.specs.declared.item.CalendarItem.TheVariants.{Day, Span, Short}
 use Rattle.docket_calendar.specs.DueCells.{IsDueEnd}
 
 -- a last day is at most so late after that many acts, each of which moves it by at most ten years and some days
@@ -172,6 +172,7 @@ pub items_within : (entered : Entered) (items : List CalendarItem) → IsWithinL
 items_within entered [] limits all = limits
 items_within entered (Day kind day ∷ items) limits all = items_within (with_day entered kind day) items (with_day-limits entered kind day limits all.0) all.1
 items_within entered (Span start end ∷ items) limits all = items_within (with_span entered start end) items (with_span-limits entered start end limits all.0) all.1
+items_within entered (Short day close ∷ items) limits all = items_within (with_short entered day close) items (with_short-limits entered day close limits all.0) all.1
 
 pub calendar_within : (items : List CalendarItem) → AllByRecursion IsEnteredItem items → IsWithinLimits (calendar_of items)
 calendar_within items all = items_within no_days items no_days-limits all

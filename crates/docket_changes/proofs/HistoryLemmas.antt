@@ -1,26 +1,32 @@
 -- Which ends an accepted command may move.
-use Rattle.std.proofs.Common.{◌≡◌, ◌∙◌, inl, ◌+◌, ℕ, true, false, List, [], ◌∷◌, ◌++◌, length, Option, Some, None, refl, sym, ap, ap₂, append-nil}
+use Rattle.std.proofs.Common.{◌≡◌, ◌∙◌, inl, ◌+◌, ℕ, Bool, true, false, cond, List, [], ◌∷◌, ◌++◌, length, Option, Some, None, refl, sym, ap, ap₂, append-nil}
 use Rattle.std.specs.List.{AllByRecursion, flat_map}
+use Rattle.std.proofs.lemmas.List.{map-append}
+use Rattle.civil_time.specs.Zone.{ZoneRules}
 use Rattle.court_days.specs.Calendar.{Entered}
 use Rattle.court_days.specs.Court.{CourtSettings, zone_of}
+use Rattle.court_rules.specs.Standings.{standing}
 use Rattle.court_rules.specs.declared.act.Act.{Act}
 use Rattle.docket_command.specs.declared.command.Command.{Command}
 use Rattle.docket_command.specs.declared.command.Action.{Action}
-use Rattle.docket_command.specs.declared.command.Action.TheVariants.{DeclareDay, CloseDay, CloseSpan, WithdrawCalendar, ImportCalendar, ServeSummons, FileWaiver, ServePleading, OrderReply, RuleMotion, Dispose, StatementServed, NoticeHearing, OrderPeriod, EnterJudgment, Extend, Satisfy, Vacate}
+use Rattle.docket_command.specs.declared.command.Action.TheVariants.{DeclareDay, CloseDay, CloseSpan, ShortDay, WithdrawCalendar, ImportCalendar, ServeSummons, FileWaiver, ServePleading, OrderReply, RuleMotion, Dispose, StatementServed, NoticeHearing, OrderPeriod, EnterJudgment, Extend, Satisfy, Vacate}
 use Rattle.docket_core.specs.Actions.{row_withdrawn, rows_asked}
-use Rattle.docket_core.specs.CalendarItems.{fresh, calendar_of}
-use Rattle.docket_core.specs.EndRows.{calendar_in, end_rows, ends_running, end_rows_from, row_of_deadline}
+use Rattle.docket_core.specs.CalendarItems.{fresh, stands_among, calendar_of}
+use Rattle.docket_core.specs.EndRows.{calendar_in, end_row, end_rows, end_running, ends_running, end_rows_from, row_of_deadline}
 use Rattle.docket_core.specs.Histories.{History, standing_rows, next_row, items_of, numbered, without_row, case_number, case_rows, deadline_rows, deadlines_of_case, deadline_rows_from, act_rows, acts_of_deadline, first_acts_from, act_rows_on, deadlines_from, deadline_number}
 use Rattle.docket_core.specs.Outcomes.{IsHistory}
 use Rattle.docket_core.specs.Tables.{Tables, rows_of, all_changed, with_receipt}
 use Rattle.docket_core.specs.EndMoves.{Follows}
 use Rattle.docket_core.specs.Records.{calendar}
+use Rattle.docket_core.specs.declared.item.CalendarItem.TheVariants.{Short}
+use Rattle.docket_core.specs.declared.row.CalendarRow.{CalendarRow}
 use Rattle.docket_core.specs.declared.row.Change.{Change}
+use Rattle.docket_core.proofs.ShortDays.{standing-short}
 use Rattle.docket_command.specs.declared.refusal.Reply.{Reply}
 use Rattle.docket_wire.specs.Valid.{IsCommand}
 use Rattle.docket_orderly.specs.Orderly.{IsCourtSettings, IsOrderly}
 use Rattle.docket_tables.specs.Contents.{ends_in_case}
-use Rattle.docket_changes.specs.Settling.{IsSettling, changes_calendar, case_moved}
+use Rattle.docket_changes.specs.Settling.{IsSettling, moves_all_cases, changes_calendar, case_moved}
 use Rattle.docket_orderly.proofs.DocketLemmas.{orderly}
 use Rattle.docket_orderly.proofs.DeadlineLemmas.{MakesNothing, IsElsewhere, deadlines_kept, no_deadlines}
 use Rattle.docket_tables.proofs.StoredLemmas.{ends_of_all}
@@ -30,14 +36,17 @@ quiet : (a : Action) → changes_calendar a ≡ false → (row_withdrawn a ≡ N
 quiet (DeclareDay a) e = absurd (let no = e in cc)
 quiet (CloseDay a) e = absurd (let no = e in cc)
 quiet (CloseSpan a) e = absurd (let no = e in cc)
+quiet (ShortDay a) e = absurd (let no = e in cc)
 quiet (WithdrawCalendar a) e = absurd (let no = e in cc)
 quiet (ImportCalendar a) e = absurd (let no = e in cc)
 quiet _ e = (refl, refl)
 
-named_quiet : (a : Action) (k : ℕ) → case_moved a ≡ Some k → changes_calendar a ≡ false
+-- an action on a case leaves the calendar as it is
+pub named_quiet : (a : Action) (k : ℕ) → case_moved a ≡ Some k → changes_calendar a ≡ false
 named_quiet (DeclareDay a) k e = absurd (let no = e in cc)
 named_quiet (CloseDay a) k e = absurd (let no = e in cc)
 named_quiet (CloseSpan a) k e = absurd (let no = e in cc)
+named_quiet (ShortDay a) k e = absurd (let no = e in cc)
 named_quiet (WithdrawCalendar a) k e = absurd (let no = e in cc)
 named_quiet (ImportCalendar a) k e = absurd (let no = e in cc)
 named_quiet _ k e = refl
@@ -58,18 +67,49 @@ makes_nothing (Satisfy a) e = absurd (let no = e in cc)
 makes_nothing (Vacate a) e = absurd (let no = e in cc)
 makes_nothing _ e = (refl, refl)
 
-calendar_kept : (h : History) (c : Command) → changes_calendar c.action ≡ false → items_of (standing_rows (c ∷ h)) ≡ items_of (standing_rows h)
+pub calendar_kept : (h : History) (c : Command) → changes_calendar c.action ≡ false → items_of (standing_rows (c ∷ h)) ≡ items_of (standing_rows h)
 calendar_kept h c e =
     let q = quiet c.action e in
     let standing = standing_rows h in
     ap₂ (λ w asked. items_of (without_row w standing ++ numbered (next_row h) (fresh (items_of standing) asked))) q.0 q.1 ∙ ap items_of (append-nil standing)
 
-moves_none : (a : Action) → changes_calendar a ≡ true → case_moved a ≡ None
-moves_none a e = at (case_moved a) refl
+moves_none : (a : Action) → moves_all_cases a ≡ true → case_moved a ≡ None
+moves_none (DeclareDay a) e = refl
+moves_none (CloseDay a) e = refl
+moves_none (CloseSpan a) e = refl
+moves_none (WithdrawCalendar a) e = refl
+moves_none (ImportCalendar a) e = refl
+moves_none _ e = absurd (let no = e in cc)
+
+-- no deadline stands elsewhere after an action that moves no case but the one that it names: a short day is entered or stands
+-- already, and after the others the calendar is as it was
+
+with_short_row : (zone : ZoneRules) (rows : List CalendarRow) (number day close : ℕ) (name : List ℕ) (acts : List Act)
+    → standing zone (calendar_of (items_of (rows ++ numbered number (fresh (items_of rows) (record { item = Short day close; name = name } ∷ []))))) acts
+    ≡ standing zone (calendar_of (items_of rows)) acts
+with_short_row zone rows number day close name acts = at (stands_among (items_of rows) (Short day close))
   where
-    at : (o : Option ℕ) → case_moved a ≡ o → case_moved a ≡ None
-    at None is = is
-    at (Some k) is = absurd (let no = sym (named_quiet a k is) ∙ e in cc)
+    at : (b : Bool) → standing zone (calendar_of (items_of (rows ++ numbered number (cond b [] (record { item = Short day close; name = name } ∷ []))))) acts
+        ≡ standing zone (calendar_of (items_of rows)) acts
+    at true = ap (λ kept. standing zone (calendar_of (items_of kept)) acts) (append-nil rows)
+    at false =
+        ap (λ items. standing zone (calendar_of items) acts) (map-append (λ (row : CalendarRow). row.item) rows (numbered number (record { item = Short day close; name = name } ∷ [])))
+        ∙ standing-short zone (items_of rows) day close acts
+
+standings_after : (a : Action) → moves_all_cases a ≡ false → (zone : ZoneRules) (rows : List CalendarRow) (number : ℕ) (acts : List Act)
+    → standing zone (calendar_of (items_of (without_row (row_withdrawn a) rows ++ numbered number (fresh (items_of rows) (rows_asked a))))) acts
+    ≡ standing zone (calendar_of (items_of rows)) acts
+standings_after (DeclareDay a) e zone rows number acts = absurd (let no = e in cc)
+standings_after (CloseDay a) e zone rows number acts = absurd (let no = e in cc)
+standings_after (CloseSpan a) e zone rows number acts = absurd (let no = e in cc)
+standings_after (WithdrawCalendar a) e zone rows number acts = absurd (let no = e in cc)
+standings_after (ImportCalendar a) e zone rows number acts = absurd (let no = e in cc)
+standings_after (ShortDay a) e zone rows number acts = with_short_row zone rows number a.day a.close a.name acts
+standings_after _ e zone rows number acts = ap (λ kept. standing zone (calendar_of (items_of kept)) acts) (append-nil rows)
+
+pub standings_kept : (h : History) (c : Command) → moves_all_cases c.action ≡ false → (zone : ZoneRules) (acts : List Act)
+    → standing zone (calendar_of (items_of (standing_rows (c ∷ h)))) acts ≡ standing zone (calendar_of (items_of (standing_rows h))) acts
+standings_kept h c calm zone acts = standings_after c.action calm zone (standing_rows h) (next_row h) acts
 
 -- an action that makes nothing leaves the rows of deadlines and of acts as they are
 
@@ -84,9 +124,9 @@ acts_stay h c makes =
     ap₂ (λ made news. act_rows h ++ (first_acts_from k (length (deadlines_of_case k (deadline_rows h)) + 1) made
     ++ act_rows_on k (deadline_number c.action) (length (acts_of_deadline k (deadline_number c.action) (act_rows h)) + 1) news)) makes.0 makes.1 ∙ append-nil _
 
--- a command that changes the calendar moves the ends of the cases that there are
+-- a command that changes the days or spans of the calendar moves the ends of the cases that there are
 pub settling : (court : CourtSettings) (h : History) (c : Command) → IsCourtSettings court → IsHistory court (c ∷ h) → AllByRecursion IsCommand (c ∷ h)
-    → changes_calendar c.action ≡ true → IsSettling court (length (case_rows h)) (rows_of court h) (rows_of court (c ∷ h))
+    → moves_all_cases c.action ≡ true → IsSettling court (length (case_rows h)) (rows_of court h) (rows_of court (c ∷ h))
 settling court h c settings is all changes = record {
   orderly = now;
   next_orderly = then;
@@ -118,14 +158,16 @@ settling court h c settings is all changes = record {
     then : IsOrderly court (rows_of court (c ∷ h))
     then = orderly court (c ∷ h) settings is all
 
--- where nothing is made and the calendar stays, so do the ends
-pub ends_kept : (court : CourtSettings) (h : History) (c : Command) → case_moved c.action ≡ None → changes_calendar c.action ≡ false → end_rows court (rows_of court h) ≡ end_rows court (rows_of court (c ∷ h))
+-- where nothing is made and no case moves, the ends stay
+pub ends_kept : (court : CourtSettings) (h : History) (c : Command) → case_moved c.action ≡ None → moves_all_cases c.action ≡ false → end_rows court (rows_of court h) ≡ end_rows court (rows_of court (c ∷ h))
 unfolding end_rows
 ends_kept court h c none calm =
+    let zone = zone_of court in
     let makes = makes_nothing c.action none in
     let deadlines = deadlines_stay h c makes in
     let acts = acts_stay h c makes in
-    sym (λ i. flat_map (row_of_deadline (zone_of court) (calendar_of (calendar_kept h c calm i)) (acts i)) (deadlines i))
+    sym ((λ i. flat_map (row_of_deadline zone (calendar_of (items_of (standing_rows (c ∷ h)))) (acts i)) (deadlines i))
+    ∙ (λ i. flat_map (λ d. end_row d.case d.number (end_running zone (standings_kept h c calm zone (acts_of_deadline d.case d.number (act_rows h)) i))) (deadline_rows h)))
 
 -- a command on a case leaves the calendar as it is
 pub follows : (court : CourtSettings) (entered : Entered) (acts : List Act) (changes : List Change) (h : History) (c : Command) (reply : Reply) → IsHistory court (c ∷ h)

@@ -1,12 +1,13 @@
 -- What is tested of a view makes it sound, and a sound view passes.
-use Rattle.std.proofs.Common.{◌≡◌, ◌≤◌, ◌⊎◌, Bool, true, false, Option, Some, None, List, [], ◌∷◌, length, refl, arith}
+use Rattle.std.proofs.Common.{◌≡◌, ◌≤◌, ◌⊎◌, ℕ, Bool, true, false, Option, Some, None, List, [], ◌∷◌, length, refl, arith}
 use Rattle.std.specs.Prelude.{nat_lt, nat_le, ◌&&◌, IfSome}
 use Rattle.std.specs.List.{All, list_all}
 use Rattle.std.proofs.lemmas.Bool.Decides.{nat_tests}
 use Rattle.std.proofs.lemmas.List.Elements.{All-nil, All-cons, All-head, All-tail}
 use Rattle.civil_time.specs.Zone.{ZoneRules}
+use Rattle.court_days.specs.Civil.{IsEnteredDay}
 use Rattle.court_days.specs.Court.{CourtSettings, zone_of}
-use Rattle.court_rules.specs.Acts.{acts_ok, is_within, is_instant}
+use Rattle.court_rules.specs.Acts.{acts_ok, is_within, is_instant, is_entered_day}
 use Rattle.court_rules.specs.Standings.{AreActs, begins_on_entered_day}
 use Rattle.court_rules.specs.declared.act.Act.{Act}
 use Rattle.court_rules.specs.declared.act.Act.TheVariants as act
@@ -15,7 +16,7 @@ use Rattle.docket_core.specs.CalendarItems.{IsEnteredItem}
 use Rattle.docket_core.specs.Decisions.{IsSoundView}
 use Rattle.docket_core.specs.Views.{deadline_shown}
 use Rattle.docket_core.specs.declared.item.CalendarItem.{CalendarItem}
-use Rattle.docket_core.specs.declared.item.CalendarItem.TheVariants.{Day, Span}
+use Rattle.docket_core.specs.declared.item.CalendarItem.TheVariants.{Day, Span, Short}
 use Rattle.docket_core.specs.EndMoves.{acts_with, MayCome, AreLawful}
 use Rattle.docket_core.specs.declared.row.Change.{Change}
 use Rattle.docket_core.specs.declared.row.Change.TheVariants.{AddAct}
@@ -38,8 +39,15 @@ module _ {X : Type 0} (p : X → Bool) (P : X → Type 0) where
   all_passed passes [] all = refl
   all_passed passes (x ∷ xs) all = both_true (p x) (list_all p xs) (passes x (All-head P x xs all)) (all_passed passes xs (All-tail P x xs all))
 
+day_told : (day : ℕ) → is_entered_day day ≡ true → IsEnteredDay day
+day_told day e = grind (arith, nat_tests, left_true (nat_le 10_957 day) (nat_le day 47_481) e, right_true (nat_le 10_957 day) (nat_le day 47_481) e)
+
+day_passed : (day : ℕ) → IsEnteredDay day → is_entered_day day ≡ true
+day_passed day is = both_true (nat_le 10_957 day) (nat_le day 47_481) (grind (arith, nat_tests, is.0)) (grind (arith, nat_tests, is.1))
+
 item_told : (item : CalendarItem) → is_entered_item item ≡ true → IsEnteredItem item
-item_told (Day kind day) e = grind (arith, nat_tests, left_true (nat_le 10_957 day) (nat_le day 47_481) e, right_true (nat_le 10_957 day) (nat_le day 47_481) e)
+item_told (Day kind day) e = day_told day e
+item_told (Short day close) e = day_told day e
 item_told (Span start end) e =
     let rest : (nat_lt start end && nat_le end 4_102_531_200) ≡ true = right_true (nat_le 946_598_400 start) (nat_lt start end && nat_le end 4_102_531_200) e in
     let a : nat_le 946_598_400 start ≡ true = left_true (nat_le 946_598_400 start) (nat_lt start end && nat_le end 4_102_531_200) e in
@@ -48,7 +56,8 @@ item_told (Span start end) e =
     (grind (arith, nat_tests), grind (arith, nat_tests), grind (arith, nat_tests))
 
 item_passed : (item : CalendarItem) → IsEnteredItem item → is_entered_item item ≡ true
-item_passed (Day kind day) is = both_true (nat_le 10_957 day) (nat_le day 47_481) (grind (arith, nat_tests, is.0)) (grind (arith, nat_tests, is.1))
+item_passed (Day kind day) is = day_passed day is
+item_passed (Short day close) is = day_passed day is
 item_passed (Span start end) is =
     both_true (nat_le 946_598_400 start) (nat_lt start end && nat_le end 4_102_531_200) (grind (arith, nat_tests, is.0))
     (both_true (nat_lt start end) (nat_le end 4_102_531_200) (grind (arith, nat_tests, is.1)) (grind (arith, nat_tests, is.2)))

@@ -3,7 +3,7 @@ use Rattle.std.specs.Prelude.{◌≡◌, ◌<◌, ◌⊎◌, ℕ, zero, suc, Boo
 use Rattle.court_days.specs.Calendar.{Entered}
 use Rattle.court_days.specs.Court.{CourtSettings}
 use Rattle.docket_command.specs.declared.command.Action.{Action}
-use Rattle.docket_command.specs.declared.command.Action.TheVariants.{DeclareDay, CloseDay, CloseSpan, WithdrawCalendar, ImportCalendar, AddParty, FileEntry}
+use Rattle.docket_command.specs.declared.command.Action.TheVariants.{DeclareDay, CloseDay, CloseSpan, ShortDay, WithdrawCalendar, ImportCalendar, AddParty, FileEntry}
 use Rattle.docket_core.specs.Actions.{case_named}
 use Rattle.docket_core.specs.EndRows.{all_changed_ends, calendar_in, end_rows}
 use Rattle.docket_core.specs.Tables.{Tables}
@@ -58,14 +58,19 @@ abbrev pub MayLeave : EndUpdate → List EndRow → List EndRow → Type 0
 MayLeave (Moves moves) stored next = next ≡ all_changed_ends moves.items stored
 MayLeave (Calendar cases) stored next = Unit {0}
 
--- the action changes the calendar
+-- the action enters or withdraws days or spans of the calendar, by which ends of any case may move; a short day moves none
+abbrev pub moves_all_cases : Action → Bool
+moves_all_cases (DeclareDay a) = true
+moves_all_cases (CloseDay a) = true
+moves_all_cases (CloseSpan a) = true
+moves_all_cases (WithdrawCalendar a) = true
+moves_all_cases (ImportCalendar a) = true
+moves_all_cases _ = false
+
+-- the action enters or withdraws rows of the calendar
 abbrev pub changes_calendar : Action → Bool
-changes_calendar (DeclareDay a) = true
-changes_calendar (CloseDay a) = true
-changes_calendar (CloseSpan a) = true
-changes_calendar (WithdrawCalendar a) = true
-changes_calendar (ImportCalendar a) = true
-changes_calendar _ = false
+changes_calendar (ShortDay a) = true
+changes_calendar a = moves_all_cases a
 
 -- the case in which an action may make a deadline or an act; a party and an entry are neither
 abbrev pub case_moved : Action → Option ℕ

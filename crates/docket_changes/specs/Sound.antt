@@ -12,7 +12,7 @@ use Rattle.court_rules.specs.declared.act.Start.TheVariants as start
 use Rattle.docket_core.specs.CalendarItems.{IsEnteredItem}
 use Rattle.docket_core.specs.EndMoves.{acts_with}
 use Rattle.docket_core.specs.declared.item.CalendarItem.{CalendarItem}
-use Rattle.docket_core.specs.declared.item.CalendarItem.TheVariants.{Day, Span}
+use Rattle.docket_core.specs.declared.item.CalendarItem.TheVariants.{Day, Span, Short}
 use Rattle.docket_core.specs.declared.row.Change.{Change}
 use Rattle.docket_core.specs.declared.row.Change.TheVariants.{AddAct}
 use Rattle.docket_core.specs.declared.view.DeadlineView.{DeadlineView}
@@ -21,6 +21,7 @@ use Rattle.docket_core.specs.declared.view.DeadlineView.{DeadlineView}
 abbrev pub is_entered_item : CalendarItem → Bool
 is_entered_item (Day kind day) = is_entered_day day
 is_entered_item (Span start end) = nat_le 946_598_400 start && (nat_lt start end && nat_le end 4_102_531_200)
+is_entered_item (Short day close) = is_entered_day day
 
 -- a period of hours begins at an instant that has a local day, and a court may enter that day
 abbrev pub begins_in_time : ZoneRules → Act → Bool

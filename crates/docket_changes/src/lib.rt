@@ -15,7 +15,7 @@ mod telling;
 mod viewing;
 mod writing;
 
-pub use moving::{EndUpdate, case_moved, changes_calendar, moves};
+pub use moving::{EndUpdate, case_moved, changes_calendar, moves, moves_all_cases};
 pub use sound::{is_sound, is_sound_case};
 pub use telling::case_record;
 pub use viewing::{calendar_items, case_deadlines, view};

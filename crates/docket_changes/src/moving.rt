@@ -8,7 +8,7 @@ ghost use Rattle.docket_core.specs.EndMoves.{AreLawful, Follows};
 ghost use Rattle.docket_core.specs.Histories.{History};
 ghost use Rattle.docket_core.specs.Tables.{rows_of};
 ghost use Rattle.docket_tables.specs.Readings.{IsReadAs};
-ghost use Rattle.docket_changes.specs.Settling.{changes_calendar, case_moved, IsUpdate};
+ghost use Rattle.docket_changes.specs.Settling.{moves_all_cases, changes_calendar, case_moved, IsUpdate};
 ghost use Rattle.docket_changes.specs.Sound.{may_come};
 
 use crate::sound::are_acts;
@@ -19,22 +19,33 @@ use docket_core::{Change, EndChange, acts_with, case_named, end_moves};
 use docket_tables::ReadFault;
 use std::alloc::{AllocError, Global};
 
-/// What is done about the stored ends: these changes are made, or, where the calendar changed, the ends
-/// of the first so many cases are brought up to date by the rows that then stand.
+/// What is done about the stored ends: these changes are made, or, where days or spans of the calendar
+/// changed, the ends of the first so many cases are brought up to date by the rows that then stand.
 #[derive(Drop)]
 pub enum EndUpdate {
     Moves(Vec<EndChange>),
     Calendar { cases: u32 },
 }
 
-/// Whether an action changes the calendar.
-pub fn changes_calendar(action: &Action) -> bool
-    ensures { result ≡ changes_calendar action.now }
+/// Whether an action enters or withdraws days or spans of the calendar, by which ends of any case may
+/// move. A short day moves none.
+pub fn moves_all_cases(action: &Action) -> bool
+    ensures { result ≡ moves_all_cases action.now }
 {
     match action {
         Action::DeclareDay(_) | Action::CloseDay(_) | Action::CloseSpan(_) => true,
         Action::WithdrawCalendar(_) | Action::ImportCalendar(_) => true,
         _ => false,
+    }
+}
+
+/// Whether an action enters or withdraws rows of the calendar.
+pub fn changes_calendar(action: &Action) -> bool
+    ensures { result ≡ changes_calendar action.now }
+{
+    match action {
+        Action::ShortDay(_) => true,
+        _ => moves_all_cases(action),
     }
 }
 

@@ -32,6 +32,7 @@ fn is_entered_item(item: CalendarItem) -> bool
 {
     match item {
         CalendarItem::Day(_, day) => is_entered_day(day),
+        CalendarItem::Short(day, _) => is_entered_day(day),
         CalendarItem::Span(start, end) => {
             946_598_400 <= start.seconds()
                 && start.seconds() < end.seconds()

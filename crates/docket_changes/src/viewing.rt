@@ -1,15 +1,19 @@
 //! What a docket's tables show about a command.
-ghost use Rattle.std.specs.Prelude.{◌≡◌, ◌≤◌, length, false, ◌&&◌, nat_le};
+ghost use Rattle.std.specs.Prelude.{◌≡◌, ◌≤◌, length, false, ◌&&◌, nat_le, IfOk};
 ghost use Rattle.std.specs.Option.{option_and_then, option_map};
 ghost use Rattle.sqlite.specs.Held.{state};
+ghost use Rattle.sqlite.specs.State.{HasCleanDisk};
 ghost use Rattle.sqlite.specs.View.{doubt};
+ghost use Rattle.docket_command.specs.declared.refusal.Reply.{Reply};
 ghost use Rattle.docket_core.specs.Actions.{case_named, asks_cases, asks_parties, asks_entries, asks_deadlines, asks_next_row, if_asked};
 ghost use Rattle.docket_core.specs.Histories.{parties_of_case, entries_of_case, deadlines_of_case, deadlines_from, items_of};
 ghost use Rattle.docket_core.specs.Outcomes.{is_label_taken, is_row_standing};
 ghost use Rattle.docket_core.specs.Tables.{case_in, case_deadlines, deadlines_in, view_in};
 ghost use Rattle.docket_core.specs.Views.{deadline_at, deadline_of, is_served_among};
+ghost use Rattle.docket_core.specs.declared.view.Kept.TheVariants.{Same};
 ghost use Rattle.docket_wire.specs.Valid.{IsCommand};
 ghost use Rattle.docket_wire.specs.Writing.{canonical};
+ghost use Rattle.docket_tables.specs.AnyRows.{HasReceipt};
 ghost use Rattle.docket_tables.specs.Layouts.{Rows};
 ghost use Rattle.docket_tables.specs.Readings.{Reads, Stays};
 ghost use Rattle.docket_tables.specs.Stands.{HoldsRows};
@@ -315,6 +319,8 @@ pub fn view<S: Alter>(
     requires body { body.now ≡ canonical command.now }
     requires lawful { IsCommand command.now }
     ensures read { Reads S.Store conn.old conn.new result (λ _ t found. found ≡ record (view_in t command.now) { calendar = calendar }) }
+    ensures kept { (rows : Rows) → HoldsRows S.Store conn.old rows → HasCleanDisk (state S.Store conn.new)
+        → IfOk result (λ view. (reply : Reply) → view.kept ≡ Same reply → HasReceipt command.now reply rows) }
     ensures stays { (rows : Rows) → HoldsRows S.Store conn.old rows → Stays S.Store conn.new rows result }
     ensures clean { doubt (state S.Store conn.old).is_clean ≤ doubt (state S.Store conn.new).is_clean }
     ensures mode { conn.old.in_transaction ≡ false → conn.new.in_transaction ≡ false }

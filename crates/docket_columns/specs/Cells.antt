@@ -8,6 +8,7 @@ use Rattle.court_rules.specs.Rules.{name_of}
 use Rattle.docket_core.specs.declared.end_row.EndRow.{EndRow}
 use Rattle.docket_core.specs.declared.row.CalendarRow.{CalendarRow}
 use Rattle.docket_core.specs.declared.row.CaseRow.{CaseRow}
+use Rattle.docket_core.specs.declared.row.ShortDayRow.{ShortDayRow}
 use Rattle.docket_core.specs.declared.row.PartyRow.{PartyRow}
 use Rattle.docket_core.specs.declared.row.EntryRow.{EntryRow}
 use Rattle.docket_core.specs.declared.row.DeadlineRow.{DeadlineRow}
@@ -51,6 +52,10 @@ settings_of r = record { zone_text = r.zone; close_minute = r.close }
 abbrev pub calendar_cells : CalendarRow → Row
 calendar_cells r =
     Int (pos r.number) ∷ Int (pos (item_code r.item).kind) ∷ Int (item_code r.item).a ∷ Int (item_code r.item).b ∷ Text r.name ∷ []
+
+-- short_day: row_no, day, close, name
+abbrev pub short_day_cells : ShortDayRow → Row
+short_day_cells r = Int (pos r.number) ∷ Int (pos r.day) ∷ Int (pos r.close) ∷ Text r.name ∷ []
 
 -- cases: number, label, caption, filed
 abbrev pub case_cells : CaseRow → Row

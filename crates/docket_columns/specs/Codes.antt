@@ -51,6 +51,8 @@ day_kind_number Closed = 3
 abbrev pub item_code : CalendarItem → ItemCode
 item_code (item.Day kind day) = record { kind = day_kind_number kind; a = pos day; b = pos 0 }
 item_code (item.Span start end) = record { kind = 4; a = pos start; b = pos end }
+-- a short day stands in a table of its own: no row of the calendar's has this kind
+item_code (item.Short day close) = record { kind = 0; a = pos day; b = pos close }
 
 -- days 1, months 2; hours are 3
 abbrev pub unit_number : Period → ℕ

@@ -14,12 +14,13 @@ use Rattle.docket_core.specs.declared.item.CalendarItem.TheVariants as item
 use Rattle.docket_core.specs.declared.end_row.EndRow.{EndRow}
 use Rattle.docket_core.specs.declared.row.CalendarRow.{CalendarRow}
 use Rattle.docket_core.specs.declared.row.CaseRow.{CaseRow}
+use Rattle.docket_core.specs.declared.row.ShortDayRow.{ShortDayRow}
 use Rattle.docket_core.specs.declared.row.PartyRow.{PartyRow}
 use Rattle.docket_core.specs.declared.row.EntryRow.{EntryRow}
 use Rattle.docket_core.specs.declared.row.DeadlineRow.{DeadlineRow}
 use Rattle.docket_core.specs.declared.row.ActRow.{ActRow}
 use Rattle.docket_core.specs.declared.row.Receipt.{Receipt}
-use Rattle.docket_wire.specs.Valid.{IsCommand}
+use Rattle.docket_wire.specs.Valid.{IsCommand, IsMinute}
 use Rattle.docket_columns.specs.Codes.{unit_count}
 
 -- a number of a row, a party, a count
@@ -33,17 +34,22 @@ IsSeconds at = FitsSigned w64 at
 abbrev pub IsCourtRow : CourtSettings → ℕ → Type 0
 IsCourtRow c next = IsUtf8 c.zone_text × (c.close_minute < 1440) × (next ≤ 2 ^ 32)
 
+-- an item of the calendar's table, which has no short days
 abbrev pub IsItem : CalendarItem → Type 0
 IsItem (item.Day kind day) = IsDayNumber day
 IsItem (item.Span start end) = IsWholeMinute start × IsWholeMinute end
+IsItem (item.Short day close) = ⊥
 
 -- the name of a span is empty
 abbrev pub IsNameOf : CalendarItem → List ℕ → Type 0
-IsNameOf (item.Day kind day) name = Unit {0}
 IsNameOf (item.Span start end) name = name ≡ []
+IsNameOf _ name = Unit {0}
 
 abbrev pub IsCalendarRow : CalendarRow → Type 0
 IsCalendarRow r = IsCount r.number × IsItem r.item × IsNameOf r.item r.name × IsUtf8 r.name
+
+abbrev pub IsShortDayRow : ShortDayRow → Type 0
+IsShortDayRow r = IsCount r.number × IsDayNumber r.day × IsMinute r.close × IsUtf8 r.name
 
 abbrev pub IsCaseRow : CaseRow → Type 0
 IsCaseRow r = IsCount r.number × IsUtf8 r.label × IsUtf8 r.caption × IsDayNumber r.filed

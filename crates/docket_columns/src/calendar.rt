@@ -1,4 +1,4 @@
-//! Rows of the table of the calendar.
+//! Rows of the table of the calendar: days and spans.
 ghost use Rattle.std.specs.Prelude.{◌≡◌, ◌↔◌, Some, IsTrue, IfOk, IfSome};
 ghost use Rattle.sqlite.specs.Values.{bound};
 ghost use Rattle.docket_core.specs.declared.item.CalendarItem.{CalendarItem as Item};
@@ -18,6 +18,9 @@ use std::alloc::{AllocError, Global};
 
 /// The kind that stands for a span.
 const SPAN: u32 = 4;
+
+/// That of a short day, which has no row in this table.
+const NONE: u32 = 0;
 
 /// What stands in the columns kind, a and b.
 #[derive(Clone, Copy)]
@@ -41,6 +44,11 @@ fn item_code(item: CalendarItem) -> ItemCode
             a: start.seconds(),
             b: end.seconds(),
         },
+        CalendarItem::Short(day, close) => ItemCode {
+            kind: NONE,
+            a: i64::from(day.epoch_day()),
+            b: i64::from(close.minute()),
+        },
     }
 }
 
@@ -63,7 +71,7 @@ fn may_be_named(item: CalendarItem, name: &str) -> bool
     ensures { IsTrue result ↔ IsNameOf item name.now }
 {
     match item {
-        CalendarItem::Day(_, _) => true,
+        CalendarItem::Day(_, _) | CalendarItem::Short(_, _) => true,
         CalendarItem::Span(_, _) => name.is_empty(),
     }
 }

@@ -12,6 +12,7 @@ mod end;
 mod entry;
 mod party;
 mod receipt;
+mod short_day;
 mod stored;
 mod version;
 
@@ -25,5 +26,6 @@ pub use end::{end_of, end_values};
 pub use entry::{entry_of, entry_values};
 pub use party::{party_of, party_values};
 pub use receipt::{kept_by, receipt_values, reply_of};
+pub use short_day::{short_day_of, short_day_values};
 pub use stored::StoredRow;
 pub use version::Version;

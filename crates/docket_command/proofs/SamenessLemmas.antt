@@ -54,6 +54,7 @@ plain_one : (t : FieldType) (x y : ValueOf t) → plain t x ≡ plain t y → x 
 plain_one of.Number x y e = cc
 plain_one of.Day x y e = cc
 plain_one of.Moment x y e = cc
+plain_one of.TimeOfDay x y e = cc
 plain_one of.Flag x y e = cc
 plain_one of.Text x y e = cc
 plain_one of.Rows x y e = cc

@@ -16,6 +16,7 @@ pub data FieldType : Type 0 where
   Number : FieldType
   Day : FieldType
   Moment : FieldType
+  TimeOfDay : FieldType
   Flag : FieldType
   Text : FieldType
   Rows : FieldType
@@ -30,11 +31,12 @@ pub data FieldType : Type 0 where
   Sovereign : FieldType
   Way : FieldType
 
--- a text is its bytes, a day its number, a moment its seconds
+-- a text is its bytes, a day its number, a moment its seconds, a time of day its minutes
 abbrev pub ValueOf : FieldType → Type 0
 ValueOf Number = ℕ
 ValueOf Day = ℕ
 ValueOf Moment = ℕ
+ValueOf TimeOfDay = ℕ
 ValueOf Flag = Bool
 ValueOf Text = List ℕ
 ValueOf Rows = List NewDay

@@ -4,12 +4,13 @@ use Rattle.docket_command.specs.Words.{named_in}
 use Rattle.docket_command.specs.declared.command.Action.{Action}
 use Rattle.docket_command.specs.declared.command.Action.TheVariants as action
 use Rattle.docket_command.specs.declared.command_name.CommandName.{CommandName}
-use Rattle.docket_command.specs.declared.command_name.CommandName.TheVariants.{DeclareDay, CloseDay, CloseSpan, WithdrawCalendar, ImportCalendar, OpenCase, AddParty, FileEntry, ServeSummons, FileWaiver, ServePleading, OrderReply, RuleMotion, Dispose, StatementServed, NoticeHearing, OrderPeriod, EnterJudgment, Extend, Satisfy, Vacate}
+use Rattle.docket_command.specs.declared.command_name.CommandName.TheVariants.{DeclareDay, CloseDay, CloseSpan, ShortDay, WithdrawCalendar, ImportCalendar, OpenCase, AddParty, FileEntry, ServeSummons, FileWaiver, ServePleading, OrderReply, RuleMotion, Dispose, StatementServed, NoticeHearing, OrderPeriod, EnterJudgment, Extend, Satisfy, Vacate}
 
 abbrev pub command_word : CommandName → List ℕ
 command_word DeclareDay = codes "declare_day"
 command_word CloseDay = codes "close_day"
 command_word CloseSpan = codes "close_span"
+command_word ShortDay = codes "short_day"
 command_word WithdrawCalendar = codes "withdraw_calendar"
 command_word ImportCalendar = codes "import_calendar"
 command_word OpenCase = codes "open_case"
@@ -32,7 +33,7 @@ command_word Vacate = codes "vacate"
 -- all of them
 abbrev pub command_names : List CommandName
 command_names =
-    DeclareDay ∷ CloseDay ∷ CloseSpan ∷ WithdrawCalendar ∷ ImportCalendar ∷ OpenCase ∷ AddParty ∷ FileEntry ∷ ServeSummons ∷ FileWaiver ∷ ServePleading ∷ OrderReply ∷ RuleMotion ∷ Dispose ∷ StatementServed ∷ NoticeHearing ∷ OrderPeriod ∷ EnterJudgment ∷ Extend ∷ Satisfy ∷ Vacate ∷ []
+    DeclareDay ∷ CloseDay ∷ CloseSpan ∷ ShortDay ∷ WithdrawCalendar ∷ ImportCalendar ∷ OpenCase ∷ AddParty ∷ FileEntry ∷ ServeSummons ∷ FileWaiver ∷ ServePleading ∷ OrderReply ∷ RuleMotion ∷ Dispose ∷ StatementServed ∷ NoticeHearing ∷ OrderPeriod ∷ EnterJudgment ∷ Extend ∷ Satisfy ∷ Vacate ∷ []
 
 abbrev pub command_named : List ℕ → Option CommandName
 command_named = named_in command_word command_names
@@ -42,6 +43,7 @@ abbrev pub name_of : Action → CommandName
 name_of (action.DeclareDay a) = DeclareDay
 name_of (action.CloseDay a) = CloseDay
 name_of (action.CloseSpan a) = CloseSpan
+name_of (action.ShortDay a) = ShortDay
 name_of (action.WithdrawCalendar a) = WithdrawCalendar
 name_of (action.ImportCalendar a) = ImportCalendar
 name_of (action.OpenCase a) = OpenCase

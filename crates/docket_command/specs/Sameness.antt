@@ -25,6 +25,7 @@ abbrev pub plain : (t : FieldType) → ValueOf t → Plain
 plain of.Number x = a_number x
 plain of.Day x = a_number x
 plain of.Moment x = a_number x
+plain of.TimeOfDay x = a_number x
 plain of.Flag x = a_flag x
 plain of.Text x = a_text x
 plain of.Rows x = some_days x

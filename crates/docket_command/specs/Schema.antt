@@ -29,6 +29,7 @@ abbrev pub fields_of : CommandName → List FieldSpec
 fields_of name.DeclareDay = must field.Day of.Day ∷ must field.Kind of.Sovereign ∷ must field.Name of.Text ∷ []
 fields_of name.CloseDay = must field.Day of.Day ∷ must field.Name of.Text ∷ []
 fields_of name.CloseSpan = must field.Start of.Moment ∷ must field.End of.Moment ∷ []
+fields_of name.ShortDay = must field.Day of.Day ∷ must field.Close of.TimeOfDay ∷ must field.Name of.Text ∷ []
 fields_of name.WithdrawCalendar = must field.Row of.Number ∷ []
 fields_of name.ImportCalendar = must field.Rows of.Rows ∷ []
 fields_of name.OpenCase = must field.Label of.Text ∷ must field.Caption of.Text ∷ must field.Filed of.Day ∷ []
@@ -69,6 +70,7 @@ abbrev pub values_of : (a : Action) → Values (fields_of (name_of a))
 values_of (action.DeclareDay c) = (c.day, (c.kind, (c.name, tt)))
 values_of (action.CloseDay c) = (c.day, (c.name, tt))
 values_of (action.CloseSpan c) = (c.start, (c.end, tt))
+values_of (action.ShortDay c) = (c.day, (c.close, (c.name, tt)))
 values_of (action.WithdrawCalendar c) = (c.row, tt)
 values_of (action.ImportCalendar c) = (c.rows, tt)
 values_of (action.OpenCase c) = (c.label, (c.caption, (c.filed, tt)))
@@ -93,6 +95,7 @@ abbrev pub made_of : (kind : CommandName) → Makes (fields_of kind)
 made_of name.DeclareDay = λ day kind name. action.DeclareDay (record { day = day; kind = kind; name = name })
 made_of name.CloseDay = λ day name. action.CloseDay (record { day = day; name = name })
 made_of name.CloseSpan = λ start end. action.CloseSpan (record { start = start; end = end })
+made_of name.ShortDay = λ day close name. action.ShortDay (record { day = day; close = close; name = name })
 made_of name.WithdrawCalendar = λ row. action.WithdrawCalendar (record { row = row })
 made_of name.ImportCalendar = λ rows. action.ImportCalendar (record { rows = rows })
 made_of name.OpenCase = λ label caption filed. action.OpenCase (record { label = label; caption = caption; filed = filed })

@@ -7,6 +7,7 @@ use crate::choice::Sovereign;
 use crate::moment::Moment;
 use crate::new_day::NewDays;
 use crate::text::Text;
+use crate::time_of_day::TimeOfDay;
 use civil_time::Day;
 
 /// A holiday is declared (Fed. R. Civ. P. 6(a)(6)(B) and (C)).
@@ -54,6 +55,24 @@ impl CloseSpan {
     #[tactic(auto, unfolding(crate::specs::Sameness::is_same_action))]
     pub(crate) fn same(&self, other: &CloseSpan) -> bool
         ensures { result ≡ is_same_action (action.CloseSpan self.now) (action.CloseSpan other.now) }
+    {
+        *self == *other
+    }
+}
+
+/// The clerk's office is scheduled to close earlier on a day, which counts for filings there (Fed. R.
+/// Civ. P. 6(a)(4)(B)).
+#[derive(Clone, PartialEq, Drop)]
+pub struct ShortDay {
+    pub day: Day,
+    pub close: TimeOfDay,
+    pub name: Text,
+}
+
+impl ShortDay {
+    #[tactic(auto, unfolding(crate::specs::Sameness::is_same_action))]
+    pub(crate) fn same(&self, other: &ShortDay) -> bool
+        ensures { result ≡ is_same_action (action.ShortDay self.now) (action.ShortDay other.now) }
     {
         *self == *other
     }

@@ -2,7 +2,9 @@
 ghost use Rattle.std.specs.Prelude.{◌≡◌, ◌↔◌, IfOk, IsTrue};
 ghost use Rattle.docket_command.specs.Sameness.{is_same_action, is_same_command};
 
-use crate::calendar_action::{CloseDay, CloseSpan, DeclareDay, ImportCalendar, WithdrawCalendar};
+use crate::calendar_action::{
+    CloseDay, CloseSpan, DeclareDay, ImportCalendar, ShortDay, WithdrawCalendar,
+};
 use crate::case_action::{AddParty, FileEntry, OpenCase};
 use crate::motion_action::{Dispose, RuleMotion, StatementServed};
 use crate::service_action::{FileWaiver, OrderReply, ServePleading, ServeSummons};
@@ -24,6 +26,7 @@ pub enum Action {
     DeclareDay(DeclareDay),
     CloseDay(CloseDay),
     CloseSpan(CloseSpan),
+    ShortDay(ShortDay),
     WithdrawCalendar(WithdrawCalendar),
     ImportCalendar(ImportCalendar),
     OpenCase(OpenCase),
@@ -53,6 +56,7 @@ impl Action {
             (Action::DeclareDay(a), Action::DeclareDay(b)) => a.same(b),
             (Action::CloseDay(a), Action::CloseDay(b)) => a.same(b),
             (Action::CloseSpan(a), Action::CloseSpan(b)) => a.same(b),
+            (Action::ShortDay(a), Action::ShortDay(b)) => a.same(b),
             (Action::WithdrawCalendar(a), Action::WithdrawCalendar(b)) => a.same(b),
             (Action::ImportCalendar(a), Action::ImportCalendar(b)) => a.same(b),
             (Action::OpenCase(a), Action::OpenCase(b)) => a.same(b),

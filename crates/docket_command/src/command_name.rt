@@ -11,6 +11,7 @@ pub enum CommandName {
     DeclareDay,
     CloseDay,
     CloseSpan,
+    ShortDay,
     WithdrawCalendar,
     ImportCalendar,
     OpenCase,
@@ -32,10 +33,11 @@ pub enum CommandName {
 }
 
 /// All of them.
-const NAMES: [CommandName; 21] = [
+const NAMES: [CommandName; 22] = [
     CommandName::DeclareDay,
     CommandName::CloseDay,
     CommandName::CloseSpan,
+    CommandName::ShortDay,
     CommandName::WithdrawCalendar,
     CommandName::ImportCalendar,
     CommandName::OpenCase,
@@ -68,6 +70,7 @@ impl Word for CommandName {
             CommandName::DeclareDay => "declare_day",
             CommandName::CloseDay => "close_day",
             CommandName::CloseSpan => "close_span",
+            CommandName::ShortDay => "short_day",
             CommandName::WithdrawCalendar => "withdraw_calendar",
             CommandName::ImportCalendar => "import_calendar",
             CommandName::OpenCase => "open_case",
@@ -103,6 +106,7 @@ impl Action {
             Action::DeclareDay(_) => CommandName::DeclareDay,
             Action::CloseDay(_) => CommandName::CloseDay,
             Action::CloseSpan(_) => CommandName::CloseSpan,
+            Action::ShortDay(_) => CommandName::ShortDay,
             Action::WithdrawCalendar(_) => CommandName::WithdrawCalendar,
             Action::ImportCalendar(_) => CommandName::ImportCalendar,
             Action::OpenCase(_) => CommandName::OpenCase,

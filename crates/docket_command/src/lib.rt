@@ -17,9 +17,12 @@ mod same;
 mod service_action;
 mod text;
 mod time_action;
+mod time_of_day;
 mod word;
 
-pub use calendar_action::{CloseDay, CloseSpan, DeclareDay, ImportCalendar, WithdrawCalendar};
+pub use calendar_action::{
+    CloseDay, CloseSpan, DeclareDay, ImportCalendar, ShortDay, WithdrawCalendar,
+};
 pub use case_action::{AddParty, FileEntry, OpenCase};
 pub use choice::{Basis, PeriodUnit, PleadingKind, Role, Ruling, ServiceMethod, Sovereign};
 pub use command::{Action, Command};
@@ -33,4 +36,5 @@ pub use refusal::{Refusal, Reply};
 pub use service_action::{FileWaiver, OrderReply, ServePleading, ServeSummons};
 pub use text::Text;
 pub use time_action::{EnterJudgment, Extend, NoticeHearing, OrderPeriod, Satisfy, Vacate};
+pub use time_of_day::TimeOfDay;
 pub use word::Word;

@@ -23,6 +23,7 @@ pub next_asked : (n : ℕ) (items : List CalendarItem) (a : Action) → numbered
 next_asked n items (action.DeclareDay a) = refl
 next_asked n items (action.CloseDay a) = refl
 next_asked n items (action.CloseSpan a) = refl
+next_asked n items (action.ShortDay a) = refl
 next_asked n items (action.ImportCalendar a) = refl
 next_asked n items _ = refl
 

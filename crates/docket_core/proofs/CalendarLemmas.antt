@@ -4,8 +4,9 @@ use Rattle.std.specs.List.{list_any}
 use Rattle.std.specs.Ordering.{eq_by_cmp}
 use Rattle.std.specs.declared.cmp.Ordering.{Ordering}
 use Rattle.std.specs.Cmp.{IsTotalOrder, nat_cmp_total, Equal-is}
+use Rattle.std.specs.FinMap as map
 use Rattle.std.specs.FinSet.{FinSet, IsAntisymmetric, contains, insert, len, same_set, contains-insert, len-insert, nat_cmp-IsAntisymmetric}
-use Rattle.court_days.specs.Calendar.{Entered, Holds, HoldsSpan, with_day, with_span, rows_of}
+use Rattle.court_days.specs.Calendar.{Entered, Holds, HoldsSpan, with_day, with_span, with_short, rows_of}
 use Rattle.court_days.specs.declared.calendar.DayKind.{DayKind}
 use Rattle.court_days.specs.declared.calendar.DayKind.TheVariants.{Federal, State, Closed}
 use Rattle.court_days.proofs.SpanSets.{span_cmp_total, span_cmp-IsAntisymmetric}
@@ -53,3 +54,10 @@ rows_with_day entered Closed day = omega (arith, len_inserted nat_cmp_total ente
 
 pub rows_with_span : (entered : Entered) (start end : ℕ) → rows_of (with_span entered start end) ≤ rows_of entered + 1
 rows_with_span entered start end = omega (arith, len_inserted span_cmp_total entered.spans (record { start = start; end = end }))
+
+pub rows_with_short : (entered : Entered) (day minute : ℕ) → rows_of (with_short entered day minute) ≤ rows_of entered + 1
+rows_with_short entered day minute = omega (arith, few (map.contains_key entered.short day) refl)
+  where
+    few : (b : Bool) → map.contains_key entered.short day ≡ b → map.len (cond b entered.short (map.insert entered.short day minute)) ≤ map.len entered.short + 1
+    few true e = omega arith
+    few false e = subst (λ (n : ℕ). n ≤ map.len entered.short + 1) (sym (map.len-insert nat_cmp_total entered.short day minute)) (one_more (map.contains_key entered.short day) (map.len entered.short))

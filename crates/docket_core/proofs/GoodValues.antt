@@ -96,6 +96,7 @@ asked_entered court (action.CloseSpan a) good =
     let fields = all_good (bad_values court (action.CloseSpan a)) good in
     let end = or_off (not (is_entered_at court a.end)) (nat_le a.end a.start) fields.1.0 in
     one_entered _ (span_entered court a.start a.end (not_false (is_entered_at court a.start) fields.0) (not_false (is_entered_at court a.end) end.0) end.1)
+asked_entered court (action.ShortDay a) good = one_entered _ (entered_day a.day (not_false (is_entered a.day) (all_good (bad_values court (action.ShortDay a)) good).0))
 asked_entered court (action.ImportCalendar a) good =
     let rows = not_false (nat_le (length a.rows) 1000 && list_all is_new_day a.rows) (all_good (bad_values court (action.ImportCalendar a)) good).0 in
     days_entered a.rows (right_true (nat_le (length a.rows) 1000) (list_all is_new_day a.rows) rows)

@@ -5,7 +5,7 @@ use Rattle.std.specs.Option.{option_and_then}
 use Rattle.court_days.specs.Court.{CourtSettings}
 use Rattle.docket_command.specs.declared.command.Command.{Command}
 use Rattle.docket_command.specs.declared.command.Action.{Action}
-use Rattle.docket_command.specs.declared.command.Action.TheVariants.{DeclareDay, CloseDay, CloseSpan, WithdrawCalendar, ImportCalendar, OpenCase, AddParty, FileEntry, Satisfy, Vacate, RuleMotion, Dispose, StatementServed, Extend}
+use Rattle.docket_command.specs.declared.command.Action.TheVariants.{DeclareDay, CloseDay, CloseSpan, ShortDay, WithdrawCalendar, ImportCalendar, OpenCase, AddParty, FileEntry, Satisfy, Vacate, RuleMotion, Dispose, StatementServed, Extend}
 use Rattle.docket_command.specs.declared.refusal.Refusal.{Refusal}
 use Rattle.docket_command.specs.declared.refusal.Reply.{Reply}
 use Rattle.docket_core.specs.Actions.{case_named, deadline_named, deadlines_made, acts_made, asks_calendar, row_withdrawn}
@@ -101,6 +101,7 @@ pub none_made : (a : Action) → case_named a ≡ None → deadlines_made a ≡ 
 none_made (DeclareDay a) e = refl
 none_made (CloseDay a) e = refl
 none_made (CloseSpan a) e = refl
+none_made (ShortDay a) e = refl
 none_made (WithdrawCalendar a) e = refl
 none_made (ImportCalendar a) e = refl
 none_made (OpenCase a) e = refl
@@ -121,6 +122,7 @@ pub added_same : (items : List CalendarItem) (a : Action) → rows_added (if ask
 added_same items (DeclareDay a) = refl
 added_same items (CloseDay a) = refl
 added_same items (CloseSpan a) = refl
+added_same items (ShortDay a) = refl
 added_same items (ImportCalendar a) = refl
 added_same items _ = refl
 

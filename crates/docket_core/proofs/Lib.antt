@@ -15,3 +15,4 @@ pub mod MovedEnds
 pub mod OneDeadline
 pub mod Passed
 pub mod Runs
+pub mod ShortDays

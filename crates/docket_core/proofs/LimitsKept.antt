@@ -266,6 +266,7 @@ rows_step : (court : CourtSettings) (h : History) (a : Action) → IsPassed cour
 rows_step court h (action.DeclareDay p) is few = omega (arith, length-map (standing_rows h) (λ (row : CalendarRow). row.item), room_in (shown_fresh h (action.DeclareDay p)) (count_added (shown_fresh h (action.DeclareDay p)) (action.DeclareDay p)) is.room)
 rows_step court h (action.CloseDay p) is few = omega (arith, length-map (standing_rows h) (λ (row : CalendarRow). row.item), room_in (shown_fresh h (action.CloseDay p)) (count_added (shown_fresh h (action.CloseDay p)) (action.CloseDay p)) is.room)
 rows_step court h (action.CloseSpan p) is few = omega (arith, length-map (standing_rows h) (λ (row : CalendarRow). row.item), room_in (shown_fresh h (action.CloseSpan p)) (count_added (shown_fresh h (action.CloseSpan p)) (action.CloseSpan p)) is.room)
+rows_step court h (action.ShortDay p) is few = omega (arith, length-map (standing_rows h) (λ (row : CalendarRow). row.item), room_in (shown_fresh h (action.ShortDay p)) (count_added (shown_fresh h (action.ShortDay p)) (action.ShortDay p)) is.room)
 rows_step court h (action.ImportCalendar p) is few = omega (arith, length-map (standing_rows h) (λ (row : CalendarRow). row.item), room_in (shown_fresh h (action.ImportCalendar p)) (count_added (shown_fresh h (action.ImportCalendar p)) (action.ImportCalendar p)) is.room)
 rows_step court h _ is few = omega arith
 
@@ -273,6 +274,7 @@ next_step : (court : CourtSettings) (h : History) (a : Action) → IsPassed cour
 next_step court h (action.DeclareDay p) is was = rows_fit (shown_fresh h (action.DeclareDay p)) (action.DeclareDay p) is.room was
 next_step court h (action.CloseDay p) is was = rows_fit (shown_fresh h (action.CloseDay p)) (action.CloseDay p) is.room was
 next_step court h (action.CloseSpan p) is was = rows_fit (shown_fresh h (action.CloseSpan p)) (action.CloseSpan p) is.room was
+next_step court h (action.ShortDay p) is was = rows_fit (shown_fresh h (action.ShortDay p)) (action.ShortDay p) is.room was
 next_step court h (action.ImportCalendar p) is was = rows_fit (shown_fresh h (action.ImportCalendar p)) (action.ImportCalendar p) is.room was
 next_step court h _ is was = omega arith
 

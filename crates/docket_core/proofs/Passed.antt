@@ -77,6 +77,7 @@ pub rows_fit : (v : View) (a : Action) → is_full v a ≡ false → v.next_row 
 rows_fit v (action.DeclareDay a) e was = not_above _ _ (or_right_off _ _ e)
 rows_fit v (action.CloseDay a) e was = not_above _ _ (or_right_off _ _ e)
 rows_fit v (action.CloseSpan a) e was = not_above _ _ (or_right_off _ _ e)
+rows_fit v (action.ShortDay a) e was = not_above _ _ (or_right_off _ _ e)
 rows_fit v (action.ImportCalendar a) e was = not_above _ _ (or_right_off _ _ e)
 rows_fit v _ e was = omega arith
 
@@ -85,6 +86,7 @@ pub deadlines_fit : (v : View) (a : Action) → is_full v a ≡ false → deadli
 deadlines_fit v (action.DeclareDay a) e some = absurd (some refl)
 deadlines_fit v (action.CloseDay a) e some = absurd (some refl)
 deadlines_fit v (action.CloseSpan a) e some = absurd (some refl)
+deadlines_fit v (action.ShortDay a) e some = absurd (some refl)
 deadlines_fit v (action.WithdrawCalendar a) e some = absurd (some refl)
 deadlines_fit v (action.ImportCalendar a) e some = absurd (some refl)
 deadlines_fit v (action.OpenCase a) e some = absurd (some refl)

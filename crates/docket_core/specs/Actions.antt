@@ -25,11 +25,11 @@ use Rattle.docket_command.specs.declared.choice.PeriodUnit.{PeriodUnit}
 use Rattle.docket_command.specs.declared.choice.PeriodUnit.TheVariants as unit
 use Rattle.docket_command.specs.declared.choice.ServiceMethod.{ServiceMethod}
 use Rattle.docket_command.specs.declared.command.Action.{Action}
-use Rattle.docket_command.specs.declared.command.Action.TheVariants.{DeclareDay, CloseDay, CloseSpan, WithdrawCalendar, ImportCalendar, OpenCase, AddParty, FileEntry, ServeSummons, FileWaiver, ServePleading, OrderReply, RuleMotion, Dispose, StatementServed, NoticeHearing, OrderPeriod, EnterJudgment, Extend, Satisfy, Vacate}
+use Rattle.docket_command.specs.declared.command.Action.TheVariants.{DeclareDay, CloseDay, CloseSpan, ShortDay, WithdrawCalendar, ImportCalendar, OpenCase, AddParty, FileEntry, ServeSummons, FileWaiver, ServePleading, OrderReply, RuleMotion, Dispose, StatementServed, NoticeHearing, OrderPeriod, EnterJudgment, Extend, Satisfy, Vacate}
 use Rattle.docket_command.specs.declared.new_day.NewDay.{NewDay}
 use Rattle.docket_command.specs.declared.time_action.OrderPeriod as order_period
 use Rattle.docket_core.specs.declared.deadline.NewDeadline.{NewDeadline}
-use Rattle.docket_core.specs.declared.item.CalendarItem.TheVariants.{Day, Span}
+use Rattle.docket_core.specs.declared.item.CalendarItem.TheVariants.{Day, Span, Short}
 use Rattle.docket_core.specs.declared.item.NewRow.{NewRow}
 
 -- the case that an action names
@@ -87,6 +87,7 @@ abbrev pub asks_calendar : Action → Bool
 asks_calendar (DeclareDay a) = true
 asks_calendar (CloseDay a) = true
 asks_calendar (CloseSpan a) = true
+asks_calendar (ShortDay a) = true
 asks_calendar (ImportCalendar a) = true
 asks_calendar (FileWaiver a) = true
 asks_calendar (RuleMotion a) = true
@@ -133,6 +134,7 @@ abbrev pub asks_next_row : Action → Bool
 asks_next_row (DeclareDay a) = true
 asks_next_row (CloseDay a) = true
 asks_next_row (CloseSpan a) = true
+asks_next_row (ShortDay a) = true
 asks_next_row (ImportCalendar a) = true
 asks_next_row _ = false
 
@@ -152,6 +154,7 @@ abbrev pub rows_asked : Action → List NewRow
 rows_asked (DeclareDay a) = day_row (day_kind_of a.kind) a.day a.name ∷ []
 rows_asked (CloseDay a) = day_row kind.Closed a.day a.name ∷ []
 rows_asked (CloseSpan a) = record { item = Span a.start a.end; name = [] } ∷ []
+rows_asked (ShortDay a) = record { item = Short a.day a.close; name = a.name } ∷ []
 rows_asked (ImportCalendar a) = map imported a.rows
 rows_asked _ = []
 

@@ -20,6 +20,7 @@ use Rattle.docket_core.specs.declared.decision.Decision.TheVariants as decision
 use Rattle.docket_core.specs.declared.decision.DecideFault.{DecideFault}
 use Rattle.docket_core.specs.declared.decision.DecideFault.TheVariants.{Refused, NoMemory}
 use Rattle.docket_core.specs.declared.view.DeadlineView.{DeadlineView}
+use Rattle.docket_core.specs.declared.view.Kept.TheVariants.{Same}
 use Rattle.docket_core.specs.declared.view.View.{View}
 
 -- a view that a history can show: its calendar holds what a court may enter, at most 4,000 rows, rows have numbers up to
@@ -44,6 +45,11 @@ IsAnswer (Ok (decision.Repeat reply)) answer = answer ≡ repeated reply
 IsAnswer (Ok (decision.Change changes)) answer = answer ≡ accepted changes.reply
 IsAnswer (Err (Refused r)) answer = answer ≡ refused r
 IsAnswer (Err NoMemory) answer = Unit {0}
+
+-- a repeat has the reply that is kept under the command's key
+abbrev pub IsKeptReply : View → Decision → Type 0
+IsKeptReply v (decision.Repeat reply) = v.kept ≡ Same reply
+IsKeptReply v (decision.Change changes) = Unit {0}
 
 -- the changes are these, if there are any
 abbrev pub IsChange : List Change → Decision → Type 0

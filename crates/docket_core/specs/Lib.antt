@@ -7,6 +7,7 @@ pub mod Histories
 pub mod Outcomes
 pub mod Records
 pub mod Refusals
+pub mod ShortDays
 pub mod Tables
 pub mod Times
 pub mod Values

@@ -7,7 +7,7 @@ use Rattle.court_days.specs.Court.{CourtSettings}
 use Rattle.docket_command.specs.Sameness.{is_same_command}
 use Rattle.docket_command.specs.declared.command.Command.{Command}
 use Rattle.docket_command.specs.declared.command.Action.{Action}
-use Rattle.docket_command.specs.declared.command.Action.TheVariants.{DeclareDay, CloseDay, CloseSpan, WithdrawCalendar, ImportCalendar, OpenCase, AddParty, FileEntry, RuleMotion, Dispose, StatementServed, Extend, Satisfy, Vacate}
+use Rattle.docket_command.specs.declared.command.Action.TheVariants.{DeclareDay, CloseDay, CloseSpan, ShortDay, WithdrawCalendar, ImportCalendar, OpenCase, AddParty, FileEntry, RuleMotion, Dispose, StatementServed, Extend, Satisfy, Vacate}
 use Rattle.docket_command.specs.declared.refusal.Refusal.{Refusal}
 use Rattle.docket_command.specs.declared.refusal.Reply.{Reply}
 use Rattle.docket_core.specs.Actions.{case_named, asks_calendar, asks_cases, asks_next_row, if_asked}
@@ -58,6 +58,7 @@ abbrev pub reply_to : CourtSettings → View → Action → ℕ
 reply_to court v (DeclareDay a) = v.next_row
 reply_to court v (CloseDay a) = v.next_row
 reply_to court v (CloseSpan a) = v.next_row
+reply_to court v (ShortDay a) = v.next_row
 reply_to court v (WithdrawCalendar a) = a.row
 reply_to court v (ImportCalendar a) = count_added v (ImportCalendar a)
 reply_to court v (OpenCase a) = v.cases + 1

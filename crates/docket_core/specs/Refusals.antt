@@ -20,7 +20,7 @@ use Rattle.docket_command.specs.declared.choice.Ruling.{Ruling}
 use Rattle.docket_command.specs.declared.choice.Ruling.TheVariants.{Statement}
 use Rattle.docket_command.specs.declared.command.Command.{Command}
 use Rattle.docket_command.specs.declared.command.Action.{Action}
-use Rattle.docket_command.specs.declared.command.Action.TheVariants.{DeclareDay, CloseDay, CloseSpan, WithdrawCalendar, ImportCalendar, OpenCase, AddParty, FileEntry, FileWaiver, RuleMotion, Dispose, StatementServed, Extend, Satisfy, Vacate}
+use Rattle.docket_command.specs.declared.command.Action.TheVariants.{DeclareDay, CloseDay, CloseSpan, ShortDay, WithdrawCalendar, ImportCalendar, OpenCase, AddParty, FileEntry, FileWaiver, RuleMotion, Dispose, StatementServed, Extend, Satisfy, Vacate}
 use Rattle.docket_command.specs.declared.field.Field.{Field}
 use Rattle.docket_command.specs.declared.refusal.Refusal.{Refusal}
 use Rattle.docket_command.specs.declared.refusal.Refusal.TheVariants as refusal
@@ -30,7 +30,7 @@ use Rattle.docket_core.specs.Histories.{rows_added}
 use Rattle.docket_core.specs.Times.{standing_shown, is_in_time}
 use Rattle.docket_core.specs.Values.{is_word, first_bad, bad_values}
 use Rattle.docket_core.specs.Views.{parties_in, entries_in, count_deadlines, deadline_shown, acts_in, last_act, served_in}
-use Rattle.docket_core.specs.declared.item.CalendarItem.TheVariants.{Day, Span}
+use Rattle.docket_core.specs.declared.item.CalendarItem.TheVariants.{Day, Span, Short}
 use Rattle.docket_core.specs.declared.view.DeadlineView.{DeadlineView}
 use Rattle.docket_core.specs.declared.view.Kept.{Kept}
 use Rattle.docket_core.specs.declared.view.Kept.TheVariants.{Other}
@@ -62,11 +62,12 @@ abbrev pub lacks_row : View → Action → Bool
 lacks_row v (WithdrawCalendar a) = not v.row_stands
 lacks_row v _ = false
 
--- the day stands under that kind, or the span; or the label is in use
+-- the day stands under that kind, the span stands, or the day is short; or the label is in use
 abbrev pub is_there : View → Action → Bool
 is_there v (DeclareDay a) = stands_among v.calendar (Day (day_kind_of a.kind) a.day)
 is_there v (CloseDay a) = stands_among v.calendar (Day Closed a.day)
 is_there v (CloseSpan a) = stands_among v.calendar (Span a.start a.end)
+is_there v (ShortDay a) = stands_among v.calendar (Short a.day a.close)
 is_there v (OpenCase a) = v.label_taken
 is_there v _ = false
 
@@ -195,6 +196,7 @@ abbrev pub is_full : View → Action → Bool
 is_full v (DeclareDay a) = is_calendar_full v (count_added v (DeclareDay a))
 is_full v (CloseDay a) = is_calendar_full v (count_added v (CloseDay a))
 is_full v (CloseSpan a) = is_calendar_full v (count_added v (CloseSpan a))
+is_full v (ShortDay a) = is_calendar_full v (count_added v (ShortDay a))
 is_full v (ImportCalendar a) = is_calendar_full v (count_added v (ImportCalendar a))
 is_full v (OpenCase a) = nat_le 100_000 v.cases
 is_full v (AddParty a) = nat_le 1000 (parties_in v.case)

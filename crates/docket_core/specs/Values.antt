@@ -16,7 +16,7 @@ use Rattle.docket_command.specs.declared.choice.PeriodUnit.TheVariants as unit
 use Rattle.docket_command.specs.declared.choice.ServiceMethod.{ServiceMethod}
 use Rattle.docket_command.specs.declared.time_action.OrderPeriod as order_period
 use Rattle.docket_command.specs.declared.command.Action.{Action}
-use Rattle.docket_command.specs.declared.command.Action.TheVariants.{DeclareDay, CloseDay, CloseSpan, ImportCalendar, OpenCase, AddParty, FileEntry, ServeSummons, FileWaiver, ServePleading, OrderReply, RuleMotion, Dispose, StatementServed, NoticeHearing, OrderPeriod, EnterJudgment, Extend, Satisfy}
+use Rattle.docket_command.specs.declared.command.Action.TheVariants.{DeclareDay, CloseDay, CloseSpan, ShortDay, ImportCalendar, OpenCase, AddParty, FileEntry, ServeSummons, FileWaiver, ServePleading, OrderReply, RuleMotion, Dispose, StatementServed, NoticeHearing, OrderPeriod, EnterJudgment, Extend, Satisfy}
 use Rattle.docket_command.specs.declared.field.Field.{Field}
 use Rattle.docket_command.specs.declared.field.Field.TheVariants as field
 use Rattle.docket_command.specs.declared.new_day.NewDay.{NewDay}
@@ -149,6 +149,10 @@ abbrev pub bad_days : Option ℕ → Bool
 bad_days None = false
 bad_days (Some days) = not (nat_le 1 days && nat_le days 3650)
 
+-- a short day closes before the court does
+abbrev pub bad_close : CourtSettings → ℕ → Bool × Field
+bad_close court close = (nat_le court.close_minute close, field.Close)
+
 -- the fields of each kind of command, in order, each with whether its value is bad
 abbrev pub bad_values : CourtSettings → Action → List (Bool × Field)
 bad_values court (DeclareDay a) = bad_day a.day field.Day ∷ bad_text 100 a.name field.Name ∷ []
@@ -157,6 +161,7 @@ bad_values court (CloseSpan a) =
     bad_moment court a.start field.Start
     ∷ (not (is_entered_at court a.end) || nat_le a.end a.start, field.End)
     ∷ []
+bad_values court (ShortDay a) = bad_day a.day field.Day ∷ bad_close court a.close ∷ bad_text 100 a.name field.Name ∷ []
 bad_values court (ImportCalendar a) = (not (nat_le (length a.rows) 1000 && list_all is_new_day a.rows), field.Rows) ∷ []
 bad_values court (OpenCase a) =
     (not (is_word 40 a.label), field.Label) ∷ bad_text 200 a.caption field.Caption ∷ bad_day a.filed field.Filed ∷ []

@@ -3,7 +3,7 @@ ghost use Rattle.std.specs.Prelude.{◌≡◌, ◌+◌, ◌≤◌, ◌<◌, ◌+
 ghost use Rattle.std.specs.List.{All, list_any};
 ghost use Rattle.civil_time.specs.LocalTime.{seconds};
 ghost use Rattle.court_days.specs.Civil.{IsEnteredDay, IsEnteredSpan};
-ghost use Rattle.court_days.specs.Calendar.{rows_of, with_day, with_span};
+ghost use Rattle.court_days.specs.Calendar.{rows_of, with_day, with_span, with_short};
 ghost use Rattle.court_days.specs.declared.calendar.CalendarFault.TheVariants as Fault;
 ghost use Rattle.docket_core.specs.Actions.{day_row, imported};
 ghost use Rattle.docket_core.specs.CalendarItems.{fresh, is_same_item, stands_among, with_item, entered_with, calendar_of, IsEnteredItem};
@@ -45,6 +45,19 @@ fn enter_span(calendar: &mut Calendar, start: i64, end: i64) -> Result<(), Alloc
     }
 }
 
+fn enter_short(calendar: &mut Calendar, day: Day, minute: u32) -> Result<(), AllocError>
+    requires day { IsEnteredDay day }
+    requires minute { minute < 1440 }
+    requires room { rows_of calendar.old < 4000 }
+    ensures entered { OnOk result (calendar.new ≡ with_short calendar.old day minute) }
+    ensures rows { rows_of calendar.new ≤ rows_of calendar.old + 1 }
+{
+    match calendar.add_short(day, minute) {
+        Ok(_) => Ok(()),
+        Err(fault) => Err(want_of_memory(fault)),
+    }
+}
+
 /// Enters an item.
 fn enter(calendar: &mut Calendar, item: CalendarItem) -> Result<(), AllocError>
     requires item { IsEnteredItem item }
@@ -55,6 +68,7 @@ fn enter(calendar: &mut Calendar, item: CalendarItem) -> Result<(), AllocError>
     match item {
         CalendarItem::Day(kind, day) => enter_day(calendar, kind, day),
         CalendarItem::Span(start, end) => enter_span(calendar, start.seconds(), end.seconds()),
+        CalendarItem::Short(day, close) => enter_short(calendar, day, close.minute()),
     }
 }
 
@@ -153,6 +167,10 @@ pub(crate) fn rows_added(
             fresh_row(alloc, standing, item, a.name.as_str())
         }
         Action::CloseSpan(a) => fresh_row(alloc, standing, CalendarItem::Span(a.start, a.end), ""),
+        Action::ShortDay(a) => {
+            let item = CalendarItem::Short(a.day, a.close);
+            fresh_row(alloc, standing, item, a.name.as_str())
+        }
         Action::ImportCalendar(a) => fresh_days(alloc, standing, a.rows.as_slice()),
         _ => Ok(Vec::new(alloc)),
     }

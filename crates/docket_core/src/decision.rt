@@ -2,7 +2,7 @@
 ghost use Rattle.std.specs.Prelude.{◌≡◌, ◌+◌, ◌≤◌, ◌^◌, length, false, IfOk, if◌then◌else◌};
 ghost use Rattle.docket_core.specs.CalendarItems.{calendar_of};
 ghost use Rattle.court_rules.specs.Standings.{StandsAfter};
-ghost use Rattle.docket_core.specs.Decisions.{IsAnswer, IsChange, LeadsTo, IsSoundView, IsMatter};
+ghost use Rattle.docket_core.specs.Decisions.{IsAnswer, IsChange, IsKeptReply, LeadsTo, IsSoundView, IsMatter};
 ghost use Rattle.docket_core.specs.Histories.{History};
 ghost use Rattle.docket_core.specs.Outcomes.{reply_to, answer_of, shown, outcome};
 ghost use Rattle.docket_core.specs.Refusals.{is_there, is_full};
@@ -84,7 +84,8 @@ fn reply(matter: &Matter<'_>, view: &View, action: &Action) -> u32
     ensures { result ≡ reply_to matter.now.court.now view.now action.now }
 {
     match action {
-        Action::DeclareDay(_) | Action::CloseDay(_) | Action::CloseSpan(_) => view.next_row as u32,
+        Action::DeclareDay(_) | Action::CloseDay(_) => view.next_row as u32,
+        Action::CloseSpan(_) | Action::ShortDay(_) => view.next_row as u32,
         Action::WithdrawCalendar(a) => a.row,
         Action::ImportCalendar(_) => matter.added as u32,
         Action::OpenCase(_) => view.cases + 1,
@@ -120,6 +121,7 @@ pub fn decide(
         → IsAnswer result (outcome court.now h command.now) }
     ensures tables { (h : History) → view.now ≡ shown court.now h command.now
         → IfOk result (LeadsTo court.now h command.now) }
+    ensures repeats { IfOk result (IsKeptReply view.now) }
 {
     decide_by_view(alloc, view, court, command)
 }
@@ -134,6 +136,7 @@ fn decide_by_view(
     requires { IsSoundView court.now view.now }
     ensures answer { IsAnswer result (answer_of court.now view.now command.now) }
     ensures changes { IfOk result (IsChange (action_changes view.now command.now.action)) }
+    ensures repeats { IfOk result (IsKeptReply view.now) }
 {
     if let Kept::Same(reply) = view.kept {
         return Ok(Decision::Repeat(reply));

@@ -5,14 +5,16 @@ ghost use Rattle.docket_core.specs.CalendarItems.{is_same_kind, is_same_item, st
 ghost use Rattle.docket_core.specs.declared.item.CalendarItem.TheVariants as item;
 
 use court_days::{Day, DayKind};
-use docket_command::{Moment, Text};
+use docket_command::{Moment, Text, TimeOfDay};
 
-/// What a row of the calendar enters: a day under a kind, or a span of time in which the clerk's
-/// office is inaccessible, from its start up to but not with its end.
+/// What a row of the calendar enters: a day under a kind, a span of time in which the clerk's office
+/// is inaccessible, from its start up to but not with its end, or a day on which it is scheduled to
+/// close earlier, at that time.
 #[derive(Clone, Copy)]
 pub enum CalendarItem {
     Day(DayKind, Day),
     Span(Moment, Moment),
+    Short(Day, TimeOfDay),
 }
 
 /// A row that is to be entered in the calendar. The name of a span is empty.
@@ -41,7 +43,7 @@ impl CalendarItem {
             CalendarItem::Day(own, own_day) => {
                 is_same_kind(own, kind) && own_day.epoch_day() == day.epoch_day()
             }
-            CalendarItem::Span(_, _) => false,
+            CalendarItem::Span(_, _) | CalendarItem::Short(_, _) => false,
         }
     }
 
@@ -52,7 +54,16 @@ impl CalendarItem {
             CalendarItem::Span(own_start, own_end) => {
                 own_start.seconds() == start.seconds() && own_end.seconds() == end.seconds()
             }
-            CalendarItem::Day(_, _) => false,
+            CalendarItem::Day(_, _) | CalendarItem::Short(_, _) => false,
+        }
+    }
+
+    fn is_short(self, day: Day, close: TimeOfDay) -> bool
+        ensures { result ≡ is_same_item self (item.Short day close) }
+    {
+        match self {
+            CalendarItem::Short(own, _) => own.epoch_day() == day.epoch_day(),
+            CalendarItem::Day(_, _) | CalendarItem::Span(_, _) => false,
         }
     }
 
@@ -63,6 +74,7 @@ impl CalendarItem {
         match other {
             CalendarItem::Day(kind, day) => self.is_day(kind, day),
             CalendarItem::Span(start, end) => self.is_span(start, end),
+            CalendarItem::Short(day, close) => self.is_short(day, close),
         }
     }
 }

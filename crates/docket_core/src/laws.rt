@@ -1,8 +1,14 @@
 //! What the definitions of specs/ say, with nothing to run.
-ghost use Rattle.std.specs.Prelude.{◌≡◌, ◌↔◌, ℕ, ◌+◌, ◌∷◌, [], Some, slice_get};
+ghost use Rattle.std.specs.Prelude.{◌≡◌, ◌↔◌, ℕ, ◌+◌, ◌∷◌, ◌++◌, [], List, Some, slice_get};
+ghost use Rattle.civil_time.specs.Zone.{ZoneRules};
 ghost use Rattle.court_days.specs.Court.{CourtSettings};
+ghost use Rattle.court_rules.specs.Standings.{standing};
+ghost use Rattle.court_rules.specs.declared.act.Act.{Act};
 ghost use Rattle.docket_command.specs.declared.command.Command.{Command};
+ghost use Rattle.docket_core.specs.CalendarItems.{calendar_of, without_short_days};
 ghost use Rattle.docket_core.specs.Decisions.{IsSoundView};
+ghost use Rattle.docket_core.specs.declared.item.CalendarItem.{CalendarItem};
+ghost use Rattle.docket_core.specs.declared.item.CalendarItem.TheVariants as item;
 ghost use Rattle.std.specs.List.{Contains, filter_map};
 ghost use Rattle.docket_core.specs.Histories.{History, case_rows, party_rows, entry_rows, parties_of_case, entries_of_case, deadline_rows, deadlines_of_case, deadline_rows_from, act_rows, acts_of_deadline, standing_rows};
 ghost use Rattle.docket_core.specs.InOrder.{in_order, numbered_by, opened, case_row, party_added, party_row, entry_filed, entry_row, gathered, made_in, acts_on, IsAddedAndKept};
@@ -48,4 +54,13 @@ pub fn rows_stand_until_withdrawn()
 pub fn worked_dockets()
     ensures case { (court : CourtSettings) → answers court [] asked ≡ answered }
     ensures calendar { (court : CourtSettings) → answers court [] closed_and_withdrawn ≡ closed_and_withdrawn_answered }
+{}
+
+/// A short day moves no deadline: where each stands is a matter of the days and the spans of the calendar
+/// alone, which tell when the clerk's office was closed, and not of when it closes for the day.
+pub fn short_days_move_no_deadline()
+    ensures alone { (zone : ZoneRules) (items : List CalendarItem) (acts : List Act)
+        → standing zone (calendar_of (without_short_days items)) acts ≡ standing zone (calendar_of items) acts }
+    ensures entered { (zone : ZoneRules) (items : List CalendarItem) (day close : ℕ) (acts : List Act)
+        → standing zone (calendar_of (items ++ item.Short day close ∷ [])) acts ≡ standing zone (calendar_of items) acts }
 {}

@@ -24,7 +24,7 @@ pub use end_row::{EndChange, EndRow, EndTime, due_changes};
 pub use item::CalendarItem;
 pub use laws::{
     acts_are_in_order, limits_are_kept, rows_are_numbered_in_order, rows_stand_until_withdrawn,
-    worked_dockets,
+    short_days_move_no_deadline, worked_dockets,
 };
 pub use lines::{close_of_end, close_of_standing, deadline_lines, line_of};
 pub use moving::{acts_named, acts_with, end_moves};
@@ -33,5 +33,7 @@ pub use named::{
     case_named, deadline_named,
 };
 pub use record::{CaseRecord, DeadlineLine, DueRow, EntryRows, PartyRows};
-pub use row::{ActRow, CalendarRow, CaseRow, Change, DeadlineRow, EntryRow, PartyRow, Receipt};
+pub use row::{
+    ActRow, CalendarRow, CaseRow, Change, DeadlineRow, EntryRow, PartyRow, Receipt, ShortDayRow,
+};
 pub use view::{Acts, CalendarItems, CaseView, DeadlineView, Kept, View, is_served_among};

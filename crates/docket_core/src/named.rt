@@ -51,8 +51,8 @@ pub fn asks_calendar(action: &Action) -> bool
 {
     match action {
         Action::DeclareDay(_) | Action::CloseDay(_) | Action::CloseSpan(_) => true,
-        Action::ImportCalendar(_) | Action::FileWaiver(_) | Action::RuleMotion(_) => true,
-        Action::Extend(_) | Action::Satisfy(_) => true,
+        Action::ShortDay(_) | Action::ImportCalendar(_) | Action::FileWaiver(_) => true,
+        Action::RuleMotion(_) | Action::Extend(_) | Action::Satisfy(_) => true,
         _ => false,
     }
 }
@@ -107,7 +107,7 @@ pub fn asks_next_row(action: &Action) -> bool
 {
     match action {
         Action::DeclareDay(_) | Action::CloseDay(_) => true,
-        Action::CloseSpan(_) | Action::ImportCalendar(_) => true,
+        Action::CloseSpan(_) | Action::ShortDay(_) | Action::ImportCalendar(_) => true,
         _ => false,
     }
 }

@@ -35,6 +35,7 @@ fn is_there(view: &View, action: &Action) -> bool
         ),
         Action::CloseDay(a) => stands_among(standing, CalendarItem::Day(DayKind::Closed, a.day)),
         Action::CloseSpan(a) => stands_among(standing, CalendarItem::Span(a.start, a.end)),
+        Action::ShortDay(a) => stands_among(standing, CalendarItem::Short(a.day, a.close)),
         Action::OpenCase(_) => view.label_taken,
         _ => false,
     }
@@ -259,7 +260,8 @@ fn is_full(view: &View, added: usize, made: usize, action: &Action) -> bool
 {
     match action {
         Action::DeclareDay(_) | Action::CloseDay(_) => is_calendar_full(view, added),
-        Action::CloseSpan(_) | Action::ImportCalendar(_) => is_calendar_full(view, added),
+        Action::CloseSpan(_) | Action::ShortDay(_) => is_calendar_full(view, added),
+        Action::ImportCalendar(_) => is_calendar_full(view, added),
         Action::OpenCase(_) => view.cases >= 100_000,
         Action::AddParty(_) => view.parties() >= 1000,
         Action::FileEntry(_) => view.entries() >= 10_000,

@@ -2,7 +2,7 @@
 use crate::item::CalendarItem;
 use court_days::Day;
 use court_rules::{Act, Rule};
-use docket_command::{Command, Reply, Role, Text};
+use docket_command::{Command, Reply, Role, Text, TimeOfDay};
 
 /// A row of the court's calendar. Rows are numbered from 1 over all that were ever added.
 #[derive(Drop)]
@@ -10,6 +10,31 @@ pub struct CalendarRow {
     pub number: u32,
     pub item: CalendarItem,
     pub name: Text,
+}
+
+/// A row of the court's calendar that enters a short day: the clerk's office is scheduled to close at that
+/// time.
+#[derive(Drop)]
+pub struct ShortDayRow {
+    pub number: u32,
+    pub day: Day,
+    pub close: TimeOfDay,
+    pub name: Text,
+}
+
+impl From<ShortDayRow> for CalendarRow {
+    ghost use Rattle.std.specs.Prelude.{◌≡◌};
+    ghost use Rattle.docket_core.specs.ShortDays.{calendar_row};
+
+    ghost from_gives = { λ short row. row ≡ calendar_row short };
+
+    fn from(short: ShortDayRow) -> CalendarRow {
+        CalendarRow {
+            number: short.number,
+            item: CalendarItem::Short(short.day, short.close),
+            name: short.name,
+        }
+    }
 }
 
 /// A case, numbered from 1.

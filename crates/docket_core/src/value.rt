@@ -4,12 +4,13 @@ ghost use Rattle.std.specs.List.{list_all};
 ghost use Rattle.court_days.specs.Court.{CourtSettings};
 ghost use Rattle.docket_command.specs.declared.command.Action.TheVariants as action;
 ghost use Rattle.docket_command.specs.declared.field.Field as field_name;
-ghost use Rattle.docket_core.specs.Values.{is_entered, is_entered_at, is_plain, is_visible, is_short, is_text, is_word, first_bad, bad_values, bad_attorney, bad_attorney_method, bad_basis, bad_party, bad_until, bad_days, bad_choice, bad_day, bad_text, bad_if, in_days, in_hours, is_fixed, most, bad_method, bad_order, is_new_day};
+ghost use Rattle.docket_core.specs.Values.{is_entered, is_entered_at, is_plain, is_visible, is_short, is_text, is_word, first_bad, bad_values, bad_attorney, bad_attorney_method, bad_basis, bad_party, bad_until, bad_days, bad_choice, bad_day, bad_close, bad_text, bad_if, in_days, in_hours, is_fixed, most, bad_method, bad_order, is_new_day};
 
 use court_days::{Court, Day, Direction};
 use docket_command::{
     Action, Basis, CloseSpan, Dispose, Extend, Field, FileWaiver, Moment, NewDay, OpenCase,
-    OrderPeriod, PeriodUnit, PleadingKind, Ruling, ServePleading, ServiceMethod, Text,
+    OrderPeriod, PeriodUnit, PleadingKind, Ruling, ServePleading, ServiceMethod, ShortDay, Text,
+    TimeOfDay,
 };
 
 /// Whether a court may enter the day.
@@ -76,6 +77,13 @@ fn bad_day(day: Day, field: Field) -> (bool, Field)
     ensures { result ≡ bad_day day field }
 {
     (!is_entered(day), field)
+}
+
+/// The clerk's office closes on a short day before it closes on others.
+fn bad_close(court: &Court, close: TimeOfDay) -> (bool, Field)
+    ensures { result ≡ bad_close court.now close }
+{
+    (court.close_minute() <= close.minute(), Field::Close)
 }
 
 fn bad_name(name: &Text) -> (bool, Field)
@@ -185,6 +193,16 @@ fn bad_in_span(court: &Court, a: &CloseSpan) -> Option<Field>
     first_bad(&[
         (!is_entered_at(court, a.start), Field::Start),
         (!is_entered_at(court, a.end) || is_empty, Field::End),
+    ])
+}
+
+fn bad_in_short_day(court: &Court, a: &ShortDay) -> Option<Field>
+    ensures { result ≡ first_bad (bad_values court.now (action.ShortDay a.now)) }
+{
+    first_bad(&[
+        bad_day(a.day, Field::Day),
+        bad_close(court, a.close),
+        bad_name(&a.name),
     ])
 }
 
@@ -348,6 +366,7 @@ pub(crate) fn bad_field(court: &Court, action: &Action) -> Option<Field>
         Action::DeclareDay(a) => first_bad(&[bad_day(a.day, Field::Day), bad_name(&a.name)]),
         Action::CloseDay(a) => first_bad(&[bad_day(a.day, Field::Day), bad_name(&a.name)]),
         Action::CloseSpan(a) => bad_in_span(court, a),
+        Action::ShortDay(a) => bad_in_short_day(court, a),
         Action::WithdrawCalendar(_) => None,
         Action::ImportCalendar(a) => bad_in_import(a.rows.as_slice()),
         Action::OpenCase(a) => bad_in_case(a),

@@ -14,7 +14,7 @@ use Rattle.http_request.specs.declared.wish.Wish.TheVariants.{Command as Command
 use Rattle.docket_http.specs.Answer.{Response, response_bytes, json, problem_response, problem_status}
 use Rattle.docket_http.specs.Asking.{closed_command, problem_of_fault, RepliesClosed}
 use Rattle.docket_http.specs.Reply.{IsReply, reply_bytes, reply_status}
-use Rattle.docket_http.specs.Serve.{Sends, SendsClosed}
+use Rattle.docket_http.specs.Serve.{IsAsked, Sends, SendsClosed, ServesClosed}
 use Rattle.docket_http.specs.declared.problem.Problem.{Problem}
 use Rattle.docket_http.specs.declared.problem.Problem.TheVariants.{Closed}
 use Rattle.docket_http.specs.declared.reply.Reply.{Reply}
@@ -33,7 +33,7 @@ closed_as a b x y r same_wish same_body closed =
     subst (λ (w : Wish). RepliesClosed w y r) same_wish (subst (λ (z : List ℕ). RepliesClosed a z r) same_body closed)
 
 -- the writing of a reply
-sends_reply : (r : Result Served ServeFault) (reply : Reply) (response : Response) (o n : Option (List ℕ)) → IsReply reply response
+pub sends_reply : (r : Result Served ServeFault) (reply : Reply) (response : Response) (o n : Option (List ℕ)) → IsReply reply response
     → IfOk r (λ s. Appends o n (reply_bytes reply) × (s.status ≡ reply_status reply))
     → IfErr r (λ e. (e ≡ serve.WriteFailed) × AppendsFront o n (reply_bytes reply))
     → Sends response o n r
@@ -57,3 +57,13 @@ pub closed_calendar : (from to : ℕ) (wish : Wish) (body : List ℕ) (o n : Opt
     → Sends (problem_response Closed) o n r → SendsClosed wish body o n r
 closed_calendar from to wish body o n r same sent =
     subst (λ (w : Wish). SendsClosed w body o n r) (sym same) (record { response = problem_response Closed; closed = refl; sent = sent })
+
+-- a request that was read
+pub read_closed : (input : Option (List ℕ)) (wish : Wish) (body : List ℕ) (o n : Option (List ℕ)) (r : Result Served ServeFault) → IsAsked input wish body
+    → SendsClosed wish body o n r → ServesClosed input o n r
+read_closed input wish body o n (Ok s) asked closed = inl (wish, body, asked, closed)
+read_closed input wish body o n (Err serve.WriteFailed) asked closed = inl (wish, body, asked, closed)
+read_closed input wish body o n (Err serve.NoMemory) asked closed = inl (wish, body, asked, closed)
+read_closed input wish body o n (Err serve.StoreFailed) asked closed = inl (wish, body, asked, closed)
+read_closed input wish body o n (Err serve.ReadFailed) asked closed = absurd closed.sent
+read_closed input wish body o n (Err serve.EndedEarly) asked closed = absurd closed.sent

@@ -1,15 +1,16 @@
 //! The answer to a request that is answered whole.
-ghost use Rattle.std.specs.Prelude.{◌≡◌, ◌≤◌, true, vec_len};
+ghost use Rattle.std.specs.Prelude.{◌≡◌, ◌≤◌, true, vec_len, IfOk};
 ghost use Rattle.sqlite.specs.Held.{state};
 ghost use Rattle.sqlite.specs.State.{HasCleanDisk};
 ghost use Rattle.sqlite.specs.View.{doubt};
 ghost use Rattle.docket_core.specs.Histories.{History};
-ghost use Rattle.docket_store.specs.AnyRows.{WritesAtMostOne};
+ghost use Rattle.docket_store.specs.AnyRows.{HoldsDocketRows, WritesAtMostOne};
 ghost use Rattle.docket_store.specs.Applying.{Stands};
 ghost use Rattle.http_request.specs.Request.{body_of};
 ghost use Rattle.http_request.specs.Wish.{IsWithinLimits};
 ghost use Rattle.docket_http.specs.Answer.{Response};
 ghost use Rattle.docket_http.specs.Asking.{IsBuilt, Replies, RepliesClosed, IsAnswered, IsClosedReply};
+ghost use Rattle.docket_http.specs.Recorded.{RepliesBacked};
 ghost use Rattle.docket_http.specs.Reply.{IsReply};
 
 use crate::asking::{case_reply, deadlines_reply, holidays_reply};
@@ -37,6 +38,7 @@ fn reply_to<S: Alter>(
         × RepliesClosed request.now.wish (body_of request.now) result }
     ensures replies { (h : History) → Stands S.Store docket.old h
         → Replies S.Store docket.new h request.now.wish (body_of request.now) result }
+    ensures recorded { HoldsDocketRows S.Store docket.old → IfOk result (RepliesBacked S.Store docket.new request.now.wish (body_of request.now)) }
 {
     match request.wish {
         Wish::Reject(rejection) => Ok(Reply::Fixed(Problem::Rejected(rejection))),
@@ -64,6 +66,7 @@ pub(crate) fn reply_of<S: Alter>(alloc: Global, docket: &mut Docket<S>, request:
     ensures answered { (h : History) → Stands S.Store docket.old h → HasCleanDisk (state S.Store docket.new.conn)
         → (response : Response) × IsReply result response
         × IsAnswered S.Store docket.new h request.now.wish (body_of request.now) response }
+    ensures recorded { HoldsDocketRows S.Store docket.old → RepliesBacked S.Store docket.new request.now.wish (body_of request.now) result }
 {
     match reply_to(alloc, docket, request) {
         Ok(reply) => reply,

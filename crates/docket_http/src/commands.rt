@@ -3,7 +3,7 @@ ghost use Rattle.std.specs.Prelude.{◌≡◌, ◌≤◌, ℕ, List, IfOk, IfErr
 ghost use Rattle.sqlite.specs.Held.{state};
 ghost use Rattle.sqlite.specs.View.{doubt};
 ghost use Rattle.docket_core.specs.Histories.{History};
-ghost use Rattle.docket_store.specs.AnyRows.{WritesAtMostOne};
+ghost use Rattle.docket_store.specs.AnyRows.{HoldsDocketRows, WritesAtMostOne};
 ghost use Rattle.docket_store.specs.Applying.{Stands};
 ghost use Rattle.http_request.specs.declared.wish.Wish.TheVariants.{Command as CommandWish};
 ghost use Rattle.docket_store.specs.declared.fault.Fault.TheVariants as fault;
@@ -11,6 +11,7 @@ ghost use Rattle.docket_wire.specs.Reading.{command_in};
 ghost use Rattle.docket_wire.specs.Texts.{fault_text};
 ghost use Rattle.docket_http.specs.Answer.{json};
 ghost use Rattle.docket_http.specs.Asking.{Replies, RepliesClosed, said_status};
+ghost use Rattle.docket_http.specs.Recorded.{RepliesBacked};
 ghost use Rattle.docket_http.specs.Reply.{IsReply};
 
 use crate::reply::{Reply, json_reply};
@@ -42,6 +43,8 @@ fn applied_reply<S: Alter>(
     ensures closed { docket.old.closed ≡ true → (result ≡ Err fault.Closed) × (docket.new ≡ docket.old) }
     ensures replies { (h : History) (len : ℕ) (body : List ℕ) → Stands S.Store docket.old h → command_in body ≡ Ok command.now
         → Replies S.Store docket.new h (CommandWish len) body result }
+    ensures recorded { HoldsDocketRows S.Store docket.old → (len : ℕ) (body : List ℕ) → command_in body ≡ Ok command.now
+        → IfOk result (RepliesBacked S.Store docket.new (CommandWish len) body) }
 {
     let said = answer(docket, command)?;
     let text = reply_text(alloc, &said)?;
@@ -81,6 +84,7 @@ pub(crate) fn command_reply<S: Alter>(
         × ((len : ℕ) → RepliesClosed (CommandWish len) body.now result) }
     ensures replies { (h : History) (len : ℕ) → Stands S.Store docket.old h
         → Replies S.Store docket.new h (CommandWish len) body.now result }
+    ensures recorded { HoldsDocketRows S.Store docket.old → (len : ℕ) → IfOk result (RepliesBacked S.Store docket.new (CommandWish len) body.now) }
 {
     match reading(alloc, body)? {
         Ok(command) => applied_reply(alloc, docket, &command),

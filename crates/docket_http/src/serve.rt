@@ -5,12 +5,13 @@ ghost use Rattle.sqlite.specs.Held.{state};
 ghost use Rattle.sqlite.specs.State.{HasCleanDisk};
 ghost use Rattle.sqlite.specs.View.{doubt};
 ghost use Rattle.docket_core.specs.Histories.{History};
-ghost use Rattle.docket_store.specs.AnyRows.{WritesAtMostOne};
+ghost use Rattle.docket_store.specs.AnyRows.{HoldsDocketRows, WritesAtMostOne};
 ghost use Rattle.docket_store.specs.Applying.{Stands};
 ghost use Rattle.http_request.specs.Request.{body_of};
 ghost use Rattle.http_request.specs.Wish.{IsWithinLimits};
 ghost use Rattle.http_request.specs.declared.wish.Wish.TheVariants.{Calendar};
 ghost use Rattle.docket_http.specs.Asking.{IsBuilt};
+ghost use Rattle.docket_http.specs.Recorded.{SentBacked, ServesBacked};
 ghost use Rattle.docket_http.specs.Serve.{IsServed, IsBroken, Serves, Fails, SendsClosed, ServesClosed};
 
 use crate::answering::reply_of;
@@ -58,6 +59,8 @@ fn serve_request<W: Write, S: Alter>(
         → HasCleanDisk (state S.Store docket.new.conn)
         → IsBroken S.Store docket.new h request.now.wish (body_of request.now) (W.contents writer.old) (W.contents writer.new) e) }
     ensures read { IfErr result (λ e. (e ≢ ServeFault.ReadFailed) × (e ≢ ServeFault.EndedEarly)) }
+    ensures recorded { HoldsDocketRows S.Store docket.old
+        → SentBacked S.Store docket.new request.now.wish (body_of request.now) (W.contents writer.old) (W.contents writer.new) result }
 {
     match days_of(&request.wish) {
         Some((from, to)) => serve_calendar(docket, from, to, writer),
@@ -90,6 +93,9 @@ pub fn serve_one<R: Read, W: Write, S: Alter>(
         → HasCleanDisk (state S.Store docket.new.conn)
         → Fails S.Store (R.remaining reader.old) docket.old docket.new h
         (W.contents writer.old) (W.contents writer.new) e) }
+    // Of any docket, a command that is told its reply has its receipt.
+    ensures recorded { HoldsDocketRows S.Store docket.old
+        → ServesBacked S.Store (R.remaining reader.old) docket.new (W.contents writer.old) (W.contents writer.new) result }
     // Where no request was read, nothing was written and the docket is as it was.
     ensures untouched { IfErr result (λ e. (e ≡ ServeFault.ReadFailed) ⊎ (e ≡ ServeFault.EndedEarly)
         → (docket.new ≡ docket.old) × Keeps (W.contents writer.old) (W.contents writer.new)) }

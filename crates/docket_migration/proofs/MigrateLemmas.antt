@@ -1,5 +1,5 @@
 -- What the judging and the change of the version leave of a database, one after the other.
-use Rattle.std.proofs.Common.{◌≡◌, ◌≢◌, ◌∙◌, ◌≤◌, ◌⊎◌, inl, inr, ℕ, pos, [], ◌∷◌, true, false, append-nil, refl, sym, ap, subst, Result, Ok, Err, IfErr, OnErr, OnOk, arith}
+use Rattle.std.proofs.Common.{◌≡◌, ◌≢◌, ◌∙◌, ◌≤◌, ◌⊎◌, inl, inr, ℕ, pos, [], ◌∷◌, true, false, append-nil, map, refl, sym, ap, subst, Result, Ok, Err, IfErr, OnErr, OnOk, arith}
 use Rattle.sqlite.specs.Effect.{Database, IsDatabase}
 use Rattle.sqlite.specs.Order.{Row, column}
 use Rattle.sqlite.specs.Tree.{Trees}
@@ -10,10 +10,11 @@ use Rattle.sqlite.specs.Held.{Held, state}
 use Rattle.sqlite.specs.View.{doubt}
 use Rattle.sqlite_schema.specs.Names.{same_name}
 use Rattle.court_days.specs.Court.{CourtSettings}
-use Rattle.docket_columns.specs.Cells.{court_cells, court_cells_of, settings_of}
+use Rattle.docket_columns.specs.Cells.{court_cells, court_cells_of, settings_of, short_day_cells}
 use Rattle.docket_columns.specs.declared.version.Version.{Version}
 use Rattle.docket_columns.specs.declared.version.Version.TheVariants.{First, Second}
 use Rattle.docket_core.specs.Histories.{History}
+use Rattle.docket_core.specs.ShortDays.{short_day_rows}
 use Rattle.docket_core.specs.Tables.{Tables, rows_of}
 use Rattle.docket_tables.specs.Contents.{rows_by, rows_in}
 use Rattle.docket_tables.specs.Layouts.{Rows, AreRowsIn}
@@ -29,6 +30,7 @@ use Rattle.docket_scan.specs.Shapes.{has_named, has_table}
 use Rattle.docket_scan.specs.declared.fault.AdoptFault.{AdoptFault}
 use Rattle.docket_scan.specs.declared.fault.AdoptFault.TheVariants.{NoMemory, StoreFailed}
 use Rattle.docket_scan.specs.declared.finding.FoundDocket.{FoundDocket}
+use Rattle.docket_scan.proofs.ShortDayLemmas.{no_short_days}
 use Rattle.docket_migration.specs.Changing.{IsEitherVersion}
 use Rattle.docket_migration.specs.Growing.{IsNew}
 use Rattle.docket_migration.specs.Keeping.{HasGone, IsCommitted, IsImageOfGone, seeing}
@@ -38,12 +40,13 @@ use Rattle.docket_migration.proofs.GoneLemmas.{gone_between}
 use Rattle.docket_migration.proofs.KeepLemmas.{keeps_rows, named_once_before, there_still}
 use Rattle.docket_migration.proofs.KeptReads.{one_row, there_in}
 
--- the rows of a docket go from one version to the other
-pub moved_rows : (court : CourtSettings) (t : Tables) → moved court t.next_row (rows_by First court t) ≡ rows_in court t
-moved_rows court t = λ i table. same table i
+-- the rows of a docket without short days go from one version to the other
+pub moved_rows : (court : CourtSettings) (t : Tables) → short_day_rows t.calendar ≡ [] → moved court t.next_row (rows_by First court t) ≡ rows_in court t
+moved_rows court t none = λ i table. same table i
   where
     same : (table : Table) → moved court t.next_row (rows_by First court t) table ≡ rows_in court t table
     same Court = refl
+    same ShortDays = ap (map short_day_cells) (sym none)
     same table = refl
 
 -- a connection that is unchanged holds the rows still
@@ -94,7 +97,8 @@ module _ (old new : State) (gone : HasGone old new) (court : CourtSettings) (row
         is = record {
           next_row = n;
           has_court = has_court_still n was.has_court;
-          behind = (holds_still n Calendar (λ e. cc) b.0, (holds_still n Cases (λ e. cc) b.1.0, (holds_still n Parties (λ e. cc) b.1.1.0, (holds_still n Entries (λ e. cc) b.1.1.1.0, (holds_still n Deadlines (λ e. cc) b.1.1.1.1.0, (holds_still n Acts (λ e. cc) b.1.1.1.1.1.0, (holds_still n Receipts (λ e. cc) b.1.1.1.1.1.1.0, (holds_still n Ends (λ e. cc) b.1.1.1.1.1.1.1.0, ((new_one ShortDays (λ none. none), gone.empty ShortDays (λ none. none), refl), ((new_one LocalRules (λ none. none), gone.empty LocalRules (λ none. none), refl), tt))))))))));
+          only = tt;
+          behind = (holds_still n Calendar (λ e. cc) b.0, (holds_still n Cases (λ e. cc) b.1.0, (holds_still n Parties (λ e. cc) b.1.1.0, (holds_still n Entries (λ e. cc) b.1.1.1.0, (holds_still n Deadlines (λ e. cc) b.1.1.1.1.0, (holds_still n Acts (λ e. cc) b.1.1.1.1.1.0, (holds_still n Receipts (λ e. cc) b.1.1.1.1.1.1.0, (holds_still n Ends (λ e. cc) b.1.1.1.1.1.1.1.0, (no_short_days new court n rows was.only b.0.2 (new_one ShortDays (λ none. none)) (gone.empty ShortDays (λ none. none)), ((new_one LocalRules (λ none. none), gone.empty LocalRules (λ none. none), refl), tt))))))))));
         };
         next_row = refl;
         live = gone.tables.live;

@@ -1,11 +1,12 @@
 //! From the first version to the second.
-ghost use Rattle.std.specs.Prelude.{◌≡◌, ◌≤◌, ◌⊎◌, Err, IfErr, IsErrAnd, IsSome, OnErr, OnOk, false, true};
+ghost use Rattle.std.specs.Prelude.{◌≡◌, ◌≤◌, ◌⊎◌, [], Err, IfErr, IsErrAnd, IsSome, OnErr, OnOk, false, true};
 ghost use Rattle.std.specs.List.{AllByRecursion};
 ghost use Rattle.civil_time.specs.ZoneText.{zone_at};
 ghost use Rattle.court_days.specs.Court.{CourtSettings};
 ghost use Rattle.docket_columns.specs.declared.version.Version.TheVariants.{First};
-ghost use Rattle.docket_core.specs.Histories.{History};
+ghost use Rattle.docket_core.specs.Histories.{History, standing_rows};
 ghost use Rattle.docket_core.specs.Outcomes.{IsHistory};
+ghost use Rattle.docket_core.specs.ShortDays.{short_day_rows};
 ghost use Rattle.docket_core.specs.Tables.{rows_of};
 ghost use Rattle.docket_wire.specs.Valid.{IsCommand};
 ghost use Rattle.docket_orderly.specs.Orderly.{IsCourtSettings};
@@ -16,6 +17,7 @@ ghost use Rattle.sqlite.specs.View.{doubt};
 ghost use Rattle.docket_tables.specs.Contents.{rows_by};
 ghost use Rattle.docket_tables.specs.Stands.{HoldsRowsIn, MakesNothing};
 ghost use Rattle.docket_tables.specs.declared.table.Table.TheVariants as table;
+ghost use Rattle.docket_scan.specs.Dockets.{MayHold};
 ghost use Rattle.docket_scan.specs.Shapes.{has_named, has_table};
 ghost use Rattle.docket_scan.specs.declared.fault.AdoptFault.TheVariants.{Empty, NoMemory, StoreFailed};
 ghost use Rattle.docket_migration.specs.Keeping.{HasGone, IsCommitted, IsImageOfGone, is_court_apart};
@@ -34,7 +36,7 @@ fn change_judged<S: Alter>(conn: &mut Connection<S>, alloc: Global) -> Result<()
     requires { conn.old.in_transaction ≡ false }
     ensures idle { conn.new.in_transaction ≡ false }
     ensures clean { doubt (state S.Store conn.old).is_clean ≤ doubt (state S.Store conn.new).is_clean }
-    ensures docket { (court : CourtSettings) (h : History) → HoldsRowsIn S.Store First conn.old (rows_by First court (rows_of court h))
+    ensures docket { (court : CourtSettings) (h : History) → short_day_rows (standing_rows h) ≡ [] → HoldsRowsIn S.Store First conn.old (rows_by First court (rows_of court h))
         → Migrates S.Store conn.old conn.new court h result }
     ensures short { result ≡ Err NoMemory → MakesNothing S.Store conn.old conn.new }
     ensures only { IfErr result (λ fault. (fault ≡ NoMemory) ⊎ (fault ≡ StoreFailed)) }
@@ -61,7 +63,7 @@ fn migrate_idle<S: Alter, W: Watch>(
     ensures idle { conn.new.in_transaction ≡ false }
     ensures clean { doubt (state S.Store conn.old).is_clean ≤ doubt (state S.Store conn.new).is_clean }
     ensures docket { (court : CourtSettings) (h : History) → IsCourtSettings court → IsSome (zone_at court.zone_text) → IsHistory court h → AllByRecursion IsCommand h
-        → HoldsRowsIn S.Store First conn.old (rows_by First court (rows_of court h)) → Migrates S.Store conn.old conn.new court h result }
+        → MayHold First h → HoldsRowsIn S.Store First conn.old (rows_by First court (rows_of court h)) → Migrates S.Store conn.old conn.new court h result }
     ensures told { Tells S.Store conn.old conn.new result }
 {
     if let Err(fault) = find_docket(conn, alloc, Version::First, watch) {
@@ -86,9 +88,9 @@ pub fn migrate<S: Alter, W: Watch>(
 ) -> Result<(), AdoptFault>
     ensures idle { OnOk result (conn.new.in_transaction ≡ false) }
     ensures clean { doubt (state S.Store conn.old).is_clean ≤ doubt (state S.Store conn.new).is_clean }
-    // The docket of a history stands for it in the second version then.
+    // The docket of a history stands for it in the second version then; the first has no short days.
     ensures docket { (court : CourtSettings) (h : History) → IsCourtSettings court → IsSome (zone_at court.zone_text) → IsHistory court h → AllByRecursion IsCommand h
-        → HoldsRowsIn S.Store First conn.old (rows_by First court (rows_of court h)) → Migrates S.Store conn.old conn.new court h result }
+        → MayHold First h → HoldsRowsIn S.Store First conn.old (rows_by First court (rows_of court h)) → Migrates S.Store conn.old conn.new court h result }
     // Any database whose tables were sound holds the same rows in the second version, or a fault tells why not.
     ensures told { Tells S.Store conn.old conn.new result }
     // Without a court there is no docket, and the connection stays as it was.

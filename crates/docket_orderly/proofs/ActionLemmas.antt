@@ -30,7 +30,9 @@ use Rattle.docket_command.specs.Moments.{IsWholeMinute}
 use Rattle.docket_command.proofs.MomentLemmas.{moment_fits}
 use Rattle.docket_core.specs.Actions.{rows_asked, imported, begun_by, begun, timed, timed_or_set, answer_rule, answer_from, waiver_rule, pleading_rule, judgment_times, statement_ordered, day_ordered, hours_ordered, ordered, court_ordered, deadlines_made, ruled, extension, acts_made}
 use Rattle.docket_core.specs.Histories.{case_number, deadline_number}
-use Rattle.docket_wire.specs.Valid.{IsAction, IsNewDay}
+use Rattle.docket_core.specs.declared.item.CalendarItem.{CalendarItem}
+use Rattle.docket_core.specs.declared.item.CalendarItem.TheVariants.{Short}
+use Rattle.docket_wire.specs.Valid.{IsAction, IsNewDay, IsMinute}
 use Rattle.docket_columns.specs.Codes.{unit_count}
 use Rattle.docket_columns.specs.Fits.{IsCount, IsItem, IsNameOf, IsAct}
 
@@ -53,6 +55,7 @@ unfolding IsAction
 case_counts (action.DeclareDay a) is = omega arith
 case_counts (action.CloseDay a) is = omega arith
 case_counts (action.CloseSpan a) is = omega arith
+case_counts (action.ShortDay a) is = omega arith
 case_counts (action.WithdrawCalendar a) is = omega arith
 case_counts (action.ImportCalendar a) is = omega arith
 case_counts (action.OpenCase a) is = omega arith
@@ -68,9 +71,14 @@ deadline_counts (action.Satisfy a) is = is.1.0
 deadline_counts (action.Vacate a) is = is.1.0
 deadline_counts _ is = omega arith
 
+-- what the types hold of an item, whichever table has it
+abbrev pub IsHeldItem : CalendarItem → Type 0
+IsHeldItem (Short day close) = IsDay day × IsMinute close
+IsHeldItem other = IsItem other
+
 -- the calendar rows that it asks for
 pub record IsAsked (row : NewRow) : Type 0 where
-  pub item : IsItem row.item
+  pub item : IsHeldItem row.item
   pub named : IsNameOf row.item row.name
   pub name : IsUtf8 row.name
 
@@ -87,6 +95,7 @@ unfolding IsAction
 rows_fine (action.DeclareDay a) is = (record { item = is.0; named = tt; name = is.1.1.0 }, tt)
 rows_fine (action.CloseDay a) is = (record { item = is.0; named = tt; name = is.1.0 }, tt)
 rows_fine (action.CloseSpan a) is = (record { item = (is.0, is.1.0); named = refl; name = no_bytes }, tt)
+rows_fine (action.ShortDay a) is = (record { item = (is.0, is.1.0); named = tt; name = is.1.1.0 }, tt)
 rows_fine (action.ImportCalendar a) is = days_asked a.rows is.0
 rows_fine _ is = tt
 

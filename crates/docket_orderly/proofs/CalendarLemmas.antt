@@ -6,13 +6,15 @@ use Rattle.std.proofs.lemmas.List.{map-append, length-map}
 use Rattle.docket_core.specs.Actions.{rows_asked, row_withdrawn}
 use Rattle.docket_core.specs.CalendarItems.{stands_among, fresh}
 use Rattle.docket_core.specs.Histories.{History, items_of, numbered, without_row, standing_rows, next_row, rows_added}
+use Rattle.docket_core.specs.ShortDays.{day_and_span_rows, short_day_rows}
 use Rattle.docket_core.specs.declared.item.CalendarItem.{CalendarItem}
+use Rattle.docket_core.specs.declared.item.CalendarItem.TheVariants.{Day, Span, Short}
 use Rattle.docket_core.specs.declared.row.CalendarRow.{CalendarRow}
 use Rattle.docket_core.proofs.Leading.{length-numbered}
 use Rattle.docket_wire.specs.Valid.{IsCommand}
-use Rattle.docket_columns.specs.Fits.{IsItem, IsNameOf, IsCalendarRow}
+use Rattle.docket_columns.specs.Fits.{IsCount, IsNameOf, IsCalendarRow, IsShortDayRow}
 use Rattle.docket_orderly.specs.Orderly.{Rises, RunsFrom}
-use Rattle.docket_orderly.proofs.ActionLemmas.{NewRow, IsAsked, rows_fine}
+use Rattle.docket_orderly.proofs.ActionLemmas.{NewRow, IsHeldItem, IsAsked, rows_fine}
 use Rattle.docket_orderly.proofs.ListLemmas.{all_both, all_left, all_by, numbers_left, rises_left, runs_below, rises_both}
 
 abbrev numbers : List CalendarRow → List ℕ
@@ -25,7 +27,7 @@ numbered_runs n (row ∷ rows) = let next : n + 1 ≡ suc n = omega arith in (re
 
 -- a row, but for its number
 abbrev IsHeld : CalendarRow → Type 0
-IsHeld row = IsItem row.item × IsNameOf row.item row.name × IsUtf8 row.name
+IsHeld row = IsHeldItem row.item × IsNameOf row.item row.name × IsUtf8 row.name
 
 numbered_held : (n : ℕ) (rows : List NewRow) → AllByRecursion IsAsked rows → AllByRecursion IsHeld (numbered n rows)
 numbered_held n [] all = tt
@@ -83,9 +85,41 @@ calendar_rises (c ∷ h) =
     (rises_both (next_row h) (numbers left) (numbers new) (up_left (row_withdrawn c.action) (standing_rows h) (calendar_rises h))
     (below_left (next_row h) (row_withdrawn c.action) (standing_rows h) (below h)) (numbered_runs (next_row h) added))
 
-together : (n : ℕ) (rows : List CalendarRow) → n ≤ 4_294_967_296 → AllByRecursion IsHeld rows → AllByRecursion (λ m. m < n) (numbers rows) → AllByRecursion IsCalendarRow rows
+-- a row of the calendar, whichever table has it
+abbrev IsStandingRow : CalendarRow → Type 0
+IsStandingRow row = IsCount row.number × IsHeldItem row.item × IsNameOf row.item row.name × IsUtf8 row.name
+
+together : (n : ℕ) (rows : List CalendarRow) → n ≤ 4_294_967_296 → AllByRecursion IsHeld rows → AllByRecursion (λ m. m < n) (numbers rows) → AllByRecursion IsStandingRow rows
 together n [] few is low = tt
 together n (row ∷ rows) few is low = ((omega (arith, few, low.0), is.0.0, is.0.1, is.0.2), together n rows few is.1 low.1)
 
-pub calendar_held : (h : History) → next_row h ≤ 4_294_967_296 → AllByRecursion IsCommand h → AllByRecursion IsCalendarRow (standing_rows h)
-calendar_held h few all = together (next_row h) (standing_rows h) few (held h all) (below h)
+held_by : (h : History) → next_row h ≤ 4_294_967_296 → AllByRecursion IsCommand h → AllByRecursion IsStandingRow (standing_rows h)
+held_by h few all = together (next_row h) (standing_rows h) few (held h all) (below h)
+
+-- the rows of the one table
+in_calendar : (rows : List CalendarRow) → AllByRecursion IsStandingRow rows → AllByRecursion IsCalendarRow (day_and_span_rows rows)
+in_calendar [] all = tt
+in_calendar (row ∷ rows) all = one row.number row.item row.name all.0 (in_calendar rows all.1)
+  where
+    one : (n : ℕ) (i : CalendarItem) (name : List ℕ) → IsStandingRow (record { number = n; item = i; name = name }) → AllByRecursion IsCalendarRow (day_and_span_rows rows)
+        → AllByRecursion IsCalendarRow (day_and_span_rows (record { number = n; item = i; name = name } ∷ rows))
+    one n (Day kind day) name is rest = (is, rest)
+    one n (Span start end) name is rest = (is, rest)
+    one n (Short day close) name is rest = rest
+
+pub calendar_held : (h : History) → next_row h ≤ 4_294_967_296 → AllByRecursion IsCommand h → AllByRecursion IsCalendarRow (day_and_span_rows (standing_rows h))
+calendar_held h few all = in_calendar (standing_rows h) (held_by h few all)
+
+-- and of the other
+in_short_days : (rows : List CalendarRow) → AllByRecursion IsStandingRow rows → AllByRecursion IsShortDayRow (short_day_rows rows)
+in_short_days [] all = tt
+in_short_days (row ∷ rows) all = one row.number row.item row.name all.0 (in_short_days rows all.1)
+  where
+    one : (n : ℕ) (i : CalendarItem) (name : List ℕ) → IsStandingRow (record { number = n; item = i; name = name }) → AllByRecursion IsShortDayRow (short_day_rows rows)
+        → AllByRecursion IsShortDayRow (short_day_rows (record { number = n; item = i; name = name } ∷ rows))
+    one n (Day kind day) name is rest = rest
+    one n (Span start end) name is rest = rest
+    one n (Short day close) name is rest = ((is.0, is.1.0, is.1.1, is.3), rest)
+
+pub short_days_held : (h : History) → next_row h ≤ 4_294_967_296 → AllByRecursion IsCommand h → AllByRecursion IsShortDayRow (short_day_rows (standing_rows h))
+short_days_held h few all = in_short_days (standing_rows h) (held_by h few all)

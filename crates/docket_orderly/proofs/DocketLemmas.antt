@@ -8,7 +8,7 @@ use Rattle.docket_core.proofs.LimitsKept.{within_limits}
 use Rattle.docket_wire.specs.Valid.{IsCommand}
 use Rattle.docket_orderly.specs.Orderly.{IsCourtSettings, IsOrderly}
 use Rattle.docket_orderly.proofs.ActLemmas.{acts_held, acts_run}
-use Rattle.docket_orderly.proofs.CalendarLemmas.{calendar_held, calendar_rises}
+use Rattle.docket_orderly.proofs.CalendarLemmas.{calendar_held, short_days_held, calendar_rises}
 use Rattle.docket_orderly.proofs.ReceiptLemmas.{receipts_held, one_receipt}
 use Rattle.docket_orderly.proofs.RowLemmas.{cases_held, cases_run, parties_held, parties_run, entries_held, entries_run, deadlines_held, deadlines_run}
 
@@ -18,6 +18,7 @@ orderly court h held is all =
     record {
       court = (held.0, held.1, next);
       calendar = calendar_held h next all;
+      short_days = short_days_held h next all;
       calendar_rises = calendar_rises h;
       cases = cases_held court h is all;
       cases_run = cases_run h;

@@ -24,7 +24,7 @@ use Rattle.docket_core.specs.Refusals.{on, on_value, first_some, is_reused, is_t
 use Rattle.docket_core.specs.Times.{standing_shown, is_in_time}
 use Rattle.docket_core.specs.Views.{parties_in, entries_in, count_deadlines}
 use Rattle.docket_core.specs.Values.{is_word, first_bad, bad_values}
-use Rattle.docket_core.specs.declared.item.CalendarItem.TheVariants.{Span}
+use Rattle.docket_core.specs.declared.item.CalendarItem.TheVariants.{Span, Short}
 use Rattle.docket_core.specs.declared.row.Receipt.{Receipt}
 use Rattle.docket_core.specs.declared.view.Kept.{Kept}
 use Rattle.docket_core.specs.declared.view.Kept.TheVariants.{Fresh, Same, Other}
@@ -119,6 +119,8 @@ reply_counts court h (action.CloseDay a) within is new room =
     omega (arith, one_row (is_there (shown_fresh h (action.CloseDay a)) (action.CloseDay a)) (day_row kind.Closed a.day a.name) new, rows_fit (shown_fresh h (action.CloseDay a)) (action.CloseDay a) room within.next_row)
 reply_counts court h (action.CloseSpan a) within is new room =
     omega (arith, one_row (is_there (shown_fresh h (action.CloseSpan a)) (action.CloseSpan a)) (record { item = Span a.start a.end; name = [] }) new, rows_fit (shown_fresh h (action.CloseSpan a)) (action.CloseSpan a) room within.next_row)
+reply_counts court h (action.ShortDay a) within is new room =
+    omega (arith, one_row (is_there (shown_fresh h (action.ShortDay a)) (action.ShortDay a)) (record { item = Short a.day a.close; name = a.name }) new, rows_fit (shown_fresh h (action.ShortDay a)) (action.ShortDay a) room within.next_row)
 reply_counts court h (action.WithdrawCalendar a) within is new room = is.0
 reply_counts court h (action.ImportCalendar a) within is new room =
     let v = shown_fresh h (action.ImportCalendar a) in

@@ -3,10 +3,11 @@ use Rattle.std.specs.Prelude.{◌≡◌, ℕ, suc, ◌<◌, ◌≤◌, ◌==◌,
 use Rattle.std.specs.List.{AllByRecursion}
 use Rattle.court_days.specs.Court.{CourtSettings}
 use Rattle.docket_core.specs.Histories.{parties_of_case, entries_of_case, deadlines_of_case}
+use Rattle.docket_core.specs.ShortDays.{day_and_span_rows, short_day_rows}
 use Rattle.docket_core.specs.Tables.{Tables}
 use Rattle.docket_core.specs.declared.row.ActRow.{ActRow}
 use Rattle.docket_core.specs.declared.row.Receipt.{Receipt}
-use Rattle.docket_columns.specs.Fits.{IsCourtRow, IsCalendarRow, IsCaseRow, IsPartyRow, IsEntryRow, IsDeadlineRow, IsActRow, IsReceipt}
+use Rattle.docket_columns.specs.Fits.{IsCourtRow, IsCalendarRow, IsShortDayRow, IsCaseRow, IsPartyRow, IsEntryRow, IsDeadlineRow, IsActRow, IsReceipt}
 
 -- what the types hold of a court
 abbrev pub IsCourtSettings : CourtSettings → Type 0
@@ -30,7 +31,8 @@ receipts_under key rows = filter (λ row. bytes_eq row.command.key key) rows
 
 pub record IsOrderly (settings : CourtSettings) (t : Tables) : Type 0 where
   pub court : IsCourtRow settings t.next_row
-  pub calendar : AllByRecursion IsCalendarRow t.calendar
+  pub calendar : AllByRecursion IsCalendarRow (day_and_span_rows t.calendar)
+  pub short_days : AllByRecursion IsShortDayRow (short_day_rows t.calendar)
   pub calendar_rises : Rises (map (λ row. row.number) t.calendar)
   pub cases : AllByRecursion IsCaseRow t.cases
   pub cases_run : RunsFrom 1 (map (λ row. row.number) t.cases)

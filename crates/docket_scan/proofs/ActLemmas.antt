@@ -18,7 +18,7 @@ use Rattle.docket_sound.specs.declared.act.ActCheck.{ActCheck}
 use Rattle.docket_sound.specs.declared.standings.Standings.{Standings}
 use Rattle.docket_tables.specs.declared.table.Table.TheVariants as table
 use Rattle.docket_scan.specs.Judging.{FailsAt, Holds, IsSoundIn, Rows, before}
-use Rattle.docket_scan.specs.Reading.{AreRead, Says, SaysEnds}
+use Rattle.docket_scan.specs.Reading.{AreRead, IsReady, Says, SaysEnds}
 use Rattle.docket_scan.specs.Records.{count_in}
 use Rattle.docket_scan.specs.Scans.{OfSoMany}
 use Rattle.docket_scan.specs.Taken.{ActContext, IsRead, act_context}
@@ -34,26 +34,26 @@ abbrev pub context_after : CourtSettings → Rows → ActContext
 context_after court r = (court, length r.cases, count_in (map deadline_key r.deadlines), calendar_of (items_of r.calendar))
 
 -- the check was made of what was read
-pub begun : (court : CourtSettings) (r : Rows) (read : TablesRead) (check : ActCheck) → Says table.Acts court r read
+pub begun : (court : CourtSettings) (r : Rows) (read : TablesRead) (check : ActCheck) (next : ℕ) → Says table.Acts court next r read
     → check.court ≡ read.court → check.deadlines ≡ read.deadlines → check.calendar ≡ read.calendar → act_context check ≡ context_after court r
-begun court r read check said of_court of_deadlines of_calendar =
+begun court r read check next said of_court of_deadlines of_calendar =
     let keys = map deadline_key r.deadlines in
     let sized : cases_of check.deadlines ≡ length r.cases = ap cases_of of_deadlines ∙ said.sized (omega (arith)) in
     let counts : counts_of check.deadlines ≡ count_in keys = ap counts_of of_deadlines ∙ counted read.deadlines keys said.deadlines in
     λ i. ((of_court ∙ said.court) i, sized i, counts i, (of_calendar ∙ said.calendar) i)
 
-module _ (court : CourtSettings) (next : ℕ) (first old new : State) (read : TablesRead) (prior : AreRead table.Acts first court next old (λ r. Says table.Acts court r read))
+module _ (court : CourtSettings) (next : ℕ) (first old new : State) (read : TablesRead) (prior : AreRead table.Acts first court next old (λ r. Says table.Acts court next r read))
     (check : ActCheck) (n : ℕ) (given : act_context check ≡ context_after court prior.rows) (later : IsUnchanged old new) (held : IsSoundIn table.Acts first (OfSoMany n (IsRead IsActRow act_cells (HasTakenActs check)))) where
   abbrev acts : List ActRow
   acts = held.3.1.records
 
   -- the acts that were taken are sound, and give the ends and the standings that are told
-  pub acts_told : (now : EndsRead) (stand : Standings) → now.held ≡ record read.held { standings = stand } → n < 2 ^ 64
+  pub acts_told : (now : EndsRead) (stand : Standings) → now.held ≡ record read.held { standings = stand } → now.short_days ≡ read.short_days → n < 2 ^ 64
       → AreSoundActs check.court (cases_of check.deadlines) (counts_of check.deadlines) acts
       → now.ends.items ≡ dues_of (zone_of check.court) check.calendar acts
       → (length acts < 2 ^ 64 → stand ≡ counts_of_standings (standings_of (zone_of check.court) check.calendar acts))
-      → AreRead table.Receipts first court next new (λ r. SaysEnds court r now)
-  acts_told now stand kept limit sound due stands =
+      → AreRead table.Receipts first court next new (λ r. SaysEnds court next r now)
+  acts_told now stand kept passed limit sound due stands =
       let few : length acts < 2 ^ 64 = omega (arith, limit, so_many table.Acts first IsActRow act_cells (HasTakenActs check) n held) in
       let stood = stands few ∙ ap (λ (k : ActContext). counts_of_standings (standings_of (zone_of k.0) k.3 acts)) given in
       let rows = record prior.rows { acts = acts } in
@@ -64,6 +64,7 @@ module _ (court : CourtSettings) (next : ℕ) (first old new : State) (read : Ta
             (read_rows table.Acts first IsActRow act_cells (HasTakenActs check) n held (AreSoundActs court (length prior.rows.cases) (count_in (map deadline_key prior.rows.deadlines)))
             (subst (λ (k : ActContext). AreSoundActs k.0 k.1 k.2 acts) given sound));
         said = record {
+          short_days = subst (IsReady court next prior.rows.calendar prior.rows.short_days) (sym passed) prior.said.short_days;
           ends = due ∙ ap (λ (k : ActContext). dues_of (zone_of k.0) k.3 acts) given;
           held = kept ∙ (λ i. record (prior.said.held i) { standings = stood i });
         };

@@ -61,19 +61,23 @@ abbrev kind_of : ℕ → DayKind
 kind_of n = if n == 1 then Federal else if n == 2 then State else Closed
 
 abbrev item_of : ℕ → ℤ → ℤ → CalendarItem
-item_of kind a b = if kind == 4 then item.Span (count_of a) (count_of b) else item.Day (kind_of kind) (count_of a)
+item_of kind a b = if kind == 4 then item.Span (count_of a) (count_of b) else if kind == 0 then item.Short (count_of a) (count_of b) else item.Day (kind_of kind) (count_of a)
 
 item_is : (i : CalendarItem) → item_of (item_code i).kind (item_code i).a (item_code i).b ≡ i
 item_is (item.Day Federal day) = refl
 item_is (item.Day State day) = refl
 item_is (item.Day Closed day) = refl
 item_is (item.Span start end) = refl
+item_is (item.Short day close) = refl
 
 abbrev item_in : Row → CalendarItem
 item_in row = item_of (number_in (column row 1)) (whole_in (column row 2)) (whole_in (column row 3))
 
 pub calendar_items : (rs ss : List CalendarRow) → map calendar_cells rs ≡ map calendar_cells ss → items_of rs ≡ items_of ss
 calendar_items = told_alike calendar_cells (λ r. r.item) item_in (λ r. item_is r.item)
+
+pub calendar_numbers : (rs ss : List CalendarRow) → map calendar_cells rs ≡ map calendar_cells ss → map (λ (r : CalendarRow). r.number) rs ≡ map (λ (r : CalendarRow). r.number) ss
+calendar_numbers = told_alike calendar_cells (λ r. r.number) (λ row. number_in (column row 0)) (λ r. refl)
 
 -- an act
 abbrev direction_of : ℕ → Direction

@@ -31,7 +31,7 @@ use Rattle.docket_tables.specs.Tables.{IsTableOf}
 use Rattle.docket_tables.specs.declared.table.Table.{Table}
 use Rattle.docket_tables.specs.declared.table.Table.TheVariants as table
 use Rattle.docket_scan.specs.Courts.{AreMarked, IsCourtsRow, IsRowOf}
-use Rattle.docket_scan.specs.Dockets.{IsFoundOfDocket, IsToldOfDocket}
+use Rattle.docket_scan.specs.Dockets.{IsFoundOfDocket, IsToldOfDocket, MayHold}
 use Rattle.docket_scan.specs.Finding.{HasCourtRow, IsDamaged, IsFirstUnsound, IsEmpty, IsNoDocket, IsOfOtherVersion, IsTaken}
 use Rattle.docket_scan.specs.Holdings.{holdings_of}
 use Rattle.docket_scan.specs.Judging.{IsBehindCourt, JudgedAll, StaysOpen}
@@ -127,8 +127,8 @@ module _ (v : Version) (s : State) (court : CourtSettings) (h : History) (settin
 pub docket_found : {S : Type 0} (g : Ghosts S) (v : Version) (old : Held S) (new : State) (result : Result FoundDocket AdoptFault)
     → HasCleanDisk (state g old) → IsTaken v (state g old) new result
     → (court : CourtSettings) (h : History) → IsCourtSettings court → IsSome (zone_at court.zone_text) → IsHistory court h → AllByRecursion IsCommand h
-    → HoldsRowsIn g v old (rows_by v court (rows_of court h)) → IsFoundOfDocket court h result
-docket_found g v old new result clean taken court h settings zone is commands holds = at result taken
+    → MayHold v h → HoldsRowsIn g v old (rows_by v court (rows_of court h)) → IsFoundOfDocket court h result
+docket_found g v old new result clean taken court h settings zone is commands only holds = at result taken
   where
     s : State
     s = state g old
@@ -139,7 +139,7 @@ docket_found g v old new result clean taken court h settings zone is commands ho
     told : (found : CourtSettings) (next : ℕ) (judged : Result Holdings AdoptFault) → found ≡ court → next ≡ next_row h
         → JudgedAll v found next s new (λ r held. held ≡ holdings_of found r) judged → IsToldOfDocket court h judged
     told found next judged same numbered it =
-        docket_told g v old new court next judged clean (subst (λ k. JudgedAll v k next s new (λ r held. held ≡ holdings_of k r) judged) same it) h is commands numbered holds
+        docket_told g v old new court next judged clean (subst (λ k. JudgedAll v k next s new (λ r held. held ≡ holdings_of k r) judged) same it) h is commands only numbered holds
 
     behind : (t : Table) → IsBehindCourt v t → StaysOpen s new → IsFirstUnsound v t s → ⊥
     behind t is_behind stays (found, next, (row, has, row_of), r, all, unsound) =
@@ -154,7 +154,7 @@ docket_found g v old new result clean taken court h settings zone is commands ho
         let row_of = sound.has_court.2 in
         let is_court = court_told v s court h settings zone is shows found.court sound.next_row sound.has_court.0 sound.has_court.1.1 row_of.same in
         let is_next = next_told v s court h settings zone is shows found.court sound.next_row sound.has_court.0 sound.has_court.1.1 row_of.same in
-        (is_court, told found.court sound.next_row (Ok found.held) is_court is_next (same, r, sound.behind, held))
+        (is_court, told found.court sound.next_row (Ok found.held) is_court is_next (same, r, sound.only, sound.behind, held))
     at (Err Empty) (left, cause) = never_empty v s court h settings zone is shows cause
     at (Err NotADocket) (left, cause) = never_another v s court h settings zone is shows cause
     at (Err OtherVersion) (left, cause) = never_older v s court h settings zone is shows cause

@@ -1,5 +1,5 @@
 -- A docket's own tables are never told to be unsound.
-use Rattle.std.proofs.Common.{◌≡◌, ◌∙◌, inl, inr, ℕ, Bool, List, [], ◌∷◌, ◌++◌, map, length, Result, Ok, Err, IsPermutation, refl, sym, ap, ap₂, subst}
+use Rattle.std.proofs.Common.{◌≡◌, ◌∙◌, inl, inr, ℕ, Bool, List, [], ◌∷◌, ◌++◌, ◌+◌, map, length, Result, Ok, Err, IsPermutation, refl, sym, ap, ap₂, subst, arith}
 use base.Stored.{Coded-set}
 use Rattle.std.proofs.Math.Logic.{∥∥₁_elim}
 use Rattle.std.proofs.lemmas.Bool.{false≢true}
@@ -16,11 +16,13 @@ use Rattle.court_rules.specs.declared.act.Standing.{Standing}
 use Rattle.docket_core.specs.CalendarItems.{calendar_of}
 use Rattle.docket_core.specs.Histories.{History, items_of, next_row, standing_rows, case_rows, party_rows, entry_rows, deadline_rows}
 use Rattle.docket_core.specs.Outcomes.{IsHistory, receipts}
+use Rattle.docket_core.specs.ShortDays.{day_and_span_rows, short_day_rows}
 use Rattle.docket_core.specs.Tables.{rows_of}
-use Rattle.docket_columns.specs.Cells.{court_cells_of, calendar_cells, case_cells, party_cells, entry_cells, deadline_cells, act_cells, receipt_cells}
+use Rattle.docket_columns.specs.Cells.{court_cells_of, calendar_cells, short_day_cells, case_cells, party_cells, entry_cells, deadline_cells, act_cells, receipt_cells}
 use Rattle.docket_columns.specs.declared.version.Version.{Version}
 use Rattle.docket_columns.specs.declared.version.Version.TheVariants.{First, Second}
 use Rattle.docket_sound.specs.Standings.{standings_of, is_running, is_suspended, is_awaiting, is_done, is_vacated}
+use Rattle.docket_sound.proofs.HistoryShortDays.{in_two_tables}
 use Rattle.docket_wire.specs.Valid.{IsCommand}
 use Rattle.docket_tables.specs.Contents.{rows_by, rows_in}
 use Rattle.docket_tables.specs.Layouts.{Rows as Stored}
@@ -28,9 +30,9 @@ use Rattle.docket_tables.specs.Stands.{ShowsIn, HoldsRowsIn}
 use Rattle.docket_tables.specs.Tables.{IsTableOf}
 use Rattle.docket_tables.specs.declared.table.Table.{Table}
 use Rattle.docket_tables.specs.declared.table.Table.TheVariants as table
-use Rattle.docket_scan.specs.Dockets.{IsToldOfDocket, holdings_in, standings_in}
+use Rattle.docket_scan.specs.Dockets.{IsToldOfDocket, MayHold, holdings_in, standings_in}
 use Rattle.docket_scan.specs.Holdings.{holdings_of}
-use Rattle.docket_scan.specs.Judging.{IsBehindCourt, IsUnsoundIn, AreSoundBy, Holds, Rows, JudgedAll, before, behind_court, cells_in}
+use Rattle.docket_scan.specs.Judging.{AreRowsFor, IsBehindCourt, IsUnsoundIn, AreSoundBy, Holds, Rows, JudgedAll, before, behind_court, cells_in}
 use Rattle.docket_scan.specs.Records.{receipt_cells as stored_receipt_cells, ArePartyRows, AreEntryRows, AreDeadlineRows, AreActRows}
 use Rattle.docket_scan.specs.Scans.{AreRowsOf}
 use Rattle.docket_scan.specs.Shapes.{has_table}
@@ -40,7 +42,7 @@ use Rattle.docket_scan.specs.declared.holdings.Holdings.{Holdings}
 use Rattle.docket_scan.proofs.DocketCounts.{receipts_counted, standings_counted}
 use Rattle.docket_scan.proofs.DocketReads.{AreSorted, never_unreadable, rows_sorted, first_sorted}
 use Rattle.docket_scan.proofs.DocketStatements.{is_there}
-use Rattle.docket_scan.proofs.DocketTables.{calendar_sound, cases_sound, parties_sound, entries_sound, deadlines_sound, acts_sound, receipts_sound, ends_sound, parties_counted, deadlines_counted}
+use Rattle.docket_scan.proofs.DocketTables.{calendar_sound, short_days_sound, cases_sound, parties_sound, entries_sound, deadlines_sound, acts_sound, receipts_sound, ends_sound, parties_counted, deadlines_counted}
 use Rattle.docket_scan.proofs.JudgingLemmas.{each_has}
 
 -- no row stands in one order alone
@@ -127,6 +129,11 @@ module _ (v : Version) (s : State) (court : CourtSettings) (h : History) (is : I
       let judged = ap₂ (AreActRows court) (cases_told stand.1.0.1) (deadlines_counted court h is commands r.deadlines deadlines) in
       never_unsound v s all shows table.Acts (each_has v table.Acts tt) _ (acts_sound court h is commands) (subst (IsUnsoundIn table.Acts s) judged unsound))
 
+  short_days_never : IsTableOf v table.ShortDays → Stand table.ShortDays → IsUnsound table.ShortDays → ⊥
+  short_days_never has stand unsound =
+      in_order v s all shows table.Calendar (each_has v table.Calendar tt) (map calendar_cells r.calendar) stand.0.1 (λ days.
+      never_unsound v s all shows table.ShortDays has _ (short_days_sound court h is commands r.calendar days) unsound)
+
   ends_never : Stand table.Ends → IsUnsound table.Ends → ⊥
   ends_never stand unsound =
       in_order v s all shows table.Calendar (each_has v table.Calendar tt) (map calendar_cells r.calendar) stand.0.1 (λ days.
@@ -143,7 +150,7 @@ module _ (v : Version) (s : State) (court : CourtSettings) (h : History) (is : I
   never table.Acts has stand = acts_never stand
   never table.Receipts has stand = never_unsound v s all shows table.Receipts has _ (receipts_sound court h is commands)
   never table.Ends has stand = ends_never stand
-  never table.ShortDays has stand = never_unsound v s all shows table.ShortDays has _ (λ found sorted. no_rows_of found sorted.same)
+  never table.ShortDays has stand = short_days_never has stand
   never table.LocalRules has stand = never_unsound v s all shows table.LocalRules has _ (λ found sorted. no_rows_of found sorted.same)
 
   standings_told : Stand table.ShortDays → (test : Standing → Bool) → count_by test (standings_of (zone_of court) (calendar_of (items_of r.calendar)) r.acts) ≡ count_by test (standings_in court h)
@@ -151,9 +158,14 @@ module _ (v : Version) (s : State) (court : CourtSettings) (h : History) (is : I
       ∥∥₁_elim (sorted table.Calendar tt stand.0.1) (Coded-set coded_ℕ _ _) (λ days.
       ∥∥₁_elim (sorted table.Acts tt stand.1.1.1.1.1.0.1) (Coded-set coded_ℕ _ _) (λ acts. standings_counted court h is test r.calendar r.acts days acts))
 
-  held_told : Stand table.ShortDays → holdings_of court r ≡ holdings_in court h
-  held_told stand = λ i. record {
-    calendar_rows = counted table.Calendar calendar_cells calendar_cells (standing_rows h) r.calendar (sorted table.Calendar tt stand.0.1) i;
+  calendar_told : Stand table.ShortDays → length r.short_days ≡ length (short_day_rows (standing_rows h)) → length r.calendar + length r.short_days ≡ length (standing_rows h)
+  calendar_told stand short =
+      let days = counted table.Calendar calendar_cells calendar_cells (day_and_span_rows (standing_rows h)) r.calendar (sorted table.Calendar tt stand.0.1) in
+      omega (arith, days, short, in_two_tables (standing_rows h))
+
+  held_told : Stand table.ShortDays → length r.short_days ≡ length (short_day_rows (standing_rows h)) → holdings_of court r ≡ holdings_in court h
+  held_told stand short = λ i. record {
+    calendar_rows = calendar_told stand short i;
     cases = cases_told stand.1.0.1 i;
     parties = counted table.Parties party_cells party_cells (party_rows h) r.parties (sorted table.Parties tt stand.1.1.0.1) i;
     entries = counted table.Entries entry_cells entry_cells (entry_rows h) r.entries (sorted table.Entries tt stand.1.1.1.0.1) i;
@@ -168,6 +180,14 @@ module _ (v : Version) (s : State) (court : CourtSettings) (h : History) (is : I
     receipts = (counted table.Receipts receipt_cells stored_receipt_cells (receipts court h) r.receipts (sorted table.Receipts tt stand.1.1.1.1.1.1.0.1) ∙ receipts_counted court h) i;
   }
 
+-- the short days, which the first version does not have
+short_days_told : (v : Version) (s : State) (court : CourtSettings) (h : History) → ShowsIn v s (rows_of_docket v court h) → (r : Rows) → AreRowsFor v r → MayHold v h
+    → AllByRecursion (Holds s court (next_row h) r) (behind_court v) → length r.short_days ≡ length (short_day_rows (standing_rows h))
+short_days_told First s court h shows r none held stand = ap length none ∙ sym (ap length held)
+short_days_told Second s court h shows r none held stand =
+    counted table.ShortDays short_day_cells short_day_cells (short_day_rows (standing_rows h)) r.short_days
+    (rows_sorted Second table.ShortDays tt s shows.schema (rows_of_docket Second court h) shows.holds (map short_day_cells r.short_days) stand.1.1.1.1.1.1.1.1.0.1)
+
 -- the tables behind the court's, up to that of ends
 front : (v : Version) (Is : Table → Type 0) → AllByRecursion Is (behind_court v) → AllByRecursion Is (before table.ShortDays)
 front First Is all = all
@@ -176,9 +196,9 @@ front Second Is all = all_front Is (before table.ShortDays) (table.ShortDays ∷
 -- so the docket of a history is told to hold what the history has, and no table of it to be unsound
 pub docket_told : {S : Type 0} (g : Ghosts S) (v : Version) (old : Held S) (new : State) (court : CourtSettings) (next : ℕ) (result : Result Holdings AdoptFault)
     → HasCleanDisk (state g old) → JudgedAll v court next (state g old) new (λ r held. held ≡ holdings_of court r) result
-    → (h : History) → IsHistory court h → AllByRecursion IsCommand h → next ≡ next_row h → HoldsRowsIn g v old (rows_by v court (rows_of court h))
+    → (h : History) → IsHistory court h → AllByRecursion IsCommand h → MayHold v h → next ≡ next_row h → HoldsRowsIn g v old (rows_by v court (rows_of court h))
     → IsToldOfDocket court h result
-docket_told g v old new court next result clean told h is commands numbered holds = at result (subst (λ n. Told n result) numbered told)
+docket_told g v old new court next result clean told h is commands may numbered holds = at result (subst (λ n. Told n result) numbered told)
   where
     s : State
     s = state g old
@@ -194,7 +214,8 @@ docket_told g v old new court next result clean told h is commands numbered hold
     has t behind = behind
 
     at : (found : Result Holdings AdoptFault) → Told (next_row h) found → IsToldOfDocket court h found
-    at (Ok held) (same, r, stand, says) = says ∙ held_told v s court h is commands shows r (front v _ stand)
+    at (Ok held) (same, r, fits, stand, says) =
+        says ∙ held_told v s court h is commands shows r (front v _ stand) (short_days_told v s court h shows r fits may stand)
     at (Err (Damaged t)) (behind, stays, r, stand, unsound) = never v s court h is commands shows r t (has t behind) stand unsound
     at (Err NoMemory) fails = tt
     at (Err StoreFailed) fails = tt

@@ -9,6 +9,7 @@ use Rattle.docket_core.specs.CalendarItems.{calendar_of}
 use Rattle.docket_core.specs.EndRows.{end_row, end_rows, row_of_deadline, calendar_in}
 use Rattle.docket_core.specs.Histories.{History, items_of, standing_rows, next_row, case_rows, party_rows, parties_of_case, entry_rows, deadline_rows, deadlines_of_case, act_rows}
 use Rattle.docket_core.specs.Outcomes.{IsHistory, receipts}
+use Rattle.docket_core.specs.ShortDays.{day_and_span_rows, short_day_rows}
 use Rattle.docket_core.specs.Tables.{rows_of}
 use Rattle.docket_core.specs.declared.end_row.EndRow.{EndRow}
 use Rattle.docket_core.specs.declared.end_row.EndTime.{EndTime}
@@ -17,28 +18,29 @@ use Rattle.docket_core.specs.declared.row.CalendarRow.{CalendarRow}
 use Rattle.docket_core.specs.declared.row.DeadlineRow.{DeadlineRow}
 use Rattle.docket_core.specs.declared.row.PartyRow.{PartyRow}
 use Rattle.docket_core.proofs.LimitsKept.{within_limits}
-use Rattle.docket_columns.specs.Cells.{calendar_cells, case_cells, party_cells, entry_cells, deadline_cells, act_cells, receipt_cells, end_cells}
-use Rattle.docket_columns.specs.Fits.{IsCount, IsCalendarRow, IsCaseRow, IsPartyRow, IsEntryRow, IsDeadlineRow, IsActRow, IsReceipt, IsEndRow}
+use Rattle.docket_columns.specs.Cells.{calendar_cells, short_day_cells, case_cells, party_cells, entry_cells, deadline_cells, act_cells, receipt_cells, end_cells}
+use Rattle.docket_columns.specs.Fits.{IsCount, IsCalendarRow, IsShortDayRow, IsCaseRow, IsPartyRow, IsEntryRow, IsDeadlineRow, IsActRow, IsReceipt, IsEndRow}
 use Rattle.docket_wire.specs.Valid.{IsCommand}
 use Rattle.docket_sound.specs.Deadlines.{deadline_key}
 use Rattle.docket_sound.specs.Dues.{dues_of}
-use Rattle.docket_sound.specs.Orders.{AreInOrder, calendar_order, case_order, party_order, entry_order, deadline_order, act_order, receipt_order, end_order}
+use Rattle.docket_sound.specs.Orders.{AreInOrder, calendar_order, short_day_order, case_order, party_order, entry_order, deadline_order, act_order, receipt_order, end_order}
 use Rattle.docket_sound.specs.Parties.{party_key}
 use Rattle.docket_sound.specs.Receipts.{AreSoundReceipts}
+use Rattle.docket_sound.specs.ShortDays.{AreSoundShortDays}
 use Rattle.docket_sound.proofs.SortedActs.{sorted_acts}
 use Rattle.docket_sound.proofs.SortedEnds.{ends_stored}
 use Rattle.docket_sound.proofs.SortedReceipts.{sorted_receipts}
-use Rattle.docket_sound.proofs.SortedRows.{sorted_calendar, sorted_cases, sorted_parties, party_counts, sorted_entries, sorted_deadlines, deadline_counts}
+use Rattle.docket_sound.proofs.SortedRows.{sorted_calendar, sorted_short_days, sorted_cases, sorted_parties, party_counts, sorted_entries, sorted_deadlines, deadline_counts}
 use Rattle.docket_tables.specs.declared.table.Table.{Table}
 use Rattle.docket_tables.specs.declared.table.Table.TheVariants as table
 use Rattle.docket_orderly.proofs.ActLemmas.{acts_held}
-use Rattle.docket_orderly.proofs.CalendarLemmas.{calendar_held}
+use Rattle.docket_orderly.proofs.CalendarLemmas.{calendar_held, short_days_held}
 use Rattle.docket_orderly.proofs.ReceiptLemmas.{receipts_held}
 use Rattle.docket_orderly.proofs.RowLemmas.{cases_held, parties_held, entries_held, deadlines_held}
-use Rattle.docket_scan.specs.Records.{IsTable, IsStoredReceipt, receipt_cells as stored_receipt_cells, count_in, AreCalendarRows, AreCaseRows, ArePartyRows, AreEntryRows, AreDeadlineRows, AreActRows, AreReceiptRows, AreEndRows}
+use Rattle.docket_scan.specs.Records.{IsTable, IsStoredReceipt, receipt_cells as stored_receipt_cells, count_in, AreCalendarRows, AreShortDayRows, AreCaseRows, ArePartyRows, AreEntryRows, AreDeadlineRows, AreActRows, AreReceiptRows, AreEndRows}
 use Rattle.docket_scan.specs.declared.receipt.StoredReceipt.{StoredReceipt}
-use Rattle.docket_scan.proofs.DocketCells.{party_keys, deadline_keys, calendar_items, act_rows_alike}
-use Rattle.docket_scan.proofs.DocketOrders.{IsOrderOf, typed, calendar_by_key, cases_by_key, parties_by_key, entries_by_key, deadlines_by_key, acts_by_key, receipts_by_key, ends_by_key}
+use Rattle.docket_scan.proofs.DocketCells.{party_keys, deadline_keys, calendar_items, calendar_numbers, act_rows_alike}
+use Rattle.docket_scan.proofs.DocketOrders.{IsOrderOf, typed, calendar_by_key, short_days_by_key, cases_by_key, parties_by_key, entries_by_key, deadlines_by_key, acts_by_key, receipts_by_key, ends_by_key}
 use Rattle.docket_scan.proofs.DocketReads.{AreSorted}
 use Rattle.docket_scan.proofs.DocketReceipts.{as_stored, stored_fits}
 
@@ -54,9 +56,18 @@ row_fits k n None case number = tt
 row_fits k n (Some end) case number = ((case, number), tt)
 
 module _ (court : CourtSettings) (h : History) (is : IsHistory court h) (commands : AllByRecursion IsCommand h) where
-  pub calendar_sound : (found : List Row) → AreSorted table.Calendar (map calendar_cells (standing_rows h)) found → AreCalendarRows court (next_row h) found
+  pub calendar_sound : (found : List Row) → AreSorted table.Calendar (map calendar_cells (day_and_span_rows (standing_rows h))) found → AreCalendarRows court (next_row h) found
   calendar_sound =
-      sound_records table.Calendar IsCalendarRow calendar_cells calendar_order _ (standing_rows h) calendar_by_key (calendar_held h (within_limits court h is).next_row commands) (sorted_calendar court h is)
+      sound_records table.Calendar IsCalendarRow calendar_cells calendar_order _ (day_and_span_rows (standing_rows h)) calendar_by_key (calendar_held h (within_limits court h is).next_row commands) (sorted_calendar court h is)
+
+  -- the short days, by the rows of the calendar as they were read
+  pub short_days_sound : (days : List CalendarRow) → AreSorted table.Calendar (map calendar_cells (day_and_span_rows (standing_rows h))) (map calendar_cells days)
+      → (found : List Row) → AreSorted table.ShortDays (map short_day_cells (short_day_rows (standing_rows h))) found → AreShortDayRows court (next_row h) (map (λ row. row.number) days) found
+  short_days_sound days of_days =
+      let d = typed table.Calendar calendar_cells calendar_order calendar_by_key (day_and_span_rows (standing_rows h)) (map calendar_cells days) of_days in
+      sound_records table.ShortDays IsShortDayRow short_day_cells short_day_order (AreSoundShortDays court.close_minute (next_row h) (map (λ row. row.number) days)) (short_day_rows (standing_rows h)) short_days_by_key
+      (short_days_held h (within_limits court h is).next_row commands)
+      (λ found order. subst (λ (numbers : List ℕ). AreSoundShortDays court.close_minute (next_row h) numbers found) (sym (calendar_numbers days d.0 d.1)) (sorted_short_days court h is d.0 found d.2 order))
 
   pub cases_sound : (found : List Row) → AreSorted table.Cases (map case_cells (case_rows h)) found → AreCaseRows found
   cases_sound = sound_records table.Cases IsCaseRow case_cells case_order _ (case_rows h) cases_by_key (cases_held court h is commands) (sorted_cases court h is)
@@ -109,10 +120,10 @@ module _ (court : CourtSettings) (h : History) (is : IsHistory court h) (command
       all-flat_map IsEndRow (row_of_deadline (zone_of court) (calendar_in t) t.acts) t.deadlines
       (all_weaker IsDeadlineRow (λ d. AllByRecursion IsEndRow (row_of_deadline (zone_of court) (calendar_in t) t.acts d)) (λ d fits. row_fits d.case d.number _ fits.0 fits.1) t.deadlines (deadlines_held court h is commands))
 
-  module _ (days : List CalendarRow) (acts : List ActRow) (of_days : AreSorted table.Calendar (map calendar_cells (standing_rows h)) (map calendar_cells days)) (of_acts : AreSorted table.Acts (map act_cells (act_rows h)) (map act_cells acts)) where
+  module _ (days : List CalendarRow) (acts : List ActRow) (of_days : AreSorted table.Calendar (map calendar_cells (day_and_span_rows (standing_rows h))) (map calendar_cells days)) (of_acts : AreSorted table.Acts (map act_cells (act_rows h)) (map act_cells acts)) where
     ends_expected : (ends : List EndRow) → AreInOrder end_order (end_rows court (rows_of court h)) ends → ends ≡ dues_of (zone_of court) (calendar_of (items_of days)) acts
     ends_expected ends order =
-        let d = typed table.Calendar calendar_cells calendar_order calendar_by_key (standing_rows h) (map calendar_cells days) of_days in
+        let d = typed table.Calendar calendar_cells calendar_order calendar_by_key (day_and_span_rows (standing_rows h)) (map calendar_cells days) of_days in
         let a = typed table.Acts act_cells act_order acts_by_key (act_rows h) (map act_cells acts) of_acts in
         ends_stored court h is d.0 a.0 d.2 a.2 ends order
         ∙ ap₂ (λ items rows. dues_of (zone_of court) (calendar_of items) rows) (sym (calendar_items days d.0 d.1)) (sym (act_rows_alike acts a.0 a.1))

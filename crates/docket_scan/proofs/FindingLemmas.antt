@@ -72,12 +72,13 @@ module _ (first old : State) (same : IsUnchanged first old) where
     judged_fault new _ never = absurd never
 
     pub judged_sound : (new : State) (found : FoundDocket) → found.court ≡ court → JudgedAll v court next old new (λ r held. held ≡ holdings_of court r) (Ok found.held) → IsTaken v first new (Ok found)
-    judged_sound new found is (still, r, all, held) = (
+    judged_sound new found is (still, r, only, all, held) = (
       unchanged_then first old new same still,
       r,
       subst (λ k. AreSound v first k r) (sym is) (record {
         next_row = next;
         has_court = has;
+        only = only;
         behind = holds_before court next r (behind_court v) all;
       }),
       held ∙ ap (λ k. holdings_of k r) (sym is),

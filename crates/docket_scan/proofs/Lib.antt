@@ -14,3 +14,4 @@ mod FindingLemmas
 mod JudgingLemmas
 pub mod RecordLemmas
 mod ScanLemmas
+pub mod ShortDayLemmas

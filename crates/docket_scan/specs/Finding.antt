@@ -13,7 +13,7 @@ use Rattle.docket_columns.specs.declared.version.Version.{Version}
 use Rattle.docket_sound.specs.declared.court.CourtRecord.{CourtRecord}
 use Rattle.docket_scan.specs.Courts.{AreMarked, IsCourtsRow, IsRowOf, record_of}
 use Rattle.docket_scan.specs.Holdings.{holdings_of}
-use Rattle.docket_scan.specs.Judging.{AreSoundBy, Holds, HasUnsoundRows, IsUnsoundIn, Rows, StaysOpen, before, behind_court}
+use Rattle.docket_scan.specs.Judging.{AreRowsFor, AreSoundBy, Holds, HasUnsoundRows, IsUnsoundIn, Rows, StaysOpen, before, behind_court}
 use Rattle.docket_scan.specs.Scans.{AreRowsOf, IsUnreadable, StaysOrRollsBack}
 use Rattle.docket_scan.specs.Shapes.{has_named, has_table}
 use Rattle.docket_scan.specs.declared.fault.AdoptFault.{AdoptFault}
@@ -65,6 +65,7 @@ IsDamaged v t s = IsTableOf v t × IsFirstUnsound v t s
 pub record AreSound (v : Version) (s : State) (court : CourtSettings) (r : Rows) : Type 0 where
   pub next_row : ℕ
   pub has_court : HasCourt v s court next_row
+  pub only : AreRowsFor v r
   pub behind : AllByRecursion (Holds s court next_row r) (behind_court v)
 
 -- why it is not taken for a docket: the first cause, in the order of the faults

@@ -16,12 +16,14 @@ use Rattle.docket_core.specs.declared.row.CaseRow.{CaseRow}
 use Rattle.docket_core.specs.declared.row.DeadlineRow.{DeadlineRow}
 use Rattle.docket_core.specs.declared.row.EntryRow.{EntryRow}
 use Rattle.docket_core.specs.declared.row.PartyRow.{PartyRow}
-use Rattle.docket_columns.specs.Cells.{calendar_cells, case_cells, party_cells, entry_cells, deadline_cells, act_cells, end_cells}
+use Rattle.docket_core.specs.declared.row.ShortDayRow.{ShortDayRow}
+use Rattle.docket_columns.specs.Cells.{calendar_cells, short_day_cells, case_cells, party_cells, entry_cells, deadline_cells, act_cells, end_cells}
 use Rattle.docket_columns.specs.declared.version.Version.{Version}
+use Rattle.docket_columns.specs.declared.version.Version.TheVariants.{First, Second}
 use Rattle.docket_sound.specs.Deadlines.{deadline_key}
 use Rattle.docket_sound.specs.Dues.{dues_of}
 use Rattle.docket_sound.specs.Parties.{party_key}
-use Rattle.docket_scan.specs.Records.{count_in, receipt_cells, AreCalendarRows, AreCaseRows, ArePartyRows, AreEntryRows, AreDeadlineRows, AreActRows, AreReceiptRows, AreEndRows, AreNoRows}
+use Rattle.docket_scan.specs.Records.{count_in, receipt_cells, AreCalendarRows, AreShortDayRows, AreCaseRows, ArePartyRows, AreEntryRows, AreDeadlineRows, AreActRows, AreReceiptRows, AreEndRows, AreNoRows}
 use Rattle.docket_scan.specs.Scans.{IsUnreadable, AreRowsOf, AreFirstRowsOf, StaysOrRollsBack}
 use Rattle.docket_scan.specs.Shapes.{has_table}
 use Rattle.docket_scan.specs.declared.fault.AdoptFault.{AdoptFault}
@@ -82,10 +84,11 @@ pub record Rows : Type 0 where
   pub acts : List ActRow
   pub receipts : List StoredReceipt
   pub ends : List EndRow
+  pub short_days : List ShortDayRow
 
 -- nothing stands in them
 abbrev pub no_rows : Rows
-no_rows = record { calendar = []; cases = []; parties = []; entries = []; deadlines = []; acts = []; receipts = []; ends = [] }
+no_rows = record { calendar = []; cases = []; parties = []; entries = []; deadlines = []; acts = []; receipts = []; ends = []; short_days = [] }
 
 abbrev pub cells_in : Table → Rows → List Row
 cells_in Court r = []
@@ -97,11 +100,11 @@ cells_in Deadlines r = map deadline_cells r.deadlines
 cells_in Acts r = map act_cells r.acts
 cells_in Receipts r = map receipt_cells r.receipts
 cells_in Ends r = map end_cells r.ends
-cells_in ShortDays r = []
+cells_in ShortDays r = map short_day_cells r.short_days
 cells_in LocalRules r = []
 
 -- rows of SQL are those of a sound table, by what stands in the tables before it; the ends are those of the running deadlines by the
--- court's whole calendar; there are no short days and no local rules yet
+-- table of the calendar alone, since short days move none; there are no local rules yet
 abbrev pub AreSoundBy : Table → CourtSettings → ℕ → Rows → List Row → Type 0
 AreSoundBy Court court next r = λ rows. Unit {0}
 AreSoundBy Calendar court next r = AreCalendarRows court next
@@ -112,7 +115,7 @@ AreSoundBy Deadlines court next r = AreDeadlineRows (length r.cases) (count_in (
 AreSoundBy Acts court next r = AreActRows court (length r.cases) (count_in (map deadline_key r.deadlines))
 AreSoundBy Receipts court next r = AreReceiptRows
 AreSoundBy Ends court next r = AreEndRows (dues_of (zone_of court) (calendar_of (items_of r.calendar)) r.acts)
-AreSoundBy ShortDays court next r = AreNoRows
+AreSoundBy ShortDays court next r = AreShortDayRows court next (map (λ row. row.number) r.calendar)
 AreSoundBy LocalRules court next r = AreNoRows
 
 -- the table is there and holds these rows, which are sound
@@ -141,8 +144,13 @@ FailsAt v court next old new _ = ⊥
 abbrev pub behind_court : Version → List Table
 behind_court v = drop 1 (tables_of v)
 
+-- rows that the tables of the version can hold: the first has none for short days
+abbrev pub AreRowsFor : Version → Rows → Type 0
+AreRowsFor First r = r.short_days ≡ []
+AreRowsFor Second r = Unit {0}
+
 -- all of them are sound and hold these rows, or the first that is unsound is told
 abbrev pub JudgedAll : {X : Type 0} → Version → CourtSettings → ℕ → State → State → (Rows → X → Type 0) → Result X AdoptFault → Type 0
 JudgedAll v court next old new says (Ok x) =
-    IsUnchanged old new × (r : Rows) × AllByRecursion (Holds old court next r) (behind_court v) × says r x
+    IsUnchanged old new × (r : Rows) × AreRowsFor v r × AllByRecursion (Holds old court next r) (behind_court v) × says r x
 JudgedAll v court next old new says (Err fault) = FailsAt v court next old new fault

@@ -5,8 +5,8 @@ use Rattle.std.specs.Str.{IsUtf8}
 use Rattle.sqlite.specs.Order.{Row}
 use Rattle.court_days.specs.Court.{CourtSettings}
 use Rattle.docket_core.specs.declared.end_row.EndRow.{EndRow}
-use Rattle.docket_columns.specs.Cells.{calendar_cells, case_cells, party_cells, entry_cells, deadline_cells, act_cells, end_cells, stored_cells}
-use Rattle.docket_columns.specs.Fits.{IsCount, IsCalendarRow, IsCaseRow, IsPartyRow, IsEntryRow, IsDeadlineRow, IsActRow, IsEndRow}
+use Rattle.docket_columns.specs.Cells.{calendar_cells, short_day_cells, case_cells, party_cells, entry_cells, deadline_cells, act_cells, end_cells, stored_cells}
+use Rattle.docket_columns.specs.Fits.{IsCount, IsCalendarRow, IsShortDayRow, IsCaseRow, IsPartyRow, IsEntryRow, IsDeadlineRow, IsActRow, IsEndRow}
 use Rattle.docket_sound.specs.Acts.{AreSoundActs}
 use Rattle.docket_sound.specs.Calendars.{AreSoundCalendarRows}
 use Rattle.docket_sound.specs.Cases.{AreSoundCases}
@@ -15,6 +15,7 @@ use Rattle.docket_sound.specs.Entries.{AreSoundEntries}
 use Rattle.docket_sound.specs.Numbers.{numbers_in}
 use Rattle.docket_sound.specs.Parties.{AreSoundParties}
 use Rattle.docket_sound.specs.Receipts.{AreSoundReceipts}
+use Rattle.docket_sound.specs.ShortDays.{AreSoundShortDays}
 use Rattle.docket_sound.specs.declared.numbering.Key.{Key}
 use Rattle.docket_scan.specs.declared.receipt.StoredReceipt.{StoredReceipt}
 
@@ -67,6 +68,11 @@ AreReceiptRows = IsTable IsStoredReceipt receipt_cells AreSoundStored
 -- the table holds no row
 abbrev pub AreNoRows : List Row → Type 0
 AreNoRows rows = rows ≡ []
+
+-- the numbers are those of the rows in the table of the calendar
+abbrev pub AreShortDayRows : CourtSettings → ℕ → List ℕ → List Row → Type 0
+AreShortDayRows court next_row calendar =
+    IsTable IsShortDayRow short_day_cells (AreSoundShortDays court.close_minute next_row calendar)
 
 -- the ends are these, in this order
 abbrev pub AreEndRows : List EndRow → List Row → Type 0

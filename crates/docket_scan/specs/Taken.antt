@@ -16,6 +16,7 @@ use Rattle.docket_sound.specs.declared.court.CourtRecord.{CourtRecord}
 use Rattle.docket_sound.specs.declared.deadline.DeadlineCheck.{DeadlineCheck}
 use Rattle.docket_sound.specs.declared.due.DueCheck.{DueCheck}
 use Rattle.docket_sound.specs.declared.receipt.ReceiptCheck.{ReceiptCheck}
+use Rattle.docket_sound.specs.declared.short_day.ShortDayCheck.{ShortDayCheck}
 use Rattle.docket_scan.specs.Courts.{AreMarked, record_of}
 use Rattle.docket_scan.specs.Records.{AreRecords}
 use Rattle.docket_scan.specs.declared.court.CourtCheck.{CourtCheck}
@@ -52,6 +53,13 @@ ActContext = CourtSettings × ℕ × (ℕ → ℕ) × Entered
 
 abbrev pub act_context : ActCheck → ActContext
 act_context check = (check.court, cases_of check.deadlines, counts_of check.deadlines, check.calendar)
+
+-- when the office closes on other days, the number of the next calendar row, and those of the rows in the table of the calendar
+abbrev pub ShortDayContext : Type 0
+ShortDayContext = ℕ × ℕ × List ℕ
+
+abbrev pub short_day_context : ShortDayCheck → ShortDayContext
+short_day_context check = (check.close, check.next_row, check.calendar.items)
 
 abbrev pub ends_expected : DueCheck → List EndRow
 ends_expected check = check.expected.items

@@ -2,10 +2,12 @@
 
 use crate::check::RecordCheck;
 use crate::receipt::StoredReceipt;
-use docket_core::{ActRow, CalendarRow, CaseRow, DeadlineRow, EndRow, EntryRow, PartyRow};
+use docket_core::{
+    ActRow, CalendarRow, CaseRow, DeadlineRow, EndRow, EntryRow, PartyRow, ShortDayRow,
+};
 use docket_sound::{
     ActCheck, CalendarCheck, CaseCheck, DeadlineCheck, DueCheck, EntryCheck, PartyCheck,
-    ReceiptCheck,
+    ReceiptCheck, ShortDayCheck,
 };
 use std::alloc::{AllocError, Global};
 
@@ -24,6 +26,25 @@ impl RecordCheck for CalendarCheck {
     ghost AreSound = { λ c. AreSoundCalendarRows c.0 c.1 };
 
     fn take(&mut self, _alloc: Global, record: &CalendarRow) -> Result<bool, AllocError> {
+        self.take(record)
+    }
+}
+
+impl RecordCheck for ShortDayCheck {
+    ghost use Rattle.docket_sound.specs.ShortDays.{AreSoundShortDays, HasTakenShortDays};
+    ghost use Rattle.docket_scan.specs.Taken.{ShortDayContext, short_day_context};
+
+    type Record = ShortDayRow;
+
+    ghost HasTaken = { HasTakenShortDays };
+
+    ghost Context = { ShortDayContext };
+
+    ghost context = { short_day_context };
+
+    ghost AreSound = { λ c. AreSoundShortDays c.0 c.1 c.2 };
+
+    fn take(&mut self, _alloc: Global, record: &ShortDayRow) -> Result<bool, AllocError> {
         self.take(record)
     }
 }

@@ -14,7 +14,7 @@ ghost use Rattle.docket_tables.specs.Contents.{rows_by};
 ghost use Rattle.docket_orderly.specs.Orderly.{IsCourtSettings};
 ghost use Rattle.docket_tables.specs.Stands.{HoldsRowsIn};
 ghost use Rattle.docket_tables.specs.declared.table.Table.TheVariants as table;
-ghost use Rattle.docket_scan.specs.Dockets.{IsFoundOfDocket};
+ghost use Rattle.docket_scan.specs.Dockets.{IsFoundOfDocket, MayHold};
 ghost use Rattle.docket_scan.specs.Finding.{IsTaken, ReadsCourt, court_fault};
 ghost use Rattle.docket_scan.specs.Shapes.{has_named};
 ghost use Rattle.docket_scan.specs.declared.fault.AdoptFault.TheVariants.{Empty, NoMemory, Damaged};
@@ -95,7 +95,7 @@ fn court_in(alloc: Global, row: &CourtRecord) -> Result<Court, AdoptFault>
 /// court is judged first, and then the others of that version in their order; an error tells the first
 /// cause for which the database is not taken for a docket's: `OtherVersion`, where its court is marked with
 /// another. Want of memory and a failure of the database may come at any point. The docket of a history in
-/// that version is found as it is, and no other error comes. Nothing is written. `watch` is told of each
+/// that version, which in the first has no short days, is found as it is, and no other error comes. Nothing is written. `watch` is told of each
 /// row that is read.
 pub fn find_docket<S: Alter, W: Watch>(
     conn: &mut Connection<S>,
@@ -108,7 +108,7 @@ pub fn find_docket<S: Alter, W: Watch>(
     ensures told { HasCleanDisk (state S.Store conn.new) → IsTaken version (state S.Store conn.old) (state S.Store conn.new) result }
     ensures docket { HasCleanDisk (state S.Store conn.new)
         → (court : CourtSettings) (h : History) → IsCourtSettings court → IsSome (zone_at court.zone_text) → IsHistory court h → AllByRecursion IsCommand h
-        → HoldsRowsIn S.Store version conn.old (rows_by version court (rows_of court h)) → IsFoundOfDocket court h result }
+        → MayHold version h → HoldsRowsIn S.Store version conn.old (rows_by version court (rows_of court h)) → IsFoundOfDocket court h result }
     ensures unread { has_named conn.old.schema table.Court ≡ false → IsErrAnd result (λ fault. fault ≡ Empty) × (conn.new ≡ conn.old) }
 {
     let row = read_court(conn, alloc, version, watch)?;

@@ -1,9 +1,10 @@
 //! Which table of a database is the first that is unsound.
-ghost use Rattle.std.specs.Prelude.{◌≡◌, ◌↔◌, ◌<◌, ◌^◌, ℕ, [], List, length, false, IfErr, IfOk, IfSome, IsSome};
+ghost use Rattle.std.specs.Prelude.{◌≡◌, ◌↔◌, ◌+◌, ◌<◌, ◌≤◌, ◌^◌, ℕ, [], List, length, false, IfErr, IfOk, IfSome, IsSome};
 ghost use Rattle.sqlite.specs.Held.{Held, state};
 ghost use Rattle.sqlite.specs.State.{HasCleanDisk, Survives};
 ghost use Rattle.court_days.specs.Court.{CourtSettings, zone_of};
 ghost use Rattle.docket_columns.specs.declared.version.Version.{Version};
+ghost use Rattle.docket_columns.specs.declared.version.Version.TheVariants.{Second};
 ghost use Rattle.docket_core.specs.declared.row.ActRow.{ActRow as OnDeadline};
 ghost use Rattle.docket_sound.specs.Acts.{AreSoundActs, HasTakenActs};
 ghost use Rattle.docket_sound.specs.Counted.{cases_of, counts_of};
@@ -11,7 +12,7 @@ ghost use Rattle.docket_sound.specs.Dues.{dues_of};
 ghost use Rattle.docket_sound.specs.Standings.{counts_of_standings, standings_of};
 ghost use Rattle.docket_scan.specs.Holdings.{holdings_of};
 ghost use Rattle.docket_scan.specs.Judging.{IsSoundIn, Judged, JudgedAll};
-ghost use Rattle.docket_scan.specs.Reading.{EndsBefore, FailsOver, HeldBefore, ReadBefore};
+ghost use Rattle.docket_scan.specs.Reading.{EndsBefore, FailsOver, HeldBefore, LastBefore, ReadBefore};
 ghost use Rattle.docket_scan.specs.Records.{AreNoRows, IsTable};
 ghost use Rattle.docket_scan.specs.Scans.{OfSoMany};
 ghost use Rattle.docket_scan.specs.Taken.{IsRead};
@@ -20,7 +21,7 @@ ghost use Rattle.docket_tables.specs.declared.table.Table.TheVariants as table;
 use crate::check::RecordCheck;
 use crate::fault::{AdoptFault, fault_in};
 use crate::holdings::Holdings;
-use crate::reading::{EndsRead, TablesRead};
+use crate::reading::{EndsRead, LastRead, TablesRead};
 use crate::scan::scan;
 use crate::shape::has_table;
 use crate::taker::{NoRows, Records, Taker};
@@ -118,8 +119,8 @@ fn judge_calendar<S: Alter, W: Watch>(
 {
     let check = CalendarCheck::new(alloc, court, next_row);
     let (check, count) = judge(conn, alloc, Table::Calendar, check, watch)?;
-    let (court, calendar) = check.finish();
-    let read = TablesRead::begin(alloc, court, calendar, count)?;
+    let (court, calendar, short_days) = check.finish(alloc);
+    let read = TablesRead::begin(alloc, court, calendar, short_days, count)?;
     Ok(read)
 }
 
@@ -266,6 +267,7 @@ fn judge_acts<S: Alter, W: Watch>(
     let TablesRead {
         court,
         calendar,
+        short_days,
         deadlines,
         held,
         ..
@@ -275,6 +277,7 @@ fn judge_acts<S: Alter, W: Watch>(
     match finish(check)? {
         Some((ends, standings)) => Ok(EndsRead {
             ends,
+            short_days,
             held: Holdings { standings, ..held },
         }),
         None => Err(AdoptFault::Damaged(Table::Acts)),
@@ -303,46 +306,80 @@ fn judge_receipts<S: Alter, W: Watch>(
     Ok(EndsRead { held, ..read })
 }
 
-/// Judges the table of ends, the last of the first version. How much the tables hold.
+/// Judges the table of ends, the last of the first version.
 fn judge_ends<S: Alter, W: Watch>(
     conn: &mut Connection<S>,
     alloc: Global,
     read: EndsRead,
     watch: &mut W,
-) -> Result<Holdings, AdoptFault>
+) -> Result<LastRead, AdoptFault>
     ensures writes_nothing { Survives (state S.Store conn.old) (state S.Store conn.new) (λ _. ⊥) }
     ensures mode { conn.old.in_transaction ≡ false → conn.new.in_transaction ≡ false }
     ensures ok { (first : Held S) (court : CourtSettings) (next : ℕ) → EndsBefore table.Ends (state S.Store first) court next (state S.Store conn.old) read
-        → IfOk result (λ now. HeldBefore table.ShortDays (state S.Store first) court next (state S.Store conn.new) now) }
+        → IfOk result (λ now. LastBefore (state S.Store first) court next (state S.Store conn.new) now) }
     ensures err { (version : Version) (first : Held S) (court : CourtSettings) (next : ℕ) → EndsBefore table.Ends (state S.Store first) court next (state S.Store conn.old) read
         → IfErr result (FailsOver version (state S.Store first) court next (state S.Store conn.new)) }
 {
-    let (check, _) = judge(conn, alloc, Table::Ends, DueCheck::new(read.ends), watch)?;
+    let EndsRead {
+        ends,
+        short_days,
+        held,
+    } = read;
+    let (check, _) = judge(conn, alloc, Table::Ends, DueCheck::new(ends), watch)?;
     if check.is_sound() {
-        Ok(read.held)
+        Ok(LastRead { short_days, held })
     } else {
         Err(AdoptFault::Damaged(Table::Ends))
     }
 }
 
-/// Judges the tables of the version that stand behind that of ends: in the first there are none, and those
-/// of the second hold no row yet.
-fn judge_more<S: Alter, W: Watch>(
+/// So many rows, and so many more, of which a sound calendar has 4,000 at most.
+fn with_more(rows: u64, more: u64) -> u64
+    ensures { rows + more ≤ 4000 → result ≡ rows + more }
+{
+    rows.saturating_add(more)
+}
+
+/// Judges the table of short days. How much the tables hold, with it.
+fn judge_short_days<S: Alter, W: Watch>(
     conn: &mut Connection<S>,
     alloc: Global,
-    version: Version,
-    held: Holdings,
+    read: LastRead,
     watch: &mut W,
 ) -> Result<Holdings, AdoptFault>
     ensures writes_nothing { Survives (state S.Store conn.old) (state S.Store conn.new) (λ _. ⊥) }
     ensures mode { conn.old.in_transaction ≡ false → conn.new.in_transaction ≡ false }
-    ensures told { (first : Held S) (court : CourtSettings) (next : ℕ) → HeldBefore table.ShortDays (state S.Store first) court next (state S.Store conn.old) held
+    ensures ok { (first : Held S) (court : CourtSettings) (next : ℕ) → LastBefore (state S.Store first) court next (state S.Store conn.old) read
+        → IfOk result (λ now. HeldBefore table.LocalRules (state S.Store first) court next (state S.Store conn.new) now) }
+    ensures err { (first : Held S) (court : CourtSettings) (next : ℕ) → LastBefore (state S.Store first) court next (state S.Store conn.old) read
+        → IfErr result (FailsOver Second (state S.Store first) court next (state S.Store conn.new)) }
+{
+    let LastRead { short_days, held } = read;
+    let (_, count) = judge(conn, alloc, Table::ShortDays, short_days, watch)?;
+    Ok(Holdings {
+        calendar_rows: with_more(held.calendar_rows, count),
+        ..held
+    })
+}
+
+/// Judges the tables of the version that stand behind that of ends: in the first there are none, and that
+/// of local rules holds no row yet. How much the tables hold.
+fn judge_more<S: Alter, W: Watch>(
+    conn: &mut Connection<S>,
+    alloc: Global,
+    version: Version,
+    read: LastRead,
+    watch: &mut W,
+) -> Result<Holdings, AdoptFault>
+    ensures writes_nothing { Survives (state S.Store conn.old) (state S.Store conn.new) (λ _. ⊥) }
+    ensures mode { conn.old.in_transaction ≡ false → conn.new.in_transaction ≡ false }
+    ensures told { (first : Held S) (court : CourtSettings) (next : ℕ) → LastBefore (state S.Store first) court next (state S.Store conn.old) read
         → HasCleanDisk (state S.Store conn.new) → JudgedAll version court next (state S.Store first) (state S.Store conn.new) (λ r held. held ≡ holdings_of court r) result }
 {
     match version {
-        Version::First => Ok(held),
+        Version::First => Ok(read.held),
         Version::Second => {
-            judge_empty(conn, alloc, Table::ShortDays, watch)?;
+            let held = judge_short_days(conn, alloc, read, watch)?;
             judge_empty(conn, alloc, Table::LocalRules, watch)?;
             Ok(held)
         }
@@ -373,6 +410,6 @@ pub(crate) fn judge_tables<S: Alter, W: Watch>(
     let read = judge_deadlines(conn, alloc, read, watch)?;
     let read = judge_acts(conn, alloc, read, watch)?;
     let read = judge_receipts(conn, alloc, read, watch)?;
-    let held = judge_ends(conn, alloc, read, watch)?;
-    judge_more(conn, alloc, version, held, watch)
+    let last = judge_ends(conn, alloc, read, watch)?;
+    judge_more(conn, alloc, version, last, watch)
 }

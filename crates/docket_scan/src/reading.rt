@@ -1,16 +1,16 @@
 //! What is kept of the tables that were judged, for those behind them.
-ghost use Rattle.std.specs.Prelude.{◌≡◌, List, length, IfOk};
+ghost use Rattle.std.specs.Prelude.{◌≡◌, ℕ, [], List, length, IfOk};
 ghost use Rattle.docket_core.specs.CalendarItems.{calendar_of};
 ghost use Rattle.docket_core.specs.Histories.{items_of};
 ghost use Rattle.docket_core.specs.declared.row.CalendarRow.{CalendarRow as Entered};
 ghost use Rattle.docket_scan.specs.Judging.{no_rows};
-ghost use Rattle.docket_scan.specs.Reading.{Says};
+ghost use Rattle.docket_scan.specs.Reading.{IsReady, Says};
 ghost use Rattle.docket_tables.specs.declared.table.Table.TheVariants as table;
 
 use crate::holdings::Holdings;
 use court_days::{Calendar, Court};
 use docket_core::EndRow;
-use docket_sound::Numbering;
+use docket_sound::{Numbering, ShortDayCheck};
 use std::alloc::{AllocError, Global};
 
 /// What the checks of later tables go by, and how much the tables hold. Of a table that was not judged
@@ -19,6 +19,8 @@ use std::alloc::{AllocError, Global};
 pub(crate) struct TablesRead {
     pub(crate) court: Court,
     pub(crate) calendar: Calendar,
+    /// The check of the short days beside the calendar.
+    pub(crate) short_days: ShortDayCheck,
     /// How many cases there are.
     pub(crate) cases: u32,
     /// How many parties each case has.
@@ -34,14 +36,16 @@ impl TablesRead {
         alloc: Global,
         court: Court,
         calendar: Calendar,
+        short_days: ShortDayCheck,
         rows: u64,
     ) -> Result<TablesRead, AllocError>
-        ensures { (days : List Entered) → calendar ≡ calendar_of (items_of days) → rows ≡ length days
-            → IfOk result (λ read. Says table.Cases court (record no_rows { calendar = days }) read) }
+        ensures { (days : List Entered) (next : ℕ) → calendar ≡ calendar_of (items_of days) → rows ≡ length days → IsReady court next days [] short_days
+            → IfOk result (λ read. Says table.Cases court next (record no_rows { calendar = days }) read) }
     {
         Ok(TablesRead {
             court,
             calendar,
+            short_days,
             cases: 0,
             parties: Numbering::none(alloc)?,
             deadlines: Numbering::none(alloc)?,
@@ -58,5 +62,13 @@ impl TablesRead {
 pub(crate) struct EndsRead {
     /// The ends of the deadlines whose time runs, by their acts and the whole calendar.
     pub(crate) ends: Vec<EndRow>,
+    pub(crate) short_days: ShortDayCheck,
+    pub(crate) held: Holdings,
+}
+
+/// And behind the ends.
+#[derive(Drop)]
+pub(crate) struct LastRead {
+    pub(crate) short_days: ShortDayCheck,
     pub(crate) held: Holdings,
 }

@@ -1,5 +1,5 @@
 -- Rows of a calendar that come one after another.
-use Rattle.std.proofs.Common.{◌≡◌, ◌∙◌, ◌≢◌, ℕ, ◌+◌, ◌<◌, ◌≤◌, ◌==◌, ◌&&◌, ◌||◌, nat_lt, Bool, true, false, IsTrue, cond, List, [], ◌∷◌, ◌++◌, map, length, Err, refl, sym, ap, subst, arith}
+use Rattle.std.proofs.Common.{◌≡◌, ◌∙◌, ◌≢◌, ℕ, ◌+◌, ◌<◌, ◌≤◌, ◌==◌, ◌&&◌, ◌||◌, nat_lt, Bool, true, false, IsTrue, cond, List, [], ◌∷◌, ◌++◌, map, length, Err, Some, is_some, refl, sym, ap, subst, arith}
 use Rattle.std.proofs.lemmas.Bool.{false≢true}
 use Rattle.std.proofs.lemmas.Bool.Decides.{nat_tests}
 use Rattle.std.proofs.lemmas.List.{length-append, map-append, append_assoc}
@@ -21,12 +21,11 @@ use Rattle.court_days.specs.declared.calendar.DayKind.TheVariants.{Federal, Stat
 use Rattle.docket_core.specs.CalendarItems.{is_same_item, stands_among, with_item, entered_with, calendar_of, IsEnteredItem}
 use Rattle.docket_core.specs.Histories.{items_of}
 use Rattle.docket_core.specs.declared.item.CalendarItem.{CalendarItem}
-use Rattle.docket_core.specs.declared.item.CalendarItem.TheVariants.{Day, Span}
+use Rattle.docket_core.specs.declared.item.CalendarItem.TheVariants.{Day, Span, Short}
 use Rattle.docket_core.specs.declared.row.CalendarRow.{CalendarRow}
 use Rattle.docket_core.proofs.GoodValues.{entered_instant}
-use Rattle.docket_sound.specs.Calendars.{is_sound_item, is_sound_row, is_well_named, EachIsNew, IsGiven, AreSoundCalendarRows, stands, Enters, may_come, last_of, HasTakenCalendarRows}
+use Rattle.docket_sound.specs.Calendars.{is_sound_item, is_sound_row, is_well_named, EachIsNew, IsGiven, AreSoundCalendarRows, stands, Enters, may_come, last_of, HasEntered}
 use Rattle.docket_sound.specs.Numbers.{Rises}
-use Rattle.docket_sound.specs.declared.calendar.CalendarCheck.{CalendarCheck}
 use Rattle.docket_sound.proofs.NumberLemmas.{all_both, all_later}
 
 -- numbers that rise, one more
@@ -91,6 +90,24 @@ same_span s e a b = grind (arith, nat_tests)
 day_more : (s : FinSet nat_cmp) (day q : ℕ) → contains (insert s day) q ≡ (day == q || contains s q)
 day_more s day q = contains-insert nat_cmp_total s day q ∙ ap (λ b. b || contains s q) (same_day q day)
 
+-- a short day that stands stays as it is
+short_more : (m : fin_map.FinMap nat_cmp ℕ) (day close q : ℕ)
+    → fin_map.contains_key (cond (fin_map.contains_key m day) m (fin_map.insert m day close)) q ≡ (day == q || fin_map.contains_key m q)
+short_more m day close q = at (fin_map.contains_key m day) refl
+  where
+    here : (b : Bool) → (day == q) ≡ b → fin_map.contains_key m day ≡ true → fin_map.contains_key m q ≡ (b || fin_map.contains_key m q)
+    here true same stood = let on : day ≡ q = grind (arith, nat_tests, same) in ap (fin_map.contains_key m) (sym on) ∙ stood
+    here false other stood = refl
+
+    added : (b : Bool) → is_some (cond b (Some close) (fin_map.get m q)) ≡ (b || is_some (fin_map.get m q))
+    added true = refl
+    added false = refl
+
+    at : (b : Bool) → fin_map.contains_key m day ≡ b → fin_map.contains_key (cond b m (fin_map.insert m day close)) q ≡ (day == q || fin_map.contains_key m q)
+    at true stood = here (day == q) refl stood
+    at false none =
+        ap is_some (fin_map.get-insert nat_cmp_total m day close q) ∙ added (eq_by_cmp nat_cmp q day) ∙ ap (λ b. b || fin_map.contains_key m q) (same_day q day)
+
 stands_more : (e : Entered) (item other : CalendarItem) → stands (with_item e item) other ≡ (is_same_item item other || stands e other)
 stands_more e (Day Federal day) (Day Federal q) = day_more e.federal day q
 stands_more e (Day Federal day) (Day State q) = refl
@@ -101,6 +118,15 @@ stands_more e (Day State day) (Day Closed q) = refl
 stands_more e (Day Closed day) (Day Federal q) = refl
 stands_more e (Day Closed day) (Day State q) = refl
 stands_more e (Day Closed day) (Day Closed q) = day_more e.closed day q
+stands_more e (Day Federal day) (Short q b) = refl
+stands_more e (Day State day) (Short q b) = refl
+stands_more e (Day Closed day) (Short q b) = refl
+stands_more e (Span s t) (Short q b) = refl
+stands_more e (Short day close) (Day Federal q) = refl
+stands_more e (Short day close) (Day State q) = refl
+stands_more e (Short day close) (Day Closed q) = refl
+stands_more e (Short day close) (Span a b) = refl
+stands_more e (Short day close) (Short q b) = short_more e.short day close q
 stands_more e (Day Federal day) (Span a b) = refl
 stands_more e (Day State day) (Span a b) = refl
 stands_more e (Day Closed day) (Span a b) = refl
@@ -118,6 +144,13 @@ rows_more e (Day Federal day) none = omega (arith, long_more nat_cmp_total e.fed
 rows_more e (Day State day) none = omega (arith, long_more nat_cmp_total e.state day none)
 rows_more e (Day Closed day) none = omega (arith, long_more nat_cmp_total e.closed day none)
 rows_more e (Span s t) none = omega (arith, long_more span_cmp_total e.spans (record { start = s; end = t }) none)
+rows_more e (Short day close) none = omega (arith, short_longer e.short day close none)
+  where
+    short_longer : (m : fin_map.FinMap nat_cmp ℕ) (day close : ℕ) → fin_map.contains_key m day ≡ false
+        → fin_map.len (cond (fin_map.contains_key m day) m (fin_map.insert m day close)) ≡ fin_map.len m + 1
+    short_longer m day close none =
+        ap (λ b. fin_map.len (cond b m (fin_map.insert m day close))) none
+        ∙ fin_map.len-insert nat_cmp_total m day close ∙ ap (λ b. cond b (fin_map.len m) (fin_map.len m + 1)) none
 
 -- an item within its limits may be entered
 may_be_entered : (court : CourtSettings) (item : CalendarItem) → is_sound_item court item ≡ true → IsEnteredItem item
@@ -131,29 +164,31 @@ may_be_entered court (Span s t) sound =
     three true true false h = absurd cc
     three true false c h = absurd cc
     three false b c h = absurd cc
+may_be_entered court (Short day close) sound = (grind (arith, nat_tests, sound), grind (arith, nat_tests, sound))
 
-module _ (check : CalendarCheck) (rows : List CalendarRow) (row : CalendarRow) (has : HasTakenCalendarRows check rows) where
-  pub row_fails : (more : List CalendarRow) → may_come check row ≡ false → AreSoundCalendarRows check.court check.next_row (rows ++ row ∷ more) → ⊥
+-- after these rows, one more
+module _ (court : CourtSettings) (next_row last : ℕ) (entered : Entered) (rows : List CalendarRow) (row : CalendarRow) (has : HasEntered court next_row last entered rows) where
+  pub row_fails : (more : List CalendarRow) → may_come court next_row last row ≡ false → AreSoundCalendarRows court next_row (rows ++ row ∷ more) → ⊥
   row_fails more fail all =
       let below = rises_from (map (λ (r : CalendarRow). r.number) rows) row.number (map (λ (r : CalendarRow). r.number) more) (subst Rises (map-append (λ (r : CalendarRow). r.number) rows (row ∷ more)) all.rising) in
-      let given = (all_later (λ (r : CalendarRow). IsGiven check.next_row r.number) rows (row ∷ more) all.given).0 in
+      let given = (all_later (λ (r : CalendarRow). IsGiven next_row r.number) rows (row ∷ more) all.given).0 in
       let above : last_of 0 (map (λ (r : CalendarRow). r.number) rows) < row.number = last_below 0 row.number (map (λ (r : CalendarRow). r.number) rows) (omega (arith, given.0)) below in
-      let first : nat_lt check.last row.number ≡ true = grind (arith, nat_tests, has.last, above) in
-      let second : nat_lt row.number check.next_row ≡ true = grind (arith, nat_tests, given.1) in
-      let third : is_sound_row check.court row ≡ true = (all_later (λ (r : CalendarRow). IsTrue (is_sound_row check.court r)) rows (row ∷ more) all.within).0 in
-      let passes : may_come check row ≡ true = rw (first, second, third) refl in
+      let first : nat_lt last row.number ≡ true = grind (arith, nat_tests, has.highest, above) in
+      let second : nat_lt row.number next_row ≡ true = grind (arith, nat_tests, given.1) in
+      let third : is_sound_row court row ≡ true = (all_later (λ (r : CalendarRow). IsTrue (is_sound_row court r)) rows (row ∷ more) all.within).0 in
+      let passes : may_come court next_row last row ≡ true = rw (first, second, third) refl in
       false≢true (sym fail ∙ passes)
 
-  pub row_twice : (more : List CalendarRow) → stands check.calendar row.item ≡ true → AreSoundCalendarRows check.court check.next_row (rows ++ row ∷ more) → ⊥
+  pub row_twice : (more : List CalendarRow) → stands entered row.item ≡ true → AreSoundCalendarRows court next_row (rows ++ row ∷ more) → ⊥
   row_twice more stood all =
       let new = new_from [] (items_of rows) row.item (items_of more) (subst (EachIsNew []) (map-append (λ (r : CalendarRow). r.item) rows (row ∷ more)) all.apart) in
       false≢true (sym (has.standing row.item ∙ new) ∙ stood)
 
-  pub row_too_many : (more : List CalendarRow) → rows_of check.calendar ≡ 4000 → AreSoundCalendarRows check.court check.next_row (rows ++ row ∷ more) → ⊥
+  pub row_too_many : (more : List CalendarRow) → rows_of entered ≡ 4000 → AreSoundCalendarRows court next_row (rows ++ row ∷ more) → ⊥
   row_too_many more full all = absurd (omega (arith, full, has.counted, all.few, length-append rows (row ∷ more)))
 
-  pub row_out_of_range : may_come check row ≡ true → IsEnteredItem row.item
-  row_out_of_range pass = let parts = three (nat_lt check.last row.number) (nat_lt row.number check.next_row) (is_sound_item check.court row.item) (is_well_named row.item row.name) pass in may_be_entered check.court row.item parts.2.0
+  pub row_out_of_range : may_come court next_row last row ≡ true → IsEnteredItem row.item
+  row_out_of_range pass = let parts = three (nat_lt last row.number) (nat_lt row.number next_row) (is_sound_item court row.item) (is_well_named row.item row.name) pass in may_be_entered court row.item parts.2.0
     where
       three : (a b c d : Bool) → (a && b && (c && d)) ≡ true → (a ≡ true) × (b ≡ true) × ((c ≡ true) × (d ≡ true))
       three true true true true h = (refl, refl, (refl, refl))
@@ -162,34 +197,34 @@ module _ (check : CalendarCheck) (rows : List CalendarRow) (row : CalendarRow) (
       three true false c d h = absurd cc
       three false b c d h = absurd cc
 
-  pub row_faulty : (new : Entered) (why : CalendarFault) (more : List CalendarRow) → may_come check row ≡ true → Enters check.calendar row.item new (Err why) → why ≢ fault.NoMemory
-      → AreSoundCalendarRows check.court check.next_row (rows ++ row ∷ more) → ⊥
+  pub row_faulty : (new : Entered) (why : CalendarFault) (more : List CalendarRow) → may_come court next_row last row ≡ true → Enters entered row.item new (Err why) → why ≢ fault.NoMemory
+      → AreSoundCalendarRows court next_row (rows ++ row ∷ more) → ⊥
   row_faulty new fault.OutOfRange more pass enters other all = enters (row_out_of_range pass)
   row_faulty new fault.Full more pass enters other all = row_too_many more enters all
   row_faulty new fault.NoMemory more pass enters other all = other refl
 
-  pub row_taken : (new : CalendarCheck) → new.court ≡ check.court → new.next_row ≡ check.next_row → new.last ≡ row.number → stands check.calendar row.item ≡ false
-      → new.calendar ≡ with_item check.calendar row.item → rows_of new.calendar ≤ 4000 → may_come check row ≡ true → HasTakenCalendarRows new (rows ++ row ∷ [])
-  row_taken new court next last none entered room pass =
-      let parts = three (nat_lt check.last row.number) (nat_lt row.number check.next_row) (is_sound_row check.court row) pass in
-      let at : check.last < row.number = grind (arith, nat_tests, parts.0) in
+  pub row_taken : (new : Entered) → stands entered row.item ≡ false → new ≡ with_item entered row.item → rows_of new ≤ 4000 → may_come court next_row last row ≡ true
+      → HasEntered court next_row row.number new (rows ++ row ∷ [])
+  row_taken new none grown room pass =
+      let parts = three (nat_lt last row.number) (nat_lt row.number next_row) (is_sound_row court row) pass in
+      let at : last < row.number = grind (arith, nat_tests, parts.0) in
       let below : AllByRecursion (λ m. m < row.number) (map (λ (r : CalendarRow). r.number) rows) =
-      all_under (last_of 0 (map (λ (r : CalendarRow). r.number) rows)) row.number (map (λ (r : CalendarRow). r.number) rows) (omega (arith, at, has.last)) (below_last 0 (map (λ (r : CalendarRow). r.number) rows) has.sound.rising) in
+      all_under (last_of 0 (map (λ (r : CalendarRow). r.number) rows)) row.number (map (λ (r : CalendarRow). r.number) rows) (omega (arith, at, has.highest)) (below_last 0 (map (λ (r : CalendarRow). r.number) rows) has.sound.rising) in
       let items : items_of (rows ++ row ∷ []) ≡ items_of rows ++ row.item ∷ [] = map-append (λ (r : CalendarRow). r.item) rows (row ∷ []) in
-      let count : rows_of new.calendar ≡ length (rows ++ row ∷ []) = ap rows_of entered ∙ rows_more check.calendar row.item none ∙ omega (arith, has.counted, length-append rows (row ∷ [])) in
+      let count : rows_of new ≡ length (rows ++ row ∷ []) = ap rows_of grown ∙ rows_more entered row.item none ∙ omega (arith, has.counted, length-append rows (row ∷ [])) in
       record {
-        last = last ∙ sym (ap (last_of 0) (map-append (λ (r : CalendarRow). r.number) rows (row ∷ [])) ∙ last_more 0 (map (λ (r : CalendarRow). r.number) rows) row.number);
-        calendar = entered ∙ ap (λ e. with_item e row.item) has.calendar ∙ sym (ap calendar_of items ∙ entered_more no_days (items_of rows) row.item);
-        standing = λ item. ap (λ e. stands e item) entered ∙ stands_more check.calendar row.item item ∙ ap (λ b. is_same_item row.item item || b) (has.standing item)
+        highest = sym (ap (last_of 0) (map-append (λ (r : CalendarRow). r.number) rows (row ∷ [])) ∙ last_more 0 (map (λ (r : CalendarRow). r.number) rows) row.number);
+        calendar = grown ∙ ap (λ e. with_item e row.item) has.calendar ∙ sym (ap calendar_of items ∙ entered_more no_days (items_of rows) row.item);
+        standing = λ item. ap (λ e. stands e item) grown ∙ stands_more entered row.item item ∙ ap (λ b. is_same_item row.item item || b) (has.standing item)
             ∙ swapped (is_same_item row.item item) (stands_among (items_of rows) item) ∙ sym (ap (λ l. stands_among l item) items ∙ list_any-append (λ other. is_same_item other item) (items_of rows) (row.item ∷ []));
         counted = count;
-        sound = subst (λ n. AreSoundCalendarRows new.court n (rows ++ row ∷ [])) (sym next) (subst (λ (k : CourtSettings). AreSoundCalendarRows k check.next_row (rows ++ row ∷ [])) (sym court) (record {
+        sound = record {
           rising = subst Rises (sym (map-append (λ (r : CalendarRow). r.number) rows (row ∷ []))) (rises_more (map (λ (r : CalendarRow). r.number) rows) row.number has.sound.rising below);
-          given = all_both (λ (r : CalendarRow). IsGiven check.next_row r.number) rows (row ∷ []) has.sound.given ((omega (arith, at), grind (arith, nat_tests, parts.1)), tt);
+          given = all_both (λ (r : CalendarRow). IsGiven next_row r.number) rows (row ∷ []) has.sound.given ((omega (arith, at), grind (arith, nat_tests, parts.1)), tt);
           apart = subst (EachIsNew []) (sym items) (new_more [] (items_of rows) row.item has.sound.apart (sym (has.standing row.item) ∙ none));
           few = omega (arith, room, count);
-          within = all_both (λ (r : CalendarRow). IsTrue (is_sound_row check.court r)) rows (row ∷ []) has.sound.within (parts.2, tt);
-        }));
+          within = all_both (λ (r : CalendarRow). IsTrue (is_sound_row court r)) rows (row ∷ []) has.sound.within (parts.2, tt);
+        };
       }
     where
       three : (a b c : Bool) → (a && b && c) ≡ true → (a ≡ true) × (b ≡ true) × (c ≡ true)
@@ -204,9 +239,9 @@ module _ (check : CalendarCheck) (rows : List CalendarRow) (row : CalendarRow) (
       swapped false true = refl
       swapped false false = refl
 
-pub none_taken : (check : CalendarCheck) → check.last ≡ 0 → check.calendar ≡ no_days → HasTakenCalendarRows check []
-none_taken check last empty = record {
-  last = last;
+pub none_entered : (court : CourtSettings) (next_row : ℕ) (entered : Entered) → entered ≡ no_days → HasEntered court next_row 0 entered []
+none_entered court next_row entered empty = record {
+  highest = refl;
   calendar = empty;
   standing = λ item. ap (λ e. stands e item) empty ∙ none_stands item;
   counted = ap rows_of empty ∙ omega (arith, len-empty nat_cmp, len-empty span_cmp, fin_map.len-empty nat_cmp ℕ);
@@ -218,3 +253,4 @@ none_taken check last empty = record {
     none_stands (Day State day) = contains-empty nat_cmp day
     none_stands (Day Closed day) = contains-empty nat_cmp day
     none_stands (Span s t) = contains-empty span_cmp (record { start = s; end = t })
+    none_stands (Short day close) = ap is_some (fin_map.get-empty nat_cmp day)

@@ -2,6 +2,7 @@
 use Rattle.std.proofs.Common.{◌≡◌, ◌∙◌, ℕ, suc, ◌+◌, ◌<◌, ◌≤◌, ◌==◌, ◌&&◌, ◌||◌, not, Bool, true, false, cond, IsTrue, List, [], ◌∷◌, ◌++◌, map, length, refl, sym, subst, arith, append-nil, append_assoc}
 use Rattle.std.proofs.lemmas.Bool.Decides.{nat_tests}
 use Rattle.std.proofs.lemmas.List.{map-append}
+use Rattle.std.proofs.lemmas.List.Filters.{length-filter_both}
 use Rattle.std.proofs.lemmas.List.Folds.{list_any-append}
 use Rattle.std.specs.Prelude.{filter, nat_le, nat_lt, None}
 use Rattle.std.specs.List.{AllByRecursion, list_all}
@@ -57,6 +58,11 @@ asked_sound court (action.CloseSpan a) good =
     let later = ends.1 in
     let before : nat_lt a.start a.end ≡ true = grind (arith, nat_tests, later) in
     (rw (not_false (is_entered_at court a.start) fields.0, not_false (is_entered_at court a.end) ends.0, before) refl, tt)
+asked_sound court (action.ShortDay a) good =
+    let fields = all_good (bad_values court (action.ShortDay a)) good in
+    let later = fields.1.0 in
+    let sooner : nat_lt a.close court.close_minute ≡ true = grind (arith, nat_tests, later) in
+    (rw (not_false (is_entered a.day) fields.0, sooner, not_false (is_text 100 a.name) fields.1.1.0) refl, tt)
 asked_sound court (action.ImportCalendar a) good =
     let rows = not_false (nat_le (length a.rows) 1000 && list_all is_new_day a.rows) (all_good (bad_values court (action.ImportCalendar a)) good).0 in
     days_sound court a.rows (right_true (nat_le (length a.rows) 1000) (list_all is_new_day a.rows) rows)
@@ -178,6 +184,15 @@ module _ (p : CalendarRow → Bool) where
     within = all_left (λ row. IsTrue (is_sound_row court row)) rows kept.within;
   }
 
+  pub sound_left : (court : CourtSettings) (n : ℕ) (rows : List CalendarRow) → AreSoundCalendarRows court n rows → AreSoundCalendarRows court n (filter p rows)
+  sound_left court n rows sound = record {
+    rising = rises_left rows sound.rising;
+    given = all_left (λ row. IsGiven n row.number) rows sound.given;
+    apart = new_left [] [] (λ item none. none) rows sound.apart;
+    few = omega (arith, sound.few, length-filter_both p (λ row. not (p row)) (λ row. refl) rows);
+    within = all_left (λ row. IsTrue (is_sound_row court row)) rows sound.within;
+  }
+
 -- a command withdraws a row or adds rows, and never both
 calendar_step : (court : CourtSettings) (n : ℕ) (rows : List CalendarRow) (a : Action) → 1 ≤ n → first_bad (bad_values court a) ≡ None → AreKept court n rows
     → AreKept court (n + length (rows_added (items_of rows) a)) (without_row (row_withdrawn a) rows ++ numbered n (rows_added (items_of rows) a))
@@ -188,6 +203,7 @@ calendar_step court n rows (action.WithdrawCalendar a) some good kept =
 calendar_step court n rows (action.DeclareDay a) some good kept = added court n rows (rows_asked (action.DeclareDay a)) some kept (asked_sound court (action.DeclareDay a) good)
 calendar_step court n rows (action.CloseDay a) some good kept = added court n rows (rows_asked (action.CloseDay a)) some kept (asked_sound court (action.CloseDay a) good)
 calendar_step court n rows (action.CloseSpan a) some good kept = added court n rows (rows_asked (action.CloseSpan a)) some kept (asked_sound court (action.CloseSpan a) good)
+calendar_step court n rows (action.ShortDay a) some good kept = added court n rows (rows_asked (action.ShortDay a)) some kept (asked_sound court (action.ShortDay a) good)
 calendar_step court n rows (action.ImportCalendar a) some good kept = added court n rows (rows_asked (action.ImportCalendar a)) some kept (asked_sound court (action.ImportCalendar a) good)
 calendar_step court n rows _ some good kept = added court n rows [] some kept tt
 

@@ -9,10 +9,12 @@ pub mod HistoryCalendar
 pub mod HistoryDeadlines
 pub mod HistoryLemmas
 pub mod HistoryReceipts
+pub mod HistoryShortDays
 pub mod Made
 pub mod NumberLemmas
 pub mod OrderLemmas
 pub mod ReceiptLemmas
+pub mod ShortDayLemmas
 pub mod SortedActs
 pub mod SortedEnds
 pub mod SortedReceipts

@@ -13,6 +13,7 @@ use Rattle.docket_core.specs.CalendarItems.{calendar_of}
 use Rattle.docket_core.specs.EndRows.{end_row, row_of_deadline, end_rows}
 use Rattle.docket_core.specs.Histories.{History, items_of, standing_rows, deadline_rows, act_rows}
 use Rattle.docket_core.specs.Outcomes.{IsHistory}
+use Rattle.docket_core.specs.ShortDays.{day_and_span_rows}
 use Rattle.docket_core.specs.Tables.{rows_of}
 use Rattle.docket_core.specs.declared.end_row.EndRow.{EndRow}
 use Rattle.docket_core.specs.declared.end_row.EndTime.{EndTime}
@@ -22,10 +23,10 @@ use Rattle.docket_core.specs.declared.row.DeadlineRow.{DeadlineRow}
 use Rattle.docket_sound.specs.Deadlines.{deadline_key}
 use Rattle.docket_sound.specs.Dues.{dues_of_runs, dues_of}
 use Rattle.docket_sound.specs.Orders.{AreInOrder, key_order, calendar_order, act_order, deadline_order, end_key, end_order}
-use Rattle.docket_sound.proofs.HistoryCalendar.{sound_calendar}
+use Rattle.docket_sound.proofs.HistoryShortDays.{dues_alike}
 use Rattle.docket_sound.proofs.OrderLemmas.{Ascends, key_total, sorted_up, only_order, ascends_by}
 use Rattle.docket_sound.proofs.SortedActs.{run_at, listed, same_deadlines, deadlines_up, runs_are}
-use Rattle.docket_sound.proofs.SortedRows.{as_listed}
+use Rattle.docket_sound.proofs.SortedRows.{days_listed}
 
 end_total : IsTotalOrder end_order
 end_total = on_total end_key key_total
@@ -58,7 +59,7 @@ module _ (zone : ZoneRules) (entered : Entered) (acts : List ActRow) where
       ascends_by (λ d e. deadline_order d e ≡ Less) (λ r s. end_order r s ≡ Less) ends_at across_ends ds up
       (all_of (λ d. Ascends end_order (ends_at d)) (λ d. end_alone d.case d.number _) ds)
 
-module _ (court : CourtSettings) (h : History) (is : IsHistory court h) (days : List CalendarRow) (acts : List ActRow) (of_calendar : AreInOrder calendar_order (standing_rows h) days) (of_acts : AreInOrder act_order (act_rows h) acts) where
+module _ (court : CourtSettings) (h : History) (is : IsHistory court h) (days : List CalendarRow) (acts : List ActRow) (of_calendar : AreInOrder calendar_order (day_and_span_rows (standing_rows h)) days) (of_acts : AreInOrder act_order (act_rows h) acts) where
   abbrev entered : Entered
   entered = calendar_of (items_of (standing_rows h))
 
@@ -67,7 +68,8 @@ module _ (court : CourtSettings) (h : History) (is : IsHistory court h) (days : 
 
   expected : dues_of (zone_of court) (calendar_of (items_of days)) acts ≡ by_deadline
   expected =
-      ap (λ rows. dues_of (zone_of court) (calendar_of (items_of rows)) acts) (as_listed (λ (row : CalendarRow). row.number) (standing_rows h) days (sound_calendar court h is).rising of_calendar)
+      ap (λ rows. dues_of (zone_of court) (calendar_of (items_of rows)) acts) (days_listed court h is days of_calendar)
+      ∙ dues_alike (zone_of court) (standing_rows h) acts
       ∙ ap (dues_of_runs (zone_of court) entered) (runs_are court h is acts of_acts)
       ∙ dues_by (zone_of court) entered (act_rows h) (listed court h is)
 

@@ -14,22 +14,26 @@ use Rattle.sqlite_trees.proofs.ListLemmas.{all_weaker, all-permutation, all_from
 use Rattle.court_days.specs.Court.{CourtSettings}
 use Rattle.docket_core.specs.Histories.{History, standing_rows, next_row, case_rows, party_rows, parties_of_case, entry_rows, deadline_rows, deadlines_of_case}
 use Rattle.docket_core.specs.Outcomes.{IsHistory}
+use Rattle.docket_core.specs.ShortDays.{day_and_span_rows, short_day_rows}
 use Rattle.docket_core.specs.declared.row.CalendarRow.{CalendarRow}
 use Rattle.docket_core.specs.declared.row.CaseRow.{CaseRow}
 use Rattle.docket_core.specs.declared.row.DeadlineRow.{DeadlineRow}
 use Rattle.docket_core.specs.declared.row.EntryRow.{EntryRow}
 use Rattle.docket_core.specs.declared.row.PartyRow.{PartyRow}
+use Rattle.docket_core.specs.declared.row.ShortDayRow.{ShortDayRow}
 use Rattle.docket_sound.specs.Calendars.{AreSoundCalendarRows}
 use Rattle.docket_sound.specs.Cases.{AreSoundCases}
 use Rattle.docket_sound.specs.Deadlines.{AreSoundDeadlines, deadline_key, has_party, is_sound_deadline}
 use Rattle.docket_sound.specs.Entries.{AreSoundEntries, entry_key, is_sound_entry}
 use Rattle.docket_sound.specs.Numbers.{Rises, RunsFrom, IsOfCase, AreNumbered, numbers_in}
-use Rattle.docket_sound.specs.Orders.{AreInOrder, key_order, calendar_order, case_order, party_order, entry_order, deadline_order}
+use Rattle.docket_sound.specs.Orders.{AreInOrder, key_order, calendar_order, short_day_order, case_order, party_order, entry_order, deadline_order}
 use Rattle.docket_sound.specs.Parties.{AreSoundParties, party_key, is_sound_party}
+use Rattle.docket_sound.specs.ShortDays.{AreSoundShortDays}
 use Rattle.docket_sound.specs.declared.numbering.Key.{Key}
 use Rattle.docket_sound.proofs.HistoryCalendar.{sound_calendar}
 use Rattle.docket_sound.proofs.HistoryDeadlines.{sound_deadlines}
 use Rattle.docket_sound.proofs.HistoryLemmas.{sound_cases, sound_parties, sound_entries}
+use Rattle.docket_sound.proofs.HistoryShortDays.{days_and_spans_sound, short_days_sound}
 use Rattle.docket_sound.proofs.NumberLemmas.{numbers_are}
 use Rattle.docket_sound.proofs.OrderLemmas.{Ascends, below, key_total, only_order}
 
@@ -108,10 +112,28 @@ module _ {R : Type 0} (key : R → Key) (cases most : ℕ) (all rows : List R) (
 
 -- the tables
 module _ (court : CourtSettings) (h : History) (is : IsHistory court h) where
-  pub sorted_calendar : (rows : List CalendarRow) → AreInOrder calendar_order (standing_rows h) rows → AreSoundCalendarRows court (next_row h) rows
-  sorted_calendar rows order =
-      let sound = sound_calendar court h is in
-      subst (AreSoundCalendarRows court (next_row h)) (sym (as_listed (λ (row : CalendarRow). row.number) (standing_rows h) rows sound.rising order)) sound
+  days_sound : AreSoundCalendarRows court (next_row h) (day_and_span_rows (standing_rows h))
+  days_sound = days_and_spans_sound court (next_row h) (standing_rows h) (sound_calendar court h is)
+
+  pub days_listed : (rows : List CalendarRow) → AreInOrder calendar_order (day_and_span_rows (standing_rows h)) rows → rows ≡ day_and_span_rows (standing_rows h)
+  days_listed rows order = as_listed (λ (row : CalendarRow). row.number) (day_and_span_rows (standing_rows h)) rows days_sound.rising order
+
+  pub sorted_calendar : (rows : List CalendarRow) → AreInOrder calendar_order (day_and_span_rows (standing_rows h)) rows → AreSoundCalendarRows court (next_row h) rows
+  sorted_calendar rows order = subst (AreSoundCalendarRows court (next_row h)) (sym (days_listed rows order)) days_sound
+
+  abbrev AreShort : List CalendarRow → List ShortDayRow → Type 0
+  AreShort days rows = AreSoundShortDays court.close_minute (next_row h) (map (λ row. row.number) days) rows
+
+  shorts_sound : AreShort (day_and_span_rows (standing_rows h)) (short_day_rows (standing_rows h))
+  shorts_sound = short_days_sound court (next_row h) (standing_rows h) (sound_calendar court h is)
+
+  pub shorts_listed : (rows : List ShortDayRow) → AreInOrder short_day_order (short_day_rows (standing_rows h)) rows → rows ≡ short_day_rows (standing_rows h)
+  shorts_listed rows order = as_listed (λ (row : ShortDayRow). row.number) (short_day_rows (standing_rows h)) rows shorts_sound.rising order
+
+  pub sorted_short_days : (days : List CalendarRow) (rows : List ShortDayRow) → AreInOrder calendar_order (day_and_span_rows (standing_rows h)) days
+      → AreInOrder short_day_order (short_day_rows (standing_rows h)) rows → AreShort days rows
+  sorted_short_days days rows of_days order =
+      subst (λ l. AreShort l rows) (sym (days_listed days of_days)) (subst (AreShort (day_and_span_rows (standing_rows h))) (sym (shorts_listed rows order)) shorts_sound)
 
   pub sorted_cases : (rows : List CaseRow) → AreInOrder case_order (case_rows h) rows → AreSoundCases rows
   sorted_cases rows order =

@@ -1,6 +1,7 @@
 -- When the rows of a calendar are sound.
 use Rattle.std.specs.Prelude.{◌≡◌, ℕ, ◌<◌, ◌≤◌, nat_lt, Bool, true, false, ◌&&◌, List, [], ◌∷◌, ◌++◌, map, length, nat_eq, Result, Ok, Err, IsTrue}
 use Rattle.std.specs.List.{AllByRecursion}
+use Rattle.std.specs.FinMap as fin_map
 use Rattle.std.specs.FinSet.{contains}
 use Rattle.court_days.specs.Calendar.{Entered, days_of, rows_of}
 use Rattle.court_days.specs.Court.{CourtSettings}
@@ -10,20 +11,23 @@ use Rattle.docket_core.specs.CalendarItems.{stands_among, with_item, calendar_of
 use Rattle.docket_core.specs.Histories.{items_of}
 use Rattle.docket_core.specs.Values.{is_entered, is_entered_at, is_text}
 use Rattle.docket_core.specs.declared.item.CalendarItem.{CalendarItem}
-use Rattle.docket_core.specs.declared.item.CalendarItem.TheVariants.{Day, Span}
+use Rattle.docket_core.specs.declared.item.CalendarItem.TheVariants.{Day, Span, Short}
 use Rattle.docket_core.specs.declared.row.CalendarRow.{CalendarRow}
 use Rattle.docket_sound.specs.Numbers.{Rises}
 use Rattle.docket_sound.specs.declared.calendar.CalendarCheck.{CalendarCheck}
 
--- a day that the court may enter; a span begins before it ends, each on such a local day
+-- a day that the court may enter; a span begins before it ends, each on such a local day; a short day is such a day, and its time is
+-- before that at which the office closes on other days
 abbrev pub is_sound_item : CourtSettings → CalendarItem → Bool
 is_sound_item court (Day kind day) = is_entered day
 is_sound_item court (Span start end) = is_entered_at court start && is_entered_at court end && nat_lt start end
+is_sound_item court (Short day close) = is_entered day && nat_lt close court.close_minute
 
--- the name of a day has 1 to 100 bytes, that of a span none
+-- the name of a day, short or not, has 1 to 100 bytes, that of a span none
 abbrev pub is_well_named : CalendarItem → List ℕ → Bool
 is_well_named (Day kind day) name = is_text 100 name
 is_well_named (Span start end) name = nat_eq (length name) 0
+is_well_named (Short day close) name = is_text 100 name
 
 abbrev pub is_sound_row : CourtSettings → CalendarRow → Bool
 is_sound_row court row = is_sound_item court row.item && is_well_named row.item row.name
@@ -49,6 +53,7 @@ pub record AreSoundCalendarRows (court : CourtSettings) (next_row : ℕ) (rows :
 abbrev pub stands : Entered → CalendarItem → Bool
 stands entered (Day kind day) = contains (days_of entered kind) day
 stands entered (Span start end) = contains entered.spans (record { start = start; end = end })
+stands entered (Short day close) = fin_map.contains_key entered.short day
 
 -- what the entering of an item comes to
 abbrev pub Enters : Entered → CalendarItem → Entered → Result Bool CalendarFault → Type 0
@@ -58,19 +63,24 @@ Enters old item new (Err OutOfRange) = IsEnteredItem item → ⊥
 Enters old item new (Err Full) = rows_of old ≡ 4000
 Enters old item new (Err NoMemory) = Unit {0}
 
--- the row may come next, but for what it enters
-abbrev pub may_come : CalendarCheck → CalendarRow → Bool
-may_come check row = nat_lt check.last row.number && nat_lt row.number check.next_row && is_sound_row check.court row
+-- the row may come next after that number, but for what it enters
+abbrev pub may_come : CourtSettings → ℕ → ℕ → CalendarRow → Bool
+may_come court next_row last row = nat_lt last row.number && nat_lt row.number next_row && is_sound_row court row
 
 -- the last of the numbers, or n
 abbrev pub last_of : ℕ → List ℕ → ℕ
 last_of n [] = n
 last_of n (m ∷ more) = last_of m more
 
+-- these rows were entered one after another: the last number, and the calendar
+pub record HasEntered (court : CourtSettings) (next_row last : ℕ) (entered : Entered) (rows : List CalendarRow) : Type 0 where
+  pub highest : last ≡ last_of 0 (map (λ row. row.number) rows)
+  pub calendar : entered ≡ calendar_of (items_of rows)
+  pub standing : (item : CalendarItem) → stands entered item ≡ stands_among (items_of rows) item
+  pub counted : rows_of entered ≡ length rows
+  pub sound : AreSoundCalendarRows court next_row rows
+
 -- these rows were taken
 pub record HasTakenCalendarRows (check : CalendarCheck) (rows : List CalendarRow) : Type 0 where
-  pub last : check.last ≡ last_of 0 (map (λ row. row.number) rows)
-  pub calendar : check.calendar ≡ calendar_of (items_of rows)
-  pub standing : (item : CalendarItem) → stands check.calendar item ≡ stands_among (items_of rows) item
-  pub counted : rows_of check.calendar ≡ length rows
-  pub sound : AreSoundCalendarRows check.court check.next_row rows
+  pub numbers : check.numbers.items ≡ map (λ row. row.number) rows
+  pub entered : HasEntered check.court check.next_row check.last check.calendar rows

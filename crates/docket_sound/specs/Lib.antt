@@ -12,4 +12,5 @@ pub mod Orders
 pub mod Parties
 pub mod Receipts
 pub mod Runs
+pub mod ShortDays
 pub mod Standings

@@ -11,6 +11,7 @@ use Rattle.docket_core.specs.declared.row.DeadlineRow.{DeadlineRow}
 use Rattle.docket_core.specs.declared.row.EntryRow.{EntryRow}
 use Rattle.docket_core.specs.declared.row.PartyRow.{PartyRow}
 use Rattle.docket_core.specs.declared.row.Receipt.{Receipt}
+use Rattle.docket_core.specs.declared.row.ShortDayRow.{ShortDayRow}
 use Rattle.docket_sound.specs.Deadlines.{deadline_key}
 use Rattle.docket_sound.specs.Entries.{entry_key}
 use Rattle.docket_sound.specs.Parties.{party_key}
@@ -28,6 +29,9 @@ key_order = then_cmp (on (λ key. key.case) nat_cmp) (on (λ key. key.number) na
 
 abbrev pub calendar_order : CalendarRow → CalendarRow → Ordering
 calendar_order = on (λ row. row.number) nat_cmp
+
+abbrev pub short_day_order : ShortDayRow → ShortDayRow → Ordering
+short_day_order = on (λ row. row.number) nat_cmp
 
 abbrev pub case_order : CaseRow → CaseRow → Ordering
 case_order = on (λ row. row.number) nat_cmp

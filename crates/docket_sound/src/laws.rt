@@ -1,11 +1,13 @@
 //! What the definitions of specs/ say, with nothing to run.
 ghost use Rattle.std.specs.Prelude.{◌≡◌, List, length, map, ℕ};
 ghost use Rattle.std.specs.List.{AllByRecursion};
+ghost use Rattle.civil_time.specs.Zone.{ZoneRules};
 ghost use Rattle.court_days.specs.Court.{CourtSettings, zone_of};
 ghost use Rattle.docket_core.specs.CalendarItems.{calendar_of};
 ghost use Rattle.docket_core.specs.EndRows.{end_rows};
 ghost use Rattle.docket_core.specs.Histories.{History, items_of, standing_rows, next_row, case_rows, party_rows, parties_of_case, entry_rows, deadline_rows, deadlines_of_case, act_rows};
 ghost use Rattle.docket_core.specs.Outcomes.{IsHistory, receipts};
+ghost use Rattle.docket_core.specs.ShortDays.{day_and_span_rows, short_day_rows};
 ghost use Rattle.docket_core.specs.Tables.{rows_of};
 ghost use Rattle.docket_core.specs.declared.end_row.EndRow.{EndRow};
 ghost use Rattle.docket_core.specs.declared.row.ActRow.{ActRow};
@@ -15,6 +17,7 @@ ghost use Rattle.docket_core.specs.declared.row.DeadlineRow.{DeadlineRow};
 ghost use Rattle.docket_core.specs.declared.row.EntryRow.{EntryRow};
 ghost use Rattle.docket_core.specs.declared.row.PartyRow.{PartyRow};
 ghost use Rattle.docket_core.specs.declared.row.Receipt.{Receipt};
+ghost use Rattle.docket_core.specs.declared.row.ShortDayRow.{ShortDayRow};
 ghost use Rattle.docket_wire.specs.Valid.{IsCommand};
 ghost use Rattle.docket_sound.specs.Acts.{AreSoundActs};
 ghost use Rattle.docket_sound.specs.Calendars.{AreSoundCalendarRows};
@@ -23,9 +26,11 @@ ghost use Rattle.docket_sound.specs.Deadlines.{AreSoundDeadlines, deadline_key};
 ghost use Rattle.docket_sound.specs.Dues.{dues_of};
 ghost use Rattle.docket_sound.specs.Entries.{AreSoundEntries};
 ghost use Rattle.docket_sound.specs.Numbers.{numbers_in};
-ghost use Rattle.docket_sound.specs.Orders.{AreInOrder, calendar_order, case_order, party_order, entry_order, deadline_order, act_order, end_order, receipt_order};
+ghost use Rattle.docket_sound.specs.Orders.{AreInOrder, calendar_order, short_day_order, case_order, party_order, entry_order, deadline_order, act_order, end_order, receipt_order};
 ghost use Rattle.docket_sound.specs.Parties.{AreSoundParties, party_key};
 ghost use Rattle.docket_sound.specs.Receipts.{AreSoundReceipts, IsSoundReceipt, receipt_row, key_of};
+ghost use Rattle.docket_sound.specs.ShortDays.{AreSoundShortDays};
+ghost use Rattle.docket_sound.specs.Standings.{standings_of};
 
 /// The tables of every history are sound: the calendar, cases, parties, entries and deadlines. The
 /// receipts are, too, where the values of the commands are those of a program; no two have one key.
@@ -49,7 +54,11 @@ pub fn histories_are_sound()
 /// the tables after them are judged, is what the history has.
 pub fn sorted_histories_are_sound()
     ensures calendar { (court : CourtSettings) (h : History) (rows : List CalendarRow) → IsHistory court h
-        → AreInOrder calendar_order (standing_rows h) rows → AreSoundCalendarRows court (next_row h) rows }
+        → AreInOrder calendar_order (day_and_span_rows (standing_rows h)) rows → AreSoundCalendarRows court (next_row h) rows }
+    ensures short_days { (court : CourtSettings) (h : History) (days : List CalendarRow) (rows : List ShortDayRow) → IsHistory court h
+        → AreInOrder calendar_order (day_and_span_rows (standing_rows h)) days
+        → AreInOrder short_day_order (short_day_rows (standing_rows h)) rows
+        → AreSoundShortDays court.close_minute (next_row h) (map (λ row. row.number) days) rows }
     ensures cases { (court : CourtSettings) (h : History) (rows : List CaseRow) → IsHistory court h
         → AreInOrder case_order (case_rows h) rows → AreSoundCases rows }
     ensures parties { (court : CourtSettings) (h : History) (rows : List PartyRow) → IsHistory court h
@@ -73,15 +82,24 @@ pub fn sorted_histories_are_sound()
         → AreInOrder receipt_order (receipts court h) rows → AreSoundReceipts (map receipt_row rows) }
 {}
 
-/// The ends that are expected of the acts of a history, by its calendar, are those of its running deadlines
+/// The short days of a calendar move no end: by its days and spans alone the expected ends are the same, and
+/// deadlines stand where they do.
+pub fn short_days_move_nothing()
+    ensures ends { (zone : ZoneRules) (rows : List CalendarRow) (acts : List ActRow)
+        → dues_of zone (calendar_of (items_of (day_and_span_rows rows))) acts ≡ dues_of zone (calendar_of (items_of rows)) acts }
+    ensures standings { (zone : ZoneRules) (rows : List CalendarRow) (acts : List ActRow)
+        → standings_of zone (calendar_of (items_of (day_and_span_rows rows))) acts ≡ standings_of zone (calendar_of (items_of rows)) acts }
+{}
+
+/// The ends that are expected of the acts of a history, by its days and spans, are those of its running deadlines
 /// in the order of their keys. So the ends that are stored of a history are the expected ones.
 pub fn stored_ends_are_expected()
     ensures in_order { (court : CourtSettings) (h : History) (days : List CalendarRow) (acts : List ActRow)
-        → IsHistory court h → AreInOrder calendar_order (standing_rows h) days → AreInOrder act_order (act_rows h) acts
+        → IsHistory court h → AreInOrder calendar_order (day_and_span_rows (standing_rows h)) days → AreInOrder act_order (act_rows h) acts
         → AreInOrder end_order (end_rows court (rows_of court h))
         (dues_of (zone_of court) (calendar_of (items_of days)) acts) }
     ensures stored { (court : CourtSettings) (h : History) (days : List CalendarRow) (acts : List ActRow) (ends : List EndRow)
-        → IsHistory court h → AreInOrder calendar_order (standing_rows h) days → AreInOrder act_order (act_rows h) acts
+        → IsHistory court h → AreInOrder calendar_order (day_and_span_rows (standing_rows h)) days → AreInOrder act_order (act_rows h) acts
         → AreInOrder end_order (end_rows court (rows_of court h)) ends
         → ends ≡ dues_of (zone_of court) (calendar_of (items_of days)) acts }
 {}

@@ -19,6 +19,7 @@ mod laws;
 mod numbering;
 mod party;
 mod receipt;
+mod short_day;
 mod standings;
 mod text;
 
@@ -29,8 +30,12 @@ pub use court::{CourtRecord, sound_court};
 pub use deadline::DeadlineCheck;
 pub use due::DueCheck;
 pub use entry::EntryCheck;
-pub use laws::{histories_are_sound, sorted_histories_are_sound, stored_ends_are_expected};
+pub use laws::{
+    histories_are_sound, short_days_move_nothing, sorted_histories_are_sound,
+    stored_ends_are_expected,
+};
 pub use numbering::{Key, Numbering};
 pub use party::PartyCheck;
 pub use receipt::{ReceiptCheck, ReceiptRecord};
+pub use short_day::ShortDayCheck;
 pub use standings::Standings;

@@ -1,5 +1,7 @@
 -- The rows of any docket, after a question, after the judging of its database and after a command.
-use Rattle.std.proofs.Common.{◌≡◌, ◌⊎◌, inl, inr, ℕ, false, Ok, Err, Result, IsErrAnd, IfErr, MatchResult, IsTrue, refl, sym, subst, arith}
+use Rattle.std.proofs.Common.{◌≡◌, ◌∙◌, ◌⊎◌, inl, inr, ℕ, List, false, Ok, Err, Result, IsErrAnd, IfErr, IfOk, MatchResult, IsTrue, refl, sym, ap, subst, arith}
+use Rattle.std.specs.List.{Contains}
+use Rattle.std.proofs.lemmas.List.Elements.{Contains-push}
 use Rattle.sqlite.specs.Store.{Ghosts}
 use Rattle.sqlite.specs.State.{HasCleanDisk, Survives, IsUnchanged}
 use Rattle.sqlite.specs.Held.{Held, state}
@@ -7,23 +9,48 @@ use Rattle.court_days.specs.Court.{CourtSettings}
 use Rattle.docket_command.specs.declared.command.Command.{Command}
 use Rattle.docket_command.specs.declared.refusal.Refusal.{Refusal}
 use Rattle.docket_command.specs.declared.refusal.Reply.{Reply}
+use Rattle.docket_columns.specs.Cells.{receipt_cells}
 use Rattle.docket_columns.specs.declared.version.Version.TheVariants.{Second}
+use Rattle.docket_core.specs.Decisions.{IsKeptReply}
+use Rattle.docket_core.specs.declared.decision.Decision.{Decision}
+use Rattle.docket_core.specs.declared.decision.Decision.TheVariants.{Change as Changed, Repeat}
+use Rattle.docket_core.specs.declared.row.Receipt.{Receipt}
+use Rattle.docket_core.specs.declared.view.View.{View}
 use Rattle.docket_scan.specs.Finding.{IsNotTaken, IsTaken}
 use Rattle.docket_scan.specs.Scans.{StaysOrRollsBack}
 use Rattle.docket_scan.specs.declared.fault.AdoptFault.{AdoptFault}
 use Rattle.docket_scan.specs.declared.fault.AdoptFault.TheVariants as adopt
 use Rattle.docket_scan.specs.declared.finding.FoundDocket.{FoundDocket}
+use Rattle.docket_tables.specs.AnyRows.{HasReceipt}
 use Rattle.docket_tables.specs.Layouts.{Rows}
 use Rattle.docket_tables.specs.Stands.{HoldsRows, IsSettled, Lasts}
 use Rattle.docket_tables.specs.Readings.{StaysAt}
 use Rattle.docket_tables.specs.declared.fault.ReadFault.{ReadFault}
 use Rattle.docket_tables.specs.declared.fault.ReadFault.TheVariants.{Store, NoMemory as Short, Damaged as Unread}
+use Rattle.docket_tables.specs.declared.table.Table.TheVariants.{Receipts}
+use Rattle.docket_tables.proofs.AnyLemmas.{receipt_behind}
 use Rattle.docket_tables.proofs.StandsLemmas.{unchanged_settled, undone_lasting}
-use Rattle.docket_store.specs.AnyRows.{AnswersWhole, IsNext, PreservesAt, Preserves, PreservesRejected, WritesOne, WritesWhole}
+use Rattle.docket_store.specs.AnyRows.{AnswersWhole, HoldsDocketRows, IsNext, IsRecorded, PreservesAt, Preserves, PreservesRejected, RepeatsReceipt, ShowsReceipt, WritesOne, WritesWhole}
 use Rattle.docket_store.specs.Applying.{FailsAs}
+use Rattle.docket_store.specs.Dockets.{Docket}
 use Rattle.docket_store.specs.Opening.{IsNotAdopted}
 use Rattle.docket_store.specs.declared.fault.Fault.{Fault}
 use Rattle.docket_store.specs.declared.fault.Fault.TheVariants.{Refused, NoMemory, StoreFailed, Closed, Damaged}
+
+-- the rows that a command leads to have its receipt
+pub next_has : (court : CourtSettings) (n : ℕ) (rows : Rows) (c : Command) (reply : Reply) (next : Rows) → IsNext court n rows c reply next → HasReceipt c reply next
+next_has court n rows c reply next it =
+    let receipt : Receipt = record { command = c; reply = reply } in
+    subst (λ all. Contains all (receipt_cells receipt)) (sym (ap (λ (r : Rows). r Receipts) it.is ∙ receipt_behind court n it.stored c reply it.changes rows)) (Contains-push (rows Receipts) (receipt_cells receipt))
+
+pub repeat_has : (rows : Rows) (c : Command) (v : View) (d : Decision) → ShowsReceipt rows c v → IsKeptReply v d → RepeatsReceipt rows c d
+repeat_has rows c v (Repeat reply) shows same = shows reply same
+repeat_has rows c v (Changed changes) shows same = tt
+
+-- what was read is not told where there is none
+pub err_ok : {T E : Type 0} (res : Result T E) (P : T → Type 0) (Q : E → Type 0) → IsErrAnd res Q → IfOk res P
+err_ok (Ok x) P Q told = absurd told
+err_ok (Err e) P Q told = tt
 
 module _ {S : Type 0} (g : Ghosts S) (conn : Held S) (rows : Rows) where
   pub lasting : HoldsRows g conn rows → Lasts g conn rows
@@ -96,7 +123,7 @@ module _ {S : Type 0} (g : Ghosts S) (conn : Held S) (rows : Rows) where
 
     -- nothing is written, or one command
     pub one_at_most : (res : Result Reply Fault) → WritesWhole g conn court n rows c res → Lasts g conn rows ⊎ WritesOne g conn court n rows
-    one_at_most (Ok reply) (inl holds) = inl (lasting holds)
+    one_at_most (Ok reply) (inl it) = inl (lasting it.0)
     one_at_most (Ok reply) (inr it) = inr (record { command = c; reply = reply; next = it.0; is = it.1; left = inl it.2 })
     one_at_most (Err (Refused r)) holds = inl (lasting holds)
     one_at_most (Err NoMemory) holds = inl (lasting holds)
@@ -109,6 +136,12 @@ module _ {S : Type 0} (g : Ghosts S) (conn : Held S) (rows : Rows) where
     answered_one (Ok (Ok reply)) it = one_at_most (Ok reply) it
     answered_one (Ok (Err r)) holds = inl (lasting holds)
     answered_one (Err fault) it = one_at_most (Err fault) it
+
+-- where a command has a reply its receipt stands
+module _ {S : Type 0} (g : Ghosts S) (d : Docket S) where
+  pub whole_recorded : (court : CourtSettings) (n : ℕ) (rows : Rows) (c : Command) (reply : Reply) → WritesWhole g d.conn court n rows c (Ok reply) → IsRecorded g d c reply
+  whole_recorded court n rows c reply (inl it) = (rows, it.0, it.1)
+  whole_recorded court n rows c reply (inr it) = (it.0, it.2, λ _. next_has court n rows c reply it.0 it.1)
 
 -- an error that is handed on
 pub err_match : {T E : Type 0} (res : Result T E) (P : T → Type 0) (Q : E → Type 0) (e : E) → IsErrAnd res (λ f. f ≡ e) → Q e → MatchResult res P Q

@@ -24,7 +24,7 @@ use Rattle.docket_tables.specs.Contents.{rows_in}
 use Rattle.docket_tables.specs.Layouts.{Rows}
 use Rattle.docket_orderly.specs.Orderly.{IsOrderly}
 use Rattle.docket_tables.specs.Stands.{HoldsRows, IsImage, Lasts, LastsAsEither, IsSettled, IsEither}
-use Rattle.docket_changes.specs.Settling.{IsUpdate, changes_calendar}
+use Rattle.docket_changes.specs.Settling.{IsUpdate, changes_calendar, moves_all_cases}
 use Rattle.docket_tables.specs.Readings.{IsReadAs, Fails}
 use Rattle.docket_tables.specs.declared.fault.ReadFault.{ReadFault}
 use Rattle.docket_tables.specs.declared.fault.ReadFault.TheVariants.{Store, NoMemory as ReadNoMemory, Damaged as ReadDamaged}
@@ -73,7 +73,7 @@ pub update_written : (court : CourtSettings) (h : History) (c : Command) (change
     → IsUpdate court update (rows_of court h) (rows_of court (c ∷ h)) → IsUpdate court update (rows_of court h) (with_receipt c changes.reply (all_changed changes.rows.items (rows_of court h)))
 update_written court h c changes update accepts is = subst (λ (next : Tables). IsUpdate court update (rows_of court h) next) (sym accepts.1) is
 
-pub calendar_accepted : (court : CourtSettings) (h : History) (c : Command) (changes : Changes) (update : EndUpdate) → IsDocket court h → IsCommand c → IsAccepted court h c changes → changes_calendar c.action ≡ true
+pub calendar_accepted : (court : CourtSettings) (h : History) (c : Command) (changes : Changes) (update : EndUpdate) → IsDocket court h → IsCommand c → IsAccepted court h c changes → moves_all_cases c.action ≡ true
     → update ≡ Calendar (length (case_rows h)) → IsUpdate court update (rows_of court h) (rows_of court (c ∷ h))
 calendar_accepted court h c changes update is lawful accepts changing same =
     subst (λ (u : EndUpdate). IsUpdate court u (rows_of court h) (rows_of court (c ∷ h))) (sym same)

@@ -2,16 +2,21 @@
 -- that are sound, also such that no history leads to.
 use Rattle.std.specs.Prelude.{◌≡◌, ◌⊎◌, ◌<◌, ◌^◌, ℕ, List, Result, Ok, Err}
 use Rattle.sqlite.specs.Store.{Ghosts}
-use Rattle.sqlite.specs.Held.{Held}
+use Rattle.sqlite.specs.Held.{Held, state}
+use Rattle.sqlite.specs.State.{HasCleanDisk}
 use Rattle.court_days.specs.Court.{CourtSettings}
 use Rattle.docket_command.specs.declared.command.Command.{Command}
 use Rattle.docket_command.specs.declared.refusal.Refusal.{Refusal}
 use Rattle.docket_command.specs.declared.refusal.Reply.{Reply}
+use Rattle.docket_core.specs.declared.decision.Decision.{Decision}
+use Rattle.docket_core.specs.declared.decision.Decision.TheVariants.{Change as Changed, Repeat}
 use Rattle.docket_core.specs.declared.end_row.EndRow.{EndRow}
 use Rattle.docket_core.specs.declared.row.Change.{Change}
+use Rattle.docket_core.specs.declared.view.Kept.TheVariants.{Same}
+use Rattle.docket_core.specs.declared.view.View.{View}
 use Rattle.docket_scan.specs.declared.fault.AdoptFault.{AdoptFault}
 use Rattle.docket_scan.specs.declared.fault.AdoptFault.TheVariants as adopt
-use Rattle.docket_tables.specs.AnyRows.{AreDocketRows, recorded, with_stored}
+use Rattle.docket_tables.specs.AnyRows.{AreDocketRows, HasReceipt, recorded, with_stored}
 use Rattle.docket_tables.specs.Layouts.{Rows}
 use Rattle.docket_tables.specs.Stands.{HoldsRows, Lasts, LastsAsEither}
 use Rattle.docket_store.specs.Dockets.{Docket}
@@ -28,6 +33,15 @@ pub record IsNext (court : CourtSettings) (next_row : ℕ) (rows : Rows) (c : Co
   pub changes : List Change
   pub stored : List EndRow
   pub is : next ≡ with_stored stored (recorded court next_row c reply changes rows)
+
+-- what is shown as kept under the command's key stands among the rows
+abbrev pub ShowsReceipt : Rows → Command → View → Type 0
+ShowsReceipt rows c v = (reply : Reply) → v.kept ≡ Same reply → HasReceipt c reply rows
+
+-- a repeat's reply stands among the rows
+abbrev pub RepeatsReceipt : Rows → Command → Decision → Type 0
+RepeatsReceipt rows c (Repeat reply) = HasReceipt c reply rows
+RepeatsReceipt rows c (Changed changes) = Unit {0}
 
 module _ {S : Type 0} (g : Ghosts S) where
   -- where there is no answer the rows stay; where the database failed, a power failure leaves them, and the connection may be shut
@@ -74,11 +88,11 @@ module _ {S : Type 0} (g : Ghosts S) where
       (rows : Rows) (n : ℕ) (stored : List EndRow) → AreDocketRows old.court n stored rows → n < 2 ^ 62 → HoldsRows g old.conn rows
       → Lasts g new.conn rows ⊎ WritesOne new.conn new.court n rows
 
-  -- a command is written whole, with its receipt, or not at all: without a reply the rows stay, and where the database failed a power
-  -- failure leaves them or the next ones
+  -- a command is written whole, with its receipt, or not at all: where it has a reply, its receipt stands among the rows that are held then;
+  -- without a reply the rows stay, and where the database failed a power failure leaves them or the next ones
   abbrev pub WritesWhole : Held S → CourtSettings → ℕ → Rows → Command → Result Reply Fault → Type 0
   WritesWhole conn court next_row rows c (Ok reply) =
-      HoldsRows g conn rows ⊎ ((next : Rows) × IsNext court next_row rows c reply next × HoldsRows g conn next)
+      (HoldsRows g conn rows × (HasCleanDisk (state g conn) → HasReceipt c reply rows)) ⊎ ((next : Rows) × IsNext court next_row rows c reply next × HoldsRows g conn next)
   WritesWhole conn court next_row rows c (Err StoreFailed) =
       Lasts g conn rows ⊎ ((next : Rows) × (reply : Reply) × IsNext court next_row rows c reply next × LastsAsEither g conn rows next)
   WritesWhole conn court next_row rows c (Err _) = HoldsRows g conn rows
@@ -88,3 +102,16 @@ module _ {S : Type 0} (g : Ghosts S) where
   AnswersWhole conn court next_row rows c (Ok (Ok reply)) = WritesWhole conn court next_row rows c (Ok reply)
   AnswersWhole conn court next_row rows c (Ok (Err r)) = HoldsRows g conn rows
   AnswersWhole conn court next_row rows c (Err fault) = WritesWhole conn court next_row rows c (Err fault)
+
+  -- the connection of the docket holds rows of a docket's tables
+  pub record HoldsDocketRows (d : Docket S) : Type 0 where
+    pub rows : Rows
+    pub next_row : ℕ
+    pub stored : List EndRow
+    pub are : AreDocketRows d.court next_row stored rows
+    pub few : next_row < 2 ^ 62
+    pub holds : HoldsRows g d.conn rows
+
+  -- a receipt of the command, with that reply, stands among the rows that the docket's connection holds
+  abbrev pub IsRecorded : Docket S → Command → Reply → Type 0
+  IsRecorded d c reply = (rows : Rows) × HoldsRows g d.conn rows × (HasCleanDisk (state g d.conn) → HasReceipt c reply rows)

@@ -25,7 +25,7 @@ use crate::fault::{Fault, read_fault, store_fault};
 use crate::judging::{Judged, judge};
 use court_days::Court;
 use court_rules::Act;
-use docket_changes::{EndUpdate, case_moved, changes_calendar, moves, write};
+use docket_changes::{EndUpdate, case_moved, changes_calendar, moves, moves_all_cases, write};
 use docket_command::{Action, Command, Reply};
 use docket_core::{CalendarItems, Changes, Decision};
 use docket_tables::cases;
@@ -45,14 +45,12 @@ fn keep_calendar(kept: &mut Option<CalendarItems>, action: &Action)
     ensures { (h : History) (c : Asked) → c.action ≡ action.now → Keeps kept.old h
         → Keeps kept.new h × Keeps kept.new (c ∷ h) }
 {
-    match action {
-        Action::DeclareDay(_) | Action::CloseDay(_) | Action::CloseSpan(_) => *kept = None,
-        Action::WithdrawCalendar(_) | Action::ImportCalendar(_) => *kept = None,
-        _ => {}
+    if changes_calendar(action) {
+        *kept = None;
     }
 }
 
-/// What is done about the stored ends, where the command changes the calendar.
+/// What is done about the stored ends, where those of any case may move.
 fn calendar_update<S: Alter>(conn: &mut Connection<S>) -> Result<EndUpdate, Fault>
     requires { conn.old.in_transaction ≡ false }
     ensures idle { conn.new.in_transaction ≡ false }
@@ -94,7 +92,7 @@ fn case_update<S: Alter>(
 }
 
 /// What is done about the stored ends, with an accepted command. One that makes no deadline and no act
-/// reads no calendar.
+/// reads no calendar, and a short day moves no end.
 fn end_update<S: Alter>(
     conn: &mut Connection<S>,
     alloc: Global,
@@ -113,7 +111,7 @@ fn end_update<S: Alter>(
         → (HasCleanDisk (state S.Store conn.old) → IsAccepted court.now h command.now changes.now × AreNamed h command.now named.now)
         → Asks S.Store (serving conn.new court.now kept.new) h (λ found. IsUpdate court.now found (rows_of court.now h) (rows_of court.now (command.now ∷ h))) result }
 {
-    if changes_calendar(&command.action) {
+    if moves_all_cases(&command.action) {
         return calendar_update(conn);
     }
     match case_moved(&command.action) {

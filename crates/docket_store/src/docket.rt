@@ -10,7 +10,7 @@ ghost use Rattle.docket_core.specs.Records.{case_record, deadline_lines};
 ghost use Rattle.docket_columns.specs.declared.version.Version.TheVariants.{First};
 ghost use Rattle.docket_core.specs.Tables.{rows_of};
 ghost use Rattle.docket_migration.specs.Migrating.{Migrates, Tells};
-ghost use Rattle.docket_scan.specs.Dockets.{holdings_in};
+ghost use Rattle.docket_scan.specs.Dockets.{MayHold, holdings_in};
 ghost use Rattle.docket_scan.specs.Shapes.{has_named};
 ghost use Rattle.docket_scan.specs.declared.fault.AdoptFault.TheVariants.{Empty};
 ghost use Rattle.docket_tables.specs.Contents.{rows_by};
@@ -188,9 +188,10 @@ impl<S: Alter> Docket<S> {
         alloc: Global,
         conn: Connection<S>,
     ) -> Result<Connection<S>, Returned<S, MigrateFault>>
-        // The docket of a history stands for it in the second version then, and no fault comes but want of
-        // memory or of the database.
-        ensures migrated { (court : CourtSettings) (h : History) → IsDocket court h → HoldsRowsIn S.Store First conn (rows_by First court (rows_of court h))
+        // The docket of a history, which has no short days in the first version, stands for it in the second
+        // then, and no fault comes but want of memory or of the database.
+        ensures migrated { (court : CourtSettings) (h : History) → IsDocket court h → MayHold First h
+            → HoldsRowsIn S.Store First conn (rows_by First court (rows_of court h))
             → MatchResult result (λ now. StandsFor S.Store now court h)
             (λ returned. Migrates S.Store conn returned.connection court h (Err (cause_of returned.fault))) }
         // Any database whose tables of the first version were sound holds the same rows in the second, which
@@ -214,7 +215,8 @@ impl<S: Alter> Docket<S> {
         conn: Connection<S>,
         watch: &mut W,
     ) -> Result<Connection<S>, Returned<S, MigrateFault>>
-        ensures migrated { (court : CourtSettings) (h : History) → IsDocket court h → HoldsRowsIn S.Store First conn (rows_by First court (rows_of court h))
+        ensures migrated { (court : CourtSettings) (h : History) → IsDocket court h → MayHold First h
+            → HoldsRowsIn S.Store First conn (rows_by First court (rows_of court h))
             → MatchResult result (λ now. StandsFor S.Store now court h)
             (λ returned. Migrates S.Store conn returned.connection court h (Err (cause_of returned.fault))) }
         ensures told { MatchResult result (λ now. Tells S.Store conn now (Ok tt))

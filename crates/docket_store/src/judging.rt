@@ -1,5 +1,5 @@
 //! What is done with a command, by the docket that the tables hold.
-ghost use Rattle.std.specs.Prelude.{◌≡◌, ◌≤◌, [], false, if◌then◌else◌};
+ghost use Rattle.std.specs.Prelude.{◌≡◌, ◌≤◌, [], false, if◌then◌else◌, IfOk};
 ghost use Rattle.sqlite.specs.Held.{state};
 ghost use Rattle.sqlite.specs.State.{HasCleanDisk};
 ghost use Rattle.sqlite.specs.View.{doubt};
@@ -12,7 +12,7 @@ ghost use Rattle.docket_wire.specs.Writing.{canonical};
 ghost use Rattle.docket_tables.specs.Layouts.{Rows};
 ghost use Rattle.docket_tables.specs.Readings.{Gives, Stays};
 ghost use Rattle.docket_tables.specs.Stands.{HoldsRows};
-ghost use Rattle.docket_store.specs.AnyRows.{Preserves};
+ghost use Rattle.docket_store.specs.AnyRows.{Preserves, RepeatsReceipt, ShowsReceipt};
 ghost use Rattle.docket_store.specs.Applying.{IsDocket, StandsFor, Keeps, Stands, Shows, Judges, docket_rows};
 ghost use Rattle.docket_store.specs.Dockets.{serving};
 
@@ -81,6 +81,7 @@ fn shown<S: Alter>(
     ensures kept { (h : History) → Keeps kept.old h → Keeps kept.new h }
     ensures read { (court : CourtSettings) (h : History) → Stands S.Store (serving conn.old court kept.old) h
         → Gives S.Store conn.new (docket_rows court h) (λ view. view ≡ shown court h command.now) result }
+    ensures receipt { (rows : Rows) → HoldsRows S.Store conn.old rows → HasCleanDisk (state S.Store conn.new) → IfOk result (ShowsReceipt rows command.now) }
 {
     let calendar = calendar_asked(conn, alloc, kept, &command.action)?;
     view(conn, alloc, command, body, calendar)
@@ -102,6 +103,7 @@ fn look<S: Alter>(
     ensures stays { (rows : Rows) → HoldsRows S.Store conn.old rows → Preserves S.Store conn.new rows result }
     ensures shown { (court : CourtSettings) (h : History) → Stands S.Store (serving conn.old court kept.old) h
         → Shows S.Store (serving conn.new court kept.new) h command.now result }
+    ensures receipt { (rows : Rows) → HoldsRows S.Store conn.old rows → HasCleanDisk (state S.Store conn.new) → IfOk result (ShowsReceipt rows command.now) }
 {
     match shown(conn, alloc, kept, command, body) {
         Ok(view) => Ok(view),
@@ -133,6 +135,8 @@ pub(crate) fn judge<S: Alter>(
     ensures stays { (rows : Rows) → HoldsRows S.Store conn.old rows → Preserves S.Store conn.new rows result }
     ensures judged { (h : History) → Stands S.Store (serving conn.old court.now kept.old) h
         → Judges S.Store (serving conn.new court.now kept.new) h command.now result }
+    ensures repeats { (rows : Rows) → HoldsRows S.Store conn.old rows → HasCleanDisk (state S.Store conn.new)
+        → IfOk result (λ judged. RepeatsReceipt rows command.now judged.decision) }
 {
     let view = look(conn, alloc, kept, command, body)?;
     if !is_sound(court, &view) {

@@ -9,16 +9,18 @@ use Rattle.docket_command.specs.declared.command.Command.{Command}
 use Rattle.docket_command.specs.declared.refusal.Reply.{Reply}
 use Rattle.docket_core.specs.Tables.{Tables, changed, all_changed, with_receipt}
 use Rattle.docket_core.specs.declared.end_row.EndRow.{EndRow}
+use Rattle.docket_core.specs.declared.item.CalendarItem.{CalendarItem}
+use Rattle.docket_core.specs.declared.item.CalendarItem.TheVariants as item
 use Rattle.docket_core.specs.declared.row.Change.{Change}
 use Rattle.docket_core.specs.declared.row.Change.TheVariants.{AddCalendar, RemoveCalendar, AddCase, AddParty, AddEntry, AddDeadline, AddAct}
 use Rattle.docket_core.specs.declared.row.Receipt.{Receipt}
-use Rattle.docket_columns.specs.Cells.{calendar_cells, end_cells, receipt_cells}
-use Rattle.docket_tables.specs.AnyRows.{AreDocketRows, all_rows_changed, next_after, next_after_all, recorded, row_changed, with_stored}
+use Rattle.docket_columns.specs.Cells.{court_cells, end_cells, receipt_cells}
+use Rattle.docket_tables.specs.AnyRows.{AreDocketRows, all_rows_changed, next_after, next_after_all, recorded, row_changed, with_calendar_row, with_stored}
 use Rattle.docket_tables.specs.Contents.{rows_with}
 use Rattle.docket_tables.specs.Holds.{IsKeyed, has_key}
 use Rattle.docket_tables.specs.Layouts.{Rows, with_row, with_rows}
 use Rattle.docket_tables.specs.declared.table.Table.{Table}
-use Rattle.docket_tables.specs.declared.table.Table.TheVariants.{Calendar, Receipts, Ends}
+use Rattle.docket_tables.specs.declared.table.Table.TheVariants.{Court, Calendar, Receipts, Ends, ShortDays}
 use Rattle.docket_tables.proofs.ContentsLemmas.{act_added, calendar_added, calendar_removed, case_added, deadline_added, entry_added, party_added, receipt_added}
 
 -- rows with numbers
@@ -35,16 +37,39 @@ keyed_less keep (r ∷ rows) all = go (keep r) (keyed_less keep rows all.1)
     go true more = (all.0, more)
     go false more = more
 
+-- one more row of the calendar is in its own table alone
+
+pub court_apart : (number : ℕ) (name : List ℕ) (entered : CalendarItem) (rows : Rows) → with_calendar_row number name entered rows Court ≡ rows Court
+court_apart number name (item.Day kind day) rows = refl
+court_apart number name (item.Span start end) rows = refl
+court_apart number name (item.Short day close) rows = refl
+
+receipts_apart : (number : ℕ) (name : List ℕ) (entered : CalendarItem) (rows : Rows) → with_calendar_row number name entered rows Receipts ≡ rows Receipts
+receipts_apart number name (item.Day kind day) rows = refl
+receipts_apart number name (item.Span start end) rows = refl
+receipts_apart number name (item.Short day close) rows = refl
+
 -- a docket's rows are such rows after each change
 
+calendar_kept : (settings : CourtSettings) (n : ℕ) (stored : List EndRow) (number : ℕ) (name : List ℕ) (entered : CalendarItem) (rows : Rows) → AreDocketRows settings n stored rows
+    → AreDocketRows settings (n + 1) stored (with_rows Court (court_cells settings (n + 1) ∷ []) (with_calendar_row number name entered rows))
+calendar_kept settings n stored number name (item.Day kind day) rows are =
+    record { court = refl; keyed = keyed_more _ (rows Calendar) (pos number, refl) are.keyed; keyed_short = are.keyed_short; ends = are.ends }
+calendar_kept settings n stored number name (item.Span start end) rows are =
+    record { court = refl; keyed = keyed_more _ (rows Calendar) (pos number, refl) are.keyed; keyed_short = are.keyed_short; ends = are.ends }
+calendar_kept settings n stored number name (item.Short day close) rows are =
+    record { court = refl; keyed = are.keyed; keyed_short = keyed_more _ (rows ShortDays) (pos number, refl) are.keyed_short; ends = are.ends }
+
 one_kept : (settings : CourtSettings) (n : ℕ) (stored : List EndRow) (x : Change) (rows : Rows) → AreDocketRows settings n stored rows → AreDocketRows settings (next_after x n) stored (row_changed settings n x rows)
-one_kept settings n stored (AddCalendar row) rows are = record { court = refl; keyed = keyed_more (calendar_cells row) (rows Calendar) (pos row.number, refl) are.keyed; ends = are.ends }
-one_kept settings n stored (RemoveCalendar number) rows are = record { court = are.court; keyed = keyed_less (λ r. not (has_key (0 ∷ []) (Int (pos number) ∷ []) r)) (rows Calendar) are.keyed; ends = are.ends }
-one_kept settings n stored (AddCase row) rows are = record { court = are.court; keyed = are.keyed; ends = are.ends }
-one_kept settings n stored (AddParty row) rows are = record { court = are.court; keyed = are.keyed; ends = are.ends }
-one_kept settings n stored (AddEntry row) rows are = record { court = are.court; keyed = are.keyed; ends = are.ends }
-one_kept settings n stored (AddDeadline row) rows are = record { court = are.court; keyed = are.keyed; ends = are.ends }
-one_kept settings n stored (AddAct row) rows are = record { court = are.court; keyed = are.keyed; ends = are.ends }
+one_kept settings n stored (AddCalendar row) rows are = calendar_kept settings n stored row.number row.name row.item rows are
+one_kept settings n stored (RemoveCalendar number) rows are =
+    let keeps : Row → Bool = λ r. not (has_key (0 ∷ []) (Int (pos number) ∷ []) r) in
+    record { court = are.court; keyed = keyed_less keeps (rows Calendar) are.keyed; keyed_short = keyed_less keeps (rows ShortDays) are.keyed_short; ends = are.ends }
+one_kept settings n stored (AddCase row) rows are = record { court = are.court; keyed = are.keyed; keyed_short = are.keyed_short; ends = are.ends }
+one_kept settings n stored (AddParty row) rows are = record { court = are.court; keyed = are.keyed; keyed_short = are.keyed_short; ends = are.ends }
+one_kept settings n stored (AddEntry row) rows are = record { court = are.court; keyed = are.keyed; keyed_short = are.keyed_short; ends = are.ends }
+one_kept settings n stored (AddDeadline row) rows are = record { court = are.court; keyed = are.keyed; keyed_short = are.keyed_short; ends = are.ends }
+one_kept settings n stored (AddAct row) rows are = record { court = are.court; keyed = are.keyed; keyed_short = are.keyed_short; ends = are.ends }
 
 pub all_kept : (settings : CourtSettings) (n : ℕ) (stored : List EndRow) (xs : List Change) (rows : Rows) → AreDocketRows settings n stored rows → AreDocketRows settings (next_after_all xs n) stored (all_rows_changed settings n xs rows)
 all_kept settings n stored [] rows are = are
@@ -54,12 +79,12 @@ pub recorded_kept : (settings : CourtSettings) (n : ℕ) (stored next : List End
     → AreDocketRows settings (next_after_all xs n) next (with_stored next (recorded settings n command reply xs rows))
 recorded_kept settings n stored next command reply xs rows are =
     let changed = all_kept settings n stored xs rows are in
-    record { court = changed.court; keyed = changed.keyed; ends = refl }
+    record { court = changed.court; keyed = changed.keyed; keyed_short = changed.keyed_short; ends = refl }
 
 -- the receipts stay as they are
 
 one_without_receipt : (settings : CourtSettings) (n : ℕ) (x : Change) (rows : Rows) → row_changed settings n x rows Receipts ≡ rows Receipts
-one_without_receipt settings n (AddCalendar row) rows = refl
+one_without_receipt settings n (AddCalendar row) rows = receipts_apart row.number row.name row.item rows
 one_without_receipt settings n (RemoveCalendar number) rows = refl
 one_without_receipt settings n (AddCase row) rows = refl
 one_without_receipt settings n (AddParty row) rows = refl

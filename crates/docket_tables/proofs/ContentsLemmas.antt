@@ -1,14 +1,18 @@
 -- What each change makes of the rows of a docket.
-use Rattle.std.proofs.Common.{◌≡◌, ◌∙◌, ◌==◌, ◌+◌, ℕ, pos, List, [], ◌∷◌, ◌++◌, map, filter, not, refl, sym, ap, subst, Result, OnOk}
+use Rattle.std.proofs.Common.{◌≡◌, ◌∙◌, ◌==◌, ◌+◌, ℕ, pos, List, [], ◌∷◌, ◌++◌, append-nil, map, filter, not, refl, sym, ap, subst, Result, OnOk}
 use Rattle.std.specs.List.{AllByRecursion}
 use Rattle.std.proofs.lemmas.Result.{IfOk-weaker}
 use Rattle.std.proofs.lemmas.List.{map-append}
 use Rattle.sqlite_trees.proofs.ListLemmas.{filter-map, filter_same, all_of}
-use Rattle.sqlite.specs.Order.{Row}
+use Rattle.sqlite.specs.declared.types.Value.TheVariants.{Int}
+use Rattle.sqlite.specs.Order.{Row, column}
 use Rattle.sqlite.specs.State.{State}
 use Rattle.court_days.specs.Court.{CourtSettings}
 use Rattle.docket_core.specs.EndRows.{end_rows}
+use Rattle.docket_core.specs.ShortDays.{day_and_span_rows, short_day_rows}
 use Rattle.docket_core.specs.Tables.{Tables, rows_of, changed, with_receipt}
+use Rattle.docket_core.specs.declared.item.CalendarItem.{CalendarItem}
+use Rattle.docket_core.specs.declared.item.CalendarItem.TheVariants as item
 use Rattle.docket_core.specs.declared.row.Change.TheVariants.{AddCalendar, RemoveCalendar, AddCase, AddParty, AddEntry, AddDeadline, AddAct}
 use Rattle.docket_core.specs.declared.row.CalendarRow.{CalendarRow}
 use Rattle.docket_core.specs.declared.row.CaseRow.{CaseRow}
@@ -17,10 +21,11 @@ use Rattle.docket_core.specs.declared.row.EntryRow.{EntryRow}
 use Rattle.docket_core.specs.declared.row.DeadlineRow.{DeadlineRow}
 use Rattle.docket_core.specs.declared.row.ActRow.{ActRow}
 use Rattle.docket_core.specs.declared.row.Receipt.{Receipt}
-use Rattle.docket_columns.specs.Cells.{court_cells, calendar_cells, case_cells, party_cells, entry_cells, deadline_cells, act_cells, receipt_cells, end_cells}
+use Rattle.docket_columns.specs.Cells.{court_cells, calendar_cells, short_day_cells, case_cells, party_cells, entry_cells, deadline_cells, act_cells, receipt_cells, end_cells}
 use Rattle.docket_tables.specs.declared.table.Table.{Table}
-use Rattle.docket_tables.specs.declared.table.Table.TheVariants.{Court, Calendar, Cases, Parties, Entries, Deadlines, Acts, Receipts, Ends}
+use Rattle.docket_tables.specs.declared.table.Table.TheVariants.{Court, Calendar, Cases, Parties, Entries, Deadlines, Acts, Receipts, Ends, ShortDays}
 use Rattle.docket_core.specs.declared.end_row.EndRow.{EndRow}
+use Rattle.docket_tables.specs.AnyRows.{with_calendar_row, without_calendar_row}
 use Rattle.docket_tables.specs.Contents.{rows_with, rows_in}
 use Rattle.docket_tables.specs.Creation.{no_rows}
 use Rattle.docket_tables.specs.Holds.{Holds, IsKeyed, without_number}
@@ -29,6 +34,7 @@ use Rattle.docket_tables.specs.Schema.{tree_of, places_of}
 use Rattle.docket_tables.specs.Stands.{Sees}
 use Rattle.docket_tables.proofs.AnswerLemmas.{same_number}
 use Rattle.docket_tables.proofs.HoldsLemmas.{keyed_as}
+use Rattle.docket_tables.proofs.TwoTables.{days_with, days_without, row_with, short_days_with, short_days_without}
 
 -- the same rows in other words
 pub sees_same : (s : State) (a b : Rows) → ((table : Table) → a table ≡ b table) → Sees s a → Sees s b
@@ -48,6 +54,17 @@ pub row_inserted : {E : Type 0} (result : Result (Unit {0}) E) (old new : State)
     → Sees old rows → OnOk result (Sees new next)
 row_inserted result old new table given cells rows next is fits same inserts sees =
     IfOk-weaker result _ _ (λ _ h. sees_same new _ next same (subst (λ r. Sees new (with_row table r rows)) is h)) (inserts (subst (Fits table) (sym is) fits) rows sees)
+
+-- rows that begin with their number
+module _ {X : Type 0} (cells : X → Row) (number : X → ℕ) (first : (x : X) → column (cells x) 0 ≡ Int (pos (number x))) where
+  pub keyed_rows : (xs : List X) → AllByRecursion IsKeyed (map cells xs)
+  keyed_rows [] = tt
+  keyed_rows (x ∷ xs) = ((pos (number x), first x), keyed_rows xs)
+
+  pub kept_rows : (n : ℕ) (xs : List X) → without_number n (map cells xs) ≡ map cells (filter (λ x. not (number x == n)) xs)
+  kept_rows n xs =
+      filter-map _ cells xs
+      ∙ ap (map cells) (filter_same _ _ xs (all_of _ (λ x. ap not (keyed_as (pos n) (pos (number x)) (cells x) (first x) ∙ same_number (number x) n)) xs))
 
 module _ (court : CourtSettings) (t : Tables) (ends : List EndRow) where
   pub case_added : (row : CaseRow) → (table : Table) → with_row Cases (case_cells row) (rows_with court t ends) table ≡ rows_with court (changed (AddCase row) t) ends table
@@ -74,17 +91,31 @@ module _ (court : CourtSettings) (t : Tables) (ends : List EndRow) where
   receipt_added row Receipts = sym (map-append receipt_cells t.receipts (row ∷ []))
   receipt_added row other = refl
 
-  pub calendar_added : (row : CalendarRow) → (table : Table) → with_rows Court (court_cells court (t.next_row + 1) ∷ []) (with_row Calendar (calendar_cells row) (rows_with court t ends)) table ≡ rows_with court (changed (AddCalendar row) t) ends table
-  calendar_added row Calendar = sym (map-append calendar_cells t.calendar (row ∷ []))
-  calendar_added row other = refl
+  days_more : (row : CalendarRow) → map calendar_cells (day_and_span_rows (t.calendar ++ row ∷ [])) ≡ map calendar_cells (day_and_span_rows t.calendar) ++ map calendar_cells (day_and_span_rows (row ∷ []))
+  days_more row = ap (map calendar_cells) (days_with t.calendar row) ∙ map-append calendar_cells (day_and_span_rows t.calendar) (day_and_span_rows (row ∷ []))
 
-  kept_rows : (n : ℕ) (rows : List CalendarRow) → without_number n (map calendar_cells rows) ≡ map calendar_cells (filter (λ row. not (row.number == n)) rows)
-  kept_rows n rows =
-      filter-map _ calendar_cells rows
-      ∙ ap (map calendar_cells) (filter_same _ _ rows (all_of _ (λ row. ap not (keyed_as (pos n) (pos row.number) (calendar_cells row) refl ∙ same_number row.number n)) rows))
+  short_days_more : (row : CalendarRow) → map short_day_cells (short_day_rows (t.calendar ++ row ∷ [])) ≡ map short_day_cells (short_day_rows t.calendar) ++ map short_day_cells (short_day_rows (row ∷ []))
+  short_days_more row = ap (map short_day_cells) (short_days_with t.calendar row) ∙ map-append short_day_cells (short_day_rows t.calendar) (short_day_rows (row ∷ []))
 
-  pub calendar_removed : (n : ℕ) → (table : Table) → with_rows Calendar (without_number n (map calendar_cells t.calendar)) (rows_with court t ends) table ≡ rows_with court (changed (RemoveCalendar n) t) ends table
-  calendar_removed n Calendar = kept_rows n t.calendar
+  item_added : (number : ℕ) (name : List ℕ) (entered : CalendarItem) → (table : Table)
+      → with_rows Court (court_cells court (t.next_row + 1) ∷ []) (with_calendar_row number name entered (rows_with court t ends)) table ≡ rows_with court (changed (AddCalendar (row_with number name entered)) t) ends table
+  item_added number name (item.Day kind day) Calendar = sym (days_more (row_with number name (item.Day kind day)))
+  item_added number name (item.Day kind day) ShortDays = sym (short_days_more (row_with number name (item.Day kind day)) ∙ append-nil _)
+  item_added number name (item.Day kind day) other = refl
+  item_added number name (item.Span start end) Calendar = sym (days_more (row_with number name (item.Span start end)))
+  item_added number name (item.Span start end) ShortDays = sym (short_days_more (row_with number name (item.Span start end)) ∙ append-nil _)
+  item_added number name (item.Span start end) other = refl
+  item_added number name (item.Short day close) Calendar = sym (days_more (row_with number name (item.Short day close)) ∙ append-nil _)
+  item_added number name (item.Short day close) ShortDays = sym (short_days_more (row_with number name (item.Short day close)))
+  item_added number name (item.Short day close) other = refl
+
+  pub calendar_added : (row : CalendarRow) → (table : Table)
+      → with_rows Court (court_cells court (t.next_row + 1) ∷ []) (with_calendar_row row.number row.name row.item (rows_with court t ends)) table ≡ rows_with court (changed (AddCalendar row) t) ends table
+  calendar_added row table = item_added row.number row.name row.item table
+
+  pub calendar_removed : (n : ℕ) → (table : Table) → without_calendar_row n (rows_with court t ends) table ≡ rows_with court (changed (RemoveCalendar n) t) ends table
+  calendar_removed n Calendar = kept_rows calendar_cells (λ row. row.number) (λ row. refl) n (day_and_span_rows t.calendar) ∙ ap (map calendar_cells) (days_without n t.calendar)
+  calendar_removed n ShortDays = kept_rows short_day_cells (λ row. row.number) (λ row. refl) n (short_day_rows t.calendar) ∙ ap (map short_day_cells) (short_days_without n t.calendar)
   calendar_removed n other = refl
 
   pub end_added : (row : EndRow) → (table : Table) → with_row Ends (end_cells row) (rows_with court t ends) table ≡ rows_with court t (ends ++ row ∷ []) table
@@ -100,8 +131,3 @@ pub court_entered : (court : CourtSettings) (table : Table) → with_row Court (
 unfolding end_rows
 court_entered court Court = refl
 court_entered court other = refl
-
--- a row of the calendar begins with its number
-pub calendar_keyed : (rows : List CalendarRow) → AllByRecursion IsKeyed (map calendar_cells rows)
-calendar_keyed [] = tt
-calendar_keyed (row ∷ rows) = ((pos row.number, refl), calendar_keyed rows)

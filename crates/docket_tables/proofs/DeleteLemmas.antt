@@ -25,9 +25,10 @@ use Rattle.sqlite_schema.specs.declared.schema.Keys.TheVariants.{Enforced}
 use Rattle.sqlite_rules.specs.Action.{works, Writes as WritesEdit}
 use Rattle.sqlite_tied.specs.Compute.{everything}
 use Rattle.docket_tables.specs.Schema.{docket_schema, shape_of, tree_of}
-use Rattle.docket_tables.specs.Statements.{delete_text}
+use Rattle.docket_tables.specs.Statements.{delete_text, delete_short_day_text}
 use Rattle.docket_tables.specs.Tables.{layout_of}
-use Rattle.docket_tables.specs.declared.table.Table.TheVariants.{Calendar}
+use Rattle.docket_tables.specs.declared.table.Table.{Table as Named}
+use Rattle.docket_tables.specs.declared.table.Table.TheVariants.{Calendar, ShortDays}
 use Rattle.docket_tables.specs.Holds.{KeepsOthers, plain_query}
 use Rattle.docket_tables.proofs.InsertLemmas.{went, same_value, concludes}
 
@@ -74,7 +75,14 @@ deletes schema sql table q text params old new count has h =
     let took = takes (task table) q db done.0 refl text.no_work done.1 in
     (ap (λ (d : Database). d.schema) now, w.sound, subst (Takes schema table q params db) (sym (ap (λ (d : Database). d.trees) now)) took)
 
-pub calendar_delete : DeletesFrom docket_schema delete_text (shape_of Calendar)
-    (record { lets = []; body = plain_query (tree_of Calendar) (op2 (Compare Eq Binary) (col 1 0) (col 0 0) ∷ []) (col 1 0 ∷ []) [] [] (lit (Int (negsuc 0))) })
+-- the row of a rowid
+abbrev pub numbered_in : Named → Program
+numbered_in table = record { lets = []; body = plain_query (tree_of table) (op2 (Compare Eq Binary) (col 1 0) (col 0 0) ∷ []) (col 1 0 ∷ []) [] [] (lit (Int (negsuc 0))) }
+
+pub calendar_delete : DeletesFrom docket_schema delete_text (shape_of Calendar) (numbered_in Calendar)
 unfolding understood everything
 calendar_delete = record { at = (layout_of Calendar).at; is = refl; plain = (refl, refl); place = refl; no_work = λ olds. refl }
+
+pub short_day_delete : DeletesFrom docket_schema delete_short_day_text (shape_of ShortDays) (numbered_in ShortDays)
+unfolding understood everything
+short_day_delete = record { at = (layout_of ShortDays).at; is = refl; plain = (refl, refl); place = refl; no_work = λ olds. refl }

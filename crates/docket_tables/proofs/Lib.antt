@@ -19,10 +19,12 @@ mod MoveLemmas
 mod ProbeLemmas
 mod QueryLemmas
 pub mod ReadLemmas
+mod ReceiptLemmas
 pub mod ReopenLemmas
 mod RowLemmas
 mod RowidLemmas
 pub mod SelectLemmas
 pub mod StandsLemmas
 pub mod StoredLemmas
+pub mod TwoTables
 pub mod UpdateLemmas

@@ -5,9 +5,10 @@ use Rattle.court_days.specs.Calendar.{Entered}
 use Rattle.court_days.specs.Court.{CourtSettings, zone_of}
 use Rattle.docket_core.specs.EndRows.{AreRowsFrom, end_rows, end_rows_from, ends_running}
 use Rattle.docket_core.specs.Histories.{deadlines_of_case, deadlines_from}
+use Rattle.docket_core.specs.ShortDays.{day_and_span_rows, short_day_rows}
 use Rattle.docket_core.specs.Tables.{Tables}
 use Rattle.docket_core.specs.declared.end_row.EndRow.{EndRow}
-use Rattle.docket_columns.specs.Cells.{court_cells, court_cells_of, calendar_cells, case_cells, party_cells, entry_cells, deadline_cells, act_cells, receipt_cells, end_cells}
+use Rattle.docket_columns.specs.Cells.{court_cells, court_cells_of, calendar_cells, short_day_cells, case_cells, party_cells, entry_cells, deadline_cells, act_cells, receipt_cells, end_cells}
 use Rattle.docket_columns.specs.Fits.{IsEndRow}
 use Rattle.docket_columns.specs.declared.version.Version.{Version}
 use Rattle.docket_columns.specs.declared.version.Version.TheVariants.{First, Second}
@@ -17,7 +18,7 @@ use Rattle.docket_tables.specs.Layouts.{Rows, with_rows}
 -- these tables, with these rows of ends
 abbrev pub rows_with : CourtSettings → Tables → List EndRow → Rows
 rows_with court t ends Court = court_cells court t.next_row ∷ []
-rows_with court t ends Calendar = map calendar_cells t.calendar
+rows_with court t ends Calendar = map calendar_cells (day_and_span_rows t.calendar)
 rows_with court t ends Cases = map case_cells t.cases
 rows_with court t ends Parties = map party_cells t.parties
 rows_with court t ends Entries = map entry_cells t.entries
@@ -25,7 +26,7 @@ rows_with court t ends Deadlines = map deadline_cells t.deadlines
 rows_with court t ends Acts = map act_cells t.acts
 rows_with court t ends Receipts = map receipt_cells t.receipts
 rows_with court t ends Ends = map end_cells ends
-rows_with court t ends ShortDays = []
+rows_with court t ends ShortDays = map short_day_cells (short_day_rows t.calendar)
 rows_with court t ends LocalRules = []
 
 -- with the ends that the tables have, by the calendar that stands in them

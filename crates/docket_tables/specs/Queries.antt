@@ -31,6 +31,8 @@ abbrev pub question_of : Query → Question
 question_of ask.Court = question table.Court [] []
 question_of ask.Calendar = question table.Calendar [] (0 ∷ [])
 question_of ask.CalendarRow = question table.Calendar (0 ∷ []) []
+question_of ask.ShortDays = question table.ShortDays [] (0 ∷ [])
+question_of ask.ShortDayRow = question table.ShortDays (0 ∷ []) []
 question_of ask.LastCase = last table.Cases [] (0 ∷ [])
 question_of ask.CaseLabelled = question table.Cases (1 ∷ []) []
 question_of ask.CaseNumbered = question table.Cases (0 ∷ []) []

@@ -5,6 +5,10 @@ use Rattle.std.specs.Prelude.{codes, List, ℕ}
 abbrev pub delete_text : List ℕ
 delete_text = codes "DELETE FROM calendar WHERE row_no = ?1"
 
+-- the short days lose one
+abbrev pub delete_short_day_text : List ℕ
+delete_short_day_text = codes "DELETE FROM short_day WHERE row_no = ?1"
+
 -- the end of a deadline goes
 abbrev pub delete_end_text : List ℕ
 delete_end_text = codes "DELETE FROM due WHERE case_no = ?1 AND deadline_no = ?2"

@@ -9,21 +9,58 @@ ghost use Rattle.sqlite.specs.Held.{state};
 ghost use Rattle.sqlite.specs.State.{HasCleanDisk};
 ghost use Rattle.sqlite.specs.View.{doubt};
 ghost use Rattle.docket_core.specs.declared.end_row.EndRow.{EndRow as Ended};
-ghost use Rattle.docket_tables.specs.AnyRows.{AreDocketRows, all_rows_changed, recorded, row_changed, with_stored};
+ghost use Rattle.docket_tables.specs.AnyRows.{AreDocketRows, all_rows_changed, recorded, row_changed, with_calendar_row, without_calendar_row, with_stored};
 ghost use Rattle.docket_tables.specs.Contents.{rows_with};
+ghost use Rattle.docket_tables.specs.Holds.{IsKeyed};
 ghost use Rattle.docket_tables.specs.Layouts.{Rows};
 ghost use Rattle.docket_tables.specs.Stands.{Inside, Sees, StaysInside};
+ghost use Rattle.docket_tables.specs.declared.table.Table.TheVariants as table;
+ghost use Rattle.std.specs.List.{AllByRecursion};
 
 use crate::fault::ReadFault;
-use crate::store::{count_calendar_row, insert, move_end, remove_calendar_row, remove_end};
+use crate::store::{
+    count_calendar_row, insert, move_end, remove_calendar_row, remove_end, remove_short_day,
+};
 use crate::table::Table;
 use docket_columns::{
     act_values, calendar_values, case_values, deadline_values, end_values, entry_values,
-    party_values, receipt_values,
+    party_values, receipt_values, short_day_values,
 };
 use docket_command::Command;
-use docket_core::{CalendarRow, Change, Changes, EndChange};
+use docket_core::{CalendarItem, CalendarRow, Change, Changes, EndChange};
 use sqlite::{Alter, Error, Transaction};
+
+/// Adds a row of the calendar, a short day in a table of its own.
+fn insert_calendar_row<S: Alter>(
+    tx: &mut Transaction<'_, S>,
+    row: &CalendarRow,
+) -> Result<(), Error>
+    ensures same_reference { tx.new.conn.ghost_name ≡ tx.old.conn.ghost_name }
+    ensures inside { StaysInside (state S.Store tx.old.conn.now) (state S.Store tx.new.conn.now) }
+    ensures ok { HasCleanDisk (state S.Store tx.new.conn.now) → (rows : Rows) → Sees (state S.Store tx.old.conn.now) rows
+        → OnOk result (Sees (state S.Store tx.new.conn.now) (with_calendar_row row.now.number row.now.name row.now.item rows)) }
+{
+    match row.item {
+        CalendarItem::Short(day, close) => {
+            let values = short_day_values(row.number, day, close, row.name.as_str());
+            insert(tx, Table::ShortDays, &values)
+        }
+        CalendarItem::Day(_, _) | CalendarItem::Span(_, _) => {
+            insert(tx, Table::Calendar, &calendar_values(row))
+        }
+    }
+}
+
+/// Withdraws the row of the calendar of a number, whichever of the two tables has it.
+fn withdraw_row<S: Alter>(tx: &mut Transaction<'_, S>, number: u32) -> Result<(), Error>
+    ensures same_reference { tx.new.conn.ghost_name ≡ tx.old.conn.ghost_name }
+    ensures inside { StaysInside (state S.Store tx.old.conn.now) (state S.Store tx.new.conn.now) }
+    ensures ok { HasCleanDisk (state S.Store tx.new.conn.now) → (rows : Rows) → AllByRecursion IsKeyed (rows table.Calendar) → AllByRecursion IsKeyed (rows table.ShortDays)
+        → Sees (state S.Store tx.old.conn.now) rows → OnOk result (Sees (state S.Store tx.new.conn.now) (without_calendar_row number rows)) }
+{
+    remove_calendar_row(tx, number)?;
+    remove_short_day(tx, number)
+}
 
 /// Adds a row of the calendar, and counts its number.
 fn add_calendar_row<S: Alter>(tx: &mut Transaction<'_, S>, row: &CalendarRow) -> Result<(), Error>
@@ -34,7 +71,7 @@ fn add_calendar_row<S: Alter>(tx: &mut Transaction<'_, S>, row: &CalendarRow) ->
     ensures any { HasCleanDisk (state S.Store tx.new.conn.now) → (court : CourtSettings) (n : ℕ) (stored : List Ended) (rows : Rows) → AreDocketRows court n stored rows → n + 1 < 2 ^ 63
         → Sees (state S.Store tx.old.conn.now) rows → OnOk result (Sees (state S.Store tx.new.conn.now) (row_changed court n (change.AddCalendar row.now) rows)) }
 {
-    insert(tx, Table::Calendar, &calendar_values(row))?;
+    insert_calendar_row(tx, row)?;
     count_calendar_row(tx)
 }
 
@@ -49,7 +86,7 @@ fn change_row<S: Alter>(tx: &mut Transaction<'_, S>, change: &Change) -> Result<
 {
     match change {
         Change::AddCalendar(row) => add_calendar_row(tx, row),
-        Change::RemoveCalendar(number) => remove_calendar_row(tx, *number),
+        Change::RemoveCalendar(number) => withdraw_row(tx, *number),
         Change::AddCase(row) => insert(tx, Table::Cases, &case_values(row)),
         Change::AddParty(row) => insert(tx, Table::Parties, &party_values(row)),
         Change::AddEntry(row) => insert(tx, Table::Entries, &entry_values(row)),

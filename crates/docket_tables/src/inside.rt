@@ -14,7 +14,7 @@ ghost use Rattle.docket_tables.specs.Stands.{Inside};
 
 use crate::fault::ReadFault;
 use crate::query::Query;
-use crate::rows::all_in;
+use crate::rows::{all_in, calendar_in};
 use crate::store::ask_inside;
 use docket_core::{ActRow, CalendarRow, DeadlineRow, EndRow};
 use sqlite::types::ToSql;
@@ -33,7 +33,8 @@ pub fn calendar<S: Alter>(
     ensures still { (rows : Rows) → Inside (state S.Store tx.old.conn.now) (state S.Store tx.new.conn.now) rows rows result (λ _. Unit {0}) }
 {
     let rows = ask_inside(tx, Query::Calendar, &[])?;
-    all_in(alloc, rows.as_slice())
+    let short_rows = ask_inside(tx, Query::ShortDays, &[])?;
+    calendar_in(alloc, rows.as_slice(), short_rows.as_slice())
 }
 
 /// The ends that are stored of a case.

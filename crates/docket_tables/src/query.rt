@@ -7,10 +7,14 @@ ghost use Rattle.docket_tables.specs.Queries.{select_text};
 pub enum Query {
     /// The row of the court.
     Court,
-    /// The rows of the calendar, in the order of their numbers.
+    /// The days and spans of the calendar, in the order of their numbers.
     Calendar,
-    /// The calendar row of a number.
+    /// The day or span of a number.
     CalendarRow,
+    /// The short days of the calendar, in the order of their numbers.
+    ShortDays,
+    /// The short day of a number.
+    ShortDayRow,
     /// The case with the highest number.
     LastCase,
     /// The case of a label.
@@ -49,6 +53,8 @@ pub(crate) fn select_text(query: Query) -> &'static str
         Query::Court => { "SELECT id, word, version, zone, close, next_row FROM court" }
         Query::Calendar => { "SELECT row_no, kind, a, b, name FROM calendar ORDER BY row_no" }
         Query::CalendarRow => { "SELECT row_no, kind, a, b, name FROM calendar WHERE row_no = ?1" }
+        Query::ShortDays => { "SELECT row_no, day, close, name FROM short_day ORDER BY row_no" }
+        Query::ShortDayRow => { "SELECT row_no, day, close, name FROM short_day WHERE row_no = ?1" }
         Query::LastCase => {
             "SELECT number, label, caption, filed FROM cases ORDER BY number DESC LIMIT 1"
         }

@@ -1,15 +1,19 @@
 //! Questions to a docket's tables.
-ghost use Rattle.std.specs.Prelude.{◌≡◌, ◌≤◌, ◌==◌, false, length};
+ghost use Rattle.std.specs.Prelude.{◌≡◌, ◌≤◌, ◌==◌, false, length, Ok};
 ghost use Rattle.std.specs.List.{list_any};
 ghost use Rattle.std.specs.Str.{bytes_eq};
 ghost use Rattle.sqlite.specs.Held.{state};
+ghost use Rattle.sqlite.specs.State.{HasCleanDisk};
 ghost use Rattle.sqlite.specs.View.{doubt};
+ghost use Rattle.docket_command.specs.declared.refusal.Reply.{Reply};
 ghost use Rattle.docket_core.specs.EndRows.{end_rows};
 ghost use Rattle.docket_core.specs.Histories.{parties_of_case, entries_of_case, deadlines_of_case, acts_of_deadline};
 ghost use Rattle.docket_core.specs.Outcomes.{kept};
 ghost use Rattle.docket_core.specs.Records.{case_at};
+ghost use Rattle.docket_core.specs.declared.view.Kept.TheVariants.{Same};
 ghost use Rattle.docket_wire.specs.Valid.{IsCommand};
 ghost use Rattle.docket_wire.specs.Writing.{canonical};
+ghost use Rattle.docket_tables.specs.AnyRows.{HasReceipt};
 ghost use Rattle.docket_tables.specs.Contents.{ends_of};
 ghost use Rattle.docket_tables.specs.Layouts.{Rows};
 ghost use Rattle.docket_tables.specs.Readings.{AreActsOf, Reads, Stays, row_at};
@@ -17,7 +21,9 @@ ghost use Rattle.docket_tables.specs.Stands.{HoldsRows};
 
 use crate::fault::ReadFault;
 use crate::query::Query;
-use crate::rows::{acts_alone_in, all_in, court_in, deadline_in, first_in, kept_in, number_in};
+use crate::rows::{
+    acts_alone_in, all_in, calendar_in, court_in, deadline_in, first_in, kept_in, number_in,
+};
 use crate::store::ask;
 use court_rules::Act;
 use docket_columns::CourtRow;
@@ -49,7 +55,8 @@ pub fn calendar<S: Alter>(
     ensures mode { conn.old.in_transaction ≡ false → conn.new.in_transaction ≡ false }
 {
     let rows = ask(conn, Query::Calendar, &[])?;
-    all_in(alloc, rows.as_slice())
+    let short_rows = ask(conn, Query::ShortDays, &[])?;
+    calendar_in(alloc, rows.as_slice(), short_rows.as_slice())
 }
 
 /// Whether the calendar row of a number stands.
@@ -60,7 +67,11 @@ pub fn is_row_standing<S: Alter>(conn: &mut Connection<S>, number: u32) -> Resul
     ensures mode { conn.old.in_transaction ≡ false → conn.new.in_transaction ≡ false }
 {
     let rows = ask(conn, Query::CalendarRow, &[number.to_sql()])?;
-    Ok(rows.as_slice().len() > 0)
+    if rows.as_slice().len() > 0 {
+        return Ok(true);
+    }
+    let short_rows = ask(conn, Query::ShortDayRow, &[number.to_sql()])?;
+    Ok(short_rows.as_slice().len() > 0)
 }
 
 /// How many cases there are.
@@ -252,6 +263,7 @@ pub fn kept<S: Alter>(
     requires body { body.now ≡ canonical command.now }
     requires lawful { IsCommand command.now }
     ensures read { Reads S.Store conn.old conn.new result (λ _ t found. found ≡ kept t.receipts command.now) }
+    ensures found { (rows : Rows) → HoldsRows S.Store conn.old rows → HasCleanDisk (state S.Store conn.new) → (reply : Reply) → result ≡ Ok (Same reply) → HasReceipt command.now reply rows }
     ensures stays { (rows : Rows) → HoldsRows S.Store conn.old rows → Stays S.Store conn.new rows result }
     ensures clean { doubt (state S.Store conn.old).is_clean ≤ doubt (state S.Store conn.new).is_clean }
     ensures mode { conn.old.in_transaction ≡ false → conn.new.in_transaction ≡ false }

@@ -6,20 +6,24 @@ ghost use Rattle.sqlite.specs.declared.types.Value.TheVariants.{Int};
 ghost use Rattle.docket_core.specs.declared.row.ActRow.{ActRow as OnDeadline};
 ghost use Rattle.court_days.specs.Court.{CourtSettings};
 ghost use Rattle.docket_command.specs.declared.command.Command.{Command as Asked};
+ghost use Rattle.docket_command.specs.declared.refusal.Reply.{Reply};
 ghost use Rattle.docket_core.specs.Outcomes.{kept_by};
+ghost use Rattle.docket_core.specs.ShortDays.{day_and_span_rows, short_day_rows};
+ghost use Rattle.docket_core.specs.declared.row.CalendarRow.{CalendarRow as Entered};
 ghost use Rattle.docket_core.specs.declared.row.DeadlineRow.{DeadlineRow as Deadline};
 ghost use Rattle.docket_core.specs.declared.row.Receipt.{Receipt as Stored};
 ghost use Rattle.docket_core.specs.declared.view.Kept.TheVariants as kept;
 ghost use Rattle.docket_wire.specs.Valid.{IsCommand};
 ghost use Rattle.docket_wire.specs.Writing.{canonical};
-ghost use Rattle.docket_columns.specs.Cells.{act_cells, court_cells, deadline_cells, receipt_cells};
-ghost use Rattle.docket_columns.specs.Fits.{IsActRow, IsCourtRow, IsDeadlineRow, IsReceipt};
+ghost use Rattle.docket_columns.specs.Cells.{act_cells, calendar_cells, court_cells, deadline_cells, receipt_cells, short_day_cells, stored_cells};
+ghost use Rattle.docket_columns.specs.Fits.{IsActRow, IsCalendarRow, IsCourtRow, IsDeadlineRow, IsReceipt, IsShortDayRow};
+ghost use Rattle.docket_orderly.specs.Orderly.{Rises};
 ghost use Rattle.docket_tables.specs.Readings.{IsReadAs};
 
 use crate::fault::ReadFault;
 use court_rules::Act;
 use docket_columns::{CourtRow, StoredRow, Version, count_at, court_of, deadline_of, kept_by};
-use docket_core::{ActRow, DeadlineRow, Kept};
+use docket_core::{ActRow, CalendarRow, DeadlineRow, Kept, ShortDayRow};
 use sqlite::Row;
 use std::alloc::{AllocError, Global};
 
@@ -35,6 +39,33 @@ pub(crate) fn all_in<R: StoredRow>(alloc: Global, rows: &[Row]) -> Result<Vec<R>
         found.push(one)?;
     }
     Ok(found)
+}
+
+/// Rows of the calendar and short days among them, in the order of their numbers.
+fn in_order(
+    mut calendar: Vec<CalendarRow>,
+    short_days: Vec<ShortDayRow>,
+) -> Result<Vec<CalendarRow>, AllocError>
+    ensures { (all : List Entered) → Rises (map (λ row. row.number) all) → calendar.items ≡ day_and_span_rows all → short_days.items ≡ short_day_rows all
+        → IfOk result (λ found. found.items ≡ all) }
+{
+    calendar.extend(short_days.into_iter().map(|row| CalendarRow::from(row)))?;
+    calendar.sort_by_key(|row| row.number)?;
+    Ok(calendar)
+}
+
+/// The calendar that the rows of its two tables say, in the order of their numbers.
+pub(crate) fn calendar_in(
+    alloc: Global,
+    rows: &[Row],
+    short_rows: &[Row],
+) -> Result<Vec<CalendarRow>, ReadFault>
+    ensures { (all : List Entered) → AllByRecursion IsCalendarRow (day_and_span_rows all) → AllByRecursion IsShortDayRow (short_day_rows all) → Rises (map (λ row. row.number) all)
+        → rows.now ≡ map calendar_cells (day_and_span_rows all) → short_rows.now ≡ map short_day_cells (short_day_rows all) → IsReadAs (λ found. found.items ≡ all) result }
+{
+    let calendar: Vec<CalendarRow> = all_in(alloc, rows)?;
+    let short_days: Vec<ShortDayRow> = all_in(alloc, short_rows)?;
+    Ok(in_order(calendar, short_days)?)
 }
 
 /// What the first row says, if there is one.
@@ -94,6 +125,8 @@ pub(crate) fn kept_in(rows: &[Row], body: &str) -> Result<Kept, ReadFault>
     ensures none { rows.now ≡ [] → result ≡ Ok kept.Fresh }
     ensures one { (r : Stored) (c : Asked) → IsReceipt r → IsCommand c → body.now ≡ canonical c → rows.now ≡ receipt_cells r ∷ []
         → result ≡ Ok (kept_by (Some r) c) }
+    ensures same { (reply : Reply) → result ≡ Ok (kept.Same reply)
+        → (key : List ℕ) × (rest : List Cells) × (rows.now ≡ stored_cells key body.now reply.number ∷ rest) }
 {
     let Some(row) = rows.first() else {
         return Ok(Kept::Fresh);

@@ -1,7 +1,7 @@
 //! The texts of the statements.
 ghost use Rattle.std.specs.Prelude.{◌≡◌};
 ghost use Rattle.docket_tables.specs.Texts.{create_text, insert_text, scan_text};
-ghost use Rattle.docket_tables.specs.Statements.{delete_text, delete_end_text, move_end_text, count_text};
+ghost use Rattle.docket_tables.specs.Statements.{delete_text, delete_short_day_text, delete_end_text, move_end_text, count_text};
 
 use crate::table::Table;
 
@@ -97,11 +97,18 @@ pub fn scan_text(table: Table) -> &'static str
     }
 }
 
-/// Removes the calendar row of a number.
+/// Removes the day or span of a number from the calendar.
 pub(crate) fn delete_text() -> &'static str
     ensures { result.now ≡ delete_text }
 {
     "DELETE FROM calendar WHERE row_no = ?1"
+}
+
+/// Removes the short day of a number.
+pub(crate) fn delete_short_day_text() -> &'static str
+    ensures { result.now ≡ delete_short_day_text }
+{
+    "DELETE FROM short_day WHERE row_no = ?1"
 }
 
 /// Removes the end of a deadline of a case.

@@ -21,7 +21,9 @@ ghost use Rattle.docket_tables.specs.Schema.{docket_schema};
 ghost use Rattle.docket_tables.specs.Stands.{HoldsRows, Lasts, Sees, StaysInside};
 
 use crate::query::{Query, select_text};
-use crate::statement::{count_text, delete_end_text, delete_text, insert_text, move_end_text};
+use crate::statement::{
+    count_text, delete_end_text, delete_short_day_text, delete_text, insert_text, move_end_text,
+};
 use crate::table::Table;
 use docket_columns::end_values;
 use docket_core::EndRow;
@@ -87,7 +89,7 @@ pub(crate) fn insert<S: Alter>(
     change(tx, insert_text(table), values)
 }
 
-/// Removes the calendar row of a number.
+/// Removes the day or span of a number from the calendar.
 pub(crate) fn remove_calendar_row<S: Alter>(
     tx: &mut Transaction<'_, S>,
     number: u32,
@@ -98,6 +100,19 @@ pub(crate) fn remove_calendar_row<S: Alter>(
         → OnOk result (Sees (state S.Store tx.new.conn.now) (with_rows table.Calendar (without_number number (rows table.Calendar)) rows)) }
 {
     change(tx, delete_text(), params![number])
+}
+
+/// Removes the short day of a number.
+pub(crate) fn remove_short_day<S: Alter>(
+    tx: &mut Transaction<'_, S>,
+    number: u32,
+) -> Result<(), Error>
+    ensures same_reference { tx.new.conn.ghost_name ≡ tx.old.conn.ghost_name }
+    ensures inside { StaysInside (state S.Store tx.old.conn.now) (state S.Store tx.new.conn.now) }
+    ensures ok { HasCleanDisk (state S.Store tx.new.conn.now) → (rows : Rows) → AllByRecursion IsKeyed (rows table.ShortDays) → Sees (state S.Store tx.old.conn.now) rows
+        → OnOk result (Sees (state S.Store tx.new.conn.now) (with_rows table.ShortDays (without_number number (rows table.ShortDays)) rows)) }
+{
+    change(tx, delete_short_day_text(), params![number])
 }
 
 /// Removes the end of a deadline of a case.

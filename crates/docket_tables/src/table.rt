@@ -8,6 +8,7 @@ ghost use Rattle.docket_tables.specs.Texts.{names_in};
 pub enum Table {
     /// The court of the docket, in one row.
     Court,
+    /// The days and spans of the court's calendar.
     Calendar,
     Cases,
     Parties,

@@ -1,5 +1,5 @@
 -- What is written for a value of a field is read as the value, whatever its type.
-use Rattle.std.proofs.Common.{◌≡◌, ℕ, ◌-◌, ◌%◌, List, [], ◌∷◌, Some, option_map, Ok, IsUtf8, refl, ap, ◌∙◌, arith, lt-ltb}
+use Rattle.std.proofs.Common.{◌≡◌, ℕ, ◌-◌, ◌%◌, ◌<◌, ◌==◌, length, if◌then◌else◌, List, [], ◌∷◌, Option, None, Some, option_map, Ok, IsUtf8, refl, sym, ap, ◌∙◌, arith, lt-ltb, append-nil}
 use Rattle.std.specs.Prelude.{map}
 use Rattle.std.specs.List.{AllByRecursion}
 use Rattle.civil_time.specs.Civil.{IsDayNumber}
@@ -8,7 +8,10 @@ use Rattle.civil_time.specs.LocalTime.{seconds}
 use Rattle.civil_time.specs.Zone.{IsZone}
 use Rattle.civil_time.proofs.DayTexts.{spells-text, day_of_text-spelled}
 use Rattle.civil_time.proofs.MomentGrammarLemmas.{moment_at-spelled}
-use Rattle.civil_time.proofs.Written.{moment_text-spells, moment_text-utf8}
+use Rattle.civil_time.proofs.ReadingLemmas.{clock_at-clock_text}
+use Rattle.civil_time.proofs.Written.{clock_text-utf8, moment_text-spells, moment_text-utf8}
+use Rattle.civil_time.specs.MomentText.{clock_text}
+use Rattle.civil_time.specs.Reading.{◌>>=◌, time_of_day_at}
 use Rattle.serde_json.specs.View.{items_of}
 use Rattle.json.proofs.Printed.Utf8.{IsUtf8-are_ascii}
 use Rattle.docket_command.specs.declared.field.Field.{Field}
@@ -65,6 +68,12 @@ moment_back n h =
     let whole : n - n % 60 ≡ n = omega (arith, h) in
     let spells = moment_text-spells utc utc_is n h.0 in
     ap (option_map seconds) (moment_at-spelled _ _ spells) ∙ ap Some whole
+
+-- the text of a minute of a day is read as the minute
+time_back : (n : ℕ) → n < 1440 → time_of_day_at (clock_text n) ≡ Some n
+time_back n h =
+    ap time_of_day_at (sym (append-nil (clock_text n)))
+    ∙ ap (λ (clock : Option (ℕ × List ℕ)). clock >>= λ c. if length c.1 == 0 then Some c.0 else None) (clock_at-clock_text n [] h)
 
 -- ---- rows
 
@@ -144,6 +153,7 @@ pub type_back : (t : FieldType) (x : ValueOf t) → IsLawful t x → meaning_of 
 type_back of.Number x h = rw (lt-ltb _ _ h) refl
 type_back of.Day x h = day_back x h
 type_back of.Moment x h = moment_back x h
+type_back of.TimeOfDay x h = time_back x h
 type_back of.Flag x h = refl
 type_back of.Text x h = refl
 type_back of.Rows x h = new_days_back x h
@@ -162,6 +172,7 @@ pub type_reads : (t : FieldType) (x : ValueOf t) → IsLawful t x → Reads 2 (w
 type_reads of.Number x h = Reads-number 2 x (omega (arith, h))
 type_reads of.Day x h = Reads-string 2 _ (day_text_utf8 x)
 type_reads of.Moment x h = Reads-string 2 _ (moment_text-utf8 utc utc_is x)
+type_reads of.TimeOfDay x h = Reads-string 2 _ (clock_text-utf8 x h)
 type_reads of.Flag x h = Reads-boolean 2 x
 type_reads of.Text x h = Reads-string 2 x h
 type_reads of.Rows x h = Reads-array 1 _ (AllItems-of (Reads 1) new_day_data IsNewDay x new_day_reads h)

@@ -6,6 +6,8 @@ use Rattle.docket_command.specs.declared.field.Field.{Field}
 use Rattle.docket_wire.specs.declared.fault.WireFault.{WireFault}
 use Rattle.docket_wire.specs.declared.fault.WireFault.TheVariants.{NotJson, NotAnObject, UnknownCommand, MissingField, WrongField, UnknownField, NoMemory}
 use Rattle.civil_time.specs.DayText.{day_text, day_of_text}
+use Rattle.civil_time.specs.MomentText.{clock_text}
+use Rattle.civil_time.specs.Reading.{time_of_day_at}
 use Rattle.docket_command.specs.Moments.{utc_text, moment_named}
 use Rattle.docket_command.specs.Fields.{field_name}
 
@@ -67,6 +69,9 @@ a_day d = option_and_then day_of_text (as_str d)
 abbrev pub a_moment : Data → Option ℕ
 a_moment d = option_and_then moment_named (as_str d)
 
+abbrev pub a_time : Data → Option ℕ
+a_time d = option_and_then time_of_day_at (as_str d)
+
 abbrev pub a_word : {A : Type 0} → (List ℕ → Option A) → Data → Option A
 a_word named d = option_and_then named (as_str d)
 
@@ -80,6 +85,9 @@ written_day n = string (day_text n)
 
 abbrev pub written_moment : ℕ → Data
 written_moment n = string (utc_text n)
+
+abbrev pub written_time : ℕ → Data
+written_time n = string (clock_text n)
 
 abbrev pub written_word : {A : Type 0} → (A → List ℕ) → A → Data
 written_word word x = string (word x)

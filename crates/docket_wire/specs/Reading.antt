@@ -18,7 +18,7 @@ use Rattle.docket_command.specs.FieldTypes.{FieldType, ValueOf}
 use Rattle.docket_command.specs.FieldTypes as of
 use Rattle.docket_command.specs.Schema.{FieldSpec, must, may, ValueIn, Makes, fields_of, made_of}
 use Rattle.docket_wire.specs.Tables.{required_fields, known_fields}
-use Rattle.docket_wire.specs.Members.{◌>>=◌, present, or_fault, required, optional, a_number, a_day, a_moment, a_word}
+use Rattle.docket_wire.specs.Members.{◌>>=◌, present, or_fault, required, optional, a_number, a_day, a_moment, a_time, a_word}
 use Rattle.docket_command.specs.declared.command.Command.{Command}
 use Rattle.docket_command.specs.declared.command.Action.{Action}
 use Rattle.docket_command.specs.declared.command_name.CommandName.{CommandName}
@@ -77,6 +77,7 @@ abbrev pub meaning_of : (t : FieldType) → Data → Option (ValueOf t)
 meaning_of of.Number = a_number
 meaning_of of.Day = a_day
 meaning_of of.Moment = a_moment
+meaning_of of.TimeOfDay = a_time
 meaning_of of.Flag = as_bool
 meaning_of of.Text = as_str
 meaning_of of.Rows = rows_of

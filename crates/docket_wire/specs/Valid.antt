@@ -14,6 +14,10 @@ use Rattle.docket_command.specs.Schema.{FieldSpec, must, may, ValueIn, Values, f
 abbrev pub IsNumber : ℕ → Type 0
 IsNumber n = n < 2 ^ 32
 
+-- a minute of a day
+abbrev pub IsMinute : ℕ → Type 0
+IsMinute n = n < 1440
+
 abbrev pub IsNewDay : NewDay → Type 0
 IsNewDay n = IsDayNumber n.day × IsUtf8 n.name
 
@@ -22,6 +26,7 @@ abbrev pub IsLawful : (t : FieldType) → ValueOf t → Type 0
 IsLawful of.Number x = IsNumber x
 IsLawful of.Day x = IsDayNumber x
 IsLawful of.Moment x = IsWholeMinute x
+IsLawful of.TimeOfDay x = IsMinute x
 IsLawful of.Text x = IsUtf8 x
 IsLawful of.Rows x = AllByRecursion IsNewDay x
 IsLawful _ x = Unit {0}
@@ -37,6 +42,6 @@ AreLawful (s ∷ ss) x = IsLawfulIn s x.0 × AreLawful ss x.1
 unfoldable pub IsAction : Action → Type 0
 IsAction a = AreLawful (fields_of (name_of a)) (values_of a)
 
--- numbers below 2^32, days and moments in their limits, texts of UTF-8
+-- numbers below 2^32, days, moments and times of day in their limits, texts of UTF-8
 abbrev pub IsCommand : Command → Type 0
 IsCommand c = IsUtf8 c.key × IsAction c.action

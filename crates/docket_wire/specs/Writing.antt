@@ -14,7 +14,7 @@ use Rattle.docket_command.specs.Names.{command_word, name_of}
 use Rattle.docket_command.specs.FieldTypes.{FieldType, ValueOf}
 use Rattle.docket_command.specs.FieldTypes as of
 use Rattle.docket_command.specs.Schema.{FieldSpec, must, may, field_of, ValueIn, Values, fields_of, values_of}
-use Rattle.docket_wire.specs.Members.{written_number, written_day, written_moment, written_word}
+use Rattle.docket_wire.specs.Members.{written_number, written_day, written_moment, written_time, written_word}
 
 -- a member, if it is there
 abbrev pub put_some : Field → Option Data → Members → Members
@@ -40,6 +40,7 @@ abbrev pub written_as : (t : FieldType) → ValueOf t → Data
 written_as of.Number = written_number
 written_as of.Day = written_day
 written_as of.Moment = written_moment
+written_as of.TimeOfDay = written_time
 written_as of.Flag = boolean
 written_as of.Text = string
 written_as of.Rows = rows_data

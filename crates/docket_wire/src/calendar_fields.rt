@@ -13,7 +13,7 @@ use crate::member::{required, required_text, required_word};
 use crate::rows::{put_rows, required_rows};
 use crate::written::{Members, put_text, put_value, put_word};
 use docket_command::{
-    Action, CloseDay, CloseSpan, DeclareDay, Field, ImportCalendar, WithdrawCalendar,
+    Action, CloseDay, CloseSpan, DeclareDay, Field, ImportCalendar, ShortDay, WithdrawCalendar,
 };
 use serde_json::Value;
 use std::alloc::{AllocError, Global};
@@ -90,6 +90,32 @@ pub(crate) fn put_close_span(
 {
     put_value(members, alloc, Field::Start, command.start)?;
     put_value(members, alloc, Field::End, command.end)
+}
+
+#[tactic(auto, unfolding(crate::specs::Reading::action_at))]
+pub(crate) fn read_short_day(alloc: Global, object: &Value) -> Result<Action, WireFault>
+    ensures { Gives result (action_at name.ShortDay (view object.now)) }
+{
+    Ok(Action::ShortDay(ShortDay {
+        day: required(object, Field::Day)?,
+        close: required(object, Field::Close)?,
+        name: required_text(alloc, object, Field::Name)?,
+    }))
+}
+
+#[tactic(auto, unfolding(crate::specs::Writing::action_members, crate::specs::Valid::IsAction))]
+pub(crate) fn put_short_day(
+    members: &mut Members,
+    alloc: Global,
+    command: &ShortDay,
+) -> Result<(), AllocError>
+    ensures value { OnOk result (members_view members.new.entries
+        ≡ put_all (action_members (action.ShortDay command.now)) (members_view members.old.entries)) }
+    ensures lawful { OnOk result (IsAction (action.ShortDay command.now)) }
+{
+    put_value(members, alloc, Field::Day, command.day)?;
+    put_value(members, alloc, Field::Close, command.close)?;
+    put_text(members, alloc, Field::Name, &command.name)
 }
 
 #[tactic(auto, unfolding(crate::specs::Reading::action_at))]

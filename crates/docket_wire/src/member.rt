@@ -4,15 +4,15 @@ ghost use Rattle.std.specs.Str.{IsUtf8};
 ghost use Rattle.civil_time.specs.Civil.{IsDayNumber};
 ghost use Rattle.civil_time.specs.DayText.{day_text};
 ghost use Rattle.docket_command.specs.Moments.{IsWholeMinute};
-ghost use Rattle.docket_wire.specs.Valid.{IsNumber};
+ghost use Rattle.docket_wire.specs.Valid.{IsNumber, IsMinute};
 ghost use Rattle.serde_json.specs.Data.{Data, boolean};
 ghost use Rattle.serde_json.specs.Find.{as_str};
 ghost use Rattle.serde_json.specs.View.{view};
-ghost use Rattle.docket_wire.specs.Members.{Gives, present, required as required_at, optional as optional_at, a_number, a_day, a_moment, a_word, written_number, written_day, written_moment};
+ghost use Rattle.docket_wire.specs.Members.{Gives, present, required as required_at, optional as optional_at, a_number, a_day, a_moment, a_time, a_word, written_number, written_day, written_moment, written_time};
 
 use crate::fault::WireFault;
 use civil_time::{Day, day_bytes, read_day};
-use docket_command::{Field, Moment, Text, Word};
+use docket_command::{Field, Moment, Text, TimeOfDay, Word};
 use serde_json::Value;
 use std::alloc::{AllocError, Global};
 
@@ -109,6 +109,24 @@ impl FieldValue for Moment {
 
     fn to_value(self, alloc: Global) -> Result<Value, AllocError> {
         let _instant = self.instant();
+        let bytes = self.bytes();
+        Value::try_from_str(alloc, str::from_utf8(&bytes).unwrap())
+    }
+}
+
+impl FieldValue for TimeOfDay {
+    ghost meaning = { a_time };
+
+    ghost written = { written_time };
+
+    ghost is_lawful = { IsMinute };
+
+    fn from_value(value: &Value) -> Option<TimeOfDay> {
+        TimeOfDay::read(value.as_str()?.as_bytes())
+    }
+
+    fn to_value(self, alloc: Global) -> Result<Value, AllocError> {
+        let _minute = self.minute();
         let bytes = self.bytes();
         Value::try_from_str(alloc, str::from_utf8(&bytes).unwrap())
     }

@@ -14,8 +14,8 @@ use crate::{
     service_fields as service, time_fields as time,
 };
 use docket_command::Field::{
-    self, Abroad, Allowed, At, Attorney, AttorneyMethod, Basis, Caption, Case, Count, Day, Days,
-    Deadline, Direction, Discharged, Do, Due, End, Entered, Filed, Hearing, Key, Kind, Label,
+    self, Abroad, Allowed, At, Attorney, AttorneyMethod, Basis, Caption, Case, Close, Count, Day,
+    Days, Deadline, Direction, Discharged, Do, Due, End, Entered, Filed, Hearing, Key, Kind, Label,
     Method, Name, Neglect, Notice, Opponent, Outcome, Party, Returned, Role, Row, Rows, Sent,
     Served, Start, Text, Unit, Until, Way,
 };
@@ -48,6 +48,7 @@ pub(crate) fn members_of(name: CommandName) -> KnownMembers
         CommandName::DeclareDay => members(&[Key, Day, Kind, Name], &[Do]),
         CommandName::CloseDay => members(&[Key, Day, Name], &[Do]),
         CommandName::CloseSpan => members(&[Key, Start, End], &[Do]),
+        CommandName::ShortDay => members(&[Key, Day, Close, Name], &[Do]),
         CommandName::WithdrawCalendar => members(&[Key, Row], &[Do]),
         CommandName::ImportCalendar => members(&[Key, Rows], &[Do]),
         CommandName::OpenCase => members(&[Key, Label, Caption, Filed], &[Do]),
@@ -90,6 +91,7 @@ pub(crate) fn read_action(
         CommandName::DeclareDay => calendar::read_declare_day(alloc, object),
         CommandName::CloseDay => calendar::read_close_day(alloc, object),
         CommandName::CloseSpan => calendar::read_close_span(object),
+        CommandName::ShortDay => calendar::read_short_day(alloc, object),
         CommandName::WithdrawCalendar => calendar::read_withdraw_calendar(object),
         CommandName::ImportCalendar => calendar::read_import_calendar(alloc, object),
         CommandName::OpenCase => case::read_open_case(alloc, object),
@@ -125,6 +127,7 @@ pub(crate) fn put_action(
         Action::DeclareDay(command) => calendar::put_declare_day(members, alloc, command),
         Action::CloseDay(command) => calendar::put_close_day(members, alloc, command),
         Action::CloseSpan(command) => calendar::put_close_span(members, alloc, command),
+        Action::ShortDay(command) => calendar::put_short_day(members, alloc, command),
         Action::WithdrawCalendar(command) => calendar::put_withdraw_calendar(
             members, alloc, command,
         ),

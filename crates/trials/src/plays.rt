@@ -48,7 +48,7 @@ enum Play {
 }
 
 /// The input is data/NAME.in, and what is to be written is data/NAME.out.
-const INPUTS: [(Play, &str); 39] = [
+const INPUTS: [(Play, &str); 42] = [
     (Play::Count, "count-days"),
     (Play::Count, "count-1"),
     (Play::Count, "count-2"),
@@ -59,10 +59,13 @@ const INPUTS: [(Play, &str); 39] = [
     (Play::Run, "run-chain"),
     (Play::Run, "run-general"),
     (Play::Run, "run-hours"),
+    (Play::Run, "run-short"),
+    (Play::Run, "run-short-calendar"),
     (Play::Run, "run-wire"),
     (Play::Worked, "worked-summons"),
     (Play::Worked, "worked-filings"),
     (Play::Worked, "worked-holiday"),
+    (Play::Worked, "worked-short-days"),
     (Play::Worked, "worked-vacated"),
     (Play::Worked, "worked-keys"),
     (Play::Worked, "worked-refusals"),

@@ -1,4 +1,4 @@
-//! Words and moments.
+//! Words, moments and times of day.
 use court_days::{DayKind, Direction, Way};
 use court_rules::{Method, MotionKind};
 use docket_command::*;
@@ -26,6 +26,7 @@ fn others_are_spelled() -> bool {
         && is_spelled(MotionKind::E, "e")
         && is_spelled(ServiceMethod::D, "D")
         && is_spelled(CommandName::StatementServed, "statement_served")
+        && is_spelled(CommandName::ShortDay, "short_day")
 }
 
 #[test]
@@ -50,6 +51,7 @@ fn is_told(refusal: Refusal, number: u32, name: &str) -> bool {
 #[test]
 fn names_of_fields_and_refusals(rt: HostRuntime) {
     assert!(rt; Field::AttorneyMethod.name() == "attorney_method");
+    assert!(rt; Field::Close.name() == "close");
     assert!(rt; is_told(Refusal::BadValue(Field::Attorney), 3, "BadValue"));
     assert!(rt; is_told(Refusal::Full, 20, "Full"));
     assert!(rt; Method::from(ServiceMethod::F) == Method::F);
@@ -81,4 +83,23 @@ fn moments(rt: HostRuntime) {
         assert!(rt; Moment::new(seconds).is_none(), "{seconds}");
     }
     assert!(rt; Moment::read(b"2025-07-07").is_none());
+}
+
+/// Whether the text spells the minute of a day, and is what is written of it.
+fn is_time(text: &str, minute: u32) -> bool {
+    match TimeOfDay::read(text.as_bytes()) {
+        Some(time) => time.minute() == minute && time.bytes().as_slice() == text.as_bytes(),
+        None => false,
+    }
+}
+
+#[test]
+fn times_of_day(rt: HostRuntime) {
+    assert!(rt; is_time("00:00", 0));
+    assert!(rt; is_time("16:59", 1019));
+    assert!(rt; is_time("23:59", 1439));
+    assert!(rt; TimeOfDay::new(1440).is_none());
+    for text in ["24:00", "12:60", "9:00", "12:00:00", "12:00-05:00", ""] {
+        assert!(rt; TimeOfDay::read(text.as_bytes()).is_none(), "{text}");
+    }
 }

@@ -1,9 +1,10 @@
 //! The tables of a docket, taken row by row, and the same with one thing wrong.
 use court_days::{Calendar, Court, Day, DayKind, Direction};
 use court_rules::{Act, DayPeriod, MotionKind, Period, Rule, Start};
-use docket_command::{Role, Text};
+use docket_command::{Role, Text, TimeOfDay};
 use docket_core::{
     ActRow, CalendarItem, CalendarRow, CaseRow, DeadlineRow, EndRow, EndTime, EntryRow, PartyRow,
+    ShortDayRow,
 };
 use docket_sound::*;
 use std::alloc::{AllocError, Global};
@@ -44,6 +45,39 @@ fn takes_days(alloc: Global, court: Court, rows: &[(u32, u32)]) -> Result<bool, 
             number: *number,
             item: CalendarItem::Day(DayKind::Closed, july(*day)?),
             name: Text::from_str(alloc, "Storm")?,
+        };
+        if !check.take(&row)? {
+            return Ok(false);
+        }
+    }
+    Ok(true)
+}
+
+/// The check of short days beside one row of the calendar, which has number 3, before row 6.
+fn short_day_check(alloc: Global) -> Result<Option<ShortDayCheck>, Fail> {
+    let mut check = CalendarCheck::new(alloc, Court::read(alloc, ZONE, "17:00")?, 6);
+    let row = CalendarRow {
+        number: 3,
+        item: CalendarItem::Day(DayKind::Closed, july(2)?),
+        name: Text::from_str(alloc, "Storm")?,
+    };
+    if !check.take(&row)? {
+        return Ok(None);
+    }
+    Ok(Some(check.finish(alloc).2))
+}
+
+/// Whether short days with these numbers, days and closing minutes are taken whole beside it.
+fn takes_short_days(alloc: Global, rows: &[(u32, u32, u32)]) -> Result<bool, Fail> {
+    let Some(mut check) = short_day_check(alloc)? else {
+        return Ok(false);
+    };
+    for (number, day, close) in rows {
+        let row = ShortDayRow {
+            number: *number,
+            day: july(*day)?,
+            close: TimeOfDay::new(*close).ok_or("no time")?,
+            name: Text::from_str(alloc, "Heat")?,
         };
         if !check.take(&row)? {
             return Ok(false);
@@ -220,6 +254,19 @@ fn courts(rt: HostRuntime) -> Result<(), Fail> {
     assert!(rt; !takes_days(alloc, Court::read(alloc, ZONE, "17:00")?, &[(1, 2), (3, 2)])?);
     assert!(rt; !takes_days(alloc, Court::read(alloc, ZONE, "17:00")?, &[(2, 2), (1, 3)])?);
     assert!(rt; !takes_days(alloc, Court::read(alloc, ZONE, "17:00")?, &[(4, 2)])?);
+    Ok(())
+}
+
+#[test]
+fn short_days(rt: HostRuntime) -> Result<(), Fail> {
+    let alloc = rt.alloc();
+    assert!(rt; takes_short_days(alloc, &[])?);
+    assert!(rt; takes_short_days(alloc, &[(2, 2, 720), (5, 8, 1019)])?);
+    assert!(rt; !takes_short_days(alloc, &[(2, 7, 1020)])?);
+    assert!(rt; !takes_short_days(alloc, &[(3, 7, 720)])?);
+    assert!(rt; !takes_short_days(alloc, &[(6, 7, 720)])?);
+    assert!(rt; !takes_short_days(alloc, &[(4, 7, 720), (2, 8, 720)])?);
+    assert!(rt; !takes_short_days(alloc, &[(2, 7, 720), (4, 7, 780)])?);
     Ok(())
 }
 

@@ -65,6 +65,18 @@ const JULY_WITHOUT_ANSWER: &str = "\
 end 1
 ";
 
+// On a short day the clerk's office closes earlier, and the time runs to the end of the day.
+const HEAT: Step = (
+    r#"{"do":"short_day","key":"heat","day":"2025-07-07","close":"12:30","name":"Heat"}"#,
+    r#"{"number":1}"#,
+);
+
+const JULY_WITH_SHORT_DAY: &str = "\
+2025-07-07 10:00 --:--       1    5 order               -
+2025-07-07 24:00 12:30       1    4 12(a)(1)(A)(i)      1
+end 2
+";
+
 /// Whether this is the docket's calendar of the days.
 fn is_listed<S: Alter>(
     alloc: Global,
@@ -118,6 +130,15 @@ fn calendars_follow_what_happens(rt: HostRuntime) -> Result<(), Fail> {
             "2025-07-01",
             "2025-07-31",
             JULY_WITHOUT_ANSWER
+        )?
+    );
+    assert!(rt;
+        lists(
+            alloc,
+            &[HEAT],
+            "2025-07-01",
+            "2025-07-31",
+            JULY_WITH_SHORT_DAY
         )?
     );
     Ok(())

@@ -50,6 +50,12 @@ const STORM: Step = (
     r#"{"number":1}"#,
 );
 
+// It moves no end, and is withdrawn by its number, as a storm is.
+const HEAT: Step = (
+    r#"{"do":"short_day","key":"heat","day":"2025-07-07","close":"12:00","name":"Heat"}"#,
+    r#"{"number":1}"#,
+);
+
 const CALM: Step = (
     r#"{"do":"withdraw_calendar","key":"calm","row":1}"#,
     r#"{"number":1}"#,
@@ -70,6 +76,12 @@ const ANSWER: Step = (
     r#"{"number":1}"#,
 );
 
+// The day is short until half past twelve now, under another number.
+const HEAT_AGAIN: Step = (
+    r#"{"do":"short_day","key":"again","day":"2025-07-07","close":"12:30","name":"Heat"}"#,
+    r#"{"number":2}"#,
+);
+
 #[test]
 fn ends_move_with_the_calendar(rt: HostRuntime) -> Result<(), Fail> {
     let alloc = rt.alloc();
@@ -77,6 +89,8 @@ fn ends_move_with_the_calendar(rt: HostRuntime) -> Result<(), Fail> {
     assert!(rt; are_stored(alloc, &[PARTY], 2, 20_276)?);
     assert!(rt; are_stored(alloc, &[STORM], 2, 20_277)?);
     assert!(rt; are_stored(alloc, &[STORM, CALM], 2, 20_276)?);
+    assert!(rt; are_stored(alloc, &[HEAT], 2, 20_276)?);
+    assert!(rt; are_stored(alloc, &[HEAT, CALM, HEAT_AGAIN], 2, 20_276)?);
     Ok(())
 }
 

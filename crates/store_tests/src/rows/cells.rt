@@ -15,6 +15,8 @@ pub(super) const SPAN: Cells = &[
     Text(b""),
 ];
 
+pub(super) const SHORT: Cells = &[Int(3), Int(20_276), Int(720), Text(b"Heat")];
+
 pub(super) const CASE: Cells = &[
     Int(1),
     Text(b"1:25-cv-00001"),

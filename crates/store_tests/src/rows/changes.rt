@@ -1,7 +1,7 @@
 //! A row of each table.
 use court_days::{Day, DayKind, Direction, Way};
 use court_rules::{Act, DayPeriod, HourPeriod, MotionKind, Period, Rule, Start};
-use docket_command::{Moment, Role, Text};
+use docket_command::{Moment, Role, Text, TimeOfDay};
 use docket_core::{
     ActRow, CalendarItem, CalendarRow, CaseRow, Change, DeadlineRow, EntryRow, PartyRow,
 };
@@ -31,6 +31,16 @@ fn span(alloc: Global, number: u32) -> Result<Change, Fail> {
         number,
         item: CalendarItem::Span(moment(1_751_893_200)?, moment(1_751_900_400)?),
         name: Text::from_str(alloc, "")?,
+    }))
+}
+
+/// A short day, the same day, on which the clerk's office closes at noon.
+fn short_day(alloc: Global, number: u32) -> Result<Change, Fail> {
+    let noon = TimeOfDay::new(720).ok_or("no time")?;
+    Ok(Change::AddCalendar(CalendarRow {
+        number,
+        item: CalendarItem::Short(day(20_276)?, noon),
+        name: Text::from_str(alloc, "Heat")?,
     }))
 }
 
@@ -85,6 +95,7 @@ pub(super) fn of_each(alloc: Global) -> Result<Vec<Change>, Fail> {
     let mut rows = Vec::new(alloc);
     rows.push(storm(alloc, 1)?)?;
     rows.push(span(alloc, 2)?)?;
+    rows.push(short_day(alloc, 3)?)?;
     of_case(alloc, &mut rows)?;
     rows.push(deadline(3, 2, Rule::Ordered, false))?;
     rows.push(deadline(2, 0, Rule::Ordered, false))?;

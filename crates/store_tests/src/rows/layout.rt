@@ -1,6 +1,6 @@
 //! What plain SQL shows of the tables.
 use super::cells::{
-    ACTS, CASE, Cells, DEADLINES, ENTRIES, PARTIES, RECEIPTS, SPAN, STORM, court_cells,
+    ACTS, CASE, Cells, DEADLINES, ENTRIES, PARTIES, RECEIPTS, SHORT, SPAN, STORM, court_cells,
     has_numbers, is_row,
 };
 use super::changes::storm;
@@ -10,6 +10,8 @@ use sqlite::types::ValueRef::{self, Int, Text};
 use sqlite::{Alter, Connection, Error};
 use std::alloc::{AllocError, Global};
 use std::test::Fail;
+
+const SHORT_DAYS: &str = "SELECT * FROM short_day ORDER BY row_no";
 
 /// Whether the rows of a query are these, column by column.
 fn shows<S: Alter>(
@@ -38,7 +40,8 @@ fn has_calendar<S: Alter>(
     )
 }
 
-const SHOWN: [(&str, &[Cells]); 5] = [
+const SHOWN: [(&str, &[Cells]); 6] = [
+    (SHORT_DAYS, &[SHORT]),
     ("SELECT * FROM cases", &[CASE]),
     ("SELECT * FROM party ORDER BY case_no, number", &PARTIES),
     ("SELECT * FROM entry ORDER BY case_no, number", &ENTRIES),
@@ -56,7 +59,7 @@ fn has_rows_of_each<S: Alter>(conn: &mut Connection<S>) -> Result<bool, Error> {
             return Ok(false);
         }
     }
-    has_calendar(conn, &[STORM, SPAN], 3)
+    has_calendar(conn, &[STORM, SPAN], 4)
 }
 
 /// Whether the table of acts holds its rows.
@@ -91,18 +94,21 @@ fn changes<S: Alter>(
     is_written(alloc, conn, key, changes)
 }
 
-const LATER: Cells = &[Int(3), Int(3), Int(20_276), Int(0), Text(b"Storm")];
+const LATER: Cells = &[Int(4), Int(3), Int(20_276), Int(0), Text(b"Storm")];
 
 #[test]
 fn calendar_rows_go_and_their_numbers_stay(rt: HostRuntime) -> Result<(), Fail> {
     let alloc = rt.alloc();
-    let storm = storm(alloc, 3)?;
+    let storm = storm(alloc, 4)?;
     let mut conn = made(alloc)?;
     assert!(rt; has_calendar(&mut conn, &[], 1) == Ok(true));
     let mut conn = filled(alloc)?;
     assert!(rt; changes(alloc, &mut conn, "k3", Change::RemoveCalendar(1)) == Ok(true));
-    assert!(rt; has_calendar(&mut conn, &[SPAN], 3) == Ok(true));
+    assert!(rt; has_calendar(&mut conn, &[SPAN], 4) == Ok(true));
     assert!(rt; changes(alloc, &mut conn, "k4", storm) == Ok(true));
-    assert!(rt; has_calendar(&mut conn, &[SPAN, LATER], 4) == Ok(true));
+    assert!(rt; has_calendar(&mut conn, &[SPAN, LATER], 5) == Ok(true));
+    assert!(rt; shows(&mut conn, SHORT_DAYS, &[SHORT]) == Ok(true));
+    assert!(rt; changes(alloc, &mut conn, "k5", Change::RemoveCalendar(3)) == Ok(true));
+    assert!(rt; shows(&mut conn, SHORT_DAYS, &[]) == Ok(true));
     Ok(())
 }

@@ -1,7 +1,7 @@
 //! A row of SQL that is read as one of a table of the docket, and rows that are not.
 use docket_columns::{
     Version, act_of, calendar_of, case_of, court_of, deadline_of, entry_of, has_word,
-    is_of_version, party_of, reply_of,
+    is_of_version, party_of, reply_of, short_day_of,
 };
 use sqlite::{Connection, Row};
 use std::alloc::{AllocError, Global};
@@ -12,6 +12,7 @@ use std::test::Fail;
 enum Kind {
     Court,
     Calendar,
+    ShortDay,
     Case,
     Party,
     Entry,
@@ -24,6 +25,7 @@ fn is_read(alloc: Global, kind: Kind, row: &Row) -> Result<bool, AllocError> {
     Ok(match kind {
         Kind::Court => court_of(alloc, row, Version::Second)?.is_some(),
         Kind::Calendar => calendar_of(alloc, row)?.is_some(),
+        Kind::ShortDay => short_day_of(alloc, row)?.is_some(),
         Kind::Case => case_of(alloc, row)?.is_some(),
         Kind::Party => party_of(alloc, row)?.is_some(),
         Kind::Entry => entry_of(alloc, row)?.is_some(),
@@ -33,7 +35,7 @@ fn is_read(alloc: Global, kind: Kind, row: &Row) -> Result<bool, AllocError> {
     })
 }
 
-const ROWS: [(Kind, &str, bool); 26] = [
+const ROWS: [(Kind, &str, bool); 30] = [
     (
         Kind::Court,
         "SELECT 1, 'civil docket', 2, 'UTC0', 1020, 7",
@@ -67,6 +69,12 @@ const ROWS: [(Kind, &str, bool); 26] = [
         "SELECT 3, 4, 1751893200, 1751900400, 'Snow'",
         false,
     ),
+    // a kind that is none
+    (Kind::Calendar, "SELECT 3, 5, 20276, 720, 'Heat'", false),
+    (Kind::ShortDay, "SELECT 3, 20276, 720, 'Heat'", true),
+    // no time of a day, and a value too few
+    (Kind::ShortDay, "SELECT 3, 20276, 1440, 'Heat'", false),
+    (Kind::ShortDay, "SELECT 3, 20276, 720", false),
     (
         Kind::Case,
         "SELECT 1, '1:25-cv-00001', 'Roe v. Doe', 20241",

@@ -1,10 +1,12 @@
 //! What the questions are answered: the rows of plain SQL.
-use super::cells::{CASE, DEADLINES, ENTRIES, PARTIES, SPAN, STORM, are};
+use super::cells::{CASE, DEADLINES, ENTRIES, PARTIES, SHORT, SPAN, STORM, are};
 use super::changes::acts_of;
 use super::{filled, vacation};
 use court_rules::Act;
-use docket_columns::{calendar_values, case_values, deadline_values, entry_values, party_values};
-use docket_core::Kept;
+use docket_columns::{
+    calendar_values, case_values, deadline_values, entry_values, party_values, short_day_values,
+};
+use docket_core::{CalendarItem, CalendarRow, Kept};
 use docket_tables as tables;
 use docket_tables::ReadFault;
 use docket_wire::command_text;
@@ -40,10 +42,11 @@ fn number<S: Alter>(
     })
 }
 
-const NUMBERS: [(Question, u64); 10] = [
-    (Question::Court, 3),
+const NUMBERS: [(Question, u64); 11] = [
+    (Question::Court, 4),
     (Question::Standing(2), 1),
-    (Question::Standing(3), 0),
+    (Question::Standing(3), 1),
+    (Question::Standing(4), 0),
     (Question::Cases, 1),
     (Question::Label("1:25-cv-00001"), 1),
     (Question::Label("1:25-cv-00002"), 0),
@@ -67,11 +70,24 @@ fn has_court<S: Alter>(alloc: Global, conn: &mut Connection<S>) -> Result<bool, 
     Ok(court.zone.as_str() == "EST5EDT,M3.2.0,M11.1.0" && court.close == 1020)
 }
 
+/// Whether it is the row of the short day.
+fn is_short_day(row: &CalendarRow) -> bool {
+    match row.item {
+        CalendarItem::Short(day, close) => are(
+            &short_day_values(row.number, day, close, row.name.as_str()),
+            SHORT,
+        ),
+        CalendarItem::Day(_, _) | CalendarItem::Span(_, _) => false,
+    }
+}
+
 fn has_calendar<S: Alter>(alloc: Global, conn: &mut Connection<S>) -> Result<bool, ReadFault> {
     let rows = tables::calendar(conn, alloc)?;
     Ok(match rows.as_slice() {
-        [first, second] => {
-            are(&calendar_values(first), STORM) && are(&calendar_values(second), SPAN)
+        [first, second, third] => {
+            are(&calendar_values(first), STORM)
+                && are(&calendar_values(second), SPAN)
+                && is_short_day(third)
         }
         _ => false,
     })

@@ -31,9 +31,19 @@ fn day_text(alloc: Global, day: Day) -> Result<String, AllocError> {
     format!(in alloc; "due {year:04}-{month:02}-{day:02}")
 }
 
-fn end_text(alloc: Global, court: &Court, end: End) -> Result<String, AllocError> {
+/// The last day of a time, with when the clerk's office closes on it, where that is earlier than on others.
+fn last_day_text(alloc: Global, court: &Court, day: Day, close: u32) -> Result<String, AllocError> {
+    let text = day_text(alloc, day)?;
+    if close == court.close_minute() {
+        return Ok(text);
+    }
+    let (hour, minute) = (close / 60, close % 60);
+    format!(in alloc; "{text}, the office closes at {hour:02}:{minute:02}")
+}
+
+fn end_text(alloc: Global, court: &Court, end: End, close: u32) -> Result<String, AllocError> {
     match end {
-        End::LastDay(day) => day_text(alloc, day),
+        End::LastDay(day) => last_day_text(alloc, court, day, close),
         End::Moment(at) => {
             if at < INSTANTS.0 || at > INSTANTS.1 {
                 return String::from_str(alloc, "due out of reach");
@@ -45,9 +55,9 @@ fn end_text(alloc: Global, court: &Court, end: End) -> Result<String, AllocError
 }
 
 /// Where a deadline stands, in words.
-fn standing_text(alloc: Global, court: &Court, standing: Standing) -> Result<String, AllocError> {
-    match standing {
-        Standing::Running(end) => end_text(alloc, court, end),
+fn standing_text(alloc: Global, court: &Court, line: &DeadlineLine) -> Result<String, AllocError> {
+    match line.standing {
+        Standing::Running(end) => end_text(alloc, court, end, line.close),
         Standing::Suspended => String::from_str(alloc, "suspended"),
         Standing::Awaiting => String::from_str(alloc, "awaiting"),
         Standing::Done => String::from_str(alloc, "done"),
@@ -63,7 +73,7 @@ pub(crate) fn push_deadlines(
     out: &mut Vec<u8>,
 ) -> Result<(), AllocError> {
     for line in lines {
-        let standing = standing_text(alloc, court, line.standing)?;
+        let standing = standing_text(alloc, court, line)?;
         let (number, party, rule) = (line.number, line.party, line.rule.as_str());
         let text = format!(in alloc; "{number} of {party} by {rule}: {standing}\n")?;
         out.extend_from_slice(text.as_bytes())?;

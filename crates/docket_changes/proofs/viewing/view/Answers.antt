@@ -1,4 +1,4 @@
-use Rattle.std.proofs.Common.{arith}
+use Rattle.std.proofs.Common.{Ok, ap, arith}
 use Rattle.sqlite.specs.Held.{state}
 use Rattle.sqlite.specs.State.{HasCleanDisk}
 use Rattle.docket_tables.specs.Contents.{rows_in}
@@ -83,3 +83,9 @@ returns-in_err-next_row-clause-stays g c rows holds = err_stays g.S.Store c.next
 
 pub returns-clause-stays : goal.returns-clause-stays
 returns-clause-stays g c rows holds = c.in_ok-next_row.ensures.stays rows (c.in_ok-row_stands.ensures.stays rows (c.in_ok-case.ensures.stays rows (c.in_ok-label_taken.ensures.stays rows (c.in_ok-cases.ensures.stays rows (c.in_ok-kept.ensures.stays rows holds)))))
+
+pub returns-clause-kept : goal.returns-clause-kept
+returns-clause-kept g c rows holds clean reply same =
+    let read : HasCleanDisk (state g.S.Store c.kept.new.conn) =
+    omega (arith, clean, c.cases_if_asked.ensures.clean, c.is_asked_label_taken.ensures.clean, c.case_asked.ensures.clean, c.is_asked_row_standing.ensures.clean, c.next_row_if_asked.ensures.clean) in
+    c.in_ok-kept.ensures.found rows holds read reply (ap Ok same)

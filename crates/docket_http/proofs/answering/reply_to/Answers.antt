@@ -9,6 +9,7 @@ use Rattle.docket_http.specs.declared.problem.Problem.TheVariants.{Rejected}
 use Rattle.docket_http.specs.declared.reply.Reply.TheVariants.{Fixed}
 use Rattle.docket_http.proofs.AskingLemmas.{replies_as}
 use Rattle.docket_http.proofs.ClosedLemmas.{closed_as}
+use Rattle.docket_http.proofs.RecordedLemmas.{any_ok, backed_as, problem_backed}
 use Rattle.std.proofs.Common.{inl as left}
 use Rattle.docket_store.proofs.AnyLemmas.{lasts_after}
 use Rattle.docket_http.proofs.answering.reply_to.Goals as goal
@@ -62,3 +63,31 @@ returns-in-Case-clause-any g c = λ rows n stored are small holds.
 pub returns-in-Deadlines-clause-any : goal.returns-in-Deadlines-clause-any
 returns-in-Deadlines-clause-any g c = λ rows n stored are small holds.
     left (lasts_after g.S.Store c.deadlines_reply.new.docket.conn rows c.deadlines_reply.result (c.deadlines_reply.ensures.stays rows holds))
+
+pub returns-in-Command-clause-recorded : goal.returns-in-Command-clause-recorded
+returns-in-Command-clause-recorded g c docket =
+    backed_as g.S.Store c.command_reply.new.docket (Command c.in-Command.field-0) c.args.request.now.wish
+    (slice_range c.deref.result.now c.args.request.now.start c.args.request.now.end) (body_of c.args.request.now) c.command_reply.result (sym c.in-Command.is)
+    (ap (λ xs. slice_range xs c.args.request.now.start c.args.request.now.end) c.deref.ensures.value)
+    (c.command_reply.ensures.recorded docket c.in-Command.field-0)
+
+pub returns-in-Reject-clause-recorded : goal.returns-in-Reject-clause-recorded
+returns-in-Reject-clause-recorded g c docket = problem_backed g.S.Store c.args.docket.now c.args.request.now.wish (body_of c.args.request.now) (Rejected c.in-Reject.rejection)
+
+pub returns-in-Case-clause-recorded : goal.returns-in-Case-clause-recorded
+returns-in-Case-clause-recorded g c docket =
+    let body = body_of c.args.request.now in
+    backed_as g.S.Store c.case_reply.new.docket (Case c.in-Case.number) c.args.request.now.wish body body c.case_reply.result (sym c.in-Case.is) refl (any_ok c.case_reply.result)
+
+pub returns-in-Deadlines-clause-recorded : goal.returns-in-Deadlines-clause-recorded
+returns-in-Deadlines-clause-recorded g c docket =
+    let body = body_of c.args.request.now in
+    backed_as g.S.Store c.deadlines_reply.new.docket (Deadlines c.in-Deadlines.number) c.args.request.now.wish body body c.deadlines_reply.result (sym c.in-Deadlines.is) refl (any_ok c.deadlines_reply.result)
+
+pub returns-in-Calendar-clause-recorded : goal.returns-in-Calendar-clause-recorded
+returns-in-Calendar-clause-recorded g c docket = absurd (subst IsBuilt c.in-Calendar.is c.requires.whole)
+
+pub returns-in_ok-holidays_reply-in-Holidays-clause-recorded : goal.returns-in_ok-holidays_reply-in-Holidays-clause-recorded
+returns-in_ok-holidays_reply-in-Holidays-clause-recorded g c docket =
+    let body = body_of c.args.request.now in
+    backed_as g.S.Store c.args.docket.now (Holidays c.in-Holidays.year) c.args.request.now.wish body body (Ok c.in_ok-holidays_reply-in-Holidays.field-0) (sym c.in-Holidays.is) refl tt

@@ -1,6 +1,7 @@
 use Rattle.http_request.specs.declared.wish.Wish.TheVariants.{Command}
 use Rattle.docket_http.proofs.AskingLemmas.{said_replied, halted_replied, passed_on}
-use Rattle.docket_store.proofs.AnyLemmas.{answered_one}
+use Rattle.docket_store.proofs.AnyLemmas.{answered_one, err_ok}
+use Rattle.docket_http.proofs.RecordedLemmas.{said_backed}
 use Rattle.docket_http.proofs.commands.applied_reply.Goals as goal
 
 pub returns-clause-replies : goal.returns-clause-replies
@@ -28,3 +29,11 @@ returns-in_err-json_reply-clause-any g c = λ rows n stored are small holds.
 pub returns-clause-any : goal.returns-clause-any
 returns-clause-any g c = λ rows n stored are small holds.
     answered_one g.S.Store c.answer.new.docket.conn rows c.answer.new.docket.court n c.args.command.now c.answer.result (c.answer.ensures.any rows n stored are small holds)
+
+pub returns-clause-recorded : goal.returns-clause-recorded
+returns-clause-recorded g c docket len body spells =
+    said_backed g.S.Store c.answer.new.docket c.answer.new.docket.court docket.next_row docket.rows c.args.command.now c.in_ok-said.said len body c.in_ok-json_reply.field-0 _ _
+    (c.in_ok-said.ensures.any docket.rows docket.next_row docket.stored docket.are docket.few docket.holds) spells c.status_of.ensures c.in_ok-text.ensures c.in_ok-json_reply.ensures
+
+pub returns-in_err-said-clause-recorded : goal.returns-in_err-said-clause-recorded
+returns-in_err-said-clause-recorded g c docket len body spells = err_ok c.from_residual.result _ _ c.from_residual.ensures.1

@@ -7,9 +7,9 @@ use Rattle.docket_migration.proofs.MigrateLemmas.{has_court, not_found, told_not
 use Rattle.docket_migration.proofs.migrating.migrate_idle.Goals as goal
 
 pub returns-in-Err-clause-docket : goal.returns-in-Err-clause-docket
-returns-in-Err-clause-docket g c court h settings zone history commands was =
+returns-in-Err-clause-docket g c court h settings zone history commands none was =
     let told = c.in-Err.ensures in
-    not_found g.S.Store c.args.conn.now c.find_docket.new.conn told.writes_nothing court h c.in-Err.fault was (told.mode c.requires) (λ clean. told.docket clean court h settings zone history commands was)
+    not_found g.S.Store c.args.conn.now c.find_docket.new.conn told.writes_nothing court h c.in-Err.fault was (told.mode c.requires) (λ clean. told.docket clean court h settings zone history commands none was)
 
 pub returns-in-Err-clause-told : goal.returns-in-Err-clause-told
 returns-in-Err-clause-told g c =
@@ -17,11 +17,11 @@ returns-in-Err-clause-told g c =
     told_not_found g.S.Store c.args.conn.now c.find_docket.new.conn told.writes_nothing c.in-Err.fault told.told
 
 pub returns-clause-docket : goal.returns-clause-docket
-returns-clause-docket g c court h settings zone history commands was =
+returns-clause-docket g c court h settings zone history commands none was =
     let told = c.in_default.ensures in
     let holds = still_holds g.S.Store c.args.conn.now c.find_docket.new.conn told.writes_nothing c.in_default.field-0 told.told (rows_by First court (rows_of court h)) was (told.mode c.requires) in
     then_migrates g.S.Store c.args.conn.now c.find_docket.new.conn told.writes_nothing c.change_judged.new.conn c.change_judged.ensures.clean court h c.change_judged.result
-    (c.change_judged.ensures.docket court h holds)
+    (c.change_judged.ensures.docket court h none holds)
 
 pub returns-clause-told : goal.returns-clause-told
 returns-clause-told g c =

@@ -1,11 +1,13 @@
-use Rattle.std.proofs.Common.{◌≡◌, ◌∙◌, ap, inl, subst}
+use Rattle.std.proofs.Common.{◌≡◌, ◌∙◌, [], map, ap, inl, refl, subst, sym}
 use Rattle.sqlite.specs.Held.{state}
+use Rattle.docket_core.specs.declared.row.CalendarRow.{CalendarRow}
 use Rattle.docket_columns.specs.Cells.{calendar_cells}
 use Rattle.docket_columns.specs.Fits.{IsCalendarRow}
 use Rattle.docket_sound.specs.Calendars.{AreSoundCalendarRows, HasTakenCalendarRows}
+use Rattle.docket_sound.specs.ShortDays.{GoesBy}
 use Rattle.docket_tables.specs.declared.table.Table.TheVariants as table
 use Rattle.docket_scan.specs.Judging.{no_rows}
-use Rattle.docket_scan.specs.Reading.{FailsOver, Says}
+use Rattle.docket_scan.specs.Reading.{FailsOver, IsReady, Says}
 use Rattle.docket_scan.specs.Records.{AreCalendarRows}
 use Rattle.docket_scan.specs.Taken.{CalendarContext, calendar_context}
 use Rattle.docket_scan.specs.declared.fault.AdoptFault.TheVariants.{NoMemory}
@@ -40,12 +42,20 @@ returns-clause-ok g c clean =
     let taken = HasTakenCalendarRows c.in_ok-check.check in
     let read = told.1.3.1 in
     let count = so_many table.Calendar old IsCalendarRow calendar_cells taken c.in_ok-check.count told.1 in
-    let sound = subst (λ (k : CalendarContext). AreSoundCalendarRows k.0 k.1 read.records) given read.taken.sound in
+    let sound = subst (λ (k : CalendarContext). AreSoundCalendarRows k.0 k.1 read.records) given read.taken.entered.sound in
     let court = c.finish-court.ensures.court ∙ ap (λ (k : CalendarContext). k.0) given in
-    let said = c.in_ok-read.ensures read.records (c.finish-court.ensures.calendar read.records read.taken) count in
+    let finish = c.finish-court.ensures in
+    let short_days = c.finish-court.result.2 in
+    let ready : IsReady c.args.court c.args.next_row read.records [] short_days = record {
+      unread = refl;
+      none = finish.short_days read.records read.taken;
+      goes = subst (λ (k : CalendarContext). GoesBy short_days k.0.close_minute k.1 (map (λ (r : CalendarRow). r.number) read.records)) given (finish.context read.records read.taken);
+    } in
+    let said = c.in_ok-read.ensures read.records c.args.next_row (finish.calendar read.records read.taken) count
+    (subst (λ k. IsReady k c.args.next_row read.records [] short_days) (sym court) ready) in
     record {
       same = told.0;
       rows = record no_rows { calendar = read.records };
       sound = (read_rows table.Calendar old IsCalendarRow calendar_cells taken c.in_ok-check.count told.1 (AreSoundCalendarRows c.args.court c.args.next_row) sound, tt);
-      said = subst (λ k. Says table.Cases k (record no_rows { calendar = read.records }) c.in_ok-read.read) court said;
+      said = subst (λ k. Says table.Cases k c.args.next_row (record no_rows { calendar = read.records }) c.in_ok-read.read) court said;
     }

@@ -47,6 +47,7 @@ returns-clause-ok g c first court next prior clean =
       said = record {
         court = was.said.court;
         calendar = was.said.calendar;
+        short_days = was.said.short_days;
         cases = c.cases.ensures read.records read.taken;
         parties = was.said.parties;
         deadlines = was.said.deadlines;

@@ -51,6 +51,7 @@ returns-clause-ok g c first court next prior clean =
       said = record {
         court = was.said.court;
         calendar = was.said.calendar;
+        short_days = was.said.short_days;
         cases = was.said.cases;
         parties = ap parties_of c.finish-parties.ensures.parties ∙ ap (λ (k : DeadlineContext). k.1) given;
         deadlines = subst (λ n. HasNumbered n (map deadline_key read.records)) (sym c.finish-parties.ensures.deadlines) read.taken.numbered;

@@ -52,11 +52,11 @@ returns-then-is_sound-clause-ok g c first court next prior clean =
       rows = rows;
       sound = all_more (Holds start court next rows) (before table.Ends) table.Ends was.sound
           (read_rows table.Ends start IsEndRow end_cells taken c.in_ok-check.field-0-1 held (λ records. records ≡ _) same);
-      said = was.said.held;
+      said = record { short_days = was.said.short_days; held = was.said.held };
     }
 
-pub returns-clause-err : goal.returns-clause-err
-returns-clause-err g c v first court next prior clean =
+pub returns-else-is_sound-clause-err : goal.returns-else-is_sound-clause-err
+returns-else-is_sound-clause-err g c v first court next prior clean =
     let start = state g.S.Store first in
     let old = state g.S.Store c.args.conn.now in
     let new = state g.S.Store c.judge.new.conn in

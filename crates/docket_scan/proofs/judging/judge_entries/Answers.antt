@@ -48,6 +48,7 @@ returns-clause-ok g c first court next prior clean =
       said = record {
         court = was.said.court;
         calendar = was.said.calendar;
+        short_days = was.said.short_days;
         cases = was.said.cases;
         parties = was.said.parties;
         deadlines = was.said.deadlines;

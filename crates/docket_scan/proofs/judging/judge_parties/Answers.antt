@@ -50,6 +50,7 @@ returns-clause-ok g c first court next prior clean =
       said = record {
         court = was.said.court;
         calendar = was.said.calendar;
+        short_days = was.said.short_days;
         cases = was.said.cases;
         parties = ap parties_of c.counts.ensures ∙ parties_counted c.in_ok-check-2.check.numbering (map party_key read.records) read.taken.numbered;
         deadlines = was.said.deadlines;

@@ -43,6 +43,7 @@ returns-clause-ok g c first court next prior clean =
       sound = all_more (Holds start court next rows) (before table.Receipts) table.Receipts was.sound (read_rows table.Receipts start IsStoredReceipt receipt_cells taken c.in_ok-count.count held AreSoundStored read.taken.sound);
       said = record {
         ends = was.said.ends;
+        short_days = was.said.short_days;
         held = λ i. record (was.said.held i) { receipts = count i };
       };
     }

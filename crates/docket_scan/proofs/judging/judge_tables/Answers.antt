@@ -110,14 +110,14 @@ returns-in_err-read-7-clause-told g c clean =
     told_of version court next (state g.S.Store first) (state g.S.Store c.judge_receipts.new.conn) (λ r held. held ≡ holdings_of court r) c.from_residual-in_err-read-7.result fault c.from_residual-in_err-read-7.ensures.1
     (c.in_err-read-7.ensures.err version first court next read clean)
 
-pub returns-in_err-held-clause-writes_nothing : goal.returns-in_err-held-clause-writes_nothing
-returns-in_err-held-clause-writes_nothing g c = nothing_then (nothing_then (nothing_then (nothing_then (nothing_then (nothing_then (nothing_then c.judge_calendar.ensures.writes_nothing c.judge_cases.ensures.writes_nothing) c.judge_parties.ensures.writes_nothing) c.judge_entries.ensures.writes_nothing) c.judge_deadlines.ensures.writes_nothing) c.judge_acts.ensures.writes_nothing) c.judge_receipts.ensures.writes_nothing) c.judge_ends.ensures.writes_nothing
+pub returns-in_err-last-clause-writes_nothing : goal.returns-in_err-last-clause-writes_nothing
+returns-in_err-last-clause-writes_nothing g c = nothing_then (nothing_then (nothing_then (nothing_then (nothing_then (nothing_then (nothing_then c.judge_calendar.ensures.writes_nothing c.judge_cases.ensures.writes_nothing) c.judge_parties.ensures.writes_nothing) c.judge_entries.ensures.writes_nothing) c.judge_deadlines.ensures.writes_nothing) c.judge_acts.ensures.writes_nothing) c.judge_receipts.ensures.writes_nothing) c.judge_ends.ensures.writes_nothing
 
-pub returns-in_err-held-clause-mode : goal.returns-in_err-held-clause-mode
-returns-in_err-held-clause-mode g c idle = c.judge_ends.ensures.mode (c.judge_receipts.ensures.mode (c.judge_acts.ensures.mode (c.judge_deadlines.ensures.mode (c.judge_entries.ensures.mode (c.judge_parties.ensures.mode (c.judge_cases.ensures.mode (c.judge_calendar.ensures.mode idle)))))))
+pub returns-in_err-last-clause-mode : goal.returns-in_err-last-clause-mode
+returns-in_err-last-clause-mode g c idle = c.judge_ends.ensures.mode (c.judge_receipts.ensures.mode (c.judge_acts.ensures.mode (c.judge_deadlines.ensures.mode (c.judge_entries.ensures.mode (c.judge_parties.ensures.mode (c.judge_cases.ensures.mode (c.judge_calendar.ensures.mode idle)))))))
 
-pub returns-in_err-held-clause-told : goal.returns-in_err-held-clause-told
-returns-in_err-held-clause-told g c clean =
+pub returns-in_err-last-clause-told : goal.returns-in_err-last-clause-told
+returns-in_err-last-clause-told g c clean =
     let first = c.args.conn.now in
     let version = c.args.version in
     let court = c.args.court in
@@ -129,9 +129,9 @@ returns-in_err-held-clause-told g c clean =
     let read = c.in_ok-read-5.ensures.ok first court next read in
     let read = c.in_ok-read-6.ensures.ok first court next read in
     let read = c.in_ok-read-7.ensures.ok first court next read in
-    let fault = c.in_err-held.field-0.0 in
-    told_of version court next (state g.S.Store first) (state g.S.Store c.judge_ends.new.conn) (λ r held. held ≡ holdings_of court r) c.from_residual-in_err-held.result fault c.from_residual-in_err-held.ensures.1
-    (c.in_err-held.ensures.err version first court next read clean)
+    let fault = c.in_err-last.field-0.0 in
+    told_of version court next (state g.S.Store first) (state g.S.Store c.judge_ends.new.conn) (λ r held. held ≡ holdings_of court r) c.from_residual-in_err-last.result fault c.from_residual-in_err-last.ensures.1
+    (c.in_err-last.ensures.err version first court next read clean)
 
 pub returns-clause-writes_nothing : goal.returns-clause-writes_nothing
 returns-clause-writes_nothing g c = nothing_then (nothing_then (nothing_then (nothing_then (nothing_then (nothing_then (nothing_then (nothing_then c.judge_calendar.ensures.writes_nothing c.judge_cases.ensures.writes_nothing) c.judge_parties.ensures.writes_nothing) c.judge_entries.ensures.writes_nothing) c.judge_deadlines.ensures.writes_nothing) c.judge_acts.ensures.writes_nothing) c.judge_receipts.ensures.writes_nothing) c.judge_ends.ensures.writes_nothing) c.judge_more.ensures.writes_nothing
@@ -151,5 +151,5 @@ returns-clause-told g c clean =
     let read = c.in_ok-read-5.ensures.ok first court next read in
     let read = c.in_ok-read-6.ensures.ok first court next read in
     let read = c.in_ok-read-7.ensures.ok first court next read in
-    let held = c.in_ok-held.ensures.ok first court next read in
-    c.judge_more.ensures.told first court next held clean
+    let last = c.in_ok-last.ensures.ok first court next read in
+    c.judge_more.ensures.told first court next last clean

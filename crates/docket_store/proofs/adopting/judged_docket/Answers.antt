@@ -9,7 +9,7 @@ pub returns-in-Ok-clause-found : goal.returns-in-Ok-clause-found
 returns-in-Ok-clause-found g c court h is stands =
     let told = c.in-Ok.ensures in
     found_docket g.S.Store c.args.conn.now c.find_docket.new.conn court h told.writes_nothing (told.mode c.requires) stands c.in-Ok.found told.told
-    (λ clean. told.docket clean court h is.settings is.zone is.history is.commands stands)
+    (λ clean. told.docket clean court h is.settings is.zone is.history is.commands tt stands)
 
 pub returns-in-Err-clause-found : goal.returns-in-Err-clause-found
 returns-in-Err-clause-found g c court h is stands =
@@ -23,7 +23,7 @@ returns-in-Err-2-clause-found g c court h is stands =
     let told = c.in-Err.ensures in
     let other : c.in-Err.fault ≡ NoMemory → ⊥ = search rules in
     not_found g.S.Store c.args.conn.now c.find_docket.new.conn court h told.writes_nothing (told.mode c.requires) stands c.in-Err.fault other told.told
-    (λ clean. told.docket clean court h is.settings is.zone is.history is.commands stands)
+    (λ clean. told.docket clean court h is.settings is.zone is.history is.commands tt stands)
 
 pub returns-in-Ok-clause-stays : goal.returns-in-Ok-clause-stays
 returns-in-Ok-clause-stays g c rows holds =

@@ -5,6 +5,7 @@ use Rattle.docket_core.specs.Decisions.{IsAnswer, LeadsTo}
 use Rattle.docket_core.specs.Histories.{History}
 use Rattle.docket_core.specs.Outcomes.{outcome, repeated}
 use Rattle.docket_core.specs.declared.decision.Decision.{Decision}
+use Rattle.docket_store.specs.AnyRows.{RepeatsReceipt}
 use Rattle.docket_store.specs.Applying.{IsAccepted, Keeps, docket_rows}
 use Rattle.docket_store.proofs.ApplyLemmas.{docket_after, after_repeated, holds_same}
 use Rattle.docket_store.proofs.AnyLemmas.{unwritten}
@@ -49,7 +50,8 @@ returns-in_err-decision-clause-any g c rows n stored are small holds =
     (c.in_err-decision.ensures.stays rows holds)
 
 pub returns-in-Repeat-clause-any : goal.returns-in-Repeat-clause-any
-returns-in-Repeat-clause-any g c rows n stored are small holds = left (c.in_ok-decision.ensures.stays rows holds)
+returns-in-Repeat-clause-any g c rows n stored are small holds =
+    left (c.in_ok-decision.ensures.stays rows holds, λ clean. subst (λ (d : Decision). RepeatsReceipt rows c.args.command.now d) c.in-Repeat.is (c.in_ok-decision.ensures.repeats rows holds clean))
 
 pub returns-clause-any : goal.returns-clause-any
 returns-clause-any g c rows n stored are small holds = c.keep.ensures.any rows n stored are small (c.in_ok-decision.ensures.stays rows holds)

@@ -3,21 +3,21 @@ use Rattle.std.proofs.lemmas.List.Sorted.{IsPermutation-refl}
 use Rattle.docket_core.specs.EndRows.{all_changed_ends, end_rows}
 use Rattle.docket_core.specs.Histories.{case_rows}
 use Rattle.docket_core.specs.Tables.{rows_of}
-use Rattle.docket_changes.specs.Settling.{IsUpdate, case_moved, changes_calendar}
+use Rattle.docket_changes.specs.Settling.{IsUpdate, case_moved, changes_calendar, moves_all_cases}
 use Rattle.docket_changes.specs.declared.moving.EndUpdate.{EndUpdate}
 use Rattle.docket_changes.specs.declared.moving.EndUpdate.TheVariants.{Calendar}
-use Rattle.docket_changes.proofs.HistoryLemmas.{ends_kept}
+use Rattle.docket_changes.proofs.HistoryLemmas.{ends_kept, named_quiet}
 use Rattle.docket_store.specs.Dockets.{serving}
 use Rattle.docket_store.proofs.ApplyLemmas.{calendar_accepted}
 use Rattle.docket_store.proofs.AskLemmas.{asks_weaker}
 use Rattle.docket_store.proofs.applying.end_update.Goals as goal
 
-pub returns-then-changes_calendar-clause-update : goal.returns-then-changes_calendar-clause-update
-returns-then-changes_calendar-clause-update g c h stands accepts =
+pub returns-then-moves_all_cases-clause-update : goal.returns-then-moves_all_cases-clause-update
+returns-then-moves_all_cases-clause-update g c h stands accepts =
     let court = c.args.court.now in
     let command = c.args.command.now in
     let kept = c.args.kept.now in
-    let changing : changes_calendar command.action ≡ true = sym c.changes_calendar.ensures ∙ c.if-changes_calendar.true in
+    let changing : moves_all_cases command.action ≡ true = sym c.moves_all_cases.ensures ∙ c.if-moves_all_cases.true in
     asks_weaker g.S.Store (serving c.calendar_update.new.conn court kept) h (λ (found : EndUpdate). found ≡ Calendar (length (case_rows h)))
     (λ (found : EndUpdate). IsUpdate court found (rows_of court h) (rows_of court (command ∷ h))) c.calendar_update.result
     (λ clean found is. calendar_accepted court h command c.args.changes.now found stands.docket c.requires.lawful (accepts (omega (arith, c.calendar_update.ensures.clean))).0 changing is)
@@ -27,7 +27,7 @@ pub returns-in-None-clause-update : goal.returns-in-None-clause-update
 returns-in-None-clause-update g c h stands accepts =
     let court = c.args.court.now in
     let command = c.args.command.now in
-    let calm : changes_calendar command.action ≡ false = sym c.changes_calendar.ensures ∙ c.if-changes_calendar.false in
+    let calm : moves_all_cases command.action ≡ false = sym c.moves_all_cases.ensures ∙ c.if-moves_all_cases.false in
     let none : case_moved command.action ≡ None = sym c.case_moved.ensures ∙ c.in-None.is in
     let ends = end_rows court (rows_of court h) in (
       stands,

@@ -1,6 +1,6 @@
 use Rattle.std.proofs.Common.{IsTrue}
 use Rattle.docket_store.proofs.ApplyLemmas.{shown_sound}
-use Rattle.docket_store.proofs.AnyLemmas.{err_preserves, short_preserves}
+use Rattle.docket_store.proofs.AnyLemmas.{err_preserves, repeat_has, short_preserves}
 use Rattle.docket_store.proofs.judging.judge.Goals as goal
 
 pub returns-then-not-is_sound-clause-judged : goal.returns-then-not-is_sound-clause-judged
@@ -14,3 +14,7 @@ returns-in_err-view-clause-stays g c rows holds = err_preserves g.S.Store c.look
 
 pub returns-in_err-named-clause-stays : goal.returns-in_err-named-clause-stays
 returns-in_err-named-clause-stays g c rows holds = short_preserves g.S.Store c.look.new.conn rows c.from_residual-in_err-named.result c.from_residual-in_err-named.ensures.1 (c.in_ok-view.ensures.stays rows holds)
+
+pub returns-in-Ok-clause-repeats : goal.returns-in-Ok-clause-repeats
+returns-in-Ok-clause-repeats g c rows holds clean =
+    repeat_has rows c.args.command.now c.in_ok-view.view c.in-Ok.decision (c.in_ok-view.ensures.receipt rows holds clean) c.in-Ok.ensures.repeats

@@ -23,3 +23,6 @@ returns-in-Ok-clause-stays g c rows holds = c.in-Ok.ensures.stays rows holds
 
 pub returns-in-Err-clause-stays : goal.returns-in-Err-clause-stays
 returns-in-Err-clause-stays g c rows holds = c.read_fault.ensures.stays rows (c.in-Err.ensures.stays rows holds)
+
+pub returns-in-Ok-clause-receipt : goal.returns-in-Ok-clause-receipt
+returns-in-Ok-clause-receipt g c rows holds clean = c.in-Ok.ensures.receipt rows holds clean

@@ -22,3 +22,6 @@ returns-in_err-calendar-clause-stays g c rows holds = err_stays g.S.Store c.cale
 
 pub returns-clause-stays : goal.returns-clause-stays
 returns-clause-stays g c rows holds = c.view.ensures.stays rows (c.in_ok-calendar.ensures.stays rows holds)
+
+pub returns-clause-receipt : goal.returns-clause-receipt
+returns-clause-receipt g c rows holds clean = c.view.ensures.kept rows (c.in_ok-calendar.ensures.stays rows holds) clean

@@ -1,13 +1,14 @@
 use Rattle.std.proofs.Common.{◌∙◌, ap, sym, subst, refl}
 use Rattle.std.proofs.lemmas.Result.{IfOk-weaker}
 use Rattle.sqlite.specs.Held.{state}
+use Rattle.docket_core.specs.ShortDays.{day_and_span_rows, short_day_rows}
 use Rattle.docket_core.specs.Tables.{changed}
-use Rattle.docket_columns.specs.Cells.{case_cells, party_cells, entry_cells, deadline_cells, act_cells}
+use Rattle.docket_columns.specs.Cells.{calendar_cells, short_day_cells, case_cells, party_cells, entry_cells, deadline_cells, act_cells}
 use Rattle.docket_tables.specs.AnyRows.{row_changed}
 use Rattle.docket_tables.specs.Contents.{rows_with}
 use Rattle.docket_tables.specs.Stands.{Sees}
 use Rattle.docket_tables.specs.declared.table.Table.TheVariants.{Cases, Parties, Entries, Deadlines, Acts}
-use Rattle.docket_tables.proofs.ContentsLemmas.{row_inserted, sees_same, case_added, party_added, entry_added, deadline_added, act_added, calendar_removed, calendar_keyed}
+use Rattle.docket_tables.proofs.ContentsLemmas.{row_inserted, sees_same, case_added, party_added, entry_added, deadline_added, act_added, calendar_removed, keyed_rows}
 use Rattle.docket_tables.proofs.changing.change_row.Goals as goal
 
 pub returns-in-AddCalendar-clause-ok : goal.returns-in-AddCalendar-clause-ok
@@ -17,10 +18,11 @@ returns-in-AddCalendar-clause-ok g c clean court t ends small sees =
 
 pub returns-in-RemoveCalendar-clause-ok : goal.returns-in-RemoveCalendar-clause-ok
 returns-in-RemoveCalendar-clause-ok g c clean court t ends small sees =
-    let new = state g.S.Store c.remove_calendar_row.new.tx.conn.now in
-    IfOk-weaker c.remove_calendar_row.result _ _ (λ _ h. sees_same new _ (rows_with court (changed c.args.change.now t) ends)
+    let new = state g.S.Store c.withdraw_row.new.tx.conn.now in
+    IfOk-weaker c.withdraw_row.result _ _ (λ _ h. sees_same new _ (rows_with court (changed c.args.change.now t) ends)
     (λ other. calendar_removed court t ends _ other ∙ ap (λ x. rows_with court (changed x t) ends other) (sym c.in-RemoveCalendar.is)) h)
-    (c.remove_calendar_row.ensures.ok clean (rows_with court t ends) (calendar_keyed t.calendar) sees)
+    (c.withdraw_row.ensures.ok clean (rows_with court t ends) (keyed_rows calendar_cells (λ row. row.number) (λ row. refl) (day_and_span_rows t.calendar))
+    (keyed_rows short_day_cells (λ row. row.number) (λ row. refl) (short_day_rows t.calendar)) sees)
 
 pub returns-in-AddCase-clause-ok : goal.returns-in-AddCase-clause-ok
 returns-in-AddCase-clause-ok g c clean court t ends small sees =
@@ -69,8 +71,8 @@ returns-in-AddCalendar-clause-any g c clean court n stored rows are small sees =
 
 pub returns-in-RemoveCalendar-clause-any : goal.returns-in-RemoveCalendar-clause-any
 returns-in-RemoveCalendar-clause-any g c clean court n stored rows are small sees =
-    IfOk-weaker c.remove_calendar_row.result _ _ (λ _ h. subst (λ x. Sees (state g.S.Store c.remove_calendar_row.new.tx.conn.now) (row_changed court n x rows)) (sym c.in-RemoveCalendar.is) h)
-    (c.remove_calendar_row.ensures.ok clean rows are.keyed sees)
+    IfOk-weaker c.withdraw_row.result _ _ (λ _ h. subst (λ x. Sees (state g.S.Store c.withdraw_row.new.tx.conn.now) (row_changed court n x rows)) (sym c.in-RemoveCalendar.is) h)
+    (c.withdraw_row.ensures.ok clean rows are.keyed are.keyed_short sees)
 
 pub returns-in-AddCase-clause-any : goal.returns-in-AddCase-clause-any
 returns-in-AddCase-clause-any g c clean court n stored rows are small sees =

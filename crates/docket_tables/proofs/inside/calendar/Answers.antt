@@ -1,14 +1,10 @@
-use Rattle.std.proofs.Common.{◌∙◌, [], map, true, refl, sym, ap, subst, arith}
-use Rattle.sqlite_trees.proofs.ListLemmas.{filter_all, all_of}
+use Rattle.std.proofs.Common.{◌∙◌, arith}
 use Rattle.sqlite.specs.Held.{state}
 use Rattle.sqlite.specs.State.{HasCleanDisk}
-use Rattle.docket_columns.specs.Cells.{calendar_cells}
 use Rattle.docket_tables.specs.Contents.{rows_with}
-use Rattle.docket_orderly.specs.Orderly.{Rises}
-use Rattle.docket_tables.specs.declared.query.Query.TheVariants as ask
 use Rattle.docket_tables.proofs.AnyLemmas.{still_read}
-use Rattle.docket_tables.proofs.AnswerLemmas.{in_order}
-use Rattle.docket_tables.proofs.InsideLemmas.{failed_after, read_inside}
+use Rattle.docket_tables.proofs.InsideLemmas.{failed_after, inside_with, read_inside, stays_after}
+use Rattle.docket_tables.proofs.TwoTables.{days_shown, short_days_shown}
 use Rattle.docket_tables.proofs.inside.calendar.Goals as goal
 
 pub returns-in_err-rows-clause-inside : goal.returns-in_err-rows-clause-inside
@@ -16,26 +12,53 @@ returns-in_err-rows-clause-inside g c court t ends orderly =
     let rows = rows_with court t ends in
     failed_after (state g.S.Store c.args.tx.now.conn.now) (state g.S.Store c.ask_inside.new.tx.conn.now) rows rows c.from_residual.result _ (λ sees. c.ask_inside.ensures.inside rows sees) c.from_residual.ensures.0
 
-pub returns-clause-inside : goal.returns-clause-inside
-returns-clause-inside g c court t ends orderly sees =
+pub returns-in_err-short_rows-clause-inside : goal.returns-in_err-short_rows-clause-inside
+returns-in_err-short_rows-clause-inside g c court t ends orderly =
     let old = state g.S.Store c.args.tx.now.conn.now in
-    let rows = rows_with court t ends in (
-      c.in_ok-rows.ensures.inside rows sees,
-      λ clean.
-          let before : HasCleanDisk old = omega (arith, c.ask_inside.ensures.clean) in
-          let asked = c.in_ok-rows.ensures.ok clean rows (sees before) in
-          let shown = c.in_ok-rows.rows.items in
-          let all = filter_all (λ _. true) t.calendar (all_of _ (λ _. refl) t.calendar) in
-          let rises = subst (λ xs. Rises (map (λ row. row.number) xs)) (sym all) orderly.calendar_rises in
-          let are = in_order ask.Calendar [] calendar_cells (λ _. true) (λ row. refl) t.calendar shown (λ row. row.number) (λ row. refl) refl refl rises asked.1 in
-          read_inside c.all_in.result _ _ (c.all_in.ensures t.calendar orderly.calendar (c.as_slice.ensures.value ∙ are ∙ ap (map calendar_cells) all)) asked.0,
-    )
+    let mid = state g.S.Store c.ask_inside.new.tx.conn.now in
+    let new = state g.S.Store c.ask_inside-2.new.tx.conn.now in
+    let rows = rows_with court t ends in
+    let before : HasCleanDisk mid → HasCleanDisk old = λ clean. omega (arith, c.ask_inside.ensures.clean) in
+    failed_after old new rows rows c.from_residual-in_err-short_rows.result _
+    (stays_after old mid new rows rows _ (λ sees. (c.in_ok-rows.ensures.inside rows sees, λ clean. c.in_ok-rows.ensures.ok clean rows (sees (before clean)))) (λ sees. c.ask_inside-2.ensures.inside rows sees))
+    c.from_residual-in_err-short_rows.ensures.0
+
+pub returns-clause-inside : goal.returns-clause-inside
+returns-clause-inside g c court t ends orderly =
+    let old = state g.S.Store c.args.tx.now.conn.now in
+    let mid = state g.S.Store c.ask_inside.new.tx.conn.now in
+    let new = state g.S.Store c.ask_inside-2.new.tx.conn.now in
+    let rows = rows_with court t ends in
+    let before : HasCleanDisk mid → HasCleanDisk old = λ clean. omega (arith, c.ask_inside.ensures.clean) in
+    inside_with old mid new rows rows rows _ c.calendar_in.result _ (λ sees. (c.in_ok-rows.ensures.inside rows sees, λ clean. c.in_ok-rows.ensures.ok clean rows (sees (before clean))))
+    (λ sees. c.in_ok-short_rows.ensures.inside rows sees)
+    (λ clean asked sees.
+    let next = c.in_ok-short_rows.ensures.ok clean rows sees in
+    let days = days_shown t.calendar c.in_ok-rows.rows.items orderly.calendar_rises asked in
+    let short_days = short_days_shown t.calendar c.in_ok-short_rows.short_rows.items orderly.calendar_rises next.1 in
+    read_inside c.calendar_in.result _ _
+    (c.calendar_in.ensures t.calendar orderly.calendar orderly.short_days orderly.calendar_rises (c.as_slice.ensures.value ∙ days) (c.as_slice-2.ensures.value ∙ short_days)) next.0)
 
 pub returns-in_err-rows-clause-still : goal.returns-in_err-rows-clause-still
 returns-in_err-rows-clause-still g c rows =
     failed_after (state g.S.Store c.args.tx.now.conn.now) (state g.S.Store c.ask_inside.new.tx.conn.now) rows rows c.from_residual.result _ (λ sees. c.ask_inside.ensures.inside rows sees) c.from_residual.ensures.0
 
+pub returns-in_err-short_rows-clause-still : goal.returns-in_err-short_rows-clause-still
+returns-in_err-short_rows-clause-still g c rows =
+    let old = state g.S.Store c.args.tx.now.conn.now in
+    let mid = state g.S.Store c.ask_inside.new.tx.conn.now in
+    let new = state g.S.Store c.ask_inside-2.new.tx.conn.now in
+    let before : HasCleanDisk mid → HasCleanDisk old = λ clean. omega (arith, c.ask_inside.ensures.clean) in
+    failed_after old new rows rows c.from_residual-in_err-short_rows.result _
+    (stays_after old mid new rows rows _ (λ sees. (c.in_ok-rows.ensures.inside rows sees, λ clean. c.in_ok-rows.ensures.ok clean rows (sees (before clean)))) (λ sees. c.ask_inside-2.ensures.inside rows sees))
+    c.from_residual-in_err-short_rows.ensures.0
+
 pub returns-clause-still : goal.returns-clause-still
-returns-clause-still g c rows sees =
-    let before : HasCleanDisk (state g.S.Store c.ask_inside.new.tx.conn.now) → HasCleanDisk (state g.S.Store c.args.tx.now.conn.now) = λ clean. omega (arith, c.ask_inside.ensures.clean) in
-    (c.in_ok-rows.ensures.inside rows sees, λ clean. still_read c.all_in.result _ (c.in_ok-rows.ensures.ok clean rows (sees (before clean))).0)
+returns-clause-still g c rows =
+    let old = state g.S.Store c.args.tx.now.conn.now in
+    let mid = state g.S.Store c.ask_inside.new.tx.conn.now in
+    let new = state g.S.Store c.ask_inside-2.new.tx.conn.now in
+    let before : HasCleanDisk mid → HasCleanDisk old = λ clean. omega (arith, c.ask_inside.ensures.clean) in
+    inside_with old mid new rows rows rows _ c.calendar_in.result _ (λ sees. (c.in_ok-rows.ensures.inside rows sees, λ clean. c.in_ok-rows.ensures.ok clean rows (sees (before clean))))
+    (λ sees. c.in_ok-short_rows.ensures.inside rows sees)
+    (λ clean asked sees. still_read c.calendar_in.result _ (c.in_ok-short_rows.ensures.ok clean rows sees).0)

@@ -1,7 +1,11 @@
-use Rattle.std.proofs.Common.{◌∙◌}
+use Rattle.std.proofs.Common.{◌∙◌, ◌∷◌, sym, ap}
+use Rattle.docket_columns.specs.Cells.{stored_cells}
+use Rattle.docket_wire.specs.Writing.{canonical}
 use Rattle.docket_tables.specs.Contents.{rows_in}
+use Rattle.docket_tables.specs.declared.table.Table.TheVariants.{Receipts}
 use Rattle.docket_tables.proofs.ReadLemmas.{gives, stays}
 use Rattle.docket_tables.proofs.FoundLemmas.{kept_read}
+use Rattle.docket_tables.proofs.ReceiptLemmas.{receipt_found}
 use Rattle.docket_tables.proofs.reading.kept.Goals as goal
 
 pub returns-clause-read : goal.returns-clause-read
@@ -15,3 +19,10 @@ returns-clause-read g c court t orderly holds =
 
 pub returns-clause-stays : goal.returns-clause-stays
 returns-clause-stays g c rows holds = stays g.S.Store c.ask.new.conn rows c.kept_in.result (c.in_ok-rows.ensures.ok rows holds).0
+
+pub returns-clause-found : goal.returns-clause-found
+returns-clause-found g c rows holds clean reply same =
+    let answer = rw (c.to_sql.ensures, c.as_str.ensures) at ((c.in_ok-rows.ensures.ok rows holds).1 clean) in
+    let it = c.kept_in.ensures.same reply same in
+    let body = ap (λ text. stored_cells it.0 text reply.number ∷ it.1) c.requires.body in
+    receipt_found c.args.command.now.key (canonical c.args.command.now) reply.number (rows Receipts) c.in_ok-rows.rows.items answer (it.0, it.1, sym c.as_slice.ensures.value ∙ it.2 ∙ body)

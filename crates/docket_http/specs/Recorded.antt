@@ -1,0 +1,55 @@
+-- What is told of a command is recorded, over any rows of a docket's tables, whether or not a history leads to them.
+use Rattle.std.specs.Prelude.{◌≡◌, ◌⊎◌, ℕ, List, Option, Result, Ok, Err}
+use Rattle.sqlite.specs.Store.{Ghosts}
+use Rattle.docket_command.specs.declared.command.Command.{Command}
+use Rattle.docket_command.specs.declared.refusal.Reply.{Reply as Number}
+use Rattle.docket_store.specs.AnyRows.{IsRecorded}
+use Rattle.docket_store.specs.Dockets.{Docket}
+use Rattle.docket_wire.specs.Reading.{command_in}
+use Rattle.docket_wire.specs.Texts.{reply_text}
+use Rattle.http_request.specs.declared.wish.Wish.{Wish}
+use Rattle.http_request.specs.declared.wish.Wish.TheVariants.{Command as CommandWish}
+use Rattle.docket_http.specs.Answer.{Response, json, problem_response}
+use Rattle.docket_http.specs.Reply.{IsReply}
+use Rattle.docket_http.specs.Serve.{IsAsked, Sends}
+use Rattle.docket_http.specs.declared.problem.Problem.TheVariants.{NoMemory}
+use Rattle.docket_http.specs.declared.fault.ServeFault.{ServeFault}
+use Rattle.docket_http.specs.declared.fault.ServeFault.TheVariants as serve
+use Rattle.docket_http.specs.declared.reply.Reply.{Reply}
+use Rattle.docket_http.specs.declared.sending.Served.{Served}
+
+module _ {S : Type 0} (g : Ghosts S) where
+  -- the body spells a command, its reply is told, and a receipt of it with that reply stands
+  pub record IsTold (d : Docket S) (body : List ℕ) (response : Response) : Type 0 where
+    pub command : Command
+    pub reply : Number
+    pub spelled : command_in body ≡ Ok command
+    pub told : response ≡ json 200 (reply_text (Ok reply))
+    pub recorded : IsRecorded g d command reply
+
+  -- an answer that says 200 to a command
+  abbrev pub IsBacked : Docket S → List ℕ → Response → Type 0
+  IsBacked d body response = response.status ≡ 200 → IsTold d body response
+
+  -- a reply to a command
+  abbrev pub RepliesBacked : Docket S → Wish → List ℕ → Reply → Type 0
+  RepliesBacked d (CommandWish len) body reply = (response : Response) × IsReply reply response × IsBacked d body response
+  RepliesBacked d _ body reply = Unit {0}
+
+  -- the answer to a command went out, or a front of it where the writer failed
+  pub record SendsBacked (d : Docket S) (body : List ℕ) (before after : Option (List ℕ)) (result : Result Served ServeFault) : Type 0 where
+    pub response : Response
+    pub backed : IsBacked d body response
+    pub sent : Sends response before after result
+
+  abbrev pub SentBacked : Docket S → Wish → List ℕ → Option (List ℕ) → Option (List ℕ) → Result Served ServeFault → Type 0
+  SentBacked d (CommandWish len) body before after result = SendsBacked d body before after result
+  SentBacked d _ body before after result = Unit {0}
+
+  -- what a connection comes to: its answer to what was read, or what tells that memory was short before it was read whole
+  abbrev pub ServesBacked : Option (List ℕ) → Docket S → Option (List ℕ) → Option (List ℕ) → Result Served ServeFault → Type 0
+  ServesBacked input d before after (Err serve.ReadFailed) = Unit {0}
+  ServesBacked input d before after (Err serve.EndedEarly) = Unit {0}
+  ServesBacked input d before after result =
+      ((wish : Wish) × (body : List ℕ) × IsAsked input wish body × SentBacked d wish body before after result)
+      ⊎ Sends (problem_response NoMemory) before after result

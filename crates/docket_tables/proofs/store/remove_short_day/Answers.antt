@@ -1,0 +1,11 @@
+use Rattle.std.proofs.Common.{pos}
+use Rattle.std.proofs.lemmas.Result.{IfOk-weaker}
+use Rattle.sqlite.specs.Held.{state}
+use Rattle.docket_tables.proofs.CalendarLemmas.{short_day_removed}
+use Rattle.docket_tables.proofs.store.remove_short_day.Goals as goal
+
+pub returns-clause-ok : goal.returns-clause-ok
+returns-clause-ok g c clean rows keyed sees =
+    let old = state g.S.Store c.args.tx.now.conn.now in
+    let new = state g.S.Store c.change.new.tx.conn.now in
+    IfOk-weaker c.change.result _ _ (λ _ h. short_day_removed (pos c.args.number) rows old new h.0 keyed sees (rw (c.delete_short_day_text.ensures, c.params-to_sql.ensures) at h.1) h.2) (c.change.ensures.runs clean)
