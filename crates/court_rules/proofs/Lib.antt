@@ -1,4 +1,5 @@
 pub mod Chains
 pub mod Entries
 pub mod Limits
+pub mod LocalNames
 pub mod Names

@@ -1,12 +1,14 @@
 //! What the names and the chains of acts of specs/ say, with nothing to run.
-ghost use Rattle.std.specs.Prelude.{◌≡◌, ◌<◌, List, [], ◌∷◌, ◌++◌, length, ℕ, true, Some};
+ghost use Rattle.std.specs.Prelude.{◌≡◌, ◌<◌, List, [], ◌∷◌, ◌++◌, length, ℕ, true, Some, None};
 ghost use Rattle.court_rules.specs.Methods.{method_name, method_named};
 ghost use Rattle.civil_time.specs.Zone.{ZoneRules};
 ghost use Rattle.court_days.specs.Calendar.{Entered};
 ghost use Rattle.court_rules.specs.Acts.{is_within, phase_through, acts_ok};
 ghost use Rattle.court_rules.specs.Standings.{begins_on_entered_day, AreActs, standing, standing_after, phase_of, may_come, may_begin};
 ghost use Rattle.court_rules.specs.Rules.{name_of, rule_named};
+ghost use Rattle.court_rules.specs.LocalRules.{is_local_name, IsDeadlineRule, deadline_rule_name, deadline_rule_named};
 ghost use Rattle.court_rules.specs.declared.act.Act.{Act};
+ghost use Rattle.court_rules.specs.declared.deadline_rule.DeadlineRule.{DeadlineRule};
 ghost use Rattle.court_rules.specs.declared.method.Method.{Method};
 ghost use Rattle.court_rules.specs.declared.rule.Rule.{Rule};
 
@@ -25,6 +27,18 @@ pub fn method_names_read_back()
     ensures name { (text : List ℕ) (method : Method)
         → method_named text ≡ Some method → method_name method ≡ text }
     ensures distinct { (method other : Method) → method_name method ≡ method_name other → method ≡ other }
+{}
+
+/// No rule of the table has a name that a local rule may have; so the name of a deadline's rule names
+/// it and no other.
+pub fn deadline_rules_read_back()
+    ensures local { (text : List ℕ) → is_local_name text ≡ true → rule_named text ≡ None }
+    ensures named { (rule : DeadlineRule) → IsDeadlineRule rule
+        → deadline_rule_named (deadline_rule_name rule) ≡ Some rule }
+    ensures name { (text : List ℕ) (rule : DeadlineRule)
+        → deadline_rule_named text ≡ Some rule → deadline_rule_name rule ≡ text }
+    ensures lawful { (text : List ℕ) (rule : DeadlineRule)
+        → deadline_rule_named text ≡ Some rule → IsDeadlineRule rule }
 {}
 
 /// Where a deadline stands is a matter of its last act and of where it stood before it; the table of

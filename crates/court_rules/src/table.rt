@@ -15,21 +15,21 @@ pub enum Period {
 
 /// A rule with its name and the time that it sets. Period and direction are None where they are as
 /// entered.
-pub(crate) struct RuleRow {
-    pub(crate) rule: Rule,
-    pub(crate) name: &'static str,
-    pub(crate) period: Option<Period>,
-    pub(crate) direction: Option<Direction>,
+pub struct RuleRow {
+    pub rule: Rule,
+    pub name: &'static str,
+    pub period: Option<Period>,
+    pub direction: Option<Direction>,
     /// Whether service by mail, with the clerk or by other means adds three days.
-    pub(crate) three_days: bool,
+    pub three_days: bool,
     /// Whether it is the time of a responsive pleading, which a rule 12 motion suspends.
-    pub(crate) responsive: bool,
+    pub responsive: bool,
     /// Whether the court may extend it.
-    pub(crate) extendable: bool,
+    pub extendable: bool,
 }
 
 /// The rows of all rules, in the order in which `Rule` names them.
-pub(crate) fn rows() -> &'static [RuleRow]
+pub fn rows() -> &'static [RuleRow]
     ensures { map entry_in result.now ≡ map entry_of rules }
 {
     &RULES

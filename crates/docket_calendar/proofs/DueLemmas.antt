@@ -28,7 +28,7 @@ use Rattle.court_days.specs.Calendar.{Entered}
 use Rattle.court_days.specs.Court.{CourtSettings, zone_of}
 use Rattle.court_days.specs.declared.filing.End.{End}
 use Rattle.court_days.specs.declared.filing.End.TheVariants.{LastDay, Moment}
-use Rattle.court_rules.specs.Rules.{name_of}
+use Rattle.court_rules.specs.LocalRules.{deadline_rule_name}
 use Rattle.court_rules.specs.Standings.{standing}
 use Rattle.court_rules.specs.declared.act.Standing.{Standing}
 use Rattle.court_rules.specs.declared.act.Standing.TheVariants.{Running, Suspended, Awaiting, Done, Vacated}
@@ -159,7 +159,7 @@ module _ (court : CourtSettings) (from to : ℕ) where
   stored d end = record { case = d.case; deadline = d.number; end = time_of (zone_of court) end }
 
   abbrev listed_as : ℕ → DeadlineRow → End → DueRow
-  listed_as close d end = record { end = end; close = close; case = d.case; number = d.number; party = d.party; rule = name_of d.rule }
+  listed_as close d end = record { end = end; close = close; case = d.case; number = d.number; party = d.party; rule = deadline_rule_name d.rule }
 
   passes_as : (close : ℕ) (d other : DeadlineRow) (end : End) → IsDueEnd end → passes params (end_cells (stored d end)) (deadline_cells other) ≡ (is_same d other && is_within court from to (listed_as close d end))
   passes_as close d other end due =

@@ -62,7 +62,7 @@ listable court h settings is all =
 
 module _ (court : CourtSettings) (from to : ℕ) (t : Tables) (can : IsListable court t) where
   one_due : (d : DeadlineRow) (s : Standing) → ((end : End) → s ≡ Running end → IsDueEnd end) → IsDeadlineRow d → AllByRecursion (IsDue court (calendar_in t)) (row_where court (calendar_in t) d s)
-  one_due d (Running end) due fit = ((due end refl, fit.0, fit.1, fit.2, name_utf8 d.rule, refl), tt)
+  one_due d (Running end) due fit = ((due end refl, fit.0, fit.1, fit.2, name_utf8 d.rule fit.3, refl), tt)
   one_due d Suspended due fit = tt
   one_due d Awaiting due fit = tt
   one_due d Done due fit = tt

@@ -3,7 +3,7 @@ use Rattle.std.specs.Prelude.{ℕ, Bool, ◌&&◌, nat_le, List, [], ◌∷◌, 
 use Rattle.std.specs.List.{flat_map}
 use Rattle.court_days.specs.Calendar.{Entered}
 use Rattle.court_days.specs.Court.{CourtSettings, zone_of}
-use Rattle.court_rules.specs.Rules.{name_of}
+use Rattle.court_rules.specs.LocalRules.{deadline_rule_name}
 use Rattle.court_rules.specs.Standings.{standing}
 use Rattle.court_rules.specs.declared.act.Standing.{Standing}
 use Rattle.court_rules.specs.declared.act.Standing.TheVariants.{Running}
@@ -27,7 +27,7 @@ row_where court entered d (Running end) =
       case = d.case;
       number = d.number;
       party = d.party;
-      rule = name_of d.rule;
+      rule = deadline_rule_name d.rule;
     }
     ∷ []
 row_where court entered d _ = []

@@ -41,17 +41,17 @@ behind_cut n (suc p) m (row ∷ rows) later cut within =
     behind_cut n p m rows later (cut_tail n p row rows cut) (omega (arith, within)) ∙ sym (ap (λ b. cond b (row ∷ of_deadline m rows) (of_deadline m rows)) other)
 
 -- one deadline more has its acts, which are cut off, and those of the later ones are left
-pub next_shown : (k i : ℕ) (all : List ActRow) (rows : List DeadlineRow) (d : DeadlineRow) (found more : List DeadlineView) (list : List Act) (rest mine later : List ActRow) (count : ℕ) → RunsFrom 1 (map (λ r. r.number) rows) → i < length rows
+pub next_shown : (k i : ℕ) (all : List ActRow) (rows : List DeadlineRow) (row : DeadlineRow) (found more : List DeadlineView) (list : List Act) (rest mine later : List ActRow) (count : ℕ) → row ≡ get_or rows i row → RunsFrom 1 (map (λ r. r.number) rows) → i < length rows
     → (found ≡ deadlines_from k 1 all (take i rows)) × ((n : ℕ) → i < n → of_deadline n rest ≡ acts_on k n all) × IsNonDecreasingBy (λ (row : ActRow). row.deadline) rest
-    → count ≤ length rest → (IsNonDecreasingBy (λ (row : ActRow). row.deadline) rest → IsCut (get_or rows i d).number rest count) → mine ≡ take count rest → later ≡ drop count rest
-    → list ≡ map (λ row. row.act) (of_deadline (get_or rows i d).number mine) → more ≡ found ++ shown_with (get_or rows i d) list ∷ []
+    → count ≤ length rest → (IsNonDecreasingBy (λ (row : ActRow). row.deadline) rest → IsCut row.number rest count) → mine ≡ take count rest → later ≡ drop count rest
+    → list ≡ map (λ row. row.act) (of_deadline row.number mine) → more ≡ found ++ shown_with row list ∷ []
     → (more ≡ deadlines_from k 1 all (take (i + 1) rows)) × ((n : ℕ) → i + 1 < n → of_deadline n later ≡ acts_on k n all) × IsNonDecreasingBy (λ (row : ActRow). row.deadline) later
-next_shown k i all rows d found more list rest mine later count runs low was within cuts front back listed pushed =
-    let number = (get_or rows i d).number in
-    let number_is : number ≡ 1 + i = number_at 1 i rows d runs low in
+next_shown k i all rows row found more list rest mine later count there runs low was within cuts front back listed pushed =
+    let number = row.number in
+    let number_is : number ≡ 1 + i = ap (λ (r : DeadlineRow). r.number) there ∙ number_at 1 i rows row runs low in
     let cut = cuts was.2 in
     let acts = ap (of_deadline number) front ∙ before_cut number count rest cut ∙ was.1 number (omega (arith, number_is)) in (
-      shown_more k i all rows d found more list runs low was.0 (listed ∙ ap (map (λ row. row.act)) acts) pushed,
+      shown_more k i all rows row found more list there runs low was.0 (listed ∙ ap (map (λ row. row.act)) acts) pushed,
       λ n after. ap (of_deadline n) back ∙ behind_cut number count n rest (omega (arith, number_is, after)) cut within ∙ was.1 n (omega (arith, after)),
       subst (IsNonDecreasingBy (λ (row : ActRow). row.deadline)) (sym back) (IsNonDecreasingBy-drop (λ (row : ActRow). row.deadline) count rest was.2),
     )

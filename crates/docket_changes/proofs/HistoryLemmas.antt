@@ -1,5 +1,5 @@
 -- Which ends an accepted command may move.
-use Rattle.std.proofs.Common.{◌≡◌, ◌∙◌, inl, ◌+◌, ℕ, Bool, true, false, cond, List, [], ◌∷◌, ◌++◌, length, Option, Some, None, refl, sym, ap, ap₂, append-nil}
+use Rattle.std.proofs.Common.{◌≡◌, ◌∙◌, inl, ◌+◌, ℕ, Bool, true, false, cond, List, [], ◌∷◌, ◌++◌, length, Some, None, refl, sym, ap, ap₂, append-nil}
 use Rattle.std.specs.List.{AllByRecursion, flat_map}
 use Rattle.std.proofs.lemmas.List.{map-append}
 use Rattle.civil_time.specs.Zone.{ZoneRules}
@@ -9,11 +9,11 @@ use Rattle.court_rules.specs.Standings.{standing}
 use Rattle.court_rules.specs.declared.act.Act.{Act}
 use Rattle.docket_command.specs.declared.command.Command.{Command}
 use Rattle.docket_command.specs.declared.command.Action.{Action}
-use Rattle.docket_command.specs.declared.command.Action.TheVariants.{DeclareDay, CloseDay, CloseSpan, ShortDay, WithdrawCalendar, ImportCalendar, ServeSummons, FileWaiver, ServePleading, OrderReply, RuleMotion, Dispose, StatementServed, NoticeHearing, OrderPeriod, EnterJudgment, Extend, Satisfy, Vacate}
+use Rattle.docket_command.specs.declared.command.Action.TheVariants.{DeclareDay, CloseDay, CloseSpan, ShortDay, WithdrawCalendar, ImportCalendar, ServeSummons, FileWaiver, ServePleading, OrderReply, RuleMotion, Dispose, StatementServed, NoticeHearing, OrderPeriod, EnterJudgment, Extend, Satisfy, Vacate, LocalPeriod}
 use Rattle.docket_core.specs.Actions.{row_withdrawn, rows_asked}
 use Rattle.docket_core.specs.CalendarItems.{fresh, stands_among, calendar_of}
 use Rattle.docket_core.specs.EndRows.{calendar_in, end_row, end_rows, end_running, ends_running, end_rows_from, row_of_deadline}
-use Rattle.docket_core.specs.Histories.{History, standing_rows, next_row, items_of, numbered, without_row, case_number, case_rows, deadline_rows, deadlines_of_case, deadline_rows_from, act_rows, acts_of_deadline, first_acts_from, act_rows_on, deadlines_from, deadline_number}
+use Rattle.docket_core.specs.Histories.{History, standing_rows, next_row, items_of, numbered, without_row, case_number, case_rows, deadline_rows, deadlines_of_case, deadline_rows_from, act_rows, acts_of_deadline, first_acts_from, act_rows_on, deadlines_from, deadline_number, rule_found}
 use Rattle.docket_core.specs.Outcomes.{IsHistory}
 use Rattle.docket_core.specs.Tables.{Tables, rows_of, all_changed, with_receipt}
 use Rattle.docket_core.specs.EndMoves.{Follows}
@@ -65,7 +65,8 @@ makes_nothing (EnterJudgment a) e = absurd (let no = e in cc)
 makes_nothing (Extend a) e = absurd (let no = e in cc)
 makes_nothing (Satisfy a) e = absurd (let no = e in cc)
 makes_nothing (Vacate a) e = absurd (let no = e in cc)
-makes_nothing _ e = (refl, refl)
+makes_nothing (LocalPeriod a) e = absurd (let no = e in cc)
+makes_nothing _ e = (λ found. refl, refl)
 
 pub calendar_kept : (h : History) (c : Command) → changes_calendar c.action ≡ false → items_of (standing_rows (c ∷ h)) ≡ items_of (standing_rows h)
 calendar_kept h c e =
@@ -116,13 +117,13 @@ standings_kept h c calm zone acts = standings_after c.action calm zone (standing
 deadlines_stay : (h : History) (c : Command) → MakesNothing c.action → deadline_rows (c ∷ h) ≡ deadline_rows h
 deadlines_stay h c makes =
     let k = case_number c.action in
-    ap (λ made. deadline_rows h ++ deadline_rows_from k (length (deadlines_of_case k (deadline_rows h)) + 1) made) makes.0 ∙ append-nil _
+    ap (λ made. deadline_rows h ++ deadline_rows_from k (length (deadlines_of_case k (deadline_rows h)) + 1) made) (makes.0 (rule_found h c.action)) ∙ append-nil _
 
 acts_stay : (h : History) (c : Command) → MakesNothing c.action → act_rows (c ∷ h) ≡ act_rows h
 acts_stay h c makes =
     let k = case_number c.action in
     ap₂ (λ made news. act_rows h ++ (first_acts_from k (length (deadlines_of_case k (deadline_rows h)) + 1) made
-    ++ act_rows_on k (deadline_number c.action) (length (acts_of_deadline k (deadline_number c.action) (act_rows h)) + 1) news)) makes.0 makes.1 ∙ append-nil _
+    ++ act_rows_on k (deadline_number c.action) (length (acts_of_deadline k (deadline_number c.action) (act_rows h)) + 1) news)) (makes.0 (rule_found h c.action)) makes.1 ∙ append-nil _
 
 -- a command that changes the days or spans of the calendar moves the ends of the cases that there are
 pub settling : (court : CourtSettings) (h : History) (c : Command) → IsCourtSettings court → IsHistory court (c ∷ h) → AllByRecursion IsCommand (c ∷ h)

@@ -2,15 +2,16 @@
 use Rattle.std.proofs.Common.{◌≡◌, ◌∙◌, ◌+◌, ◌<◌, ℕ, zero, suc, List, [], ◌∷◌, ◌++◌, map, length, take, get_or, sym, ap, ap₂, arith, true, false, if◌then◌else◌, Bool, Option, Some, None, slice_get, add-zero, refl}
 use Rattle.std.proofs.lemmas.List.{take_more, length-take}
 use Rattle.court_rules.specs.declared.act.Act.{Act}
-use Rattle.docket_core.specs.Histories.{deadlines_from, acts_of_deadline, parties_of_case, entries_of_case, deadlines_of_case}
+use Rattle.court_rules.specs.declared.local_rule.LocalRule.{LocalRule}
+use Rattle.docket_core.specs.Histories.{deadlines_from, acts_of_deadline, parties_of_case, entries_of_case, deadlines_of_case, local_rule_in}
 use Rattle.std.specs.Option.{option_and_then, option_map}
 use Rattle.docket_command.specs.declared.command.Command.{Command}
-use Rattle.docket_core.specs.Actions.{case_named, asks_cases, asks_parties, asks_entries, asks_deadlines, asks_next_row, if_asked}
+use Rattle.docket_core.specs.Actions.{case_named, asks_cases, asks_parties, asks_entries, asks_deadlines, asks_next_row, asks_local_rules, if_asked}
 use Rattle.docket_core.specs.Outcomes.{kept, is_label_taken, is_row_standing}
 use Rattle.docket_core.specs.declared.item.CalendarItem.{CalendarItem}
 use Rattle.docket_core.specs.declared.view.Kept.{Kept}
-use Rattle.docket_core.specs.Tables.{Tables, case_in, case_deadlines, deadlines_in, is_case_in, view_in}
-use Rattle.docket_core.specs.Views.{case_shown, deadline_at, deadline_of, is_served_among}
+use Rattle.docket_core.specs.Tables.{Tables, case_in, case_named_in, case_deadlines, deadlines_in, is_case_in, view_in}
+use Rattle.docket_core.specs.Views.{case_shown, deadline_at, deadline_of, is_served_among, named_in, rule_name_asked}
 use Rattle.docket_command.specs.declared.command.Action.{Action}
 use Rattle.docket_core.specs.declared.view.CaseView.{CaseView}
 use Rattle.docket_core.specs.declared.row.ActRow.{ActRow}
@@ -35,13 +36,12 @@ number_at n zero (r ∷ rows) d runs low = runs.0 ∙ omega arith
 number_at n (suc i) (r ∷ rows) d runs low = number_at (suc n) i rows d runs.1 (omega (arith, low)) ∙ omega arith
 
 -- one deadline more
-pub shown_more : (k i : ℕ) (acts : List ActRow) (rows : List DeadlineRow) (d : DeadlineRow) (found more : List DeadlineView) (list : List Act) → RunsFrom 1 (map (λ r. r.number) rows) → i < length rows
-    → found ≡ deadlines_from k 1 acts (take i rows) → list ≡ acts_of_deadline k (get_or rows i d).number acts → more ≡ found ++ shown_with (get_or rows i d) list ∷ [] → more ≡ deadlines_from k 1 acts (take (i + 1) rows)
-shown_more k i acts rows d found more list runs low was listed pushed =
-    let row = get_or rows i d in
-    let number : row.number ≡ 1 + length (take i rows) = number_at 1 i rows d runs low ∙ omega (arith, length-take i rows, low) in
+pub shown_more : (k i : ℕ) (acts : List ActRow) (rows : List DeadlineRow) (row : DeadlineRow) (found more : List DeadlineView) (list : List Act) → row ≡ get_or rows i row → RunsFrom 1 (map (λ r. r.number) rows) → i < length rows
+    → found ≡ deadlines_from k 1 acts (take i rows) → list ≡ acts_of_deadline k row.number acts → more ≡ found ++ shown_with row list ∷ [] → more ≡ deadlines_from k 1 acts (take (i + 1) rows)
+shown_more k i acts rows row found more list there runs low was listed pushed =
+    let number : row.number ≡ 1 + length (take i rows) = ap (λ (r : DeadlineRow). r.number) there ∙ number_at 1 i rows row runs low ∙ omega (arith, length-take i rows, low) in
     pushed ∙ ap₂ (λ ds l. ds ++ shown_with row l ∷ []) was (listed ∙ ap (λ m. acts_of_deadline k m acts) number) ∙ sym (from-snoc k 1 acts (take i rows) row)
-    ∙ ap (deadlines_from k 1 acts) (sym (take_more rows i d low))
+    ∙ ap (λ r. deadlines_from k 1 acts (take i rows ++ r ∷ [])) there ∙ ap (deadlines_from k 1 acts) (sym (take_more rows i row low))
 
 -- the deadline of a number
 at_place : (k m : ℕ) (acts : List ActRow) (rows : List DeadlineRow) (i : ℕ) → slice_get (deadlines_from k m acts rows) i ≡ option_map (λ row. shown_with row (acts_of_deadline k (m + i) acts)) (slice_get rows i)
@@ -80,8 +80,11 @@ none_told t k out = ap (λ b. if b then Some (deadlines_in t k) else None) out
 pub deadlines_told : (t : Tables) (k : ℕ) (deadlines : List DeadlineView) → is_case_in t k ≡ true → deadlines ≡ deadlines_in t k → case_deadlines t k ≡ Some deadlines
 deadlines_told t k deadlines among are = ap (λ b. if b then Some (deadlines_in t k) else None) among ∙ ap Some (sym are)
 
-pub whole_view : (t : Tables) (c : Command) (kept_is : Kept) (cases : ℕ) (taken : Bool) (case : Option CaseView) (stands : Bool) (items : List CalendarItem) (next : ℕ) → kept_is ≡ kept t.receipts c → cases ≡ if_asked (asks_cases c.action) (length t.cases)
+pub whole_view : (t : Tables) (c : Command) (kept_is : Kept) (cases : ℕ) (taken : Bool) (case : Option CaseView) (stands : Bool) (items : List CalendarItem) (next : ℕ) (local : Option LocalRule) (rules : ℕ) → kept_is ≡ kept t.receipts c → cases ≡ if_asked (asks_cases c.action) (length t.cases)
     → taken ≡ is_label_taken c.action t.cases → case ≡ option_and_then (case_in t c.action) (case_named c.action) → stands ≡ is_row_standing c.action t.calendar → next ≡ if_asked (asks_next_row c.action) t.next_row
-    → record { kept = kept_is; cases = cases; label_taken = taken; case = case; row_stands = stands; calendar = items; next_row = next } ≡ record (view_in t c) { calendar = items }
-whole_view t c kept_is cases taken case stands items next a b d e f k =
-    λ i. record { kept = a i; cases = b i; label_taken = d i; case = e i; row_stands = f i; calendar = items; next_row = k i }
+    → local ≡ option_and_then (local_rule_in t.local_rules) (rule_name_asked (named_in case) c.action) → rules ≡ if_asked (asks_local_rules c.action) (length t.local_rules)
+    → record { kept = kept_is; cases = cases; label_taken = taken; case = case; row_stands = stands; calendar = items; next_row = next; local = local; local_rules = rules } ≡ record (view_in t c) { calendar = items }
+whole_view t c kept_is cases taken case stands items next local rules a b d e f k l m =
+    let found : local ≡ option_and_then (local_rule_in t.local_rules) (rule_name_asked (named_in (case_named_in t c.action)) c.action) =
+    l ∙ ap (λ shown. option_and_then (local_rule_in t.local_rules) (rule_name_asked (named_in shown) c.action)) e in
+    λ i. record { kept = a i; cases = b i; label_taken = d i; case = e i; row_stands = f i; calendar = items; next_row = k i; local = found i; local_rules = m i }

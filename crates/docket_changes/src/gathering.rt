@@ -60,7 +60,7 @@ pub(crate) fn with_acts(
         rest = later;
         found.push(DeadlineView {
             party: row.party,
-            rule: row.rule,
+            rule: row.rule.copied()?,
             initial: row.initial,
             acts: Acts::new(list),
         })?;

@@ -5,11 +5,11 @@ ghost use Rattle.sqlite.specs.Held.{state};
 ghost use Rattle.sqlite.specs.State.{HasCleanDisk};
 ghost use Rattle.sqlite.specs.View.{doubt};
 ghost use Rattle.docket_command.specs.declared.refusal.Reply.{Reply};
-ghost use Rattle.docket_core.specs.Actions.{case_named, asks_cases, asks_parties, asks_entries, asks_deadlines, asks_next_row, if_asked};
-ghost use Rattle.docket_core.specs.Histories.{parties_of_case, entries_of_case, deadlines_of_case, deadlines_from, items_of};
+ghost use Rattle.docket_core.specs.Actions.{case_named, asks_cases, asks_parties, asks_entries, asks_deadlines, asks_next_row, asks_local_rules, if_asked};
+ghost use Rattle.docket_core.specs.Histories.{parties_of_case, entries_of_case, deadlines_of_case, deadlines_from, items_of, local_rule_in};
 ghost use Rattle.docket_core.specs.Outcomes.{is_label_taken, is_row_standing};
 ghost use Rattle.docket_core.specs.Tables.{case_in, case_deadlines, deadlines_in, view_in};
-ghost use Rattle.docket_core.specs.Views.{deadline_at, deadline_of, is_served_among};
+ghost use Rattle.docket_core.specs.Views.{deadline_at, deadline_of, is_served_among, named_in, rule_name_asked};
 ghost use Rattle.docket_core.specs.declared.view.Kept.TheVariants.{Same};
 ghost use Rattle.docket_wire.specs.Valid.{IsCommand};
 ghost use Rattle.docket_wire.specs.Writing.{canonical};
@@ -19,14 +19,16 @@ ghost use Rattle.docket_tables.specs.Readings.{Reads, Stays};
 ghost use Rattle.docket_tables.specs.Stands.{HoldsRows};
 
 use crate::gathering::{items_of, with_acts};
-use docket_command::{Action, Command};
+use docket_command::{Action, Command, LocalRule};
 use docket_core::{
     Acts, CalendarItems, CaseView, DeadlineView, View, asks_cases, asks_deadlines, asks_entries,
-    asks_next_row, asks_parties, case_named, deadline_named, is_served_among,
+    asks_local_rules, asks_next_row, asks_parties, case_named, deadline_named, is_served_among,
+    rule_name_asked,
 };
 use docket_tables::{
     ReadFault, acts_of_case, acts_of_deadline, calendar, cases, count_deadlines, count_entries,
-    count_parties, court, deadline, deadlines, is_label_taken, is_row_standing, kept,
+    count_local_rules, count_parties, court, deadline, deadlines, is_label_taken, is_row_standing,
+    kept, local_rule,
 };
 use sqlite::{Alter, Connection};
 use std::alloc::Global;
@@ -140,7 +142,7 @@ fn deadline_view<S: Alter>(
     ensures clean { doubt (state S.Store conn.old).is_clean ≤ doubt (state S.Store conn.new).is_clean }
     ensures mode { conn.old.in_transaction ≡ false → conn.new.in_transaction ≡ false }
 {
-    let Some(row) = deadline(conn, case, number)? else {
+    let Some(row) = deadline(conn, alloc, case, number)? else {
         return Ok(None);
     };
     let acts = acts_of_deadline(conn, alloc, case, number)?;
@@ -289,6 +291,40 @@ fn case_asked<S: Alter>(
     }
 }
 
+/// The local rule that an action asks about, the case that it names being shown.
+fn local_rule_asked<S: Alter>(
+    conn: &mut Connection<S>,
+    alloc: Global,
+    case: &Option<CaseView>,
+    action: &Action,
+) -> Result<Option<LocalRule>, ReadFault>
+    ensures read { Reads S.Store conn.old conn.new result (λ _ t found. found ≡ option_and_then (local_rule_in t.local_rules) (rule_name_asked (named_in case.now) action.now)) }
+    ensures stays { (rows : Rows) → HoldsRows S.Store conn.old rows → Stays S.Store conn.new rows result }
+    ensures clean { doubt (state S.Store conn.old).is_clean ≤ doubt (state S.Store conn.new).is_clean }
+    ensures mode { conn.old.in_transaction ≡ false → conn.new.in_transaction ≡ false }
+{
+    match rule_name_asked(case, action) {
+        Some(name) => local_rule(conn, alloc, name.as_str()),
+        None => Ok(None),
+    }
+}
+
+/// How many local rules there are, if the action asks.
+fn local_rules_if_asked<S: Alter>(
+    conn: &mut Connection<S>,
+    action: &Action,
+) -> Result<u32, ReadFault>
+    ensures read { Reads S.Store conn.old conn.new result (λ _ t found. found ≡ if_asked (asks_local_rules action.now) (length t.local_rules)) }
+    ensures stays { (rows : Rows) → HoldsRows S.Store conn.old rows → Stays S.Store conn.new rows result }
+    ensures clean { doubt (state S.Store conn.old).is_clean ≤ doubt (state S.Store conn.new).is_clean }
+    ensures mode { conn.old.in_transaction ≡ false → conn.new.in_transaction ≡ false }
+{
+    if !asks_local_rules(action) {
+        return Ok(0);
+    }
+    count_local_rules(conn)
+}
+
 /// The deadlines of the case of a number, if there is one, each with its acts.
 pub fn case_deadlines<S: Alter>(
     conn: &mut Connection<S>,
@@ -332,6 +368,8 @@ pub fn view<S: Alter>(
     let case = case_asked(conn, alloc, action)?;
     let row_stands = is_asked_row_standing(conn, action)?;
     let next_row = next_row_if_asked(conn, alloc, action)?;
+    let local = local_rule_asked(conn, alloc, &case, action)?;
+    let local_rules = local_rules_if_asked(conn, action)?;
     Ok(View {
         kept,
         cases,
@@ -340,5 +378,7 @@ pub fn view<S: Alter>(
         row_stands,
         calendar,
         next_row,
+        local,
+        local_rules,
     })
 }

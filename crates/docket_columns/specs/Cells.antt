@@ -1,10 +1,11 @@
 -- The rows of the docket's tables in SQL: the values of the columns, in order.
-use Rattle.std.specs.Prelude.{◌≡◌, ℕ, pos, List, [], ◌∷◌, codes, if◌then◌else◌}
+use Rattle.std.specs.Prelude.{◌≡◌, ℕ, pos, List, [], ◌∷◌, codes, if◌then◌else◌, Option, Some, None}
 use Rattle.std.specs.Str.{bytes_eq}
+use Rattle.sqlite_value.specs.declared.value.Value.{Value}
 use Rattle.sqlite_value.specs.declared.value.Value.TheVariants.{Int, Text}
 use Rattle.sqlite_value.specs.Order.{Row, column}
 use Rattle.court_days.specs.Court.{CourtSettings}
-use Rattle.court_rules.specs.Rules.{name_of}
+use Rattle.court_rules.specs.LocalRules.{deadline_rule_name, is_local_name}
 use Rattle.docket_core.specs.declared.end_row.EndRow.{EndRow}
 use Rattle.docket_core.specs.declared.row.CalendarRow.{CalendarRow}
 use Rattle.docket_core.specs.declared.row.CaseRow.{CaseRow}
@@ -13,6 +14,7 @@ use Rattle.docket_core.specs.declared.row.PartyRow.{PartyRow}
 use Rattle.docket_core.specs.declared.row.EntryRow.{EntryRow}
 use Rattle.docket_core.specs.declared.row.DeadlineRow.{DeadlineRow}
 use Rattle.docket_core.specs.declared.row.ActRow.{ActRow}
+use Rattle.docket_core.specs.declared.row.LocalRuleRow.{LocalRuleRow}
 use Rattle.docket_core.specs.declared.row.Receipt.{Receipt}
 use Rattle.docket_core.specs.declared.view.Kept.{Kept}
 use Rattle.docket_core.specs.declared.view.Kept.TheVariants.{Same, Other}
@@ -21,7 +23,7 @@ use Rattle.docket_columns.specs.declared.court.CourtRow.{CourtRow}
 use Rattle.docket_columns.specs.declared.version.Version.{Version}
 use Rattle.docket_columns.specs.declared.version.Version.TheVariants.{First, Second}
 use Rattle.docket_wire.specs.Writing.{canonical}
-use Rattle.docket_columns.specs.Codes.{flag_number, role_number, item_code, act_code}
+use Rattle.docket_columns.specs.Codes.{direction_number, flag_number, role_number, item_code, act_code}
 
 abbrev pub version_number : Version → ℕ
 version_number First = 1
@@ -72,7 +74,7 @@ entry_cells r = Int (pos r.case) ∷ Int (pos r.number) ∷ Int (pos r.day) ∷ 
 -- deadline: case_no, number, party, rule, initial
 abbrev pub deadline_cells : DeadlineRow → Row
 deadline_cells r =
-    Int (pos r.case) ∷ Int (pos r.number) ∷ Int (pos r.party) ∷ Text (name_of r.rule) ∷ Int (pos (flag_number r.initial)) ∷ []
+    Int (pos r.case) ∷ Int (pos r.number) ∷ Int (pos r.party) ∷ Text (deadline_rule_name r.rule) ∷ Int (pos (flag_number r.initial)) ∷ []
 
 -- act: case_no, deadline_no, number, kind, p1, p2, p3, p4, p5
 abbrev pub act_cells : ActRow → Row
@@ -84,6 +86,20 @@ act_cells r =
 -- due: case_no, deadline_no, day, moment
 abbrev pub end_cells : EndRow → Row
 end_cells r = Int (pos r.case) ∷ Int (pos r.deadline) ∷ Int r.end.day ∷ Int r.end.moment ∷ []
+
+-- local_rule: number, name, days, direction, three, extendable
+abbrev pub local_rule_cells : LocalRuleRow → Row
+local_rule_cells r =
+    Int (pos r.number) ∷ Text r.rule.name ∷ Int (pos r.rule.days) ∷ Int (pos (direction_number r.rule.direction))
+    ∷ Int (pos (flag_number r.rule.three)) ∷ Int (pos (flag_number r.rule.extendable)) ∷ []
+
+abbrev pub local_name_at : Value → Option (List ℕ)
+local_name_at (Text text) = if is_local_name text then Some text else None
+local_name_at _ = None
+
+-- the local name in the column of names, whatever else the row has
+abbrev pub local_name_in : Row → Option (List ℕ)
+local_name_in row = local_name_at (column row 1)
 
 -- receipt: command_key, body, reply
 abbrev pub stored_cells : List ℕ → List ℕ → ℕ → Row

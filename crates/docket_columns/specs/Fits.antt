@@ -4,6 +4,7 @@ use Rattle.std.specs.Int.{w64}
 use Rattle.std.specs.Str.{IsUtf8}
 use Rattle.civil_time.specs.Civil.{IsDayNumber}
 use Rattle.court_days.specs.Court.{CourtSettings}
+use Rattle.court_rules.specs.LocalRules.{IsDeadlineRule}
 use Rattle.court_rules.specs.declared.act.Act.{Act}
 use Rattle.court_rules.specs.declared.act.Act.TheVariants as act
 use Rattle.court_rules.specs.declared.act.Start.{Start}
@@ -19,6 +20,7 @@ use Rattle.docket_core.specs.declared.row.PartyRow.{PartyRow}
 use Rattle.docket_core.specs.declared.row.EntryRow.{EntryRow}
 use Rattle.docket_core.specs.declared.row.DeadlineRow.{DeadlineRow}
 use Rattle.docket_core.specs.declared.row.ActRow.{ActRow}
+use Rattle.docket_core.specs.declared.row.LocalRuleRow.{LocalRuleRow}
 use Rattle.docket_core.specs.declared.row.Receipt.{Receipt}
 use Rattle.docket_wire.specs.Valid.{IsCommand, IsMinute}
 use Rattle.docket_columns.specs.Codes.{unit_count}
@@ -60,8 +62,12 @@ IsPartyRow r = IsCount r.case × IsCount r.number × IsUtf8 r.name
 abbrev pub IsEntryRow : EntryRow → Type 0
 IsEntryRow r = IsCount r.case × IsCount r.number × IsDayNumber r.day × IsUtf8 r.text
 
+-- the rule is one of the table, or has a name that a local one may have
 abbrev pub IsDeadlineRow : DeadlineRow → Type 0
-IsDeadlineRow r = IsCount r.case × IsCount r.number × IsCount r.party
+IsDeadlineRow r = IsCount r.case × IsCount r.number × IsCount r.party × IsDeadlineRule r.rule
+
+abbrev pub IsLocalRuleRow : LocalRuleRow → Type 0
+IsLocalRuleRow r = IsCount r.number × IsUtf8 r.rule.name × IsCount r.rule.days
 
 abbrev pub IsStart : Start → Type 0
 IsStart (start.Days s) = IsDayNumber s.trigger × IsCount (unit_count s.period)

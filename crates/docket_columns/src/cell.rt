@@ -1,14 +1,16 @@
 //! The values of a row of SQL.
-ghost use Rattle.std.specs.Prelude.{◌≡◌, ◌↔◌, ℕ, ℤ, pos, List, Some, option_copied, IfSome, IsTrue, length, map};
+ghost use Rattle.std.specs.Prelude.{◌≡◌, ◌↔◌, Bool, ℕ, ℤ, pos, List, Some, option_copied, IfSome, IsTrue, length, map};
 ghost use Rattle.std.specs.Str.{IsUtf8};
 ghost use Rattle.sqlite.specs.Values.{bound};
 ghost use Rattle.sqlite_value.specs.Value.{owned};
 ghost use Rattle.sqlite_value.specs.Order.{Row as Cells, column};
 ghost use Rattle.sqlite_value.specs.declared.value.Value.TheVariants.{Int, Text};
 ghost use Rattle.civil_time.specs.Civil.{IsDayNumber};
+ghost use Rattle.docket_columns.specs.Codes.{flag_number};
 ghost use Rattle.docket_columns.specs.Fits.{IsCount};
 ghost use Rattle.docket_columns.specs.Plain.{are_plain};
 
+use crate::codes::flag_of;
 use court_days::Day;
 use sqlite::Row;
 use sqlite::types::ValueRef;
@@ -62,10 +64,18 @@ pub(crate) fn bytes_at(row: &Row, at: usize) -> Option<&[u8]>
     }
 }
 
+/// The flag in a column.
+pub(crate) fn flag_at(row: &Row, at: usize) -> Option<bool>
+    ensures { (flag : Bool) → column row.now at ≡ Int (pos (flag_number flag)) → result ≡ Some flag }
+{
+    flag_of(count_at(row, at)?)
+}
+
 /// The text in a column.
 pub(crate) fn text_at(row: &Row, at: usize) -> Option<&str>
     ensures reads { (t : List ℕ) → IsUtf8 t → column row.now at ≡ Text t → option_copied result ≡ Some t }
     ensures utf8 { IfSome result (λ text. IsUtf8 text.now) }
+    ensures sound { IfSome result (λ text. column row.now at ≡ Text text.now) }
 {
     str::from_utf8(bytes_at(row, at)?).ok()
 }

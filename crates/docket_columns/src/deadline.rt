@@ -1,26 +1,25 @@
 //! Rows of the table of deadlines.
-ghost use Rattle.std.specs.Prelude.{◌≡◌, pos, Bool, Some, IfSome};
+ghost use Rattle.std.specs.Prelude.{◌≡◌, Some, IfOk, IfSome};
 ghost use Rattle.sqlite.specs.Values.{bound};
 ghost use Rattle.sqlite_value.specs.Order.{column};
-ghost use Rattle.sqlite_value.specs.declared.value.Value.TheVariants.{Int, Text};
-ghost use Rattle.court_rules.specs.Rules.{name_of};
-ghost use Rattle.court_rules.specs.declared.rule.Rule.{Rule as Named};
+ghost use Rattle.sqlite_value.specs.declared.value.Value.TheVariants.{Text};
+ghost use Rattle.court_rules.specs.LocalRules.{IsDeadlineRule, deadline_rule_name};
+ghost use Rattle.court_rules.specs.declared.deadline_rule.DeadlineRule.{DeadlineRule as Named};
 ghost use Rattle.docket_core.specs.declared.row.DeadlineRow.{DeadlineRow as Deadline};
 ghost use Rattle.docket_columns.specs.Cells.{deadline_cells};
-ghost use Rattle.docket_columns.specs.Codes.{flag_number};
 ghost use Rattle.docket_columns.specs.Fits.{IsDeadlineRow};
 
-use crate::cell::{count_at, has_values, text_at};
-use crate::codes::{flag_number, flag_of};
+use crate::cell::{count_at, flag_at, has_values, text_at};
+use crate::codes::flag_number;
 use crate::stored::StoredRow;
-use court_rules::Rule;
+use court_rules::DeadlineRule;
 use docket_core::DeadlineRow;
 use sqlite::Row;
 use sqlite::types::{ToSql, ValueRef};
 use std::alloc::{AllocError, Global};
 
 /// The columns of a deadline: case_no, number, party, rule, initial.
-pub fn deadline_values(row: &DeadlineRow) -> [ValueRef<'static>; 5]
+pub fn deadline_values(row: &DeadlineRow) -> [ValueRef<'_>; 5]
     ensures { bound result ≡ deadline_cells row.now }
 {
     [
@@ -33,36 +32,49 @@ pub fn deadline_values(row: &DeadlineRow) -> [ValueRef<'static>; 5]
 }
 
 /// The rule whose name stands in a column.
-fn rule_at(row: &Row, at: usize) -> Option<Rule>
-    ensures { (rule : Named) → column row.now at ≡ Text (name_of rule) → result ≡ Some rule }
+fn rule_at(alloc: Global, row: &Row, at: usize) -> Result<Option<DeadlineRule>, AllocError>
+    ensures reads { (rule : Named) → IsDeadlineRule rule → column row.now at ≡ Text (deadline_rule_name rule)
+        → IfOk result (λ found. found ≡ Some rule) }
+    ensures lawful { IfOk result (λ found. IfSome found IsDeadlineRule) }
 {
-    Rule::read(text_at(row, at)?)
-}
-
-/// The flag in a column.
-pub(crate) fn flag_at(row: &Row, at: usize) -> Option<bool>
-    ensures { (flag : Bool) → column row.now at ≡ Int (pos (flag_number flag)) → result ≡ Some flag }
-{
-    flag_of(count_at(row, at)?)
+    match text_at(row, at) {
+        Some(text) => DeadlineRule::named(alloc, text),
+        None => Ok(None),
+    }
 }
 
 /// The deadline of a row. `None`: it is no row of a deadline.
-pub fn deadline_of(row: &Row) -> Option<DeadlineRow>
-    ensures reads { (d : Deadline) → IsDeadlineRow d → row.now ≡ deadline_cells d → result ≡ Some d }
-    ensures sound { IfSome result (λ d. row.now ≡ deadline_cells d) }
-    ensures fits { IfSome result IsDeadlineRow }
+pub fn deadline_of(alloc: Global, row: &Row) -> Result<Option<DeadlineRow>, AllocError>
+    ensures reads { (d : Deadline) → IsDeadlineRow d → row.now ≡ deadline_cells d → IfOk result (λ found. found ≡ Some d) }
+    ensures sound { IfOk result (λ found. IfSome found (λ d. row.now ≡ deadline_cells d)) }
+    ensures fits { IfOk result (λ found. IfSome found IsDeadlineRow) }
 {
+    let Some(case) = count_at(row, 0) else {
+        return Ok(None);
+    };
+    let Some(number) = count_at(row, 1) else {
+        return Ok(None);
+    };
+    let Some(party) = count_at(row, 2) else {
+        return Ok(None);
+    };
+    let Some(rule) = rule_at(alloc, row, 3)? else {
+        return Ok(None);
+    };
+    let Some(initial) = flag_at(row, 4) else {
+        return Ok(None);
+    };
     let found = DeadlineRow {
-        case: count_at(row, 0)?,
-        number: count_at(row, 1)?,
-        party: count_at(row, 2)?,
-        rule: rule_at(row, 3)?,
-        initial: flag_at(row, 4)?,
+        case,
+        number,
+        party,
+        rule,
+        initial,
     };
     if has_values(row, &deadline_values(&found)) {
-        Some(found)
+        Ok(Some(found))
     } else {
-        None
+        Ok(None)
     }
 }
 
@@ -74,7 +86,7 @@ impl StoredRow for DeadlineRow {
 
     ghost Is = { IsDeadlineRow };
 
-    fn read(_alloc: Global, row: &Row) -> Result<Option<DeadlineRow>, AllocError> {
-        Ok(deadline_of(row))
+    fn read(alloc: Global, row: &Row) -> Result<Option<DeadlineRow>, AllocError> {
+        deadline_of(alloc, row)
     }
 }

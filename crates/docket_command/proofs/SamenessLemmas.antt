@@ -1,8 +1,7 @@
 -- Commands are one where their fields are.
-use Rattle.std.proofs.Common.{◌≡◌, ℕ, Bool, true, false, ◌&&◌, ◌==◌, List, [], ◌∷◌, Option, Some, None, refl, ap, sym, subst, ◌∙◌}
+use Rattle.std.proofs.Common.{◌≡◌, ℕ, Bool, true, false, List, [], ◌∷◌, Option, Some, None, refl, ap, sym, subst, ◌∙◌}
 use Rattle.std.specs.Bool.{Decides}
 use Rattle.std.specs.Cmp.Lexicographic.{pointwise}
-use Rattle.std.proofs.lemmas.Bool.{and_parts}
 use Rattle.std.proofs.lemmas.Bool.Decides.{Decides-and, Decides-like, Decides-eqb}
 use Rattle.std.proofs.lemmas.Slice.Eq.{bytes_eq-Decides, slice_eq-Decides}
 use Rattle.docket_command.specs.Words.{day_kind_word, day_kind_named, basis_word, basis_named, direction_word, direction_named, motion_kind_word, motion_kind_named, period_unit_word, period_unit_named, pleading_kind_word, pleading_kind_named, role_word, role_named, ruling_word, ruling_named, service_method_word, service_method_named, sovereign_word, sovereign_named, way_word, way_named}

@@ -4,7 +4,7 @@ use Rattle.docket_command.specs.Words.{named_in}
 use Rattle.docket_command.specs.declared.command.Action.{Action}
 use Rattle.docket_command.specs.declared.command.Action.TheVariants as action
 use Rattle.docket_command.specs.declared.command_name.CommandName.{CommandName}
-use Rattle.docket_command.specs.declared.command_name.CommandName.TheVariants.{DeclareDay, CloseDay, CloseSpan, ShortDay, WithdrawCalendar, ImportCalendar, OpenCase, AddParty, FileEntry, ServeSummons, FileWaiver, ServePleading, OrderReply, RuleMotion, Dispose, StatementServed, NoticeHearing, OrderPeriod, EnterJudgment, Extend, Satisfy, Vacate}
+use Rattle.docket_command.specs.declared.command_name.CommandName.TheVariants.{DeclareDay, CloseDay, CloseSpan, ShortDay, WithdrawCalendar, ImportCalendar, OpenCase, AddParty, FileEntry, ServeSummons, FileWaiver, ServePleading, OrderReply, RuleMotion, Dispose, StatementServed, NoticeHearing, OrderPeriod, EnterJudgment, Extend, Satisfy, Vacate, LocalRule, LocalPeriod}
 
 abbrev pub command_word : CommandName → List ℕ
 command_word DeclareDay = codes "declare_day"
@@ -29,11 +29,13 @@ command_word EnterJudgment = codes "enter_judgment"
 command_word Extend = codes "extend"
 command_word Satisfy = codes "satisfy"
 command_word Vacate = codes "vacate"
+command_word LocalRule = codes "local_rule"
+command_word LocalPeriod = codes "local_period"
 
 -- all of them
 abbrev pub command_names : List CommandName
 command_names =
-    DeclareDay ∷ CloseDay ∷ CloseSpan ∷ ShortDay ∷ WithdrawCalendar ∷ ImportCalendar ∷ OpenCase ∷ AddParty ∷ FileEntry ∷ ServeSummons ∷ FileWaiver ∷ ServePleading ∷ OrderReply ∷ RuleMotion ∷ Dispose ∷ StatementServed ∷ NoticeHearing ∷ OrderPeriod ∷ EnterJudgment ∷ Extend ∷ Satisfy ∷ Vacate ∷ []
+    DeclareDay ∷ CloseDay ∷ CloseSpan ∷ ShortDay ∷ WithdrawCalendar ∷ ImportCalendar ∷ OpenCase ∷ AddParty ∷ FileEntry ∷ ServeSummons ∷ FileWaiver ∷ ServePleading ∷ OrderReply ∷ RuleMotion ∷ Dispose ∷ StatementServed ∷ NoticeHearing ∷ OrderPeriod ∷ EnterJudgment ∷ Extend ∷ Satisfy ∷ Vacate ∷ LocalRule ∷ LocalPeriod ∷ []
 
 abbrev pub command_named : List ℕ → Option CommandName
 command_named = named_in command_word command_names
@@ -62,3 +64,5 @@ name_of (action.EnterJudgment a) = EnterJudgment
 name_of (action.Extend a) = Extend
 name_of (action.Satisfy a) = Satisfy
 name_of (action.Vacate a) = Vacate
+name_of (action.LocalRule a) = LocalRule
+name_of (action.LocalPeriod a) = LocalPeriod

@@ -48,6 +48,8 @@ fields_of name.EnterJudgment = must field.Case of.Number ∷ must field.Entered 
 fields_of name.Extend = must field.Case of.Number ∷ must field.Deadline of.Number ∷ must field.At of.Moment ∷ must field.Neglect of.Flag ∷ may field.Days of.Number ∷ may field.Until of.Day ∷ []
 fields_of name.Satisfy = must field.Case of.Number ∷ must field.Deadline of.Number ∷ must field.At of.Moment ∷ must field.Way of.Way ∷ []
 fields_of name.Vacate = must field.Case of.Number ∷ must field.Deadline of.Number ∷ []
+fields_of name.LocalRule = must field.Name of.Text ∷ must field.Days of.Number ∷ must field.Direction of.Direction ∷ must field.Three of.Flag ∷ must field.Extendable of.Flag ∷ []
+fields_of name.LocalPeriod = must field.Case of.Number ∷ must field.Party of.Number ∷ must field.Rule of.Text ∷ must field.Start of.Day ∷ may field.Method of.ServiceMethod ∷ []
 
 -- ---- values of fields
 
@@ -89,6 +91,8 @@ values_of (action.EnterJudgment c) = (c.case, (c.entered, (c.discharged, tt)))
 values_of (action.Extend c) = (c.case, (c.deadline, (c.at, (c.neglect, (c.days, (c.until, tt))))))
 values_of (action.Satisfy c) = (c.case, (c.deadline, (c.at, (c.way, tt))))
 values_of (action.Vacate c) = (c.case, (c.deadline, tt))
+values_of (action.LocalRule c) = (c.name, (c.days, (c.direction, (c.three, (c.extendable, tt)))))
+values_of (action.LocalPeriod c) = (c.case, (c.party, (c.rule, (c.start, (c.method, tt)))))
 
 -- the action with those values
 abbrev pub made_of : (kind : CommandName) → Makes (fields_of kind)
@@ -114,3 +118,5 @@ made_of name.EnterJudgment = λ case entered discharged. action.EnterJudgment (r
 made_of name.Extend = λ case deadline at neglect days until. action.Extend (record { case = case; deadline = deadline; at = at; neglect = neglect; days = days; until = until })
 made_of name.Satisfy = λ case deadline at way. action.Satisfy (record { case = case; deadline = deadline; at = at; way = way })
 made_of name.Vacate = λ case deadline. action.Vacate (record { case = case; deadline = deadline })
+made_of name.LocalRule = λ rule_name days direction three extendable. action.LocalRule (record { name = rule_name; days = days; direction = direction; three = three; extendable = extendable })
+made_of name.LocalPeriod = λ case party rule start method. action.LocalPeriod (record { case = case; party = party; rule = rule; start = start; method = method })

@@ -6,9 +6,9 @@ ghost use Rattle.docket_command.specs.declared.command.Action.TheVariants as act
 use crate::choice::Sovereign;
 use crate::moment::Moment;
 use crate::new_day::NewDays;
-use crate::text::Text;
 use crate::time_of_day::TimeOfDay;
 use civil_time::Day;
+use court_rules::Text;
 
 /// A holiday is declared (Fed. R. Civ. P. 6(a)(6)(B) and (C)).
 #[derive(Clone, PartialEq, Drop)]

@@ -4,8 +4,8 @@ ghost use Rattle.docket_command.specs.Sameness.{is_same_action};
 ghost use Rattle.docket_command.specs.declared.command.Action.TheVariants as action;
 
 use crate::choice::Role;
-use crate::text::Text;
 use civil_time::Day;
+use court_rules::Text;
 
 /// A case is opened.
 #[derive(Clone, PartialEq, Drop)]

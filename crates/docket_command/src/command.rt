@@ -6,10 +6,11 @@ use crate::calendar_action::{
     CloseDay, CloseSpan, DeclareDay, ImportCalendar, ShortDay, WithdrawCalendar,
 };
 use crate::case_action::{AddParty, FileEntry, OpenCase};
+use crate::local_action::{LocalPeriod, is_same_local_rule};
 use crate::motion_action::{Dispose, RuleMotion, StatementServed};
 use crate::service_action::{FileWaiver, OrderReply, ServePleading, ServeSummons};
-use crate::text::Text;
 use crate::time_action::{EnterJudgment, Extend, NoticeHearing, OrderPeriod, Satisfy, Vacate};
+use court_rules::{LocalRule, Text};
 use std::alloc::AllocError;
 
 /// What the clerk asks for, under a key of the clerk's own by which it is known again.
@@ -45,6 +46,8 @@ pub enum Action {
     Extend(Extend),
     Satisfy(Satisfy),
     Vacate(Vacate),
+    LocalRule(LocalRule),
+    LocalPeriod(LocalPeriod),
 }
 
 impl Action {
@@ -75,6 +78,8 @@ impl Action {
             (Action::Extend(a), Action::Extend(b)) => a.same(b),
             (Action::Satisfy(a), Action::Satisfy(b)) => a.same(b),
             (Action::Vacate(a), Action::Vacate(b)) => a.same(b),
+            (Action::LocalRule(a), Action::LocalRule(b)) => is_same_local_rule(a, b),
+            (Action::LocalPeriod(a), Action::LocalPeriod(b)) => a.same(b),
             _ => false,
         }
     }

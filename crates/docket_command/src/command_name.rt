@@ -30,10 +30,12 @@ pub enum CommandName {
     Extend,
     Satisfy,
     Vacate,
+    LocalRule,
+    LocalPeriod,
 }
 
 /// All of them.
-const NAMES: [CommandName; 22] = [
+const NAMES: [CommandName; 24] = [
     CommandName::DeclareDay,
     CommandName::CloseDay,
     CommandName::CloseSpan,
@@ -56,6 +58,8 @@ const NAMES: [CommandName; 22] = [
     CommandName::Extend,
     CommandName::Satisfy,
     CommandName::Vacate,
+    CommandName::LocalRule,
+    CommandName::LocalPeriod,
 ];
 
 impl Word for CommandName {
@@ -89,6 +93,8 @@ impl Word for CommandName {
             CommandName::Extend => "extend",
             CommandName::Satisfy => "satisfy",
             CommandName::Vacate => "vacate",
+            CommandName::LocalRule => "local_rule",
+            CommandName::LocalPeriod => "local_period",
         }
     }
 
@@ -125,6 +131,8 @@ impl Action {
             Action::Extend(_) => CommandName::Extend,
             Action::Satisfy(_) => CommandName::Satisfy,
             Action::Vacate(_) => CommandName::Vacate,
+            Action::LocalRule(_) => CommandName::LocalRule,
+            Action::LocalPeriod(_) => CommandName::LocalPeriod,
         }
     }
 }

@@ -48,6 +48,9 @@ pub enum Field {
     Neglect,
     Days,
     Way,
+    Three,
+    Extendable,
+    Rule,
 }
 
 impl Field {
@@ -98,6 +101,9 @@ impl Field {
             Field::Neglect => "neglect",
             Field::Days => "days",
             Field::Way => "way",
+            Field::Three => "three",
+            Field::Extendable => "extendable",
+            Field::Rule => "rule",
         }
     }
 }

@@ -3,9 +3,9 @@ ghost use Rattle.std.specs.Prelude.{◌≡◌, IfOk};
 ghost use Rattle.docket_command.specs.Sameness.{is_same_new_day, are_same_new_days};
 
 use crate::same::is_same_word;
-use crate::text::Text;
 use civil_time::Day;
 use court_days::DayKind;
+use court_rules::Text;
 use std::alloc::{AllocError, Global};
 use std::marker::Model;
 

@@ -18,6 +18,8 @@ pub enum Refusal {
     NoSuchDeadline,
     /// No such row of the calendar stands.
     NoSuchCalendarRow,
+    /// No local rule has that name.
+    NoSuchLocalRule,
     /// What is to be entered stands already.
     Exists,
     /// The deadline does not run, or is done or vacated.
@@ -53,7 +55,8 @@ pub struct Reply {
 }
 
 impl Refusal {
-    /// Its place in the order in which refusals are looked for, from 1.
+    /// Its number, from 1, by which it is told. They are looked for in the order of the numbers, but for
+    /// `NoSuchLocalRule`, which came later and is looked for after `NoSuchCalendarRow`.
     pub fn number(self) -> u32
         ensures { result ≡ refusal_number self }
     {
@@ -65,6 +68,7 @@ impl Refusal {
             Refusal::NoSuchParty => 5,
             Refusal::NoSuchDeadline => 6,
             Refusal::NoSuchCalendarRow => 7,
+            Refusal::NoSuchLocalRule => 21,
             Refusal::Exists => 8,
             Refusal::NotOpen => 9,
             Refusal::NotAwaiting => 10,
@@ -93,6 +97,7 @@ impl Refusal {
             Refusal::NoSuchParty => "NoSuchParty",
             Refusal::NoSuchDeadline => "NoSuchDeadline",
             Refusal::NoSuchCalendarRow => "NoSuchCalendarRow",
+            Refusal::NoSuchLocalRule => "NoSuchLocalRule",
             Refusal::Exists => "Exists",
             Refusal::NotOpen => "NotOpen",
             Refusal::NotAwaiting => "NotAwaiting",

@@ -7,8 +7,8 @@ use Rattle.court_days.specs.Court.{CourtSettings, zone_of}
 use Rattle.court_rules.specs.declared.act.Act.{Act}
 use Rattle.docket_command.specs.declared.command.Action.{Action}
 use Rattle.docket_core.specs.Actions.{case_named, deadline_named, deadlines_made, acts_made}
-use Rattle.docket_core.specs.Histories.{History, first_acts_from, act_rows_on, act_rows, deadline_rows, deadlines, deadlines_of_case, acts_of_deadline, first_acts, case_number, deadline_number}
-use Rattle.docket_core.specs.InOrder.{in_order, gathered, is_number, made_in, acts_on}
+use Rattle.docket_core.specs.Histories.{History, first_acts_from, act_rows_on, act_rows, deadline_rows, deadlines, deadlines_of_case, acts_of_deadline, first_acts, case_number, deadline_number, rule_found}
+use Rattle.docket_core.specs.InOrder.{in_order, asked_in_order, gathered, is_number, made_in, acts_on}
 use Rattle.docket_core.specs.Outcomes.{IsHistory, shown_fresh}
 use Rattle.docket_core.specs.Times.{standing_shown}
 use Rattle.docket_core.specs.Views.{acts_in, deadline_at, deadline_shown}
@@ -123,7 +123,7 @@ both_true true b e = (refl, e)
 both_true false b e = absurd (cc)
 
 abbrev made_of : ℕ → History → List NewDeadline
-made_of k h = gathered (made_in k) (in_order h)
+made_of k h = gathered (made_in k) (asked_in_order h)
 
 abbrev later_of : ℕ → ℕ → History → List Act
 later_of k n h = gathered (acts_on k n) (in_order h)
@@ -139,8 +139,8 @@ abbrev ToldAfter : ℕ → ℕ → History → Action → List Act → Type 0
 ToldAfter k n h a news =
     let count = length (deadlines_of_case (case_number a) (deadline_rows h)) in
     let number = length (acts_of_deadline (case_number a) (deadline_number a) (act_rows h)) + 1 in
-    IsTold n (made_of k h ++ (made_in k a ++ [])) (later_of k n h ++ ((if is_number (case_named a) k && is_number (deadline_named a) n then news else []) ++ []))
-    (acts_of_deadline k n (act_rows h ++ (first_acts count a ++ act_rows_on (case_number a) (deadline_number a) number news)))
+    IsTold n (made_of k h ++ (made_in k (rule_found h a, a) ++ [])) (later_of k n h ++ ((if is_number (case_named a) k && is_number (deadline_named a) n then news else []) ++ []))
+    (acts_of_deadline k n (act_rows h ++ (first_acts (rule_found h a) count a ++ act_rows_on (case_number a) (deadline_number a) number news)))
 
 abbrev no_acts_by : Bool → List Act
 no_acts_by b = if b then [] else []
@@ -173,17 +173,17 @@ module _ (court : CourtSettings) (h : History) (is : IsHistory court h) (k n : �
           (subst (λ (ds : List NewDeadline). IsTold n ds (later_of k n h) (acts_of_deadline k n (act_rows h ++ first_acts_from j (length (deadlines_of_case j (deadline_rows h)) + 1) xs))) (sym (append-nil (made_of k h)))
           (subst (λ (acts : List Act). IsTold n (made_of k h) (later_of k n h) acts) (sym (firsts_elsewhere k n j e xs (act_rows h) _)) was))
 
-  firsts : IsTold n (made_of k h ++ made_in k a) (later_of k n h) (acts_of_deadline k n (act_rows h ++ first_acts (length (deadlines_of_case (case_number a) (deadline_rows h))) a))
-  firsts = firsts_by (case_named a) (deadlines_made a) (none_made a)
+  firsts : IsTold n (made_of k h ++ made_in k (rule_found h a, a)) (later_of k n h) (acts_of_deadline k n (act_rows h ++ first_acts (rule_found h a) (length (deadlines_of_case (case_number a) (deadline_rows h))) a))
+  firsts = firsts_by (case_named a) (deadlines_made (rule_found h a) a) (none_made (rule_found h a) a)
 
   -- and with the act on the deadline that it names
   plain : ToldAfter k n h a []
   plain =
       let count = length (deadlines_of_case (case_number a) (deadline_rows h)) in
-      let rows : act_rows h ++ (first_acts count a ++ []) ≡ act_rows h ++ first_acts count a = ap (λ xs. act_rows h ++ xs) (append-nil (first_acts count a)) in
+      let rows : act_rows h ++ (first_acts (rule_found h a) count a ++ []) ≡ act_rows h ++ first_acts (rule_found h a) count a = ap (λ xs. act_rows h ++ xs) (append-nil (first_acts (rule_found h a) count a)) in
       let later : later_of k n h ++ ((if is_number (case_named a) k && is_number (deadline_named a) n then [] else []) ++ []) ≡ later_of k n h =
       ap (λ xs. later_of k n h ++ (xs ++ [])) (none_by (is_number (case_named a) k && is_number (deadline_named a) n)) ∙ append-nil (later_of k n h) in
-      let made : made_of k h ++ (made_in k a ++ []) ≡ made_of k h ++ made_in k a = ap (λ xs. made_of k h ++ xs) (append-nil (made_in k a)) in
+      let made : made_of k h ++ (made_in k (rule_found h a, a) ++ []) ≡ made_of k h ++ made_in k (rule_found h a, a) = ap (λ xs. made_of k h ++ xs) (append-nil (made_in k (rule_found h a, a))) in
       let P : List NewDeadline × List Act × List Act → Type 0 = λ q. IsTold n q.0 q.1 q.2 in
       subst P (λ i. (sym made i, sym later i, acts_of_deadline k n (sym rows i))) firsts
 
@@ -196,19 +196,19 @@ module _ (court : CourtSettings) (h : History) (is : IsHistory court h) (k n : �
       let deadline_is : deadline_number a ≡ m = ap (λ o. unwrap_or o 0) on_deadline in
       let test : (is_number (case_named a) k && is_number (deadline_named a) n) ≡ (j == k && m == n) = (λ i. is_number (of_case i) k && is_number (on_deadline i) n) in
       let on_row : (case_number a == k && deadline_number a == n) ≡ (j == k && m == n) = (λ i. case_is i == k && deadline_is i == n) in
-      let rows : act_rows h ++ (first_acts count a ++ row ∷ []) ≡ (act_rows h ++ first_acts count a) ++ row ∷ [] = sym (append_assoc (act_rows h) (first_acts count a) (row ∷ [])) in
-      let acts : acts_of_deadline k n ((act_rows h ++ first_acts count a) ++ row ∷ []) ≡ acts_of_deadline k n (act_rows h ++ first_acts count a) ++ cond (j == k && m == n) (new ∷ []) [] =
-      acts_more (act_rows h ++ first_acts count a) row k n ∙ ap (λ b. acts_of_deadline k n (act_rows h ++ first_acts count a) ++ cond b (new ∷ []) []) on_row in
-      let there : (j == k && m == n) ≡ true → (1 ≤ n) × (n ≤ length (made_of k h ++ made_in k a)) = λ e.
+      let rows : act_rows h ++ (first_acts (rule_found h a) count a ++ row ∷ []) ≡ (act_rows h ++ first_acts (rule_found h a) count a) ++ row ∷ [] = sym (append_assoc (act_rows h) (first_acts (rule_found h a) count a) (row ∷ [])) in
+      let acts : acts_of_deadline k n ((act_rows h ++ first_acts (rule_found h a) count a) ++ row ∷ []) ≡ acts_of_deadline k n (act_rows h ++ first_acts (rule_found h a) count a) ++ cond (j == k && m == n) (new ∷ []) [] =
+      acts_more (act_rows h ++ first_acts (rule_found h a) count a) row k n ∙ ap (λ b. acts_of_deadline k n (act_rows h ++ first_acts (rule_found h a) count a) ++ cond b (new ∷ []) []) on_row in
+      let there : (j == k && m == n) ≡ true → (1 ≤ n) × (n ≤ length (made_of k h ++ made_in k (rule_found h a, a))) = λ e.
       let both = both_true (j == k) (m == n) e in
       let j_is = same_number j k both.0 in
       let m_is = same_number m n both.1 in
       let high : m ≤ length (deadlines_of_case k (deadline_rows h)) = subst (λ (i : ℕ). m ≤ length (deadlines_of_case i (deadline_rows h))) j_is place.1 in
-      (omega (arith, place.0, m_is), omega (arith, high, m_is, count_is k h, length-append (made_of k h) (made_in k a))) in
-      let made : made_of k h ++ (made_in k a ++ []) ≡ made_of k h ++ made_in k a = ap (λ xs. made_of k h ++ xs) (append-nil (made_in k a)) in
+      (omega (arith, place.0, m_is), omega (arith, high, m_is, count_is k h, length-append (made_of k h) (made_in k (rule_found h a, a)))) in
+      let made : made_of k h ++ (made_in k (rule_found h a, a) ++ []) ≡ made_of k h ++ made_in k (rule_found h a, a) = ap (λ xs. made_of k h ++ xs) (append-nil (made_in k (rule_found h a, a))) in
       let P : List NewDeadline × List Act × List Act → Type 0 = λ q. IsTold n q.0 q.1 q.2 in
       subst P (λ i. (sym made i, later_of k n h ++ ((if sym test i then new ∷ [] else []) ++ []), sym (ap (acts_of_deadline k n) rows ∙ acts) i))
-      (acted n (made_of k h ++ made_in k a) (later_of k n h) (acts_of_deadline k n (act_rows h ++ first_acts count a)) new (j == k && m == n) firsts there)
+      (acted n (made_of k h ++ made_in k (rule_found h a, a)) (later_of k n h) (acts_of_deadline k n (act_rows h ++ first_acts (rule_found h a) count a)) new (j == k && m == n) firsts there)
 
   by_names : (new : Act) → acts_made a ≡ new ∷ [] → (o : Option ℕ) → case_named a ≡ o → (m : Option ℕ) → deadline_named a ≡ m → ToldAfter k n h a (new ∷ [])
   by_names new e None of_case m on_deadline = absurd (let clash : [] ≡ new ∷ [] = sym (none_acted_in a of_case) ∙ e in cc)
@@ -236,8 +236,8 @@ told court [] is k n = record { found = λ m d n_is at. absurd (cc); missing = �
 told court (c ∷ h) is k n =
     let step = told_step court h is.1 k n (told court h is.1 k n) c.action (passed court h c is.0.0 is.0.1) in
     let P : List NewDeadline × List Act → Type 0 = λ q. IsTold n q.0 q.1 (acts_of_deadline k n (act_rows (c ∷ h))) in
-    subst P (λ i. (sym (gathered-append (made_in k) (in_order h) (c.action ∷ [])) i, sym (gathered-append (acts_on k n) (in_order h) (c.action ∷ [])) i)) step
+    subst P (λ i. (sym (gathered-append (made_in k) (asked_in_order h) ((rule_found h c.action, c.action) ∷ [])) i, sym (gathered-append (acts_on k n) (in_order h) (c.action ∷ [])) i)) step
 
-pub acts_in_order : (court : CourtSettings) (h : History) → IsHistory court h → (k n : ℕ) (d : NewDeadline) → slice_get (gathered (made_in k) (in_order h)) n ≡ Some d
+pub acts_in_order : (court : CourtSettings) (h : History) → IsHistory court h → (k n : ℕ) (d : NewDeadline) → slice_get (gathered (made_in k) (asked_in_order h)) n ≡ Some d
     → acts_of_deadline k (n + 1) (act_rows h) ≡ d.first ∷ gathered (acts_on k (n + 1)) (in_order h)
 acts_in_order court h is k n d at = (told court h is k (n + 1)).found n d refl at

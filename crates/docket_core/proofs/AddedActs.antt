@@ -10,7 +10,7 @@ use Rattle.docket_core.specs.Tables.{Tables, changed, all_changed}
 use Rattle.docket_core.specs.declared.deadline.NewDeadline.{NewDeadline}
 use Rattle.docket_core.specs.declared.row.ActRow.{ActRow}
 use Rattle.docket_core.specs.declared.row.Change.{Change}
-use Rattle.docket_core.specs.declared.row.Change.TheVariants.{AddCalendar, RemoveCalendar, AddCase, AddParty, AddEntry, AddDeadline, AddAct}
+use Rattle.docket_core.specs.declared.row.Change.TheVariants.{AddCalendar, RemoveCalendar, AddCase, AddParty, AddEntry, AddDeadline, AddAct, AddLocalRule}
 
 -- the acts of a deadline, among those of more rows
 
@@ -72,6 +72,7 @@ acts_added (AddCase row ∷ xs) = acts_added xs
 acts_added (AddParty row ∷ xs) = acts_added xs
 acts_added (AddEntry row ∷ xs) = acts_added xs
 acts_added (AddDeadline row ∷ xs) = acts_added xs
+acts_added (AddLocalRule row ∷ xs) = acts_added xs
 
 pub acts_are : (changes : List Change) (t : Tables) → (all_changed changes t).acts ≡ t.acts ++ acts_added changes
 acts_are [] t = sym (append-nil t.acts)
@@ -82,3 +83,4 @@ acts_are (AddCase row ∷ xs) t = acts_are xs (changed (AddCase row) t)
 acts_are (AddParty row ∷ xs) t = acts_are xs (changed (AddParty row) t)
 acts_are (AddEntry row ∷ xs) t = acts_are xs (changed (AddEntry row) t)
 acts_are (AddDeadline row ∷ xs) t = acts_are xs (changed (AddDeadline row) t)
+acts_are (AddLocalRule row ∷ xs) t = acts_are xs (changed (AddLocalRule row) t)

@@ -1,13 +1,15 @@
 -- The first acts of the deadlines that a command makes, where no value of it is bad.
-use Rattle.std.proofs.Common.{◌≡◌, ℕ, Bool, true, false, not, ◌&&◌, Option, Some, None, List, [], ◌∷◌, max, pos, refl, subst, arith, nat_le}
-use Rattle.std.specs.Prelude.{unwrap_or, option_to_list}
+use Rattle.std.proofs.Common.{◌≡◌, ℕ, Bool, true, false, not, ◌&&◌, Option, Some, None, List, [], ◌∷◌, max, pos, refl, sym, ap, ◌∙◌, ◌||◌, subst, arith, nat_le}
+use Rattle.std.specs.Prelude.{unwrap_or, option_to_list, IfSome}
 use Rattle.std.specs.Option.{option_map}
 use Rattle.std.proofs.lemmas.Bool.Decides.{nat_tests}
 use Rattle.civil_time.specs.Zone.{ZoneRules}
 use Rattle.court_days.specs.Court.{CourtSettings, zone_of}
 use Rattle.court_days.specs.declared.calendar.Direction.{Direction}
 use Rattle.court_days.specs.declared.calendar.Direction.TheVariants.{Forward, Backward}
-use Rattle.court_rules.specs.Acts.{is_within, is_period}
+use Rattle.court_rules.specs.Acts.{is_within, is_period, is_forward}
+use Rattle.court_rules.specs.LocalRules.{is_local_name, is_local_rule}
+use Rattle.court_rules.specs.Methods.{gives_additional_time}
 use Rattle.court_rules.specs.Rules.{line_of}
 use Rattle.court_rules.specs.Standings.{begins_on_entered_day, may_begin}
 use Rattle.court_rules.specs.declared.act.Act.{Act}
@@ -17,8 +19,10 @@ use Rattle.court_rules.specs.declared.method.Method.TheVariants as method
 use Rattle.court_rules.specs.declared.act.Start.TheVariants as start
 use Rattle.court_rules.specs.declared.table.Period.{Period}
 use Rattle.court_rules.specs.declared.table.Period.TheVariants as period
+use Rattle.court_rules.specs.declared.local_rule.LocalRule.{LocalRule}
 use Rattle.court_rules.specs.declared.rule.Rule.{Rule}
 use Rattle.court_rules.specs.declared.rule.Rule.TheVariants as rule
+use Rattle.docket_command.specs.Conversions.{method_of}
 use Rattle.docket_command.specs.declared.choice.Basis.{Basis}
 use Rattle.docket_command.specs.declared.choice.Basis.TheVariants.{Private, UnitedStates, Officer}
 use Rattle.docket_command.specs.declared.choice.PeriodUnit.{PeriodUnit}
@@ -31,10 +35,11 @@ use Rattle.docket_command.specs.declared.command.Action.TheVariants as action
 use Rattle.docket_command.specs.declared.time_action.OrderPeriod as order_period
 use Rattle.docket_command.specs.declared.field.Field.{Field}
 use Rattle.docket_command.specs.declared.field.Field.TheVariants as field
-use Rattle.docket_core.specs.Actions.{answer_rule, answer_from, waiver_rule, pleading_rule, begun, timed_or_set, judgment_times, statement_ordered, ordered_three, day_ordered, hours_ordered, ordered, court_ordered, deadlines_made}
+use Rattle.docket_core.specs.Actions.{answer_rule, answer_from, waiver_rule, pleading_rule, begun, timed_or_set, judgment_times, statement_ordered, ordered_three, day_ordered, hours_ordered, ordered, court_ordered, local_three, begun_locally, FoundRule, deadlines_made}
 use Rattle.docket_core.specs.Values.{first_bad, bad_values, is_entered, is_entered_at, bad_attorney, bad_choice, bad_if, bad_method, bad_order, in_days, in_hours, is_fixed, most}
 use Rattle.docket_core.specs.declared.deadline.NewDeadline.{NewDeadline}
 use Rattle.docket_core.proofs.GoodValues.{AreGood, all_good, not_false, entered_instant}
+use Rattle.docket_core.proofs.Passed.{left_true, right_true}
 
 -- an act that may be the first of a deadline
 pub record IsFirst (zone : ZoneRules) (first : Act) : Type 0 where
@@ -150,29 +155,66 @@ ordered_first court a good = by_unit a.unit refl (all_good (bad_order court a) g
     by_unit unit.Fixed is fields = fixed_ordered_first (zone_of court) a.party a.until
         (subst (λ u. bad_if (is_fixed u) is_entered a.until ≡ false) is fields.1.1.1.1.1.0)
 
+-- a local rule whose values are lawful
+abbrev pub IsLawfulRule : LocalRule → Type 0
+IsLawfulRule r = is_local_rule r ≡ true
+
+-- a time by such a rule, from a day that may be entered
+local_first : (zone : ZoneRules) (r : LocalRule) (served_by : Option ServiceMethod) (day : ℕ) → IsLawfulRule r → is_entered day ≡ true → IsFirst zone (begun_locally r served_by day)
+unfolding is_local_rule
+local_first zone r served_by day lawful e =
+    let values = right_true (is_local_name r.name) _ lawful in
+    let counts = left_true (is_period (period.Days r.days)) _ values in
+    let forward = right_true (is_period (period.Days r.days)) _ values in
+    record { within = both (is_entered day && is_period (period.Days r.days)) _ (both (is_entered day) _ e counts) (only_forward served_by r forward); begins = refl; may = refl }
+  where
+    both : (a b : Bool) → a ≡ true → b ≡ true → (a && b) ≡ true
+    both true b p q = q
+    both false b p q = p
+
+    served : (three : Bool) (o : Option ServiceMethod) (rule : LocalRule) → rule.three ≡ three → three ≡ false → local_three rule o ≡ false
+    served three None rule same off = refl
+    served three (Some m) rule same off = ap (λ b. b && gives_additional_time (method_of m)) (same ∙ off)
+
+    any : (b : Bool) → (b || true) ≡ true
+    any true = refl
+    any false = refl
+
+    only_forward : (o : Option ServiceMethod) (rule : LocalRule) → (not rule.three || is_forward rule.direction) ≡ true → (not (local_three rule o) || is_forward rule.direction) ≡ true
+    only_forward o rule is = at rule.three refl rule.direction refl
+      where
+        at : (t : Bool) → rule.three ≡ t → (d : Direction) → rule.direction ≡ d → (not (local_three rule o) || is_forward rule.direction) ≡ true
+        at false e d f = ap (λ b. not b || is_forward rule.direction) (served false o rule e refl)
+        at true e Forward f = ap (λ d. not (local_three rule o) || is_forward d) f ∙ any (not (local_three rule o))
+        at true e Backward f = absurd (let off : false ≡ true = sym (λ i. not (e i) || is_forward (f i)) ∙ is in cc)
+
 -- where no value of an action is bad, the first acts of the deadlines that it makes are lawful
-pub made_first : (court : CourtSettings) (a : Action) → first_bad (bad_values court a) ≡ None → AreFirst (zone_of court) (deadlines_made a)
-made_first court (action.ServeSummons a) good =
+pub made_first : (court : CourtSettings) (found : FoundRule) (a : Action) → IfSome found IsLawfulRule → first_bad (bad_values court a) ≡ None → AreFirst (zone_of court) (deadlines_made found a)
+made_first court found (action.ServeSummons a) lawful good =
     let fields = all_good (bad_values court (action.ServeSummons a)) good in
     (begun_first _ (answer_rule a.basis) method.Rule4 _ (from_entered a.basis a.served a.attorney (not_false (is_entered a.served) fields.0) fields.1.0), tt)
-made_first court (action.FileWaiver a) good =
+made_first court found (action.FileWaiver a) lawful good =
     let fields = all_good (bad_values court (action.FileWaiver a)) good in
     (begun_first _ (waiver_rule a.abroad) method.Rule4 a.sent (not_false (is_entered a.sent) fields.0), tt)
-made_first court (action.ServePleading a) good =
+made_first court found (action.ServePleading a) lawful good =
     let fields = all_good (bad_values court (action.ServePleading a)) good in
     (begun_first _ (pleading_rule a.kind a.basis) _ _ (from_entered a.basis a.served a.attorney (not_false (is_entered a.served) fields.1.0) fields.1.1.0), tt)
-made_first court (action.OrderReply a) good =
+made_first court found (action.OrderReply a) lawful good =
     let fields = all_good (bad_values court (action.OrderReply a)) good in
     (or_set_first _ a.party rule.ReplyToAnswer _ a.served a.due field.Due (not_false (is_entered a.served) fields.0) fields.1.0, tt)
-made_first court (action.Dispose a) good =
+made_first court found (action.Dispose a) lawful good =
     let fields = all_good (bad_values court (action.Dispose a)) good in
     statement_first _ a.outcome a.party a.notice a.due field.Due (not_false (is_entered a.notice) fields.0) fields.1.1.0
-made_first court (action.NoticeHearing a) good =
+made_first court found (action.NoticeHearing a) lawful good =
     let fields = all_good (bad_values court (action.NoticeHearing a)) good in
     let entered = not_false (is_entered a.hearing) fields.0 in
     (begun_first _ rule.MotionAndNotice method.Nothing a.hearing entered, (begun_first _ rule.OpposingAffidavit method.Nothing a.hearing entered, tt))
-made_first court (action.OrderPeriod a) good = ordered_first court a good
-made_first court (action.EnterJudgment a) good =
+made_first court found (action.OrderPeriod a) lawful good = ordered_first court a good
+made_first court found (action.EnterJudgment a) lawful good =
     let fields = all_good (bad_values court (action.EnterJudgment a)) good in
     judgment_first _ a.entered a.discharged field.Discharged (not_false (is_entered a.entered) fields.0) fields.1.0
-made_first court _ good = tt
+made_first court None (action.LocalPeriod a) lawful good = tt
+made_first court (Some r) (action.LocalPeriod a) lawful good =
+    let fields = all_good (bad_values court (action.LocalPeriod a)) good in
+    (local_first _ r a.method a.start lawful (not_false (is_entered a.start) fields.0), tt)
+made_first court found _ lawful good = tt

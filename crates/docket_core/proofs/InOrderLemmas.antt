@@ -9,9 +9,9 @@ use Rattle.docket_command.specs.declared.case_action.FileEntry.{FileEntry}
 use Rattle.docket_command.specs.declared.command.Command.{Command}
 use Rattle.docket_command.specs.declared.command.Action.{Action}
 use Rattle.docket_command.specs.declared.command.Action.TheVariants as action
-use Rattle.docket_core.specs.Actions.{case_named, deadlines_made, row_withdrawn}
-use Rattle.docket_core.specs.Histories.{History, case_rows, party_rows, entry_rows, deadline_rows, parties_of_case, entries_of_case, deadlines_of_case, new_case, new_party, new_entry, new_deadlines, deadline_rows_from, case_number, standing_rows, without_row}
-use Rattle.docket_core.specs.InOrder.{in_order, numbered_by, gathered, opened, case_row, party_added, party_row, entry_filed, entry_row, is_number, made_in, calendar_added, Withdraws, IsAddedAndKept}
+use Rattle.docket_core.specs.Actions.{FoundRule, case_named, deadlines_made, row_withdrawn}
+use Rattle.docket_core.specs.Histories.{History, case_rows, party_rows, entry_rows, deadline_rows, parties_of_case, entries_of_case, deadlines_of_case, new_case, new_party, new_entry, new_deadlines, deadline_rows_from, case_number, standing_rows, without_row, local_rule_rows, new_local_rule, rule_found}
+use Rattle.docket_core.specs.InOrder.{in_order, asked_in_order, rule_entered, local_rule_row, numbered_by, gathered, opened, case_row, party_added, party_row, entry_filed, entry_row, is_number, made_in, calendar_added, Withdraws, IsAddedAndKept}
 use Rattle.docket_core.proofs.Leading.{none_made}
 use Rattle.docket_core.specs.declared.deadline.NewDeadline.{NewDeadline}
 use Rattle.docket_core.specs.declared.row.CalendarRow.{CalendarRow}
@@ -47,6 +47,15 @@ one_case m _ = refl
 pub cases_in_order : (h : History) → case_rows h ≡ numbered_by case_row 1 (filter_map opened (in_order h))
 cases_in_order [] = refl
 cases_in_order (c ∷ h) = grows case_row (case_rows h) (new_case (length (case_rows h)) c.action) opened (in_order h) c.action (cases_in_order h) (one_case (length (case_rows h)) c.action)
+
+-- local rules
+one_rule : (m : ℕ) (a : Action) → new_local_rule m a ≡ numbered_by local_rule_row (m + 1) (filter_map rule_entered (a ∷ []))
+one_rule m (action.LocalRule a) = refl
+one_rule m _ = refl
+
+pub rules_in_order : (h : History) → local_rule_rows h ≡ numbered_by local_rule_row 1 (filter_map rule_entered (in_order h))
+rules_in_order [] = refl
+rules_in_order (c ∷ h) = grows local_rule_row (local_rule_rows h) (new_local_rule (length (local_rule_rows h)) c.action) rule_entered (in_order h) c.action (rules_in_order h) (one_rule (length (local_rule_rows h)) c.action)
 
 -- parties
 party_if : (b : Bool) (m n : ℕ) (a : AddParty) → (b ≡ true → m ≡ n) → cond b (party_row (m + 1) a ∷ []) [] ≡ numbered_by party_row (n + 1) (cons_option (if b then Some a else None) [])
@@ -118,20 +127,21 @@ one_by k rows (Some j) made none =
     of_case k j _ made (j == k) refl
     ∙ deadlines_if (j == k) k j _ _ made (same_number j k) (λ e. ap (λ i. length (deadlines_of_case i rows)) (same_number j k e))
 
-one_deadline : (k : ℕ) (rows : List DeadlineRow) (a : Action) → deadlines_of_case k (new_deadlines (length (deadlines_of_case (case_number a) rows)) a) ≡ deadline_rows_from k (length (deadlines_of_case k rows) + 1) (made_in k a)
-one_deadline k rows a = one_by k rows (case_named a) (deadlines_made a) (none_made a)
+one_deadline : (k : ℕ) (rows : List DeadlineRow) (found : FoundRule) (a : Action) → deadlines_of_case k (new_deadlines found (length (deadlines_of_case (case_number a) rows)) a) ≡ deadline_rows_from k (length (deadlines_of_case k rows) + 1) (made_in k (found, a))
+one_deadline k rows found a = one_by k rows (case_named a) (deadlines_made found a) (none_made found a)
 
-pub deadlines_in_order : (k : ℕ) (h : History) → deadlines_of_case k (deadline_rows h) ≡ deadline_rows_from k 1 (gathered (made_in k) (in_order h))
+pub deadlines_in_order : (k : ℕ) (h : History) → deadlines_of_case k (deadline_rows h) ≡ deadline_rows_from k 1 (gathered (made_in k) (asked_in_order h))
 deadlines_in_order k [] = refl
 deadlines_in_order k (c ∷ h) =
     let rows = deadline_rows h in
-    let asked = gathered (made_in k) (in_order h) in
+    let found = rule_found h c.action in
+    let asked = gathered (made_in k) (asked_in_order h) in
     let was = deadlines_in_order k h in
     let count : length (deadlines_of_case k rows) + 1 ≡ 1 + length asked = omega (arith, ap length was, length-from k 1 asked) in
-    filter-append (λ (row : DeadlineRow). row.case == k) rows (new_deadlines (length (deadlines_of_case (case_number c.action) rows)) c.action)
-    ∙ (λ i. was i ++ (one_deadline k rows c.action ∙ ap (λ m. deadline_rows_from k m (made_in k c.action)) count) i)
-    ∙ sym (from-append k 1 asked (made_in k c.action))
-    ∙ ap (deadline_rows_from k 1) (sym (gathered-append (made_in k) (in_order h) (c.action ∷ []) ∙ ap (λ more. asked ++ more) (append-nil (made_in k c.action))))
+    filter-append (λ (row : DeadlineRow). row.case == k) rows (new_deadlines found (length (deadlines_of_case (case_number c.action) rows)) c.action)
+    ∙ (λ i. was i ++ (one_deadline k rows found c.action ∙ ap (λ m. deadline_rows_from k m (made_in k (found, c.action))) count) i)
+    ∙ sym (from-append k 1 asked (made_in k (found, c.action)))
+    ∙ ap (deadline_rows_from k 1) (sym (gathered-append (made_in k) (asked_in_order h) ((found, c.action) ∷ []) ∙ ap (λ more. asked ++ more) (append-nil (made_in k (found, c.action)))))
 
 -- the calendar
 module _ {X : Type 0} (p : X → Bool) where

@@ -132,7 +132,7 @@ may_follow court v (action.RuleMotion a) good opened awaited room =
       within = not_false (is_entered a.served) fields.0;
       begins = refl;
       may = motion_may (standing_shown court v) a.served a.kind opened;
-      room = inr (few v (action.RuleMotion a) (nat_lt 1000 (count_deadlines v.case + length (deadlines_made (action.RuleMotion a)))) refl room);
+      room = inr (few v (action.RuleMotion a) (nat_lt 1000 (count_deadlines v.case + length (deadlines_made v.local (action.RuleMotion a)))) refl room);
     }
 may_follow court v (action.Dispose a) good opened awaited room =
     let fields = all_good (bad_values court (action.Dispose a)) good in
@@ -140,7 +140,7 @@ may_follow court v (action.Dispose a) good opened awaited room =
       within = ruled_within a.outcome a.notice a.due field.Due (not_false (is_entered a.notice) fields.0) fields.1.1.0;
       begins = ruled_begins (zone_of court) a.outcome a.notice a.due;
       may = ruling_may (standing_shown court v) a.outcome a.notice a.due awaited;
-      room = inr (few v (action.Dispose a) (nat_lt 1000 (count_deadlines v.case + length (deadlines_made (action.Dispose a)))) refl room);
+      room = inr (few v (action.Dispose a) (nat_lt 1000 (count_deadlines v.case + length (deadlines_made v.local (action.Dispose a)))) refl room);
     }
 may_follow court v (action.StatementServed a) good opened awaited room =
     let fields = all_good (bad_values court (action.StatementServed a)) good in
@@ -148,11 +148,11 @@ may_follow court v (action.StatementServed a) good opened awaited room =
       within = not_false (is_entered a.served) fields.0;
       begins = refl;
       may = resume_may (standing_shown court v) a.served _ awaited;
-      room = inr (few v (action.StatementServed a) (nat_lt 1000 (count_deadlines v.case + length (deadlines_made (action.StatementServed a)))) refl room);
+      room = inr (few v (action.StatementServed a) (nat_lt 1000 (count_deadlines v.case + length (deadlines_made v.local (action.StatementServed a)))) refl room);
     }
 may_follow court v (action.Extend a) good opened awaited room =
     let fields = all_good (bad_values court (action.Extend a)) good in
-    extension_next (zone_of court) (standing_shown court v) _ a.days a.until fields.1.0 fields.1.1.0 opened (few v (action.Extend a) (nat_lt 1000 (count_deadlines v.case + length (deadlines_made (action.Extend a)))) refl room)
+    extension_next (zone_of court) (standing_shown court v) _ a.days a.until fields.1.0 fields.1.1.0 opened (few v (action.Extend a) (nat_lt 1000 (count_deadlines v.case + length (deadlines_made v.local (action.Extend a)))) refl room)
 may_follow court v (action.Satisfy a) good opened awaited room =
     let fields = all_good (bad_values court (action.Satisfy a)) good in
     let near = entered_instant court a.at (not_false (is_entered_at court a.at) fields.0) in

@@ -5,12 +5,12 @@ use Rattle.std.specs.Option.{option_and_then}
 use Rattle.court_days.specs.Court.{CourtSettings}
 use Rattle.docket_command.specs.declared.command.Command.{Command}
 use Rattle.docket_command.specs.declared.command.Action.{Action}
-use Rattle.docket_command.specs.declared.command.Action.TheVariants.{DeclareDay, CloseDay, CloseSpan, ShortDay, WithdrawCalendar, ImportCalendar, OpenCase, AddParty, FileEntry, Satisfy, Vacate, RuleMotion, Dispose, StatementServed, Extend}
+use Rattle.docket_command.specs.declared.command.Action.TheVariants.{DeclareDay, CloseDay, CloseSpan, ShortDay, WithdrawCalendar, ImportCalendar, OpenCase, AddParty, FileEntry, Satisfy, Vacate, RuleMotion, Dispose, StatementServed, Extend, LocalRule, LocalPeriod}
 use Rattle.docket_command.specs.declared.refusal.Refusal.{Refusal}
 use Rattle.docket_command.specs.declared.refusal.Reply.{Reply}
-use Rattle.docket_core.specs.Actions.{case_named, deadline_named, deadlines_made, acts_made, asks_calendar, row_withdrawn}
+use Rattle.docket_core.specs.Actions.{case_named, deadline_named, FoundRule, deadlines_made, acts_made, asks_calendar, row_withdrawn}
 use Rattle.docket_core.specs.Decisions.{IsAnswer, IsChange, LeadsTo}
-use Rattle.docket_core.specs.Histories.{History, standing_rows, next_row, items_of, numbered, rows_added, case_rows, party_rows, entry_rows, deadline_rows, act_rows, without_row, new_party, new_entry, later_acts, case_number, deadline_number, parties_of_case, entries_of_case, deadlines_of_case, acts_of_deadline, deadlines_from, deadlines, first_acts_from, act_rows_on, deadline_rows_from}
+use Rattle.docket_core.specs.Histories.{History, standing_rows, next_row, items_of, numbered, rows_added, case_rows, party_rows, entry_rows, deadline_rows, act_rows, without_row, new_party, new_entry, later_acts, case_number, deadline_number, parties_of_case, entries_of_case, deadlines_of_case, acts_of_deadline, deadlines_from, deadlines, first_acts_from, act_rows_on, deadline_rows_from, local_rule_rows, rule_found}
 use Rattle.docket_core.specs.Outcomes.{reply_to, replied, shown, shown_fresh, case_of_number, answer_kept, answer_by, answer_of, repeated, refused, accepted}
 use Rattle.docket_core.specs.Refusals.{lacks_case, lacks_deadline, refusal_of}
 use Rattle.docket_core.specs.Tables.{Tables, rows_of, changed, all_changed, withdrawal, action_changes, with_receipt}
@@ -29,12 +29,13 @@ use Rattle.docket_core.specs.declared.row.PartyRow.{PartyRow}
 use Rattle.docket_core.specs.declared.row.EntryRow.{EntryRow}
 use Rattle.docket_core.specs.declared.row.DeadlineRow.{DeadlineRow}
 use Rattle.docket_core.specs.declared.row.ActRow.{ActRow}
+use Rattle.docket_core.specs.declared.row.LocalRuleRow.{LocalRuleRow}
 use Rattle.docket_core.specs.declared.view.CaseView.{CaseView}
 use Rattle.docket_core.specs.declared.view.DeadlineView.{DeadlineView}
 use Rattle.docket_core.specs.declared.view.Kept.{Kept}
 use Rattle.docket_core.specs.declared.view.Kept.TheVariants.{Fresh, Same, Other}
 use Rattle.docket_core.specs.declared.view.View.{View}
-use Rattle.docket_core.proofs.Asked.{case_asked, party_asked, entry_asked, made_asked, next_asked}
+use Rattle.docket_core.proofs.Asked.{case_asked, party_asked, entry_asked, rule_asked, made_asked, next_asked}
 use Rattle.docket_core.proofs.Passed.{is_free}
 
 -- what changes of one kind do
@@ -73,9 +74,13 @@ acts_changed : (rows : List ActRow) (t : Tables) → all_changed (map change.Add
 acts_changed [] t = λ i. record t { acts = sym (append-nil t.acts) i }
 acts_changed (row ∷ rows) t = acts_changed rows (changed (change.AddAct row) t) ∙ (λ i. record t { acts = append_assoc t.acts (row ∷ []) rows i })
 
+rules_changed : (rows : List LocalRuleRow) (t : Tables) → all_changed (map change.AddLocalRule rows) t ≡ record t { local_rules = t.local_rules ++ rows }
+rules_changed [] t = λ i. record t { local_rules = sym (append-nil t.local_rules) i }
+rules_changed (row ∷ rows) t = rules_changed rows (changed (change.AddLocalRule row) t) ∙ (λ i. record t { local_rules = append_assoc t.local_rules (row ∷ []) rows i })
+
 -- all changes of a command, in one step
-module _ (c : Command) (w : Option ℕ) (calendar : List CalendarRow) (cases : List CaseRow) (parties : List PartyRow) (entries : List EntryRow) (ds : List DeadlineRow) (firsts later : List ActRow) (n : Reply) (t : Tables) where
-  all_in_one : with_receipt c n (all_changed (withdrawal w ++ map change.AddCalendar calendar ++ map change.AddCase cases ++ map change.AddParty parties ++ map change.AddEntry entries ++ map change.AddDeadline ds ++ map change.AddAct firsts ++ map change.AddAct later) t)
+module _ (c : Command) (w : Option ℕ) (calendar : List CalendarRow) (cases : List CaseRow) (parties : List PartyRow) (entries : List EntryRow) (ds : List DeadlineRow) (firsts later : List ActRow) (rules : List LocalRuleRow) (n : Reply) (t : Tables) where
+  all_in_one : with_receipt c n (all_changed (withdrawal w ++ map change.AddCalendar calendar ++ map change.AddCase cases ++ map change.AddParty parties ++ map change.AddEntry entries ++ map change.AddDeadline ds ++ map change.AddAct firsts ++ map change.AddAct later ++ map change.AddLocalRule rules) t)
       ≡ record {
         next_row = t.next_row + length calendar;
         calendar = without_row w t.calendar ++ calendar;
@@ -85,8 +90,9 @@ module _ (c : Command) (w : Option ℕ) (calendar : List CalendarRow) (cases : L
         deadlines = t.deadlines ++ ds;
         acts = t.acts ++ (firsts ++ later);
         receipts = t.receipts ++ record { command = c; reply = n } ∷ [];
+        local_rules = t.local_rules ++ rules;
       }
-  all_in_one = simp (all_changed-append, withdrawn, calendar_changed, cases_changed, parties_changed, entries_changed, deadlines_changed, acts_changed, append_assoc)
+  all_in_one = simp (all_changed-append, withdrawn, calendar_changed, cases_changed, parties_changed, entries_changed, deadlines_changed, acts_changed, rules_changed, append_assoc)
 
 -- an action that names no case makes no row of one
 no_party : (a : Action) (m n : ℕ) → case_named a ≡ None → new_party m a ≡ new_party n a
@@ -97,15 +103,16 @@ no_entry : (a : Action) (m n : ℕ) → case_named a ≡ None → new_entry m a 
 no_entry (FileEntry a) m n e = absurd (cc)
 no_entry _ m n e = refl
 
-pub none_made : (a : Action) → case_named a ≡ None → deadlines_made a ≡ []
-none_made (DeclareDay a) e = refl
-none_made (CloseDay a) e = refl
-none_made (CloseSpan a) e = refl
-none_made (ShortDay a) e = refl
-none_made (WithdrawCalendar a) e = refl
-none_made (ImportCalendar a) e = refl
-none_made (OpenCase a) e = refl
-none_made _ e = absurd (cc)
+pub none_made : (found : FoundRule) (a : Action) → case_named a ≡ None → deadlines_made found a ≡ []
+none_made found (DeclareDay a) e = refl
+none_made found (CloseDay a) e = refl
+none_made found (CloseSpan a) e = refl
+none_made found (ShortDay a) e = refl
+none_made found (WithdrawCalendar a) e = refl
+none_made found (ImportCalendar a) e = refl
+none_made found (OpenCase a) e = refl
+none_made found (LocalRule a) e = refl
+none_made found _ e = absurd (cc)
 
 -- an action that names no deadline makes no later act
 pub none_acted : (a : Action) → deadline_named a ≡ None → acts_made a ≡ []
@@ -164,12 +171,19 @@ party_same h a free = ⊎_elim (λ e. no_party a _ _ e) (λ e. ap (λ o. new_par
 entry_same : (h : History) (a : Action) → lacks_case (shown_fresh h a) a ≡ false → new_entry (entries_in (shown_fresh h a).case) a ≡ new_entry (length (entries_of_case (case_number a) (entry_rows h))) a
 entry_same h a free = ⊎_elim (λ e. no_entry a _ _ e) (λ e. ap (λ o. new_entry (entries_in o) a) e ∙ entry_asked _ a) (seen h a free)
 
+-- the local rule that is shown is the one that is named, where deadlines are made
+pub made_found : (h : History) (a : Action) → deadlines_made (shown_fresh h a).local a ≡ deadlines_made (rule_found h a) a
+made_found h (LocalPeriod a) = refl
+made_found h _ = refl
+
 -- what is made of new deadlines, by how many there are
-counted : {R : Type 0} (make : ℕ → List NewDeadline → List R) (h : History) (a : Action) → ((m n : ℕ) → make m [] ≡ make n []) → lacks_case (shown_fresh h a) a ≡ false → make (count_deadlines (shown_fresh h a).case) (deadlines_made a) ≡ make (length (deadlines_of_case (case_number a) (deadline_rows h))) (deadlines_made a)
+counted : {R : Type 0} (make : ℕ → List NewDeadline → List R) (h : History) (a : Action) → ((m n : ℕ) → make m [] ≡ make n []) → lacks_case (shown_fresh h a) a ≡ false → make (count_deadlines (shown_fresh h a).case) (deadlines_made (shown_fresh h a).local a) ≡ make (length (deadlines_of_case (case_number a) (deadline_rows h))) (deadlines_made (rule_found h a) a)
 counted make h a none free =
-    ⊎_elim
-    (λ e. ap (make _) (none_made a e) ∙ none _ _ ∙ ap (make _) (sym (none_made a e)))
-    (λ e. ap (λ o. make (count_deadlines o) (deadlines_made a)) e ∙ made_asked make (length (deadlines (case_number a) h)) a none ∙ ap (λ n. make n (deadlines_made a)) (length-deadlines_from (case_number a) 1 (act_rows h) (deadlines_of_case (case_number a) (deadline_rows h))))
+    let l = rule_found h a in
+    ap (make _) (made_found h a)
+    ∙ ⊎_elim
+    (λ e. ap (make _) (none_made l a e) ∙ none _ _ ∙ ap (make _) (sym (none_made l a e)))
+    (λ e. ap (λ o. make (count_deadlines o) (deadlines_made l a)) e ∙ made_asked make (length (deadlines (case_number a) h)) l a none ∙ ap (λ n. make n (deadlines_made l a)) (length-deadlines_from (case_number a) 1 (act_rows h) (deadlines_of_case (case_number a) (deadline_rows h))))
     (seen h a free)
 
 pub deadline_seen : (k n : ℕ) (h : History) → is_none (deadline_at (deadlines k h) n) ≡ false → acts_in (deadline_at (deadlines k h) n) ≡ acts_of_deadline k n (act_rows h)
@@ -225,9 +239,10 @@ leads court h c free there =
     ++ map change.AddEntry (entry_same h a free i)
     ++ map change.AddDeadline (ds i)
     ++ map change.AddAct (firsts i)
-    ++ map change.AddAct (later_same h a free there i))
+    ++ map change.AddAct (later_same h a free there i)
+    ++ map change.AddLocalRule (rule_asked (length (local_rule_rows h)) a i))
     (rows_of court h)))
-    ∙ all_in_one c w (numbered (next_row h) (rows_added (items_of (standing_rows h)) a)) _ _ _ _ _ _ reply (rows_of court h)
+    ∙ all_in_one c w (numbered (next_row h) (rows_added (items_of (standing_rows h)) a)) _ _ _ _ _ _ _ reply (rows_of court h)
     ∙ (λ i. record (rows_of court (c ∷ h)) { next_row = next_row h + length-numbered (next_row h) (rows_added (items_of (standing_rows h)) a) i })
 
 -- an answer that accepts met no refusal

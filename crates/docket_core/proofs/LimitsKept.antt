@@ -1,27 +1,31 @@
 -- What every history keeps to, by an induction on it.
-use Rattle.std.proofs.Common.{◌≡◌, ◌≢◌, ℕ, zero, suc, ◌+◌, ◌≤◌, ◌<◌, Bool, true, false, ◌&&◌, cond, Option, Some, None, List, [], ◌∷◌, ◌++◌, length, not, refl, sym, ap, subst, ◌∙◌, arith, length-append, append-nil, append_assoc, ⊎_elim}
+use Rattle.std.proofs.Common.{◌≡◌, ◌≢◌, ℕ, zero, suc, ◌+◌, ◌≤◌, ◌<◌, Bool, true, false, ◌&&◌, ◌||◌, cond, Option, Some, None, List, [], ◌∷◌, ◌++◌, length, not, refl, sym, ap, subst, ◌∙◌, arith, length-append, append-nil, append_assoc, ⊎_elim}
 use Rattle.std.specs.Prelude.{filter, ◌==◌, nat_lt, nat_le, slice_get, is_some, is_none, unwrap_or, if◌then◌else◌, IfSome}
-use Rattle.std.specs.List.{All}
-use Rattle.std.specs.Option.{option_and_then}
+use Rattle.std.specs.List.{All, find}
+use Rattle.std.specs.Option.{option_map, option_and_then}
+use Rattle.std.specs.Str.{bytes_eq}
 use Rattle.std.proofs.lemmas.Bool.Decides.{nat_tests}
 use Rattle.std.proofs.lemmas.List.{map-append, length-map}
 use Rattle.std.proofs.lemmas.List.Elements.{filter-append, All-nil, All-cons, All-head, All-tail, All-append}
 use Rattle.std.proofs.lemmas.Option.{slice_get_within}
 use Rattle.civil_time.specs.Zone.{ZoneRules}
 use Rattle.court_days.specs.Court.{CourtSettings, zone_of}
+use Rattle.court_rules.specs.Acts.{is_forward}
+use Rattle.court_rules.specs.LocalRules.{is_local_name, is_local_rule}
 use Rattle.court_rules.specs.Standings.{AreActs, standing as standing_by_acts}
 use Rattle.court_rules.specs.declared.act.Act.{Act}
+use Rattle.court_rules.specs.declared.local_rule.LocalRule.{LocalRule}
 use Rattle.docket_command.specs.declared.command.Action.{Action}
 use Rattle.docket_command.specs.declared.command.Action.TheVariants as action
 use Rattle.docket_command.specs.declared.command.Command.{Command}
 use Rattle.docket_command.specs.declared.refusal.Reply.{Reply}
-use Rattle.docket_core.specs.Actions.{asks_calendar, asks_next_row, if_asked, case_named, deadline_named, rows_asked, row_withdrawn, deadlines_made, acts_made}
+use Rattle.docket_core.specs.Actions.{asks_calendar, asks_next_row, if_asked, case_named, deadline_named, local_rule_named, rows_asked, row_withdrawn, deadlines_made, acts_made}
 use Rattle.docket_core.specs.CalendarItems.{IsEnteredItem, calendar_of}
 use Rattle.docket_core.specs.Decisions.{IsSoundView}
-use Rattle.docket_core.specs.Histories.{History, items_of, numbered, without_row, standing_rows, next_row, rows_added, case_rows, party_rows, entry_rows, deadline_rows, act_rows, parties_of_case, entries_of_case, deadlines_of_case, acts_of_deadline, deadlines, deadlines_from, new_case, new_party, new_entry, new_deadlines, deadline_rows_from, first_acts, later_acts, act_rows_on, case_number, deadline_number}
+use Rattle.docket_core.specs.Histories.{History, items_of, numbered, without_row, standing_rows, next_row, rows_added, case_rows, party_rows, entry_rows, deadline_rows, act_rows, parties_of_case, entries_of_case, deadlines_of_case, acts_of_deadline, deadlines, deadlines_from, new_case, new_party, new_entry, new_deadlines, deadline_rows_from, first_acts, later_acts, act_rows_on, case_number, deadline_number, local_rule_rows, new_local_rule, local_rule_in, rule_found}
 use Rattle.docket_core.specs.Limits.{IsWithinLimits}
 use Rattle.docket_core.specs.Outcomes.{IsHistory, outcome, accepted, shown, shown_fresh, case_of_number}
-use Rattle.docket_core.specs.Refusals.{is_full, is_not_open, is_not_awaiting, is_calendar_full, lacks_case, lacks_deadline, count_added}
+use Rattle.docket_core.specs.Refusals.{lacks_local_rule, is_full, is_not_open, is_not_awaiting, is_calendar_full, lacks_case, lacks_deadline, count_added}
 use Rattle.docket_core.specs.Values.{first_bad, bad_values}
 use Rattle.docket_core.specs.Times.{standing_shown}
 use Rattle.docket_core.specs.Views.{parties_in, entries_in, count_deadlines, named_in, deadline_at, deadline_shown, acts_in}
@@ -31,16 +35,17 @@ use Rattle.docket_core.specs.declared.row.ActRow.{ActRow}
 use Rattle.docket_core.specs.declared.row.CalendarRow.{CalendarRow}
 use Rattle.docket_core.specs.declared.row.DeadlineRow.{DeadlineRow}
 use Rattle.docket_core.specs.declared.row.EntryRow.{EntryRow}
+use Rattle.docket_core.specs.declared.row.LocalRuleRow.{LocalRuleRow}
 use Rattle.docket_core.specs.declared.row.PartyRow.{PartyRow}
 use Rattle.docket_core.specs.declared.view.CaseView.{CaseView}
 use Rattle.docket_core.specs.declared.view.DeadlineView.{DeadlineView}
 use Rattle.docket_core.specs.declared.view.View.{View}
 use Rattle.docket_core.proofs.ActsKept.{AreSound, IsKept, with_firsts, with_later, no_fewer, firsts_other}
 use Rattle.docket_core.proofs.Asked.{asked_where_made}
-use Rattle.docket_core.proofs.FirstActs.{made_first}
+use Rattle.docket_core.proofs.FirstActs.{IsLawfulRule, made_first}
 use Rattle.docket_core.proofs.LaterActs.{IsNext, IsNextOf, next_sound, may_follow}
-use Rattle.docket_core.proofs.GoodValues.{or_off, asked_entered, fresh_entered, numbered_entered}
-use Rattle.docket_core.proofs.Leading.{is_accepted, seen, seen_of, none_made, none_acted, none_acted_in, deadline_seen, length-deadlines_from, length-numbered}
+use Rattle.docket_core.proofs.GoodValues.{all_good, not_false, or_off, asked_entered, fresh_entered, numbered_entered}
+use Rattle.docket_core.proofs.Leading.{is_accepted, made_found, seen, seen_of, none_made, none_acted, none_acted_in, deadline_seen, length-deadlines_from, length-numbered}
 use Rattle.docket_core.proofs.Passed.{is_free, rows_fit, deadlines_fit, not_above, not_at, one_of_all}
 
 -- the deadline that is named is there, with these acts
@@ -78,6 +83,7 @@ pub record IsPassed (court : CourtSettings) (h : History) (a : Action) : Type 0 
   pub values : first_bad (bad_values court a) ≡ None
   pub case : lacks_case (shown_fresh h a) a ≡ false
   pub deadline : lacks_deadline (shown_fresh h a) a ≡ false
+  pub rule : lacks_local_rule (shown_fresh h a) a ≡ false
   pub opened : is_not_open court (shown_fresh h a) a ≡ false
   pub awaited : is_not_awaiting court (shown_fresh h a) a ≡ false
   pub room : is_full (shown_fresh h a) a ≡ false
@@ -85,22 +91,69 @@ pub record IsPassed (court : CourtSettings) (h : History) (a : Action) : Type 0 
 pub passed : (court : CourtSettings) (h : History) (c : Command) (reply : Reply) → outcome court h c ≡ accepted reply → IsPassed court h c.action
 passed court h c reply answer =
     let free = is_free court (shown court h c) c (is_accepted court (shown court h c) c reply answer).free in
-    record { values = free.values; case = free.case; deadline = free.deadline; opened = free.opened; awaited = free.awaited; room = free.room }
+    record { values = free.values; case = free.case; deadline = free.deadline; rule = free.rule; opened = free.opened; awaited = free.awaited; room = free.room }
+
+-- the local rules of a history have lawful values
+abbrev IsLawfulRow : LocalRuleRow → Type 0
+IsLawfulRow row = IsLawfulRule row.rule
+
+forward_only : (three forward : Bool) → (three && not forward) ≡ false → (not three || forward) ≡ true
+forward_only true true e = refl
+forward_only true false e = absurd (cc)
+forward_only false forward e = refl
+
+all_true : (a b c : Bool) → a ≡ true → b ≡ true → c ≡ true → (a && (b && c)) ≡ true
+all_true true true c p q r = r
+all_true true false c p q r = absurd (cc)
+all_true false b c p q r = absurd (cc)
+
+rule_lawful : (court : CourtSettings) (r : LocalRule) → first_bad (bad_values court (action.LocalRule r)) ≡ None → IsLawfulRule r
+unfolding is_local_rule
+rule_lawful court r good =
+    let fields = all_good (bad_values court (action.LocalRule r)) good in
+    all_true (is_local_name r.name) (nat_le 1 r.days && nat_le r.days 3650) _
+    (not_false (is_local_name r.name) fields.0) (not_false (nat_le 1 r.days && nat_le r.days 3650) fields.1.0) (forward_only r.three (is_forward r.direction) fields.1.1.0)
+
+entered_lawful : (court : CourtSettings) (count : ℕ) (a : Action) → first_bad (bad_values court a) ≡ None → All IsLawfulRow (new_local_rule count a)
+entered_lawful court count (action.LocalRule r) good = All-cons IsLawfulRow _ [] (rule_lawful court r good) (All-nil IsLawfulRow)
+entered_lawful court count _ good = All-nil IsLawfulRow
+
+pub rules_lawful : (court : CourtSettings) (h : History) → IsHistory court h → All IsLawfulRow (local_rule_rows h)
+rules_lawful court [] is = All-nil IsLawfulRow
+rules_lawful court (c ∷ h) is =
+    All-append IsLawfulRow (local_rule_rows h) (new_local_rule (length (local_rule_rows h)) c.action) (rules_lawful court h is.1)
+    (entered_lawful court _ c.action (passed court h c is.0.0 is.0.1).values)
+
+-- so is the one that an action names
+in_lawful : (rows : List LocalRuleRow) (name : List ℕ) → All IsLawfulRow rows → IfSome (local_rule_in rows name) IsLawfulRule
+in_lawful [] name all = tt
+in_lawful (row ∷ rows) name all = at (bytes_eq row.rule.name name) (All-head IsLawfulRow row rows all) (in_lawful rows name (All-tail IsLawfulRow row rows all))
+  where
+    at : (b : Bool) → IsLawfulRow row → IfSome (local_rule_in rows name) IsLawfulRule → IfSome (option_map (λ (r : LocalRuleRow). r.rule) (cond b (Some row) (find (λ (r : LocalRuleRow). bytes_eq r.rule.name name) rows))) IsLawfulRule
+    at true here rest = here
+    at false here rest = rest
+
+named_lawful : (rows : List LocalRuleRow) (o : Option (List ℕ)) → All IsLawfulRow rows → IfSome (option_and_then (local_rule_in rows) o) IsLawfulRule
+named_lawful rows None all = tt
+named_lawful rows (Some name) all = in_lawful rows name all
+
+pub found_lawful : (court : CourtSettings) (h : History) → IsHistory court h → (a : Action) → IfSome (rule_found h a) IsLawfulRule
+found_lawful court h is a = named_lawful (local_rule_rows h) (local_rule_named a) (rules_lawful court h is)
 
 abbrev KeptAfter : CourtSettings → History → Action → ℕ → ℕ → Type 0
 KeptAfter court h a k n =
     let count = length (deadlines_of_case (case_number a) (deadline_rows h)) in
-    IsKept (zone_of court) (deadline_rows h ++ new_deadlines count a)
-    (act_rows h ++ (first_acts count a ++ later_acts (length (acts_of_deadline (case_number a) (deadline_number a) (act_rows h))) a)) k n
+    IsKept (zone_of court) (deadline_rows h ++ new_deadlines (rule_found h a) count a)
+    (act_rows h ++ (first_acts (rule_found h a) count a ++ later_acts (length (acts_of_deadline (case_number a) (deadline_number a) (act_rows h))) a)) k n
 
 -- with the deadlines that it makes
-firsts_kept : (court : CourtSettings) (h : History) (a : Action) → AllKept court h → first_bad (bad_values court a) ≡ None → (j m : ℕ)
-    → (let count = length (deadlines_of_case (case_number a) (deadline_rows h)) in IsKept (zone_of court) (deadline_rows h ++ new_deadlines count a) (act_rows h ++ first_acts count a) j m)
-firsts_kept court h a was good j m =
-    with_firsts (zone_of court) (case_number a) (deadlines_made a) (deadline_rows h) (act_rows h) (length (deadlines_of_case (case_number a) (deadline_rows h))) refl (made_first court a good) was j m
+firsts_kept : (court : CourtSettings) (h : History) (a : Action) → AllKept court h → IfSome (rule_found h a) IsLawfulRule → first_bad (bad_values court a) ≡ None → (j m : ℕ)
+    → (let count = length (deadlines_of_case (case_number a) (deadline_rows h)) in IsKept (zone_of court) (deadline_rows h ++ new_deadlines (rule_found h a) count a) (act_rows h ++ first_acts (rule_found h a) count a) j m)
+firsts_kept court h a was lawful good j m =
+    with_firsts (zone_of court) (case_number a) (deadlines_made (rule_found h a) a) (deadline_rows h) (act_rows h) (length (deadlines_of_case (case_number a) (deadline_rows h))) refl (made_first court (rule_found h a) a lawful good) was j m
 
 -- and with the act on the deadline that it names
-module _ (court : CourtSettings) (h : History) (a : Action) (was : AllKept court h) (good : first_bad (bad_values court a) ≡ None) (m : ℕ) (named : deadline_named a ≡ Some m)
+module _ (court : CourtSettings) (h : History) (a : Action) (was : AllKept court h) (lawful : IfSome (rule_found h a) IsLawfulRule) (good : first_bad (bad_values court a) ≡ None) (m : ℕ) (named : deadline_named a ≡ Some m)
     (case_is : (shown_fresh h a).case ≡ Some (seen_of h a))
     (there : lacks_deadline (shown_fresh h a) a ≡ false) (new : Act)
     (follows : IsNext (zone_of court) (standing_shown court (shown_fresh h a)) (acts_in (deadline_shown (shown_fresh h a))) new) where
@@ -131,42 +184,42 @@ module _ (court : CourtSettings) (h : History) (a : Action) (was : AllKept court
       (subst (λ (acts : List Act). IsNext zone (standing_by_acts zone entered acts) acts new) acts_shown follows)
 
   pub later_kept : (number k n : ℕ) → (let count = length (deadlines_of_case of_case (deadline_rows h)) in
-      IsKept zone (deadline_rows h ++ new_deadlines count a) (act_rows h ++ (first_acts count a ++ act_rows_on of_case (deadline_number a) number (new ∷ []))) k n)
+      IsKept zone (deadline_rows h ++ new_deadlines (rule_found h a) count a) (act_rows h ++ (first_acts (rule_found h a) count a ++ act_rows_on of_case (deadline_number a) number (new ∷ []))) k n)
   later_kept number k n =
       let count = length (deadlines_of_case of_case (deadline_rows h)) in
       let row : ActRow = record { case = of_case; deadline = deadline_number a; number = number; act = new } in
-      let same : acts_of_deadline of_case m (act_rows h ++ first_acts count a) ≡ acts_of_deadline of_case m (act_rows h) =
-      firsts_other of_case (deadlines_made a) (act_rows h) (count + 1) m (omega (arith, place.1)) in
-      let more : AreSound zone (acts_of_deadline of_case (deadline_number a) (act_rows h ++ first_acts count a) ++ new ∷ []) =
-      subst (λ acts. AreSound zone (acts ++ new ∷ [])) (sym (ap (λ i. acts_of_deadline of_case i (act_rows h ++ first_acts count a)) number_is ∙ same)) longer in
-      subst (λ (rows : List ActRow). IsKept zone (deadline_rows h ++ new_deadlines count a) rows k n) (append_assoc (act_rows h) (first_acts count a) (row ∷ []))
-      (with_later zone (deadline_rows h ++ new_deadlines count a) (act_rows h ++ first_acts count a) row
-      (omega (arith, place.0, number_is)) (omega (arith, place.1, number_is, no_fewer of_case (deadline_rows h) (new_deadlines count a))) more k n
-      (firsts_kept court h a was good k n))
+      let same : acts_of_deadline of_case m (act_rows h ++ first_acts (rule_found h a) count a) ≡ acts_of_deadline of_case m (act_rows h) =
+      firsts_other of_case (deadlines_made (rule_found h a) a) (act_rows h) (count + 1) m (omega (arith, place.1)) in
+      let more : AreSound zone (acts_of_deadline of_case (deadline_number a) (act_rows h ++ first_acts (rule_found h a) count a) ++ new ∷ []) =
+      subst (λ acts. AreSound zone (acts ++ new ∷ [])) (sym (ap (λ i. acts_of_deadline of_case i (act_rows h ++ first_acts (rule_found h a) count a)) number_is ∙ same)) longer in
+      subst (λ (rows : List ActRow). IsKept zone (deadline_rows h ++ new_deadlines (rule_found h a) count a) rows k n) (append_assoc (act_rows h) (first_acts (rule_found h a) count a) (row ∷ []))
+      (with_later zone (deadline_rows h ++ new_deadlines (rule_found h a) count a) (act_rows h ++ first_acts (rule_found h a) count a) row
+      (omega (arith, place.0, number_is)) (omega (arith, place.1, number_is, no_fewer of_case (deadline_rows h) (new_deadlines (rule_found h a) count a))) more k n
+      (firsts_kept court h a was lawful good k n))
 
 abbrev KeptWith : CourtSettings → History → Action → ℕ → ℕ → List Act → Type 0
 KeptWith court h a k n news =
     let count = length (deadlines_of_case (case_number a) (deadline_rows h)) in
     let number = length (acts_of_deadline (case_number a) (deadline_number a) (act_rows h)) + 1 in
-    IsKept (zone_of court) (deadline_rows h ++ new_deadlines count a)
-    (act_rows h ++ (first_acts count a ++ act_rows_on (case_number a) (deadline_number a) number news)) k n
+    IsKept (zone_of court) (deadline_rows h ++ new_deadlines (rule_found h a) count a)
+    (act_rows h ++ (first_acts (rule_found h a) count a ++ act_rows_on (case_number a) (deadline_number a) number news)) k n
 
-acts_step : (court : CourtSettings) (h : History) (a : Action) → AllKept court h → IsPassed court h a → (k n : ℕ) → KeptAfter court h a k n
-acts_step court h a was is k n = by_acts (acts_made a) refl (may_follow court (shown_fresh h a) a is.values is.opened is.awaited is.room)
+acts_step : (court : CourtSettings) (h : History) (a : Action) → AllKept court h → IfSome (rule_found h a) IsLawfulRule → IsPassed court h a → (k n : ℕ) → KeptAfter court h a k n
+acts_step court h a was lawful is k n = by_acts (acts_made a) refl (may_follow court (shown_fresh h a) a is.values is.opened is.awaited is.room)
   where
     by_named : (new : Act) → acts_made a ≡ new ∷ [] → IsNext (zone_of court) (standing_shown court (shown_fresh h a)) (acts_in (deadline_shown (shown_fresh h a))) new → (o : Option ℕ) → deadline_named a ≡ o → KeptWith court h a k n (new ∷ [])
     by_named new e follows None named = absurd (let clash : [] ≡ new ∷ [] = sym (none_acted a named) ∙ e in cc)
     by_named new e follows (Some m) named =
         ⊎_elim
         (λ off. absurd (let clash : [] ≡ new ∷ [] = sym (none_acted_in a off) ∙ e in cc))
-        (λ case_is. later_kept court h a was is.values m named case_is is.deadline new follows _ k n)
+        (λ case_is. later_kept court h a was lawful is.values m named case_is is.deadline new follows _ k n)
         (seen h a is.case)
 
     by_acts : (news : List Act) → acts_made a ≡ news → IsNextOf (zone_of court) (standing_shown court (shown_fresh h a)) (acts_in (deadline_shown (shown_fresh h a))) news → KeptAfter court h a k n
     by_acts [] e follows =
         subst (KeptWith court h a k n) (sym e)
-        (subst (λ (rows : List ActRow). IsKept (zone_of court) (deadline_rows h ++ new_deadlines (length (deadlines_of_case (case_number a) (deadline_rows h))) a) (act_rows h ++ rows) k n)
-        (sym (append-nil (first_acts (length (deadlines_of_case (case_number a) (deadline_rows h))) a))) (firsts_kept court h a was is.values k n))
+        (subst (λ (rows : List ActRow). IsKept (zone_of court) (deadline_rows h ++ new_deadlines (rule_found h a) (length (deadlines_of_case (case_number a) (deadline_rows h))) a) (act_rows h ++ rows) k n)
+        (sym (append-nil (first_acts (rule_found h a) (length (deadlines_of_case (case_number a) (deadline_rows h))) a))) (firsts_kept court h a was lawful is.values k n))
     by_acts (new ∷ []) e follows = subst (KeptWith court h a k n) (sym e) (by_named new e follows (deadline_named a) refl)
     by_acts (new ∷ other ∷ more) e follows = absurd follows
 
@@ -175,7 +228,7 @@ none_kept court k n = record { absent = λ which. refl; sound = λ low high. abs
 
 pub all_kept : (court : CourtSettings) (h : History) → IsHistory court h → AllKept court h
 all_kept court [] is k n = none_kept court k n
-all_kept court (c ∷ h) is k n = acts_step court h c.action (all_kept court h is.1) (passed court h c is.0.0 is.0.1) k n
+all_kept court (c ∷ h) is k n = acts_step court h c.action (all_kept court h is.1) (found_lawful court h is.1 c.action) (passed court h c is.0.0 is.0.1) k n
 
 -- rows of a case, with one more
 module _ {R : Type 0} (of : R → ℕ) (limit : ℕ) where
@@ -229,34 +282,38 @@ FewWith h a k made =
     let count = length (deadlines_of_case (case_number a) (deadline_rows h)) in
     length (deadlines_of_case k (deadline_rows h ++ deadline_rows_from (case_number a) (count + 1) made)) ≤ 1000
 
-deadlines_step : (court : CourtSettings) (h : History) (a : Action) (k : ℕ) → IsPassed court h a → length (deadlines_of_case k (deadline_rows h)) ≤ 1000 → length (deadlines_of_case k (deadline_rows h ++ new_deadlines (length (deadlines_of_case (case_number a) (deadline_rows h))) a)) ≤ 1000
-deadlines_step court h a k is few = by_made (deadlines_made a) refl
+deadlines_step : (court : CourtSettings) (h : History) (a : Action) (k : ℕ) → IsPassed court h a → length (deadlines_of_case k (deadline_rows h)) ≤ 1000 → length (deadlines_of_case k (deadline_rows h ++ new_deadlines (rule_found h a) (length (deadlines_of_case (case_number a) (deadline_rows h))) a)) ≤ 1000
+deadlines_step court h a k is few = by_made (deadlines_made (rule_found h a) a) refl
   where
     sum : (made : List NewDeadline) → length (deadlines_of_case k (deadline_rows h ++ deadline_rows_from (case_number a) (length (deadlines_of_case (case_number a) (deadline_rows h)) + 1) made)) ≡ length (deadlines_of_case k (deadline_rows h)) + length (deadlines_of_case k (deadline_rows_from (case_number a) (length (deadlines_of_case (case_number a) (deadline_rows h)) + 1) made))
     sum made = ap length (filter-append (λ (row : DeadlineRow). row.case == k) (deadline_rows h) (deadline_rows_from (case_number a) (length (deadlines_of_case (case_number a) (deadline_rows h)) + 1) made)) ∙ length-append (deadlines_of_case k (deadline_rows h)) _
 
-    by_case : (made : List NewDeadline) → deadlines_made a ≡ made → deadlines_made a ≢ [] → (b : Bool) → (case_number a == k) ≡ b → FewWith h a k made
+    by_case : (made : List NewDeadline) → deadlines_made (rule_found h a) a ≡ made → deadlines_made (rule_found h a) a ≢ [] → (b : Bool) → (case_number a == k) ≡ b → FewWith h a k made
     by_case made e some false other = omega (arith, sum made, count_from k (case_number a) (length (deadlines_of_case (case_number a) (deadline_rows h)) + 1) made other, few)
     by_case made e some true here =
         ⊎_elim
-        (λ off. absurd (some (none_made a off)))
+        (λ off. absurd (some (none_made (rule_found h a) a off)))
         (λ found.
         let all = length-deadlines_from (case_number a) 1 (act_rows h) (deadlines_of_case (case_number a) (deadline_rows h)) in
-        let shown_count : count_deadlines (shown_fresh h a).case ≡ length (deadlines_of_case (case_number a) (deadline_rows h)) = ap count_deadlines found ∙ ap (λ b. if_asked b (length (deadlines (case_number a) h))) (asked_where_made a some) ∙ all in
-        let fit = deadlines_fit (shown_fresh h a) a is.room some in
-        let made_count : length (deadlines_made a) ≡ length made = ap length e in
+        let shown_count : count_deadlines (shown_fresh h a).case ≡ length (deadlines_of_case (case_number a) (deadline_rows h)) = ap count_deadlines found ∙ ap (λ b. if_asked b (length (deadlines (case_number a) h))) (asked_where_made (rule_found h a) a some) ∙ all in
+        let fit = subst (λ (made : List NewDeadline). count_deadlines (shown_fresh h a).case + length made ≤ 1000) (made_found h a) (deadlines_fit (shown_fresh h a) a is.room (λ none. some (sym (made_found h a) ∙ none))) in
+        let made_count : length (deadlines_made (rule_found h a) a) ≡ length made = ap length e in
         let same_case : case_number a ≡ k = grind (arith, nat_tests) in
         let counts : length (deadlines_of_case (case_number a) (deadline_rows h)) ≡ length (deadlines_of_case k (deadline_rows h)) = ap (λ j. length (deadlines_of_case j (deadline_rows h))) same_case in
         omega (arith, sum made, filter_within (λ (row : DeadlineRow). row.case == k) (deadline_rows_from (case_number a) (length (deadlines_of_case (case_number a) (deadline_rows h)) + 1) made), length-rows_from (case_number a) (length (deadlines_of_case (case_number a) (deadline_rows h)) + 1) made, fit, shown_count, made_count, counts))
         (seen h a is.case)
 
-    by_made : (made : List NewDeadline) → deadlines_made a ≡ made → FewWith h a k (deadlines_made a)
+    by_made : (made : List NewDeadline) → deadlines_made (rule_found h a) a ≡ made → FewWith h a k (deadlines_made (rule_found h a) a)
     by_made [] e = subst (FewWith h a k) (sym e) (rw append-nil few)
     by_made (d ∷ made) e = subst (FewWith h a k) (sym e) (by_case (d ∷ made) e (λ none. absurd (let clash : [] ≡ d ∷ made = sym none ∙ e in cc)) (case_number a == k) refl)
 
 cases_step : (court : CourtSettings) (h : History) (a : Action) → IsPassed court h a → length (case_rows h) ≤ 100_000 → length (case_rows h) + length (new_case (length (case_rows h)) a) ≤ 100_000
 cases_step court h (action.OpenCase p) is few = let below : length (case_rows h) < 100_000 = not_at _ _ is.room in omega arith
 cases_step court h _ is few = omega arith
+
+rules_step : (court : CourtSettings) (h : History) (a : Action) → IsPassed court h a → length (local_rule_rows h) ≤ 1000 → length (local_rule_rows h) + length (new_local_rule (length (local_rule_rows h)) a) ≤ 1000
+rules_step court h (action.LocalRule r) is few = let below : length (local_rule_rows h) < 1000 = not_at _ _ is.room in omega arith
+rules_step court h _ is few = omega arith
 
 -- the calendar
 room_in : (v : View) (added : ℕ) → is_calendar_full v added ≡ false → length v.calendar + added ≤ 4000
@@ -297,7 +354,7 @@ left_entered None rows all = all
 left_entered (Some number) rows all = some_entered (λ row. not (row.number == number)) rows all
 
 pub within_limits : (court : CourtSettings) (h : History) → IsHistory court h → IsWithinLimits court h
-within_limits court [] is = record { items = All-nil IsEnteredItem; rows = omega arith; next_row = omega arith; cases = omega arith; parties = λ k. omega arith; entries = λ k. omega arith; deadlines = λ k. omega arith; acts = λ k n low high. absurd (omega (arith, low, high)) }
+within_limits court [] is = record { items = All-nil IsEnteredItem; rows = omega arith; next_row = omega arith; cases = omega arith; parties = λ k. omega arith; entries = λ k. omega arith; deadlines = λ k. omega arith; acts = λ k n low high. absurd (omega (arith, low, high)); local_rules = omega arith; lawful_rules = All-nil IsLawfulRow }
 within_limits court (c ∷ h) is =
     let a = c.action in
     let before = within_limits court h is.1 in
@@ -315,6 +372,8 @@ within_limits court (c ∷ h) is =
       entries = λ k. entries_step court h a k p (before.entries k);
       deadlines = λ k. deadlines_step court h a k p (before.deadlines k);
       acts = λ k n low high. ((all_kept court (c ∷ h) is k n).sound low high).lawful;
+      local_rules = omega (arith, length-append (local_rule_rows h) (new_local_rule (length (local_rule_rows h)) a), rules_step court h a p before.local_rules);
+      lawful_rules = rules_lawful court (c ∷ h) is;
     }
 
 -- what a history shows

@@ -19,7 +19,7 @@ use Rattle.docket_command.specs.declared.command.Action.TheVariants.{RuleMotion,
 use Rattle.docket_core.specs.Actions.{deadline_named, deadlines_made, acts_made, extension}
 use Rattle.docket_core.specs.EndMoves.{acts_with, moves_by_act, end_moves, MayCome, AreLawful, Follows}
 use Rattle.docket_core.specs.EndRows.{end_row, row_of_deadline, end_rows, end_running, is_of, all_changed_ends, end_changes}
-use Rattle.docket_core.specs.Histories.{History, deadline_rows, act_rows, deadlines, deadlines_of_case, acts_of_deadline, deadline_rows_from, first_acts_from, act_rows_on, case_number, deadline_number}
+use Rattle.docket_core.specs.Histories.{History, deadline_rows, act_rows, deadlines, deadlines_of_case, acts_of_deadline, deadline_rows_from, first_acts_from, act_rows_on, case_number, deadline_number, rule_found}
 use Rattle.docket_core.specs.Outcomes.{IsHistory, shown_fresh, case_of_number}
 use Rattle.docket_core.specs.Tables.{Tables, rows_of}
 use Rattle.docket_core.specs.Views.{deadline_at, deadline_shown, named_in, acts_in}
@@ -29,7 +29,7 @@ use Rattle.docket_core.specs.declared.end_row.EndRow.{EndRow}
 use Rattle.docket_core.specs.declared.end_row.EndTime.{EndTime}
 use Rattle.docket_core.specs.declared.row.ActRow.{ActRow}
 use Rattle.docket_core.specs.declared.row.Change.{Change}
-use Rattle.docket_core.specs.declared.row.Change.TheVariants.{AddCalendar, RemoveCalendar, AddCase, AddParty, AddEntry, AddDeadline, AddAct}
+use Rattle.docket_core.specs.declared.row.Change.TheVariants.{AddCalendar, RemoveCalendar, AddCase, AddParty, AddEntry, AddDeadline, AddAct, AddLocalRule}
 use Rattle.docket_core.specs.declared.row.DeadlineRow.{DeadlineRow}
 use Rattle.docket_core.proofs.ActsKept.{first_sound, no_fewer}
 use Rattle.docket_core.proofs.AddedActs.{acts_both, one_act, both_same, turned, no_second, IsEarlier, is_earlier, no_firsts, no_later, its_later, named_before, acts_added, acts_are}
@@ -37,7 +37,7 @@ use Rattle.docket_core.proofs.EndChanges.{all_changed_ends-append}
 use Rattle.docket_core.proofs.FirstActs.{AreFirst, made_first}
 use Rattle.docket_core.proofs.OneDeadline.{AreOthers, one_changed, AreNot, IsOnce, both_append, front_of, back_of, is_deadline, deadline_once, IsWithin, all_within}
 use Rattle.docket_core.proofs.Leading.{none_acted, seen}
-use Rattle.docket_core.proofs.LimitsKept.{IsPassed, passed, there_is, named_there, acts_are as acts_shown, all_kept}
+use Rattle.docket_core.proofs.LimitsKept.{IsPassed, passed, there_is, named_there, acts_are as acts_shown, all_kept, found_lawful}
 
 -- the rows of deadlines
 
@@ -228,6 +228,7 @@ moves_are zone entered named (AddCase row ∷ xs) = moves_are zone entered named
 moves_are zone entered named (AddParty row ∷ xs) = moves_are zone entered named xs
 moves_are zone entered named (AddEntry row ∷ xs) = moves_are zone entered named xs
 moves_are zone entered named (AddDeadline row ∷ xs) = moves_are zone entered named xs
+moves_are zone entered named (AddLocalRule row ∷ xs) = moves_are zone entered named xs
 
 may_come : (zone : ZoneRules) (named : List Act) (changes : List Change) → AllByRecursion (λ row. AreActs zone (acts_with named row)) (acts_added changes) → All (MayCome zone named) changes
 may_come zone named [] all = All-nil (MayCome zone named)
@@ -238,6 +239,7 @@ may_come zone named (AddCase row ∷ xs) all = All-cons (MayCome zone named) (Ad
 may_come zone named (AddParty row ∷ xs) all = All-cons (MayCome zone named) (AddParty row) xs tt (may_come zone named xs all)
 may_come zone named (AddEntry row ∷ xs) all = All-cons (MayCome zone named) (AddEntry row) xs tt (may_come zone named xs all)
 may_come zone named (AddDeadline row ∷ xs) all = All-cons (MayCome zone named) (AddDeadline row) xs tt (may_come zone named xs all)
+may_come zone named (AddLocalRule row ∷ xs) all = All-cons (MayCome zone named) (AddLocalRule row) xs tt (may_come zone named xs all)
 
 first_lawful : (zone : ZoneRules) (named : List Act) (k m : ℕ) (made : List NewDeadline) → AreFirst zone made → AllByRecursion (λ row. AreActs zone (acts_with named row)) (first_acts_from k m made)
 first_lawful zone named k m [] all = tt
@@ -340,7 +342,7 @@ module _ (court : CourtSettings) (h : History) (c : Command) (is : IsHistory cou
       ]
 
   abbrev firsts_made : List ActRow
-  firsts_made = first_acts_from k (many + 1) (deadlines_made a)
+  firsts_made = first_acts_from k (many + 1) (deadlines_made (rule_found h a) a)
 
   abbrev later_made : List Act → List ActRow
   later_made news = act_rows_on k n (length its_acts + 1) news
@@ -352,7 +354,7 @@ module _ (court : CourtSettings) (h : History) (c : Command) (is : IsHistory cou
     abbrev Moves : List Act → Type 0
     Moves news =
         IsPermutation (all_changed_ends (flat_map (moves_by_act zone entered its_acts) (firsts_made ++ later_made news)) (rows zone entered acts before))
-        (rows zone entered (acts ++ (firsts_made ++ later_made news)) (before ++ deadline_rows_from k (many + 1) (deadlines_made a)))
+        (rows zone entered (acts ++ (firsts_made ++ later_made news)) (before ++ deadline_rows_from k (many + 1) (deadlines_made (rule_found h a) a)))
 
     none_acted_on : (ds : List DeadlineRow) → AllByRecursion (λ (d : DeadlineRow). acts_of_deadline d.case d.number [] ≡ []) ds
     none_acted_on [] = tt
@@ -360,14 +362,14 @@ module _ (court : CourtSettings) (h : History) (c : Command) (is : IsHistory cou
 
     moved_quietly : Moves []
     moved_quietly =
-        let grown = first_ends zone entered k (many + 1) (deadlines_made a) in
-        let same = same_rows zone entered acts before (all_within h) k (deadlines_made a) [] before (all_within h) (none_acted_on before) in
-        all_moved zone entered acts before (all_within h) k (deadlines_made a) [] none_yet (λ j high. refl) its_acts
+        let grown = first_ends zone entered k (many + 1) (deadlines_made (rule_found h a) a) in
+        let same = same_rows zone entered acts before (all_within h) k (deadlines_made (rule_found h a) a) [] before (all_within h) (none_acted_on before) in
+        all_moved zone entered acts before (all_within h) k (deadlines_made (rule_found h a) a) [] none_yet (λ j high. refl) its_acts
         (subst (λ xs. IsPermutation (rows zone entered acts before ++ grown) (xs ++ grown)) (sym same) (IsPermutation-refl _))
 
     moved_with : (act : Act) → IsThere n → Moves (act ∷ [])
     moved_with act there =
-        let made = deadlines_made a in
+        let made = deadlines_made (rule_found h a) a in
         let grown = first_ends zone entered k (many + 1) made in
         let later = later_made (act ∷ []) in
         let off : (d : DeadlineRow) → is_deadline k n d ≡ false → acts_of_deadline d.case d.number later ≡ [] =
@@ -394,7 +396,7 @@ module _ (court : CourtSettings) (h : History) (c : Command) (is : IsHistory cou
       acts_both k n acts (firsts_made ++ later_made (act ∷ []))
       ∙ ap (λ xs. its_acts ++ xs)
       (acts_both k n firsts_made (later_made (act ∷ []))
-      ∙ ap₂ (λ xs ys. xs ++ ys) (no_firsts k n k (many + 1) (deadlines_made a) (inr (omega (arith, there.1)))) (its_later k n (length its_acts + 1) (act ∷ [])))
+      ∙ ap₂ (λ xs ys. xs ++ ys) (no_firsts k n k (many + 1) (deadlines_made (rule_found h a) a) (inr (omega (arith, there.1)))) (its_later k n (length its_acts + 1) (act ∷ [])))
 
   abbrev AreComing : List Act → Type 0
   AreComing news = AllByRecursion (λ (row : ActRow). AreActs zone (acts_with its_acts row)) (later_made news)
@@ -406,7 +408,7 @@ module _ (court : CourtSettings) (h : History) (c : Command) (is : IsHistory cou
         | inr it ↦
             let act = it.0 in
             let there = there_where_acted act it.1 in
-            let kept = (all_kept court (c ∷ h) is k n).sound there.0 (omega (arith, there.1, no_fewer k before (deadline_rows_from k (many + 1) (deadlines_made a)))) in
+            let kept = (all_kept court (c ∷ h) is k n).sound there.0 (omega (arith, there.1, no_fewer k before (deadline_rows_from k (many + 1) (deadlines_made (rule_found h a) a)))) in
             let all : acts_of_deadline k n (act_rows (c ∷ h)) ≡ its_acts ++ act ∷ [] = ap (λ news. acts_of_deadline k n (acts ++ (firsts_made ++ later_made news))) it.1 ∙ acts_after act there in
             let lawful : AreActs zone (its_acts ++ act ∷ []) = subst (AreActs zone) all kept.lawful in
             subst AreComing (sym it.1) (subst (λ xs. AreActs zone (xs ++ act ∷ [])) (sym (named_before its_acts k n act)) lawful, tt)
@@ -446,7 +448,7 @@ module _ (court : CourtSettings) (entered : Entered) (named : List Act) (changes
       let is = follows.history in
       let its = acts_of_deadline (case_number c.action) (deadline_number c.action) (act_rows h) in
       let coming : AllByRecursion (λ (row : ActRow). AreActs zone (acts_with its row)) made_rows =
-      both_append (λ (row : ActRow). AreActs zone (acts_with its row)) _ _ (first_lawful zone its (case_number c.action) _ (deadlines_made c.action) (made_first court c.action (passed court h c is.0.0 is.0.1).values)) (later_lawful court h c is) in
+      both_append (λ (row : ActRow). AreActs zone (acts_with its row)) _ _ (first_lawful zone its (case_number c.action) _ (deadlines_made (rule_found h c.action) c.action) (made_first court (rule_found h c.action) c.action (found_lawful court h is.1 c.action) (passed court h c is.0.0 is.0.1).values)) (later_lawful court h c is) in
       subst (λ acts. AreLawful zone acts changes) (sym follows.named)
       (record {
         named = named_lawful court h c is;

@@ -9,8 +9,8 @@ use Rattle.std.proofs.lemmas.List.Elements.{filter-append}
 use Rattle.std.proofs.lemmas.List.Sorted.{IsPermutation-refl, IsPermutation-append_right, IsPermutation-append_comm}
 use Rattle.docket_core.specs.Actions.{deadlines_made}
 use Rattle.docket_core.specs.EndRows.{end_row, is_of, moved_end, changed_ends, all_changed_ends, is_same_end, end_changes}
-use Rattle.docket_core.specs.Histories.{History, deadline_rows, deadlines_of_case, deadline_rows_from, case_number}
-use Rattle.docket_core.specs.InOrder.{in_order, gathered, made_in}
+use Rattle.docket_core.specs.Histories.{History, deadline_rows, deadlines_of_case, deadline_rows_from, case_number, rule_found}
+use Rattle.docket_core.specs.InOrder.{asked_in_order, gathered, made_in}
 use Rattle.docket_core.specs.declared.deadline.NewDeadline.{NewDeadline}
 use Rattle.docket_core.specs.declared.end_row.EndChange.{EndChange}
 use Rattle.docket_core.specs.declared.end_row.EndChange.TheVariants.{Remove, Move}
@@ -168,7 +168,7 @@ numbered_once k m n (x ∷ made) low high = at (m == n) refl (λ more. numbered_
 -- a deadline of a history is there once
 pub deadline_once : (h : History) (k n : ℕ) → 1 ≤ n → n ≤ length (deadlines_of_case k (deadline_rows h)) → IsOnce (is_deadline k n) (deadline_rows h)
 deadline_once h k n low high =
-    let made = gathered (made_in k) (in_order h) in
+    let made = gathered (made_in k) (asked_in_order h) in
     let are = deadlines_in_order k h in
     let it = numbered_once k 1 n made low (omega (arith, high, ap length are, length-from k 1 made)) in
     found_once (is_deadline k n) it.0 (deadline_rows h) (of_both k n (deadline_rows h) ∙ ap (λ ds. filter (λ (d : DeadlineRow). d.number == n) ds) are ∙ it.1)
@@ -190,7 +190,7 @@ all_within [] = tt
 all_within (c ∷ h) =
     let k = case_number c.action in
     let ds = deadline_rows h in
-    let made = deadlines_made c.action in
+    let made = deadlines_made (rule_found h c.action) c.action in
     let count = length (deadlines_of_case k ds) in
     let new = deadline_rows_from k (count + 1) made in
     let same : (k == k) ≡ true = grind (arith, nat_tests) in

@@ -16,7 +16,7 @@ use Rattle.docket_command.specs.declared.field.Field.{Field}
 use Rattle.docket_command.specs.declared.refusal.Refusal.{Refusal}
 use Rattle.docket_core.specs.Actions.{deadlines_made}
 use Rattle.docket_core.specs.Decisions.{IsSoundView}
-use Rattle.docket_core.specs.Refusals.{on, on_value, first_some, refusals, refusal_of, lacks_case, lacks_deadline, is_there, is_not_open, is_not_awaiting, is_full, has_too_many_acts, count_added}
+use Rattle.docket_core.specs.Refusals.{on, on_value, first_some, refusals, refusal_of, lacks_case, lacks_deadline, lacks_local_rule, is_there, is_not_open, is_not_awaiting, is_full, has_too_many_acts, count_added}
 use Rattle.docket_core.specs.Values.{first_bad, bad_values}
 use Rattle.docket_core.specs.Views.{count_deadlines, deadline_shown, acts_in}
 use Rattle.docket_core.specs.declared.view.DeadlineView.{DeadlineView}
@@ -44,6 +44,7 @@ pub record IsFree (court : CourtSettings) (v : View) (c : Command) : Type 0 wher
   pub values : first_bad (bad_values court c.action) ≡ None
   pub case : lacks_case v c.action ≡ false
   pub deadline : lacks_deadline v c.action ≡ false
+  pub rule : lacks_local_rule v c.action ≡ false
   pub new : is_there v c.action ≡ false
   pub opened : is_not_open court v c.action ≡ false
   pub awaited : is_not_awaiting court v c.action ≡ false
@@ -56,10 +57,11 @@ is_free court v c e =
       values = good_values _ all.1.1.0;
       case = off _ _ all.1.1.1.0;
       deadline = off _ _ all.1.1.1.1.1.0;
-      new = off _ _ all.1.1.1.1.1.1.1.0;
-      opened = off _ _ all.1.1.1.1.1.1.1.1.0;
-      awaited = off _ _ all.1.1.1.1.1.1.1.1.1.0;
-      room = off _ _ all.1.1.1.1.1.1.1.1.1.1.1.1.1.1.1.1.1.1.1.0;
+      rule = off _ _ all.1.1.1.1.1.1.1.0;
+      new = off _ _ all.1.1.1.1.1.1.1.1.0;
+      opened = off _ _ all.1.1.1.1.1.1.1.1.1.0;
+      awaited = off _ _ all.1.1.1.1.1.1.1.1.1.1.0;
+      room = off _ _ all.1.1.1.1.1.1.1.1.1.1.1.1.1.1.1.1.1.1.1.1.0;
     }
 
 or_right_off : (a b : Bool) → (a || b) ≡ false → b ≡ false
@@ -82,7 +84,7 @@ rows_fit v (action.ImportCalendar a) e was = not_above _ _ (or_right_off _ _ e)
 rows_fit v _ e was = omega arith
 
 -- so do those of new deadlines
-pub deadlines_fit : (v : View) (a : Action) → is_full v a ≡ false → deadlines_made a ≢ [] → count_deadlines v.case + length (deadlines_made a) ≤ 1000
+pub deadlines_fit : (v : View) (a : Action) → is_full v a ≡ false → deadlines_made v.local a ≢ [] → count_deadlines v.case + length (deadlines_made v.local a) ≤ 1000
 deadlines_fit v (action.DeclareDay a) e some = absurd (some refl)
 deadlines_fit v (action.CloseDay a) e some = absurd (some refl)
 deadlines_fit v (action.CloseSpan a) e some = absurd (some refl)
@@ -97,6 +99,7 @@ deadlines_fit v (action.StatementServed a) e some = absurd (some refl)
 deadlines_fit v (action.Extend a) e some = absurd (some refl)
 deadlines_fit v (action.Satisfy a) e some = absurd (some refl)
 deadlines_fit v (action.Vacate a) e some = absurd (some refl)
+deadlines_fit v (action.LocalRule a) e some = absurd (some refl)
 deadlines_fit v a e some = not_above _ _ (or_right_off (has_too_many_acts v a) _ e)
 
 -- what holds of all elements holds of one

@@ -4,10 +4,13 @@ use Rattle.std.specs.Option.{option_map}
 use Rattle.court_days.specs.declared.calendar.DayKind.{DayKind}
 use Rattle.court_days.specs.declared.calendar.DayKind.TheVariants as kind
 use Rattle.court_days.specs.declared.calendar.Direction.{Direction}
+use Rattle.court_rules.specs.LocalRules.{local_adds_three}
 use Rattle.court_rules.specs.Rules.{period_of, direction_of, adds_three}
 use Rattle.court_rules.specs.declared.act.Act.{Act}
 use Rattle.court_rules.specs.declared.act.Act.TheVariants as act
 use Rattle.court_rules.specs.declared.act.Start.TheVariants.{Days, Hours}
+use Rattle.court_rules.specs.declared.deadline_rule.DeadlineRule.TheVariants.{Listed, Local}
+use Rattle.court_rules.specs.declared.local_rule.LocalRule as local_rule
 use Rattle.court_rules.specs.declared.method.Method.{Method}
 use Rattle.court_rules.specs.declared.method.Method.TheVariants as method
 use Rattle.court_rules.specs.declared.rule.Rule.{Rule}
@@ -25,7 +28,8 @@ use Rattle.docket_command.specs.declared.choice.PeriodUnit.{PeriodUnit}
 use Rattle.docket_command.specs.declared.choice.PeriodUnit.TheVariants as unit
 use Rattle.docket_command.specs.declared.choice.ServiceMethod.{ServiceMethod}
 use Rattle.docket_command.specs.declared.command.Action.{Action}
-use Rattle.docket_command.specs.declared.command.Action.TheVariants.{DeclareDay, CloseDay, CloseSpan, ShortDay, WithdrawCalendar, ImportCalendar, OpenCase, AddParty, FileEntry, ServeSummons, FileWaiver, ServePleading, OrderReply, RuleMotion, Dispose, StatementServed, NoticeHearing, OrderPeriod, EnterJudgment, Extend, Satisfy, Vacate}
+use Rattle.docket_command.specs.declared.command.Action.TheVariants.{DeclareDay, CloseDay, CloseSpan, ShortDay, WithdrawCalendar, ImportCalendar, OpenCase, AddParty, FileEntry, ServeSummons, FileWaiver, ServePleading, OrderReply, RuleMotion, Dispose, StatementServed, NoticeHearing, OrderPeriod, EnterJudgment, Extend, Satisfy, Vacate, LocalRule, LocalPeriod}
+use Rattle.docket_command.specs.declared.local_action.LocalPeriod as local_period
 use Rattle.docket_command.specs.declared.new_day.NewDay.{NewDay}
 use Rattle.docket_command.specs.declared.time_action.OrderPeriod as order_period
 use Rattle.docket_core.specs.declared.deadline.NewDeadline.{NewDeadline}
@@ -49,6 +53,7 @@ case_named (EnterJudgment a) = Some a.case
 case_named (Extend a) = Some a.case
 case_named (Satisfy a) = Some a.case
 case_named (Vacate a) = Some a.case
+case_named (LocalPeriod a) = Some a.case
 case_named _ = None
 
 -- every party is named by 0 where a period is ordered
@@ -65,6 +70,7 @@ parties_named (OrderReply a) = a.party ∷ []
 parties_named (Dispose a) = option_to_list a.party
 parties_named (NoticeHearing a) = a.party ∷ a.opponent ∷ []
 parties_named (OrderPeriod a) = party_ordered a.party
+parties_named (LocalPeriod a) = a.party ∷ []
 parties_named _ = []
 
 -- the deadline that it names
@@ -81,6 +87,12 @@ deadline_named _ = None
 abbrev pub row_withdrawn : Action → Option ℕ
 row_withdrawn (WithdrawCalendar a) = Some a.row
 row_withdrawn _ = None
+
+-- the name of the local rule that it enters, or by which it sets a time
+abbrev pub local_rule_named : Action → Option (List ℕ)
+local_rule_named (LocalRule a) = Some a.name
+local_rule_named (LocalPeriod a) = Some a.rule
+local_rule_named _ = None
 
 -- it asks about the calendar: what it enters may stand already, or it is judged by the end of a time
 abbrev pub asks_calendar : Action → Bool
@@ -110,6 +122,7 @@ asks_parties (OrderReply a) = true
 asks_parties (Dispose a) = true
 asks_parties (NoticeHearing a) = true
 asks_parties (OrderPeriod a) = true
+asks_parties (LocalPeriod a) = true
 asks_parties _ = false
 
 -- it asks how many entries its case has: it files one
@@ -127,6 +140,7 @@ asks_deadlines (Dispose a) = true
 asks_deadlines (NoticeHearing a) = true
 asks_deadlines (OrderPeriod a) = true
 asks_deadlines (EnterJudgment a) = true
+asks_deadlines (LocalPeriod a) = true
 asks_deadlines _ = false
 
 -- it asks for the number of the next calendar row: it may add some
@@ -137,6 +151,11 @@ asks_next_row (CloseSpan a) = true
 asks_next_row (ShortDay a) = true
 asks_next_row (ImportCalendar a) = true
 asks_next_row _ = false
+
+-- it asks how many local rules there are: it enters one
+abbrev pub asks_local_rules : Action → Bool
+asks_local_rules (LocalRule a) = true
+asks_local_rules _ = false
 
 -- a number that is told where it is asked for
 abbrev pub if_asked : Bool → ℕ → ℕ
@@ -170,12 +189,13 @@ begun rule served_by day = begun_by (period_of rule) (direction_of rule) (adds_t
 -- a deadline of the party, by the rule, from the day
 abbrev pub timed : ℕ → Rule → Bool → Method → ℕ → NewDeadline
 timed party rule initial served_by day =
-    record { party = party; rule = rule; initial = initial; first = begun rule served_by day }
+    record { party = party; rule = Listed rule; initial = initial; first = begun rule served_by day }
 
 -- the same, where the court sets no other day
 abbrev pub timed_or_set : ℕ → Rule → Method → ℕ → Option ℕ → NewDeadline
 timed_or_set party rule served_by day None = timed party rule false served_by day
-timed_or_set party rule served_by day (Some due) = record { party = party; rule = rule; initial = false; first = act.Fixed due }
+timed_or_set party rule served_by day (Some due) =
+    record { party = party; rule = Listed rule; initial = false; first = act.Fixed due }
 
 -- the time of a defendant who was served: a private party (Fed. R. Civ. P. 12(a)(1)(A)(i)), the United States (12(a)(2)), or
 -- its officer sued individually (12(a)(3))
@@ -240,7 +260,7 @@ ordered unit.Fixed a = option_map act.Fixed a.until
 
 -- a deadline of the party, of a time that the court ordered
 abbrev pub court_ordered : ℕ → Act → NewDeadline
-court_ordered party first = record { party = party; rule = Ordered; initial = false; first = first }
+court_ordered party first = record { party = party; rule = Listed Ordered; initial = false; first = first }
 
 -- a time after judgment, for every party
 abbrev pub after_judgment : ℕ → Rule → NewDeadline
@@ -263,25 +283,45 @@ abbrev pub statement_ordered : Ruling → Option ℕ → ℕ → Option ℕ → 
 statement_ordered Statement (Some party) notice due = timed_or_set party MoreDefiniteStatement method.Nothing notice due ∷ []
 statement_ordered _ _ notice due = []
 
--- the deadlines that an action makes
-abbrev pub deadlines_made : Action → List NewDeadline
-deadlines_made (ServeSummons a) =
+-- whether service by the method, if there was any, adds three days to the time of a local rule
+abbrev pub local_three : local_rule.LocalRule → Option ServiceMethod → Bool
+local_three rule None = false
+local_three rule (Some served_by) = local_adds_three rule (method_of served_by)
+
+-- the first act of a time that runs from a day by a local rule
+abbrev pub begun_locally : local_rule.LocalRule → Option ServiceMethod → ℕ → Act
+begun_locally rule served_by day =
+    act.Start (Days (record { trigger = day; period = period.Days rule.days; direction = rule.direction; three_days = local_three rule served_by }))
+
+-- the deadline of a time by the local rule that is named
+abbrev pub local_time : local_period.LocalPeriod → local_rule.LocalRule → NewDeadline
+local_time a rule =
+    record { party = a.party; rule = Local a.rule; initial = false; first = begun_locally rule a.method a.start }
+
+-- a local rule, where one was found
+abbrev pub FoundRule : Type 0
+FoundRule = Option local_rule.LocalRule
+
+-- the deadlines that an action makes, by the local rule that it names, where that was entered
+abbrev pub deadlines_made : FoundRule → Action → List NewDeadline
+deadlines_made found (ServeSummons a) =
     timed a.party (answer_rule a.basis) true method.Rule4 (answer_from a.basis a.served a.attorney) ∷ []
-deadlines_made (FileWaiver a) = timed a.party (waiver_rule a.abroad) true method.Rule4 a.sent ∷ []
-deadlines_made (ServePleading a) =
+deadlines_made found (FileWaiver a) = timed a.party (waiver_rule a.abroad) true method.Rule4 a.sent ∷ []
+deadlines_made found (ServePleading a) =
     timed a.party (pleading_rule a.kind a.basis) false
     (method_of (pleading_method a.basis a.served a.method a.attorney a.attorney_method))
     (answer_from a.basis a.served a.attorney)
     ∷ []
-deadlines_made (OrderReply a) = timed_or_set a.party ReplyToAnswer (method_of a.method) a.served a.due ∷ []
-deadlines_made (Dispose a) = statement_ordered a.outcome a.party a.notice a.due
-deadlines_made (NoticeHearing a) =
+deadlines_made found (OrderReply a) = timed_or_set a.party ReplyToAnswer (method_of a.method) a.served a.due ∷ []
+deadlines_made found (Dispose a) = statement_ordered a.outcome a.party a.notice a.due
+deadlines_made found (NoticeHearing a) =
     timed a.party MotionAndNotice false method.Nothing a.hearing
     ∷ timed a.opponent OpposingAffidavit false method.Nothing a.hearing
     ∷ []
-deadlines_made (OrderPeriod a) = option_to_list (option_map (court_ordered a.party) (ordered a.unit a))
-deadlines_made (EnterJudgment a) = judgment_times a.entered a.discharged
-deadlines_made _ = []
+deadlines_made found (OrderPeriod a) = option_to_list (option_map (court_ordered a.party) (ordered a.unit a))
+deadlines_made found (EnterJudgment a) = judgment_times a.entered a.discharged
+deadlines_made found (LocalPeriod a) = option_to_list (option_map (local_time a) found)
+deadlines_made found _ = []
 
 -- the time runs again after notice that the motion was denied or postponed, or to the day that the court sets (12(a)(4)(A));
 -- or it awaits the more definite statement that the court orders

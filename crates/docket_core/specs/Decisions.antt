@@ -37,7 +37,7 @@ pub record IsMatter (matter : Matter) (v : View) (a : Action) : Type 0 where
   pub standing : matter.standing ≡ standing_shown matter.court.now v
   pub near : StandsAfter 100 matter.standing
   pub added : matter.added ≡ count_added v a
-  pub made : matter.made ≡ length (deadlines_made a)
+  pub made : matter.made ≡ length (deadlines_made v.local a)
 
 -- the decision is this answer, unless memory is short
 abbrev pub IsAnswer : Result Decision DecideFault → Answer → Type 0

@@ -1,10 +1,13 @@
 -- Histories, and what they define. A history is the list of the commands that were accepted, the newest first.
 use Rattle.std.specs.Prelude.{ℕ, ◌+◌, ◌==◌, not, ◌&&◌, List, [], ◌∷◌, ◌++◌, map, length, filter, Option, Some, None, unwrap_or}
+use Rattle.std.specs.List.{find}
+use Rattle.std.specs.Option.{option_map, option_and_then}
+use Rattle.std.specs.Str.{bytes_eq}
 use Rattle.court_rules.specs.declared.act.Act.{Act}
 use Rattle.docket_command.specs.declared.command.Command.{Command}
 use Rattle.docket_command.specs.declared.command.Action.{Action}
-use Rattle.docket_command.specs.declared.command.Action.TheVariants.{OpenCase, AddParty, FileEntry}
-use Rattle.docket_core.specs.Actions.{case_named, deadline_named, row_withdrawn, rows_asked, deadlines_made, acts_made}
+use Rattle.docket_command.specs.declared.command.Action.TheVariants.{OpenCase, AddParty, FileEntry, LocalRule}
+use Rattle.docket_core.specs.Actions.{FoundRule, case_named, deadline_named, local_rule_named, row_withdrawn, rows_asked, deadlines_made, acts_made}
 use Rattle.docket_core.specs.CalendarItems.{fresh}
 use Rattle.docket_core.specs.declared.deadline.NewDeadline.{NewDeadline}
 use Rattle.docket_core.specs.declared.item.CalendarItem.{CalendarItem}
@@ -14,6 +17,7 @@ use Rattle.docket_core.specs.declared.row.CaseRow.{CaseRow}
 use Rattle.docket_core.specs.declared.row.PartyRow.{PartyRow}
 use Rattle.docket_core.specs.declared.row.EntryRow.{EntryRow}
 use Rattle.docket_core.specs.declared.row.DeadlineRow.{DeadlineRow}
+use Rattle.docket_core.specs.declared.row.LocalRuleRow.{LocalRuleRow}
 use Rattle.docket_core.specs.declared.row.ActRow.{ActRow}
 use Rattle.docket_core.specs.declared.view.DeadlineView.{DeadlineView}
 
@@ -94,6 +98,24 @@ new_entry count _ = []
 abbrev pub entry_rows : History → List EntryRow
 entry_rows h = rows_by (λ _ rows a. new_entry (length (entries_of_case (case_number a) rows)) a) h
 
+-- the court's own rules
+
+-- a local rule, after so many
+abbrev pub new_local_rule : ℕ → Action → List LocalRuleRow
+new_local_rule count (LocalRule a) = record { number = count + 1; rule = a } ∷ []
+new_local_rule count _ = []
+
+abbrev pub local_rule_rows : History → List LocalRuleRow
+local_rule_rows h = rows_by (λ _ rows a. new_local_rule (length rows) a) h
+
+-- the local rule of a name
+abbrev pub local_rule_in : List LocalRuleRow → List ℕ → FoundRule
+local_rule_in rows name = option_map (λ row. row.rule) (find (λ row. bytes_eq row.rule.name name) rows)
+
+-- the local rule that an action names, where it was entered before
+abbrev pub rule_found : History → Action → FoundRule
+rule_found before a = option_and_then (local_rule_in (local_rule_rows before)) (local_rule_named a)
+
 -- deadlines and their acts
 
 abbrev pub deadlines_of_case : ℕ → List DeadlineRow → List DeadlineRow
@@ -113,15 +135,16 @@ first_acts_from k number (d ∷ ds) =
     record { case = k; deadline = number; number = 1; act = d.first } ∷ first_acts_from k (number + 1) ds
 
 -- the deadlines that an action makes, after so many in the case
-abbrev pub new_deadlines : ℕ → Action → List DeadlineRow
-new_deadlines count a = deadline_rows_from (case_number a) (count + 1) (deadlines_made a)
+abbrev pub new_deadlines : FoundRule → ℕ → Action → List DeadlineRow
+new_deadlines found count a = deadline_rows_from (case_number a) (count + 1) (deadlines_made found a)
 
 abbrev pub deadline_rows : History → List DeadlineRow
-deadline_rows h = rows_by (λ _ rows a. new_deadlines (length (deadlines_of_case (case_number a) rows)) a) h
+deadline_rows h =
+    rows_by (λ before rows a. new_deadlines (rule_found before a) (length (deadlines_of_case (case_number a) rows)) a) h
 
 -- the first acts of new deadlines, after so many deadlines in the case
-abbrev pub first_acts : ℕ → Action → List ActRow
-first_acts count a = first_acts_from (case_number a) (count + 1) (deadlines_made a)
+abbrev pub first_acts : FoundRule → ℕ → Action → List ActRow
+first_acts found count a = first_acts_from (case_number a) (count + 1) (deadlines_made found a)
 
 -- the deadline that an action names, or 0
 abbrev pub deadline_number : Action → ℕ
@@ -143,7 +166,7 @@ acts_of_deadline k n rows = map (λ row. row.act) (filter (λ row. row.case == k
 abbrev pub act_rows : History → List ActRow
 act_rows h =
     rows_by (λ before rows a.
-    first_acts (length (deadlines_of_case (case_number a) (deadline_rows before))) a
+    first_acts (rule_found before a) (length (deadlines_of_case (case_number a) (deadline_rows before))) a
     ++ later_acts (length (acts_of_deadline (case_number a) (deadline_number a) rows)) a) h
 
 -- deadlines with their acts, numbered from a number on

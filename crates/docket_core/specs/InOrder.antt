@@ -2,24 +2,31 @@
 use Rattle.std.specs.Prelude.{◌≡◌, ℕ, ◌+◌, ◌==◌, Bool, false, ◌&&◌, if◌then◌else◌, List, [], ◌∷◌, ◌++◌, Option, Some, None}
 use Rattle.std.specs.List.{All, Contains}
 use Rattle.court_rules.specs.declared.act.Act.{Act}
+use Rattle.court_rules.specs.declared.local_rule.LocalRule.{LocalRule}
 use Rattle.docket_command.specs.declared.case_action.OpenCase.{OpenCase}
 use Rattle.docket_command.specs.declared.case_action.AddParty.{AddParty}
 use Rattle.docket_command.specs.declared.case_action.FileEntry.{FileEntry}
 use Rattle.docket_command.specs.declared.command.Command.{Command}
 use Rattle.docket_command.specs.declared.command.Action.{Action}
 use Rattle.docket_command.specs.declared.command.Action.TheVariants as action
-use Rattle.docket_core.specs.Actions.{case_named, deadline_named, row_withdrawn, deadlines_made, acts_made}
-use Rattle.docket_core.specs.Histories.{History, standing_rows, next_row, items_of, numbered, rows_added}
+use Rattle.docket_core.specs.Actions.{FoundRule, case_named, deadline_named, row_withdrawn, deadlines_made, acts_made}
+use Rattle.docket_core.specs.Histories.{History, standing_rows, next_row, items_of, numbered, rows_added, rule_found}
 use Rattle.docket_core.specs.declared.deadline.NewDeadline.{NewDeadline}
 use Rattle.docket_core.specs.declared.row.CalendarRow.{CalendarRow}
 use Rattle.docket_core.specs.declared.row.CaseRow.{CaseRow}
 use Rattle.docket_core.specs.declared.row.PartyRow.{PartyRow}
 use Rattle.docket_core.specs.declared.row.EntryRow.{EntryRow}
+use Rattle.docket_core.specs.declared.row.LocalRuleRow.{LocalRuleRow}
 
 -- what the commands of a history ask, the oldest first
 abbrev pub in_order : History → List Action
 in_order [] = []
 in_order (c ∷ before) = in_order before ++ c.action ∷ []
+
+-- the same, each with the local rule that it names, where that was entered before it
+abbrev pub asked_in_order : History → List (FoundRule × Action)
+asked_in_order [] = []
+asked_in_order (c ∷ before) = asked_in_order before ++ (rule_found before c.action, c.action) ∷ []
 
 -- a row for each, numbered from a number on
 abbrev pub numbered_by : {A R : Type 0} → (ℕ → A → R) → ℕ → List A → List R
@@ -55,14 +62,22 @@ entry_filed k _ = None
 abbrev pub entry_row : ℕ → FileEntry → EntryRow
 entry_row number a = record { case = a.case; number = number; day = a.day; text = a.text }
 
+-- a local rule is entered
+abbrev pub rule_entered : Action → Option LocalRule
+rule_entered (action.LocalRule rule) = Some rule
+rule_entered _ = None
+
+abbrev pub local_rule_row : ℕ → LocalRule → LocalRuleRow
+local_rule_row number rule = record { number = number; rule = rule }
+
 -- it is there, and this number
 abbrev pub is_number : Option ℕ → ℕ → Bool
 is_number (Some n) k = n == k
 is_number None k = false
 
 -- the deadlines that an action makes in case k
-abbrev pub made_in : ℕ → Action → List NewDeadline
-made_in k a = if is_number (case_named a) k then deadlines_made a else []
+abbrev pub made_in : ℕ → FoundRule × Action → List NewDeadline
+made_in k asked = if is_number (case_named asked.1) k then deadlines_made asked.0 asked.1 else []
 
 -- the acts that an action adds to deadline n of case k
 abbrev pub acts_on : ℕ → ℕ → Action → List Act

@@ -7,15 +7,15 @@ use Rattle.court_days.specs.Court.{CourtSettings}
 use Rattle.docket_command.specs.Sameness.{is_same_command}
 use Rattle.docket_command.specs.declared.command.Command.{Command}
 use Rattle.docket_command.specs.declared.command.Action.{Action}
-use Rattle.docket_command.specs.declared.command.Action.TheVariants.{DeclareDay, CloseDay, CloseSpan, ShortDay, WithdrawCalendar, ImportCalendar, OpenCase, AddParty, FileEntry, RuleMotion, Dispose, StatementServed, Extend, Satisfy, Vacate}
+use Rattle.docket_command.specs.declared.command.Action.TheVariants.{DeclareDay, CloseDay, CloseSpan, ShortDay, WithdrawCalendar, ImportCalendar, OpenCase, AddParty, FileEntry, RuleMotion, Dispose, StatementServed, Extend, Satisfy, Vacate, LocalRule}
 use Rattle.docket_command.specs.declared.refusal.Refusal.{Refusal}
 use Rattle.docket_command.specs.declared.refusal.Reply.{Reply}
-use Rattle.docket_core.specs.Actions.{case_named, asks_calendar, asks_cases, asks_next_row, if_asked}
+use Rattle.docket_core.specs.Actions.{case_named, asks_calendar, asks_cases, asks_next_row, asks_local_rules, if_asked}
 use Rattle.docket_core.specs.CalendarItems.{calendar_of}
-use Rattle.docket_core.specs.Histories.{History, standing_rows, items_of, next_row, case_rows, party_rows, parties_of_case, entry_rows, entries_of_case, deadlines}
+use Rattle.docket_core.specs.Histories.{History, standing_rows, items_of, next_row, case_rows, party_rows, parties_of_case, entry_rows, entries_of_case, deadlines, local_rule_rows, local_rule_in}
 use Rattle.docket_core.specs.Refusals.{refusal_of, count_added, wants_statement}
 use Rattle.docket_core.specs.Times.{standing_shown, is_in_time}
-use Rattle.docket_core.specs.Views.{parties_in, entries_in, count_deadlines, case_shown}
+use Rattle.docket_core.specs.Views.{parties_in, entries_in, count_deadlines, named_in, rule_name_asked, case_shown}
 use Rattle.docket_core.specs.declared.row.CalendarRow.{CalendarRow}
 use Rattle.docket_core.specs.declared.row.CaseRow.{CaseRow}
 use Rattle.docket_core.specs.declared.row.Receipt.{Receipt}
@@ -41,16 +41,22 @@ case_of_number h a k =
     then Some (case_shown k (length (parties_of_case k (party_rows h))) (length (entries_of_case k (entry_rows h))) (deadlines k h) a)
     else None
 
+-- the case that an action names
+abbrev pub case_of : History → Action → Option CaseView
+case_of h a = option_and_then (case_of_number h a) (case_named a)
+
 -- what a history shows about an action, under a key that is fresh: what the action asks about
 abbrev pub shown_fresh : History → Action → View
 shown_fresh h a = record {
   kept = Fresh;
   cases = if_asked (asks_cases a) (length (case_rows h));
   label_taken = is_label_taken a (case_rows h);
-  case = option_and_then (case_of_number h a) (case_named a);
+  case = case_of h a;
   row_stands = is_row_standing a (standing_rows h);
   calendar = if asks_calendar a then items_of (standing_rows h) else [];
   next_row = if_asked (asks_next_row a) (next_row h);
+  local = option_and_then (local_rule_in (local_rule_rows h)) (rule_name_asked (named_in (case_of h a)) a);
+  local_rules = if_asked (asks_local_rules a) (length (local_rule_rows h));
 }
 
 -- the reply to an action that is accepted
@@ -71,6 +77,7 @@ reply_to court v (Extend a) = a.deadline
 reply_to court v (Satisfy a) =
     if is_in_time court (calendar_of v.calendar) (standing_shown court v) a.at a.way then 1 else 0
 reply_to court v (Vacate a) = a.deadline
+reply_to court v (LocalRule a) = v.local_rules + 1
 -- every other command makes deadlines: the reply is the number of the first
 reply_to court v _ = count_deadlines v.case + 1
 

@@ -5,7 +5,7 @@ use Rattle.court_days.specs.Court.{CourtSettings, zone_of}
 use Rattle.court_days.specs.Timely.{closing}
 use Rattle.court_days.specs.declared.filing.End.{End}
 use Rattle.court_days.specs.declared.filing.End.TheVariants.{LastDay, Moment}
-use Rattle.court_rules.specs.Rules.{name_of}
+use Rattle.court_rules.specs.LocalRules.{deadline_rule_name}
 use Rattle.court_rules.specs.Standings.{standing}
 use Rattle.court_rules.specs.declared.act.Standing.{Standing}
 use Rattle.court_rules.specs.declared.act.Standing.TheVariants.{Running}
@@ -54,7 +54,7 @@ abbrev pub line_of : CourtSettings → Entered → ℕ → DeadlineView → Stan
 line_of court entered number d stands = record {
   number = number;
   party = d.party;
-  rule = name_of d.rule;
+  rule = deadline_rule_name d.rule;
   standing = stands;
   close = close_of_standing court entered stands;
 }

@@ -11,8 +11,8 @@ use Rattle.court_rules.specs.declared.act.Act.TheVariants as act
 use Rattle.court_rules.specs.declared.act.MotionKind.TheVariants.{E}
 use Rattle.court_rules.specs.declared.act.Standing.{Standing}
 use Rattle.court_rules.specs.declared.act.Standing.TheVariants.{Running, Suspended, Awaiting, Done, Vacated}
-use Rattle.court_rules.specs.declared.rule.Rule.{Rule}
-use Rattle.court_rules.specs.declared.rule.Rule.TheVariants.{Ordered}
+use Rattle.court_rules.specs.declared.deadline_rule.DeadlineRule.{DeadlineRule}
+use Rattle.court_rules.specs.declared.deadline_rule.DeadlineRule.TheVariants.{Listed, Local}
 use Rattle.court_rules.specs.Rules.{is_responsive, is_extendable}
 use Rattle.court_rules.specs.Standings.{last_day}
 use Rattle.docket_command.specs.Conversions.{day_kind_of}
@@ -20,11 +20,11 @@ use Rattle.docket_command.specs.declared.choice.Ruling.{Ruling}
 use Rattle.docket_command.specs.declared.choice.Ruling.TheVariants.{Statement}
 use Rattle.docket_command.specs.declared.command.Command.{Command}
 use Rattle.docket_command.specs.declared.command.Action.{Action}
-use Rattle.docket_command.specs.declared.command.Action.TheVariants.{DeclareDay, CloseDay, CloseSpan, ShortDay, WithdrawCalendar, ImportCalendar, OpenCase, AddParty, FileEntry, FileWaiver, RuleMotion, Dispose, StatementServed, Extend, Satisfy, Vacate}
+use Rattle.docket_command.specs.declared.command.Action.TheVariants.{DeclareDay, CloseDay, CloseSpan, ShortDay, WithdrawCalendar, ImportCalendar, OpenCase, AddParty, FileEntry, FileWaiver, RuleMotion, Dispose, StatementServed, Extend, Satisfy, Vacate, LocalRule, LocalPeriod}
 use Rattle.docket_command.specs.declared.field.Field.{Field}
 use Rattle.docket_command.specs.declared.refusal.Refusal.{Refusal}
 use Rattle.docket_command.specs.declared.refusal.Refusal.TheVariants as refusal
-use Rattle.docket_core.specs.Actions.{case_named, parties_named, deadline_named, deadlines_made}
+use Rattle.docket_core.specs.Actions.{FoundRule, case_named, parties_named, deadline_named, deadlines_made}
 use Rattle.docket_core.specs.CalendarItems.{stands_among, calendar_of}
 use Rattle.docket_core.specs.Histories.{rows_added}
 use Rattle.docket_core.specs.Times.{standing_shown, is_in_time}
@@ -62,6 +62,11 @@ abbrev pub lacks_row : View → Action → Bool
 lacks_row v (WithdrawCalendar a) = not v.row_stands
 lacks_row v _ = false
 
+-- the local rule by which a time is to be set was not entered
+abbrev pub lacks_local_rule : View → Action → Bool
+lacks_local_rule v (LocalPeriod a) = is_none v.local
+lacks_local_rule v _ = false
+
 -- the day stands under that kind, the span stands, or the day is short; or the label is in use
 abbrev pub is_there : View → Action → Bool
 is_there v (DeclareDay a) = stands_among v.calendar (Day (day_kind_of a.kind) a.day)
@@ -69,6 +74,7 @@ is_there v (CloseDay a) = stands_among v.calendar (Day Closed a.day)
 is_there v (CloseSpan a) = stands_among v.calendar (Span a.start a.end)
 is_there v (ShortDay a) = stands_among v.calendar (Short a.day a.close)
 is_there v (OpenCase a) = v.label_taken
+is_there v (LocalRule a) = is_some v.local
 is_there v _ = false
 
 -- the time runs
@@ -106,13 +112,19 @@ is_not_awaiting court v (Dispose a) = not (is_suspended (standing_shown court v)
 is_not_awaiting court v (StatementServed a) = not (is_awaiting (standing_shown court v))
 is_not_awaiting court v _ = false
 
-abbrev pub rule_shown : Option DeadlineView → Rule
-rule_shown None = Ordered
-rule_shown (Some deadline) = deadline.rule
+-- a local rule sets no time of a responsive pleading
+abbrev pub is_responsive_rule : DeadlineRule → Bool
+is_responsive_rule (Listed rule) = is_responsive rule
+is_responsive_rule (Local name) = false
+
+-- the rule of the deadline does
+abbrev pub is_responsive_in : Option DeadlineView → Bool
+is_responsive_in None = false
+is_responsive_in (Some deadline) = is_responsive_rule deadline.rule
 
 -- a rule 12 motion suspends the time of a responsive pleading alone (Fed. R. Civ. P. 12(a)(4))
 abbrev pub is_not_responsive : View → Action → Bool
-is_not_responsive v (RuleMotion a) = not (is_responsive (rule_shown (deadline_shown v)))
+is_not_responsive v (RuleMotion a) = not (is_responsive_in (deadline_shown v))
 is_not_responsive v _ = false
 
 -- the last act is a motion for a more definite statement
@@ -159,9 +171,19 @@ abbrev pub is_late_waiver : View → Action → Bool
 is_late_waiver v (FileWaiver a) = nat_lt (end_of_days (calendar_of v.calendar) Forward a.sent a.allowed) a.returned
 is_late_waiver v _ = false
 
+-- a time by a local rule may be extended where that says so
+abbrev pub is_extendable_by : FoundRule → DeadlineRule → Bool
+is_extendable_by found (Listed rule) = is_extendable rule
+is_extendable_by None (Local name) = false
+is_extendable_by (Some rule) (Local name) = rule.extendable
+
+abbrev pub is_extendable_in : FoundRule → Option DeadlineView → Bool
+is_extendable_in found None = false
+is_extendable_in found (Some deadline) = is_extendable_by found deadline.rule
+
 -- the times after judgment may not be extended (6(b)(2))
 abbrev pub may_not_extend : View → Action → Bool
-may_not_extend v (Extend a) = not (is_extendable (rule_shown (deadline_shown v)))
+may_not_extend v (Extend a) = not (is_extendable_in v.local (deadline_shown v))
 may_not_extend v _ = false
 
 -- the court acts, or the request is made, before the time expires, or there was excusable neglect (6(b)(1))
@@ -191,7 +213,7 @@ is_calendar_full v added = nat_lt 4000 (length v.calendar + added) || nat_lt 4_2
 abbrev pub has_too_many_acts : View → Action → Bool
 has_too_many_acts v a = is_some (deadline_named a) && nat_le 99 (length (acts_in (deadline_shown v)))
 
--- a limit would be passed: 100,000 cases; 1,000 parties, 10,000 entries and 1,000 deadlines a case; 100 acts a deadline
+-- a limit would be passed: 100,000 cases; 1,000 local rules; 1,000 parties, 10,000 entries and 1,000 deadlines a case; 100 acts a deadline
 abbrev pub is_full : View → Action → Bool
 is_full v (DeclareDay a) = is_calendar_full v (count_added v (DeclareDay a))
 is_full v (CloseDay a) = is_calendar_full v (count_added v (CloseDay a))
@@ -204,7 +226,8 @@ is_full v (FileEntry a) = nat_le 10_000 (entries_in v.case)
 is_full v (Satisfy a) = false
 is_full v (Vacate a) = false
 is_full v (WithdrawCalendar a) = false
-is_full v a = has_too_many_acts v a || nat_lt 1000 (count_deadlines v.case + length (deadlines_made a))
+is_full v (LocalRule a) = nat_le 1000 v.local_rules
+is_full v a = has_too_many_acts v a || nat_lt 1000 (count_deadlines v.case + length (deadlines_made v.local a))
 
 -- a refusal where its sentence is true
 abbrev pub on : Bool → Refusal → Option Refusal
@@ -226,6 +249,7 @@ state_refusals court v a =
     ∷ on (lacks_party v a) refusal.NoSuchParty
     ∷ on (lacks_deadline v a) refusal.NoSuchDeadline
     ∷ on (lacks_row v a) refusal.NoSuchCalendarRow
+    ∷ on (lacks_local_rule v a) refusal.NoSuchLocalRule
     ∷ on (is_there v a) refusal.Exists
     ∷ on (is_not_open court v a) refusal.NotOpen
     ∷ on (is_not_awaiting court v a) refusal.NotAwaiting

@@ -5,18 +5,19 @@ use Rattle.court_days.specs.Court.{CourtSettings}
 use Rattle.docket_command.specs.declared.command.Command.{Command}
 use Rattle.docket_command.specs.declared.command.Action.{Action}
 use Rattle.docket_command.specs.declared.refusal.Reply.{Reply}
-use Rattle.docket_core.specs.Actions.{case_named, row_withdrawn, asks_calendar, asks_cases, asks_next_row, if_asked}
-use Rattle.docket_core.specs.Histories.{History, standing_rows, next_row, items_of, numbered, rows_added, case_rows, party_rows, entry_rows, deadline_rows, act_rows, new_case, new_party, new_entry, new_deadlines, first_acts, later_acts, parties_of_case, entries_of_case, deadlines_of_case, deadlines_from}
+use Rattle.docket_core.specs.Actions.{case_named, row_withdrawn, asks_calendar, asks_cases, asks_next_row, asks_local_rules, if_asked}
+use Rattle.docket_core.specs.Histories.{History, standing_rows, next_row, items_of, numbered, rows_added, case_rows, party_rows, entry_rows, deadline_rows, act_rows, new_case, new_party, new_entry, new_deadlines, first_acts, later_acts, parties_of_case, entries_of_case, deadlines_of_case, deadlines_from, local_rule_rows, new_local_rule, local_rule_in}
 use Rattle.docket_core.specs.Outcomes.{receipts, kept, is_label_taken, is_row_standing}
-use Rattle.docket_core.specs.Views.{parties_in, entries_in, count_deadlines, deadline_shown, acts_in, case_shown}
+use Rattle.docket_core.specs.Views.{parties_in, entries_in, count_deadlines, deadline_shown, acts_in, named_in, rule_name_asked, case_shown}
 use Rattle.docket_core.specs.declared.row.Change.{Change}
-use Rattle.docket_core.specs.declared.row.Change.TheVariants.{AddCalendar, RemoveCalendar, AddCase, AddParty, AddEntry, AddDeadline, AddAct}
+use Rattle.docket_core.specs.declared.row.Change.TheVariants.{AddCalendar, RemoveCalendar, AddCase, AddParty, AddEntry, AddDeadline, AddAct, AddLocalRule}
 use Rattle.docket_core.specs.declared.row.CalendarRow.{CalendarRow}
 use Rattle.docket_core.specs.declared.row.CaseRow.{CaseRow}
 use Rattle.docket_core.specs.declared.row.PartyRow.{PartyRow}
 use Rattle.docket_core.specs.declared.row.EntryRow.{EntryRow}
 use Rattle.docket_core.specs.declared.row.DeadlineRow.{DeadlineRow}
 use Rattle.docket_core.specs.declared.row.ActRow.{ActRow}
+use Rattle.docket_core.specs.declared.row.LocalRuleRow.{LocalRuleRow}
 use Rattle.docket_core.specs.declared.row.Receipt.{Receipt}
 use Rattle.docket_core.specs.declared.view.CaseView.{CaseView}
 use Rattle.docket_core.specs.declared.view.DeadlineView.{DeadlineView}
@@ -31,6 +32,7 @@ pub record Tables : Type 0 where
   pub deadlines : List DeadlineRow
   pub acts : List ActRow
   pub receipts : List Receipt
+  pub local_rules : List LocalRuleRow
 
 -- the tables of a history
 abbrev pub rows_of : CourtSettings → History → Tables
@@ -43,6 +45,7 @@ rows_of court h = record {
   deadlines = deadline_rows h;
   acts = act_rows h;
   receipts = receipts court h;
+  local_rules = local_rule_rows h;
 }
 
 -- a change of one row
@@ -54,6 +57,7 @@ changed (AddParty row) t = record t { parties = t.parties ++ row ∷ [] }
 changed (AddEntry row) t = record t { entries = t.entries ++ row ∷ [] }
 changed (AddDeadline row) t = record t { deadlines = t.deadlines ++ row ∷ [] }
 changed (AddAct row) t = record t { acts = t.acts ++ row ∷ [] }
+changed (AddLocalRule row) t = record t { local_rules = t.local_rules ++ row ∷ [] }
 
 -- the changes, one after another
 abbrev pub all_changed : List Change → Tables → Tables
@@ -81,13 +85,16 @@ abbrev pub entry_changes : View → Action → List Change
 entry_changes v a = map AddEntry (new_entry (entries_in v.case) a)
 
 abbrev pub deadline_changes : View → Action → List Change
-deadline_changes v a = map AddDeadline (new_deadlines (count_deadlines v.case) a)
+deadline_changes v a = map AddDeadline (new_deadlines v.local (count_deadlines v.case) a)
 
 abbrev pub first_act_changes : View → Action → List Change
-first_act_changes v a = map AddAct (first_acts (count_deadlines v.case) a)
+first_act_changes v a = map AddAct (first_acts v.local (count_deadlines v.case) a)
 
 abbrev pub act_changes : View → Action → List Change
 act_changes v a = map AddAct (later_acts (length (acts_in (deadline_shown v))) a)
+
+abbrev pub local_rule_changes : View → Action → List Change
+local_rule_changes v a = map AddLocalRule (new_local_rule v.local_rules a)
 
 -- the changes of an action, but for the receipt
 abbrev pub action_changes : View → Action → List Change
@@ -100,6 +107,7 @@ action_changes v a =
     ++ deadline_changes v a
     ++ first_act_changes v a
     ++ act_changes v a
+    ++ local_rule_changes v a
 
 -- what tables show
 
@@ -121,13 +129,19 @@ case_in t a k =
     then Some (case_shown k (length (parties_of_case k t.parties)) (length (entries_of_case k t.entries)) (deadlines_in t k) a)
     else None
 
+-- the case that an action names
+abbrev pub case_named_in : Tables → Action → Option CaseView
+case_named_in t a = option_and_then (case_in t a) (case_named a)
+
 abbrev pub view_in : Tables → Command → View
 view_in t c = record {
   kept = kept t.receipts c;
   cases = if_asked (asks_cases c.action) (length t.cases);
   label_taken = is_label_taken c.action t.cases;
-  case = option_and_then (case_in t c.action) (case_named c.action);
+  case = case_named_in t c.action;
   row_stands = is_row_standing c.action t.calendar;
   calendar = if asks_calendar c.action then items_of t.calendar else [];
   next_row = if_asked (asks_next_row c.action) t.next_row;
+  local = option_and_then (local_rule_in t.local_rules) (rule_name_asked (named_in (case_named_in t c.action)) c.action);
+  local_rules = if_asked (asks_local_rules c.action) (length t.local_rules);
 }

@@ -5,6 +5,8 @@ use Rattle.civil_time.specs.LocalTime.{local_day}
 use Rattle.court_days.specs.Court.{CourtSettings, zone_of}
 use Rattle.court_days.specs.declared.calendar.Direction.{Direction}
 use Rattle.court_days.specs.declared.calendar.Direction.TheVariants.{Forward}
+use Rattle.court_rules.specs.Acts.{is_forward}
+use Rattle.court_rules.specs.LocalRules.{is_local_name}
 use Rattle.docket_command.specs.declared.choice.Basis.{Basis}
 use Rattle.docket_command.specs.declared.choice.Basis.TheVariants.{Private, Officer}
 use Rattle.docket_command.specs.declared.choice.PleadingKind.{PleadingKind}
@@ -16,7 +18,7 @@ use Rattle.docket_command.specs.declared.choice.PeriodUnit.TheVariants as unit
 use Rattle.docket_command.specs.declared.choice.ServiceMethod.{ServiceMethod}
 use Rattle.docket_command.specs.declared.time_action.OrderPeriod as order_period
 use Rattle.docket_command.specs.declared.command.Action.{Action}
-use Rattle.docket_command.specs.declared.command.Action.TheVariants.{DeclareDay, CloseDay, CloseSpan, ShortDay, ImportCalendar, OpenCase, AddParty, FileEntry, ServeSummons, FileWaiver, ServePleading, OrderReply, RuleMotion, Dispose, StatementServed, NoticeHearing, OrderPeriod, EnterJudgment, Extend, Satisfy}
+use Rattle.docket_command.specs.declared.command.Action.TheVariants.{DeclareDay, CloseDay, CloseSpan, ShortDay, ImportCalendar, OpenCase, AddParty, FileEntry, ServeSummons, FileWaiver, ServePleading, OrderReply, RuleMotion, Dispose, StatementServed, NoticeHearing, OrderPeriod, EnterJudgment, Extend, Satisfy, LocalRule, LocalPeriod}
 use Rattle.docket_command.specs.declared.field.Field.{Field}
 use Rattle.docket_command.specs.declared.field.Field.TheVariants as field
 use Rattle.docket_command.specs.declared.new_day.NewDay.{NewDay}
@@ -193,4 +195,11 @@ bad_values court (Extend a) =
     ∷ (bad_until a.days a.until, field.Until)
     ∷ []
 bad_values court (Satisfy a) = bad_moment court a.at field.At ∷ []
+bad_values court (LocalRule a) =
+    (not (is_local_name a.name), field.Name)
+    ∷ bad_count 3650 a.days field.Days
+    ∷ (a.three && not (is_forward a.direction), field.Three)
+    ∷ []
+-- whatever text names a local rule, another one is the name of none
+bad_values court (LocalPeriod a) = bad_day a.start field.Start ∷ []
 bad_values court _ = []

@@ -4,9 +4,11 @@ use Rattle.std.specs.List.{list_any}
 use Rattle.std.specs.Option.{option_and_then}
 use Rattle.court_rules.specs.declared.act.Act.{Act}
 use Rattle.court_rules.specs.declared.act.Act.TheVariants as act
+use Rattle.court_rules.specs.declared.deadline_rule.DeadlineRule.{DeadlineRule}
+use Rattle.court_rules.specs.declared.deadline_rule.DeadlineRule.TheVariants.{Listed, Local}
 use Rattle.docket_command.specs.declared.command.Action.{Action}
-use Rattle.docket_command.specs.declared.command.Action.TheVariants.{ServeSummons, FileWaiver}
-use Rattle.docket_core.specs.Actions.{deadline_named, asks_parties, asks_entries, asks_deadlines, if_asked}
+use Rattle.docket_command.specs.declared.command.Action.TheVariants.{ServeSummons, FileWaiver, Extend}
+use Rattle.docket_core.specs.Actions.{deadline_named, local_rule_named, asks_parties, asks_entries, asks_deadlines, if_asked}
 use Rattle.docket_core.specs.declared.view.CaseView.{CaseView}
 use Rattle.docket_core.specs.declared.view.DeadlineView.{DeadlineView}
 use Rattle.docket_core.specs.declared.view.View.{View}
@@ -39,6 +41,20 @@ deadline_shown v = named_in v.case
 abbrev pub acts_in : Option DeadlineView → List Act
 acts_in None = []
 acts_in (Some deadline) = deadline.acts
+
+-- the name of a deadline's rule, where it is a local one
+abbrev pub local_name : DeadlineRule → Option (List ℕ)
+local_name (Listed rule) = None
+local_name (Local name) = Some name
+
+abbrev pub local_name_in : Option DeadlineView → Option (List ℕ)
+local_name_in None = None
+local_name_in (Some deadline) = local_name deadline.rule
+
+-- the name of the local rule that an action asks about: the one that it names, or that of the deadline that it extends
+abbrev pub rule_name_asked : Option DeadlineView → Action → Option (List ℕ)
+rule_name_asked named (Extend a) = local_name_in named
+rule_name_asked named a = local_rule_named a
 
 abbrev pub served_in : Option CaseView → Bool
 served_in None = false

@@ -3,14 +3,16 @@ ghost use Rattle.std.specs.Prelude.{◌≡◌, ◌≢◌, [], ◌+◌, ◌≤◌
 ghost use Rattle.docket_core.specs.Actions.{row_withdrawn, deadlines_made, acts_made};
 ghost use Rattle.docket_core.specs.Histories.{numbered, deadline_rows_from, first_acts_from, act_rows_on, rows_added};
 ghost use Rattle.docket_core.specs.Refusals.{is_full};
-ghost use Rattle.docket_core.specs.Tables.{withdrawal, case_changes, party_changes, entry_changes, deadline_changes, first_act_changes, act_changes, action_changes};
+ghost use Rattle.docket_core.specs.Tables.{withdrawal, case_changes, party_changes, entry_changes, deadline_changes, first_act_changes, act_changes, local_rule_changes, action_changes};
 ghost use Rattle.docket_core.specs.Views.{acts_in, count_deadlines, deadline_shown};
 ghost use Rattle.docket_core.specs.declared.row.Change.TheVariants as Change;
 
 use crate::deadline::{NewDeadline, act_made};
 use crate::item::NewRow;
 use crate::named::{case_named, deadline_named};
-use crate::row::{ActRow, CalendarRow, CaseRow, Change, DeadlineRow, EntryRow, PartyRow};
+use crate::row::{
+    ActRow, CalendarRow, CaseRow, Change, DeadlineRow, EntryRow, LocalRuleRow, PartyRow,
+};
 use crate::view::View;
 use docket_command::Action;
 use std::alloc::{AllocError, Global};
@@ -111,7 +113,7 @@ fn push_deadlines(
             case,
             number,
             party: new.party,
-            rule: new.rule,
+            rule: new.rule.copied()?,
             initial: new.initial,
         }))?;
         number += 1;
@@ -150,9 +152,9 @@ fn push_made(
     made: &[NewDeadline],
     action: &Action,
 ) -> Result<(), AllocError>
-    requires made { made.now ≡ deadlines_made action.now }
-    requires room { deadlines_made action.now ≢ []
-        → count_deadlines view.now.case + length (deadlines_made action.now) ≤ 1000 }
+    requires made { made.now ≡ deadlines_made view.now.local action.now }
+    requires room { deadlines_made view.now.local action.now ≢ []
+        → count_deadlines view.now.case + length (deadlines_made view.now.local action.now) ≤ 1000 }
     ensures { OnOk result (changes.new.items
         ≡ changes.old.items ++ deadline_changes view.now action.now ++ first_act_changes view.now action.now) }
 {
@@ -184,6 +186,24 @@ fn push_act(changes: &mut Vec<Change>, view: &View, action: &Action) -> Result<(
     Ok(())
 }
 
+fn push_local_rule(
+    changes: &mut Vec<Change>,
+    view: &View,
+    action: &Action,
+) -> Result<(), AllocError>
+    requires { is_full view.now action.now ≡ false }
+    ensures { OnOk result (changes.new.items ≡ changes.old.items ++ local_rule_changes view.now action.now) }
+{
+    if let Action::LocalRule(rule) = action {
+        let row = LocalRuleRow {
+            number: view.local_rules + 1,
+            rule: rule.copied()?,
+        };
+        changes.push(Change::AddLocalRule(row))?;
+    }
+    Ok(())
+}
+
 /// The changes of an action that no refusal meets, but for the receipt. It adds these rows to the
 /// calendar.
 pub(crate) fn changes_of_action(
@@ -196,9 +216,9 @@ pub(crate) fn changes_of_action(
     requires added { added.items ≡ rows_added view.now.calendar action.now }
     requires numbers { view.now.next_row + length added.items ≤ 2 ^ 32 }
     requires room { is_full view.now action.now ≡ false }
-    requires made { made.items ≡ deadlines_made action.now }
-    requires deadlines { deadlines_made action.now ≢ []
-        → count_deadlines view.now.case + length (deadlines_made action.now) ≤ 1000 }
+    requires made { made.items ≡ deadlines_made view.now.local action.now }
+    requires deadlines { deadlines_made view.now.local action.now ≢ []
+        → count_deadlines view.now.case + length (deadlines_made view.now.local action.now) ≤ 1000 }
     requires acts { length (acts_in (deadline_shown view.now)) ≤ 100 }
     ensures { IfOk result (λ changes. changes.items ≡ action_changes view.now action.now) }
 {
@@ -210,5 +230,6 @@ pub(crate) fn changes_of_action(
     push_entry(&mut changes, view, action)?;
     push_made(&mut changes, view, made.as_slice(), action)?;
     push_act(&mut changes, view, action)?;
+    push_local_rule(&mut changes, view, action)?;
     Ok(changes)
 }

@@ -1,20 +1,20 @@
 //! The deadlines and the acts that an action makes.
-ghost use Rattle.std.specs.Prelude.{◌≡◌, ◌++◌, ◌∷◌, [], pos, max, IfOk, OnOk, option_to_list};
-ghost use Rattle.docket_core.specs.Actions.{begun_by, begun, timed, timed_or_set, answer_rule, later_of, answer_from, waiver_rule, pleading_rule, later_method, pleading_method, ordered_three, day_ordered, hours_ordered, ordered, court_ordered, after_judgment, judgment_times, statement_ordered, deadlines_made, ruled, extension, acts_made};
+ghost use Rattle.std.specs.Prelude.{◌≡◌, ◌++◌, ◌∷◌, [], None, pos, max, IfOk, OnOk, option_to_list};
+ghost use Rattle.docket_core.specs.Actions.{begun_by, begun, timed, timed_or_set, answer_rule, later_of, answer_from, waiver_rule, pleading_rule, later_method, pleading_method, ordered_three, day_ordered, hours_ordered, ordered, court_ordered, after_judgment, judgment_times, statement_ordered, local_three, begun_locally, local_time, deadlines_made, ruled, extension, acts_made};
 
 use court_days::{Day, Direction};
-use court_rules::{Act, DayPeriod, HourPeriod, Method, Period, Rule, Start};
+use court_rules::{Act, DayPeriod, DeadlineRule, HourPeriod, Method, Period, Rule, Start};
 use docket_command::{
-    Action, Basis, Dispose, EnterJudgment, Moment, NoticeHearing, OrderPeriod, PeriodUnit,
-    PleadingKind, Ruling, ServePleading, ServeSummons, ServiceMethod,
+    Action, Basis, Dispose, EnterJudgment, LocalPeriod, LocalRule, Moment, NoticeHearing,
+    OrderPeriod, PeriodUnit, PleadingKind, Ruling, ServePleading, ServeSummons, ServiceMethod,
 };
 use std::alloc::{AllocError, Global};
 
 /// A deadline that a command makes, with its first act.
-#[derive(Clone, Copy)]
+#[derive(Drop)]
 pub(crate) struct NewDeadline {
     pub(crate) party: u32,
-    pub(crate) rule: Rule,
+    pub(crate) rule: DeadlineRule,
     pub(crate) initial: bool,
     pub(crate) first: Act,
 }
@@ -40,7 +40,7 @@ fn timed(party: u32, rule: Rule, initial: bool, served_by: Method, day: Day) -> 
 {
     NewDeadline {
         party,
-        rule,
+        rule: DeadlineRule::Listed(rule),
         initial,
         first: begun(rule, served_by, day),
     }
@@ -60,7 +60,7 @@ fn timed_or_set(
         None => timed(party, rule, false, served_by, day),
         Some(due) => NewDeadline {
             party,
-            rule,
+            rule: DeadlineRule::Listed(rule),
             initial: false,
             first: Act::Fixed(due),
         },
@@ -228,7 +228,7 @@ fn judgment_times(alloc: Global, a: &EnterJudgment) -> Result<Vec<NewDeadline>, 
 
 /// The times before a hearing.
 fn hearing_times(alloc: Global, a: &NoticeHearing) -> Result<Vec<NewDeadline>, AllocError>
-    ensures { IfOk result (λ made. made.items ≡ deadlines_made (Action.NoticeHearing a.now)) }
+    ensures { IfOk result (λ made. made.items ≡ deadlines_made None (Action.NoticeHearing a.now)) }
 {
     Ok(vec![in alloc;
         timed(
@@ -257,7 +257,7 @@ fn one(alloc: Global, made: NewDeadline) -> Result<Vec<NewDeadline>, AllocError>
 
 /// The time after a pleading was served.
 fn pleading_time(a: &ServePleading) -> NewDeadline
-    ensures { result ∷ [] ≡ deadlines_made (Action.ServePleading a.now) }
+    ensures { result ∷ [] ≡ deadlines_made None (Action.ServePleading a.now) }
 {
     let day = answer_from(a.basis, a.served, a.attorney);
     let served_by = pleading_method(a).into();
@@ -272,7 +272,7 @@ fn pleading_time(a: &ServePleading) -> NewDeadline
 
 /// The time of a defendant who was served.
 fn summons_time(a: &ServeSummons) -> NewDeadline
-    ensures { result ∷ [] ≡ deadlines_made (Action.ServeSummons a.now) }
+    ensures { result ∷ [] ≡ deadlines_made None (Action.ServeSummons a.now) }
 {
     let day = answer_from(a.basis, a.served, a.attorney);
     timed(a.party, answer_rule(a.basis), true, Method::Rule4, day)
@@ -280,7 +280,7 @@ fn summons_time(a: &ServeSummons) -> NewDeadline
 
 /// The deadline of a more definite statement, where the court orders one.
 fn statement_ordered(alloc: Global, a: &Dispose) -> Result<Vec<NewDeadline>, AllocError>
-    ensures { IfOk result (λ made. made.items ≡ deadlines_made (Action.Dispose a.now)) }
+    ensures { IfOk result (λ made. made.items ≡ deadlines_made None (Action.Dispose a.now)) }
 {
     let (rule, method) = (Rule::MoreDefiniteStatement, Method::Nothing);
     match (a.outcome, a.party) {
@@ -297,14 +297,14 @@ fn court_ordered(party: u32, first: Act) -> NewDeadline
 {
     NewDeadline {
         party,
-        rule: Rule::Ordered,
+        rule: DeadlineRule::Listed(Rule::Ordered),
         initial: false,
         first,
     }
 }
 
 fn ordered_time(alloc: Global, a: &OrderPeriod) -> Result<Vec<NewDeadline>, AllocError>
-    ensures { IfOk result (λ made. made.items ≡ deadlines_made (Action.OrderPeriod a.now)) }
+    ensures { IfOk result (λ made. made.items ≡ deadlines_made None (Action.OrderPeriod a.now)) }
 {
     match ordered(a) {
         Some(first) => one(alloc, court_ordered(a.party, first)),
@@ -312,9 +312,61 @@ fn ordered_time(alloc: Global, a: &OrderPeriod) -> Result<Vec<NewDeadline>, Allo
     }
 }
 
-/// The deadlines that an action makes.
-pub(crate) fn deadlines_made(alloc: Global, action: &Action) -> Result<Vec<NewDeadline>, AllocError>
-    ensures { IfOk result (λ made. made.items ≡ deadlines_made action.now) }
+/// Whether service adds three days to the time of a local rule.
+fn local_three(rule: &LocalRule, served_by: Option<ServiceMethod>) -> bool
+    ensures { result ≡ local_three rule.now served_by }
+{
+    match served_by {
+        Some(method) => rule.adds_three(method.into()),
+        None => false,
+    }
+}
+
+/// The first act of a time that runs from the day by a local rule.
+fn begun_locally(rule: &LocalRule, served_by: Option<ServiceMethod>, day: Day) -> Act
+    ensures { result ≡ begun_locally rule.now served_by day }
+{
+    Act::Start(Start::Days(DayPeriod {
+        trigger: day,
+        period: Period::Days(rule.days),
+        direction: rule.direction,
+        three_days: local_three(rule, served_by),
+    }))
+}
+
+/// The deadline of a time by the local rule that is named.
+fn local_time(a: &LocalPeriod, rule: &LocalRule) -> Result<NewDeadline, AllocError>
+    ensures { IfOk result (λ made. made ≡ local_time a.now rule.now) }
+{
+    Ok(NewDeadline {
+        party: a.party,
+        rule: DeadlineRule::Local(a.rule.copied()?),
+        initial: false,
+        first: begun_locally(rule, a.method, a.start),
+    })
+}
+
+/// The same, where the local rule was entered.
+fn local_times(
+    alloc: Global,
+    found: &Option<LocalRule>,
+    a: &LocalPeriod,
+) -> Result<Vec<NewDeadline>, AllocError>
+    ensures { IfOk result (λ made. made.items ≡ deadlines_made found.now (Action.LocalPeriod a.now)) }
+{
+    match found {
+        Some(rule) => one(alloc, local_time(a, rule)?),
+        None => Ok(Vec::new(alloc)),
+    }
+}
+
+/// The deadlines that an action makes, by the local rule that it names, where that was entered.
+pub(crate) fn deadlines_made(
+    alloc: Global,
+    found: &Option<LocalRule>,
+    action: &Action,
+) -> Result<Vec<NewDeadline>, AllocError>
+    ensures { IfOk result (λ made. made.items ≡ deadlines_made found.now action.now) }
 {
     match action {
         Action::ServeSummons(a) => one(alloc, summons_time(a)),
@@ -332,6 +384,7 @@ pub(crate) fn deadlines_made(alloc: Global, action: &Action) -> Result<Vec<NewDe
         Action::NoticeHearing(a) => hearing_times(alloc, a),
         Action::OrderPeriod(a) => ordered_time(alloc, a),
         Action::EnterJudgment(a) => judgment_times(alloc, a),
+        Action::LocalPeriod(a) => local_times(alloc, found, a),
         _ => Ok(Vec::new(alloc)),
     }
 }

@@ -104,6 +104,7 @@ fn reply(matter: &Matter<'_>, view: &View, action: &Action) -> u32
             u32::from(is_in_time)
         }
         Action::Vacate(a) => a.deadline,
+        Action::LocalRule(_) => view.local_rules + 1,
         _ => view.deadlines() + 1,
     }
 }
@@ -144,7 +145,7 @@ fn decide_by_view(
     let action = &command.action;
     let calendar = calendar_of(alloc, view.calendar.as_slice())?;
     let added = rows_added(alloc, view.calendar.as_slice(), action)?;
-    let made = deadlines_made(alloc, action)?;
+    let made = deadlines_made(alloc, &view.local, action)?;
     let matter = Matter {
         court,
         calendar: &calendar,

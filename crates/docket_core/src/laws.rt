@@ -10,13 +10,13 @@ ghost use Rattle.docket_core.specs.Decisions.{IsSoundView};
 ghost use Rattle.docket_core.specs.declared.item.CalendarItem.{CalendarItem};
 ghost use Rattle.docket_core.specs.declared.item.CalendarItem.TheVariants as item;
 ghost use Rattle.std.specs.List.{Contains, filter_map};
-ghost use Rattle.docket_core.specs.Histories.{History, case_rows, party_rows, entry_rows, parties_of_case, entries_of_case, deadline_rows, deadlines_of_case, deadline_rows_from, act_rows, acts_of_deadline, standing_rows};
-ghost use Rattle.docket_core.specs.InOrder.{in_order, numbered_by, opened, case_row, party_added, party_row, entry_filed, entry_row, gathered, made_in, acts_on, IsAddedAndKept};
+ghost use Rattle.docket_core.specs.Histories.{History, case_rows, party_rows, entry_rows, parties_of_case, entries_of_case, deadline_rows, deadlines_of_case, deadline_rows_from, act_rows, acts_of_deadline, standing_rows, local_rule_rows};
+ghost use Rattle.docket_core.specs.InOrder.{in_order, numbered_by, opened, case_row, party_added, party_row, entry_filed, entry_row, gathered, asked_in_order, rule_entered, local_rule_row, made_in, acts_on, IsAddedAndKept};
 ghost use Rattle.docket_core.specs.declared.deadline.NewDeadline.{NewDeadline};
 ghost use Rattle.docket_core.specs.declared.row.CalendarRow.{CalendarRow};
 ghost use Rattle.docket_core.specs.Limits.{IsWithinLimits};
 ghost use Rattle.docket_core.specs.Outcomes.{IsHistory, shown, answers};
-ghost use Rattle.docket_core.specs.Worked.{asked, answered, closed_and_withdrawn, closed_and_withdrawn_answered};
+ghost use Rattle.docket_core.specs.Worked.{asked, answered, closed_and_withdrawn, closed_and_withdrawn_answered, timed_locally, timed_locally_answered};
 
 /// Every history keeps to the limits, and what it shows about a command is sound.
 pub fn limits_are_kept()
@@ -25,23 +25,24 @@ pub fn limits_are_kept()
         → IsHistory court h → IsSoundView court (shown court h c) }
 {}
 
-/// The cases are those that were opened, in order, numbered from 1; so are, within a case, its parties
-/// and its entries.
+/// The cases are those that were opened, in order, numbered from 1; so are the local rules and, within a
+/// case, its parties and its entries.
 pub fn rows_are_numbered_in_order()
     ensures cases { (h : History) → case_rows h ≡ numbered_by case_row 1 (filter_map opened (in_order h)) }
     ensures parties { (h : History) (k : ℕ) → parties_of_case k (party_rows h)
         ≡ numbered_by party_row 1 (filter_map (party_added k) (in_order h)) }
     ensures entries { (h : History) (k : ℕ) → entries_of_case k (entry_rows h)
         ≡ numbered_by entry_row 1 (filter_map (entry_filed k) (in_order h)) }
+    ensures rules { (h : History) → local_rule_rows h ≡ numbered_by local_rule_row 1 (filter_map rule_entered (in_order h)) }
 {}
 
 /// The deadlines of a case are those that the commands naming it make, in order, numbered from 1; the
 /// acts of each are its first act, followed by the acts of the commands that name it, in order.
 pub fn acts_are_in_order()
     ensures deadlines { (h : History) (k : ℕ) → deadlines_of_case k (deadline_rows h)
-        ≡ deadline_rows_from k 1 (gathered (made_in k) (in_order h)) }
+        ≡ deadline_rows_from k 1 (gathered (made_in k) (asked_in_order h)) }
     ensures acts { (court : CourtSettings) (h : History) → IsHistory court h
-        → (k n : ℕ) (made : NewDeadline) → slice_get (gathered (made_in k) (in_order h)) n ≡ Some made
+        → (k n : ℕ) (made : NewDeadline) → slice_get (gathered (made_in k) (asked_in_order h)) n ≡ Some made
         → acts_of_deadline k (n + 1) (act_rows h) ≡ made.first ∷ gathered (acts_on k (n + 1)) (in_order h) }
 {}
 
@@ -50,10 +51,11 @@ pub fn rows_stand_until_withdrawn()
     ensures { (h : History) (row : CalendarRow) → Contains (standing_rows h) row ↔ IsAddedAndKept h row }
 {}
 
-/// Two dockets played through, in any court.
+/// Three dockets played through, in any court.
 pub fn worked_dockets()
     ensures case { (court : CourtSettings) → answers court [] asked ≡ answered }
     ensures calendar { (court : CourtSettings) → answers court [] closed_and_withdrawn ≡ closed_and_withdrawn_answered }
+    ensures locally { (court : CourtSettings) → answers court [] timed_locally ≡ timed_locally_answered }
 {}
 
 /// A short day moves no deadline: where each stands is a matter of the days and the spans of the calendar

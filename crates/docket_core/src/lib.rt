@@ -29,11 +29,14 @@ pub use laws::{
 pub use lines::{close_of_end, close_of_standing, deadline_lines, line_of};
 pub use moving::{acts_named, acts_with, end_moves};
 pub use named::{
-    asks_calendar, asks_cases, asks_deadlines, asks_entries, asks_next_row, asks_parties,
-    case_named, deadline_named,
+    asks_calendar, asks_cases, asks_deadlines, asks_entries, asks_local_rules, asks_next_row,
+    asks_parties, case_named, deadline_named,
 };
 pub use record::{CaseRecord, DeadlineLine, DueRow, EntryRows, PartyRows};
 pub use row::{
-    ActRow, CalendarRow, CaseRow, Change, DeadlineRow, EntryRow, PartyRow, Receipt, ShortDayRow,
+    ActRow, CalendarRow, CaseRow, Change, DeadlineRow, EntryRow, LocalRuleRow, PartyRow, Receipt,
+    ShortDayRow,
 };
-pub use view::{Acts, CalendarItems, CaseView, DeadlineView, Kept, View, is_served_among};
+pub use view::{
+    Acts, CalendarItems, CaseView, DeadlineView, Kept, View, is_served_among, rule_name_asked,
+};

@@ -1,10 +1,10 @@
 //! What an action names, and whether the docket lacks it.
-ghost use Rattle.std.specs.Prelude.{◌≡◌};
-ghost use Rattle.docket_core.specs.Actions.{case_named, deadline_named, asks_calendar, asks_cases, asks_parties, asks_entries, asks_deadlines, asks_next_row};
-ghost use Rattle.docket_core.specs.Refusals.{lacks_case, is_no_party, lacks_party, lacks_deadline, lacks_row};
+ghost use Rattle.std.specs.Prelude.{◌≡◌, option_copied};
+ghost use Rattle.docket_core.specs.Actions.{case_named, deadline_named, asks_calendar, asks_cases, asks_parties, asks_entries, asks_deadlines, asks_next_row, asks_local_rules, local_rule_named};
+ghost use Rattle.docket_core.specs.Refusals.{lacks_case, is_no_party, lacks_party, lacks_deadline, lacks_row, lacks_local_rule};
 
 use crate::view::View;
-use docket_command::Action;
+use docket_command::{Action, Text};
 
 /// The case that an action names.
 pub fn case_named(action: &Action) -> Option<u32>
@@ -26,6 +26,7 @@ pub fn case_named(action: &Action) -> Option<u32>
         Action::Extend(a) => Some(a.case),
         Action::Satisfy(a) => Some(a.case),
         Action::Vacate(a) => Some(a.case),
+        Action::LocalPeriod(a) => Some(a.case),
         _ => None,
     }
 }
@@ -41,6 +42,17 @@ pub fn deadline_named(action: &Action) -> Option<u32>
         Action::Extend(a) => Some(a.deadline),
         Action::Satisfy(a) => Some(a.deadline),
         Action::Vacate(a) => Some(a.deadline),
+        _ => None,
+    }
+}
+
+/// The name of the local rule that it enters, or by which it sets a time.
+pub(crate) fn local_rule_named(action: &Action) -> Option<&Text>
+    ensures { option_copied result ≡ local_rule_named action.now }
+{
+    match action {
+        Action::LocalRule(a) => Some(&a.name),
+        Action::LocalPeriod(a) => Some(&a.rule),
         _ => None,
     }
 }
@@ -74,7 +86,7 @@ pub fn asks_parties(action: &Action) -> bool
     match action {
         Action::AddParty(_) | Action::ServeSummons(_) | Action::FileWaiver(_) => true,
         Action::ServePleading(_) | Action::OrderReply(_) | Action::Dispose(_) => true,
-        Action::NoticeHearing(_) | Action::OrderPeriod(_) => true,
+        Action::NoticeHearing(_) | Action::OrderPeriod(_) | Action::LocalPeriod(_) => true,
         _ => false,
     }
 }
@@ -96,7 +108,7 @@ pub fn asks_deadlines(action: &Action) -> bool
     match action {
         Action::ServeSummons(_) | Action::FileWaiver(_) | Action::ServePleading(_) => true,
         Action::OrderReply(_) | Action::Dispose(_) | Action::NoticeHearing(_) => true,
-        Action::OrderPeriod(_) | Action::EnterJudgment(_) => true,
+        Action::OrderPeriod(_) | Action::EnterJudgment(_) | Action::LocalPeriod(_) => true,
         _ => false,
     }
 }
@@ -108,6 +120,16 @@ pub fn asks_next_row(action: &Action) -> bool
     match action {
         Action::DeclareDay(_) | Action::CloseDay(_) => true,
         Action::CloseSpan(_) | Action::ShortDay(_) | Action::ImportCalendar(_) => true,
+        _ => false,
+    }
+}
+
+/// Whether it asks how many local rules there are: it enters one.
+pub fn asks_local_rules(action: &Action) -> bool
+    ensures { result ≡ asks_local_rules action.now }
+{
+    match action {
+        Action::LocalRule(_) => true,
         _ => false,
     }
 }
@@ -139,6 +161,7 @@ pub(crate) fn lacks_party(view: &View, action: &Action) -> bool
         },
         Action::NoticeHearing(a) => is_no_party(view, a.party) || is_no_party(view, a.opponent),
         Action::OrderPeriod(a) => a.party != 0 && is_no_party(view, a.party),
+        Action::LocalPeriod(a) => is_no_party(view, a.party),
         _ => false,
     }
 }
@@ -154,6 +177,15 @@ pub(crate) fn lacks_row(view: &View, action: &Action) -> bool
 {
     match action {
         Action::WithdrawCalendar(_) => !view.row_stands,
+        _ => false,
+    }
+}
+
+pub(crate) fn lacks_local_rule(view: &View, action: &Action) -> bool
+    ensures { result ≡ lacks_local_rule view.now action.now }
+{
+    match action {
+        Action::LocalPeriod(_) => view.local.is_none(),
         _ => false,
     }
 }

@@ -7,16 +7,18 @@ ghost use Rattle.docket_core.specs.CalendarItems.{calendar_of};
 ghost use Rattle.docket_core.specs.Decisions.{IsMatter};
 ghost use Rattle.docket_core.specs.Times.{standing_shown, is_in_time};
 ghost use Rattle.docket_core.specs.Values.{first_bad, bad_values};
-ghost use Rattle.docket_core.specs.Refusals.{on, first_some, is_reused, is_there, is_running, is_suspended, is_awaiting, is_over, is_not_open, is_not_awaiting, rule_shown, is_not_responsive, is_by_e, wants_statement, is_wrong_motion, is_past, is_after, is_served, is_short_waiver, is_late_waiver, may_not_extend, is_expired, is_not_later, has_too_many_acts, count_added, is_calendar_full, is_full, state_refusals, refusal_of};
+ghost use Rattle.docket_core.specs.Refusals.{on, first_some, is_reused, is_there, is_running, is_suspended, is_awaiting, is_over, is_not_open, is_not_awaiting, is_responsive_rule, is_responsive_in, is_extendable_by, is_extendable_in, is_not_responsive, is_by_e, wants_statement, is_wrong_motion, is_past, is_after, is_served, is_short_waiver, is_late_waiver, may_not_extend, is_expired, is_not_later, has_too_many_acts, count_added, is_calendar_full, is_full, state_refusals, refusal_of};
 ghost use Rattle.docket_core.specs.Views.{ViewOf, deadline_shown, last_act};
 
 use crate::item::{CalendarItem, stands_among};
-use crate::named::{deadline_named, lacks_case, lacks_deadline, lacks_party, lacks_row};
+use crate::named::{
+    deadline_named, lacks_case, lacks_deadline, lacks_local_rule, lacks_party, lacks_row,
+};
 use crate::value::{bad_field, is_word};
 use crate::view::{Kept, View};
 use court_days::{Calendar, Court, Day, DayKind, Direction, End, Way, count_days, timely};
-use court_rules::{Act, MotionKind, Rule, Standing};
-use docket_command::{Action, Command, Moment, Refusal, Ruling};
+use court_rules::{Act, DeadlineRule, MotionKind, Standing};
+use docket_command::{Action, Command, LocalRule, Moment, Refusal, Ruling};
 
 fn is_reused(kept: Kept) -> bool
     ensures { result ≡ is_reused kept }
@@ -37,6 +39,7 @@ fn is_there(view: &View, action: &Action) -> bool
         Action::CloseSpan(a) => stands_among(standing, CalendarItem::Span(a.start, a.end)),
         Action::ShortDay(a) => stands_among(standing, CalendarItem::Short(a.day, a.close)),
         Action::OpenCase(_) => view.label_taken,
+        Action::LocalRule(_) => view.local.is_some(),
         _ => false,
     }
 }
@@ -88,13 +91,46 @@ fn is_not_awaiting(action: &Action, standing: Standing) -> bool
     }
 }
 
-/// The rule of the deadline that the command names.
-fn rule_named(view: &View) -> Rule
-    ensures { result ≡ rule_shown (deadline_shown view.now) }
+/// Whether it sets the time of a responsive pleading.
+fn is_responsive(rule: &DeadlineRule) -> bool
+    ensures { result ≡ is_responsive_rule rule.now }
+{
+    match rule {
+        DeadlineRule::Listed(rule) => rule.responsive(),
+        DeadlineRule::Local(_) => false,
+    }
+}
+
+/// The same of the rule of the deadline that the command names.
+fn is_of_responsive(view: &View) -> bool
+    ensures { result ≡ is_responsive_in (deadline_shown view.now) }
 {
     match view.deadline_named() {
-        Some(deadline) => deadline.rule,
-        None => Rule::Ordered,
+        Some(deadline) => is_responsive(&deadline.rule),
+        None => false,
+    }
+}
+
+/// Whether the court may extend a time by the rule, which is this one where it is a local rule.
+fn is_extendable(found: &Option<LocalRule>, rule: &DeadlineRule) -> bool
+    ensures { result ≡ is_extendable_by found.now rule.now }
+{
+    match rule {
+        DeadlineRule::Listed(rule) => rule.extendable(),
+        DeadlineRule::Local(_) => match found {
+            Some(rule) => rule.extendable,
+            None => false,
+        },
+    }
+}
+
+/// The same of the rule of the deadline that the command names.
+fn is_of_extendable(view: &View) -> bool
+    ensures { result ≡ is_extendable_in view.now.local (deadline_shown view.now) }
+{
+    match view.deadline_named() {
+        Some(deadline) => is_extendable(&view.local, &deadline.rule),
+        None => false,
     }
 }
 
@@ -102,7 +138,7 @@ fn is_not_responsive(view: &View, action: &Action) -> bool
     ensures { result ≡ is_not_responsive view.now action.now }
 {
     match action {
-        Action::RuleMotion(_) => !rule_named(view).responsive(),
+        Action::RuleMotion(_) => !is_of_responsive(view),
         _ => false,
     }
 }
@@ -191,7 +227,7 @@ fn may_not_extend(view: &View, action: &Action) -> bool
     ensures { result ≡ may_not_extend view.now action.now }
 {
     match action {
-        Action::Extend(_) => !rule_named(view).extendable(),
+        Action::Extend(_) => !is_of_extendable(view),
         _ => false,
     }
 }
@@ -255,7 +291,7 @@ fn has_too_many_acts(view: &View, action: &Action) -> bool
 
 fn is_full(view: &View, added: usize, made: usize, action: &Action) -> bool
     requires added { added ≡ count_added view.now action.now }
-    requires made { made ≡ length (deadlines_made action.now) }
+    requires made { made ≡ length (deadlines_made view.now.local action.now) }
     ensures { result ≡ is_full view.now action.now }
 {
     match action {
@@ -266,6 +302,7 @@ fn is_full(view: &View, added: usize, made: usize, action: &Action) -> bool
         Action::AddParty(_) => view.parties() >= 1000,
         Action::FileEntry(_) => view.entries() >= 10_000,
         Action::WithdrawCalendar(_) | Action::Satisfy(_) | Action::Vacate(_) => false,
+        Action::LocalRule(_) => view.local_rules >= 1000,
         _ => {
             has_too_many_acts(view, action)
                 || (view.deadlines() as usize).saturating_add(made) > 1000
@@ -308,6 +345,7 @@ fn state_refusal(matter: &Matter<'_>, view: &View, action: &Action) -> Option<Re
         (lacks_party(view, action), Refusal::NoSuchParty),
         (lacks_deadline(view, action), Refusal::NoSuchDeadline),
         (lacks_row(view, action), Refusal::NoSuchCalendarRow),
+        (lacks_local_rule(view, action), Refusal::NoSuchLocalRule),
         (is_there(view, action), Refusal::Exists),
         (is_not_open(action, matter.standing), Refusal::NotOpen),
         (

@@ -1,8 +1,8 @@
 //! The rows of the docket's tables.
 use crate::item::CalendarItem;
 use court_days::Day;
-use court_rules::{Act, Rule};
-use docket_command::{Command, Reply, Role, Text, TimeOfDay};
+use court_rules::{Act, DeadlineRule};
+use docket_command::{Command, LocalRule, Reply, Role, Text, TimeOfDay};
 
 /// A row of the court's calendar. Rows are numbered from 1 over all that were ever added.
 #[derive(Drop)]
@@ -65,12 +65,12 @@ pub struct EntryRow {
 }
 
 /// A deadline, numbered from 1 within its case. The party is 0 for every party.
-#[derive(Clone, Copy)]
+#[derive(Drop)]
 pub struct DeadlineRow {
     pub case: u32,
     pub number: u32,
     pub party: u32,
-    pub rule: Rule,
+    pub rule: DeadlineRule,
     pub initial: bool,
 }
 
@@ -81,6 +81,13 @@ pub struct ActRow {
     pub deadline: u32,
     pub number: u32,
     pub act: Act,
+}
+
+/// A rule of the court's own, numbered from 1.
+#[derive(Drop)]
+pub struct LocalRuleRow {
+    pub number: u32,
+    pub rule: LocalRule,
 }
 
 /// A command that was accepted, with the reply that it had.
@@ -101,4 +108,5 @@ pub enum Change {
     AddEntry(EntryRow),
     AddDeadline(DeadlineRow),
     AddAct(ActRow),
+    AddLocalRule(LocalRuleRow),
 }

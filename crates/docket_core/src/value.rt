@@ -7,10 +7,11 @@ ghost use Rattle.docket_command.specs.declared.field.Field as field_name;
 ghost use Rattle.docket_core.specs.Values.{is_entered, is_entered_at, is_plain, is_visible, is_short, is_text, is_word, first_bad, bad_values, bad_attorney, bad_attorney_method, bad_basis, bad_party, bad_until, bad_days, bad_choice, bad_day, bad_close, bad_text, bad_if, in_days, in_hours, is_fixed, most, bad_method, bad_order, is_new_day};
 
 use court_days::{Court, Day, Direction};
+use court_rules::is_local_name;
 use docket_command::{
-    Action, Basis, CloseSpan, Dispose, Extend, Field, FileWaiver, Moment, NewDay, OpenCase,
-    OrderPeriod, PeriodUnit, PleadingKind, Ruling, ServePleading, ServiceMethod, ShortDay, Text,
-    TimeOfDay,
+    Action, Basis, CloseSpan, Dispose, Extend, Field, FileWaiver, LocalRule, Moment, NewDay,
+    OpenCase, OrderPeriod, PeriodUnit, PleadingKind, Ruling, ServePleading, ServiceMethod,
+    ShortDay, Text, TimeOfDay,
 };
 
 /// Whether a court may enter the day.
@@ -358,6 +359,17 @@ fn bad_in_order(court: &Court, a: &OrderPeriod) -> Option<Field>
     ])
 }
 
+fn bad_in_local_rule(a: &LocalRule) -> Option<Field>
+    ensures { (court : CourtSettings) → result ≡ first_bad (bad_values court (action.LocalRule a.now)) }
+{
+    let is_backward = matches!(a.direction, Direction::Backward);
+    first_bad(&[
+        (!is_local_name(a.name.as_str()), Field::Name),
+        (!(1..=3650).contains(&a.days), Field::Days),
+        (a.three && is_backward, Field::Three),
+    ])
+}
+
 /// The first field whose value is bad.
 pub(crate) fn bad_field(court: &Court, action: &Action) -> Option<Field>
     ensures { result ≡ first_bad (bad_values court.now action.now) }
@@ -397,5 +409,7 @@ pub(crate) fn bad_field(court: &Court, action: &Action) -> Option<Field>
         Action::Extend(a) => bad_in_extension(court, a),
         Action::Satisfy(a) => first_bad(&[(!is_entered_at(court, a.at), Field::At)]),
         Action::Vacate(_) => None,
+        Action::LocalRule(a) => bad_in_local_rule(a),
+        Action::LocalPeriod(a) => first_bad(&[bad_day(a.start, Field::Start)]),
     }
 }

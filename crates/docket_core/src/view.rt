@@ -2,12 +2,12 @@
 ghost use Rattle.std.specs.Prelude.{◌≡◌, ◌<◌, ◌^◌, length, option_copied};
 ghost use Rattle.std.specs.List.{list_any};
 ghost use Rattle.docket_core.specs.Actions.{if_asked};
-ghost use Rattle.docket_core.specs.Views.{parties_in, entries_in, count_deadlines, deadline_shown, acts_in, served_in, deadline_at, deadline_of, is_vacated, has_initial, is_served_among, case_shown};
+ghost use Rattle.docket_core.specs.Views.{parties_in, entries_in, count_deadlines, deadline_shown, acts_in, served_in, deadline_at, deadline_of, is_vacated, has_initial, is_served_among, case_shown, named_in, local_name, local_name_in, rule_name_asked};
 
 use crate::item::CalendarItem;
-use crate::named::{asks_deadlines, asks_entries, asks_parties, deadline_named};
-use court_rules::{Act, Rule};
-use docket_command::{Action, Reply};
+use crate::named::{asks_deadlines, asks_entries, asks_parties, deadline_named, local_rule_named};
+use court_rules::{Act, DeadlineRule};
+use docket_command::{Action, LocalRule, Reply, Text};
 use std::marker::Model;
 
 /// What stands under a command's key: nothing, the same command with the reply that it had, or
@@ -53,7 +53,7 @@ impl Acts {
 #[derive(Drop)]
 pub struct DeadlineView {
     pub party: u32,
-    pub rule: Rule,
+    pub rule: DeadlineRule,
     pub initial: bool,
     pub acts: Acts,
 }
@@ -181,10 +181,46 @@ impl CaseView {
     }
 }
 
+/// The name of a deadline's rule, where it is a local one.
+fn local_name(rule: &DeadlineRule) -> Option<&Text>
+    ensures { option_copied result ≡ local_name rule.now }
+{
+    match rule {
+        DeadlineRule::Listed(_) => None,
+        DeadlineRule::Local(name) => Some(name),
+    }
+}
+
+/// The name of the rule of the deadline that is shown of a case, where it is a local one.
+fn local_name_in(case: &Option<CaseView>) -> Option<&Text>
+    ensures { option_copied result ≡ local_name_in (named_in case.now) }
+{
+    match case {
+        Some(case) => match &case.named {
+            Some(deadline) => local_name(&deadline.rule),
+            None => None,
+        },
+        None => None,
+    }
+}
+
+/// The name of the local rule that an action asks about: the one that it names, or that of the
+/// deadline that it extends, which is shown of its case.
+pub fn rule_name_asked<'a>(case: &'a Option<CaseView>, action: &'a Action) -> Option<&'a Text>
+    ensures { option_copied result ≡ rule_name_asked (named_in case.now) action.now }
+{
+    match action {
+        Action::Extend(_) => local_name_in(case),
+        _ => local_rule_named(action),
+    }
+}
+
 /// What a docket shows about a command, which is what the command asks about: what stands under its
 /// key, how many cases there are (0 where it opens none), whether the label of its new case is in use,
 /// the case that it names, whether the calendar row that it withdraws stands, what the calendar's rows
-/// enter (nothing where it doesn't ask), and the number of the next calendar row (0 where it adds none).
+/// enter (nothing where it doesn't ask), the number of the next calendar row (0 where it adds none), the
+/// local rule that it names, or by which the deadline is timed that it extends, and how many local rules
+/// there are (0 where it enters none).
 #[derive(Drop)]
 pub struct View {
     pub kept: Kept,
@@ -194,6 +230,8 @@ pub struct View {
     pub row_stands: bool,
     pub calendar: CalendarItems,
     pub next_row: u64,
+    pub local: Option<LocalRule>,
+    pub local_rules: u32,
 }
 
 impl View {

@@ -59,6 +59,9 @@ migrate_line = with_rule (new_app (codes "migrate")) (required file_rule)
 unfoldable pub serve_line : App
 serve_line = with_rule (with_rule (with_rule (new_app (codes "serve")) (required file_rule)) (required (option_rule (codes "port")))) (required (option_rule (codes "count")))
 
+unfoldable pub rules_line : App
+rules_line = with_rule (new_app (codes "rules")) file_rule
+
 unfoldable pub holidays_line : App
 holidays_line = with_rule (new_app (codes "holidays")) (place_rule (codes "year"))
 
@@ -68,8 +71,8 @@ bare_line = on_top (λ top. record top { has_version = true }) (new_app (codes "
 
 unfoldable pub docketctl : App
 docketctl =
-    with_subcommand (with_subcommand (with_subcommand (with_subcommand (with_subcommand (with_subcommand (with_subcommand (with_subcommand (with_subcommand (with_subcommand
-    bare_line count_line.top) create_line.top) run_line.top) import_line.top) case_line.top) calendar_line.top) check_line.top) migrate_line.top) serve_line.top) holidays_line.top
+    with_subcommand (with_subcommand (with_subcommand (with_subcommand (with_subcommand (with_subcommand (with_subcommand (with_subcommand (with_subcommand (with_subcommand (with_subcommand
+    bare_line count_line.top) create_line.top) run_line.top) import_line.top) case_line.top) calendar_line.top) check_line.top) migrate_line.top) serve_line.top) rules_line.top) holidays_line.top
 
 -- the command has this line, and no option for its subcommands too
 abbrev pub HasLine : App → Command → Type 0

@@ -1,5 +1,5 @@
 -- The job that a command line asks for: that of its subcommand, with the values that clap finds in the words.
-use Rattle.std.specs.Prelude.{ℕ, ◌==◌, ◌&&◌, not, Bool, List, [], ◌∷◌, length, codes, nat_le, nat_lt, Option, Some, None, is_some, option_map, option_and_then, unwrap_or, get_or, if◌then◌else◌, ⊤}
+use Rattle.std.specs.Prelude.{ℕ, ◌==◌, ◌&&◌, not, Bool, List, [], ◌∷◌, length, codes, nat_le, nat_lt, Option, Some, None, is_some, option_copied, option_map, option_and_then, unwrap_or, get_or, if◌then◌else◌, ⊤}
 use Rattle.std.specs.Char.{is_ascii_digit}
 use Rattle.std.specs.Int.{IsInRange}
 use Rattle.std.specs.List.{list_all}
@@ -31,6 +31,7 @@ pub data Asked : Type 0 where
   to_check : Text → Asked
   to_migrate : Text → Asked
   to_serve : Text → ℕ → ℕ → Asked
+  to_tell_rules : Option Text → Asked
   to_tell_holidays : ℕ → Asked
 
 abbrev pub asked : Job → Asked
@@ -44,6 +45,7 @@ asked (job.Calendar file from to) = to_tell_calendar file.now from to
 asked (job.Check file) = to_check file.now
 asked (job.Migrate file) = to_migrate file.now
 asked (job.Serve file port count) = to_serve file.now port count
+asked (job.Rules file) = to_tell_rules (option_copied file)
 asked (job.Holidays year) = to_tell_holidays year
 
 -- 1 to 10 digits, the first of them not 0
@@ -132,6 +134,10 @@ abbrev pub serve_asked : List Row → Option Asked
 serve_asked found =
     serve_if (value_of (codes "db") found) (port_of (value_of (codes "port") found)) (count_of (value_of (codes "count") found))
 
+-- the table of the rules, and those of the docket in a file where one is given
+abbrev pub rules_asked : List Row → Asked
+rules_asked found = to_tell_rules (first_of (codes "db") found)
+
 abbrev pub holidays_asked : List Row → Option Asked
 holidays_asked found = option_map to_tell_holidays (year_of (value_of (codes "year") found))
 
@@ -146,8 +152,9 @@ asked_by name found =
     else (if bytes_eq name (codes "check") then Some (check_asked found)
     else (if bytes_eq name (codes "migrate") then Some (migrate_asked found)
     else (if bytes_eq name (codes "serve") then serve_asked found
+    else (if bytes_eq name (codes "rules") then Some (rules_asked found)
     else (if bytes_eq name (codes "holidays") then holidays_asked found
-    else Some to_count))))))))
+    else Some to_count)))))))))
 
 -- with no subcommand docketctl counts
 abbrev pub asked_in : Option (Text × List Row) → Option Asked

@@ -2,11 +2,11 @@
 ghost use Rattle.std.specs.Prelude.{◌≡◌, false, IfOk};
 ghost use Rattle.clap.specs.Walk.{rule_of};
 ghost use Rattle.clap.specs.Simple.{new_app};
-ghost use Rattle.docket_jobs.specs.CommandLine.{option_rule, required, with_default, place_rule, HasLine, count_line, create_line, run_line, import_line, case_line, calendar_line, check_line, migrate_line, serve_line, holidays_line, bare_line, docketctl};
+ghost use Rattle.docket_jobs.specs.CommandLine.{option_rule, required, with_default, place_rule, HasLine, count_line, create_line, run_line, import_line, case_line, calendar_line, check_line, migrate_line, serve_line, rules_line, holidays_line, bare_line, docketctl};
 
 use crate::help::{
     CALENDAR_HELP, CASE_HELP, CHECK_HELP, COUNT_HELP, CREATE_HELP, HOLIDAYS_HELP, IMPORT_HELP,
-    MIGRATE_HELP, PROGRAM_HELP, RUN_HELP, SERVE_HELP,
+    MIGRATE_HELP, PROGRAM_HELP, RULES_HELP, RUN_HELP, SERVE_HELP,
 };
 use clap::{Arg, ArgAction, Command};
 use std::alloc::{AllocError, Global};
@@ -223,6 +223,19 @@ fn serve_command<'a>(alloc: Global) -> Result<Command<'a>, AllocError>
     .arg(count)
 }
 
+fn rules_command<'a>(alloc: Global) -> Result<Command<'a>, AllocError>
+    ensures { IfOk result (HasLine rules_line) }
+{
+    let file = option(alloc, "db", "FILE", FILE_TEXT);
+    subcommand(
+        alloc,
+        "rules",
+        "Tell the rules by which deadlines run",
+        RULES_HELP,
+    )
+    .arg(file)
+}
+
 fn holidays_command<'a>(alloc: Global) -> Result<Command<'a>, AllocError>
     ensures { IfOk result (HasLine holidays_line) }
 {
@@ -264,5 +277,6 @@ pub(crate) fn command<'a>(alloc: Global) -> Result<Command<'a>, AllocError>
         .subcommand(check_command(alloc)?)?
         .subcommand(migrate_command(alloc)?)?
         .subcommand(serve_command(alloc)?)?
+        .subcommand(rules_command(alloc)?)?
         .subcommand(holidays_command(alloc)?)
 }

@@ -35,6 +35,7 @@ With no command, docketctl counts. A docket in a file is made, kept and read lik
   docketctl run --db court.db < commands.jsonl
   docketctl case --db court.db 1
   docketctl calendar --db court.db 2027-01-01 2027-12-31
+  docketctl rules --db court.db
   docketctl check --db court.db
 One of an older program is taken further, once:
   docketctl migrate --db court.db
@@ -118,11 +119,14 @@ Exit status: 0 the calendar was told, 2 bad command line, 3 writing, memory or t
 pub(crate) const CHECK_HELP: &str = "\
 A file that comes from a backup or from another program is read whole, table by table, and its rows
 stay as they are. Where each table is sound, that is told, and how much each holds: the rows of the
-calendar that stand, the deadlines by where they stand, and a receipt for each accepted command:
+calendar that stand, the local rules, the deadlines by where they stand, and a receipt for each
+accepted command:
   docketctl check --db court.db
   sound
   court EST5EDT,M3.2.0,M11.1.0 closes 17:00
+  version 2
   calendar rows 1
+  local rules 0
   cases 1
   parties 2
   entries 0
@@ -166,6 +170,23 @@ with a connection is told in a line of standard error, and the next is served.
 
 Exit status: 0 N connections were served, 2 bad command line, 3 the docket or the port could not
 be opened, or writing, memory or the database failed.";
+
+pub(crate) const RULES_HELP: &str = "\
+Each rule of the Federal Rules of Civil Procedure by which a deadline runs has a line, and behind
+them, with --db, each local rule of the docket in FILE, in the order in which they were entered:
+  docketctl rules --db court.db
+  12(a)(1)(A)(i)     21 days   forward  -          responsive extendable
+  12(a)(1)(A)(ii)    60 days   forward  -          responsive extendable
+  and so on to
+  order               - -      -        three days -          extendable
+  LR7.1-opp          14 days   forward  three days -          extendable
+A line has the name of the rule, its period, and which way it is counted; whether service by mail,
+with the clerk or by other means adds three days (Rule 6(d)), whether a Rule 12 motion suspends it,
+and whether the court may extend it. A time that the court orders has the period, the direction and
+the end that are entered with it.
+
+Exit status: 0 the rules were told, 2 bad command line, 3 writing, memory or the database failed, or
+there is no docket.";
 
 pub(crate) const HOLIDAYS_HELP: &str = "\
 Each holiday has a line: its day, the weekday, and its name. One of a fixed date that falls on a

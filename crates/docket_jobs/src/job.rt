@@ -6,7 +6,7 @@ ghost use Rattle.clap.specs.Simple.{subcommand_rows_of};
 ghost use Rattle.clap.specs.Values.{kind_of};
 ghost use Rattle.clap.specs.Walk.{rows_of};
 ghost use Rattle.civil_time.specs.DayText.{day_of_text};
-ghost use Rattle.docket_jobs.specs.Jobs.{IsLimited, asked, asked_by, asked_in, asked_of, calendar_asked, case_asked, check_asked, court_asked, create_asked, holidays_asked, import_asked, line_faults, migrate_asked, run_asked, serve_asked, value_of};
+ghost use Rattle.docket_jobs.specs.Jobs.{IsLimited, asked, asked_by, asked_in, asked_of, calendar_asked, case_asked, check_asked, court_asked, create_asked, holidays_asked, import_asked, line_faults, migrate_asked, rules_asked, run_asked, serve_asked, value_of};
 
 use crate::command_line::command;
 use crate::number::{read_count, read_number, read_port, read_year};
@@ -66,6 +66,11 @@ pub enum Job<'a> {
         file: &'a str,
         port: u16,
         count: u32,
+    },
+    /// `rules`: tell the rules by which deadlines run, with the local rules of the docket in a file, where
+    /// one is given.
+    Rules {
+        file: Option<&'a str>,
     },
     /// `holidays`: tell the statutory holidays of a year from 2000 to 2099.
     Holidays {
@@ -245,6 +250,15 @@ fn serve_job<'a>(found: &ArgMatches<'a>) -> Result<Job<'a>, BadValue<'a>>
     })
 }
 
+#[tactic(auto, using(crate::proofs::MatchLemmas::first_value_is))]
+fn rules_job<'a>(found: &ArgMatches<'a>) -> Job<'a>
+    ensures { asked result ≡ rules_asked (rows_of (found_of found.now)) }
+{
+    Job::Rules {
+        file: found.get_str("db"),
+    }
+}
+
 fn holidays_job<'a>(found: &ArgMatches<'a>) -> Result<Job<'a>, BadValue<'a>>
     ensures limited { IfOk result IsLimited }
     ensures job { MatchResult result (λ job. holidays_asked (rows_of (found_of found.now)) ≡ Some (asked job))
@@ -273,6 +287,7 @@ fn job_by<'a>(
         "check" => Ok(Ok(check_job(found))),
         "migrate" => Ok(Ok(migrate_job(found))),
         "serve" => Ok(serve_job(found)),
+        "rules" => Ok(Ok(rules_job(found))),
         "holidays" => Ok(holidays_job(found)),
         _ => Ok(Ok(Job::Count)),
     }

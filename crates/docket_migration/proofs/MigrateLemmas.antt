@@ -10,7 +10,7 @@ use Rattle.sqlite.specs.Held.{Held, state}
 use Rattle.sqlite.specs.View.{doubt}
 use Rattle.sqlite_schema.specs.Names.{same_name}
 use Rattle.court_days.specs.Court.{CourtSettings}
-use Rattle.docket_columns.specs.Cells.{court_cells, court_cells_of, settings_of, short_day_cells}
+use Rattle.docket_columns.specs.Cells.{court_cells, court_cells_of, settings_of, local_rule_cells, short_day_cells}
 use Rattle.docket_columns.specs.declared.version.Version.{Version}
 use Rattle.docket_columns.specs.declared.version.Version.TheVariants.{First, Second}
 use Rattle.docket_core.specs.Histories.{History}
@@ -22,7 +22,7 @@ use Rattle.docket_tables.specs.Schema.{schema_of}
 use Rattle.docket_tables.specs.Stands.{HoldsRowsIn, IsSettledIn, MakesNothing}
 use Rattle.docket_tables.specs.declared.table.Table.{Table}
 use Rattle.docket_tables.specs.declared.table.Table.TheVariants.{Court, Calendar, Cases, Parties, Entries, Deadlines, Acts, Receipts, Ends, ShortDays, LocalRules}
-use Rattle.docket_scan.specs.Dockets.{IsFoundOfDocket}
+use Rattle.docket_scan.specs.Dockets.{IsFoundOfDocket, MayHold}
 use Rattle.docket_scan.specs.Finding.{AreSound, HasCourt, IsTaken}
 use Rattle.docket_scan.specs.Judging.{Holds, Rows as SoundRows, cells_in}
 use Rattle.docket_scan.specs.Scans.{AreRowsOf}
@@ -30,6 +30,8 @@ use Rattle.docket_scan.specs.Shapes.{has_named, has_table}
 use Rattle.docket_scan.specs.declared.fault.AdoptFault.{AdoptFault}
 use Rattle.docket_scan.specs.declared.fault.AdoptFault.TheVariants.{NoMemory, StoreFailed}
 use Rattle.docket_scan.specs.declared.finding.FoundDocket.{FoundDocket}
+use Rattle.docket_scan.proofs.KindLemmas.{no_local_rules_made, no_short_days_made, sound_later}
+use Rattle.docket_scan.proofs.LocalRuleLemmas.{no_local_rules}
 use Rattle.docket_scan.proofs.ShortDayLemmas.{no_short_days}
 use Rattle.docket_migration.specs.Changing.{IsEitherVersion}
 use Rattle.docket_migration.specs.Growing.{IsNew}
@@ -40,14 +42,18 @@ use Rattle.docket_migration.proofs.GoneLemmas.{gone_between}
 use Rattle.docket_migration.proofs.KeepLemmas.{keeps_rows, named_once_before, there_still}
 use Rattle.docket_migration.proofs.KeptReads.{one_row, there_in}
 
--- the rows of a docket without short days go from one version to the other
-pub moved_rows : (court : CourtSettings) (t : Tables) → short_day_rows t.calendar ≡ [] → moved court t.next_row (rows_by First court t) ≡ rows_in court t
-moved_rows court t none = λ i table. same table i
+-- the rows of a docket without short days and local rules go from one version to the other
+rows_moved : (court : CourtSettings) (t : Tables) → short_day_rows t.calendar ≡ [] → t.local_rules ≡ [] → moved court t.next_row (rows_by First court t) ≡ rows_in court t
+rows_moved court t none no_rules = λ i table. same table i
   where
     same : (table : Table) → moved court t.next_row (rows_by First court t) table ≡ rows_in court t table
     same Court = refl
     same ShortDays = ap (map short_day_cells) (sym none)
+    same LocalRules = ap (map local_rule_cells) (sym no_rules)
     same table = refl
+
+pub moved_rows : (court : CourtSettings) (h : History) → MayHold First h → moved court (rows_of court h).next_row (rows_by First court (rows_of court h)) ≡ rows_in court (rows_of court h)
+moved_rows court h may = rows_moved court (rows_of court h) (no_short_days_made h may) (no_local_rules_made h may)
 
 -- a connection that is unchanged holds the rows still
 still_settled : (v : Version) (old new : State) (rows : Rows) → Survives old new (λ _. ⊥) → HasCleanDisk new → IsSettledIn v old rows → IsUnchanged old new → IsSettledIn v new rows
@@ -66,9 +72,9 @@ still_settled v old new rows crash clean was same = record {
 -- a database that has gone over from sound tables has sound ones
 
 module _ (old new : State) (gone : HasGone old new) (court : CourtSettings) (rows : SoundRows) where
-  holds_still : (next : ℕ) (t : Table) → t ≢ Court → Holds old court next rows t → Holds new court next rows t
+  holds_still : (next : ℕ) (t : Table) → t ≢ Court → Holds First old court next rows t → Holds Second new court next rows t
   holds_still next t other h =
-      (there_still t old.now.schema new.now.schema gone.tables.more gone.tables.tables h.0, keeps_rows old new gone.tables t other h.0 (cells_in t rows) h.1, h.2)
+      (there_still t old.now.schema new.now.schema gone.tables.more gone.tables.tables h.0, keeps_rows old new gone.tables t other h.0 (cells_in t rows) h.1, sound_later t court next rows (cells_in t rows) h.2)
 
   -- the row that was read is the court's
   has_court_still : (next : ℕ) → HasCourt First old court next → HasCourt Second new court next
@@ -98,7 +104,8 @@ module _ (old new : State) (gone : HasGone old new) (court : CourtSettings) (row
           next_row = n;
           has_court = has_court_still n was.has_court;
           only = tt;
-          behind = (holds_still n Calendar (λ e. cc) b.0, (holds_still n Cases (λ e. cc) b.1.0, (holds_still n Parties (λ e. cc) b.1.1.0, (holds_still n Entries (λ e. cc) b.1.1.1.0, (holds_still n Deadlines (λ e. cc) b.1.1.1.1.0, (holds_still n Acts (λ e. cc) b.1.1.1.1.1.0, (holds_still n Receipts (λ e. cc) b.1.1.1.1.1.1.0, (holds_still n Ends (λ e. cc) b.1.1.1.1.1.1.1.0, (no_short_days new court n rows was.only b.0.2 (new_one ShortDays (λ none. none)) (gone.empty ShortDays (λ none. none)), ((new_one LocalRules (λ none. none), gone.empty LocalRules (λ none. none), refl), tt))))))))));
+          named = inr ([], gone.empty LocalRules (λ none. none), was.named);
+          behind = (holds_still n Calendar (λ e. cc) b.0, (holds_still n Cases (λ e. cc) b.1.0, (holds_still n Parties (λ e. cc) b.1.1.0, (holds_still n Entries (λ e. cc) b.1.1.1.0, (holds_still n Deadlines (λ e. cc) b.1.1.1.1.0, (holds_still n Acts (λ e. cc) b.1.1.1.1.1.0, (holds_still n Receipts (λ e. cc) b.1.1.1.1.1.1.0, (holds_still n Ends (λ e. cc) b.1.1.1.1.1.1.1.0, (no_short_days new court n rows was.only.0 b.0.2 (new_one ShortDays (λ none. none)) (gone.empty ShortDays (λ none. none)), (no_local_rules new court n rows was.only.1 (new_one LocalRules (λ none. none)) (gone.empty LocalRules (λ none. none)), tt))))))))));
         };
         next_row = refl;
         live = gone.tables.live;

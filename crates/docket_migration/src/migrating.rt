@@ -1,12 +1,11 @@
 //! From the first version to the second.
-ghost use Rattle.std.specs.Prelude.{◌≡◌, ◌≤◌, ◌⊎◌, [], Err, IfErr, IsErrAnd, IsSome, OnErr, OnOk, false, true};
+ghost use Rattle.std.specs.Prelude.{◌≡◌, ◌≤◌, ◌⊎◌, Err, IfErr, IsErrAnd, IsSome, OnErr, OnOk, false, true};
 ghost use Rattle.std.specs.List.{AllByRecursion};
 ghost use Rattle.civil_time.specs.ZoneText.{zone_at};
 ghost use Rattle.court_days.specs.Court.{CourtSettings};
 ghost use Rattle.docket_columns.specs.declared.version.Version.TheVariants.{First};
-ghost use Rattle.docket_core.specs.Histories.{History, standing_rows};
+ghost use Rattle.docket_core.specs.Histories.{History};
 ghost use Rattle.docket_core.specs.Outcomes.{IsHistory};
-ghost use Rattle.docket_core.specs.ShortDays.{short_day_rows};
 ghost use Rattle.docket_core.specs.Tables.{rows_of};
 ghost use Rattle.docket_wire.specs.Valid.{IsCommand};
 ghost use Rattle.docket_orderly.specs.Orderly.{IsCourtSettings};
@@ -36,7 +35,7 @@ fn change_judged<S: Alter>(conn: &mut Connection<S>, alloc: Global) -> Result<()
     requires { conn.old.in_transaction ≡ false }
     ensures idle { conn.new.in_transaction ≡ false }
     ensures clean { doubt (state S.Store conn.old).is_clean ≤ doubt (state S.Store conn.new).is_clean }
-    ensures docket { (court : CourtSettings) (h : History) → short_day_rows (standing_rows h) ≡ [] → HoldsRowsIn S.Store First conn.old (rows_by First court (rows_of court h))
+    ensures docket { (court : CourtSettings) (h : History) → MayHold First h → HoldsRowsIn S.Store First conn.old (rows_by First court (rows_of court h))
         → Migrates S.Store conn.old conn.new court h result }
     ensures short { result ≡ Err NoMemory → MakesNothing S.Store conn.old conn.new }
     ensures only { IfErr result (λ fault. (fault ≡ NoMemory) ⊎ (fault ≡ StoreFailed)) }
@@ -88,7 +87,8 @@ pub fn migrate<S: Alter, W: Watch>(
 ) -> Result<(), AdoptFault>
     ensures idle { OnOk result (conn.new.in_transaction ≡ false) }
     ensures clean { doubt (state S.Store conn.old).is_clean ≤ doubt (state S.Store conn.new).is_clean }
-    // The docket of a history stands for it in the second version then; the first has no short days.
+    // The docket of a history stands for it in the second version then; the first holds no command of the
+    // last three kinds.
     ensures docket { (court : CourtSettings) (h : History) → IsCourtSettings court → IsSome (zone_at court.zone_text) → IsHistory court h → AllByRecursion IsCommand h
         → MayHold First h → HoldsRowsIn S.Store First conn.old (rows_by First court (rows_of court h)) → Migrates S.Store conn.old conn.new court h result }
     // Any database whose tables were sound holds the same rows in the second version, or a fault tells why not.

@@ -10,7 +10,7 @@ use Rattle.court_rules.specs.Acts.{acts_ok, is_within}
 use Rattle.court_rules.specs.declared.act.Act.{Act}
 use Rattle.docket_command.specs.declared.command.Action.{Action}
 use Rattle.docket_core.specs.Actions.{deadline_named, deadlines_made, acts_made}
-use Rattle.docket_core.specs.Histories.{History, case_number, deadline_number, deadline_rows, deadlines_of_case, act_rows, acts_of_deadline, first_acts, first_acts_from, later_acts, act_rows_on}
+use Rattle.docket_core.specs.Histories.{History, case_number, deadline_number, deadline_rows, deadlines_of_case, act_rows, acts_of_deadline, first_acts, first_acts_from, later_acts, act_rows_on, rule_found}
 use Rattle.docket_core.specs.Outcomes.{IsHistory}
 use Rattle.docket_core.specs.declared.row.ActRow.{ActRow}
 use Rattle.docket_core.proofs.InOrderLemmas.{same_number}
@@ -22,6 +22,7 @@ use Rattle.docket_columns.specs.Fits.{IsCount, IsAct, IsActRow}
 use Rattle.docket_orderly.specs.Orderly.{RunsFrom, acts_on}
 use Rattle.docket_orderly.proofs.ActionLemmas.{NewDeadline, IsMaking, case_counts, deadline_counts, deadlines_fine, deadlines_few, acts_fine, acts_few}
 use Rattle.docket_orderly.proofs.ListLemmas.{all_both, runs_both}
+use Rattle.docket_orderly.proofs.LocalRuleLemmas.{found_for}
 
 -- lawful acts are at most a hundred
 few_lawful : (acts : List Act) → acts_ok acts ≡ true → length acts ≤ 100
@@ -59,12 +60,13 @@ pub acts_held : (court : CourtSettings) (h : History) → IsHistory court h → 
 acts_held court [] is all = tt
 acts_held court (c ∷ h) is all =
     let a = c.action in
+    let found = rule_found h a in
     let made = length (deadlines_of_case (case_number a) (deadline_rows h)) in
     let acts = length (acts_of_deadline (case_number a) (deadline_number a) (act_rows h)) in
     let few = (within_limits court h is.1).deadlines (case_number a) in
-    all_both IsActRow (act_rows h) (first_acts made a ++ later_acts acts a) (acts_held court h is.1 all.1)
-    (all_both IsActRow (first_acts made a) (later_acts acts a)
-    (firsts_held (case_number a) (made + 1) (deadlines_made a) (case_counts a all.0.1) (omega (arith, few, deadlines_few a)) (deadlines_fine a all.0.1))
+    all_both IsActRow (act_rows h) (first_acts found made a ++ later_acts acts a) (acts_held court h is.1 all.1)
+    (all_both IsActRow (first_acts found made a) (later_acts acts a)
+    (firsts_held (case_number a) (made + 1) (deadlines_made found a) (case_counts a all.0.1) (omega (arith, few, deadlines_few found a)) (deadlines_fine found a (found_for court h is.1 a) all.0.1))
     (later_held (case_number a) (deadline_number a) (acts + 1) (acts_made a) (case_counts a all.0.1) (deadline_counts a all.0.1)
     (omega (arith, few_acts court h is.1 (case_number a) (deadline_number a), acts_few a)) (acts_fine a all.0.1)))
 
@@ -155,11 +157,14 @@ module _ (court : CourtSettings) (h : History) (is : IsHistory court h) (a : Act
   abbrev count : ℕ
   count = length (deadlines_of_case j (deadline_rows h))
 
+  abbrev made : List NewDeadline
+  made = deadlines_made (rule_found h a) a
+
   abbrev old : List ActRow
   old = acts_on k n (act_rows h)
 
   abbrev firsts : List ActRow
-  firsts = acts_on k n (first_acts count a)
+  firsts = acts_on k n (first_acts (rule_found h a) count a)
 
   none_new : firsts ≡ [] → AreRun (old ++ firsts)
   none_new none = subst (λ (rows : List ActRow). AreRun (old ++ rows)) (sym none) (subst AreRun (sym (append-nil old)) was)
@@ -168,13 +173,13 @@ module _ (court : CourtSettings) (h : History) (is : IsHistory court h) (a : Act
   with_firsts = at (j == k) (nat_le n count) refl refl
     where
       at : (b c : Bool) → (j == k) ≡ b → nat_le n count ≡ c → AreRun (old ++ firsts)
-      at false c other low = none_new (firsts_elsewhere k n j (count + 1) (deadlines_made a) other)
-      at true true here low = none_new (firsts_after k n j (count + 1) (deadlines_made a) (grind (arith, nat_tests, low)))
+      at false c other low = none_new (firsts_elsewhere k n j (count + 1) made other)
+      at true true here low = none_new (firsts_after k n j (count + 1) made (grind (arith, nat_tests, low)))
       at true false here low =
           let same : length (deadlines_of_case k (deadline_rows h)) ≡ count = ap (λ i. length (deadlines_of_case i (deadline_rows h))) (sym (same_number j k here)) in
           let past : count < n = grind (arith, nat_tests, low) in
           let none : old ≡ [] = no_rows old ((all_kept court h is k n).absent (inr (omega (arith, same, past)))) in
-          subst (λ (rows : List ActRow). AreRun (rows ++ firsts)) (sym none) (firsts_run k n j (count + 1) (deadlines_made a))
+          subst (λ (rows : List ActRow). AreRun (rows ++ firsts)) (sym none) (firsts_run k n j (count + 1) made)
 
   abbrev d : ℕ
   d = deadline_number a
@@ -208,15 +213,18 @@ module _ (court : CourtSettings) (h : History) (is : IsHistory court h) (a : Act
       at true both =
           let here : j ≡ k = same_number j k (left_true (j == k) (d == n) both) in
           let there : d ≡ n = same_number d n (right_true (j == k) (d == n) both) in
-          let none = firsts_after k n j (count + 1) (deadlines_made a) (omega (arith, there, (named court h a new more p e).1)) in
+          let none = firsts_after k n j (count + 1) made (omega (arith, there, (named court h a new more p e).1)) in
           subst (λ (rows : List ActRow). AreRun ((old ++ firsts) ++ rows)) (sym (later_if k n j d (size + 1) (new ∷ more) true both))
           (some_later (new ∷ more) here there none)
 
-  pub acts_step : AreRun (acts_on k n (act_rows h ++ (first_acts count a ++ later_acts size a)))
+  abbrev begun : List ActRow
+  begun = first_acts (rule_found h a) count a
+
+  pub acts_step : AreRun (acts_on k n (act_rows h ++ (begun ++ later_acts size a)))
   acts_step =
-      let all : acts_on k n (act_rows h ++ (first_acts count a ++ later_acts size a)) ≡ (old ++ firsts) ++ acts_on k n (later_acts size a) =
-      acts_on-append k n (act_rows h) (first_acts count a ++ later_acts size a)
-      ∙ ap (λ rows. old ++ rows) (acts_on-append k n (first_acts count a) (later_acts size a))
+      let all : acts_on k n (act_rows h ++ (begun ++ later_acts size a)) ≡ (old ++ firsts) ++ acts_on k n (later_acts size a) =
+      acts_on-append k n (act_rows h) (begun ++ later_acts size a)
+      ∙ ap (λ rows. old ++ rows) (acts_on-append k n begun (later_acts size a))
       ∙ sym (append_assoc old firsts (acts_on k n (later_acts size a))) in
       subst AreRun (sym all) (with_later (acts_made a) refl)
 

@@ -1,13 +1,15 @@
 -- What commands make holds what its type holds, where they do.
-use Rattle.std.proofs.Common.{ℕ, ◌≤◌, Bool, true, false, Option, Some, None, List, [], ◌∷◌, map, length, max, pos, IfSome, IsUtf8, refl, arith}
-use Rattle.std.specs.Prelude.{unwrap_or, option_to_list}
+use Rattle.std.proofs.Common.{◌≡◌, ℕ, ◌≤◌, Bool, true, false, ◌&&◌, Option, Some, None, List, [], ◌∷◌, map, length, max, pos, IfSome, IsUtf8, refl, subst, arith}
+use Rattle.std.specs.Prelude.{nat_le, unwrap_or, option_to_list}
 use Rattle.std.specs.List.{AllByRecursion}
 use Rattle.std.specs.Option.{option_map}
 use Rattle.std.proofs.lemmas.Bool.Decides.{nat_tests}
 use Rattle.court_days.specs.declared.calendar.Direction.{Direction}
+use Rattle.court_rules.specs.LocalRules.{IsDeadlineRule, is_local_name, is_local_rule}
 use Rattle.court_rules.specs.Rules.{period_of, direction_of, adds_three, IsPeriod}
 use Rattle.court_rules.specs.declared.act.Act.{Act}
 use Rattle.court_rules.specs.declared.act.Act.TheVariants as act
+use Rattle.court_rules.specs.declared.local_rule.LocalRule.{LocalRule}
 use Rattle.court_rules.specs.declared.method.Method.{Method}
 use Rattle.court_rules.specs.declared.method.Method.TheVariants as method
 use Rattle.court_rules.specs.declared.rule.Rule.{Rule}
@@ -24,14 +26,16 @@ use Rattle.docket_command.specs.declared.choice.Ruling.TheVariants.{Denied, Post
 use Rattle.docket_command.specs.declared.choice.ServiceMethod.{ServiceMethod}
 use Rattle.docket_command.specs.declared.command.Action.{Action}
 use Rattle.docket_command.specs.declared.command.Action.TheVariants as action
+use Rattle.docket_command.specs.declared.local_action.LocalPeriod as local_period
 use Rattle.docket_command.specs.declared.new_day.NewDay.{NewDay}
 use Rattle.docket_command.specs.declared.time_action.OrderPeriod as order_period
 use Rattle.docket_command.specs.Moments.{IsWholeMinute}
 use Rattle.docket_command.proofs.MomentLemmas.{moment_fits}
-use Rattle.docket_core.specs.Actions.{rows_asked, imported, begun_by, begun, timed, timed_or_set, answer_rule, answer_from, waiver_rule, pleading_rule, judgment_times, statement_ordered, day_ordered, hours_ordered, ordered, court_ordered, deadlines_made, ruled, extension, acts_made}
+use Rattle.docket_core.specs.Actions.{FoundRule, rows_asked, imported, begun_by, begun, timed, timed_or_set, answer_rule, answer_from, waiver_rule, pleading_rule, judgment_times, statement_ordered, day_ordered, hours_ordered, ordered, court_ordered, local_time, deadlines_made, ruled, extension, acts_made}
 use Rattle.docket_core.specs.Histories.{case_number, deadline_number}
 use Rattle.docket_core.specs.declared.item.CalendarItem.{CalendarItem}
 use Rattle.docket_core.specs.declared.item.CalendarItem.TheVariants.{Short}
+use Rattle.docket_core.proofs.Passed.{left_true, right_true}
 use Rattle.docket_wire.specs.Valid.{IsAction, IsNewDay, IsMinute}
 use Rattle.docket_columns.specs.Codes.{unit_count}
 use Rattle.docket_columns.specs.Fits.{IsCount, IsItem, IsNameOf, IsAct}
@@ -44,7 +48,7 @@ abbrev pub NewRow : Type 0
 NewRow = MadeBy rows_asked
 
 abbrev pub NewDeadline : Type 0
-NewDeadline = MadeBy deadlines_made
+NewDeadline = MadeBy (deadlines_made None)
 
 abbrev pub IsDay : ℕ → Type 0
 IsDay day = IsAct (act.Fixed day)
@@ -59,6 +63,7 @@ case_counts (action.ShortDay a) is = omega arith
 case_counts (action.WithdrawCalendar a) is = omega arith
 case_counts (action.ImportCalendar a) is = omega arith
 case_counts (action.OpenCase a) is = omega arith
+case_counts (action.LocalRule a) is = omega arith
 case_counts _ is = is.0
 
 pub deadline_counts : (a : Action) → IsAction a → IsCount (deadline_number a)
@@ -102,6 +107,7 @@ rows_fine _ is = tt
 -- the deadlines that it makes
 pub record IsMaking (d : NewDeadline) : Type 0 where
   pub party : IsCount d.party
+  pub rule : IsDeadlineRule d.rule
   pub first : IsAct d.first
 
 few_units : (p : Period) → IsPeriod p → IsCount (unit_count p)
@@ -117,11 +123,11 @@ begun_fine : (r : Rule) (served_by : Method) (day : ℕ) → IsDay day → IsAct
 begun_fine r served_by day is = begun_by_fine (period_of r) (direction_of r) (adds_three r served_by) day (period_of-limits r) is
 
 timed_fine : (party : ℕ) (r : Rule) (initial : Bool) (served_by : Method) (day : ℕ) → IsCount party → IsDay day → IsMaking (timed party r initial served_by day)
-timed_fine party r initial served_by day few is = record { party = few; first = begun_fine r served_by day is }
+timed_fine party r initial served_by day few is = record { party = few; rule = tt; first = begun_fine r served_by day is }
 
 or_set_fine : (party : ℕ) (r : Rule) (served_by : Method) (day : ℕ) (due : Option ℕ) → IsCount party → IsDay day → IfSome due IsDay → IsMaking (timed_or_set party r served_by day due)
 or_set_fine party r served_by day None few is fine = timed_fine party r false served_by day few is
-or_set_fine party r served_by day (Some due) few is fine = record { party = few; first = fine }
+or_set_fine party r served_by day (Some due) few is fine = record { party = few; rule = tt; first = fine }
 
 max_day : (x y : ℕ) → IsDay x → IsDay y → IsDay (max x y)
 max_day x y one two = (grind (arith, nat_tests, one.0, two.0), grind (arith, nat_tests, one.1, two.1))
@@ -152,7 +158,7 @@ judgment_fine entered discharged is fine =
 
 one_ordered : (party : ℕ) (first : Option Act) → IsCount party → IfSome first IsAct → AllByRecursion IsMaking (option_to_list (option_map (court_ordered party) first))
 one_ordered party None few fine = tt
-one_ordered party (Some first) few fine = (record { party = few; first = fine }, tt)
+one_ordered party (Some first) few fine = (record { party = few; rule = tt; first = fine }, tt)
 
 days_fine : (from : Option ℕ) (p : Option Period) (d : Option Direction) (served_by : Option ServiceMethod) → IfSome from IsDay → IfSome p (λ q. IsCount (unit_count q)) → IfSome (day_ordered from p d served_by) IsAct
 days_fine (Some from) (Some p) (Some d) served_by is few = (is, few)
@@ -185,18 +191,44 @@ ordered_fine unit.Months a is = days_fine a.start (option_map period.Months a.co
 ordered_fine unit.Hours a is = hours_fine a.at a.count a.direction is.1.1.1.1.0 is.1.1.1.1.1.0
 ordered_fine unit.Fixed a is = fixed_fine a.until is.1.1.1.1.1.1.1.1.0
 
-pub deadlines_fine : (a : Action) → IsAction a → AllByRecursion IsMaking (deadlines_made a)
+-- the local rule that was found is lawful, and has the name that is asked for
+abbrev pub IsNamed : List ℕ → LocalRule → Type 0
+IsNamed name r = (is_local_rule r ≡ true) × (r.name ≡ name)
+
+abbrev pub IsFoundFor : FoundRule → Action → Type 0
+IsFoundFor found (action.LocalPeriod a) = IfSome found (IsNamed a.rule)
+IsFoundFor found _ = Unit {0}
+
+-- its name and its days
+lawful_name : (r : LocalRule) → is_local_rule r ≡ true → is_local_name r.name ≡ true
+unfolding is_local_rule
+lawful_name r lawful = left_true (is_local_name r.name) _ lawful
+
+lawful_days : (r : LocalRule) → is_local_rule r ≡ true → IsCount r.days
+unfolding is_local_rule
+lawful_days r lawful =
+    let days = left_true (nat_le 1 r.days && nat_le r.days 3650) _ (right_true (is_local_name r.name) _ lawful) in
+    let most : nat_le r.days 3650 ≡ true = right_true (nat_le 1 r.days) _ days in
+    grind (arith, nat_tests, most)
+
+locally_fine : (found : FoundRule) (a : local_period.LocalPeriod) → IfSome found (IsNamed a.rule) → IsCount a.party → IsDay a.start → AllByRecursion IsMaking (option_to_list (option_map (local_time a) found))
+locally_fine None a right few is = tt
+locally_fine (Some r) a right few is =
+    (record { party = few; rule = subst (λ name. is_local_name name ≡ true) right.1 (lawful_name r right.0); first = (is, lawful_days r right.0) }, tt)
+
+pub deadlines_fine : (found : FoundRule) (a : Action) → IsFoundFor found a → IsAction a → AllByRecursion IsMaking (deadlines_made found a)
 unfolding IsAction
-deadlines_fine (action.ServeSummons a) is = (timed_fine a.party (answer_rule a.basis) true method.Rule4 _ is.1.0 (from_fine a.basis a.served a.attorney is.1.1.1.0 is.1.1.1.1.0), tt)
-deadlines_fine (action.FileWaiver a) is = (timed_fine a.party (waiver_rule a.abroad) true method.Rule4 a.sent is.1.0 is.1.1.0, tt)
-deadlines_fine (action.ServePleading a) is = (timed_fine a.party (pleading_rule a.kind a.basis) false _ _ is.1.0 (from_fine a.basis a.served a.attorney is.1.1.1.1.0 is.1.1.1.1.1.1.0), tt)
-deadlines_fine (action.OrderReply a) is = (or_set_fine a.party rule.ReplyToAnswer _ a.served a.due is.1.0 is.1.1.0 is.1.1.1.1.0, tt)
-deadlines_fine (action.Dispose a) is = statement_fine a.outcome a.party a.notice a.due is.1.1.1.1.0 is.1.1.1.0 is.1.1.1.1.1.0
-deadlines_fine (action.NoticeHearing a) is =
+deadlines_fine found (action.ServeSummons a) right is = (timed_fine a.party (answer_rule a.basis) true method.Rule4 _ is.1.0 (from_fine a.basis a.served a.attorney is.1.1.1.0 is.1.1.1.1.0), tt)
+deadlines_fine found (action.FileWaiver a) right is = (timed_fine a.party (waiver_rule a.abroad) true method.Rule4 a.sent is.1.0 is.1.1.0, tt)
+deadlines_fine found (action.ServePleading a) right is = (timed_fine a.party (pleading_rule a.kind a.basis) false _ _ is.1.0 (from_fine a.basis a.served a.attorney is.1.1.1.1.0 is.1.1.1.1.1.1.0), tt)
+deadlines_fine found (action.OrderReply a) right is = (or_set_fine a.party rule.ReplyToAnswer _ a.served a.due is.1.0 is.1.1.0 is.1.1.1.1.0, tt)
+deadlines_fine found (action.Dispose a) right is = statement_fine a.outcome a.party a.notice a.due is.1.1.1.1.0 is.1.1.1.0 is.1.1.1.1.1.0
+deadlines_fine found (action.NoticeHearing a) right is =
     (timed_fine a.party rule.MotionAndNotice false method.Nothing a.hearing is.1.0 is.1.1.1.0, (timed_fine a.opponent rule.OpposingAffidavit false method.Nothing a.hearing is.1.1.0 is.1.1.1.0, tt))
-deadlines_fine (action.OrderPeriod a) is = one_ordered a.party (ordered a.unit a) is.1.0 (ordered_fine a.unit a is)
-deadlines_fine (action.EnterJudgment a) is = judgment_fine a.entered a.discharged is.1.0 is.1.1.0
-deadlines_fine _ is = tt
+deadlines_fine found (action.OrderPeriod a) right is = one_ordered a.party (ordered a.unit a) is.1.0 (ordered_fine a.unit a is)
+deadlines_fine found (action.EnterJudgment a) right is = judgment_fine a.entered a.discharged is.1.0 is.1.1.0
+deadlines_fine found (action.LocalPeriod a) right is = locally_fine found a right is.1.0 is.1.1.1.0
+deadlines_fine found _ right is = tt
 
 few_statements : (outcome : Ruling) (party : Option ℕ) (notice : ℕ) (due : Option ℕ) → length (statement_ordered outcome party notice due) ≤ 7
 few_statements Denied party notice due = omega arith
@@ -208,10 +240,15 @@ few_ordered : (party : ℕ) (first : Option Act) → length (option_to_list (opt
 few_ordered party None = omega arith
 few_ordered party (Some first) = omega arith
 
-pub deadlines_few : (a : Action) → length (deadlines_made a) ≤ 7
-deadlines_few (action.Dispose a) = few_statements a.outcome a.party a.notice a.due
-deadlines_few (action.OrderPeriod a) = few_ordered a.party (ordered a.unit a)
-deadlines_few _ = omega arith
+few_locally : (a : local_period.LocalPeriod) (found : FoundRule) → length (option_to_list (option_map (local_time a) found)) ≤ 7
+few_locally a None = omega arith
+few_locally a (Some r) = omega arith
+
+pub deadlines_few : (found : FoundRule) (a : Action) → length (deadlines_made found a) ≤ 7
+deadlines_few found (action.Dispose a) = few_statements a.outcome a.party a.notice a.due
+deadlines_few found (action.OrderPeriod a) = few_ordered a.party (ordered a.unit a)
+deadlines_few found (action.LocalPeriod a) = few_locally a found
+deadlines_few found _ = omega arith
 
 -- the acts that it adds
 ruled_fine : (outcome : Ruling) (notice : ℕ) (due : Option ℕ) → IsDay notice → IfSome due IsDay → IsAct (ruled outcome notice due)

@@ -7,8 +7,8 @@ use Rattle.std.proofs.lemmas.List.{length-append}
 use Rattle.std.proofs.lemmas.List.Elements.{filter-append}
 use Rattle.court_days.specs.Court.{CourtSettings}
 use Rattle.docket_command.specs.declared.command.Action.{Action}
-use Rattle.docket_core.specs.Actions.{case_named, deadlines_made, acts_made}
-use Rattle.docket_core.specs.Histories.{History, case_number, case_rows, new_case, deadline_rows, deadlines_of_case, deadline_rows_from, new_deadlines}
+use Rattle.docket_core.specs.Actions.{FoundRule, case_named, deadlines_made, acts_made}
+use Rattle.docket_core.specs.Histories.{History, case_number, case_rows, new_case, deadline_rows, deadlines_of_case, deadline_rows_from, new_deadlines, rule_found}
 use Rattle.docket_core.specs.Outcomes.{IsHistory, shown_fresh, case_of_number}
 use Rattle.docket_core.specs.declared.row.DeadlineRow.{DeadlineRow}
 use Rattle.docket_core.specs.declared.view.CaseView.{CaseView}
@@ -19,7 +19,7 @@ use Rattle.docket_orderly.proofs.ActionLemmas.{NewDeadline}
 
 -- the action makes no deadline and no act
 abbrev pub MakesNothing : Action → Type 0
-MakesNothing a = (deadlines_made a ≡ []) × (acts_made a ≡ [])
+MakesNothing a = ((found : FoundRule) → deadlines_made found a ≡ []) × (acts_made a ≡ [])
 
 -- rows of another case
 
@@ -33,14 +33,14 @@ deadlines_elsewhere j k n (d ∷ made) off =
 abbrev pub IsElsewhere : ℕ → Action → Type 0
 IsElsewhere j a = MakesNothing a ⊎ ((case_number a == j) ≡ false)
 
-new_elsewhere : (j n : ℕ) (a : Action) → IsElsewhere j a → deadlines_of_case j (deadline_rows_from (case_number a) n (deadlines_made a)) ≡ []
-new_elsewhere j n a (inl none) = ap (λ made. deadlines_of_case j (deadline_rows_from (case_number a) n made)) none.0
-new_elsewhere j n a (inr off) = deadlines_elsewhere j (case_number a) n (deadlines_made a) off
+new_elsewhere : (j n : ℕ) (found : FoundRule) (a : Action) → IsElsewhere j a → deadlines_of_case j (deadline_rows_from (case_number a) n (deadlines_made found a)) ≡ []
+new_elsewhere j n found a (inl none) = ap (λ made. deadlines_of_case j (deadline_rows_from (case_number a) n made)) (none.0 found)
+new_elsewhere j n found a (inr off) = deadlines_elsewhere j (case_number a) n (deadlines_made found a) off
 
 pub deadlines_kept : (h : History) (c : Command) (j : ℕ) → IsElsewhere j c.action → deadlines_of_case j (deadline_rows (c ∷ h)) ≡ deadlines_of_case j (deadline_rows h)
 deadlines_kept h c j off =
-    filter-append (λ (row : DeadlineRow). row.case == j) (deadline_rows h) (new_deadlines (length (deadlines_of_case (case_number c.action) (deadline_rows h))) c.action)
-    ∙ ap (λ xs. deadlines_of_case j (deadline_rows h) ++ xs) (new_elsewhere j _ c.action off) ∙ append-nil _
+    filter-append (λ (row : DeadlineRow). row.case == j) (deadline_rows h) (new_deadlines (rule_found h c.action) (length (deadlines_of_case (case_number c.action) (deadline_rows h))) c.action)
+    ∙ ap (λ xs. deadlines_of_case j (deadline_rows h) ++ xs) (new_elsewhere j _ (rule_found h c.action) c.action off) ∙ append-nil _
 
 -- a case that is named is there
 range_of : (h : History) (a : Action) (x : CaseView) → (shown_fresh h a).case ≡ Some x → (nat_le 1 (case_number a) && nat_le (case_number a) (length (case_rows h))) ≡ true
@@ -71,7 +71,7 @@ no_deadlines court (c ∷ h) is j out =
     earlier = elim out [ inl low ↦ inl low | inr high ↦ inr (omega (arith, grown, high)) ]
 
     elsewhere : {x : CaseView} → (case_named c.action ≡ None) ⊎ ((shown_fresh h c.action).case ≡ Some x) → IsElsewhere j c.action
-    elsewhere (inl none) = inl (none_made c.action none, none_acted_in c.action none)
+    elsewhere (inl none) = inl (λ rule. none_made rule c.action none, none_acted_in c.action none)
     elsewhere {x} (inr found) =
         let range = both_true (nat_le 1 (case_number c.action)) (nat_le (case_number c.action) (length (case_rows h))) (range_of h c.action x found) in
         let low : 1 ≤ case_number c.action = grind (arith, nat_tests, range.0) in

@@ -9,6 +9,7 @@ use Rattle.docket_wire.specs.Valid.{IsCommand}
 use Rattle.docket_orderly.specs.Orderly.{IsCourtSettings, IsOrderly}
 use Rattle.docket_orderly.proofs.ActLemmas.{acts_held, acts_run}
 use Rattle.docket_orderly.proofs.CalendarLemmas.{calendar_held, short_days_held, calendar_rises}
+use Rattle.docket_orderly.proofs.LocalRuleLemmas.{local_rules_held, local_rules_run, one_local_rule}
 use Rattle.docket_orderly.proofs.ReceiptLemmas.{receipts_held, one_receipt}
 use Rattle.docket_orderly.proofs.RowLemmas.{cases_held, cases_run, parties_held, parties_run, entries_held, entries_run, deadlines_held, deadlines_run}
 
@@ -32,4 +33,7 @@ orderly court h held is all =
       acts_run = acts_run court h is;
       receipts = receipts_held court h is all;
       one_receipt = one_receipt court h is;
+      local_rules = local_rules_held court h is all;
+      local_rules_run = local_rules_run h;
+      one_local_rule = one_local_rule court h is;
     }

@@ -4,5 +4,6 @@ pub mod CalendarLemmas
 pub mod DeadlineLemmas
 pub mod DocketLemmas
 mod ListLemmas
+pub mod LocalRuleLemmas
 pub mod ReceiptLemmas
 pub mod RowLemmas

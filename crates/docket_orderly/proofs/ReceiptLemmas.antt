@@ -137,6 +137,7 @@ reply_counts court h (action.Extend a) within is new room = is.1.0
 reply_counts court h (action.Satisfy a) within is new room =
     either (is_in_time court (calendar_of (shown_fresh h (action.Satisfy a)).calendar) (standing_shown court (shown_fresh h (action.Satisfy a))) a.at a.way) 1 0 (omega arith) (omega arith)
 reply_counts court h (action.Vacate a) within is new room = is.1.0
+reply_counts court h (action.LocalRule a) within is new room = omega (arith, within.local_rules)
 reply_counts court h a within is new room = omega (arith, few_deadlines h a (case_named a) within.deadlines)
 
 pub receipts_held : (court : CourtSettings) (h : History) → IsHistory court h → AllByRecursion IsCommand h → AllByRecursion IsReceipt (receipts court h)

@@ -5,8 +5,8 @@ use Rattle.court_days.specs.Court.{CourtSettings}
 use Rattle.docket_command.specs.declared.command.Action.{Action}
 use Rattle.docket_command.specs.declared.command.Action.TheVariants as action
 use Rattle.docket_core.specs.Actions.{deadlines_made}
-use Rattle.docket_core.specs.Histories.{History, case_number, case_rows, party_rows, entry_rows, deadline_rows, parties_of_case, entries_of_case, deadlines_of_case, new_case, new_party, new_entry, new_deadlines, deadline_rows_from}
-use Rattle.docket_core.specs.InOrder.{in_order, gathered, opened, case_row, party_added, party_row, entry_filed, entry_row, made_in}
+use Rattle.docket_core.specs.Histories.{History, case_number, case_rows, party_rows, entry_rows, deadline_rows, parties_of_case, entries_of_case, deadlines_of_case, new_case, new_party, new_entry, new_deadlines, deadline_rows_from, rule_found}
+use Rattle.docket_core.specs.InOrder.{in_order, asked_in_order, gathered, opened, case_row, party_added, party_row, entry_filed, entry_row, made_in}
 use Rattle.docket_core.specs.Outcomes.{IsHistory}
 use Rattle.docket_core.specs.declared.row.CaseRow.{CaseRow}
 use Rattle.docket_core.specs.declared.row.PartyRow.{PartyRow}
@@ -19,6 +19,7 @@ use Rattle.docket_columns.specs.Fits.{IsCount, IsCaseRow, IsPartyRow, IsEntryRow
 use Rattle.docket_orderly.specs.Orderly.{RunsFrom}
 use Rattle.docket_orderly.proofs.ActionLemmas.{NewDeadline, IsMaking, case_counts, deadlines_fine, deadlines_few}
 use Rattle.docket_orderly.proofs.ListLemmas.{all_both, numbered_runs}
+use Rattle.docket_orderly.proofs.LocalRuleLemmas.{found_for}
 
 -- cases
 one_case : (m : ℕ) (a : Action) → m ≤ 100_000 → IsAction a → AllByRecursion IsCaseRow (new_case m a)
@@ -76,16 +77,17 @@ entries_run h k =
 -- deadlines
 made_held : (k n : ℕ) (made : List NewDeadline) → IsCount k → n + length made ≤ 4_294_967_296 → AllByRecursion IsMaking made → AllByRecursion IsDeadlineRow (deadline_rows_from k n made)
 made_held k n [] count few all = tt
-made_held k n (d ∷ made) count few all = ((count, omega (arith, few), all.0.party), made_held k (n + 1) made count (omega (arith, few)) all.1)
+made_held k n (d ∷ made) count few all = ((count, omega (arith, few), all.0.party, all.0.rule), made_held k (n + 1) made count (omega (arith, few)) all.1)
 
 pub deadlines_held : (court : CourtSettings) (h : History) → IsHistory court h → AllByRecursion IsCommand h → AllByRecursion IsDeadlineRow (deadline_rows h)
 deadlines_held court [] is all = tt
 deadlines_held court (c ∷ h) is all =
     let count = length (deadlines_of_case (case_number c.action) (deadline_rows h)) in
     let few = (within_limits court h is.1).deadlines (case_number c.action) in
-    all_both IsDeadlineRow (deadline_rows h) (new_deadlines count c.action) (deadlines_held court h is.1 all.1)
-    (made_held (case_number c.action) (count + 1) (deadlines_made c.action) (case_counts c.action all.0.1)
-    (omega (arith, few, deadlines_few c.action)) (deadlines_fine c.action all.0.1))
+    let found = rule_found h c.action in
+    all_both IsDeadlineRow (deadline_rows h) (new_deadlines found count c.action) (deadlines_held court h is.1 all.1)
+    (made_held (case_number c.action) (count + 1) (deadlines_made found c.action) (case_counts c.action all.0.1)
+    (omega (arith, few, deadlines_few found c.action)) (deadlines_fine found c.action (found_for court h is.1 c.action) all.0.1))
 
 made_runs : (k n : ℕ) (made : List NewDeadline) → RunsFrom n (map (λ (row : DeadlineRow). row.number) (deadline_rows_from k n made))
 made_runs k n [] = tt
@@ -96,4 +98,4 @@ made_runs k n (d ∷ made) =
 pub deadlines_run : (h : History) (k : ℕ) → RunsFrom 1 (map (λ (row : DeadlineRow). row.number) (deadlines_of_case k (deadline_rows h)))
 deadlines_run h k =
     subst (λ (rows : List DeadlineRow). RunsFrom 1 (map (λ (row : DeadlineRow). row.number) rows)) (sym (deadlines_in_order k h))
-    (made_runs k 1 (gathered (made_in k) (in_order h)))
+    (made_runs k 1 (gathered (made_in k) (asked_in_order h)))

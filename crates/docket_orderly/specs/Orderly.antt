@@ -6,8 +6,9 @@ use Rattle.docket_core.specs.Histories.{parties_of_case, entries_of_case, deadli
 use Rattle.docket_core.specs.ShortDays.{day_and_span_rows, short_day_rows}
 use Rattle.docket_core.specs.Tables.{Tables}
 use Rattle.docket_core.specs.declared.row.ActRow.{ActRow}
+use Rattle.docket_core.specs.declared.row.LocalRuleRow.{LocalRuleRow}
 use Rattle.docket_core.specs.declared.row.Receipt.{Receipt}
-use Rattle.docket_columns.specs.Fits.{IsCourtRow, IsCalendarRow, IsShortDayRow, IsCaseRow, IsPartyRow, IsEntryRow, IsDeadlineRow, IsActRow, IsReceipt}
+use Rattle.docket_columns.specs.Fits.{IsCourtRow, IsCalendarRow, IsShortDayRow, IsCaseRow, IsPartyRow, IsEntryRow, IsDeadlineRow, IsActRow, IsReceipt, IsLocalRuleRow}
 
 -- what the types hold of a court
 abbrev pub IsCourtSettings : CourtSettings → Type 0
@@ -29,6 +30,9 @@ acts_on k n rows = filter (λ row. row.case == k && row.deadline == n) rows
 abbrev pub receipts_under : List ℕ → List Receipt → List Receipt
 receipts_under key rows = filter (λ row. bytes_eq row.command.key key) rows
 
+abbrev pub local_rules_named : List ℕ → List LocalRuleRow → List LocalRuleRow
+local_rules_named name rows = filter (λ row. bytes_eq row.rule.name name) rows
+
 pub record IsOrderly (settings : CourtSettings) (t : Tables) : Type 0 where
   pub court : IsCourtRow settings t.next_row
   pub calendar : AllByRecursion IsCalendarRow (day_and_span_rows t.calendar)
@@ -46,3 +50,6 @@ pub record IsOrderly (settings : CourtSettings) (t : Tables) : Type 0 where
   pub acts_run : (k n : ℕ) → RunsFrom 1 (map (λ row. row.number) (acts_on k n t.acts))
   pub receipts : AllByRecursion IsReceipt t.receipts
   pub one_receipt : (key : List ℕ) → length (receipts_under key t.receipts) ≤ 1
+  pub local_rules : AllByRecursion IsLocalRuleRow t.local_rules
+  pub local_rules_run : RunsFrom 1 (map (λ row. row.number) t.local_rules)
+  pub one_local_rule : (name : List ℕ) → length (local_rules_named name t.local_rules) ≤ 1

@@ -9,7 +9,8 @@ ghost use Rattle.docket_orderly.specs.Orderly.{IsCourtSettings, IsOrderly};
 
 /// The rows of a docket are orderly where its court and its commands hold what their types hold: the
 /// cases are numbered from 1 without gaps, so are the parties, entries and deadlines of a case and the
-/// acts of a deadline, the numbers of calendar rows rise, and a key has one receipt at most.
+/// acts of a deadline and the local rules, the numbers of calendar rows rise, and a key has one receipt at
+/// most, a name one local rule.
 pub fn dockets_are_orderly()
     ensures { (court : CourtSettings) (h : History) → IsCourtSettings court → IsHistory court h
         → AllByRecursion IsCommand h → IsOrderly court (rows_of court h) }

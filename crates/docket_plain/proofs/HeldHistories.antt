@@ -38,4 +38,5 @@ small court v is =
       parties = λ k. omega (arith, limits.parties k, ap (λ t. length (parties_of_case k t.parties)) is.same);
       entries = λ k. omega (arith, limits.entries k, ap (λ t. length (entries_of_case k t.entries)) is.same);
       deadlines = λ k. omega (arith, limits.deadlines k, ap (λ t. length (deadlines_of_case k t.deadlines)) is.same);
+      local_rules = omega (arith, limits.local_rules, ap (λ t. length t.local_rules) is.same, v.local_rules.ok.0);
     }

@@ -15,11 +15,12 @@ lists_of v = record {
   deadlines = v.deadlines.items;
   acts = v.acts.items;
   receipts = v.receipts.items;
+  local_rules = v.local_rules.items;
 }
 
 -- the tables of a docket without any record
 abbrev pub no_rows : Tables
-no_rows = record { next_row = 1; calendar = []; cases = []; parties = []; entries = []; deadlines = []; acts = []; receipts = [] }
+no_rows = record { next_row = 1; calendar = []; cases = []; parties = []; entries = []; deadlines = []; acts = []; receipts = []; local_rules = [] }
 
 -- room for so many rows in each table, and for a receipt
 pub record HasRoom (n : ℕ) (v : Vectors) : Type 0 where
@@ -30,6 +31,7 @@ pub record HasRoom (n : ℕ) (v : Vectors) : Type 0 where
   pub deadlines : vec_len v.deadlines + n ≤ vec_capacity v.deadlines
   pub acts : vec_len v.acts + n ≤ vec_capacity v.acts
   pub receipts : vec_len v.receipts + 1 ≤ vec_capacity v.receipts
+  pub local_rules : vec_len v.local_rules + n ≤ vec_capacity v.local_rules
 
 -- the numbers of rows fit
 pub record AreSmall (v : Vectors) : Type 0 where
@@ -38,3 +40,4 @@ pub record AreSmall (v : Vectors) : Type 0 where
   pub parties : (k : ℕ) → length (parties_of_case k v.parties.items) < 2 ^ 31
   pub entries : (k : ℕ) → length (entries_of_case k v.entries.items) < 2 ^ 31
   pub deadlines : (k : ℕ) → length (deadlines_of_case k v.deadlines.items) < 2 ^ 31
+  pub local_rules : vec_len v.local_rules < 2 ^ 31

@@ -5,7 +5,8 @@ ghost use Rattle.docket_plain.specs.Vectors.{lists_of, AreSmall, HasRoom, no_row
 
 use docket_command::{Command, Reply};
 use docket_core::{
-    ActRow, CalendarRow, CaseRow, Change, Changes, DeadlineRow, EntryRow, PartyRow, Receipt,
+    ActRow, CalendarRow, CaseRow, Change, Changes, DeadlineRow, EntryRow, LocalRuleRow, PartyRow,
+    Receipt,
 };
 use std::alloc::{AllocError, Global};
 
@@ -20,6 +21,7 @@ pub(crate) struct Vectors {
     pub(crate) deadlines: Vec<DeadlineRow>,
     pub(crate) acts: Vec<ActRow>,
     pub(crate) receipts: Vec<Receipt>,
+    pub(crate) local_rules: Vec<LocalRuleRow>,
 }
 
 impl Vectors {
@@ -36,6 +38,7 @@ impl Vectors {
             deadlines: Vec::new(alloc),
             acts: Vec::new(alloc),
             receipts: Vec::new(alloc),
+            local_rules: Vec::new(alloc),
         }
     }
 }
@@ -51,6 +54,7 @@ fn reserve(tables: &mut Vectors, rows: usize) -> Result<(), AllocError>
     tables.entries.reserve(rows)?;
     tables.deadlines.reserve(rows)?;
     tables.acts.reserve(rows)?;
+    tables.local_rules.reserve(rows)?;
     tables.receipts.reserve(1)
 }
 
@@ -90,6 +94,9 @@ fn change(tables: &mut Vectors, change: Change)
         }
         Change::AddAct(row) => {
             let _ = tables.acts.push(row);
+        }
+        Change::AddLocalRule(row) => {
+            let _ = tables.local_rules.push(row);
         }
     }
 }

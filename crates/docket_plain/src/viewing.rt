@@ -3,18 +3,20 @@ ghost use Rattle.std.specs.Prelude.{◌≡◌, ◌==◌, ◌&&◌, ◌<◌, ◌^
 ghost use Rattle.std.specs.List.{find, list_any};
 ghost use Rattle.std.specs.Option.{option_and_then};
 ghost use Rattle.std.specs.Str.{bytes_eq};
-ghost use Rattle.docket_core.specs.Actions.{case_named, asks_calendar, asks_cases, asks_next_row, if_asked};
-ghost use Rattle.docket_core.specs.Histories.{acts_of_deadline, deadlines_of_case, deadlines_from, parties_of_case, entries_of_case, items_of};
+ghost use Rattle.docket_core.specs.Actions.{case_named, asks_calendar, asks_cases, asks_next_row, asks_local_rules, if_asked};
+ghost use Rattle.docket_core.specs.Histories.{local_rule_in, acts_of_deadline, deadlines_of_case, deadlines_from, parties_of_case, entries_of_case, items_of};
 ghost use Rattle.docket_core.specs.Outcomes.{kept, is_label_taken, is_row_standing};
 ghost use Rattle.docket_core.specs.Tables.{case_in, view_in};
+ghost use Rattle.docket_core.specs.Views.{named_in, rule_name_asked};
 ghost use Rattle.docket_plain.specs.Vectors.{lists_of, AreSmall};
 
 use crate::vectors::Vectors;
 use court_rules::Act;
-use docket_command::{Action, Command, Text};
+use docket_command::{Action, Command, LocalRule, Text};
 use docket_core::{
     ActRow, Acts, CalendarItem, CalendarItems, CalendarRow, CaseRow, CaseView, DeadlineView,
-    EntryRow, Kept, PartyRow, Receipt, View, asks_calendar, asks_cases, asks_next_row, case_named,
+    EntryRow, Kept, LocalRuleRow, PartyRow, Receipt, View, asks_calendar, asks_cases,
+    asks_local_rules, asks_next_row, case_named, rule_name_asked,
 };
 use std::alloc::{AllocError, Global};
 
@@ -108,7 +110,7 @@ pub(crate) fn deadlines_of(
         if row.case == case {
             found.push(DeadlineView {
                 party: row.party,
-                rule: row.rule,
+                rule: row.rule.copied()?,
                 initial: row.initial,
                 acts: Acts::new(acts_of(alloc, acts, case, found.len() + 1)?),
             })?;
@@ -193,6 +195,50 @@ fn next_row_for(next_row: u64, action: &Action) -> u64
     if asks_next_row(action) { next_row } else { 0 }
 }
 
+/// The first local rule of a name.
+fn rule_row<'a>(rules: &'a [LocalRuleRow], name: &Text) -> Option<&'a LocalRuleRow>
+    ensures { option_copied result ≡ find (λ row. bytes_eq row.rule.name name.now) rules.now }
+{
+    rules.iter().find(|row| row.rule.name.same(name))
+}
+
+/// The local rule of a name.
+fn rule_of(rules: &[LocalRuleRow], name: &Text) -> Result<Option<LocalRule>, AllocError>
+    ensures { IfOk result (λ found. found ≡ local_rule_in rules.now name.now) }
+{
+    match rule_row(rules, name) {
+        Some(row) => Ok(Some(row.rule.copied()?)),
+        None => Ok(None),
+    }
+}
+
+/// The local rule that the action names, or by which the deadline is timed that it extends.
+fn rule_for(
+    rules: &[LocalRuleRow],
+    case: &Option<CaseView>,
+    action: &Action,
+) -> Result<Option<LocalRule>, AllocError>
+    ensures { IfOk result (λ found. found
+        ≡ option_and_then (local_rule_in rules.now) (rule_name_asked (named_in case.now) action.now)) }
+{
+    match rule_name_asked(case, action) {
+        Some(name) => rule_of(rules, name),
+        None => Ok(None),
+    }
+}
+
+/// How many local rules there are, if the action asks.
+fn rules_for(rules: &[LocalRuleRow], action: &Action) -> u32
+    requires { length rules.now < 2 ^ 32 }
+    ensures { result ≡ if_asked (asks_local_rules action.now) (length rules.now) }
+{
+    if asks_local_rules(action) {
+        rules.len() as u32
+    } else {
+        0
+    }
+}
+
 /// What the tables show about a command.
 pub(crate) fn view_of(
     alloc: Global,
@@ -203,11 +249,15 @@ pub(crate) fn view_of(
     ensures { IfOk result (λ view. view ≡ view_in (lists_of tables.now) command.now) }
 {
     let action = &command.action;
+    let case = case_for(alloc, tables, action)?;
+    let rules = tables.local_rules.as_slice();
     Ok(View {
         kept: kept(tables.receipts.as_slice(), command),
         cases: cases_for(tables.cases.as_slice(), action),
         label_taken: is_label_taken(tables.cases.as_slice(), action),
-        case: case_for(alloc, tables, action)?,
+        local: rule_for(rules, &case, action)?,
+        local_rules: rules_for(rules, action),
+        case,
         row_stands: is_row_standing(tables.calendar.as_slice(), action),
         calendar: items_for(alloc, tables.calendar.as_slice(), action)?,
         next_row: next_row_for(tables.next_row, action),

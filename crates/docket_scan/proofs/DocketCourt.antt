@@ -142,8 +142,8 @@ docket_found g v old new result clean taken court h settings zone is commands on
         docket_told g v old new court next judged clean (subst (λ k. JudgedAll v k next s new (λ r held. held ≡ holdings_of k r) judged) same it) h is commands only numbered holds
 
     behind : (t : Table) → IsBehindCourt v t → StaysOpen s new → IsFirstUnsound v t s → ⊥
-    behind t is_behind stays (found, next, (row, has, row_of), r, all, unsound) =
-        told found next (Err (Damaged t)) (court_told v s court h settings zone is shows found next row has.1 row_of.same) (next_told v s court h settings zone is shows found next row has.1 row_of.same) (is_behind, stays, r, all, unsound)
+    behind t is_behind stays (found, next, (row, has, row_of), r, named, all, unsound) =
+        told found next (Err (Damaged t)) (court_told v s court h settings zone is shows found next row has.1 row_of.same) (next_told v s court h settings zone is shows found next row has.1 row_of.same) (is_behind, stays, r, named, all, unsound)
 
     damaged : (t : Table) → StaysOpen s new → IsDamaged v t s → ⊥
     damaged table.Court stays (row, has, current, other) = never_odd v s court h settings zone is shows row has other
@@ -154,7 +154,7 @@ docket_found g v old new result clean taken court h settings zone is commands on
         let row_of = sound.has_court.2 in
         let is_court = court_told v s court h settings zone is shows found.court sound.next_row sound.has_court.0 sound.has_court.1.1 row_of.same in
         let is_next = next_told v s court h settings zone is shows found.court sound.next_row sound.has_court.0 sound.has_court.1.1 row_of.same in
-        (is_court, told found.court sound.next_row (Ok found.held) is_court is_next (same, r, sound.only, sound.behind, held))
+        (is_court, told found.court sound.next_row (Ok found.held) is_court is_next (same, r, sound.only, sound.named, sound.behind, held))
     at (Err Empty) (left, cause) = never_empty v s court h settings zone is shows cause
     at (Err NotADocket) (left, cause) = never_another v s court h settings zone is shows cause
     at (Err OtherVersion) (left, cause) = never_older v s court h settings zone is shows cause

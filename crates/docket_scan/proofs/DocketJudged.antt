@@ -1,10 +1,10 @@
 -- A docket's own tables are never told to be unsound.
-use Rattle.std.proofs.Common.{◌≡◌, ◌∙◌, inl, inr, ℕ, Bool, List, [], ◌∷◌, ◌++◌, ◌+◌, map, length, Result, Ok, Err, IsPermutation, refl, sym, ap, ap₂, subst, arith}
+use Rattle.std.proofs.Common.{◌≡◌, ◌∙◌, inl, inr, ℕ, Bool, List, [], ◌∷◌, ◌++◌, ◌+◌, map, length, Result, Ok, Err, refl, sym, ap, ap₂, subst, arith}
 use base.Stored.{Coded-set}
 use Rattle.std.proofs.Math.Logic.{∥∥₁_elim}
 use Rattle.std.proofs.lemmas.Bool.{false≢true}
 use Rattle.std.proofs.lemmas.List.{length-map}
-use Rattle.std.proofs.lemmas.List.Sorted.{length_permutation}
+use Rattle.std.proofs.lemmas.List.Sorted.{length_permutation, IsPermutation-refl}
 use Rattle.std.specs.Coded.{coded_ℕ}
 use Rattle.std.specs.List.{AllByRecursion, count_by}
 use Rattle.sqlite.specs.Held.{Held, state}
@@ -14,15 +14,22 @@ use Rattle.sqlite.specs.Store.{Ghosts}
 use Rattle.court_days.specs.Court.{CourtSettings, zone_of}
 use Rattle.court_rules.specs.declared.act.Standing.{Standing}
 use Rattle.docket_core.specs.CalendarItems.{calendar_of}
-use Rattle.docket_core.specs.Histories.{History, items_of, next_row, standing_rows, case_rows, party_rows, entry_rows, deadline_rows}
+use Rattle.docket_core.specs.Histories.{History, items_of, next_row, standing_rows, case_rows, party_rows, entry_rows, deadline_rows, local_rule_rows}
 use Rattle.docket_core.specs.Outcomes.{IsHistory, receipts}
 use Rattle.docket_core.specs.ShortDays.{day_and_span_rows, short_day_rows}
 use Rattle.docket_core.specs.Tables.{rows_of}
-use Rattle.docket_columns.specs.Cells.{court_cells_of, calendar_cells, short_day_cells, case_cells, party_cells, entry_cells, deadline_cells, act_cells, receipt_cells}
+use Rattle.docket_core.specs.declared.row.LocalRuleRow.{LocalRuleRow}
+use Rattle.docket_columns.specs.Cells.{court_cells_of, calendar_cells, short_day_cells, case_cells, party_cells, entry_cells, deadline_cells, act_cells, receipt_cells, local_rule_cells}
 use Rattle.docket_columns.specs.declared.version.Version.{Version}
 use Rattle.docket_columns.specs.declared.version.Version.TheVariants.{First, Second}
+use Rattle.docket_sound.specs.KnownTexts.{is_one_of}
+use Rattle.docket_sound.specs.LocalRules.{rule_names}
+use Rattle.docket_sound.specs.Orders.{AreInOrder, local_rule_order}
+use Rattle.docket_sound.specs.Receipts.{AreOfKnownKinds}
 use Rattle.docket_sound.specs.Standings.{standings_of, is_running, is_suspended, is_awaiting, is_done, is_vacated}
+use Rattle.docket_sound.proofs.HistoryReceipts.{all_kinds_known}
 use Rattle.docket_sound.proofs.HistoryShortDays.{in_two_tables}
+use Rattle.docket_sound.proofs.SortedRows.{sorted_local_rules}
 use Rattle.docket_wire.specs.Valid.{IsCommand}
 use Rattle.docket_tables.specs.Contents.{rows_by, rows_in}
 use Rattle.docket_tables.specs.Layouts.{Rows as Stored}
@@ -32,7 +39,8 @@ use Rattle.docket_tables.specs.declared.table.Table.{Table}
 use Rattle.docket_tables.specs.declared.table.Table.TheVariants as table
 use Rattle.docket_scan.specs.Dockets.{IsToldOfDocket, MayHold, holdings_in, standings_in}
 use Rattle.docket_scan.specs.Holdings.{holdings_of}
-use Rattle.docket_scan.specs.Judging.{AreRowsFor, IsBehindCourt, IsUnsoundIn, AreSoundBy, Holds, Rows, JudgedAll, before, behind_court, cells_in}
+use Rattle.docket_scan.specs.Judging.{AreRowsFor, IsBehindCourt, IsUnsoundIn, AreSoundBy, Holds, Rows, JudgedAll, before, behind_court, cells_in, knows_later_kinds}
+use Rattle.docket_scan.specs.Names.{AreNamesFor, names_of}
 use Rattle.docket_scan.specs.Records.{receipt_cells as stored_receipt_cells, ArePartyRows, AreEntryRows, AreDeadlineRows, AreActRows}
 use Rattle.docket_scan.specs.Scans.{AreRowsOf}
 use Rattle.docket_scan.specs.Shapes.{has_table}
@@ -40,18 +48,13 @@ use Rattle.docket_scan.specs.declared.fault.AdoptFault.{AdoptFault}
 use Rattle.docket_scan.specs.declared.fault.AdoptFault.TheVariants.{Damaged, NoMemory, StoreFailed}
 use Rattle.docket_scan.specs.declared.holdings.Holdings.{Holdings}
 use Rattle.docket_scan.proofs.DocketCounts.{receipts_counted, standings_counted}
+use Rattle.docket_scan.proofs.DocketOrders.{local_rules_by_key, typed}
 use Rattle.docket_scan.proofs.DocketReads.{AreSorted, never_unreadable, rows_sorted, first_sorted}
 use Rattle.docket_scan.proofs.DocketStatements.{is_there}
-use Rattle.docket_scan.proofs.DocketTables.{calendar_sound, short_days_sound, cases_sound, parties_sound, entries_sound, deadlines_sound, acts_sound, receipts_sound, ends_sound, parties_counted, deadlines_counted}
+use Rattle.docket_scan.proofs.DocketTables.{calendar_sound, short_days_sound, cases_sound, parties_sound, entries_sound, deadlines_sound, acts_sound, receipts_sound, ends_sound, local_rules_sound, parties_counted, deadlines_counted}
 use Rattle.docket_scan.proofs.JudgingLemmas.{each_has}
-
--- no row stands in one order alone
-no_rows_of : (found : List Row) → IsPermutation [] found → found ≡ []
-no_rows_of found same = at found (length_permutation _ _ same)
-  where
-    at : (rows : List Row) → length rows ≡ 0 → rows ≡ []
-    at [] few = refl
-    at (x ∷ rows) few = absurd cc
+use Rattle.docket_scan.proofs.KindLemmas.{no_local_rules_made, no_short_days_made}
+use Rattle.docket_scan.proofs.LocalRuleLemmas.{names_are}
 
 all_front : (Is : Table → Type 0) (ts us : List Table) → AllByRecursion Is (ts ++ us) → AllByRecursion Is ts
 all_front Is [] us all = tt
@@ -93,15 +96,34 @@ counted : {R X : Type 0} (t : Table) (cells : R → Row) (others : X → Row) (a
 counted t cells others all rows sorted =
     ∥∥₁_elim sorted (Coded-set coded_ℕ _ _) (λ it. sym (length-map rows others) ∙ length_permutation _ _ it.same ∙ length-map all cells)
 
-module _ (v : Version) (s : State) (court : CourtSettings) (h : History) (is : IsHistory court h) (commands : AllByRecursion IsCommand h) (shows : ShowsIn v s (rows_of_docket v court h)) (r : Rows) where
+none_in_order : AreInOrder local_rule_order [] []
+none_in_order = record { same = IsPermutation-refl []; sorted = λ k d low high. absurd (omega (arith, high)) }
+
+-- the names by which the deadlines are judged are those of the history's local rules
+names_told : (v : Version) (s : State) (court : CourtSettings) (h : History) → IsHistory court h → MayHold v h → ShowsIn v s (rows_of_docket v court h) → (names : List (List ℕ)) → AreNamesFor v s names
+    → ((rules : List LocalRuleRow) → AreInOrder local_rule_order (local_rule_rows h) rules → names ≡ rule_names rules → ⊥) → ⊥
+names_told First s court h is may shows names none never =
+    never [] (subst (λ (all : List LocalRuleRow). AreInOrder local_rule_order all []) (sym (no_local_rules_made h may)) none_in_order) none
+names_told Second s court h is may shows names (inl (unreadable, none)) never = never_unreadable Second table.LocalRules tt s shows.schema unreadable
+names_told Second s court h is may shows names (inr (rows, read, same)) never =
+    in_order Second s (rows_of_docket Second court h) shows table.LocalRules tt rows read (λ sorted.
+    let it = typed table.LocalRules local_rule_cells local_rule_order local_rules_by_key (local_rule_rows h) rows sorted in
+    never it.0 it.2 (same ∙ ap names_of it.1 ∙ names_are it.0 (sorted_local_rules court h is it.0 it.2).within))
+
+-- the kinds of its commands are known
+kinds_known : (v : Version) (h : History) → MayHold v h → AreOfKnownKinds (knows_later_kinds v) h
+kinds_known First h may = may
+kinds_known Second h may = all_kinds_known h
+
+module _ (v : Version) (s : State) (court : CourtSettings) (h : History) (is : IsHistory court h) (commands : AllByRecursion IsCommand h) (shows : ShowsIn v s (rows_of_docket v court h)) (may : MayHold v h) (r : Rows) where
   abbrev all : Stored
   all = rows_of_docket v court h
 
   abbrev Stand : Table → Type 0
-  Stand t = AllByRecursion (Holds s court (next_row h) r) (before t)
+  Stand t = AllByRecursion (Holds v s court (next_row h) r) (before t)
 
   abbrev IsUnsound : Table → Type 0
-  IsUnsound t = IsUnsoundIn t s (AreSoundBy t court (next_row h) r)
+  IsUnsound t = IsUnsoundIn t s (AreSoundBy v t court (next_row h) r)
 
   sorted : (t : Table) → IsTableOf First t → AreRowsOf t s (cells_in t r) → ∥ AreSorted t (all t) (cells_in t r) ∥₁
   sorted t is = rows_sorted v t (each_has v t is) s shows.schema all shows.holds (cells_in t r)
@@ -117,11 +139,13 @@ module _ (v : Version) (s : State) (court : CourtSettings) (h : History) (is : I
   entries_never stand unsound =
       never_unsound v s all shows table.Entries (each_has v table.Entries tt) _ (entries_sound court h is commands) (subst (λ n. IsUnsoundIn table.Entries s (AreEntryRows n)) (cases_told stand.1.0.1) unsound)
 
-  deadlines_never : Stand table.Deadlines → IsUnsound table.Deadlines → ⊥
-  deadlines_never stand unsound =
+  deadlines_never : AreNamesFor v s r.names → Stand table.Deadlines → IsUnsound table.Deadlines → ⊥
+  deadlines_never named stand unsound =
       in_order v s all shows table.Parties (each_has v table.Parties tt) (map party_cells r.parties) stand.1.1.0.1 (λ parties.
-      let judged = ap₂ AreDeadlineRows (cases_told stand.1.0.1) (parties_counted court h is commands r.parties parties) in
-      never_unsound v s all shows table.Deadlines (each_has v table.Deadlines tt) _ (deadlines_sound court h is commands) (subst (IsUnsoundIn table.Deadlines s) judged unsound))
+      names_told v s court h is may shows r.names named (λ rules order names.
+      let counts = ap₂ AreDeadlineRows (cases_told stand.1.0.1) (parties_counted court h is commands r.parties parties) in
+      let judged = ap₂ (λ (judge : (List ℕ → Bool) → List Row → Type 0) (texts : List (List ℕ)). judge (is_one_of texts)) counts names in
+      never_unsound v s all shows table.Deadlines (each_has v table.Deadlines tt) _ (deadlines_sound court h is commands rules order) (subst (IsUnsoundIn table.Deadlines s) judged unsound)))
 
   acts_never : Stand table.Acts → IsUnsound table.Acts → ⊥
   acts_never stand unsound =
@@ -140,18 +164,18 @@ module _ (v : Version) (s : State) (court : CourtSettings) (h : History) (is : I
       in_order v s all shows table.Acts (each_has v table.Acts tt) (map act_cells r.acts) stand.1.1.1.1.1.0.1 (λ acts.
       never_unsound v s all shows table.Ends (each_has v table.Ends tt) _ (ends_sound court h is commands r.calendar r.acts days acts) unsound))
 
-  never : (t : Table) → IsTableOf v t → Stand t → IsUnsound t → ⊥
-  never table.Court has stand = never_unsound v s all shows table.Court has _ (λ found sorted. tt)
-  never table.Calendar has stand = never_unsound v s all shows table.Calendar has _ (calendar_sound court h is commands)
-  never table.Cases has stand = never_unsound v s all shows table.Cases has _ (cases_sound court h is commands)
-  never table.Parties has stand = parties_never stand
-  never table.Entries has stand = entries_never stand
-  never table.Deadlines has stand = deadlines_never stand
-  never table.Acts has stand = acts_never stand
-  never table.Receipts has stand = never_unsound v s all shows table.Receipts has _ (receipts_sound court h is commands)
-  never table.Ends has stand = ends_never stand
-  never table.ShortDays has stand = short_days_never has stand
-  never table.LocalRules has stand = never_unsound v s all shows table.LocalRules has _ (λ found sorted. no_rows_of found sorted.same)
+  never : (t : Table) → IsTableOf v t → AreNamesFor v s r.names → Stand t → IsUnsound t → ⊥
+  never table.Court has named stand = never_unsound v s all shows table.Court has _ (λ found sorted. tt)
+  never table.Calendar has named stand = never_unsound v s all shows table.Calendar has _ (calendar_sound court h is commands)
+  never table.Cases has named stand = never_unsound v s all shows table.Cases has _ (cases_sound court h is commands)
+  never table.Parties has named stand = parties_never stand
+  never table.Entries has named stand = entries_never stand
+  never table.Deadlines has named stand = deadlines_never named stand
+  never table.Acts has named stand = acts_never stand
+  never table.Receipts has named stand = never_unsound v s all shows table.Receipts has _ (receipts_sound court h is commands (knows_later_kinds v) (kinds_known v h may))
+  never table.Ends has named stand = ends_never stand
+  never table.ShortDays has named stand = short_days_never has stand
+  never table.LocalRules has named stand = never_unsound v s all shows table.LocalRules has _ (local_rules_sound court h is commands)
 
   standings_told : Stand table.ShortDays → (test : Standing → Bool) → count_by test (standings_of (zone_of court) (calendar_of (items_of r.calendar)) r.acts) ≡ count_by test (standings_in court h)
   standings_told stand test =
@@ -163,9 +187,10 @@ module _ (v : Version) (s : State) (court : CourtSettings) (h : History) (is : I
       let days = counted table.Calendar calendar_cells calendar_cells (day_and_span_rows (standing_rows h)) r.calendar (sorted table.Calendar tt stand.0.1) in
       omega (arith, days, short, in_two_tables (standing_rows h))
 
-  held_told : Stand table.ShortDays → length r.short_days ≡ length (short_day_rows (standing_rows h)) → holdings_of court r ≡ holdings_in court h
-  held_told stand short = λ i. record {
+  held_told : Stand table.ShortDays → length r.short_days ≡ length (short_day_rows (standing_rows h)) → length r.local_rules ≡ length (local_rule_rows h) → holdings_of court r ≡ holdings_in court h
+  held_told stand short rules = λ i. record {
     calendar_rows = calendar_told stand short i;
+    local_rules = rules i;
     cases = cases_told stand.1.0.1 i;
     parties = counted table.Parties party_cells party_cells (party_rows h) r.parties (sorted table.Parties tt stand.1.1.0.1) i;
     entries = counted table.Entries entry_cells entry_cells (entry_rows h) r.entries (sorted table.Entries tt stand.1.1.1.0.1) i;
@@ -182,11 +207,19 @@ module _ (v : Version) (s : State) (court : CourtSettings) (h : History) (is : I
 
 -- the short days, which the first version does not have
 short_days_told : (v : Version) (s : State) (court : CourtSettings) (h : History) → ShowsIn v s (rows_of_docket v court h) → (r : Rows) → AreRowsFor v r → MayHold v h
-    → AllByRecursion (Holds s court (next_row h) r) (behind_court v) → length r.short_days ≡ length (short_day_rows (standing_rows h))
-short_days_told First s court h shows r none held stand = ap length none ∙ sym (ap length held)
-short_days_told Second s court h shows r none held stand =
+    → AllByRecursion (Holds v s court (next_row h) r) (behind_court v) → length r.short_days ≡ length (short_day_rows (standing_rows h))
+short_days_told First s court h shows r none may stand = ap length none.0 ∙ sym (ap length (no_short_days_made h may))
+short_days_told Second s court h shows r none may stand =
     counted table.ShortDays short_day_cells short_day_cells (short_day_rows (standing_rows h)) r.short_days
     (rows_sorted Second table.ShortDays tt s shows.schema (rows_of_docket Second court h) shows.holds (map short_day_cells r.short_days) stand.1.1.1.1.1.1.1.1.0.1)
+
+-- nor does it have the local rules
+local_rules_told : (v : Version) (s : State) (court : CourtSettings) (h : History) → ShowsIn v s (rows_of_docket v court h) → (r : Rows) → AreRowsFor v r → MayHold v h
+    → AllByRecursion (Holds v s court (next_row h) r) (behind_court v) → length r.local_rules ≡ length (local_rule_rows h)
+local_rules_told First s court h shows r none may stand = ap length none.1 ∙ sym (ap length (no_local_rules_made h may))
+local_rules_told Second s court h shows r none may stand =
+    counted table.LocalRules local_rule_cells local_rule_cells (local_rule_rows h) r.local_rules
+    (rows_sorted Second table.LocalRules tt s shows.schema (rows_of_docket Second court h) shows.holds (map local_rule_cells r.local_rules) stand.1.1.1.1.1.1.1.1.1.0.1)
 
 -- the tables behind the court's, up to that of ends
 front : (v : Version) (Is : Table → Type 0) → AllByRecursion Is (behind_court v) → AllByRecursion Is (before table.ShortDays)
@@ -214,9 +247,9 @@ docket_told g v old new court next result clean told h is commands may numbered 
     has t behind = behind
 
     at : (found : Result Holdings AdoptFault) → Told (next_row h) found → IsToldOfDocket court h found
-    at (Ok held) (same, r, fits, stand, says) =
-        says ∙ held_told v s court h is commands shows r (front v _ stand) (short_days_told v s court h shows r fits may stand)
-    at (Err (Damaged t)) (behind, stays, r, stand, unsound) = never v s court h is commands shows r t (has t behind) stand unsound
+    at (Ok held) (same, r, fits, named, stand, says) =
+        says ∙ held_told v s court h is commands shows may r (front v _ stand) (short_days_told v s court h shows r fits may stand) (local_rules_told v s court h shows r fits may stand)
+    at (Err (Damaged t)) (behind, stays, r, named, stand, unsound) = never v s court h is commands shows may r t (has t behind) named stand unsound
     at (Err NoMemory) fails = tt
     at (Err StoreFailed) fails = tt
     at (Err _) fails = absurd fails

@@ -12,8 +12,8 @@ use Rattle.sqlite_exec.proofs.PartitionLemmas.{IsSorted-from_map}
 use Rattle.sqlite_trees.proofs.ListLemmas.{pull_back}
 use Rattle.sqlite_value.specs.Order.{value_cmp}
 use Rattle.sqlite_value.proofs.OrderLemmas.{value_cmp-Int, value_cmp-Text, then-Equal}
-use Rattle.docket_columns.specs.Cells.{calendar_cells, short_day_cells, case_cells, party_cells, entry_cells, deadline_cells, act_cells, receipt_cells, end_cells}
-use Rattle.docket_sound.specs.Orders.{AreInOrder, calendar_order, short_day_order, case_order, party_order, entry_order, deadline_order, act_order, receipt_order, end_order}
+use Rattle.docket_columns.specs.Cells.{calendar_cells, short_day_cells, case_cells, party_cells, entry_cells, deadline_cells, act_cells, receipt_cells, end_cells, local_rule_cells}
+use Rattle.docket_sound.specs.Orders.{AreInOrder, calendar_order, short_day_order, case_order, party_order, entry_order, deadline_order, act_order, receipt_order, end_order, local_rule_order}
 use Rattle.docket_tables.specs.declared.table.Table.{Table}
 use Rattle.docket_tables.specs.declared.table.Table.TheVariants as table
 use Rattle.docket_scan.proofs.DocketReads.{AreSorted}
@@ -55,6 +55,9 @@ calendar_by_key a b = last_values a.number b.number
 
 pub short_days_by_key : IsOrderOf table.ShortDays short_day_cells short_day_order
 short_days_by_key a b = last_values a.number b.number
+
+pub local_rules_by_key : IsOrderOf table.LocalRules local_rule_cells local_rule_order
+local_rules_by_key a b = last_values a.number b.number
 
 pub cases_by_key : IsOrderOf table.Cases case_cells case_order
 cases_by_key a b = last_values a.number b.number

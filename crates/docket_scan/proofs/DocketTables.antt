@@ -1,5 +1,5 @@
 -- A docket's own tables are sound, in whatever order of their keys they are read.
-use Rattle.std.proofs.Common.{◌≡◌, ◌∙◌, ℕ, List, map, length, Option, Some, None, sym, ap, ap₂, subst}
+use Rattle.std.proofs.Common.{◌≡◌, ◌∙◌, ℕ, Bool, List, map, length, Option, Some, None, sym, ap, ap₂, subst}
 use Rattle.std.specs.List.{AllByRecursion}
 use Rattle.std.specs.declared.cmp.Ordering.{Ordering}
 use Rattle.sqlite.specs.Order.{Row}
@@ -7,7 +7,7 @@ use Rattle.sqlite_trees.proofs.ListLemmas.{all-permutation, all-map, all-flat_ma
 use Rattle.court_days.specs.Court.{CourtSettings, zone_of}
 use Rattle.docket_core.specs.CalendarItems.{calendar_of}
 use Rattle.docket_core.specs.EndRows.{end_row, end_rows, row_of_deadline, calendar_in}
-use Rattle.docket_core.specs.Histories.{History, items_of, standing_rows, next_row, case_rows, party_rows, parties_of_case, entry_rows, deadline_rows, deadlines_of_case, act_rows}
+use Rattle.docket_core.specs.Histories.{History, items_of, standing_rows, next_row, case_rows, party_rows, parties_of_case, entry_rows, deadline_rows, deadlines_of_case, act_rows, local_rule_rows}
 use Rattle.docket_core.specs.Outcomes.{IsHistory, receipts}
 use Rattle.docket_core.specs.ShortDays.{day_and_span_rows, short_day_rows}
 use Rattle.docket_core.specs.Tables.{rows_of}
@@ -16,31 +16,35 @@ use Rattle.docket_core.specs.declared.end_row.EndTime.{EndTime}
 use Rattle.docket_core.specs.declared.row.ActRow.{ActRow}
 use Rattle.docket_core.specs.declared.row.CalendarRow.{CalendarRow}
 use Rattle.docket_core.specs.declared.row.DeadlineRow.{DeadlineRow}
+use Rattle.docket_core.specs.declared.row.LocalRuleRow.{LocalRuleRow}
 use Rattle.docket_core.specs.declared.row.PartyRow.{PartyRow}
 use Rattle.docket_core.proofs.LimitsKept.{within_limits}
-use Rattle.docket_columns.specs.Cells.{calendar_cells, short_day_cells, case_cells, party_cells, entry_cells, deadline_cells, act_cells, receipt_cells, end_cells}
-use Rattle.docket_columns.specs.Fits.{IsCount, IsCalendarRow, IsShortDayRow, IsCaseRow, IsPartyRow, IsEntryRow, IsDeadlineRow, IsActRow, IsReceipt, IsEndRow}
+use Rattle.docket_columns.specs.Cells.{calendar_cells, short_day_cells, case_cells, party_cells, entry_cells, deadline_cells, act_cells, receipt_cells, end_cells, local_rule_cells}
+use Rattle.docket_columns.specs.Fits.{IsCount, IsCalendarRow, IsShortDayRow, IsCaseRow, IsPartyRow, IsEntryRow, IsDeadlineRow, IsActRow, IsReceipt, IsEndRow, IsLocalRuleRow}
 use Rattle.docket_wire.specs.Valid.{IsCommand}
 use Rattle.docket_sound.specs.Deadlines.{deadline_key}
 use Rattle.docket_sound.specs.Dues.{dues_of}
-use Rattle.docket_sound.specs.Orders.{AreInOrder, calendar_order, short_day_order, case_order, party_order, entry_order, deadline_order, act_order, receipt_order, end_order}
+use Rattle.docket_sound.specs.KnownTexts.{is_one_of}
+use Rattle.docket_sound.specs.LocalRules.{rule_names}
+use Rattle.docket_sound.specs.Orders.{AreInOrder, calendar_order, short_day_order, case_order, party_order, entry_order, deadline_order, act_order, receipt_order, end_order, local_rule_order}
 use Rattle.docket_sound.specs.Parties.{party_key}
-use Rattle.docket_sound.specs.Receipts.{AreSoundReceipts}
+use Rattle.docket_sound.specs.Receipts.{AreOfKnownKinds, AreSoundReceipts}
 use Rattle.docket_sound.specs.ShortDays.{AreSoundShortDays}
 use Rattle.docket_sound.proofs.SortedActs.{sorted_acts}
 use Rattle.docket_sound.proofs.SortedEnds.{ends_stored}
 use Rattle.docket_sound.proofs.SortedReceipts.{sorted_receipts}
-use Rattle.docket_sound.proofs.SortedRows.{sorted_calendar, sorted_short_days, sorted_cases, sorted_parties, party_counts, sorted_entries, sorted_deadlines, deadline_counts}
+use Rattle.docket_sound.proofs.SortedRows.{sorted_calendar, sorted_short_days, sorted_cases, sorted_parties, party_counts, sorted_entries, sorted_deadlines, deadline_counts, sorted_local_rules}
 use Rattle.docket_tables.specs.declared.table.Table.{Table}
 use Rattle.docket_tables.specs.declared.table.Table.TheVariants as table
 use Rattle.docket_orderly.proofs.ActLemmas.{acts_held}
 use Rattle.docket_orderly.proofs.CalendarLemmas.{calendar_held, short_days_held}
+use Rattle.docket_orderly.proofs.LocalRuleLemmas.{local_rules_held}
 use Rattle.docket_orderly.proofs.ReceiptLemmas.{receipts_held}
 use Rattle.docket_orderly.proofs.RowLemmas.{cases_held, parties_held, entries_held, deadlines_held}
-use Rattle.docket_scan.specs.Records.{IsTable, IsStoredReceipt, receipt_cells as stored_receipt_cells, count_in, AreCalendarRows, AreShortDayRows, AreCaseRows, ArePartyRows, AreEntryRows, AreDeadlineRows, AreActRows, AreReceiptRows, AreEndRows}
+use Rattle.docket_scan.specs.Records.{IsTable, IsStoredReceipt, receipt_cells as stored_receipt_cells, count_in, AreCalendarRows, AreShortDayRows, AreCaseRows, ArePartyRows, AreEntryRows, AreDeadlineRows, AreActRows, AreReceiptRows, AreEndRows, AreLocalRuleRows}
 use Rattle.docket_scan.specs.declared.receipt.StoredReceipt.{StoredReceipt}
 use Rattle.docket_scan.proofs.DocketCells.{party_keys, deadline_keys, calendar_items, calendar_numbers, act_rows_alike}
-use Rattle.docket_scan.proofs.DocketOrders.{IsOrderOf, typed, calendar_by_key, short_days_by_key, cases_by_key, parties_by_key, entries_by_key, deadlines_by_key, acts_by_key, receipts_by_key, ends_by_key}
+use Rattle.docket_scan.proofs.DocketOrders.{IsOrderOf, typed, calendar_by_key, short_days_by_key, cases_by_key, parties_by_key, entries_by_key, deadlines_by_key, acts_by_key, receipts_by_key, ends_by_key, local_rules_by_key}
 use Rattle.docket_scan.proofs.DocketReads.{AreSorted}
 use Rattle.docket_scan.proofs.DocketReceipts.{as_stored, stored_fits}
 
@@ -86,8 +90,14 @@ module _ (court : CourtSettings) (h : History) (is : IsHistory court h) (command
       let it = typed table.Parties party_cells party_order parties_by_key (party_rows h) (map party_cells rows) sorted in
       λ i k. (ap (λ keys. count_in keys k) (party_keys rows it.0 it.1) ∙ party_counts court h is it.0 it.2 k) i
 
-  pub deadlines_sound : (found : List Row) → AreSorted table.Deadlines (map deadline_cells (deadline_rows h)) found → AreDeadlineRows (length (case_rows h)) parties_by_case found
-  deadlines_sound = sound_records table.Deadlines IsDeadlineRow deadline_cells deadline_order _ (deadline_rows h) deadlines_by_key (deadlines_held court h is commands) (sorted_deadlines court h is)
+  pub local_rules_sound : (found : List Row) → AreSorted table.LocalRules (map local_rule_cells (local_rule_rows h)) found → AreLocalRuleRows found
+  local_rules_sound = sound_records table.LocalRules IsLocalRuleRow local_rule_cells local_rule_order _ (local_rule_rows h) local_rules_by_key (local_rules_held court h is commands) (sorted_local_rules court h is)
+
+  -- the deadlines, by the names of the local rules as they were read
+  pub deadlines_sound : (rules : List LocalRuleRow) → AreInOrder local_rule_order (local_rule_rows h) rules → (found : List Row) → AreSorted table.Deadlines (map deadline_cells (deadline_rows h)) found
+      → AreDeadlineRows (length (case_rows h)) parties_by_case (is_one_of (rule_names rules)) found
+  deadlines_sound rules of_rules =
+      sound_records table.Deadlines IsDeadlineRow deadline_cells deadline_order _ (deadline_rows h) deadlines_by_key (deadlines_held court h is commands) (λ rows order. sorted_deadlines court h is rules rows of_rules order)
 
   abbrev pub deadlines_by_case : ℕ → ℕ
   deadlines_by_case k = length (deadlines_of_case k (deadline_rows h))
@@ -100,8 +110,8 @@ module _ (court : CourtSettings) (h : History) (is : IsHistory court h) (command
   pub acts_sound : (found : List Row) → AreSorted table.Acts (map act_cells (act_rows h)) found → AreActRows court (length (case_rows h)) deadlines_by_case found
   acts_sound = sound_records table.Acts IsActRow act_cells act_order _ (act_rows h) acts_by_key (acts_held court h is commands) (sorted_acts court h is)
 
-  pub receipts_sound : (found : List Row) → AreSorted table.Receipts (map receipt_cells (receipts court h)) found → AreReceiptRows found
-  receipts_sound found sorted =
+  pub receipts_sound : (later : Bool) → AreOfKnownKinds later h → (found : List Row) → AreSorted table.Receipts (map receipt_cells (receipts court h)) found → AreReceiptRows later found
+  receipts_sound later known found sorted =
       let it = typed table.Receipts receipt_cells receipt_order receipts_by_key (receipts court h) found sorted in
       let fit = all-permutation IsReceipt (receipts court h) it.0 it.2.same (receipts_held court h is commands) in
       record {
@@ -110,7 +120,7 @@ module _ (court : CourtSettings) (h : History) (is : IsHistory court h) (command
           held = all-map IsStoredReceipt as_stored it.0 (all_weaker IsReceipt (λ r. IsStoredReceipt (as_stored r)) stored_fits it.0 fit);
           same = it.1 ∙ sym (map-map stored_receipt_cells as_stored it.0);
         };
-        sound = subst AreSoundReceipts (sym (map-map (λ (r : StoredReceipt). r.receipt) as_stored it.0)) (sorted_receipts court h is commands it.0 it.2);
+        sound = subst (AreSoundReceipts later) (sym (map-map (λ (r : StoredReceipt). r.receipt) as_stored it.0)) (sorted_receipts court later h is commands known it.0 it.2);
       }
 
   ends_fit : AllByRecursion IsEndRow (end_rows court (rows_of court h))

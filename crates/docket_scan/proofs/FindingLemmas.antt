@@ -1,7 +1,6 @@
 -- What the table of the court, and then the others, tell of a database.
 use Rattle.std.proofs.Common.{◌≡◌, ◌∙◌, ◌⊎◌, inl, inr, ℕ, List, Result, Ok, Err, true, IsErrAnd, refl, sym, ap, subst}
 use Rattle.std.specs.List.{AllByRecursion}
-use Rattle.sqlite.specs.Effect.{Database}
 use Rattle.sqlite.specs.Order.{Row}
 use Rattle.sqlite.specs.State.{State, IsUnchanged}
 use Rattle.sqlite.specs.declared.error.Error.{Error}
@@ -18,14 +17,15 @@ use Rattle.docket_tables.specs.declared.table.Table.TheVariants as table
 use Rattle.docket_scan.specs.Courts.{IsCourtsRow, record_of}
 use Rattle.docket_scan.specs.Finding.{AreSound, HasCourt, IsDamaged, IsNotTaken, IsTaken, ReadsCourt, court_fault}
 use Rattle.docket_scan.specs.Holdings.{holdings_of}
-use Rattle.docket_scan.specs.Judging.{AreSoundBy, FailsAt, Holds, IsBehindCourt, IsUnsoundIn, JudgedAll, Rows, StaysOpen, before, behind_court}
+use Rattle.docket_scan.specs.Judging.{AreSoundBy, FailsAt, Holds, IsBehindCourt, IsUnsoundIn, JudgedAll, Rows, before, behind_court}
+use Rattle.docket_scan.specs.Names.{AreNamesFor}
 use Rattle.docket_scan.specs.Scans.{AreRowsOf, FailsToScan}
 use Rattle.docket_scan.specs.Shapes.{has_named, has_table}
 use Rattle.docket_scan.specs.Taken.{Finishes}
 use Rattle.docket_scan.specs.declared.fault.AdoptFault.{AdoptFault}
 use Rattle.docket_scan.specs.declared.fault.AdoptFault.TheVariants.{NotADocket, OtherVersion, Damaged, NoMemory, StoreFailed}
 use Rattle.docket_scan.specs.declared.finding.FoundDocket.{FoundDocket}
-use Rattle.docket_scan.proofs.JudgingLemmas.{unsound_before, with_now}
+use Rattle.docket_scan.proofs.JudgingLemmas.{holds_before, named_before, stays_open, unsound_before}
 use Rattle.docket_scan.proofs.ScanLemmas.{stays_then}
 
 -- an error in the reading of the court's table
@@ -53,33 +53,29 @@ not_taken v old new (Ok x) fault same told = absurd same
 not_taken v old new (Err f) fault same told = subst (IsNotTaken v old new) (sym same) told
 
 module _ (first old : State) (same : IsUnchanged first old) where
-  holds_before : (court : CourtSettings) (next : ℕ) (r : Rows) (ts : List Table) → AllByRecursion (Holds old court next r) ts → AllByRecursion (Holds first court next r) ts
-  holds_before court next r ts all = subst (λ (d : Database). AllByRecursion (Holds (with_now first d) court next r) ts) same.0.now_is all
-
-  stays_open : (new : State) → StaysOpen old new → StaysOpen first new
-  stays_open new stays = λ opened. unchanged_then first old new same (stays same.0.is_open)
-
   -- the tables behind the court's, where that is sound
   module _ (v : Version) (court : CourtSettings) (next : ℕ) (has : HasCourt v first court next) where
-    damaged : (t : Table) → IsBehindCourt v t → (r : Rows) → AllByRecursion (Holds old court next r) (before t) → IsUnsoundIn t old (AreSoundBy t court next r) → IsDamaged v t first
-    damaged table.Court behind r all unsound = absurd behind
-    damaged t behind r all unsound = (behind, (court, next, has, r, holds_before court next r (before t) all, unsound_before first old same t (AreSoundBy t court next r) unsound))
+    damaged : (t : Table) → IsBehindCourt v t → (r : Rows) → AreNamesFor v old r.names → AllByRecursion (Holds v old court next r) (before t) → IsUnsoundIn t old (AreSoundBy v t court next r) → IsDamaged v t first
+    damaged table.Court behind r named all unsound = absurd behind
+    damaged t behind r named all unsound =
+        (behind, (court, next, has, r, named_before first old same v r.names named, holds_before first old same v court next r (before t) all, unsound_before first old same t (AreSoundBy v t court next r) unsound))
 
     pub judged_fault : (new : State) (fault : AdoptFault) → FailsAt v court next old new fault → IsNotTaken v first new fault
-    judged_fault new (Damaged t) (behind, stays, r, all, unsound) = (stays_open new stays, damaged t behind r all unsound)
+    judged_fault new (Damaged t) (behind, stays, r, named, all, unsound) = (stays_open first old same new stays, damaged t behind r named all unsound)
     judged_fault new NoMemory left = (stays_then first old new same left, tt)
     judged_fault new StoreFailed left = (stays_then first old new same left, tt)
     judged_fault new _ never = absurd never
 
     pub judged_sound : (new : State) (found : FoundDocket) → found.court ≡ court → JudgedAll v court next old new (λ r held. held ≡ holdings_of court r) (Ok found.held) → IsTaken v first new (Ok found)
-    judged_sound new found is (still, r, only, all, held) = (
+    judged_sound new found is (still, r, only, named, all, held) = (
       unchanged_then first old new same still,
       r,
       subst (λ k. AreSound v first k r) (sym is) (record {
         next_row = next;
         has_court = has;
         only = only;
-        behind = holds_before court next r (behind_court v) all;
+        named = named_before first old same v r.names named;
+        behind = holds_before first old same v court next r (behind_court v) all;
       }),
       held ∙ ap (λ k. holdings_of k r) (sym is),
     )

@@ -3,8 +3,10 @@ use Rattle.std.proofs.Common.{◌≡◌, ◌∙◌, inl, inr, ℕ, List, [], ◌
 use Rattle.std.proofs.lemmas.List.{length-map}
 use Rattle.std.specs.List.{AllByRecursion}
 use Rattle.sqlite.specs.Effect.{Database}
+use Rattle.sqlite.specs.Held.{Held, state}
 use Rattle.sqlite.specs.Order.{Row}
 use Rattle.sqlite.specs.State.{State, IsUnchanged, Survives}
+use Rattle.sqlite.specs.Store.{Ghosts}
 use Rattle.sqlite.specs.declared.error.Error.{Error}
 use Rattle.sqlite.specs.declared.error.Error.TheVariants.{SqliteFailure, SqlInputError}
 use Rattle.sqlite.specs.declared.error.ErrorCode.TheVariants.{TypeMismatch, IntegerOverflow, OutOfMemory}
@@ -15,13 +17,17 @@ use Rattle.docket_columns.specs.declared.version.Version.TheVariants.{First, Sec
 use Rattle.docket_tables.specs.Tables.{IsTableOf}
 use Rattle.docket_tables.specs.declared.table.Table.{Table}
 use Rattle.docket_tables.specs.declared.table.Table.TheVariants as table
-use Rattle.docket_scan.specs.Judging.{fault_in, IsSoundIn, IsUnsoundIn, IsTold, Judged, JudgedAll, FailsAt, Holds, IsBehindCourt, Rows, AreSoundBy, before}
-use Rattle.docket_scan.specs.Records.{AreNoRows, IsTable}
+use Rattle.docket_scan.specs.Judging.{fault_in, IsSoundIn, IsUnsoundIn, IsTold, Judged, JudgedAll, FailsAt, Holds, IsBehindCourt, Rows, AreSoundBy, StaysOpen, before}
+use Rattle.docket_scan.specs.Holdings.{holdings_of}
+use Rattle.docket_scan.specs.Names.{AreNamesFor, AreNamesIn}
+use Rattle.docket_scan.specs.Reading.{AreRead, IsStill, SaysLast}
+use Rattle.docket_scan.specs.Records.{IsTable}
 use Rattle.docket_scan.specs.Scans.{AreRowsOf, FailsToScan, OfSoMany}
 use Rattle.docket_scan.specs.Shapes.{has_table}
 use Rattle.docket_scan.specs.Taken.{IsRead}
 use Rattle.docket_scan.specs.declared.fault.AdoptFault.{AdoptFault}
 use Rattle.docket_scan.specs.declared.fault.AdoptFault.TheVariants.{Damaged, NoMemory, StoreFailed}
+use Rattle.docket_scan.specs.declared.reading.LastRead.{LastRead}
 use Rattle.docket_scan.proofs.ScanLemmas.{stays_then}
 
 -- a table of the first version is one of each
@@ -42,13 +48,13 @@ module _ (first old : State) (same : IsUnchanged first old) where
 
   -- a table that is told to be unsound, after those before it
   pub failed : (v : Version) (t : Table) → IsBehindCourt v t → (court : CourtSettings) (next : ℕ) (new : State) (r : Rows) (AreSound : List Row → Type 0) (fault : AdoptFault)
-      → AreSound ≡ AreSoundBy t court next r → AllByRecursion (Holds first court next r) (before t) → IsTold t old new AreSound fault → FailsAt v court next first new fault
-  failed v t behind court next new r AreSound (Damaged at) is all told =
+      → AreSound ≡ AreSoundBy v t court next r → AreNamesFor v first r.names → AllByRecursion (Holds v first court next r) (before t) → IsTold t old new AreSound fault → FailsAt v court next first new fault
+  failed v t behind court next new r AreSound (Damaged at) is named all told =
       subst (λ u. FailsAt v court next first new (Damaged u)) (sym told.0)
-      (behind, λ opened. unchanged_then first old new same (told.1 same.0.is_open), r, all, unsound_before t (AreSoundBy t court next r) (subst (IsUnsoundIn t old) is told.2))
-  failed v t behind court next new r AreSound NoMemory is all told = stays_then first old new same told
-  failed v t behind court next new r AreSound StoreFailed is all told = stays_then first old new same told
-  failed v t behind court next new r AreSound _ is all told = absurd told
+      (behind, λ opened. unchanged_then first old new same (told.1 same.0.is_open), r, named, all, unsound_before t (AreSoundBy v t court next r) (subst (IsUnsoundIn t old) is told.2))
+  failed v t behind court next new r AreSound NoMemory is named all told = stays_then first old new same told
+  failed v t behind court next new r AreSound StoreFailed is named all told = stays_then first old new same told
+  failed v t behind court next new r AreSound _ is named all told = absurd told
 
 -- what an error in the reading of a table tells
 pub told_in : (t : Table) (old new : State) (AreSound : List Row → Type 0) (e : Error) → FailsToScan t old new e → IsTold t old new AreSound (fault_in t e)
@@ -60,12 +66,12 @@ told_in t old new AreSound _ h = h.0
 
 -- the same of the first table
 pub failed_first : (v : Version) (court : CourtSettings) (next : ℕ) (old new : State) (r : Rows) (AreSound : List Row → Type 0) (fault : AdoptFault)
-    → AreSound ≡ AreSoundBy table.Calendar court next r → IsTold table.Calendar old new AreSound fault → FailsAt v court next old new fault
-failed_first v court next old new r AreSound (Damaged at) is told =
-    subst (λ u. FailsAt v court next old new (Damaged u)) (sym told.0) (each_has v table.Calendar tt, told.1, r, tt, subst (IsUnsoundIn table.Calendar old) is told.2)
-failed_first v court next old new r AreSound NoMemory is told = told
-failed_first v court next old new r AreSound StoreFailed is told = told
-failed_first v court next old new r AreSound _ is told = absurd told
+    → AreSound ≡ AreSoundBy v table.Calendar court next r → AreNamesFor v old r.names → IsTold table.Calendar old new AreSound fault → FailsAt v court next old new fault
+failed_first v court next old new r AreSound (Damaged at) is named told =
+    subst (λ u. FailsAt v court next old new (Damaged u)) (sym told.0) (each_has v table.Calendar tt, told.1, r, named, tt, subst (IsUnsoundIn table.Calendar old) is told.2)
+failed_first v court next old new r AreSound NoMemory is named told = told
+failed_first v court next old new r AreSound StoreFailed is named told = told
+failed_first v court next old new r AreSound _ is named told = absurd told
 
 -- a fault that is handed on
 pub handed : {X : Type 0} (r : Result X AdoptFault) (fault : AdoptFault) (Fails : AdoptFault → Type 0) → IsErrAnd r (λ f. f ≡ fault) → Fails fault → IfErr r Fails
@@ -97,14 +103,55 @@ module _ {R : Type 0} (t : Table) (s : State) (Is : R → Type 0) (cells : R →
   pub so_many : count ≡ length h.3.1.records
   so_many = h.3.0 ∙ ap length h.3.1.are.same ∙ length-map h.3.1.records cells
 
--- the table was read to its end, and holds no row
-pub none_held : (t : Table) (s : State) → IsSoundIn t s AreNoRows → (has_table s.now.schema t ≡ true) × AreRowsOf t s [] × AreNoRows []
-none_held t s h = (h.0, subst (AreRowsOf t s) h.3 h.2, refl)
-
 -- the tables before one, and it, are those before the next
 pub all_more : (Is : Table → Type 0) (ts : List Table) (t : Table) → AllByRecursion Is ts → Is t → AllByRecursion Is (ts ++ t ∷ [])
 all_more Is [] t all is = (is, tt)
 all_more Is (u ∷ ts) t all is = (all.0, all_more Is ts t all.1 is)
+
+-- what was found since nothing changed was so at the first
+
+module _ (first old : State) (same : IsUnchanged first old) where
+  pub holds_before : (v : Version) (court : CourtSettings) (next : ℕ) (r : Rows) (ts : List Table) → AllByRecursion (Holds v old court next r) ts → AllByRecursion (Holds v first court next r) ts
+  holds_before v court next r ts all = subst (λ (d : Database). AllByRecursion (Holds v (with_now first d) court next r) ts) same.0.now_is all
+
+  pub named_before : (v : Version) (names : List (List ℕ)) → AreNamesFor v old names → AreNamesFor v first names
+  named_before First names named = named
+  named_before Second names named = subst (λ (d : Database). AreNamesIn (with_now first d) names) same.0.now_is named
+
+  pub stays_open : (new : State) → StaysOpen old new → StaysOpen first new
+  stays_open new stays = λ opened. unchanged_then first old new same (stays same.0.is_open)
+
+  failed_before : (v : Version) (court : CourtSettings) (next : ℕ) (new : State) (fault : AdoptFault) → FailsAt v court next old new fault → FailsAt v court next first new fault
+  failed_before v court next new (Damaged t) (behind, stays, r, named, all, unsound) =
+      (behind, stays_open new stays, r, named_before v r.names named, holds_before v court next r (before t) all, unsound_before first old same t (AreSoundBy v t court next r) unsound)
+  failed_before v court next new NoMemory left = stays_then first old new same left
+  failed_before v court next new StoreFailed left = stays_then first old new same left
+  failed_before v court next new _ never = absurd never
+
+  read_before : (v : Version) (t : Table) (court : CourtSettings) (next : ℕ) (new : State) (Said : Rows → Type 0) → AreRead v t old court next new Said → AreRead v t first court next new Said
+  read_before v t court next new Said it = record {
+    same = unchanged_then first old new same it.same;
+    rows = it.rows;
+    named = named_before v it.rows.names it.named;
+    sound = holds_before v court next it.rows (before t) it.sound;
+    said = it.said;
+  }
+
+module _ {S : Type 0} (g : Ghosts S) (first old : Held S) where
+  pub failed_since : IsStill g first old → (v : Version) (court : CourtSettings) (next : ℕ) (new : State) (fault : AdoptFault) → FailsAt v court next (state g old) new fault → FailsAt v court next (state g first) new fault
+  failed_since (inl same) v court next new fault it = subst (λ h. FailsAt v court next (state g h) new fault) same it
+  failed_since (inr same) v court next new fault it = failed_before (state g first) (state g old) same v court next new fault it
+
+  pub read_since : IsStill g first old → (v : Version) (t : Table) (court : CourtSettings) (next : ℕ) (new : State) (Said : Rows → Type 0)
+      → AreRead v t (state g old) court next new Said → AreRead v t (state g first) court next new Said
+  read_since (inl same) v t court next new Said it = subst (λ h. AreRead v t (state g h) court next new Said) same it
+  read_since (inr same) v t court next new Said it = read_before (state g first) (state g old) same v t court next new Said it
+
+-- behind the ends nothing is left in the first version
+pub first_judged : (v : Version) → v ≡ First → (court : CourtSettings) (next : ℕ) (first new : State) (read : LastRead) → AreRead v table.ShortDays first court next new (λ r. SaysLast court next r read)
+    → JudgedAll v court next first new (λ r held. held ≡ holdings_of court r) (Ok read.held)
+first_judged First is court next first new read was = (was.same, was.rows, (was.said.short_days.unread, was.said.unread), was.named, was.sound, was.said.held)
+first_judged Second is court next first new read was = absurd cc
 
 -- two steps, neither of which writes
 pub nothing_then : {a b c : State} → Survives a b (λ _. ⊥) → Survives b c (λ _. ⊥) → Survives a c (λ _. ⊥)

@@ -1,6 +1,7 @@
 mod ActLemmas
 pub mod AnySchema
 mod CountLemmas
+mod DeadlineLemmas
 pub mod DocketCells
 pub mod DocketCounts
 pub mod DocketCourt
@@ -12,6 +13,9 @@ pub mod DocketStatements
 pub mod DocketTables
 mod FindingLemmas
 mod JudgingLemmas
+pub mod KindLemmas
+pub mod LocalRuleLemmas
+mod NameLemmas
 pub mod RecordLemmas
 mod ScanLemmas
 pub mod ShortDayLemmas

@@ -8,6 +8,7 @@ use Rattle.docket_core.specs.declared.row.CalendarRow.{CalendarRow}
 use Rattle.docket_core.specs.declared.row.ShortDayRow.{ShortDayRow}
 use Rattle.docket_columns.specs.Cells.{calendar_cells, short_day_cells}
 use Rattle.docket_columns.specs.Fits.{IsShortDayRow}
+use Rattle.docket_columns.specs.declared.version.Version.TheVariants.{Second}
 use Rattle.docket_sound.specs.ShortDays.{AreSoundShortDays}
 use Rattle.docket_sound.specs.declared.short_day.ShortDayCheck.{ShortDayCheck}
 use Rattle.docket_tables.specs.declared.table.Table.TheVariants as table
@@ -44,7 +45,7 @@ module _ (court : CourtSettings) (next : ℕ) (r : Rows) (unread : r.short_days 
 
 -- a table of short days without a row is sound beside a sound calendar
 pub no_short_days : (s : State) (court : CourtSettings) (next : ℕ) (r : Rows) → r.short_days ≡ [] → AreCalendarRows court next (map calendar_cells r.calendar)
-    → has_table s.now.schema table.ShortDays ≡ true → AreRowsOf table.ShortDays s [] → Holds s court next r table.ShortDays
+    → has_table s.now.schema table.ShortDays ≡ true → AreRowsOf table.ShortDays s [] → Holds Second s court next r table.ShortDays
 no_short_days s court next r none calendar there read =
     let numbers = map (λ (row : CalendarRow). row.number) r.calendar in
     let as_many = sym (length-map r.calendar calendar_cells) ∙ ap length calendar.are.same ∙ length-map calendar.records calendar_cells in

@@ -1,22 +1,22 @@
 -- What is told of a docket of this program.
-use Rattle.std.specs.Prelude.{◌≡◌, List, [], map, length, Result, Ok, Err}
+use Rattle.std.specs.Prelude.{◌≡◌, false, List, map, length, Result, Ok, Err}
 use Rattle.court_days.specs.Court.{CourtSettings, zone_of}
 use Rattle.court_rules.specs.Standings.{standing}
 use Rattle.court_rules.specs.declared.act.Standing.{Standing}
 use Rattle.docket_core.specs.CalendarItems.{calendar_of}
-use Rattle.docket_core.specs.Histories.{History, items_of, standing_rows, case_rows, party_rows, entry_rows, deadline_rows, act_rows, acts_of_deadline}
-use Rattle.docket_core.specs.ShortDays.{short_day_rows}
+use Rattle.docket_core.specs.Histories.{History, items_of, standing_rows, case_rows, party_rows, entry_rows, deadline_rows, act_rows, acts_of_deadline, local_rule_rows}
 use Rattle.docket_columns.specs.declared.version.Version.{Version}
 use Rattle.docket_columns.specs.declared.version.Version.TheVariants.{First, Second}
+use Rattle.docket_sound.specs.Receipts.{AreOfKnownKinds}
 use Rattle.docket_sound.specs.Standings.{counts_of_standings}
 use Rattle.docket_scan.specs.declared.fault.AdoptFault.{AdoptFault}
 use Rattle.docket_scan.specs.declared.fault.AdoptFault.TheVariants.{NoMemory, StoreFailed}
 use Rattle.docket_scan.specs.declared.finding.FoundDocket.{FoundDocket}
 use Rattle.docket_scan.specs.declared.holdings.Holdings.{Holdings}
 
--- the tables of the version can hold what the history has: the first has none for short days
+-- the tables of the version can hold what the history has: the first was written before the last three kinds of commands came
 abbrev pub MayHold : Version → History → Type 0
-MayHold First h = short_day_rows (standing_rows h) ≡ []
+MayHold First h = AreOfKnownKinds false h
 MayHold Second h = Unit {0}
 
 -- where each deadline of a history stands, by the whole calendar
@@ -28,6 +28,7 @@ standings_in court h =
 abbrev pub holdings_in : CourtSettings → History → Holdings
 holdings_in court h = record {
   calendar_rows = length (standing_rows h);
+  local_rules = length (local_rule_rows h);
   cases = length (case_rows h);
   parties = length (party_rows h);
   entries = length (entry_rows h);

@@ -14,6 +14,7 @@ use Rattle.docket_sound.specs.declared.court.CourtRecord.{CourtRecord}
 use Rattle.docket_scan.specs.Courts.{AreMarked, IsCourtsRow, IsRowOf, record_of}
 use Rattle.docket_scan.specs.Holdings.{holdings_of}
 use Rattle.docket_scan.specs.Judging.{AreRowsFor, AreSoundBy, Holds, HasUnsoundRows, IsUnsoundIn, Rows, StaysOpen, before, behind_court}
+use Rattle.docket_scan.specs.Names.{AreNamesFor}
 use Rattle.docket_scan.specs.Scans.{AreRowsOf, IsUnreadable, StaysOrRollsBack}
 use Rattle.docket_scan.specs.Shapes.{has_named, has_table}
 use Rattle.docket_scan.specs.declared.fault.AdoptFault.{AdoptFault}
@@ -54,7 +55,7 @@ HasCourt v s court next = (row : Row) × HasCourtRow s row × IsRowOf v row cour
 abbrev pub IsFirstUnsound : Version → Table → State → Type 0
 IsFirstUnsound v t s =
     (court : CourtSettings) × (next : ℕ) × HasCourt v s court next
-    × (r : Rows) × AllByRecursion (Holds s court next r) (before t) × IsUnsoundIn t s (AreSoundBy t court next r)
+    × (r : Rows) × AreNamesFor v s r.names × AllByRecursion (Holds v s court next r) (before t) × IsUnsoundIn t s (AreSoundBy v t court next r)
 
 -- it holds the row of no court; or this is the first table of the version that is not sound
 abbrev pub IsDamaged : Version → Table → State → Type 0
@@ -66,7 +67,8 @@ pub record AreSound (v : Version) (s : State) (court : CourtSettings) (r : Rows)
   pub next_row : ℕ
   pub has_court : HasCourt v s court next_row
   pub only : AreRowsFor v r
-  pub behind : AllByRecursion (Holds s court next_row r) (behind_court v)
+  pub named : AreNamesFor v s r.names
+  pub behind : AllByRecursion (Holds v s court next_row r) (behind_court v)
 
 -- why it is not taken for a docket: the first cause, in the order of the faults
 abbrev pub HasCause : Version → State → AdoptFault → Type 0

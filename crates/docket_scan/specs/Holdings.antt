@@ -12,6 +12,7 @@ use Rattle.docket_scan.specs.declared.holdings.Holdings.{Holdings}
 abbrev pub holdings_of : CourtSettings → Rows → Holdings
 holdings_of court r = record {
   calendar_rows = length r.calendar + length r.short_days;
+  local_rules = length r.local_rules;
   cases = length r.cases;
   parties = length r.parties;
   entries = length r.entries;

@@ -1,5 +1,5 @@
 -- What is told of the tables of any database, in their order.
-use Rattle.std.specs.Prelude.{◌≡◌, ◌⊎◌, ℕ, false, true, IsTrue, List, [], ◌++◌, length, map, take, drop, Result, Ok, Err}
+use Rattle.std.specs.Prelude.{◌≡◌, ◌⊎◌, ℕ, Bool, false, true, IsTrue, List, [], ◌++◌, length, map, take, drop, Result, Ok, Err}
 use Rattle.std.specs.List.{AllByRecursion}
 use Rattle.sqlite.specs.Order.{Row}
 use Rattle.sqlite.specs.State.{State, IsUnchanged}
@@ -15,15 +15,18 @@ use Rattle.docket_core.specs.declared.row.CalendarRow.{CalendarRow}
 use Rattle.docket_core.specs.declared.row.CaseRow.{CaseRow}
 use Rattle.docket_core.specs.declared.row.DeadlineRow.{DeadlineRow}
 use Rattle.docket_core.specs.declared.row.EntryRow.{EntryRow}
+use Rattle.docket_core.specs.declared.row.LocalRuleRow.{LocalRuleRow}
 use Rattle.docket_core.specs.declared.row.PartyRow.{PartyRow}
 use Rattle.docket_core.specs.declared.row.ShortDayRow.{ShortDayRow}
-use Rattle.docket_columns.specs.Cells.{calendar_cells, short_day_cells, case_cells, party_cells, entry_cells, deadline_cells, act_cells, end_cells}
+use Rattle.docket_columns.specs.Cells.{calendar_cells, short_day_cells, case_cells, party_cells, entry_cells, deadline_cells, act_cells, end_cells, local_rule_cells}
 use Rattle.docket_columns.specs.declared.version.Version.{Version}
 use Rattle.docket_columns.specs.declared.version.Version.TheVariants.{First, Second}
 use Rattle.docket_sound.specs.Deadlines.{deadline_key}
 use Rattle.docket_sound.specs.Dues.{dues_of}
+use Rattle.docket_sound.specs.KnownTexts.{is_one_of}
 use Rattle.docket_sound.specs.Parties.{party_key}
-use Rattle.docket_scan.specs.Records.{count_in, receipt_cells, AreCalendarRows, AreShortDayRows, AreCaseRows, ArePartyRows, AreEntryRows, AreDeadlineRows, AreActRows, AreReceiptRows, AreEndRows, AreNoRows}
+use Rattle.docket_scan.specs.Names.{AreNamesFor}
+use Rattle.docket_scan.specs.Records.{count_in, receipt_cells, AreCalendarRows, AreShortDayRows, AreCaseRows, ArePartyRows, AreEntryRows, AreDeadlineRows, AreActRows, AreReceiptRows, AreEndRows, AreLocalRuleRows}
 use Rattle.docket_scan.specs.Scans.{IsUnreadable, AreRowsOf, AreFirstRowsOf, StaysOrRollsBack}
 use Rattle.docket_scan.specs.Shapes.{has_table}
 use Rattle.docket_scan.specs.declared.fault.AdoptFault.{AdoptFault}
@@ -74,7 +77,7 @@ Judged t old new found AreSound (Err fault) = IsTold t old new AreSound fault
 
 -- all tables
 
--- what stands in the tables, but for the court
+-- what stands in the tables, but for the court; and the local names in the table of local rules, be it sound or not
 pub record Rows : Type 0 where
   pub calendar : List CalendarRow
   pub cases : List CaseRow
@@ -85,10 +88,24 @@ pub record Rows : Type 0 where
   pub receipts : List StoredReceipt
   pub ends : List EndRow
   pub short_days : List ShortDayRow
+  pub local_rules : List LocalRuleRow
+  pub names : List (List ℕ)
 
 -- nothing stands in them
 abbrev pub no_rows : Rows
-no_rows = record { calendar = []; cases = []; parties = []; entries = []; deadlines = []; acts = []; receipts = []; ends = []; short_days = [] }
+no_rows = record {
+  calendar = [];
+  cases = [];
+  parties = [];
+  entries = [];
+  deadlines = [];
+  acts = [];
+  receipts = [];
+  ends = [];
+  short_days = [];
+  local_rules = [];
+  names = [];
+}
 
 abbrev pub cells_in : Table → Rows → List Row
 cells_in Court r = []
@@ -101,27 +118,32 @@ cells_in Acts r = map act_cells r.acts
 cells_in Receipts r = map receipt_cells r.receipts
 cells_in Ends r = map end_cells r.ends
 cells_in ShortDays r = map short_day_cells r.short_days
-cells_in LocalRules r = []
+cells_in LocalRules r = map local_rule_cells r.local_rules
 
--- rows of SQL are those of a sound table, by what stands in the tables before it; the ends are those of the running deadlines by the
--- table of the calendar alone, since short days move none; there are no local rules yet
-abbrev pub AreSoundBy : Table → CourtSettings → ℕ → Rows → List Row → Type 0
-AreSoundBy Court court next r = λ rows. Unit {0}
-AreSoundBy Calendar court next r = AreCalendarRows court next
-AreSoundBy Cases court next r = AreCaseRows
-AreSoundBy Parties court next r = ArePartyRows (length r.cases)
-AreSoundBy Entries court next r = AreEntryRows (length r.cases)
-AreSoundBy Deadlines court next r = AreDeadlineRows (length r.cases) (count_in (map party_key r.parties))
-AreSoundBy Acts court next r = AreActRows court (length r.cases) (count_in (map deadline_key r.deadlines))
-AreSoundBy Receipts court next r = AreReceiptRows
-AreSoundBy Ends court next r = AreEndRows (dues_of (zone_of court) (calendar_of (items_of r.calendar)) r.acts)
-AreSoundBy ShortDays court next r = AreShortDayRows court next (map (λ row. row.number) r.calendar)
-AreSoundBy LocalRules court next r = AreNoRows
+-- the first version was written before the last three kinds of commands came
+abbrev pub knows_later_kinds : Version → Bool
+knows_later_kinds First = false
+knows_later_kinds Second = true
+
+-- rows of SQL are those of a sound table of the version, by what stands in the tables before it; the local rule of a deadline is one
+-- of the names; the ends are those of the running deadlines by the table of the calendar alone, since short days move none
+abbrev pub AreSoundBy : Version → Table → CourtSettings → ℕ → Rows → List Row → Type 0
+AreSoundBy v Court court next r = λ rows. Unit {0}
+AreSoundBy v Calendar court next r = AreCalendarRows court next
+AreSoundBy v Cases court next r = AreCaseRows
+AreSoundBy v Parties court next r = ArePartyRows (length r.cases)
+AreSoundBy v Entries court next r = AreEntryRows (length r.cases)
+AreSoundBy v Deadlines court next r = AreDeadlineRows (length r.cases) (count_in (map party_key r.parties)) (is_one_of r.names)
+AreSoundBy v Acts court next r = AreActRows court (length r.cases) (count_in (map deadline_key r.deadlines))
+AreSoundBy v Receipts court next r = AreReceiptRows (knows_later_kinds v)
+AreSoundBy v Ends court next r = AreEndRows (dues_of (zone_of court) (calendar_of (items_of r.calendar)) r.acts)
+AreSoundBy v ShortDays court next r = AreShortDayRows court next (map (λ row. row.number) r.calendar)
+AreSoundBy v LocalRules court next r = AreLocalRuleRows
 
 -- the table is there and holds these rows, which are sound
-abbrev pub Holds : State → CourtSettings → ℕ → Rows → Table → Type 0
-Holds s court next r t =
-    (has_table s.now.schema t ≡ true) × AreRowsOf t s (cells_in t r) × AreSoundBy t court next r (cells_in t r)
+abbrev pub Holds : Version → State → CourtSettings → ℕ → Rows → Table → Type 0
+Holds v s court next r t =
+    (has_table s.now.schema t ≡ true) × AreRowsOf t s (cells_in t r) × AreSoundBy v t court next r (cells_in t r)
 
 -- the tables before one, in their order; that of the court is read before them all
 abbrev pub before : Table → List Table
@@ -135,7 +157,8 @@ IsBehindCourt v t = IsTableOf v t
 -- the first table of the version that is unsound is told, where those before it hold these rows
 abbrev pub FailsAt : Version → CourtSettings → ℕ → State → State → AdoptFault → Type 0
 FailsAt v court next old new (Damaged t) =
-    IsBehindCourt v t × StaysOpen old new × (r : Rows) × AllByRecursion (Holds old court next r) (before t) × IsUnsoundIn t old (AreSoundBy t court next r)
+    IsBehindCourt v t × StaysOpen old new × (r : Rows) × AreNamesFor v old r.names × AllByRecursion (Holds v old court next r) (before t)
+    × IsUnsoundIn t old (AreSoundBy v t court next r)
 FailsAt v court next old new NoMemory = StaysOrRollsBack old new
 FailsAt v court next old new StoreFailed = StaysOrRollsBack old new
 FailsAt v court next old new _ = ⊥
@@ -144,13 +167,13 @@ FailsAt v court next old new _ = ⊥
 abbrev pub behind_court : Version → List Table
 behind_court v = drop 1 (tables_of v)
 
--- rows that the tables of the version can hold: the first has none for short days
+-- rows that the tables of the version can hold: the first has none for short days, nor for local rules
 abbrev pub AreRowsFor : Version → Rows → Type 0
-AreRowsFor First r = r.short_days ≡ []
+AreRowsFor First r = (r.short_days ≡ []) × (r.local_rules ≡ [])
 AreRowsFor Second r = Unit {0}
 
 -- all of them are sound and hold these rows, or the first that is unsound is told
 abbrev pub JudgedAll : {X : Type 0} → Version → CourtSettings → ℕ → State → State → (Rows → X → Type 0) → Result X AdoptFault → Type 0
 JudgedAll v court next old new says (Ok x) =
-    IsUnchanged old new × (r : Rows) × AreRowsFor v r × AllByRecursion (Holds old court next r) (behind_court v) × says r x
+    IsUnchanged old new × (r : Rows) × AreRowsFor v r × AreNamesFor v old r.names × AllByRecursion (Holds v old court next r) (behind_court v) × says r x
 JudgedAll v court next old new says (Err fault) = FailsAt v court next old new fault

@@ -3,6 +3,7 @@ pub mod Dockets
 pub mod Finding
 pub mod Holdings
 pub mod Judging
+pub mod Names
 pub mod Reading
 pub mod Records
 pub mod Scans

@@ -1,17 +1,18 @@
 -- The rows of each table as typed records, and when they are sound by the tables before theirs.
-use Rattle.std.specs.Prelude.{◌≡◌, ℕ, List, [], length, map}
+use Rattle.std.specs.Prelude.{◌≡◌, ℕ, Bool, List, length, map}
 use Rattle.std.specs.List.{AllByRecursion}
 use Rattle.std.specs.Str.{IsUtf8}
 use Rattle.sqlite.specs.Order.{Row}
 use Rattle.court_days.specs.Court.{CourtSettings}
 use Rattle.docket_core.specs.declared.end_row.EndRow.{EndRow}
-use Rattle.docket_columns.specs.Cells.{calendar_cells, short_day_cells, case_cells, party_cells, entry_cells, deadline_cells, act_cells, end_cells, stored_cells}
-use Rattle.docket_columns.specs.Fits.{IsCount, IsCalendarRow, IsShortDayRow, IsCaseRow, IsPartyRow, IsEntryRow, IsDeadlineRow, IsActRow, IsEndRow}
+use Rattle.docket_columns.specs.Cells.{calendar_cells, short_day_cells, case_cells, party_cells, entry_cells, deadline_cells, act_cells, end_cells, local_rule_cells, stored_cells}
+use Rattle.docket_columns.specs.Fits.{IsCount, IsCalendarRow, IsShortDayRow, IsCaseRow, IsPartyRow, IsEntryRow, IsDeadlineRow, IsActRow, IsEndRow, IsLocalRuleRow}
 use Rattle.docket_sound.specs.Acts.{AreSoundActs}
 use Rattle.docket_sound.specs.Calendars.{AreSoundCalendarRows}
 use Rattle.docket_sound.specs.Cases.{AreSoundCases}
 use Rattle.docket_sound.specs.Deadlines.{AreSoundDeadlines}
 use Rattle.docket_sound.specs.Entries.{AreSoundEntries}
+use Rattle.docket_sound.specs.LocalRules.{AreSoundLocalRules}
 use Rattle.docket_sound.specs.Numbers.{numbers_in}
 use Rattle.docket_sound.specs.Parties.{AreSoundParties}
 use Rattle.docket_sound.specs.Receipts.{AreSoundReceipts}
@@ -52,22 +53,18 @@ ArePartyRows cases = IsTable IsPartyRow party_cells (AreSoundParties cases)
 abbrev pub AreEntryRows : ℕ → List Row → Type 0
 AreEntryRows cases = IsTable IsEntryRow entry_cells (AreSoundEntries cases)
 
-abbrev pub AreDeadlineRows : ℕ → (ℕ → ℕ) → List Row → Type 0
-AreDeadlineRows cases parties = IsTable IsDeadlineRow deadline_cells (AreSoundDeadlines cases parties)
+abbrev pub AreDeadlineRows : ℕ → (ℕ → ℕ) → (List ℕ → Bool) → List Row → Type 0
+AreDeadlineRows cases parties stands = IsTable IsDeadlineRow deadline_cells (AreSoundDeadlines cases parties stands)
 
 abbrev pub AreActRows : CourtSettings → ℕ → (ℕ → ℕ) → List Row → Type 0
 AreActRows court cases deadlines = IsTable IsActRow act_cells (AreSoundActs court cases deadlines)
 
--- the replies are not looked at
-abbrev pub AreSoundStored : List StoredReceipt → Type 0
-AreSoundStored records = AreSoundReceipts (map (λ (r : StoredReceipt). r.receipt) records)
+-- by whether the later kinds of commands are known; the replies are not looked at
+abbrev pub AreSoundStored : Bool → List StoredReceipt → Type 0
+AreSoundStored later records = AreSoundReceipts later (map (λ (r : StoredReceipt). r.receipt) records)
 
-abbrev pub AreReceiptRows : List Row → Type 0
-AreReceiptRows = IsTable IsStoredReceipt receipt_cells AreSoundStored
-
--- the table holds no row
-abbrev pub AreNoRows : List Row → Type 0
-AreNoRows rows = rows ≡ []
+abbrev pub AreReceiptRows : Bool → List Row → Type 0
+AreReceiptRows later = IsTable IsStoredReceipt receipt_cells (AreSoundStored later)
 
 -- the numbers are those of the rows in the table of the calendar
 abbrev pub AreShortDayRows : CourtSettings → ℕ → List ℕ → List Row → Type 0
@@ -77,3 +74,6 @@ AreShortDayRows court next_row calendar =
 -- the ends are these, in this order
 abbrev pub AreEndRows : List EndRow → List Row → Type 0
 AreEndRows expected = IsTable IsEndRow end_cells (λ records. records ≡ expected)
+
+abbrev pub AreLocalRuleRows : List Row → Type 0
+AreLocalRuleRows = IsTable IsLocalRuleRow local_rule_cells AreSoundLocalRules

@@ -1,5 +1,5 @@
 -- What the checks of tables have taken, as rows of SQL, and what they refer to.
-use Rattle.std.specs.Prelude.{◌≡◌, ◌↔◌, ℕ, IsTrue, List, [], ◌∷◌, map, Option, Some, None, Result, Ok, Err}
+use Rattle.std.specs.Prelude.{◌≡◌, ◌↔◌, ℕ, Bool, IsTrue, List, [], ◌∷◌, map, Option, Some, None, Result, Ok, Err}
 use Rattle.sqlite.specs.Order.{Row}
 use Rattle.court_days.specs.Calendar.{Entered}
 use Rattle.court_days.specs.Court.{CourtSettings}
@@ -8,7 +8,7 @@ use Rattle.docket_columns.specs.Cells.{HasWord, IsOfVersion, court_cells_of}
 use Rattle.docket_columns.specs.Fits.{IsCourtRow}
 use Rattle.docket_columns.specs.declared.version.Version.{Version}
 use Rattle.docket_sound.specs.Counted.{cases_of, counts_of}
-use Rattle.docket_sound.specs.Deadlines.{deadlines_checked, parties_of}
+use Rattle.docket_sound.specs.Deadlines.{deadlines_checked, parties_of, rules_standing}
 use Rattle.docket_sound.specs.Receipts.{HasTakenReceipts}
 use Rattle.docket_sound.specs.declared.act.ActCheck.{ActCheck}
 use Rattle.docket_sound.specs.declared.calendar.CalendarCheck.{CalendarCheck}
@@ -40,12 +40,12 @@ CalendarContext = CourtSettings × ℕ
 abbrev pub calendar_context : CalendarCheck → CalendarContext
 calendar_context check = (check.court, check.next_row)
 
--- how many cases there are, and how many parties each has
+-- how many cases there are, how many parties each has, and which local rules stand
 abbrev pub DeadlineContext : Type 0
-DeadlineContext = ℕ × (ℕ → ℕ)
+DeadlineContext = ℕ × (ℕ → ℕ) × (List ℕ → Bool)
 
 abbrev pub deadline_context : DeadlineCheck → DeadlineContext
-deadline_context check = (deadlines_checked check, parties_of check.parties)
+deadline_context check = (deadlines_checked check, parties_of check.parties, rules_standing check)
 
 -- the court, how many cases there are, how many deadlines each has, and the calendar
 abbrev pub ActContext : Type 0

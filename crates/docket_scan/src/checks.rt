@@ -3,11 +3,12 @@
 use crate::check::RecordCheck;
 use crate::receipt::StoredReceipt;
 use docket_core::{
-    ActRow, CalendarRow, CaseRow, DeadlineRow, EndRow, EntryRow, PartyRow, ShortDayRow,
+    ActRow, CalendarRow, CaseRow, DeadlineRow, EndRow, EntryRow, LocalRuleRow, PartyRow,
+    ShortDayRow,
 };
 use docket_sound::{
-    ActCheck, CalendarCheck, CaseCheck, DeadlineCheck, DueCheck, EntryCheck, PartyCheck,
-    ReceiptCheck, ShortDayCheck,
+    ActCheck, CalendarCheck, CaseCheck, DeadlineCheck, DueCheck, EntryCheck, LocalRuleCheck,
+    PartyCheck, ReceiptCheck, ShortDayCheck,
 };
 use std::alloc::{AllocError, Global};
 
@@ -118,7 +119,7 @@ impl RecordCheck for DeadlineCheck {
 
     ghost context = { deadline_context };
 
-    ghost AreSound = { λ c. AreSoundDeadlines c.0 c.1 };
+    ghost AreSound = { λ c. AreSoundDeadlines c.0 c.1 c.2 };
 
     fn take(&mut self, _alloc: Global, record: &DeadlineRow) -> Result<bool, AllocError> {
         Ok(self.take(record))
@@ -145,7 +146,7 @@ impl RecordCheck for ActCheck {
 }
 
 impl RecordCheck for ReceiptCheck {
-    ghost use Rattle.std.specs.Prelude.{⊤};
+    ghost use Rattle.std.specs.Prelude.{Bool};
     ghost use Rattle.docket_scan.specs.Records.{AreSoundStored};
     ghost use Rattle.docket_scan.specs.Taken.{HasTakenStored};
 
@@ -153,11 +154,11 @@ impl RecordCheck for ReceiptCheck {
 
     ghost HasTaken = { HasTakenStored };
 
-    ghost Context = { ⊤ };
+    ghost Context = { Bool };
 
-    ghost context = { λ _. tt };
+    ghost context = { λ check. check.later };
 
-    ghost AreSound = { λ _. AreSoundStored };
+    ghost AreSound = { AreSoundStored };
 
     fn take(&mut self, alloc: Global, record: &StoredReceipt) -> Result<bool, AllocError> {
         self.take(alloc, &record.receipt)
@@ -182,5 +183,24 @@ impl RecordCheck for DueCheck {
 
     fn take(&mut self, _alloc: Global, record: &EndRow) -> Result<bool, AllocError> {
         Ok(self.take(*record))
+    }
+}
+
+impl RecordCheck for LocalRuleCheck {
+    ghost use Rattle.docket_sound.specs.LocalRules.{AreSoundLocalRules, HasTakenLocalRules};
+    ghost use Rattle.std.specs.Prelude.{⊤};
+
+    type Record = LocalRuleRow;
+
+    ghost HasTaken = { HasTakenLocalRules };
+
+    ghost Context = { ⊤ };
+
+    ghost context = { λ _. tt };
+
+    ghost AreSound = { λ _. AreSoundLocalRules };
+
+    fn take(&mut self, alloc: Global, record: &LocalRuleRow) -> Result<bool, AllocError> {
+        self.take(alloc, record)
     }
 }

@@ -95,8 +95,8 @@ fn court_in(alloc: Global, row: &CourtRecord) -> Result<Court, AdoptFault>
 /// court is judged first, and then the others of that version in their order; an error tells the first
 /// cause for which the database is not taken for a docket's: `OtherVersion`, where its court is marked with
 /// another. Want of memory and a failure of the database may come at any point. The docket of a history in
-/// that version, which in the first has no short days, is found as it is, and no other error comes. Nothing is written. `watch` is told of each
-/// row that is read.
+/// that version is found as it is, and no other error comes; the first version holds no command of the last
+/// three kinds. Nothing is written. `watch` is told of each row that is read.
 pub fn find_docket<S: Alter, W: Watch>(
     conn: &mut Connection<S>,
     alloc: Global,

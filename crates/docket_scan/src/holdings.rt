@@ -10,6 +10,7 @@ use docket_sound::Standings;
 #[derive(Clone, Copy, Debug, PartialEq, Eq)]
 pub struct Holdings {
     pub calendar_rows: u64,
+    pub local_rules: u64,
     pub cases: u64,
     pub parties: u64,
     pub entries: u64,
@@ -24,6 +25,7 @@ impl Holdings {
     {
         Holdings {
             calendar_rows: 0,
+            local_rules: 0,
             cases: 0,
             parties: 0,
             entries: 0,

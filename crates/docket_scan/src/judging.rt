@@ -11,9 +11,9 @@ ghost use Rattle.docket_sound.specs.Counted.{cases_of, counts_of};
 ghost use Rattle.docket_sound.specs.Dues.{dues_of};
 ghost use Rattle.docket_sound.specs.Standings.{counts_of_standings, standings_of};
 ghost use Rattle.docket_scan.specs.Holdings.{holdings_of};
-ghost use Rattle.docket_scan.specs.Judging.{IsSoundIn, Judged, JudgedAll};
-ghost use Rattle.docket_scan.specs.Reading.{EndsBefore, FailsOver, HeldBefore, LastBefore, ReadBefore};
-ghost use Rattle.docket_scan.specs.Records.{AreNoRows, IsTable};
+ghost use Rattle.docket_scan.specs.Judging.{IsSoundIn, Judged, JudgedAll, knows_later_kinds};
+ghost use Rattle.docket_scan.specs.Reading.{ActsBefore, EndsBefore, FailsOver, HeldBefore, LastBefore, NamesBefore, ReadBefore};
+ghost use Rattle.docket_scan.specs.Records.{IsTable};
 ghost use Rattle.docket_scan.specs.Scans.{OfSoMany};
 ghost use Rattle.docket_scan.specs.Taken.{IsRead};
 ghost use Rattle.docket_tables.specs.declared.table.Table.TheVariants as table;
@@ -21,17 +21,18 @@ ghost use Rattle.docket_tables.specs.declared.table.Table.TheVariants as table;
 use crate::check::RecordCheck;
 use crate::fault::{AdoptFault, fault_in};
 use crate::holdings::Holdings;
-use crate::reading::{EndsRead, LastRead, TablesRead};
+use crate::names::read_names;
+use crate::reading::{ActsRead, EndsRead, LastRead, TablesRead};
 use crate::scan::scan;
 use crate::shape::has_table;
-use crate::taker::{NoRows, Records, Taker};
+use crate::taker::{Records, Taker};
 use crate::watch::Watch;
 use court_days::Court;
 use docket_columns::Version;
 use docket_core::EndRow;
 use docket_sound::{
-    ActCheck, CalendarCheck, CaseCheck, DeadlineCheck, DueCheck, EntryCheck, PartyCheck,
-    ReceiptCheck, Standings,
+    ActCheck, CalendarCheck, CaseCheck, DeadlineCheck, DueCheck, EntryCheck, KnownTexts,
+    LocalRuleCheck, PartyCheck, ReceiptCheck, Standings,
 };
 use docket_tables::Table;
 use sqlite::{Alter, Connection};
@@ -87,40 +88,36 @@ fn judge<S: Alter, C: RecordCheck, W: Watch>(
     Ok((taker.check, count))
 }
 
-/// Judges a table that is to hold no row.
-fn judge_empty<S: Alter, W: Watch>(
-    conn: &mut Connection<S>,
-    alloc: Global,
-    table: Table,
-    watch: &mut W,
-) -> Result<(), AdoptFault>
-    ensures writes_nothing { Survives (state S.Store conn.old) (state S.Store conn.new) (λ _. ⊥) }
-    ensures mode { conn.old.in_transaction ≡ false → conn.new.in_transaction ≡ false }
-    ensures told { HasCleanDisk (state S.Store conn.new)
-        → Judged table (state S.Store conn.old) (state S.Store conn.new) (λ _. IsSoundIn table (state S.Store conn.old) AreNoRows) AreNoRows result }
+/// Whether the tables of the version may tell of the last kinds of commands, which came after the first.
+fn knows_later_kinds(version: Version) -> bool
+    ensures { result ≡ knows_later_kinds version }
 {
-    let mut taker = NoRows;
-    judge_rows(conn, alloc, table, &mut taker, watch)?;
-    Ok(())
+    match version {
+        Version::First => false,
+        Version::Second => true,
+    }
 }
 
-/// Judges the table of the calendar, the first.
+/// Judges the table of the calendar, the first. The local names were read before it.
 fn judge_calendar<S: Alter, W: Watch>(
     conn: &mut Connection<S>,
     alloc: Global,
     court: Court,
     next_row: u64,
+    names: KnownTexts,
     watch: &mut W,
 ) -> Result<TablesRead, AdoptFault>
     ensures writes_nothing { Survives (state S.Store conn.old) (state S.Store conn.new) (λ _. ⊥) }
     ensures mode { conn.old.in_transaction ≡ false → conn.new.in_transaction ≡ false }
-    ensures ok { IfOk result (ReadBefore table.Cases (state S.Store conn.old) court next_row (state S.Store conn.new)) }
-    ensures err { (version : Version) → IfErr result (FailsOver version (state S.Store conn.old) court next_row (state S.Store conn.new)) }
+    ensures ok { (version : Version) (first : Held S) → NamesBefore S.Store version first conn.old names
+        → IfOk result (ReadBefore version table.Cases (state S.Store first) court next_row (state S.Store conn.new)) }
+    ensures err { (version : Version) (first : Held S) → NamesBefore S.Store version first conn.old names
+        → IfErr result (FailsOver version (state S.Store first) court next_row (state S.Store conn.new)) }
 {
     let check = CalendarCheck::new(alloc, court, next_row);
     let (check, count) = judge(conn, alloc, Table::Calendar, check, watch)?;
     let (court, calendar, short_days) = check.finish(alloc);
-    let read = TablesRead::begin(alloc, court, calendar, short_days, count)?;
+    let read = TablesRead::begin(alloc, court, calendar, short_days, names, count)?;
     Ok(read)
 }
 
@@ -133,9 +130,9 @@ fn judge_cases<S: Alter, W: Watch>(
 ) -> Result<TablesRead, AdoptFault>
     ensures writes_nothing { Survives (state S.Store conn.old) (state S.Store conn.new) (λ _. ⊥) }
     ensures mode { conn.old.in_transaction ≡ false → conn.new.in_transaction ≡ false }
-    ensures ok { (first : Held S) (court : CourtSettings) (next : ℕ) → ReadBefore table.Cases (state S.Store first) court next (state S.Store conn.old) read
-        → IfOk result (λ now. ReadBefore table.Parties (state S.Store first) court next (state S.Store conn.new) now) }
-    ensures err { (version : Version) (first : Held S) (court : CourtSettings) (next : ℕ) → ReadBefore table.Cases (state S.Store first) court next (state S.Store conn.old) read
+    ensures ok { (version : Version) (first : Held S) (court : CourtSettings) (next : ℕ) → ReadBefore version table.Cases (state S.Store first) court next (state S.Store conn.old) read
+        → IfOk result (λ now. ReadBefore version table.Parties (state S.Store first) court next (state S.Store conn.new) now) }
+    ensures err { (version : Version) (first : Held S) (court : CourtSettings) (next : ℕ) → ReadBefore version table.Cases (state S.Store first) court next (state S.Store conn.old) read
         → IfErr result (FailsOver version (state S.Store first) court next (state S.Store conn.new)) }
 {
     let check = CaseCheck::new(alloc);
@@ -160,9 +157,9 @@ fn judge_parties<S: Alter, W: Watch>(
 ) -> Result<TablesRead, AdoptFault>
     ensures writes_nothing { Survives (state S.Store conn.old) (state S.Store conn.new) (λ _. ⊥) }
     ensures mode { conn.old.in_transaction ≡ false → conn.new.in_transaction ≡ false }
-    ensures ok { (first : Held S) (court : CourtSettings) (next : ℕ) → ReadBefore table.Parties (state S.Store first) court next (state S.Store conn.old) read
-        → IfOk result (λ now. ReadBefore table.Entries (state S.Store first) court next (state S.Store conn.new) now) }
-    ensures err { (version : Version) (first : Held S) (court : CourtSettings) (next : ℕ) → ReadBefore table.Parties (state S.Store first) court next (state S.Store conn.old) read
+    ensures ok { (version : Version) (first : Held S) (court : CourtSettings) (next : ℕ) → ReadBefore version table.Parties (state S.Store first) court next (state S.Store conn.old) read
+        → IfOk result (λ now. ReadBefore version table.Entries (state S.Store first) court next (state S.Store conn.new) now) }
+    ensures err { (version : Version) (first : Held S) (court : CourtSettings) (next : ℕ) → ReadBefore version table.Parties (state S.Store first) court next (state S.Store conn.old) read
         → IfErr result (FailsOver version (state S.Store first) court next (state S.Store conn.new)) }
 {
     let check = PartyCheck::new(alloc, read.cases)?;
@@ -187,9 +184,9 @@ fn judge_entries<S: Alter, W: Watch>(
 ) -> Result<TablesRead, AdoptFault>
     ensures writes_nothing { Survives (state S.Store conn.old) (state S.Store conn.new) (λ _. ⊥) }
     ensures mode { conn.old.in_transaction ≡ false → conn.new.in_transaction ≡ false }
-    ensures ok { (first : Held S) (court : CourtSettings) (next : ℕ) → ReadBefore table.Entries (state S.Store first) court next (state S.Store conn.old) read
-        → IfOk result (λ now. ReadBefore table.Deadlines (state S.Store first) court next (state S.Store conn.new) now) }
-    ensures err { (version : Version) (first : Held S) (court : CourtSettings) (next : ℕ) → ReadBefore table.Entries (state S.Store first) court next (state S.Store conn.old) read
+    ensures ok { (version : Version) (first : Held S) (court : CourtSettings) (next : ℕ) → ReadBefore version table.Entries (state S.Store first) court next (state S.Store conn.old) read
+        → IfOk result (λ now. ReadBefore version table.Deadlines (state S.Store first) court next (state S.Store conn.new) now) }
+    ensures err { (version : Version) (first : Held S) (court : CourtSettings) (next : ℕ) → ReadBefore version table.Entries (state S.Store first) court next (state S.Store conn.old) read
         → IfErr result (FailsOver version (state S.Store first) court next (state S.Store conn.new)) }
 {
     let check = EntryCheck::new(alloc, read.cases)?;
@@ -207,26 +204,35 @@ fn judge_deadlines<S: Alter, W: Watch>(
     alloc: Global,
     read: TablesRead,
     watch: &mut W,
-) -> Result<TablesRead, AdoptFault>
+) -> Result<ActsRead, AdoptFault>
     ensures writes_nothing { Survives (state S.Store conn.old) (state S.Store conn.new) (λ _. ⊥) }
     ensures mode { conn.old.in_transaction ≡ false → conn.new.in_transaction ≡ false }
-    ensures ok { (first : Held S) (court : CourtSettings) (next : ℕ) → ReadBefore table.Deadlines (state S.Store first) court next (state S.Store conn.old) read
-        → IfOk result (λ now. ReadBefore table.Acts (state S.Store first) court next (state S.Store conn.new) now) }
-    ensures err { (version : Version) (first : Held S) (court : CourtSettings) (next : ℕ) → ReadBefore table.Deadlines (state S.Store first) court next (state S.Store conn.old) read
+    ensures ok { (version : Version) (first : Held S) (court : CourtSettings) (next : ℕ) → ReadBefore version table.Deadlines (state S.Store first) court next (state S.Store conn.old) read
+        → IfOk result (λ now. ActsBefore version (state S.Store first) court next (state S.Store conn.new) now) }
+    ensures err { (version : Version) (first : Held S) (court : CourtSettings) (next : ℕ) → ReadBefore version table.Deadlines (state S.Store first) court next (state S.Store conn.old) read
         → IfErr result (FailsOver version (state S.Store first) court next (state S.Store conn.new)) }
 {
-    let check = DeadlineCheck::new(alloc, read.cases, read.parties)?;
-    let (check, count) = judge(conn, alloc, Table::Deadlines, check, watch)?;
-    let (parties, deadlines) = check.finish();
-    let held = Holdings {
-        deadlines: count,
-        ..read.held
-    };
-    Ok(TablesRead {
+    let TablesRead {
+        court,
+        calendar,
+        short_days,
+        names,
+        cases,
         parties,
-        deadlines,
         held,
-        ..read
+    } = read;
+    let check = DeadlineCheck::new(alloc, cases, parties, names)?;
+    let (check, count) = judge(conn, alloc, Table::Deadlines, check, watch)?;
+    let (_, deadlines) = check.finish();
+    Ok(ActsRead {
+        court,
+        calendar,
+        short_days,
+        deadlines,
+        held: Holdings {
+            deadlines: count,
+            ..held
+        },
     })
 }
 
@@ -249,28 +255,27 @@ fn finish(check: ActCheck) -> Result<Option<(Vec<EndRow>, Standings)>, AllocErro
     }
 }
 
-/// Judges the table of acts. Gives the ends of the deadlines whose time runs, by their acts and the whole
-/// calendar.
+/// Judges the table of acts. Gives the ends of the deadlines whose time runs, by their acts and the days and
+/// spans of the table of the calendar.
 fn judge_acts<S: Alter, W: Watch>(
     conn: &mut Connection<S>,
     alloc: Global,
-    read: TablesRead,
+    read: ActsRead,
     watch: &mut W,
 ) -> Result<EndsRead, AdoptFault>
     ensures writes_nothing { Survives (state S.Store conn.old) (state S.Store conn.new) (λ _. ⊥) }
     ensures mode { conn.old.in_transaction ≡ false → conn.new.in_transaction ≡ false }
-    ensures ok { (first : Held S) (court : CourtSettings) (next : ℕ) → ReadBefore table.Acts (state S.Store first) court next (state S.Store conn.old) read
-        → IfOk result (λ now. EndsBefore table.Receipts (state S.Store first) court next (state S.Store conn.new) now) }
-    ensures err { (version : Version) (first : Held S) (court : CourtSettings) (next : ℕ) → ReadBefore table.Acts (state S.Store first) court next (state S.Store conn.old) read
+    ensures ok { (version : Version) (first : Held S) (court : CourtSettings) (next : ℕ) → ActsBefore version (state S.Store first) court next (state S.Store conn.old) read
+        → IfOk result (λ now. EndsBefore version table.Receipts (state S.Store first) court next (state S.Store conn.new) now) }
+    ensures err { (version : Version) (first : Held S) (court : CourtSettings) (next : ℕ) → ActsBefore version (state S.Store first) court next (state S.Store conn.old) read
         → IfErr result (FailsOver version (state S.Store first) court next (state S.Store conn.new)) }
 {
-    let TablesRead {
+    let ActsRead {
         court,
         calendar,
         short_days,
         deadlines,
         held,
-        ..
     } = read;
     let check = ActCheck::new(alloc, court, calendar, deadlines)?;
     let (check, _) = judge(conn, alloc, Table::Acts, check, watch)?;
@@ -284,21 +289,23 @@ fn judge_acts<S: Alter, W: Watch>(
     }
 }
 
-/// Judges the table of receipts.
+/// Judges the table of receipts, by the kinds of commands that the version knows.
 fn judge_receipts<S: Alter, W: Watch>(
     conn: &mut Connection<S>,
     alloc: Global,
+    version: Version,
     read: EndsRead,
     watch: &mut W,
 ) -> Result<EndsRead, AdoptFault>
     ensures writes_nothing { Survives (state S.Store conn.old) (state S.Store conn.new) (λ _. ⊥) }
     ensures mode { conn.old.in_transaction ≡ false → conn.new.in_transaction ≡ false }
-    ensures ok { (first : Held S) (court : CourtSettings) (next : ℕ) → EndsBefore table.Receipts (state S.Store first) court next (state S.Store conn.old) read
-        → IfOk result (λ now. EndsBefore table.Ends (state S.Store first) court next (state S.Store conn.new) now) }
-    ensures err { (version : Version) (first : Held S) (court : CourtSettings) (next : ℕ) → EndsBefore table.Receipts (state S.Store first) court next (state S.Store conn.old) read
+    ensures ok { (first : Held S) (court : CourtSettings) (next : ℕ) → EndsBefore version table.Receipts (state S.Store first) court next (state S.Store conn.old) read
+        → IfOk result (λ now. EndsBefore version table.Ends (state S.Store first) court next (state S.Store conn.new) now) }
+    ensures err { (first : Held S) (court : CourtSettings) (next : ℕ) → EndsBefore version table.Receipts (state S.Store first) court next (state S.Store conn.old) read
         → IfErr result (FailsOver version (state S.Store first) court next (state S.Store conn.new)) }
 {
-    let (_, count) = judge(conn, alloc, Table::Receipts, ReceiptCheck::new(), watch)?;
+    let check = ReceiptCheck::new(knows_later_kinds(version));
+    let (_, count) = judge(conn, alloc, Table::Receipts, check, watch)?;
     let held = Holdings {
         receipts: count,
         ..read.held
@@ -315,9 +322,9 @@ fn judge_ends<S: Alter, W: Watch>(
 ) -> Result<LastRead, AdoptFault>
     ensures writes_nothing { Survives (state S.Store conn.old) (state S.Store conn.new) (λ _. ⊥) }
     ensures mode { conn.old.in_transaction ≡ false → conn.new.in_transaction ≡ false }
-    ensures ok { (first : Held S) (court : CourtSettings) (next : ℕ) → EndsBefore table.Ends (state S.Store first) court next (state S.Store conn.old) read
-        → IfOk result (λ now. LastBefore (state S.Store first) court next (state S.Store conn.new) now) }
-    ensures err { (version : Version) (first : Held S) (court : CourtSettings) (next : ℕ) → EndsBefore table.Ends (state S.Store first) court next (state S.Store conn.old) read
+    ensures ok { (version : Version) (first : Held S) (court : CourtSettings) (next : ℕ) → EndsBefore version table.Ends (state S.Store first) court next (state S.Store conn.old) read
+        → IfOk result (λ now. LastBefore version (state S.Store first) court next (state S.Store conn.new) now) }
+    ensures err { (version : Version) (first : Held S) (court : CourtSettings) (next : ℕ) → EndsBefore version table.Ends (state S.Store first) court next (state S.Store conn.old) read
         → IfErr result (FailsOver version (state S.Store first) court next (state S.Store conn.new)) }
 {
     let EndsRead {
@@ -349,9 +356,9 @@ fn judge_short_days<S: Alter, W: Watch>(
 ) -> Result<Holdings, AdoptFault>
     ensures writes_nothing { Survives (state S.Store conn.old) (state S.Store conn.new) (λ _. ⊥) }
     ensures mode { conn.old.in_transaction ≡ false → conn.new.in_transaction ≡ false }
-    ensures ok { (first : Held S) (court : CourtSettings) (next : ℕ) → LastBefore (state S.Store first) court next (state S.Store conn.old) read
-        → IfOk result (λ now. HeldBefore table.LocalRules (state S.Store first) court next (state S.Store conn.new) now) }
-    ensures err { (first : Held S) (court : CourtSettings) (next : ℕ) → LastBefore (state S.Store first) court next (state S.Store conn.old) read
+    ensures ok { (first : Held S) (court : CourtSettings) (next : ℕ) → LastBefore Second (state S.Store first) court next (state S.Store conn.old) read
+        → IfOk result (λ now. HeldBefore (state S.Store first) court next (state S.Store conn.new) now) }
+    ensures err { (first : Held S) (court : CourtSettings) (next : ℕ) → LastBefore Second (state S.Store first) court next (state S.Store conn.old) read
         → IfErr result (FailsOver Second (state S.Store first) court next (state S.Store conn.new)) }
 {
     let LastRead { short_days, held } = read;
@@ -362,8 +369,28 @@ fn judge_short_days<S: Alter, W: Watch>(
     })
 }
 
-/// Judges the tables of the version that stand behind that of ends: in the first there are none, and that
-/// of local rules holds no row yet. How much the tables hold.
+/// Judges the table of local rules, the last. How much the tables hold, with it.
+fn judge_local_rules<S: Alter, W: Watch>(
+    conn: &mut Connection<S>,
+    alloc: Global,
+    held: Holdings,
+    watch: &mut W,
+) -> Result<Holdings, AdoptFault>
+    ensures writes_nothing { Survives (state S.Store conn.old) (state S.Store conn.new) (λ _. ⊥) }
+    ensures mode { conn.old.in_transaction ≡ false → conn.new.in_transaction ≡ false }
+    ensures told { (first : Held S) (court : CourtSettings) (next : ℕ) → HeldBefore (state S.Store first) court next (state S.Store conn.old) held
+        → HasCleanDisk (state S.Store conn.new) → JudgedAll Second court next (state S.Store first) (state S.Store conn.new) (λ r held. held ≡ holdings_of court r) result }
+{
+    let check = LocalRuleCheck::new(alloc);
+    let (_, count) = judge(conn, alloc, Table::LocalRules, check, watch)?;
+    Ok(Holdings {
+        local_rules: count,
+        ..held
+    })
+}
+
+/// Judges the tables of the version that stand behind that of ends: in the first there are none. How much
+/// the tables hold.
 fn judge_more<S: Alter, W: Watch>(
     conn: &mut Connection<S>,
     alloc: Global,
@@ -373,15 +400,14 @@ fn judge_more<S: Alter, W: Watch>(
 ) -> Result<Holdings, AdoptFault>
     ensures writes_nothing { Survives (state S.Store conn.old) (state S.Store conn.new) (λ _. ⊥) }
     ensures mode { conn.old.in_transaction ≡ false → conn.new.in_transaction ≡ false }
-    ensures told { (first : Held S) (court : CourtSettings) (next : ℕ) → LastBefore (state S.Store first) court next (state S.Store conn.old) read
+    ensures told { (first : Held S) (court : CourtSettings) (next : ℕ) → LastBefore version (state S.Store first) court next (state S.Store conn.old) read
         → HasCleanDisk (state S.Store conn.new) → JudgedAll version court next (state S.Store first) (state S.Store conn.new) (λ r held. held ≡ holdings_of court r) result }
 {
     match version {
         Version::First => Ok(read.held),
         Version::Second => {
             let held = judge_short_days(conn, alloc, read, watch)?;
-            judge_empty(conn, alloc, Table::LocalRules, watch)?;
-            Ok(held)
+            judge_local_rules(conn, alloc, held, watch)
         }
     }
 }
@@ -389,7 +415,8 @@ fn judge_more<S: Alter, W: Watch>(
 /// Judges the tables of a court's docket in a version, but for that of the court itself, which says that
 /// the next row of the calendar has that number. Tells how much they hold. An error tells the first of
 /// them, in their order, that is missing, lacks a column, can't be read or is unsound by those before it;
-/// want of memory and a failure of the database may come at any point. Nothing is written.
+/// want of memory and a failure of the database may come at any point. The local names, by which deadlines
+/// are judged, are read before them all. Nothing is written.
 pub(crate) fn judge_tables<S: Alter, W: Watch>(
     conn: &mut Connection<S>,
     alloc: Global,
@@ -403,13 +430,14 @@ pub(crate) fn judge_tables<S: Alter, W: Watch>(
     ensures told { HasCleanDisk (state S.Store conn.new)
         → JudgedAll version court next_row (state S.Store conn.old) (state S.Store conn.new) (λ r held. held ≡ holdings_of court r) result }
 {
-    let read = judge_calendar(conn, alloc, court, next_row, watch)?;
+    let names = read_names(conn, alloc, version, watch)?;
+    let read = judge_calendar(conn, alloc, court, next_row, names, watch)?;
     let read = judge_cases(conn, alloc, read, watch)?;
     let read = judge_parties(conn, alloc, read, watch)?;
     let read = judge_entries(conn, alloc, read, watch)?;
-    let read = judge_deadlines(conn, alloc, read, watch)?;
-    let read = judge_acts(conn, alloc, read, watch)?;
-    let read = judge_receipts(conn, alloc, read, watch)?;
-    let last = judge_ends(conn, alloc, read, watch)?;
+    let acts = judge_deadlines(conn, alloc, read, watch)?;
+    let ends = judge_acts(conn, alloc, acts, watch)?;
+    let ends = judge_receipts(conn, alloc, version, ends, watch)?;
+    let last = judge_ends(conn, alloc, ends, watch)?;
     judge_more(conn, alloc, version, last, watch)
 }

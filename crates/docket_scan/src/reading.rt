@@ -4,51 +4,53 @@ ghost use Rattle.docket_core.specs.CalendarItems.{calendar_of};
 ghost use Rattle.docket_core.specs.Histories.{items_of};
 ghost use Rattle.docket_core.specs.declared.row.CalendarRow.{CalendarRow as Entered};
 ghost use Rattle.docket_scan.specs.Judging.{no_rows};
+ghost use Rattle.docket_scan.specs.Names.{AreKnown};
 ghost use Rattle.docket_scan.specs.Reading.{IsReady, Says};
-ghost use Rattle.docket_tables.specs.declared.table.Table.TheVariants as table;
 
 use crate::holdings::Holdings;
 use court_days::{Calendar, Court};
 use docket_core::EndRow;
-use docket_sound::{Numbering, ShortDayCheck};
+use docket_sound::{KnownTexts, Numbering, ShortDayCheck};
 use std::alloc::{AllocError, Global};
 
-/// What the checks of later tables go by, and how much the tables hold. Of a table that was not judged
-/// yet it has nothing.
+/// What the checks of later tables go by, up to that of deadlines, and how much the tables hold. Of a table
+/// that was not judged yet it has nothing.
 #[derive(Drop)]
 pub(crate) struct TablesRead {
     pub(crate) court: Court,
     pub(crate) calendar: Calendar,
     /// The check of the short days beside the calendar.
     pub(crate) short_days: ShortDayCheck,
+    /// The local names that stand in the table of local rules.
+    pub(crate) names: KnownTexts,
     /// How many cases there are.
     pub(crate) cases: u32,
     /// How many parties each case has.
     pub(crate) parties: Numbering,
-    /// How many deadlines each case has.
-    pub(crate) deadlines: Numbering,
     pub(crate) held: Holdings,
 }
 
 impl TablesRead {
-    /// Only the table of the calendar was read, which has so many rows.
+    /// Only the local names and the table of the calendar were read, which has so many rows.
     pub(crate) fn begin(
         alloc: Global,
         court: Court,
         calendar: Calendar,
         short_days: ShortDayCheck,
+        names: KnownTexts,
         rows: u64,
     ) -> Result<TablesRead, AllocError>
-        ensures { (days : List Entered) (next : ℕ) → calendar ≡ calendar_of (items_of days) → rows ≡ length days → IsReady court next days [] short_days
-            → IfOk result (λ read. Says table.Cases court next (record no_rows { calendar = days }) read) }
+        ensures { (days : List Entered) (texts : List (List ℕ)) (next : ℕ) → calendar ≡ calendar_of (items_of days) → rows ≡ length days
+            → IsReady court next days [] short_days → AreKnown names texts
+            → IfOk result (λ read. Says court next (record no_rows { calendar = days; names = texts }) read) }
     {
         Ok(TablesRead {
             court,
             calendar,
             short_days,
+            names,
             cases: 0,
             parties: Numbering::none(alloc)?,
-            deadlines: Numbering::none(alloc)?,
             held: Holdings {
                 calendar_rows: rows,
                 ..Holdings::none()
@@ -57,10 +59,22 @@ impl TablesRead {
     }
 }
 
-/// What is left of them behind the acts.
+/// What is left of them behind the deadlines.
+#[derive(Drop)]
+pub(crate) struct ActsRead {
+    pub(crate) court: Court,
+    pub(crate) calendar: Calendar,
+    pub(crate) short_days: ShortDayCheck,
+    /// How many deadlines each case has.
+    pub(crate) deadlines: Numbering,
+    pub(crate) held: Holdings,
+}
+
+/// And behind the acts.
 #[derive(Drop)]
 pub(crate) struct EndsRead {
-    /// The ends of the deadlines whose time runs, by their acts and the whole calendar.
+    /// The ends of the deadlines whose time runs, by their acts and the days and spans of the table of the
+    /// calendar.
     pub(crate) ends: Vec<EndRow>,
     pub(crate) short_days: ShortDayCheck,
     pub(crate) held: Holdings,

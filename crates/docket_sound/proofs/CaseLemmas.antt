@@ -8,7 +8,7 @@ use Rattle.std.proofs.lemmas.Slice.Eq.{bytes_eq-Decides}
 use Rattle.std.specs.List.{AllByRecursion, list_any}
 use Rattle.std.specs.Str.{bytes_eq}
 use Rattle.docket_core.specs.declared.row.CaseRow.{CaseRow}
-use Rattle.docket_sound.specs.Labels.{is_known}
+use Rattle.docket_sound.specs.KnownTexts.{is_known}
 use Rattle.docket_sound.specs.Numbers.{RunsFrom}
 use Rattle.docket_sound.specs.Cases.{AreApart, is_sound_case, AreSoundCases, HasTakenCases, may_follow}
 use Rattle.docket_sound.specs.declared.cases.CaseCheck.{CaseCheck}

@@ -23,7 +23,7 @@ use Rattle.docket_command.specs.declared.choice.Ruling.TheVariants.{Denied, Post
 use Rattle.docket_command.specs.declared.command.Action.{Action}
 use Rattle.docket_command.specs.declared.command.Action.TheVariants as action
 use Rattle.docket_core.specs.Actions.{deadlines_made, acts_made, statement_ordered, timed_or_set, ruled, extension}
-use Rattle.docket_core.specs.Histories.{History, act_rows, deadline_rows, deadlines_of_case, acts_of_deadline, case_number, deadline_number, new_deadlines, deadline_rows_from, first_acts, first_acts_from, later_acts, act_rows_on}
+use Rattle.docket_core.specs.Histories.{History, act_rows, deadline_rows, deadlines_of_case, acts_of_deadline, case_number, deadline_number, new_deadlines, deadline_rows_from, first_acts, first_acts_from, later_acts, act_rows_on, rule_found}
 use Rattle.docket_core.specs.Outcomes.{IsHistory}
 use Rattle.docket_core.specs.Values.{first_bad, bad_values, is_entered_at}
 use Rattle.docket_core.specs.declared.row.ActRow.{ActRow}
@@ -32,7 +32,7 @@ use Rattle.docket_core.proofs.ActsKept.{IsKept, count_more}
 use Rattle.docket_core.proofs.FirstActs.{AreFirst, made_first}
 use Rattle.docket_core.proofs.GoodValues.{all_good, not_false}
 use Rattle.docket_core.proofs.InOrderLemmas.{same_number}
-use Rattle.docket_core.proofs.LimitsKept.{all_kept}
+use Rattle.docket_core.proofs.LimitsKept.{all_kept, found_lawful}
 use Rattle.docket_core.proofs.Passed.{left_true, right_true}
 use Rattle.docket_sound.specs.Acts.{are_lawful, is_on_entered_day}
 use Rattle.docket_sound.specs.Numbers.{RunsFrom}
@@ -174,8 +174,8 @@ module _ (court : CourtSettings) (h : History) (is : IsHistory court h) (runs : 
   disposed k n Denied party notice due kept = acted k n (ruled Denied notice due)
   disposed k n Postponed party notice due kept = acted k n (ruled Postponed notice due)
 
-  step : (a : Action) → ((k n : ℕ) → IsKept (zone_of court) (deadline_rows h ++ new_deadlines (count (case_number a)) a) (act_rows h ++ (first_acts (count (case_number a)) a ++ later_acts (size (case_number a) (deadline_number a)) a)) k n)
-      → AreNumberedOn (act_rows h ++ (first_acts (count (case_number a)) a ++ later_acts (size (case_number a) (deadline_number a)) a))
+  step : (a : Action) → ((k n : ℕ) → IsKept (zone_of court) (deadline_rows h ++ new_deadlines (rule_found h a) (count (case_number a)) a) (act_rows h ++ (first_acts (rule_found h a) (count (case_number a)) a ++ later_acts (size (case_number a) (deadline_number a)) a)) k n)
+      → AreNumberedOn (act_rows h ++ (first_acts (rule_found h a) (count (case_number a)) a ++ later_acts (size (case_number a) (deadline_number a)) a))
   step (action.RuleMotion a) kept = acted a.case a.deadline (act.Motion a.served a.kind)
   step (action.Dispose a) kept = disposed a.case a.deadline a.outcome a.party a.notice a.due (kept a.case a.deadline)
   step (action.StatementServed a) kept = acted a.case a.deadline (act.Resume a.served (adds_three AnswerAfterStatement (method_of a.method)))
@@ -183,8 +183,8 @@ module _ (court : CourtSettings) (h : History) (is : IsHistory court h) (runs : 
   step (action.Satisfy a) kept = acted a.case a.deadline (act.Done (pos a.at) a.way)
   step (action.Vacate a) kept = acted a.case a.deadline act.Vacated
   step a kept =
-      let firsts = first_acts (count (case_number a)) a in
-      subst AreNumberedOn (ap (λ l. act_rows h ++ l) (sym (append-nil firsts))) (made (case_number a) (deadlines_made a))
+      let firsts = first_acts (rule_found h a) (count (case_number a)) a in
+      subst AreNumberedOn (ap (λ l. act_rows h ++ l) (sym (append-nil firsts))) (made (case_number a) (deadlines_made (rule_found h a) a))
 
 pub acts_numbered : (court : CourtSettings) (h : History) → IsHistory court h → AreNumberedOn (act_rows h)
 acts_numbered court [] is = λ k n. tt
@@ -272,9 +272,9 @@ acts_done court (c ∷ h) is =
     let good = (freed court h c is.0.0 is.0.1).values in
     let made = length (deadlines_of_case k (deadline_rows h)) in
     let acts = length (acts_of_deadline k (deadline_number a) (act_rows h)) in
-    all-append (λ (row : ActRow). IsDone zone row.act) (act_rows h) (first_acts made a ++ later_acts acts a) (acts_done court h is.1)
-    (all-append (λ (row : ActRow). IsDone zone row.act) (first_acts made a) (later_acts acts a)
-    (firsts_done zone k (made + 1) (deadlines_made a) (made_first court a good)) (rows_done zone k (deadline_number a) (acts + 1) (acts_made a) (made_done court a good)))
+    all-append (λ (row : ActRow). IsDone zone row.act) (act_rows h) (first_acts (rule_found h a) made a ++ later_acts acts a) (acts_done court h is.1)
+    (all-append (λ (row : ActRow). IsDone zone row.act) (first_acts (rule_found h a) made a) (later_acts acts a)
+    (firsts_done zone k (made + 1) (deadlines_made (rule_found h a) a) (made_first court (rule_found h a) a (found_lawful court h is.1 a) good)) (rows_done zone k (deadline_number a) (acts + 1) (acts_made a) (made_done court a good)))
 
 -- so the acts of each deadline are lawful
 two : (b c : Bool) → b ≡ true → c ≡ true → (b && c) ≡ true

@@ -9,7 +9,7 @@ use Rattle.court_days.specs.Court.{CourtSettings}
 use Rattle.docket_command.specs.declared.command.Action.{Action}
 use Rattle.docket_command.specs.declared.command.Action.TheVariants as action
 use Rattle.docket_command.specs.declared.command.Command.{Command}
-use Rattle.docket_core.specs.Histories.{History, case_rows, party_rows, entry_rows, deadlines, new_case, new_party, new_entry, case_number, parties_of_case, entries_of_case}
+use Rattle.docket_core.specs.Histories.{History, case_rows, party_rows, entry_rows, new_case, new_party, new_entry, case_number, parties_of_case, entries_of_case}
 use Rattle.docket_core.specs.Outcomes.{IsHistory, shown, shown_fresh, case_of_number}
 use Rattle.docket_core.specs.Values.{bad_values, is_word, is_text, is_entered}
 use Rattle.docket_core.specs.Views.{parties_in, entries_in}

@@ -6,13 +6,15 @@ use Rattle.std.proofs.lemmas.Slice.Eq.{bytes_eq-Decides}
 use Rattle.std.specs.Prelude.{bytes_eq, find}
 use Rattle.std.specs.List.{AllByRecursion}
 use Rattle.court_days.specs.Court.{CourtSettings}
+use Rattle.docket_command.specs.declared.command.Action.{Action}
+use Rattle.docket_command.specs.declared.command.Action.TheVariants as action
 use Rattle.docket_command.specs.declared.command.Command.{Command}
 use Rattle.docket_core.specs.Histories.{History}
 use Rattle.docket_core.specs.Outcomes.{IsHistory, receipts, reply_to, replied, shown_fresh}
 use Rattle.docket_core.specs.declared.row.Receipt.{Receipt}
 use Rattle.docket_wire.specs.Valid.{IsCommand}
 use Rattle.docket_sound.specs.Cases.{AreApart}
-use Rattle.docket_sound.specs.Receipts.{IsSoundReceipt, receipt_row, key_of}
+use Rattle.docket_sound.specs.Receipts.{is_known_kind, AreOfKnownKinds, IsSoundReceipt, receipt_row, key_of}
 use Rattle.docket_sound.proofs.AcceptedLemmas.{is_lawful, no_receipt}
 use Rattle.docket_sound.proofs.CaseLemmas.{apart_more}
 use Rattle.docket_sound.proofs.NumberLemmas.{all_both}
@@ -21,15 +23,27 @@ use Rattle.docket_sound.proofs.NumberLemmas.{all_both}
 abbrev receipt_after : CourtSettings → History → Command → Receipt
 receipt_after court h c = record { command = c; reply = replied (reply_to court (shown_fresh h c.action) c.action) }
 
-pub sound_receipts : (court : CourtSettings) (h : History) → IsHistory court h → AllByRecursion IsCommand h → AllByRecursion IsSoundReceipt (map receipt_row (receipts court h))
-sound_receipts court [] is all = tt
-sound_receipts court (c ∷ h) is all =
-    let this : IsSoundReceipt (receipt_row (receipt_after court h c)) = record {
-      key = (is_lawful court h c is.0.0 is.0.1).key;
-      body = record { command = c; lawful = all.0; named = refl; written = refl };
-    } in
-    subst (AllByRecursion IsSoundReceipt) (sym (map-append receipt_row (receipts court h) (receipt_after court h c ∷ [])))
-    (all_both IsSoundReceipt (map receipt_row (receipts court h)) (receipt_row (receipt_after court h c) ∷ []) (sound_receipts court h is.1 all.1) (this, tt))
+module _ (later : Bool) where
+  pub sound_receipts : (court : CourtSettings) (h : History) → IsHistory court h → AllByRecursion IsCommand h → AreOfKnownKinds later h → AllByRecursion (IsSoundReceipt later) (map receipt_row (receipts court h))
+  sound_receipts court [] is all known = tt
+  sound_receipts court (c ∷ h) is all known =
+      let this : IsSoundReceipt later (receipt_row (receipt_after court h c)) = record {
+        key = (is_lawful court h c is.0.0 is.0.1).key;
+        body = record { command = c; lawful = all.0; known = known.0; named = refl; written = refl };
+      } in
+      subst (AllByRecursion (IsSoundReceipt later)) (sym (map-append receipt_row (receipts court h) (receipt_after court h c ∷ [])))
+      (all_both (IsSoundReceipt later) (map receipt_row (receipts court h)) (receipt_row (receipt_after court h c) ∷ []) (sound_receipts court h is.1 all.1 known.1) (this, tt))
+
+-- every kind is known where the later ones are
+pub each_kind_known : (a : Action) → is_known_kind true a ≡ true
+each_kind_known (action.ShortDay a) = refl
+each_kind_known (action.LocalRule a) = refl
+each_kind_known (action.LocalPeriod a) = refl
+each_kind_known _ = refl
+
+pub all_kinds_known : (h : History) → AreOfKnownKinds true h
+all_kinds_known [] = tt
+all_kinds_known (c ∷ h) = (each_kind_known c.action, all_kinds_known h)
 
 -- no other receipt has the key
 none_under : (key : List ℕ) (rows : List Receipt) → find (λ r. bytes_eq r.command.key key) rows ≡ None → AllByRecursion (λ other. key ≢ other) (map key_of rows)

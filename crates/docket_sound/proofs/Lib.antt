@@ -8,12 +8,15 @@ pub mod HistoryActs
 pub mod HistoryCalendar
 pub mod HistoryDeadlines
 pub mod HistoryLemmas
+pub mod HistoryLocalRules
 pub mod HistoryReceipts
 pub mod HistoryShortDays
+pub mod LocalRuleLemmas
 pub mod Made
 pub mod NumberLemmas
 pub mod OrderLemmas
 pub mod ReceiptLemmas
+pub mod SearchLemmas
 pub mod ShortDayLemmas
 pub mod SortedActs
 pub mod SortedEnds

@@ -101,6 +101,7 @@ module _ (check : ShortDayCheck) (rows : List ShortDayRow) (row : ShortDayRow) (
       subst (HasEntered court check.next_row row.number days) (sym (map-append calendar_row rows (row ∷ [])))
       (row_taken court check.next_row check.last check.days (map calendar_row rows) (calendar_row row) entered days none grown room pass) in
       record {
+        risen = has.risen;
         last = all.highest ∙ ap (last_of 0) (numbers_alike (rows ++ row ∷ []));
         days = all.calendar;
         standing = all.standing;
@@ -118,10 +119,11 @@ module _ (check : ShortDayCheck) (rows : List ShortDayRow) (row : ShortDayRow) (
       not_true true h = absurd cc
       not_true false h = refl
 
-pub none_short : (check : ShortDayCheck) → check.last ≡ 0 → check.days ≡ no_days → length check.calendar.items ≤ 4000 → HasTakenShortDays check []
-none_short check last empty few =
+pub none_short : (check : ShortDayCheck) → check.last ≡ 0 → check.days ≡ no_days → length check.calendar.items ≤ 4000 → Rises check.calendar.items → HasTakenShortDays check []
+none_short check last empty few risen =
     let none = none_entered (closing check.close) check.next_row check.days empty in
     record {
+      risen = risen;
       last = last;
       days = none.calendar;
       standing = none.standing;

@@ -18,7 +18,7 @@ use Rattle.docket_core.specs.declared.row.Receipt.{Receipt}
 use Rattle.docket_wire.specs.Valid.{IsCommand}
 use Rattle.docket_sound.specs.Cases.{AreApart}
 use Rattle.docket_sound.specs.Orders.{AreInOrder, receipt_order}
-use Rattle.docket_sound.specs.Receipts.{AreSoundReceipts, IsSoundReceipt, KeysAscend, receipt_row, key_of}
+use Rattle.docket_sound.specs.Receipts.{AreOfKnownKinds, AreSoundReceipts, IsSoundReceipt, KeysAscend, receipt_row, key_of}
 use Rattle.docket_sound.specs.declared.receipt.ReceiptRecord.{ReceiptRecord}
 use Rattle.docket_sound.proofs.HistoryReceipts.{sound_receipts, keys_apart}
 use Rattle.docket_sound.proofs.OrderLemmas.{receipt_total}
@@ -91,11 +91,11 @@ all_ascend : (rows : List Receipt) → IsSorted receipt_order rows → HaveOne r
 all_ascend [] sorted few = tt
 all_ascend (row ∷ rows) sorted few = (refl, ascend row rows sorted few)
 
-pub sorted_receipts : (court : CourtSettings) (h : History) → IsHistory court h → AllByRecursion IsCommand h → (rows : List Receipt) → AreInOrder receipt_order (receipts court h) rows → AreSoundReceipts (map receipt_row rows)
-sorted_receipts court h is all rows order =
+pub sorted_receipts : (court : CourtSettings) (later : Bool) (h : History) → IsHistory court h → AllByRecursion IsCommand h → AreOfKnownKinds later h → (rows : List Receipt) → AreInOrder receipt_order (receipts court h) rows → AreSoundReceipts later (map receipt_row rows)
+sorted_receipts court later h is all known rows order =
     let one = few_under (receipts court h) (keys_apart court h is) in
     let few : HaveOne rows = λ key. omega (arith, one key, length_permutation _ _ (IsPermutation-filter (λ (row : Receipt). bytes_eq key (key_of row)) (receipts court h) rows order.same)) in
     record {
       apart = subst (KeysAscend None) (sym (map-map (λ (row : ReceiptRecord). row.key) receipt_row rows)) (all_ascend rows order.sorted few);
-      within = all-permutation IsSoundReceipt (map receipt_row (receipts court h)) (map receipt_row rows) (IsPermutation-map receipt_row (receipts court h) rows order.same) (sound_receipts court h is all);
+      within = all-permutation (IsSoundReceipt later) (map receipt_row (receipts court h)) (map receipt_row rows) (IsPermutation-map receipt_row (receipts court h) rows order.same) (sound_receipts later court h is all known);
     }

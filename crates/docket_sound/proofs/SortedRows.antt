@@ -12,27 +12,31 @@ use Rattle.std.specs.declared.cmp.Ordering.TheVariants.{Less}
 use Rattle.sqlite_keyed.proofs.SortLemmas.{sorted_unique}
 use Rattle.sqlite_trees.proofs.ListLemmas.{all_weaker, all-permutation, all_from_map, IsPermutation-filter}
 use Rattle.court_days.specs.Court.{CourtSettings}
-use Rattle.docket_core.specs.Histories.{History, standing_rows, next_row, case_rows, party_rows, parties_of_case, entry_rows, deadline_rows, deadlines_of_case}
+use Rattle.docket_core.specs.Histories.{History, standing_rows, next_row, case_rows, party_rows, parties_of_case, entry_rows, deadline_rows, deadlines_of_case, local_rule_rows}
 use Rattle.docket_core.specs.Outcomes.{IsHistory}
 use Rattle.docket_core.specs.ShortDays.{day_and_span_rows, short_day_rows}
 use Rattle.docket_core.specs.declared.row.CalendarRow.{CalendarRow}
 use Rattle.docket_core.specs.declared.row.CaseRow.{CaseRow}
 use Rattle.docket_core.specs.declared.row.DeadlineRow.{DeadlineRow}
 use Rattle.docket_core.specs.declared.row.EntryRow.{EntryRow}
+use Rattle.docket_core.specs.declared.row.LocalRuleRow.{LocalRuleRow}
 use Rattle.docket_core.specs.declared.row.PartyRow.{PartyRow}
 use Rattle.docket_core.specs.declared.row.ShortDayRow.{ShortDayRow}
 use Rattle.docket_sound.specs.Calendars.{AreSoundCalendarRows}
 use Rattle.docket_sound.specs.Cases.{AreSoundCases}
 use Rattle.docket_sound.specs.Deadlines.{AreSoundDeadlines, deadline_key, has_party, is_sound_deadline}
 use Rattle.docket_sound.specs.Entries.{AreSoundEntries, entry_key, is_sound_entry}
+use Rattle.docket_sound.specs.KnownTexts.{is_one_of}
+use Rattle.docket_sound.specs.LocalRules.{AreSoundLocalRules, rule_names}
 use Rattle.docket_sound.specs.Numbers.{Rises, RunsFrom, IsOfCase, AreNumbered, numbers_in}
-use Rattle.docket_sound.specs.Orders.{AreInOrder, key_order, calendar_order, short_day_order, case_order, party_order, entry_order, deadline_order}
+use Rattle.docket_sound.specs.Orders.{AreInOrder, key_order, calendar_order, short_day_order, local_rule_order, case_order, party_order, entry_order, deadline_order}
 use Rattle.docket_sound.specs.Parties.{AreSoundParties, party_key, is_sound_party}
 use Rattle.docket_sound.specs.ShortDays.{AreSoundShortDays}
 use Rattle.docket_sound.specs.declared.numbering.Key.{Key}
 use Rattle.docket_sound.proofs.HistoryCalendar.{sound_calendar}
 use Rattle.docket_sound.proofs.HistoryDeadlines.{sound_deadlines}
 use Rattle.docket_sound.proofs.HistoryLemmas.{sound_cases, sound_parties, sound_entries}
+use Rattle.docket_sound.proofs.HistoryLocalRules.{sound_local_rules}
 use Rattle.docket_sound.proofs.HistoryShortDays.{days_and_spans_sound, short_days_sound}
 use Rattle.docket_sound.proofs.NumberLemmas.{numbers_are}
 use Rattle.docket_sound.proofs.OrderLemmas.{Ascends, below, key_total, only_order}
@@ -162,14 +166,24 @@ module _ (court : CourtSettings) (h : History) (is : IsHistory court h) where
   abbrev parties : ℕ → ℕ
   parties k = length (parties_of_case k (party_rows h))
 
-  pub sorted_deadlines : (rows : List DeadlineRow) → AreInOrder deadline_order (deadline_rows h) rows → AreSoundDeadlines (length (case_rows h)) parties rows
-  sorted_deadlines rows order =
+  -- rules in the order of their numbers are the rows themselves
+  pub rules_listed : (rules : List LocalRuleRow) → AreInOrder local_rule_order (local_rule_rows h) rules → rules ≡ local_rule_rows h
+  rules_listed rules order =
+      as_listed (λ (row : LocalRuleRow). row.number) (local_rule_rows h) rules (runs_rise 1 (map (λ (row : LocalRuleRow). row.number) (local_rule_rows h)) (sound_local_rules court h is).numbered) order
+
+  pub sorted_local_rules : (rules : List LocalRuleRow) → AreInOrder local_rule_order (local_rule_rows h) rules → AreSoundLocalRules rules
+  sorted_local_rules rules order = subst AreSoundLocalRules (sym (rules_listed rules order)) (sound_local_rules court h is)
+
+  pub sorted_deadlines : (rules : List LocalRuleRow) (rows : List DeadlineRow) → AreInOrder local_rule_order (local_rule_rows h) rules → AreInOrder deadline_order (deadline_rows h) rows
+      → AreSoundDeadlines (length (case_rows h)) parties (is_one_of (rule_names rules)) rows
+  sorted_deadlines rules rows of_rules order =
       let sound = sound_deadlines court h is in
-      record {
+      let stands : List ℕ → Bool = is_one_of (rule_names (local_rule_rows h)) in
+      subst (λ listed. AreSoundDeadlines (length (case_rows h)) parties (is_one_of (rule_names listed)) rows) (sym (rules_listed rules of_rules)) (record {
         numbered = still_numbered deadline_key (length (case_rows h)) 1000 (deadline_rows h) rows sound.numbered order;
         met = all-permutation (λ row. IsTrue (has_party parties row)) (deadline_rows h) rows order.same sound.met;
-        within = all-permutation (λ row. IsTrue (is_sound_deadline row)) (deadline_rows h) rows order.same sound.within;
-      }
+        within = all-permutation (λ row. IsTrue (is_sound_deadline stands row)) (deadline_rows h) rows order.same sound.within;
+      })
 
   pub deadline_counts : (rows : List DeadlineRow) → AreInOrder deadline_order (deadline_rows h) rows → (k : ℕ) → length (numbers_in k (map deadline_key rows)) ≡ length (deadlines_of_case k (deadline_rows h))
   deadline_counts rows order = count_alike deadline_key (length (case_rows h)) 1000 (deadline_rows h) rows (sound_deadlines court h is).numbered order

@@ -3,7 +3,7 @@ use Rattle.std.specs.Prelude.{◌≡◌, ◌≢◌, ℕ, ◌≤◌, ◌+◌, ◌
 use Rattle.std.specs.List.{AllByRecursion, list_any}
 use Rattle.docket_core.specs.Values.{is_entered, is_text, is_word}
 use Rattle.docket_core.specs.declared.row.CaseRow.{CaseRow}
-use Rattle.docket_sound.specs.Labels.{is_known}
+use Rattle.docket_sound.specs.KnownTexts.{is_known}
 use Rattle.docket_sound.specs.Numbers.{RunsFrom}
 use Rattle.docket_sound.specs.declared.cases.CaseCheck.{CaseCheck}
 

@@ -6,7 +6,8 @@ pub mod Courts
 pub mod Deadlines
 pub mod Dues
 pub mod Entries
-pub mod Labels
+pub mod KnownTexts
+pub mod LocalRules
 pub mod Numbers
 pub mod Orders
 pub mod Parties

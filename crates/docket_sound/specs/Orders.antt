@@ -9,6 +9,7 @@ use Rattle.docket_core.specs.declared.row.CalendarRow.{CalendarRow}
 use Rattle.docket_core.specs.declared.row.CaseRow.{CaseRow}
 use Rattle.docket_core.specs.declared.row.DeadlineRow.{DeadlineRow}
 use Rattle.docket_core.specs.declared.row.EntryRow.{EntryRow}
+use Rattle.docket_core.specs.declared.row.LocalRuleRow.{LocalRuleRow}
 use Rattle.docket_core.specs.declared.row.PartyRow.{PartyRow}
 use Rattle.docket_core.specs.declared.row.Receipt.{Receipt}
 use Rattle.docket_core.specs.declared.row.ShortDayRow.{ShortDayRow}
@@ -32,6 +33,9 @@ calendar_order = on (λ row. row.number) nat_cmp
 
 abbrev pub short_day_order : ShortDayRow → ShortDayRow → Ordering
 short_day_order = on (λ row. row.number) nat_cmp
+
+abbrev pub local_rule_order : LocalRuleRow → LocalRuleRow → Ordering
+local_rule_order = on (λ row. row.number) nat_cmp
 
 abbrev pub case_order : CaseRow → CaseRow → Ordering
 case_order = on (λ row. row.number) nat_cmp

@@ -3,6 +3,8 @@ use Rattle.std.specs.Prelude.{◌≡◌, ℕ, Bool, true, List, [], ◌∷◌, m
 use Rattle.std.specs.List.{AllByRecursion}
 use Rattle.std.specs.Ordering.{is_lt, nat_cmp}
 use Rattle.std.specs.Cmp.Lexicographic.{slice_cmp}
+use Rattle.docket_command.specs.declared.command.Action.{Action}
+use Rattle.docket_command.specs.declared.command.Action.TheVariants.{ShortDay, LocalRule, LocalPeriod}
 use Rattle.docket_command.specs.declared.command.Command.{Command}
 use Rattle.docket_core.specs.Values.{is_word}
 use Rattle.docket_core.specs.declared.row.Receipt.{Receipt}
@@ -18,17 +20,29 @@ key_of receipt = receipt.command.key
 abbrev pub receipt_row : Receipt → ReceiptRecord
 receipt_row receipt = record { key = key_of receipt; body = canonical receipt.command }
 
--- the body is the canonical text of a command under the key
-pub record IsBodyUnder (key body : List ℕ) : Type 0 where
+-- whether the kind of command is known: some came later than version 1 of the tables
+abbrev pub is_known_kind : (later : Bool) → Action → Bool
+is_known_kind later (ShortDay a) = later
+is_known_kind later (LocalRule a) = later
+is_known_kind later (LocalPeriod a) = later
+is_known_kind later _ = true
+
+-- each command is of such a kind
+abbrev pub AreOfKnownKinds : (later : Bool) → List Command → Type 0
+AreOfKnownKinds later h = AllByRecursion (λ c. is_known_kind later c.action ≡ true) h
+
+-- the body is the canonical text of a command of a known kind under the key
+pub record IsBodyUnder (later : Bool) (key body : List ℕ) : Type 0 where
   pub command : Command
   pub lawful : IsCommand command
+  pub known : is_known_kind later command.action ≡ true
   pub named : command.key ≡ key
   pub written : canonical command ≡ body
 
 -- the key has 1 to 64 bytes that show; the command's values and the reply are not judged
-pub record IsSoundReceipt (r : ReceiptRecord) : Type 0 where
+pub record IsSoundReceipt (later : Bool) (r : ReceiptRecord) : Type 0 where
   pub key : is_word 64 r.key ≡ true
-  pub body : IsBodyUnder r.key r.body
+  pub body : IsBodyUnder later r.key r.body
 
 -- the key comes after the one before it, byte by byte
 abbrev pub follows_key : Option (List ℕ) → List ℕ → Bool
@@ -41,9 +55,9 @@ KeysAscend before [] = Unit {0}
 KeysAscend before (key ∷ more) = (follows_key before key ≡ true) × KeysAscend (Some key) more
 
 -- the keys rise, and each receipt is sound
-pub record AreSoundReceipts (rows : List ReceiptRecord) : Type 0 where
+pub record AreSoundReceipts (later : Bool) (rows : List ReceiptRecord) : Type 0 where
   pub apart : KeysAscend None (map (λ row. row.key) rows)
-  pub within : AllByRecursion IsSoundReceipt rows
+  pub within : AllByRecursion (IsSoundReceipt later) rows
 
 -- the last key
 abbrev pub key_before : Option (List ℕ) → List (List ℕ) → Option (List ℕ)
@@ -53,4 +67,4 @@ key_before before (key ∷ more) = key_before (Some key) more
 -- these rows were taken
 pub record HasTakenReceipts (check : ReceiptCheck) (rows : List ReceiptRecord) : Type 0 where
   pub last : check.last ≡ key_before None (map (λ row. row.key) rows)
-  pub sound : AreSoundReceipts rows
+  pub sound : AreSoundReceipts check.later rows

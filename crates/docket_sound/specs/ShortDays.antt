@@ -51,8 +51,9 @@ has_place check row = not (is_among check.calendar.items row.number) && nat_lt (
 abbrev pub may_be_next : ShortDayCheck → ShortDayRow → Bool
 may_be_next check row = nat_lt check.last row.number && nat_lt row.number check.next_row && is_sound_short_day check.close row
 
--- these rows were taken
+-- these rows were taken, beside a calendar whose rows have rising numbers
 pub record HasTakenShortDays (check : ShortDayCheck) (rows : List ShortDayRow) : Type 0 where
+  pub risen : Rises check.calendar.items
   pub last : check.last ≡ last_of 0 (numbers_of rows)
   pub days : check.days ≡ calendar_of (short_items rows)
   pub standing : (item : CalendarItem) → stands check.days item ≡ stands_among (short_items rows) item

@@ -4,7 +4,7 @@ ghost use Rattle.docket_core.specs.declared.row.CaseRow.{CaseRow as Case};
 ghost use Rattle.docket_sound.specs.Cases.{is_sound_case, AreSoundCases, HasTakenCases, may_follow};
 ghost use Rattle.std.specs.Prelude.{true, false};
 
-use crate::labels::Labels;
+use crate::known_texts::KnownTexts;
 use crate::text::{is_entered, is_text, is_word};
 use docket_core::CaseRow;
 use std::alloc::{AllocError, Global};
@@ -23,7 +23,7 @@ fn is_sound_case(row: &CaseRow) -> bool
 #[derive(Drop)]
 pub struct CaseCheck {
     pub(crate) count: u32,
-    pub(crate) labels: Labels,
+    pub(crate) labels: KnownTexts,
 }
 
 impl CaseCheck {
@@ -33,7 +33,7 @@ impl CaseCheck {
     {
         CaseCheck {
             count: 0,
-            labels: Labels::new(alloc),
+            labels: KnownTexts::new(alloc),
         }
     }
 
@@ -58,7 +58,7 @@ impl CaseCheck {
         if !self.may_follow(row) {
             return Ok(false);
         }
-        self.labels.put(alloc, &row.label, row.number)?;
+        self.labels.put(alloc, row.label.as_str())?;
         self.count += 1;
         Ok(true)
     }

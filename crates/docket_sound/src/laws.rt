@@ -1,11 +1,11 @@
 //! What the definitions of specs/ say, with nothing to run.
-ghost use Rattle.std.specs.Prelude.{◌≡◌, List, length, map, ℕ};
+ghost use Rattle.std.specs.Prelude.{◌≡◌, List, length, map, ℕ, Bool, true};
 ghost use Rattle.std.specs.List.{AllByRecursion};
 ghost use Rattle.civil_time.specs.Zone.{ZoneRules};
 ghost use Rattle.court_days.specs.Court.{CourtSettings, zone_of};
 ghost use Rattle.docket_core.specs.CalendarItems.{calendar_of};
 ghost use Rattle.docket_core.specs.EndRows.{end_rows};
-ghost use Rattle.docket_core.specs.Histories.{History, items_of, standing_rows, next_row, case_rows, party_rows, parties_of_case, entry_rows, deadline_rows, deadlines_of_case, act_rows};
+ghost use Rattle.docket_core.specs.Histories.{History, items_of, standing_rows, next_row, case_rows, party_rows, parties_of_case, entry_rows, deadline_rows, deadlines_of_case, act_rows, local_rule_rows};
 ghost use Rattle.docket_core.specs.Outcomes.{IsHistory, receipts};
 ghost use Rattle.docket_core.specs.ShortDays.{day_and_span_rows, short_day_rows};
 ghost use Rattle.docket_core.specs.Tables.{rows_of};
@@ -15,6 +15,7 @@ ghost use Rattle.docket_core.specs.declared.row.CalendarRow.{CalendarRow};
 ghost use Rattle.docket_core.specs.declared.row.CaseRow.{CaseRow};
 ghost use Rattle.docket_core.specs.declared.row.DeadlineRow.{DeadlineRow};
 ghost use Rattle.docket_core.specs.declared.row.EntryRow.{EntryRow};
+ghost use Rattle.docket_core.specs.declared.row.LocalRuleRow.{LocalRuleRow};
 ghost use Rattle.docket_core.specs.declared.row.PartyRow.{PartyRow};
 ghost use Rattle.docket_core.specs.declared.row.Receipt.{Receipt};
 ghost use Rattle.docket_core.specs.declared.row.ShortDayRow.{ShortDayRow};
@@ -25,15 +26,18 @@ ghost use Rattle.docket_sound.specs.Cases.{AreApart, AreSoundCases};
 ghost use Rattle.docket_sound.specs.Deadlines.{AreSoundDeadlines, deadline_key};
 ghost use Rattle.docket_sound.specs.Dues.{dues_of};
 ghost use Rattle.docket_sound.specs.Entries.{AreSoundEntries};
+ghost use Rattle.docket_sound.specs.KnownTexts.{is_one_of};
+ghost use Rattle.docket_sound.specs.LocalRules.{AreSoundLocalRules, rule_names};
 ghost use Rattle.docket_sound.specs.Numbers.{numbers_in};
-ghost use Rattle.docket_sound.specs.Orders.{AreInOrder, calendar_order, short_day_order, case_order, party_order, entry_order, deadline_order, act_order, end_order, receipt_order};
+ghost use Rattle.docket_sound.specs.Orders.{AreInOrder, calendar_order, short_day_order, case_order, party_order, entry_order, deadline_order, act_order, end_order, receipt_order, local_rule_order};
 ghost use Rattle.docket_sound.specs.Parties.{AreSoundParties, party_key};
-ghost use Rattle.docket_sound.specs.Receipts.{AreSoundReceipts, IsSoundReceipt, receipt_row, key_of};
+ghost use Rattle.docket_sound.specs.Receipts.{AreOfKnownKinds, AreSoundReceipts, IsSoundReceipt, receipt_row, key_of};
 ghost use Rattle.docket_sound.specs.ShortDays.{AreSoundShortDays};
 ghost use Rattle.docket_sound.specs.Standings.{standings_of};
 
-/// The tables of every history are sound: the calendar, cases, parties, entries and deadlines. The
-/// receipts are, too, where the values of the commands are those of a program; no two have one key.
+/// The tables of every history are sound: the calendar, cases, parties, entries, local rules and
+/// deadlines. The receipts are, too, where the values of the commands are those of a program, and their
+/// kinds are known; no two have one key.
 pub fn histories_are_sound()
     ensures calendar { (court : CourtSettings) (h : History) → IsHistory court h
         → AreSoundCalendarRows court (next_row h) (standing_rows h) }
@@ -42,10 +46,13 @@ pub fn histories_are_sound()
         → AreSoundParties (length (case_rows h)) (party_rows h) }
     ensures entries { (court : CourtSettings) (h : History) → IsHistory court h
         → AreSoundEntries (length (case_rows h)) (entry_rows h) }
+    ensures local_rules { (court : CourtSettings) (h : History) → IsHistory court h → AreSoundLocalRules (local_rule_rows h) }
     ensures deadlines { (court : CourtSettings) (h : History) → IsHistory court h
-        → AreSoundDeadlines (length (case_rows h)) (λ k. length (parties_of_case k (party_rows h))) (deadline_rows h) }
-    ensures receipts { (court : CourtSettings) (h : History) → IsHistory court h → AllByRecursion IsCommand h
-        → AllByRecursion IsSoundReceipt (map receipt_row (receipts court h)) }
+        → AreSoundDeadlines (length (case_rows h)) (λ k. length (parties_of_case k (party_rows h)))
+        (is_one_of (rule_names (local_rule_rows h))) (deadline_rows h) }
+    ensures receipts { (court : CourtSettings) (later : Bool) (h : History) → IsHistory court h → AllByRecursion IsCommand h
+        → AreOfKnownKinds later h → AllByRecursion (IsSoundReceipt later) (map receipt_row (receipts court h)) }
+    ensures kinds { (h : History) → AreOfKnownKinds true h }
     ensures keys { (court : CourtSettings) (h : History) → IsHistory court h → AreApart (map key_of (receipts court h)) }
 {}
 
@@ -68,18 +75,20 @@ pub fn sorted_histories_are_sound()
         → (k : ℕ) → length (numbers_in k (map party_key rows)) ≡ length (parties_of_case k (party_rows h)) }
     ensures entries { (court : CourtSettings) (h : History) (rows : List EntryRow) → IsHistory court h
         → AreInOrder entry_order (entry_rows h) rows → AreSoundEntries (length (case_rows h)) rows }
-    ensures deadlines { (court : CourtSettings) (h : History) (rows : List DeadlineRow) → IsHistory court h
-        → AreInOrder deadline_order (deadline_rows h) rows
-        → AreSoundDeadlines (length (case_rows h)) (λ k. length (parties_of_case k (party_rows h))) rows }
+    ensures local_rules { (court : CourtSettings) (h : History) (rows : List LocalRuleRow) → IsHistory court h
+        → AreInOrder local_rule_order (local_rule_rows h) rows → AreSoundLocalRules rows }
+    ensures deadlines { (court : CourtSettings) (h : History) (rules : List LocalRuleRow) (rows : List DeadlineRow) → IsHistory court h
+        → AreInOrder local_rule_order (local_rule_rows h) rules → AreInOrder deadline_order (deadline_rows h) rows
+        → AreSoundDeadlines (length (case_rows h)) (λ k. length (parties_of_case k (party_rows h))) (is_one_of (rule_names rules)) rows }
     ensures deadline_counts { (court : CourtSettings) (h : History) (rows : List DeadlineRow) → IsHistory court h
         → AreInOrder deadline_order (deadline_rows h) rows
         → (k : ℕ) → length (numbers_in k (map deadline_key rows)) ≡ length (deadlines_of_case k (deadline_rows h)) }
     ensures acts { (court : CourtSettings) (h : History) (rows : List ActRow) → IsHistory court h
         → AreInOrder act_order (act_rows h) rows
         → AreSoundActs court (length (case_rows h)) (λ k. length (deadlines_of_case k (deadline_rows h))) rows }
-    ensures receipts { (court : CourtSettings) (h : History) (rows : List Receipt) → IsHistory court h
-        → AllByRecursion IsCommand h
-        → AreInOrder receipt_order (receipts court h) rows → AreSoundReceipts (map receipt_row rows) }
+    ensures receipts { (court : CourtSettings) (later : Bool) (h : History) (rows : List Receipt) → IsHistory court h
+        → AllByRecursion IsCommand h → AreOfKnownKinds later h
+        → AreInOrder receipt_order (receipts court h) rows → AreSoundReceipts later (map receipt_row rows) }
 {}
 
 /// The short days of a calendar move no end: by its days and spans alone the expected ends are the same, and

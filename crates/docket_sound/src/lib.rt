@@ -1,7 +1,7 @@
 //! Whether the rows of a docket's tables are sound, whatever database they come from.
 //!
 //! There is a check for each table. It takes the rows one after another, in the order of their keys,
-//! and keeps what it needs of them: how many rows each case has, the labels of cases, the calendar,
+//! and keeps what it needs of them: how many rows each case has, the labels of cases, the names of local rules, the calendar,
 //! the acts of one deadline, the ends of the deadlines whose time runs. A check that refuses a row
 //! tells that no table with the rows so far, and that row next, is sound. One that took all rows tells
 //! that they are; those of acts and of ends are asked for it at the end, since a row may be missing.
@@ -14,8 +14,9 @@ mod court;
 mod deadline;
 mod due;
 mod entry;
-mod labels;
+mod known_texts;
 mod laws;
+mod local_rule;
 mod numbering;
 mod party;
 mod receipt;
@@ -30,10 +31,12 @@ pub use court::{CourtRecord, sound_court};
 pub use deadline::DeadlineCheck;
 pub use due::DueCheck;
 pub use entry::EntryCheck;
+pub use known_texts::KnownTexts;
 pub use laws::{
     histories_are_sound, short_days_move_nothing, sorted_histories_are_sound,
     stored_ends_are_expected,
 };
+pub use local_rule::LocalRuleCheck;
 pub use numbering::{Key, Numbering};
 pub use party::PartyCheck;
 pub use receipt::{ReceiptCheck, ReceiptRecord};

@@ -1,6 +1,7 @@
 //! The table of short days.
 ghost use Rattle.std.specs.Prelude.{◌≡◌, ◌≤◌, ◌++◌, ◌∷◌, [], List, Ok, true, false, length};
 ghost use Rattle.docket_core.specs.declared.row.ShortDayRow.{ShortDayRow as Entered};
+ghost use Rattle.docket_sound.specs.Numbers.{Rises};
 ghost use Rattle.docket_sound.specs.ShortDays.{is_among, is_sound_short_day, may_be_next, has_place, AreSoundShortDays, HasTakenShortDays};
 
 use crate::calendar::{enter, told_by};
@@ -20,10 +21,11 @@ fn is_sound_short_day(close: u32, row: &ShortDayRow) -> bool
     (is_entered(row.day) && row.close.minute() < close) && is_text(100, &row.name)
 }
 
+/// Whether the number is one of those, which rise.
 fn is_among(numbers: &[u32], number: u32) -> bool
-    ensures { result ≡ is_among numbers.now number }
+    ensures { Rises numbers.now → result ≡ is_among numbers.now number }
 {
-    numbers.iter().any(|other| *other == number)
+    numbers.binary_search(&number).is_ok()
 }
 
 /// The check of the rows of short days. It keeps the days.
@@ -32,7 +34,7 @@ pub struct ShortDayCheck {
     /// The minute at which the office closes on other days.
     pub(crate) close: u32,
     pub(crate) next_row: u64,
-    /// The numbers of the rows in the table of the calendar.
+    /// The numbers of the rows in the table of the calendar, which rise.
     pub(crate) calendar: Vec<u32>,
     pub(crate) last: u32,
     pub(crate) days: Calendar,
@@ -40,7 +42,7 @@ pub struct ShortDayCheck {
 
 impl ShortDayCheck {
     pub(crate) fn new(alloc: Global, close: u32, next_row: u64, calendar: Vec<u32>) -> ShortDayCheck
-        ensures none { length calendar.items ≤ 4000 → HasTakenShortDays result [] }
+        ensures none { length calendar.items ≤ 4000 → Rises calendar.items → HasTakenShortDays result [] }
         ensures close { result.close ≡ close }
         ensures next_row { result.next_row ≡ next_row }
         ensures calendar { result.calendar ≡ calendar }
@@ -65,7 +67,7 @@ impl ShortDayCheck {
 
     /// Whether no row of the calendar has its number, and there is room for it beside them.
     fn has_place(&self, row: &ShortDayRow) -> bool
-        ensures { result ≡ has_place self.now row.now }
+        ensures { Rises self.now.calendar.items → result ≡ has_place self.now row.now }
     {
         !is_among(self.calendar.as_slice(), row.number)
             && self.calendar.len() + self.days.len() < MOST_ROWS

@@ -1,5 +1,5 @@
 -- The rows of any docket, after a question, after the judging of its database and after a command.
-use Rattle.std.proofs.Common.{◌≡◌, ◌∙◌, ◌⊎◌, inl, inr, ℕ, List, false, Ok, Err, Result, IsErrAnd, IfErr, IfOk, MatchResult, IsTrue, refl, sym, ap, subst, arith}
+use Rattle.std.proofs.Common.{◌≡◌, ◌∙◌, ◌⊎◌, inl, inr, ℕ, false, Ok, Err, Result, IsErrAnd, IfErr, IfOk, MatchResult, IsTrue, refl, sym, ap, subst, arith}
 use Rattle.std.specs.List.{Contains}
 use Rattle.std.proofs.lemmas.List.Elements.{Contains-push}
 use Rattle.sqlite.specs.Store.{Ghosts}
@@ -30,7 +30,7 @@ use Rattle.docket_tables.specs.declared.fault.ReadFault.TheVariants.{Store, NoMe
 use Rattle.docket_tables.specs.declared.table.Table.TheVariants.{Receipts}
 use Rattle.docket_tables.proofs.AnyLemmas.{receipt_behind}
 use Rattle.docket_tables.proofs.StandsLemmas.{unchanged_settled, undone_lasting}
-use Rattle.docket_store.specs.AnyRows.{AnswersWhole, HoldsDocketRows, IsNext, IsRecorded, PreservesAt, Preserves, PreservesRejected, RepeatsReceipt, ShowsReceipt, WritesOne, WritesWhole}
+use Rattle.docket_store.specs.AnyRows.{AnswersWhole, IsNext, IsRecorded, PreservesAt, Preserves, PreservesRejected, RepeatsReceipt, ShowsReceipt, WritesOne, WritesWhole}
 use Rattle.docket_store.specs.Applying.{FailsAs}
 use Rattle.docket_store.specs.Dockets.{Docket}
 use Rattle.docket_store.specs.Opening.{IsNotAdopted}

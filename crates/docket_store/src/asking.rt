@@ -7,7 +7,7 @@ ghost use Rattle.sqlite.specs.View.{doubt};
 ghost use Rattle.court_days.specs.Court.{CourtSettings, zone_of};
 ghost use Rattle.docket_core.specs.CalendarItems.{calendar_of};
 ghost use Rattle.docket_core.specs.EndRows.{end_rows_of};
-ghost use Rattle.docket_core.specs.Histories.{History, deadlines, items_of, standing_rows};
+ghost use Rattle.docket_core.specs.Histories.{History, deadlines, items_of, local_rule_rows, standing_rows};
 ghost use Rattle.docket_core.specs.Records.{calendar, case_record, deadline_lines};
 ghost use Rattle.docket_core.specs.Tables.{case_deadlines, rows_of};
 ghost use Rattle.docket_core.specs.declared.item.CalendarItem.{CalendarItem as Item};
@@ -25,9 +25,10 @@ use crate::lines::lines_told;
 use court_days::{Calendar, Court};
 use docket_changes::{case_deadlines, case_record, is_sound_case};
 use docket_core::{
-    CalendarItem, CalendarItems, CaseRecord, DeadlineLine, DeadlineView, EndRow, calendar_of,
+    CalendarItem, CalendarItems, CaseRecord, DeadlineLine, DeadlineView, EndRow, LocalRuleRow,
+    calendar_of,
 };
-use docket_tables::ends_of_case;
+use docket_tables::{ends_of_case, local_rules};
 use sqlite::{Alter, Connection};
 use std::alloc::Global;
 
@@ -45,6 +46,24 @@ pub(crate) fn record_numbered<S: Alter>(
         → Asks S.Store (serving conn.new court kept) h (λ found. found ≡ case_record h number) result }
 {
     match case_record(conn, alloc, number) {
+        Ok(found) => Ok(found),
+        Err(fault) => Err(read_fault(conn, fault)),
+    }
+}
+
+/// The local rules, in the order in which they were entered.
+pub(crate) fn rules_entered<S: Alter>(
+    conn: &mut Connection<S>,
+    alloc: Global,
+) -> Result<Vec<LocalRuleRow>, Fault>
+    requires { conn.old.in_transaction ≡ false }
+    ensures idle { conn.new.in_transaction ≡ false }
+    ensures clean { doubt (state S.Store conn.old).is_clean ≤ doubt (state S.Store conn.new).is_clean }
+    ensures stays { (rows : Rows) → HoldsRows S.Store conn.old rows → Preserves S.Store conn.new rows result }
+    ensures answer { (court : CourtSettings) (kept : Option (List Item)) (h : History) → Stands S.Store (serving conn.old court kept) h
+        → Asks S.Store (serving conn.new court kept) h (λ found. found.items ≡ local_rule_rows h) result }
+{
+    match local_rules(conn, alloc) {
         Ok(found) => Ok(found),
         Err(fault) => Err(read_fault(conn, fault)),
     }

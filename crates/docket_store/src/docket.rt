@@ -5,7 +5,7 @@ ghost use Rattle.sqlite.specs.State.{HasCleanDisk, Survives};
 ghost use Rattle.sqlite.specs.View.{doubt};
 ghost use Rattle.court_days.specs.Court.{CourtSettings};
 ghost use Rattle.std.specs.Option.{option_map};
-ghost use Rattle.docket_core.specs.Histories.{History};
+ghost use Rattle.docket_core.specs.Histories.{History, local_rule_rows};
 ghost use Rattle.docket_core.specs.Records.{case_record, deadline_lines};
 ghost use Rattle.docket_columns.specs.declared.version.Version.TheVariants.{First};
 ghost use Rattle.docket_core.specs.Tables.{rows_of};
@@ -32,7 +32,7 @@ ghost use Rattle.docket_store.specs.declared.listing.ListingEnd.TheVariants as l
 
 use crate::adopting::adopt_from;
 use crate::applying::apply_to;
-use crate::asking::{lines_numbered, record_numbered};
+use crate::asking::{lines_numbered, record_numbered, rules_entered};
 use crate::creating::{CreateFault, make_docket};
 use crate::fault::Fault;
 use crate::laws::courts_begin_without_a_record;
@@ -41,7 +41,7 @@ use crate::migrating::MigrateFault;
 use crate::returned::Returned;
 use court_days::{Court, Day};
 use docket_command::{Command, Reply};
-use docket_core::{CalendarItems, CaseRecord, DeadlineLine};
+use docket_core::{CalendarItems, CaseRecord, DeadlineLine, LocalRuleRow};
 use docket_migration::migrate;
 use docket_scan::{AdoptFault, FoundDocket, Holdings, Unwatched, Watch};
 use sqlite::{Alter, Connection};
@@ -188,8 +188,8 @@ impl<S: Alter> Docket<S> {
         alloc: Global,
         conn: Connection<S>,
     ) -> Result<Connection<S>, Returned<S, MigrateFault>>
-        // The docket of a history, which has no short days in the first version, stands for it in the second
-        // then, and no fault comes but want of memory or of the database.
+        // The docket of a history, whose commands are of the kinds that the first version knew, stands for it
+        // in the second then, and no fault comes but want of memory or of the database.
         ensures migrated { (court : CourtSettings) (h : History) → IsDocket court h → MayHold First h
             → HoldsRowsIn S.Store First conn (rows_by First court (rows_of court h))
             → MatchResult result (λ now. StandsFor S.Store now court h)
@@ -298,6 +298,25 @@ impl<S: Alter> Docket<S> {
         let conn = &mut self.conn;
         let kept = &mut self.calendar;
         let answer = lines_numbered(conn, self.alloc, &self.court, kept, number);
+        self.closed = is_store_failure(&answer);
+        answer
+    }
+
+    /// The court's local rules, in the order in which they were entered.
+    pub fn local_rules(&mut self) -> Result<Vec<LocalRuleRow>, Fault>
+        ensures court { self.new.court ≡ self.old.court }
+        ensures answer { (h : History) → Stands S.Store self.old h
+            → Asks S.Store self.new h (λ found. found.items ≡ local_rule_rows h) result }
+        ensures closed { self.old.closed ≡ true → (result ≡ Err fault.Closed) × (self.new ≡ self.old) }
+        // Of any docket, no row changes.
+        ensures stays { (rows : Rows) → HoldsRows S.Store self.old.conn rows → Preserves S.Store self.new.conn rows result }
+        ensures clean { doubt (state S.Store self.old.conn).is_clean ≤ doubt (state S.Store self.new.conn).is_clean }
+        ensures closes { self.old.closed ≡ false → (self.new.closed ≡ true) ↔ (result ≡ Err fault.StoreFailed) }
+    {
+        if self.closed {
+            return Err(Fault::Closed);
+        }
+        let answer = rules_entered(&mut self.conn, self.alloc);
         self.closed = is_store_failure(&answer);
         answer
     }

@@ -12,7 +12,7 @@ use Rattle.docket_core.specs.declared.end_row.EndRow.{EndRow}
 use Rattle.docket_core.specs.declared.item.CalendarItem.{CalendarItem}
 use Rattle.docket_core.specs.declared.item.CalendarItem.TheVariants as item
 use Rattle.docket_core.specs.declared.row.Change.{Change}
-use Rattle.docket_core.specs.declared.row.Change.TheVariants.{AddCalendar, RemoveCalendar, AddCase, AddParty, AddEntry, AddDeadline, AddAct}
+use Rattle.docket_core.specs.declared.row.Change.TheVariants.{AddCalendar, RemoveCalendar, AddCase, AddParty, AddEntry, AddDeadline, AddAct, AddLocalRule}
 use Rattle.docket_core.specs.declared.row.Receipt.{Receipt}
 use Rattle.docket_columns.specs.Cells.{court_cells, end_cells, receipt_cells}
 use Rattle.docket_tables.specs.AnyRows.{AreDocketRows, all_rows_changed, next_after, next_after_all, recorded, row_changed, with_calendar_row, with_stored}
@@ -21,7 +21,7 @@ use Rattle.docket_tables.specs.Holds.{IsKeyed, has_key}
 use Rattle.docket_tables.specs.Layouts.{Rows, with_row, with_rows}
 use Rattle.docket_tables.specs.declared.table.Table.{Table}
 use Rattle.docket_tables.specs.declared.table.Table.TheVariants.{Court, Calendar, Receipts, Ends, ShortDays}
-use Rattle.docket_tables.proofs.ContentsLemmas.{act_added, calendar_added, calendar_removed, case_added, deadline_added, entry_added, party_added, receipt_added}
+use Rattle.docket_tables.proofs.ContentsLemmas.{act_added, calendar_added, calendar_removed, case_added, deadline_added, entry_added, local_rule_added, party_added, receipt_added}
 
 -- rows with numbers
 
@@ -70,6 +70,7 @@ one_kept settings n stored (AddParty row) rows are = record { court = are.court;
 one_kept settings n stored (AddEntry row) rows are = record { court = are.court; keyed = are.keyed; keyed_short = are.keyed_short; ends = are.ends }
 one_kept settings n stored (AddDeadline row) rows are = record { court = are.court; keyed = are.keyed; keyed_short = are.keyed_short; ends = are.ends }
 one_kept settings n stored (AddAct row) rows are = record { court = are.court; keyed = are.keyed; keyed_short = are.keyed_short; ends = are.ends }
+one_kept settings n stored (AddLocalRule row) rows are = record { court = are.court; keyed = are.keyed; keyed_short = are.keyed_short; ends = are.ends }
 
 pub all_kept : (settings : CourtSettings) (n : ℕ) (stored : List EndRow) (xs : List Change) (rows : Rows) → AreDocketRows settings n stored rows → AreDocketRows settings (next_after_all xs n) stored (all_rows_changed settings n xs rows)
 all_kept settings n stored [] rows are = are
@@ -91,6 +92,7 @@ one_without_receipt settings n (AddParty row) rows = refl
 one_without_receipt settings n (AddEntry row) rows = refl
 one_without_receipt settings n (AddDeadline row) rows = refl
 one_without_receipt settings n (AddAct row) rows = refl
+one_without_receipt settings n (AddLocalRule row) rows = refl
 
 without_receipt : (settings : CourtSettings) (n : ℕ) (xs : List Change) (rows : Rows) → all_rows_changed settings n xs rows Receipts ≡ rows Receipts
 without_receipt settings n [] rows = refl
@@ -127,6 +129,7 @@ one_next (AddParty row) n = omega arith
 one_next (AddEntry row) n = omega arith
 one_next (AddDeadline row) n = omega arith
 one_next (AddAct row) n = omega arith
+one_next (AddLocalRule row) n = omega arith
 
 all_next : (xs : List Change) (n : ℕ) → next_after_all xs n ≤ n + length xs
 all_next [] n = omega arith
@@ -146,6 +149,7 @@ one_as_changed settings t stored (AddParty row) = λ i table. party_added settin
 one_as_changed settings t stored (AddEntry row) = λ i table. entry_added settings t stored row table i
 one_as_changed settings t stored (AddDeadline row) = λ i table. deadline_added settings t stored row table i
 one_as_changed settings t stored (AddAct row) = λ i table. act_added settings t stored row table i
+one_as_changed settings t stored (AddLocalRule row) = λ i table. local_rule_added settings t stored row table i
 
 next_as_changed : (x : Change) (t : Tables) → next_after x t.next_row ≡ (changed x t).next_row
 next_as_changed (AddCalendar row) t = refl
@@ -155,6 +159,7 @@ next_as_changed (AddParty row) t = refl
 next_as_changed (AddEntry row) t = refl
 next_as_changed (AddDeadline row) t = refl
 next_as_changed (AddAct row) t = refl
+next_as_changed (AddLocalRule row) t = refl
 
 all_as_changed : (settings : CourtSettings) (t : Tables) (stored : List EndRow) (xs : List Change) → all_rows_changed settings t.next_row xs (rows_with settings t stored) ≡ rows_with settings (all_changed xs t) stored
 all_as_changed settings t stored [] = refl

@@ -3,7 +3,7 @@ use Rattle.std.proofs.Common.{◌≡◌, ◌∙◌, ◌+◌, ◌<◌, ◌≤◌,
 use Rattle.std.proofs.lemmas.List.{take_more, length-take}
 use Rattle.docket_core.specs.Tables.{Tables, changed, all_changed}
 use Rattle.docket_core.specs.declared.row.Change.{Change}
-use Rattle.docket_core.specs.declared.row.Change.TheVariants.{AddCalendar, RemoveCalendar, AddCase, AddParty, AddEntry, AddDeadline, AddAct}
+use Rattle.docket_core.specs.declared.row.Change.TheVariants.{AddCalendar, RemoveCalendar, AddCase, AddParty, AddEntry, AddDeadline, AddAct, AddLocalRule}
 
 all_changed-append : (xs : List Change) (x : Change) (t : Tables) → all_changed (xs ++ x ∷ []) t ≡ changed x (all_changed xs t)
 all_changed-append [] x t = refl
@@ -17,6 +17,7 @@ one_counted (AddParty row) t = omega arith
 one_counted (AddEntry row) t = omega arith
 one_counted (AddDeadline row) t = omega arith
 one_counted (AddAct row) t = omega arith
+one_counted (AddLocalRule row) t = omega arith
 
 all_counted : (xs : List Change) (t : Tables) → (all_changed xs t).next_row ≤ t.next_row + length xs
 all_counted [] t = omega arith

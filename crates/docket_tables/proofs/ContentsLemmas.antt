@@ -13,17 +13,18 @@ use Rattle.docket_core.specs.ShortDays.{day_and_span_rows, short_day_rows}
 use Rattle.docket_core.specs.Tables.{Tables, rows_of, changed, with_receipt}
 use Rattle.docket_core.specs.declared.item.CalendarItem.{CalendarItem}
 use Rattle.docket_core.specs.declared.item.CalendarItem.TheVariants as item
-use Rattle.docket_core.specs.declared.row.Change.TheVariants.{AddCalendar, RemoveCalendar, AddCase, AddParty, AddEntry, AddDeadline, AddAct}
+use Rattle.docket_core.specs.declared.row.Change.TheVariants.{AddCalendar, RemoveCalendar, AddCase, AddParty, AddEntry, AddDeadline, AddAct, AddLocalRule}
 use Rattle.docket_core.specs.declared.row.CalendarRow.{CalendarRow}
 use Rattle.docket_core.specs.declared.row.CaseRow.{CaseRow}
 use Rattle.docket_core.specs.declared.row.PartyRow.{PartyRow}
 use Rattle.docket_core.specs.declared.row.EntryRow.{EntryRow}
 use Rattle.docket_core.specs.declared.row.DeadlineRow.{DeadlineRow}
 use Rattle.docket_core.specs.declared.row.ActRow.{ActRow}
+use Rattle.docket_core.specs.declared.row.LocalRuleRow.{LocalRuleRow}
 use Rattle.docket_core.specs.declared.row.Receipt.{Receipt}
-use Rattle.docket_columns.specs.Cells.{court_cells, calendar_cells, short_day_cells, case_cells, party_cells, entry_cells, deadline_cells, act_cells, receipt_cells, end_cells}
+use Rattle.docket_columns.specs.Cells.{court_cells, calendar_cells, short_day_cells, case_cells, party_cells, entry_cells, deadline_cells, act_cells, receipt_cells, end_cells, local_rule_cells}
 use Rattle.docket_tables.specs.declared.table.Table.{Table}
-use Rattle.docket_tables.specs.declared.table.Table.TheVariants.{Court, Calendar, Cases, Parties, Entries, Deadlines, Acts, Receipts, Ends, ShortDays}
+use Rattle.docket_tables.specs.declared.table.Table.TheVariants.{Court, Calendar, Cases, Parties, Entries, Deadlines, Acts, Receipts, Ends, ShortDays, LocalRules}
 use Rattle.docket_core.specs.declared.end_row.EndRow.{EndRow}
 use Rattle.docket_tables.specs.AnyRows.{with_calendar_row, without_calendar_row}
 use Rattle.docket_tables.specs.Contents.{rows_with, rows_in}
@@ -86,6 +87,10 @@ module _ (court : CourtSettings) (t : Tables) (ends : List EndRow) where
   pub act_added : (row : ActRow) → (table : Table) → with_row Acts (act_cells row) (rows_with court t ends) table ≡ rows_with court (changed (AddAct row) t) ends table
   act_added row Acts = sym (map-append act_cells t.acts (row ∷ []))
   act_added row other = refl
+
+  pub local_rule_added : (row : LocalRuleRow) → (table : Table) → with_row LocalRules (local_rule_cells row) (rows_with court t ends) table ≡ rows_with court (changed (AddLocalRule row) t) ends table
+  local_rule_added row LocalRules = sym (map-append local_rule_cells t.local_rules (row ∷ []))
+  local_rule_added row other = refl
 
   pub receipt_added : (row : Receipt) → (table : Table) → with_row Receipts (receipt_cells row) (rows_with court t ends) table ≡ rows_with court (with_receipt row.command row.reply t) ends table
   receipt_added row Receipts = sym (map-append receipt_cells t.receipts (row ∷ []))

@@ -1,24 +1,27 @@
 -- The case of a number, and what stands under a key.
 use Rattle.std.proofs.Common.{◌≡◌, ◌∙◌, ◌==◌, ◌+◌, ◌≤◌, ◌⊎◌, inl, inr, ℕ, zero, suc, pos, Bool, true, ◌&&◌, ap₂, List, [], ◌∷◌, map, filter, length, slice_get, Some, None, Option, Result, Ok, refl, sym, ap, subst, arith}
 use Rattle.std.specs.List.{AllByRecursion}
+use Rattle.std.specs.Option.{option_map}
 use Rattle.std.specs.Str.{bytes_eq}
 use Rattle.sqlite.specs.declared.types.Value.TheVariants.{Int, Text}
 use Rattle.sqlite.specs.Collation.TheVariants.{Binary}
 use Rattle.sqlite.specs.Order.{Row}
 use Rattle.sqlite_schema.specs.Rules.{equal}
 use Rattle.sqlite_trees.proofs.ListLemmas.{all-filter}
+use Rattle.court_rules.specs.declared.local_rule.LocalRule.{LocalRule}
 use Rattle.docket_command.specs.declared.command.Command.{Command}
 use Rattle.docket_core.specs.Outcomes.{kept, kept_by}
 use Rattle.docket_core.specs.Records.{case_at}
-use Rattle.docket_core.specs.Histories.{deadlines_of_case}
+use Rattle.docket_core.specs.Histories.{deadlines_of_case, local_rule_in}
 use Rattle.docket_core.specs.declared.row.CaseRow.{CaseRow}
 use Rattle.docket_core.specs.declared.row.DeadlineRow.{DeadlineRow}
+use Rattle.docket_core.specs.declared.row.LocalRuleRow.{LocalRuleRow}
 use Rattle.docket_core.specs.declared.row.Receipt.{Receipt}
 use Rattle.docket_core.specs.declared.view.Kept.{Kept}
 use Rattle.docket_core.specs.declared.view.Kept.TheVariants.{Fresh}
-use Rattle.docket_columns.specs.Cells.{case_cells, deadline_cells, receipt_cells}
-use Rattle.docket_columns.specs.Fits.{IsCaseRow, IsDeadlineRow, IsReceipt}
-use Rattle.docket_orderly.specs.Orderly.{RunsFrom, receipts_under}
+use Rattle.docket_columns.specs.Cells.{case_cells, deadline_cells, local_rule_cells, receipt_cells}
+use Rattle.docket_columns.specs.Fits.{IsCaseRow, IsDeadlineRow, IsLocalRuleRow, IsReceipt}
+use Rattle.docket_orderly.specs.Orderly.{RunsFrom, local_rules_named, receipts_under}
 use Rattle.docket_tables.specs.Queries.{IsAnswer}
 use Rattle.docket_tables.specs.Readings.{IsReadAs, row_at}
 use Rattle.docket_tables.specs.declared.fault.ReadFault.{ReadFault}
@@ -97,3 +100,20 @@ kept_read c result found receipts each few answer none one =
   where
     is : found ≡ map receipt_cells (receipts_under c.key receipts)
     is = the_one ask.Receipt (Text c.key ∷ []) receipt_cells (λ r. bytes_eq r.command.key c.key) (λ r. and_yes _ ∙ equal_text r.command.key c.key) receipts found refl few answer
+
+pub local_rule_read : (name : List ℕ) (result : Result (Option LocalRule) ReadFault) (found : List Row) (rows : List LocalRuleRow) → AllByRecursion IsLocalRuleRow rows → length (local_rules_named name rows) ≤ 1
+    → IsAnswer ask.LocalRuleNamed (Text name ∷ []) (map local_rule_cells rows) found
+    → (found ≡ [] → IsReadAs (λ r. r ≡ None) result) → ((row : LocalRuleRow) → IsLocalRuleRow row → found ≡ local_rule_cells row ∷ [] → IsReadAs (λ r. r ≡ Some row.rule) result)
+    → IsReadAs (λ r. r ≡ local_rule_in rows name) result
+local_rule_read name result found rows each few answer none one =
+    elim (first_kept (λ (row : LocalRuleRow). bytes_eq row.rule.name name) rows) [
+      | inl absent ↦ subst (λ o. IsReadAs (λ r. r ≡ o) result) (sym (ap rule_of absent.0)) (none (is ∙ ap (map local_rule_cells) absent.1))
+      | inr it ↦ subst (λ o. IsReadAs (λ r. r ≡ o) result) (sym (ap rule_of it.2))
+          (one it.0 (subst (AllByRecursion IsLocalRuleRow) it.3 (all-filter _ _ rows each)).0 (is ∙ ap (map local_rule_cells) (it.3 ∙ alone it.0 it.1 (omega (arith, few, ap length it.3)))))
+    ]
+  where
+    rule_of : Option LocalRuleRow → Option LocalRule
+    rule_of found = option_map (λ (row : LocalRuleRow). row.rule) found
+
+    is : found ≡ map local_rule_cells (local_rules_named name rows)
+    is = the_one ask.LocalRuleNamed (Text name ∷ []) local_rule_cells (λ row. bytes_eq row.rule.name name) (λ row. and_yes _ ∙ equal_text row.rule.name name) rows found refl few answer

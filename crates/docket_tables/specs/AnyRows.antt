@@ -8,9 +8,9 @@ use Rattle.docket_core.specs.declared.end_row.EndRow.{EndRow}
 use Rattle.docket_core.specs.declared.item.CalendarItem.{CalendarItem}
 use Rattle.docket_core.specs.declared.item.CalendarItem.TheVariants.{Short}
 use Rattle.docket_core.specs.declared.row.Change.{Change}
-use Rattle.docket_core.specs.declared.row.Change.TheVariants.{AddCalendar, RemoveCalendar, AddCase, AddParty, AddEntry, AddDeadline, AddAct}
-use Rattle.docket_columns.specs.Cells.{court_cells, calendar_cells, short_day_cells, case_cells, party_cells, entry_cells, deadline_cells, act_cells, receipt_cells, end_cells}
-use Rattle.docket_tables.specs.declared.table.Table.TheVariants.{Court, Calendar, Cases, Parties, Entries, Deadlines, Acts, Receipts, Ends, ShortDays}
+use Rattle.docket_core.specs.declared.row.Change.TheVariants.{AddCalendar, RemoveCalendar, AddCase, AddParty, AddEntry, AddDeadline, AddAct, AddLocalRule}
+use Rattle.docket_columns.specs.Cells.{court_cells, calendar_cells, short_day_cells, case_cells, party_cells, entry_cells, deadline_cells, act_cells, receipt_cells, end_cells, local_rule_cells}
+use Rattle.docket_tables.specs.declared.table.Table.TheVariants.{Court, Calendar, Cases, Parties, Entries, Deadlines, Acts, Receipts, Ends, ShortDays, LocalRules}
 use Rattle.docket_tables.specs.Holds.{IsKeyed, without_number}
 use Rattle.docket_tables.specs.Layouts.{Rows, with_row, with_rows}
 
@@ -45,6 +45,7 @@ row_changed settings n (AddParty row) rows = with_row Parties (party_cells row) 
 row_changed settings n (AddEntry row) rows = with_row Entries (entry_cells row) rows
 row_changed settings n (AddDeadline row) rows = with_row Deadlines (deadline_cells row) rows
 row_changed settings n (AddAct row) rows = with_row Acts (act_cells row) rows
+row_changed settings n (AddLocalRule row) rows = with_row LocalRules (local_rule_cells row) rows
 
 -- the number of the next row of the calendar, after a change
 abbrev pub next_after : Change → ℕ → ℕ

@@ -8,7 +8,7 @@ use Rattle.docket_core.specs.Histories.{deadlines_of_case, deadlines_from}
 use Rattle.docket_core.specs.ShortDays.{day_and_span_rows, short_day_rows}
 use Rattle.docket_core.specs.Tables.{Tables}
 use Rattle.docket_core.specs.declared.end_row.EndRow.{EndRow}
-use Rattle.docket_columns.specs.Cells.{court_cells, court_cells_of, calendar_cells, short_day_cells, case_cells, party_cells, entry_cells, deadline_cells, act_cells, receipt_cells, end_cells}
+use Rattle.docket_columns.specs.Cells.{court_cells, court_cells_of, calendar_cells, short_day_cells, case_cells, party_cells, entry_cells, deadline_cells, act_cells, receipt_cells, end_cells, local_rule_cells}
 use Rattle.docket_columns.specs.Fits.{IsEndRow}
 use Rattle.docket_columns.specs.declared.version.Version.{Version}
 use Rattle.docket_columns.specs.declared.version.Version.TheVariants.{First, Second}
@@ -27,7 +27,7 @@ rows_with court t ends Acts = map act_cells t.acts
 rows_with court t ends Receipts = map receipt_cells t.receipts
 rows_with court t ends Ends = map end_cells ends
 rows_with court t ends ShortDays = map short_day_cells (short_day_rows t.calendar)
-rows_with court t ends LocalRules = []
+rows_with court t ends LocalRules = map local_rule_cells t.local_rules
 
 -- with the ends that the tables have, by the calendar that stands in them
 abbrev pub rows_in : CourtSettings → Tables → Rows

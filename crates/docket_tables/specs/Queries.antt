@@ -47,6 +47,9 @@ question_of ask.Acts = question table.Acts (0 ∷ []) (1 ∷ 2 ∷ [])
 question_of ask.DeadlineActs = question table.Acts (0 ∷ 1 ∷ []) (2 ∷ [])
 question_of ask.Receipt = question table.Receipts (0 ∷ []) []
 question_of ask.Ends = question table.Ends (0 ∷ []) (1 ∷ [])
+question_of ask.LastLocalRule = last table.LocalRules [] (0 ∷ [])
+question_of ask.LocalRuleNamed = question table.LocalRules (1 ∷ []) []
+question_of ask.LocalRules = question table.LocalRules [] (0 ∷ [])
 
 abbrev pub table_of : Query → Table
 table_of query = (question_of query).table

@@ -24,7 +24,7 @@ use crate::store::{
 use crate::table::Table;
 use docket_columns::{
     act_values, calendar_values, case_values, deadline_values, end_values, entry_values,
-    party_values, receipt_values, short_day_values,
+    local_rule_values, party_values, receipt_values, short_day_values,
 };
 use docket_command::Command;
 use docket_core::{CalendarItem, CalendarRow, Change, Changes, EndChange};
@@ -92,6 +92,7 @@ fn change_row<S: Alter>(tx: &mut Transaction<'_, S>, change: &Change) -> Result<
         Change::AddEntry(row) => insert(tx, Table::Entries, &entry_values(row)),
         Change::AddDeadline(row) => insert(tx, Table::Deadlines, &deadline_values(row)),
         Change::AddAct(row) => insert(tx, Table::Acts, &act_values(row)),
+        Change::AddLocalRule(row) => insert(tx, Table::LocalRules, &local_rule_values(row)),
     }
 }
 

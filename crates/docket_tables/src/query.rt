@@ -43,6 +43,12 @@ pub enum Query {
     Receipt,
     /// The ends of the deadlines of a case, in the order of the deadlines.
     Ends,
+    /// The local rule with the highest number.
+    LastLocalRule,
+    /// The local rule of a name.
+    LocalRuleNamed,
+    /// The local rules, in the order of their numbers.
+    LocalRules,
 }
 
 /// The text of the statement that asks it.
@@ -95,5 +101,14 @@ pub(crate) fn select_text(query: Query) -> &'static str
             "SELECT case_no, deadline_no, day, moment FROM due WHERE case_no = ?1 ORDER BY deadline_no"
         }
         Query::Receipt => { "SELECT command_key, body, reply FROM receipt WHERE command_key = ?1" }
+        Query::LastLocalRule => {
+            "SELECT number, name, days, direction, three, extendable FROM local_rule ORDER BY number DESC LIMIT 1"
+        }
+        Query::LocalRuleNamed => {
+            "SELECT number, name, days, direction, three, extendable FROM local_rule WHERE name = ?1"
+        }
+        Query::LocalRules => {
+            "SELECT number, name, days, direction, three, extendable FROM local_rule ORDER BY number"
+        }
     }
 }

@@ -7,7 +7,7 @@ ghost use Rattle.sqlite.specs.State.{HasCleanDisk};
 ghost use Rattle.sqlite.specs.View.{doubt};
 ghost use Rattle.docket_command.specs.declared.refusal.Reply.{Reply};
 ghost use Rattle.docket_core.specs.EndRows.{end_rows};
-ghost use Rattle.docket_core.specs.Histories.{parties_of_case, entries_of_case, deadlines_of_case, acts_of_deadline};
+ghost use Rattle.docket_core.specs.Histories.{parties_of_case, entries_of_case, deadlines_of_case, acts_of_deadline, local_rule_in};
 ghost use Rattle.docket_core.specs.Outcomes.{kept};
 ghost use Rattle.docket_core.specs.Records.{case_at};
 ghost use Rattle.docket_core.specs.declared.view.Kept.TheVariants.{Same};
@@ -22,13 +22,15 @@ ghost use Rattle.docket_tables.specs.Stands.{HoldsRows};
 use crate::fault::ReadFault;
 use crate::query::Query;
 use crate::rows::{
-    acts_alone_in, all_in, calendar_in, court_in, deadline_in, first_in, kept_in, number_in,
+    acts_alone_in, all_in, calendar_in, court_in, first_in, kept_in, local_rule_in, number_in,
 };
 use crate::store::ask;
 use court_rules::Act;
 use docket_columns::CourtRow;
-use docket_command::Command;
-use docket_core::{ActRow, CalendarRow, CaseRow, DeadlineRow, EndRow, EntryRow, Kept, PartyRow};
+use docket_command::{Command, LocalRule};
+use docket_core::{
+    ActRow, CalendarRow, CaseRow, DeadlineRow, EndRow, EntryRow, Kept, LocalRuleRow, PartyRow,
+};
 use sqlite::types::ToSql;
 use sqlite::{Alter, Connection};
 use std::alloc::Global;
@@ -177,6 +179,7 @@ pub fn count_deadlines<S: Alter>(conn: &mut Connection<S>, case: u32) -> Result<
 /// The deadline of a case and a number.
 pub fn deadline<S: Alter>(
     conn: &mut Connection<S>,
+    alloc: Global,
     case: u32,
     number: u32,
 ) -> Result<Option<DeadlineRow>, ReadFault>
@@ -186,7 +189,7 @@ pub fn deadline<S: Alter>(
     ensures mode { conn.old.in_transaction ≡ false → conn.new.in_transaction ≡ false }
 {
     let rows = ask(conn, Query::Deadline, &[case.to_sql(), number.to_sql()])?;
-    deadline_in(rows.as_slice())
+    first_in(alloc, rows.as_slice())
 }
 
 /// The acts of a deadline of a case, in the order of their numbers.
@@ -251,6 +254,46 @@ pub fn ends_of_case<S: Alter>(
     ensures mode { conn.old.in_transaction ≡ false → conn.new.in_transaction ≡ false }
 {
     let rows = ask(conn, Query::Ends, &[case.to_sql()])?;
+    all_in(alloc, rows.as_slice())
+}
+
+/// How many local rules there are.
+pub fn count_local_rules<S: Alter>(conn: &mut Connection<S>) -> Result<u32, ReadFault>
+    ensures read { Reads S.Store conn.old conn.new result (λ _ t found. found ≡ length t.local_rules) }
+    ensures stays { (rows : Rows) → HoldsRows S.Store conn.old rows → Stays S.Store conn.new rows result }
+    ensures clean { doubt (state S.Store conn.old).is_clean ≤ doubt (state S.Store conn.new).is_clean }
+    ensures mode { conn.old.in_transaction ≡ false → conn.new.in_transaction ≡ false }
+{
+    let rows = ask(conn, Query::LastLocalRule, &[])?;
+    number_in(rows.as_slice(), 0)
+}
+
+/// The local rule of a name.
+pub fn local_rule<S: Alter>(
+    conn: &mut Connection<S>,
+    alloc: Global,
+    name: &str,
+) -> Result<Option<LocalRule>, ReadFault>
+    ensures read { Reads S.Store conn.old conn.new result (λ _ t found. found ≡ local_rule_in t.local_rules name.now) }
+    ensures stays { (rows : Rows) → HoldsRows S.Store conn.old rows → Stays S.Store conn.new rows result }
+    ensures clean { doubt (state S.Store conn.old).is_clean ≤ doubt (state S.Store conn.new).is_clean }
+    ensures mode { conn.old.in_transaction ≡ false → conn.new.in_transaction ≡ false }
+{
+    let rows = ask(conn, Query::LocalRuleNamed, &[name.to_sql()])?;
+    local_rule_in(alloc, rows.as_slice())
+}
+
+/// The local rules, in the order of their numbers.
+pub fn local_rules<S: Alter>(
+    conn: &mut Connection<S>,
+    alloc: Global,
+) -> Result<Vec<LocalRuleRow>, ReadFault>
+    ensures read { Reads S.Store conn.old conn.new result (λ _ t found. found.items ≡ t.local_rules) }
+    ensures stays { (rows : Rows) → HoldsRows S.Store conn.old rows → Stays S.Store conn.new rows result }
+    ensures clean { doubt (state S.Store conn.old).is_clean ≤ doubt (state S.Store conn.new).is_clean }
+    ensures mode { conn.old.in_transaction ≡ false → conn.new.in_transaction ≡ false }
+{
+    let rows = ask(conn, Query::LocalRules, &[])?;
     all_in(alloc, rows.as_slice())
 }
 

@@ -10,20 +10,21 @@ ghost use Rattle.docket_command.specs.declared.refusal.Reply.{Reply};
 ghost use Rattle.docket_core.specs.Outcomes.{kept_by};
 ghost use Rattle.docket_core.specs.ShortDays.{day_and_span_rows, short_day_rows};
 ghost use Rattle.docket_core.specs.declared.row.CalendarRow.{CalendarRow as Entered};
-ghost use Rattle.docket_core.specs.declared.row.DeadlineRow.{DeadlineRow as Deadline};
+ghost use Rattle.docket_core.specs.declared.row.LocalRuleRow.{LocalRuleRow as Entry};
 ghost use Rattle.docket_core.specs.declared.row.Receipt.{Receipt as Stored};
 ghost use Rattle.docket_core.specs.declared.view.Kept.TheVariants as kept;
 ghost use Rattle.docket_wire.specs.Valid.{IsCommand};
 ghost use Rattle.docket_wire.specs.Writing.{canonical};
-ghost use Rattle.docket_columns.specs.Cells.{act_cells, calendar_cells, court_cells, deadline_cells, receipt_cells, short_day_cells, stored_cells};
-ghost use Rattle.docket_columns.specs.Fits.{IsActRow, IsCalendarRow, IsCourtRow, IsDeadlineRow, IsReceipt, IsShortDayRow};
+ghost use Rattle.docket_columns.specs.Cells.{act_cells, calendar_cells, court_cells, local_rule_cells, receipt_cells, short_day_cells, stored_cells};
+ghost use Rattle.docket_columns.specs.Fits.{IsActRow, IsCalendarRow, IsCourtRow, IsLocalRuleRow, IsReceipt, IsShortDayRow};
 ghost use Rattle.docket_orderly.specs.Orderly.{Rises};
 ghost use Rattle.docket_tables.specs.Readings.{IsReadAs};
 
 use crate::fault::ReadFault;
 use court_rules::Act;
-use docket_columns::{CourtRow, StoredRow, Version, count_at, court_of, deadline_of, kept_by};
-use docket_core::{ActRow, CalendarRow, DeadlineRow, Kept, ShortDayRow};
+use docket_columns::{CourtRow, StoredRow, Version, count_at, court_of, kept_by};
+use docket_command::LocalRule;
+use docket_core::{ActRow, CalendarRow, Kept, LocalRuleRow, ShortDayRow};
 use sqlite::Row;
 use std::alloc::{AllocError, Global};
 
@@ -97,18 +98,13 @@ pub(crate) fn acts_alone_in(alloc: Global, rows: &[Row]) -> Result<Vec<Act>, Rea
     Ok(acts_alone(alloc, acts.as_slice())?)
 }
 
-/// The deadline of the first row, if there is one.
-pub(crate) fn deadline_in(rows: &[Row]) -> Result<Option<DeadlineRow>, ReadFault>
+/// The local rule of the first row, if there is one.
+pub(crate) fn local_rule_in(alloc: Global, rows: &[Row]) -> Result<Option<LocalRule>, ReadFault>
     ensures none { rows.now ≡ [] → IsReadAs (λ found. found ≡ None) result }
-    ensures one { (d : Deadline) → IsDeadlineRow d → rows.now ≡ deadline_cells d ∷ [] → IsReadAs (λ found. found ≡ Some d) result }
+    ensures one { (r : Entry) → IsLocalRuleRow r → rows.now ≡ local_rule_cells r ∷ [] → IsReadAs (λ found. found ≡ Some r.rule) result }
 {
-    let Some(row) = rows.first() else {
-        return Ok(None);
-    };
-    match deadline_of(row) {
-        Some(deadline) => Ok(Some(deadline)),
-        None => Err(ReadFault::Damaged),
-    }
+    let found: Option<LocalRuleRow> = first_in(alloc, rows)?;
+    Ok(found.map(|row| row.rule))
 }
 
 /// The court of the first row.

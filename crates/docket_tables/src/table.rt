@@ -20,7 +20,7 @@ pub enum Table {
     Ends,
     /// The days on which the office is scheduled to close earlier than the court closes.
     ShortDays,
-    /// The deadlines of the court's local rules.
+    /// The court's local rules.
     LocalRules,
 }
 

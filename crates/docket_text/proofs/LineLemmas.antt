@@ -1,7 +1,8 @@
 -- The lengths of the lines of a calendar.
-use Rattle.std.proofs.Common.{◌≡◌, ℕ, ◌-◌, ◌<◌, ◌≤◌, ◌==◌, List, length, replicate, length-append, lit≤, arith}
+use Rattle.std.proofs.Common.{◌≡◌, ℕ, ◌-◌, ◌<◌, ◌≤◌, ◌==◌, List, length, replicate, length-append, lit≤, arith, ◌&&◌, true, nat_le}
 use Rattle.std.specs.Prelude.{decimal}
-use Rattle.std.proofs.lemmas.Bool.{cond_both}
+use Rattle.std.proofs.lemmas.Bool.{and_parts, cond_both}
+use Rattle.std.proofs.lemmas.Bool.Decides.{nat_tests}
 use Rattle.std.proofs.lemmas.Fmt.{length-decimal-le}
 use Rattle.std.proofs.lemmas.List.{length-replicate}
 use Rattle.civil_time.specs.LocalTime.{local_day}
@@ -9,7 +10,10 @@ use Rattle.civil_time.proofs.DayTexts.{day_text-length}
 use Rattle.court_days.specs.Court.{CourtSettings, zone_of}
 use Rattle.court_days.specs.declared.filing.End.{End}
 use Rattle.court_days.specs.declared.filing.End.TheVariants.{LastDay, Moment}
+use Rattle.court_rules.specs.LocalRules.{is_local_name, IsDeadlineRule, deadline_rule_name}
 use Rattle.court_rules.specs.Rules.{line_of, name_of}
+use Rattle.court_rules.specs.declared.deadline_rule.DeadlineRule.{DeadlineRule}
+use Rattle.court_rules.specs.declared.deadline_rule.DeadlineRule.TheVariants.{Listed, Local}
 use Rattle.court_rules.specs.declared.rule.Rule.{Rule}
 use Rattle.court_rules.specs.declared.rule.Rule.TheVariants.{Ordered}
 use Rattle.docket_core.specs.declared.record.DueRow.{DueRow}
@@ -49,3 +53,14 @@ pub name_of-length : (rule : Rule) → length (name_of rule) ≤ 16
 unfolding line_of
 name_of-length Ordered = lit≤ tt
 name_of-length _ = lit≤ tt
+
+local_name-length : (name : List ℕ) → is_local_name name ≡ true → length name ≤ 16
+unfolding is_local_name
+local_name-length name e =
+    let lengths : (nat_le 3 (length name) && nat_le (length name) 16) ≡ true = (and_parts (nat_le 3 (length name) && nat_le (length name) 16) _ e).0 in
+    let most : nat_le (length name) 16 ≡ true = (and_parts (nat_le 3 (length name)) _ lengths).1 in
+    grind (arith, nat_tests)
+
+pub rule_name-length : (rule : DeadlineRule) → IsDeadlineRule rule → length (deadline_rule_name rule) ≤ 16
+rule_name-length (Listed rule) is = name_of-length rule
+rule_name-length (Local name) is = local_name-length name is

@@ -6,8 +6,8 @@ ghost use Rattle.std.specs.declared.cmp.Ordering.TheVariants.{Less};
 ghost use Rattle.civil_time.specs.Civil.{HasYmd, FallsOn, weekday};
 ghost use Rattle.court_days.specs.Court.{CourtSettings};
 ghost use Rattle.court_days.specs.Holiday.{is_fixed_date, is_monday_date, is_thursday_date, IsFixedHoliday, IsStatutory};
-ghost use Rattle.court_rules.specs.Rules.{name_of};
-ghost use Rattle.court_rules.specs.declared.rule.Rule.{Rule};
+ghost use Rattle.court_rules.specs.LocalRules.{IsDeadlineRule, deadline_rule_name};
+ghost use Rattle.court_rules.specs.declared.deadline_rule.DeadlineRule.{DeadlineRule};
 ghost use Rattle.docket_core.specs.declared.record.DueRow.{DueRow};
 ghost use Rattle.docket_text.specs.CalendarOrder.{IsCalendar, calendar_cmp};
 ghost use Rattle.docket_text.specs.CalendarTexts.{calendar_line};
@@ -20,7 +20,7 @@ pub fn lines_have_57_bytes()
     ensures lines { (court : CourtSettings) (row : DueRow) → row.case < 10_000_000
         → row.number < 10_000 → length row.rule ≤ 16 → row.party < 10_000
         → length (calendar_line court row) ≡ 58 }
-    ensures rules { (rule : Rule) → length (name_of rule) ≤ 16 }
+    ensures rules { (rule : DeadlineRule) → IsDeadlineRule rule → length (deadline_rule_name rule) ≤ 16 }
 {}
 
 /// No row of a calendar stands before one that comes earlier.

@@ -8,6 +8,7 @@ mod case_fields;
 mod csv_fault;
 mod fault;
 mod laws;
+mod local_fields;
 mod member;
 mod motion_fields;
 mod reading;

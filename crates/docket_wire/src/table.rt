@@ -10,14 +10,14 @@ ghost use Rattle.docket_wire.specs.Writing.{put_all, action_members};
 use crate::fault::WireFault;
 use crate::written::Members;
 use crate::{
-    calendar_fields as calendar, case_fields as case, motion_fields as motion,
-    service_fields as service, time_fields as time,
+    calendar_fields as calendar, case_fields as case, local_fields as local,
+    motion_fields as motion, service_fields as service, time_fields as time,
 };
 use docket_command::Field::{
     self, Abroad, Allowed, At, Attorney, AttorneyMethod, Basis, Caption, Case, Close, Count, Day,
-    Days, Deadline, Direction, Discharged, Do, Due, End, Entered, Filed, Hearing, Key, Kind, Label,
-    Method, Name, Neglect, Notice, Opponent, Outcome, Party, Returned, Role, Row, Rows, Sent,
-    Served, Start, Text, Unit, Until, Way,
+    Days, Deadline, Direction, Discharged, Do, Due, End, Entered, Extendable, Filed, Hearing, Key,
+    Kind, Label, Method, Name, Neglect, Notice, Opponent, Outcome, Party, Returned, Role, Row,
+    Rows, Rule, Sent, Served, Start, Text, Three, Unit, Until, Way,
 };
 use docket_command::{Action, CommandName};
 use serde_json::Value;
@@ -76,6 +76,8 @@ pub(crate) fn members_of(name: CommandName) -> KnownMembers
         CommandName::Extend => members(&[Key, Case, Deadline, At, Neglect], &[Do, Days, Until]),
         CommandName::Satisfy => members(&[Key, Case, Deadline, At, Way], &[Do]),
         CommandName::Vacate => members(&[Key, Case, Deadline], &[Do]),
+        CommandName::LocalRule => members(&[Key, Name, Days, Direction, Three, Extendable], &[Do]),
+        CommandName::LocalPeriod => members(&[Key, Case, Party, Rule, Start], &[Do, Method]),
     }
 }
 
@@ -110,6 +112,8 @@ pub(crate) fn read_action(
         CommandName::Extend => time::read_extend(object),
         CommandName::Satisfy => time::read_satisfy(object),
         CommandName::Vacate => time::read_vacate(object),
+        CommandName::LocalRule => local::read_local_rule(alloc, object),
+        CommandName::LocalPeriod => local::read_local_period(alloc, object),
     }
 }
 
@@ -148,5 +152,7 @@ pub(crate) fn put_action(
         Action::Extend(command) => time::put_extend(members, alloc, command),
         Action::Satisfy(command) => time::put_satisfy(members, alloc, command),
         Action::Vacate(command) => time::put_vacate(members, alloc, command),
+        Action::LocalRule(command) => local::put_local_rule(members, alloc, command),
+        Action::LocalPeriod(command) => local::put_local_period(members, alloc, command),
     }
 }

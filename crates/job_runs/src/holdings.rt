@@ -34,7 +34,7 @@ pub(crate) fn holdings_text(alloc: Global, held: &Holdings) -> Result<String, Al
     let version = Version::KEPT.number();
     let deadlines = deadlines_line(alloc, held)?;
     format!(in alloc;
-        "version {version}\ncalendar rows {}\ncases {}\nparties {}\nentries {}\n{deadlines}receipts {}\n",
-        held.calendar_rows, held.cases, held.parties, held.entries, held.receipts
+        "version {version}\ncalendar rows {}\nlocal rules {}\ncases {}\nparties {}\nentries {}\n{deadlines}receipts {}\n",
+        held.calendar_rows, held.local_rules, held.cases, held.parties, held.entries, held.receipts
     )
 }

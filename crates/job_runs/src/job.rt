@@ -7,6 +7,7 @@ use crate::holiday::tell_holidays;
 use crate::import::import_days;
 use crate::migrate::migrate_docket;
 use crate::progress::Progress;
+use crate::rules::tell_table;
 use crate::status::Status;
 use crate::telling::failed;
 use crate::work::{Work, work_on_file};
@@ -46,6 +47,10 @@ pub fn run_job<R: Read, W: Write, E: Write>(
         Job::Case { file, number } => (file, Work::Case(number)),
         Job::Calendar { file, from, to } => (file, Work::Calendar(from, to)),
         Job::Check { file } => (file, Work::Check),
+        Job::Rules { file } => match file {
+            Some(file) => (file, Work::Rules),
+            None => return tell_table(rt.alloc(), w, e),
+        },
         Job::Serve { file, port, count } => (file, Work::Serve { port, count }),
     };
     work_on_file(rt, progress, file, &work, r, w, e)

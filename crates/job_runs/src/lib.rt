@@ -14,6 +14,7 @@ mod import;
 mod job;
 mod migrate;
 mod progress;
+mod rules;
 mod serving;
 mod status;
 mod telling;

@@ -7,6 +7,7 @@ use crate::command::answer_commands;
 use crate::docket::{adopted, close_connection, open_connection};
 use crate::import::import_told;
 use crate::progress::Progress;
+use crate::rules::rules_told;
 use crate::serving::listen;
 use crate::status::Status;
 use crate::telling::write_text;
@@ -28,6 +29,8 @@ pub(crate) enum Work<'a> {
     Case(u32),
     /// The deadlines that fall due from one day to another are told.
     Calendar(Day, Day),
+    /// The rules are told, with the docket's own.
+    Rules,
     /// What the tables hold is told.
     Check,
     /// So many requests that come to a port are answered.
@@ -70,6 +73,7 @@ fn work_with<S: Alter, R: Read, W: Write, E: Write>(
         Work::Calendar(from, to) => {
             Told::nothing(alloc, tell_calendar(alloc, &mut docket, from, to, w, e))
         }
+        Work::Rules => rules_told(alloc, &mut docket, e),
         Work::Check => sound_told(alloc, docket.court(), held, e),
         Work::Serve { port, count } => {
             Told::nothing(alloc, listen(rt, port, count, &mut docket, w, e))

@@ -48,7 +48,7 @@ enum Play {
 }
 
 /// The input is data/NAME.in, and what is to be written is data/NAME.out.
-const INPUTS: [(Play, &str); 42] = [
+const INPUTS: [(Play, &str); 44] = [
     (Play::Count, "count-days"),
     (Play::Count, "count-1"),
     (Play::Count, "count-2"),
@@ -59,6 +59,7 @@ const INPUTS: [(Play, &str); 42] = [
     (Play::Run, "run-chain"),
     (Play::Run, "run-general"),
     (Play::Run, "run-hours"),
+    (Play::Run, "run-local"),
     (Play::Run, "run-short"),
     (Play::Run, "run-short-calendar"),
     (Play::Run, "run-wire"),
@@ -66,6 +67,7 @@ const INPUTS: [(Play, &str); 42] = [
     (Play::Worked, "worked-filings"),
     (Play::Worked, "worked-holiday"),
     (Play::Worked, "worked-short-days"),
+    (Play::Worked, "worked-local-rules"),
     (Play::Worked, "worked-vacated"),
     (Play::Worked, "worked-keys"),
     (Play::Worked, "worked-refusals"),

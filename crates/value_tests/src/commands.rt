@@ -27,6 +27,8 @@ fn others_are_spelled() -> bool {
         && is_spelled(ServiceMethod::D, "D")
         && is_spelled(CommandName::StatementServed, "statement_served")
         && is_spelled(CommandName::ShortDay, "short_day")
+        && is_spelled(CommandName::LocalRule, "local_rule")
+        && is_spelled(CommandName::LocalPeriod, "local_period")
 }
 
 #[test]
@@ -52,8 +54,10 @@ fn is_told(refusal: Refusal, number: u32, name: &str) -> bool {
 fn names_of_fields_and_refusals(rt: HostRuntime) {
     assert!(rt; Field::AttorneyMethod.name() == "attorney_method");
     assert!(rt; Field::Close.name() == "close");
+    assert!(rt; Field::Extendable.name() == "extendable");
     assert!(rt; is_told(Refusal::BadValue(Field::Attorney), 3, "BadValue"));
     assert!(rt; is_told(Refusal::Full, 20, "Full"));
+    assert!(rt; is_told(Refusal::NoSuchLocalRule, 21, "NoSuchLocalRule"));
     assert!(rt; Method::from(ServiceMethod::F) == Method::F);
     assert!(rt; DayKind::from(Sovereign::State) == DayKind::State);
 }

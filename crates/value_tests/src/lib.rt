@@ -16,6 +16,8 @@ mod dates;
 #[cfg(test)]
 mod lines;
 #[cfg(test)]
+mod listed_rules;
+#[cfg(test)]
 mod rules;
 #[cfg(test)]
 mod tables;

@@ -1,6 +1,8 @@
 //! The printed table of rules, and the methods of service.
 use court_days::Direction;
 use court_rules::*;
+use std::alloc::{AllocError, Global};
+use std::test::Fail;
 
 /// A rule's name, the days of its time, and its marks: whether the time is counted backward, service adds
 /// three days to it, it is that of a responsive pleading, and the court may extend it.
@@ -91,4 +93,36 @@ fn the_methods(rt: HostRuntime) {
         assert!(rt; is_method(name, true), "{name}");
     }
     assert!(rt; Method::read("G").is_none());
+}
+
+/// A rule of fourteen days forward of a court's own.
+fn local_rule(alloc: Global, three: bool) -> Result<LocalRule, AllocError> {
+    Ok(LocalRule {
+        name: Text::from_str(alloc, "LR7.1-opp")?,
+        days: 14,
+        direction: Direction::Forward,
+        three,
+        extendable: true,
+    })
+}
+
+#[test]
+fn the_local_rules(rt: HostRuntime) -> Result<(), Fail> {
+    let with = local_rule(rt.alloc(), true)?;
+    let without = local_rule(rt.alloc(), false)?;
+    for method in [Method::C, Method::D, Method::F] {
+        assert!(rt; with.adds_three(method));
+        assert!(rt; !without.adds_three(method));
+    }
+    for method in [
+        Method::Rule4,
+        Method::A,
+        Method::B,
+        Method::E,
+        Method::Nothing,
+    ] {
+        assert!(rt; !with.adds_three(method));
+        assert!(rt; !without.adds_three(method));
+    }
+    Ok(())
 }

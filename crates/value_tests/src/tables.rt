@@ -1,10 +1,10 @@
 //! The tables of a docket, taken row by row, and the same with one thing wrong.
 use court_days::{Calendar, Court, Day, DayKind, Direction};
-use court_rules::{Act, DayPeriod, MotionKind, Period, Rule, Start};
-use docket_command::{Role, Text, TimeOfDay};
+use court_rules::{Act, DayPeriod, DeadlineRule, MotionKind, Period, Rule, Start};
+use docket_command::{LocalRule, Role, Text, TimeOfDay};
 use docket_core::{
-    ActRow, CalendarItem, CalendarRow, CaseRow, DeadlineRow, EndRow, EndTime, EntryRow, PartyRow,
-    ShortDayRow,
+    ActRow, CalendarItem, CalendarRow, CaseRow, DeadlineRow, EndRow, EndTime, EntryRow,
+    LocalRuleRow, PartyRow, ShortDayRow,
 };
 use docket_sound::*;
 use std::alloc::{AllocError, Global};
@@ -135,18 +135,61 @@ fn takes_entries(alloc: Global, rows: &[(u32, u32)]) -> Result<bool, Fail> {
     Ok(true)
 }
 
+/// Whether local rules with these numbers, names, days and directions are taken whole, each of which adds
+/// three days.
+fn takes_local_rules(
+    alloc: Global,
+    rows: &[(u32, &str, u32, Direction)],
+) -> Result<bool, AllocError> {
+    let mut check = LocalRuleCheck::new(alloc);
+    for (number, name, days, direction) in rows {
+        let row = LocalRuleRow {
+            number: *number,
+            rule: LocalRule {
+                name: Text::from_str(alloc, name)?,
+                days: *days,
+                direction: *direction,
+                three: true,
+                extendable: true,
+            },
+        };
+        if !check.take(alloc, &row)? {
+            return Ok(false);
+        }
+    }
+    Ok(check.local_rules() as usize == rows.len())
+}
+
+/// Whether a deadline of that local rule is taken where this one stands.
+fn takes_local_deadline(alloc: Global, standing: &str, rule: &str) -> Result<bool, AllocError> {
+    let Some(counts) = parties(alloc, &[(1, 1)])? else {
+        return Ok(false);
+    };
+    let mut names = KnownTexts::new(alloc);
+    names.put(alloc, standing)?;
+    let mut check = DeadlineCheck::new(alloc, 2, counts, names)?;
+    let row = DeadlineRow {
+        case: 1,
+        number: 1,
+        party: 1,
+        rule: DeadlineRule::Local(Text::from_str(alloc, rule)?),
+        initial: false,
+    };
+    Ok(check.take(&row))
+}
+
 /// The deadlines of two cases, the first of which has a party.
 fn deadlines(alloc: Global, rows: &[(u32, u32, u32)]) -> Result<Option<Numbering>, AllocError> {
     let Some(counts) = parties(alloc, &[(1, 1)])? else {
         return Ok(None);
     };
-    let mut check = DeadlineCheck::new(alloc, 2, counts)?;
+    let mut check = DeadlineCheck::new(alloc, 2, counts, KnownTexts::new(alloc))?;
     for (case, number, party) in rows {
         let row = DeadlineRow {
             case: *case,
             number: *number,
             party: *party,
-            rule: Rule::Ordered,
+            rule: DeadlineRule::Listed(Rule::Ordered),
             initial: false,
         };
         if !check.take(&row) {
@@ -218,8 +261,9 @@ fn takes_end(expected: Vec<EndRow>, day: u32) -> Result<bool, Fail> {
     Ok(check.take(row) && check.is_sound())
 }
 
-fn takes_receipts(alloc: Global, rows: &[(&str, &str)]) -> Result<bool, AllocError> {
-    let mut check = ReceiptCheck::new();
+/// Whether the receipts are taken whole, those of later kinds among them if `later`.
+fn takes_receipts(alloc: Global, later: bool, rows: &[(&str, &str)]) -> Result<bool, AllocError> {
+    let mut check = ReceiptCheck::new(later);
     for (key, body) in rows {
         let row = ReceiptRecord {
             key: Text::from_str(alloc, key)?,
@@ -240,6 +284,10 @@ const BODY_B: &str =
 
 const SPACED: &str =
     "{ \"case\":1,\"day\":\"2025-07-01\",\"do\":\"file_entry\",\"key\":\"b\",\"text\":\"Complaint\"}";
+
+/// A command of a kind that came later than version 1 of the tables.
+const LATER: &str =
+    "{\"days\":14,\"direction\":\"forward\",\"do\":\"local_rule\",\"extendable\":true,\"key\":\"c\",\"name\":\"LR7.1-opp\",\"three\":true}";
 
 #[test]
 fn courts(rt: HostRuntime) -> Result<(), Fail> {
@@ -267,6 +315,37 @@ fn short_days(rt: HostRuntime) -> Result<(), Fail> {
     assert!(rt; !takes_short_days(alloc, &[(6, 7, 720)])?);
     assert!(rt; !takes_short_days(alloc, &[(4, 7, 720), (2, 8, 720)])?);
     assert!(rt; !takes_short_days(alloc, &[(2, 7, 720), (4, 7, 780)])?);
+    Ok(())
+}
+
+#[test]
+fn local_rules(rt: HostRuntime) -> Result<(), Fail> {
+    let alloc = rt.alloc();
+    let opposition = (1, "LR7.1-opp", 14, Direction::Forward);
+    assert!(rt; takes_local_rules(alloc, &[])?);
+    assert!(rt;
+        takes_local_rules(
+            alloc,
+            &[opposition, (2, "LR7.1-mot", 3650, Direction::Forward)]
+        )?
+    );
+    assert!(rt;
+        !takes_local_rules(
+            alloc,
+            &[opposition, (3, "LR7.1-mot", 28, Direction::Forward)]
+        )?
+    );
+    assert!(rt;
+        !takes_local_rules(
+            alloc,
+            &[opposition, (2, "LR7.1-opp", 28, Direction::Forward)]
+        )?
+    );
+    assert!(rt; !takes_local_rules(alloc, &[(1, "LR7.1-mot", 28, Direction::Backward)])?);
+    assert!(rt; !takes_local_rules(alloc, &[(1, "LR7.1-mot", 0, Direction::Forward)])?);
+    assert!(rt; !takes_local_rules(alloc, &[(1, "7.1-mot", 28, Direction::Forward)])?);
+    assert!(rt; takes_local_deadline(alloc, "LR7.1-opp", "LR7.1-opp")?);
+    assert!(rt; !takes_local_deadline(alloc, "LR7.1-opp", "LR7.1-mot")?);
     Ok(())
 }
 
@@ -311,10 +390,13 @@ fn acts(rt: HostRuntime) -> Result<(), Fail> {
 #[test]
 fn receipts(rt: HostRuntime) -> Result<(), Fail> {
     let alloc = rt.alloc();
-    assert!(rt; takes_receipts(alloc, &[("a", BODY_A), ("b", BODY_B)])?);
-    assert!(rt; !takes_receipts(alloc, &[("b", BODY_B), ("a", BODY_A)])?);
-    assert!(rt; !takes_receipts(alloc, &[("a", BODY_A), ("a", BODY_A)])?);
-    assert!(rt; !takes_receipts(alloc, &[("a", BODY_B)])?);
-    assert!(rt; !takes_receipts(alloc, &[("b", SPACED)])?);
+    assert!(rt; takes_receipts(alloc, true, &[("a", BODY_A), ("b", BODY_B)])?);
+    assert!(rt; !takes_receipts(alloc, true, &[("b", BODY_B), ("a", BODY_A)])?);
+    assert!(rt; !takes_receipts(alloc, true, &[("a", BODY_A), ("a", BODY_A)])?);
+    assert!(rt; !takes_receipts(alloc, true, &[("a", BODY_B)])?);
+    assert!(rt; !takes_receipts(alloc, true, &[("b", SPACED)])?);
+    assert!(rt; takes_receipts(alloc, true, &[("b", BODY_B), ("c", LATER)])?);
+    assert!(rt; takes_receipts(alloc, false, &[("a", BODY_A), ("b", BODY_B)])?);
+    assert!(rt; !takes_receipts(alloc, false, &[("b", BODY_B), ("c", LATER)])?);
     Ok(())
 }

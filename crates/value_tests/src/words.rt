@@ -13,7 +13,7 @@ fn words_of(alloc: Global, line: &str) -> Result<Vec<String>, AllocError> {
 }
 
 /// What the words ask for, as `told` tells it.
-const JOBS: [(&str, &str); 19] = [
+const JOBS: [(&str, &str); 21] = [
     ("docketctl check --db court.db", "check court.db"),
     ("docketctl migrate --db court.db", "migrate court.db"),
     ("docketctl", "count"),
@@ -63,6 +63,8 @@ const JOBS: [(&str, &str); 19] = [
         "docketctl serve --count=1000000 --db court.db --port=65535",
         "serve court.db 65535 1000000",
     ),
+    ("docketctl rules", "rules -"),
+    ("docketctl rules --db court.db", "rules court.db"),
     ("docketctl holidays 2000", "holidays 2000"),
     ("docketctl holidays 2099", "holidays 2099"),
 ];
@@ -82,6 +84,7 @@ fn told(alloc: Global, job: &Job<'_>) -> Result<String, AllocError> {
         Job::Check { file } => format!(in alloc; "check {file}"),
         Job::Migrate { file } => format!(in alloc; "migrate {file}"),
         Job::Serve { file, port, count } => format!(in alloc; "serve {file} {port} {count}"),
+        Job::Rules { file } => format!(in alloc; "rules {}", file.unwrap_or("-")),
         Job::Holidays { year } => format!(in alloc; "holidays {year}"),
     }
 }
@@ -119,13 +122,18 @@ fn jobs(rt: HostRuntime) {
 }
 
 /// What is printed where the words ask for no job, and whether that is a mistake.
-const TEXTS: [(&str, &str, bool); 33] = [
+const TEXTS: [(&str, &str, bool); 34] = [
     ("docketctl --help", "Usage: docketctl [COMMAND]", false),
     ("docketctl --version", "docketctl 0.1.0", false),
     ("docketctl count --help", "forward DAY N", false),
     (
         "docketctl run --help",
         "Answer commands of a docket, one a line",
+        false,
+    ),
+    (
+        "docketctl rules --help",
+        "LR7.1-opp          14 days   forward  three days -          extendable",
         false,
     ),
     (

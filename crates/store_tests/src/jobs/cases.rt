@@ -86,6 +86,7 @@ const CHECKED: Step<'static> = Step {
 court EST5EDT,M3.2.0,M11.1.0 closes 17:00
 version 2
 calendar rows 0
+local rules 0
 cases 1
 parties 1
 entries 1

@@ -37,8 +37,10 @@ pub(super) const ENTRIES: [Cells; 2] = [
 pub(super) const DEADLINES: [Cells; 3] = [
     &[Int(1), Int(1), Int(1), Text(b"12(a)(1)(A)(i)"), Int(1)],
     &[Int(1), Int(2), Int(0), Text(b"order"), Int(0)],
-    &[Int(1), Int(3), Int(2), Text(b"order"), Int(0)],
+    &[Int(1), Int(3), Int(2), Text(b"LR7.1-opp"), Int(0)],
 ];
+
+pub(super) const LOCAL_RULE: Cells = &[Int(1), Text(b"LR7.1-opp"), Int(14), Int(1), Int(1), Int(0)];
 
 pub(super) const ACTS: [[i64; 9]; 11] = [
     [1, 1, 1, 1, 20_241, 1, 21, 1, 1],

@@ -1,9 +1,12 @@
 //! A row of each table.
 use court_days::{Day, DayKind, Direction, Way};
-use court_rules::{Act, DayPeriod, HourPeriod, MotionKind, Period, Rule, Start};
+use court_rules::{
+    Act, DayPeriod, DeadlineRule, HourPeriod, LocalRule, MotionKind, Period, Rule, Start,
+};
 use docket_command::{Moment, Role, Text, TimeOfDay};
 use docket_core::{
-    ActRow, CalendarItem, CalendarRow, CaseRow, Change, DeadlineRow, EntryRow, PartyRow,
+    ActRow, CalendarItem, CalendarRow, CaseRow, Change, DeadlineRow, EntryRow, LocalRuleRow,
+    PartyRow,
 };
 use std::alloc::Global;
 use std::test::Fail;
@@ -71,7 +74,25 @@ fn entry(alloc: Global, number: u32, text: &str) -> Result<Change, Fail> {
     }))
 }
 
-fn deadline(number: u32, party: u32, rule: Rule, initial: bool) -> Change {
+/// A local rule of 14 days.
+fn local_rule(alloc: Global) -> Result<Change, Fail> {
+    Ok(Change::AddLocalRule(LocalRuleRow {
+        number: 1,
+        rule: LocalRule {
+            name: Text::from_str(alloc, "LR7.1-opp")?,
+            days: 14,
+            direction: Direction::Forward,
+            three: true,
+            extendable: false,
+        },
+    }))
+}
+
+fn local(alloc: Global) -> Result<DeadlineRule, Fail> {
+    Ok(DeadlineRule::Local(Text::from_str(alloc, "LR7.1-opp")?))
+}
+
+fn deadline(number: u32, party: u32, rule: DeadlineRule, initial: bool) -> Change {
     Change::AddDeadline(DeadlineRow {
         case: 1,
         number,
@@ -97,9 +118,12 @@ pub(super) fn of_each(alloc: Global) -> Result<Vec<Change>, Fail> {
     rows.push(span(alloc, 2)?)?;
     rows.push(short_day(alloc, 3)?)?;
     of_case(alloc, &mut rows)?;
-    rows.push(deadline(3, 2, Rule::Ordered, false))?;
-    rows.push(deadline(2, 0, Rule::Ordered, false))?;
-    rows.push(deadline(1, 1, Rule::AnswerToSummons, true))?;
+    rows.push(local_rule(alloc)?)?;
+    rows.push(deadline(3, 2, local(alloc)?, false))?;
+    let ordered = DeadlineRule::Listed(Rule::Ordered);
+    rows.push(deadline(2, 0, ordered, false))?;
+    let answer = DeadlineRule::Listed(Rule::AnswerToSummons);
+    rows.push(deadline(1, 1, answer, true))?;
     Ok(rows)
 }
 

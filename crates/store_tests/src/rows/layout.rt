@@ -1,7 +1,7 @@
 //! What plain SQL shows of the tables.
 use super::cells::{
-    ACTS, CASE, Cells, DEADLINES, ENTRIES, PARTIES, RECEIPTS, SHORT, SPAN, STORM, court_cells,
-    has_numbers, is_row,
+    ACTS, CASE, Cells, DEADLINES, ENTRIES, LOCAL_RULE, PARTIES, RECEIPTS, SHORT, SPAN, STORM,
+    court_cells, has_numbers, is_row,
 };
 use super::changes::storm;
 use super::{filled, is_written, made};
@@ -40,8 +40,9 @@ fn has_calendar<S: Alter>(
     )
 }
 
-const SHOWN: [(&str, &[Cells]); 6] = [
+const SHOWN: [(&str, &[Cells]); 7] = [
     (SHORT_DAYS, &[SHORT]),
+    ("SELECT * FROM local_rule", &[LOCAL_RULE]),
     ("SELECT * FROM cases", &[CASE]),
     ("SELECT * FROM party ORDER BY case_no, number", &PARTIES),
     ("SELECT * FROM entry ORDER BY case_no, number", &ENTRIES),

@@ -1,7 +1,7 @@
 //! A row of SQL that is read as one of a table of the docket, and rows that are not.
 use docket_columns::{
     Version, act_of, calendar_of, case_of, court_of, deadline_of, entry_of, has_word,
-    is_of_version, party_of, reply_of, short_day_of,
+    is_of_version, local_rule_of, party_of, reply_of, short_day_of,
 };
 use sqlite::{Connection, Row};
 use std::alloc::{AllocError, Global};
@@ -13,6 +13,7 @@ enum Kind {
     Court,
     Calendar,
     ShortDay,
+    LocalRule,
     Case,
     Party,
     Entry,
@@ -26,16 +27,17 @@ fn is_read(alloc: Global, kind: Kind, row: &Row) -> Result<bool, AllocError> {
         Kind::Court => court_of(alloc, row, Version::Second)?.is_some(),
         Kind::Calendar => calendar_of(alloc, row)?.is_some(),
         Kind::ShortDay => short_day_of(alloc, row)?.is_some(),
+        Kind::LocalRule => local_rule_of(alloc, row)?.is_some(),
         Kind::Case => case_of(alloc, row)?.is_some(),
         Kind::Party => party_of(alloc, row)?.is_some(),
         Kind::Entry => entry_of(alloc, row)?.is_some(),
-        Kind::Deadline => deadline_of(row).is_some(),
+        Kind::Deadline => deadline_of(alloc, row)?.is_some(),
         Kind::Act => act_of(row).is_some(),
         Kind::Receipt => reply_of(row).is_some(),
     })
 }
 
-const ROWS: [(Kind, &str, bool); 30] = [
+const ROWS: [(Kind, &str, bool); 34] = [
     (
         Kind::Court,
         "SELECT 1, 'civil docket', 2, 'UTC0', 1020, 7",
@@ -91,6 +93,10 @@ const ROWS: [(Kind, &str, bool); 30] = [
     (Kind::Party, "SELECT 1, 4, 'Doe', 4", false),
     (Kind::Entry, "SELECT 1, 5, 20241, 'Complaint'", true),
     (Kind::Entry, "SELECT 1, 5, 20241", false),
+    (Kind::LocalRule, "SELECT 1, 'LR7.1', 14, 2, 0, 1", true),
+    (Kind::LocalRule, "SELECT 1, 'LR7.1', 14, 3, 0, 1", false),
+    (Kind::Deadline, "SELECT 1, 1, 2, 'LR7.1', 0", true),
+    (Kind::Deadline, "SELECT 1, 1, 2, 'L7.1', 0", false),
     (Kind::Deadline, "SELECT 1, 2, 3, '12(a)(1)(A)(i)', 1", true),
     (Kind::Deadline, "SELECT 1, 2, 3, '12(a)', 1", false),
     (Kind::Act, "SELECT 1, 2, 3, 3, 30, 0, 0, 0, 0", true),

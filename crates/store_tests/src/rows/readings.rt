@@ -1,10 +1,11 @@
 //! What the questions are answered: the rows of plain SQL.
-use super::cells::{CASE, DEADLINES, ENTRIES, PARTIES, SHORT, SPAN, STORM, are};
+use super::cells::{CASE, DEADLINES, ENTRIES, LOCAL_RULE, PARTIES, SHORT, SPAN, STORM, are};
 use super::changes::acts_of;
 use super::{filled, vacation};
 use court_rules::Act;
 use docket_columns::{
-    calendar_values, case_values, deadline_values, entry_values, party_values, short_day_values,
+    calendar_values, case_values, deadline_values, entry_values, local_rule_values, party_values,
+    short_day_values,
 };
 use docket_core::{CalendarItem, CalendarRow, Kept};
 use docket_tables as tables;
@@ -24,6 +25,8 @@ enum Question {
     Label(&'static str),
     Parties(u32),
     Entries(u32),
+    LocalRules,
+    LocalRule(&'static str),
 }
 
 /// The number that answers it; 1 for yes, and 0 for no.
@@ -39,10 +42,15 @@ fn number<S: Alter>(
         Question::Label(label) => u64::from(tables::is_label_taken(conn, label)?),
         Question::Parties(case) => u64::from(tables::count_parties(conn, case)?),
         Question::Entries(case) => u64::from(tables::count_entries(conn, case)?),
+        Question::LocalRules => u64::from(tables::count_local_rules(conn)?),
+        Question::LocalRule(name) => match tables::local_rule(conn, alloc, name)? {
+            Some(rule) => u64::from(rule.days),
+            None => 0,
+        },
     })
 }
 
-const NUMBERS: [(Question, u64); 11] = [
+const NUMBERS: [(Question, u64); 14] = [
     (Question::Court, 4),
     (Question::Standing(2), 1),
     (Question::Standing(3), 1),
@@ -54,6 +62,9 @@ const NUMBERS: [(Question, u64); 11] = [
     (Question::Parties(2), 0),
     (Question::Entries(1), 2),
     (Question::Entries(2), 0),
+    (Question::LocalRules, 1),
+    (Question::LocalRule("LR7.1-opp"), 14),
+    (Question::LocalRule("LR7.1"), 0),
 ];
 
 fn has_numbers<S: Alter>(alloc: Global, conn: &mut Connection<S>) -> Result<bool, ReadFault> {
@@ -89,6 +100,14 @@ fn has_calendar<S: Alter>(alloc: Global, conn: &mut Connection<S>) -> Result<boo
                 && are(&calendar_values(second), SPAN)
                 && is_short_day(third)
         }
+        _ => false,
+    })
+}
+
+fn has_local_rules<S: Alter>(alloc: Global, conn: &mut Connection<S>) -> Result<bool, ReadFault> {
+    let rows = tables::local_rules(conn, alloc)?;
+    Ok(match rows.as_slice() {
+        [row] => are(&local_rule_values(row), LOCAL_RULE),
         _ => false,
     })
 }
@@ -163,6 +182,7 @@ fn questions(rt: HostRuntime) -> Result<(), Fail> {
     assert!(rt; has_numbers(alloc, &mut conn) == Ok(true));
     assert!(rt; has_court(alloc, &mut conn) == Ok(true));
     assert!(rt; has_calendar(alloc, &mut conn) == Ok(true));
+    assert!(rt; has_local_rules(alloc, &mut conn) == Ok(true));
     assert!(rt; has_case(alloc, &mut conn) == Ok(true));
     assert!(rt; has_parties(alloc, &mut conn) == Ok(true));
     assert!(rt; has_entries(alloc, &mut conn) == Ok(true));

@@ -45,6 +45,27 @@ returns-in_err-next_row-clause-read g c court t orderly holds =
     let read4 = c.in_ok-row_stands.ensures.read court t orderly read3.0 in
     err_given g.S.Store c.next_row_if_asked.new.conn (rows_in court t) _ c.in_err-next_row.field-0.0 c.from_residual-in_err-next_row.result c.from_residual-in_err-next_row.ensures.1 (c.in_err-next_row.ensures.read court t orderly read4.0)
 
+pub returns-in_err-local-clause-read : goal.returns-in_err-local-clause-read
+returns-in_err-local-clause-read g c court t orderly holds =
+    let read0 = c.in_ok-kept.ensures.read court t orderly holds in
+    let read1 = c.in_ok-cases.ensures.read court t orderly read0.0 in
+    let read2 = c.in_ok-label_taken.ensures.read court t orderly read1.0 in
+    let read3 = c.in_ok-case.ensures.read court t orderly read2.0 in
+    let read4 = c.in_ok-row_stands.ensures.read court t orderly read3.0 in
+    let read5 = c.in_ok-next_row.ensures.read court t orderly read4.0 in
+    err_given g.S.Store c.local_rule_asked.new.conn (rows_in court t) _ c.in_err-local.field-0.0 c.from_residual-in_err-local.result c.from_residual-in_err-local.ensures.1 (c.in_err-local.ensures.read court t orderly read5.0)
+
+pub returns-in_err-local_rules-clause-read : goal.returns-in_err-local_rules-clause-read
+returns-in_err-local_rules-clause-read g c court t orderly holds =
+    let read0 = c.in_ok-kept.ensures.read court t orderly holds in
+    let read1 = c.in_ok-cases.ensures.read court t orderly read0.0 in
+    let read2 = c.in_ok-label_taken.ensures.read court t orderly read1.0 in
+    let read3 = c.in_ok-case.ensures.read court t orderly read2.0 in
+    let read4 = c.in_ok-row_stands.ensures.read court t orderly read3.0 in
+    let read5 = c.in_ok-next_row.ensures.read court t orderly read4.0 in
+    let read6 = c.in_ok-local.ensures.read court t orderly read5.0 in
+    err_given g.S.Store c.local_rules_if_asked.new.conn (rows_in court t) _ c.in_err-local_rules.field-0.0 c.from_residual-in_err-local_rules.result c.from_residual-in_err-local_rules.ensures.1 (c.in_err-local_rules.ensures.read court t orderly read6.0)
+
 pub returns-clause-read : goal.returns-clause-read
 returns-clause-read g c court t orderly holds =
     let read0 = c.in_ok-kept.ensures.read court t orderly holds in
@@ -52,15 +73,19 @@ returns-clause-read g c court t orderly holds =
     let read2 = c.in_ok-label_taken.ensures.read court t orderly read1.0 in
     let read3 = c.in_ok-case.ensures.read court t orderly read2.0 in
     let read4 = c.in_ok-row_stands.ensures.read court t orderly read3.0 in
-    let read5 = c.in_ok-next_row.ensures.read court t orderly read4.0 in (
-      read5.0,
-      λ clean5.
+    let read5 = c.in_ok-next_row.ensures.read court t orderly read4.0 in
+    let read6 = c.in_ok-local.ensures.read court t orderly read5.0 in
+    let read7 = c.in_ok-local_rules.ensures.read court t orderly read6.0 in (
+      read7.0,
+      λ clean7.
+          let clean6 : HasCleanDisk (state g.S.Store c.local_rule_asked.new.conn) = omega (arith, c.local_rules_if_asked.ensures.clean) in
+          let clean5 : HasCleanDisk (state g.S.Store c.next_row_if_asked.new.conn) = omega (arith, c.local_rule_asked.ensures.clean) in
           let clean4 : HasCleanDisk (state g.S.Store c.is_asked_row_standing.new.conn) = omega (arith, c.next_row_if_asked.ensures.clean) in
           let clean3 : HasCleanDisk (state g.S.Store c.case_asked.new.conn) = omega (arith, c.is_asked_row_standing.ensures.clean) in
           let clean2 : HasCleanDisk (state g.S.Store c.is_asked_label_taken.new.conn) = omega (arith, c.case_asked.ensures.clean) in
           let clean1 : HasCleanDisk (state g.S.Store c.cases_if_asked.new.conn) = omega (arith, c.is_asked_label_taken.ensures.clean) in
           let clean0 : HasCleanDisk (state g.S.Store c.kept.new.conn) = omega (arith, c.cases_if_asked.ensures.clean) in
-          whole_view t c.args.command.now _ _ _ _ _ _ _ (read0.1 clean0) (read1.1 clean1) (read2.1 clean2) (read3.1 clean3) (read4.1 clean4) (read5.1 clean5),
+          whole_view t c.args.command.now _ _ _ _ _ _ _ _ _ (read0.1 clean0) (read1.1 clean1) (read2.1 clean2) (read3.1 clean3) (read4.1 clean4) (read5.1 clean5) (read6.1 clean6) (read7.1 clean7),
     )
 
 pub returns-in_err-kept-clause-stays : goal.returns-in_err-kept-clause-stays
@@ -81,11 +106,17 @@ returns-in_err-row_stands-clause-stays g c rows holds = err_stays g.S.Store c.is
 pub returns-in_err-next_row-clause-stays : goal.returns-in_err-next_row-clause-stays
 returns-in_err-next_row-clause-stays g c rows holds = err_stays g.S.Store c.next_row_if_asked.new.conn rows c.in_err-next_row.field-0.0 c.from_residual-in_err-next_row.result c.from_residual-in_err-next_row.ensures.1 (c.in_err-next_row.ensures.stays rows (c.in_ok-row_stands.ensures.stays rows (c.in_ok-case.ensures.stays rows (c.in_ok-label_taken.ensures.stays rows (c.in_ok-cases.ensures.stays rows (c.in_ok-kept.ensures.stays rows holds))))))
 
+pub returns-in_err-local-clause-stays : goal.returns-in_err-local-clause-stays
+returns-in_err-local-clause-stays g c rows holds = err_stays g.S.Store c.local_rule_asked.new.conn rows c.in_err-local.field-0.0 c.from_residual-in_err-local.result c.from_residual-in_err-local.ensures.1 (c.in_err-local.ensures.stays rows (c.in_ok-next_row.ensures.stays rows (c.in_ok-row_stands.ensures.stays rows (c.in_ok-case.ensures.stays rows (c.in_ok-label_taken.ensures.stays rows (c.in_ok-cases.ensures.stays rows (c.in_ok-kept.ensures.stays rows holds)))))))
+
+pub returns-in_err-local_rules-clause-stays : goal.returns-in_err-local_rules-clause-stays
+returns-in_err-local_rules-clause-stays g c rows holds = err_stays g.S.Store c.local_rules_if_asked.new.conn rows c.in_err-local_rules.field-0.0 c.from_residual-in_err-local_rules.result c.from_residual-in_err-local_rules.ensures.1 (c.in_err-local_rules.ensures.stays rows (c.in_ok-local.ensures.stays rows (c.in_ok-next_row.ensures.stays rows (c.in_ok-row_stands.ensures.stays rows (c.in_ok-case.ensures.stays rows (c.in_ok-label_taken.ensures.stays rows (c.in_ok-cases.ensures.stays rows (c.in_ok-kept.ensures.stays rows holds))))))))
+
 pub returns-clause-stays : goal.returns-clause-stays
-returns-clause-stays g c rows holds = c.in_ok-next_row.ensures.stays rows (c.in_ok-row_stands.ensures.stays rows (c.in_ok-case.ensures.stays rows (c.in_ok-label_taken.ensures.stays rows (c.in_ok-cases.ensures.stays rows (c.in_ok-kept.ensures.stays rows holds)))))
+returns-clause-stays g c rows holds = c.in_ok-local_rules.ensures.stays rows (c.in_ok-local.ensures.stays rows (c.in_ok-next_row.ensures.stays rows (c.in_ok-row_stands.ensures.stays rows (c.in_ok-case.ensures.stays rows (c.in_ok-label_taken.ensures.stays rows (c.in_ok-cases.ensures.stays rows (c.in_ok-kept.ensures.stays rows holds)))))))
 
 pub returns-clause-kept : goal.returns-clause-kept
 returns-clause-kept g c rows holds clean reply same =
     let read : HasCleanDisk (state g.S.Store c.kept.new.conn) =
-    omega (arith, clean, c.cases_if_asked.ensures.clean, c.is_asked_label_taken.ensures.clean, c.case_asked.ensures.clean, c.is_asked_row_standing.ensures.clean, c.next_row_if_asked.ensures.clean) in
+    omega (arith, clean, c.cases_if_asked.ensures.clean, c.is_asked_label_taken.ensures.clean, c.case_asked.ensures.clean, c.is_asked_row_standing.ensures.clean, c.next_row_if_asked.ensures.clean, c.local_rule_asked.ensures.clean, c.local_rules_if_asked.ensures.clean) in
     c.in_ok-kept.ensures.found rows holds read reply (ap Ok same)

@@ -11,3 +11,6 @@ returns-in-ServePleading c = rw c.in-ServePleading.is (c.bad_in_pleading.ensures
 
 pub returns-in-Dispose : goal.returns-in-Dispose
 returns-in-Dispose c = rw c.in-Dispose.is (c.bad_in_ruling.ensures c.args.court.now)
+
+pub returns-in-LocalRule : goal.returns-in-LocalRule
+returns-in-LocalRule c = rw c.in-LocalRule.is (c.bad_in_local_rule.ensures c.args.court.now)

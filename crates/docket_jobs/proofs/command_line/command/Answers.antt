@@ -15,4 +15,5 @@ returns c =
     let checks = subcommand_added _ _ _ _ _ calendars c.in_ok-check_command.ensures c.in_ok-subcommand-7.ensures in
     let migrates = subcommand_added _ _ _ _ _ checks c.in_ok-migrate_command.ensures c.in_ok-subcommand-8.ensures in
     let serves = subcommand_added _ _ _ _ _ migrates c.in_ok-serve_command.ensures c.in_ok-subcommand-9.ensures in
-    IfOk-weaker c.subcommand-10.result _ _ (λ _ adds. subcommand_added _ _ _ _ _ serves c.in_ok-holidays_command.ensures adds) c.subcommand-10.ensures
+    let tells_rules = subcommand_added _ _ _ _ _ serves c.in_ok-rules_command.ensures c.in_ok-subcommand-10.ensures in
+    IfOk-weaker c.subcommand-11.result _ _ (λ _ adds. subcommand_added _ _ _ _ _ tells_rules c.in_ok-holidays_command.ensures adds) c.subcommand-11.ensures

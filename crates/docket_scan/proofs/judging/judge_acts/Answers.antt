@@ -33,7 +33,7 @@ returns-in_err-check-2-clause-err g c v first court next prior =
     let context = begun court was.rows c.args.read check next was.said made.court made.deadlines made.calendar in
     let told = rw c.in_err-check-2.was at (c.judge.ensures.told clean (made.none (map deadline_key was.rows.deadlines) was.said.deadlines)) in
     failed start old was.same v table.Acts (each_has v table.Acts tt) court next new was.rows (AreActRows check.court (cases_of check.deadlines) (counts_of check.deadlines)) fault
-    (ap (λ (k : ActContext). AreActRows k.0 k.1 k.2) context) was.sound told)
+    (ap (λ (k : ActContext). AreActRows k.0 k.1 k.2) context) was.named was.sound told)
 
 pub returns-in_err-ends-clause-err : goal.returns-in_err-ends-clause-err
 returns-in_err-ends-clause-err g c v first court next prior =
@@ -48,7 +48,7 @@ returns-in_err-ends-clause-err g c v first court next prior =
     inl (unchanged_then start old new was.same told.0))
 
 pub returns-in-Some-clause-ok : goal.returns-in-Some-clause-ok
-returns-in-Some-clause-ok g c first court next prior clean =
+returns-in-Some-clause-ok g c v first court next prior clean =
     let start = state g.S.Store first in
     let old = state g.S.Store c.args.conn.now in
     let new = state g.S.Store c.judge.new.conn in
@@ -60,14 +60,14 @@ returns-in-Some-clause-ok g c first court next prior clean =
     let taken = IsRead IsActRow act_cells (HasTakenActs c.in_ok-check-2.check) in
     let held = sound_before start old was.same table.Acts (OfSoMany c.in_ok-check-2.field-0-1 taken) told.1 in
     let read = held.3.1 in
-    acts_told court next start old new c.args.read was c.in_ok-check-2.check c.in_ok-check-2.field-0-1 context told.0 held
+    acts_told v court next start old new c.args.read was c.in_ok-check-2.check c.in_ok-check-2.field-0-1 context told.0 held
     (record { ends = c.in-Some.ends; short_days = c.args.read.short_days; held = record c.args.read.held { standings = c.in-Some.standings } }) c.in-Some.standings refl refl c.in_ok-check-2.ensures.limit
     ((rw c.in-Some.is at (c.in_ok-ends.ensures.sound read.records read.taken)).0 refl)
     (rw c.in-Some.is at (c.in_ok-ends.ensures.ends read.records read.taken))
     (λ few. rw c.in-Some.is at (c.in_ok-ends.ensures.standings read.records read.taken few))
 
-pub returns-clause-err : goal.returns-clause-err
-returns-clause-err g c v first court next prior clean =
+pub returns-in-None-clause-err : goal.returns-in-None-clause-err
+returns-in-None-clause-err g c v first court next prior clean =
     let start = state g.S.Store first in
     let old = state g.S.Store c.args.conn.now in
     let new = state g.S.Store c.judge.new.conn in
@@ -79,5 +79,5 @@ returns-clause-err g c v first court next prior clean =
     let taken = IsRead IsActRow act_cells (HasTakenActs c.in_ok-check-2.check) in
     let held = sound_before start old was.same table.Acts (OfSoMany c.in_ok-check-2.field-0-1 taken) told.1 in
     let read = held.3.1 in
-    acts_refused court next start old new c.args.read was c.in_ok-check-2.check c.in_ok-check-2.field-0-1 context told.0 held v
+    acts_refused v court next start old new c.args.read was c.in_ok-check-2.check c.in_ok-check-2.field-0-1 context told.0 held
     (λ sound. false≢true ((rw c.in-None.is at (c.in_ok-ends.ensures.sound read.records read.taken)).1 sound))

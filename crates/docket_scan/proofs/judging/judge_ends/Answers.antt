@@ -29,10 +29,10 @@ returns-in_err-check-clause-err g c v first court next prior =
     let made = c.new.ensures in
     let begun : ends_expected c.new.result ≡ c.args.read.ends.items = ap (λ l. l.items) made.expected in
     let told = rw c.in_err-check.was at (c.judge.ensures.told clean made.none) in
-    failed start old was.same v table.Ends (each_has v table.Ends tt) court next new was.rows (AreEndRows (ends_expected c.new.result)) fault (ap AreEndRows (begun ∙ was.said.ends)) was.sound told)
+    failed start old was.same v table.Ends (each_has v table.Ends tt) court next new was.rows (AreEndRows (ends_expected c.new.result)) fault (ap AreEndRows (begun ∙ was.said.ends)) was.named was.sound told)
 
 pub returns-then-is_sound-clause-ok : goal.returns-then-is_sound-clause-ok
-returns-then-is_sound-clause-ok g c first court next prior clean =
+returns-then-is_sound-clause-ok g c v first court next prior clean =
     let start = state g.S.Store first in
     let old = state g.S.Store c.args.conn.now in
     let new = state g.S.Store c.judge.new.conn in
@@ -50,9 +50,10 @@ returns-then-is_sound-clause-ok g c first court next prior clean =
     record {
       same = unchanged_then start old new was.same told.0;
       rows = rows;
-      sound = all_more (Holds start court next rows) (before table.Ends) table.Ends was.sound
+      named = was.named;
+      sound = all_more (Holds v start court next rows) (before table.Ends) table.Ends was.sound
           (read_rows table.Ends start IsEndRow end_cells taken c.in_ok-check.field-0-1 held (λ records. records ≡ _) same);
-      said = record { short_days = was.said.short_days; held = was.said.held };
+      said = record { short_days = was.said.short_days; unread = was.said.unread; held = was.said.held };
     }
 
 pub returns-else-is_sound-clause-err : goal.returns-else-is_sound-clause-err
@@ -73,6 +74,7 @@ returns-else-is_sound-clause-err g c v first court next prior clean =
       each_has v table.Ends tt,
       λ opened. unchanged_then start old new was.same told.0,
       was.rows,
+      was.named,
       was.sound,
       inr (inr (inr (
         held.1,

@@ -25,10 +25,10 @@ returns-in_err-count-clause-err g c v first court next prior =
     let early : HasCleanDisk old = omega (arith, clean, c.judge.ensures.writes_nothing.clean) in
     let was = prior early in
     let told = rw c.in_err-count.was at (c.judge.ensures.told clean c.in_ok-check.ensures.none) in
-    failed start old was.same v table.Entries (each_has v table.Entries tt) court next new was.rows (AreEntryRows (entries_checked c.in_ok-check.check)) fault (ap AreEntryRows (c.in_ok-check.ensures.cases ∙ was.said.cases)) was.sound told)
+    failed start old was.same v table.Entries (each_has v table.Entries tt) court next new was.rows (AreEntryRows (entries_checked c.in_ok-check.check)) fault (ap AreEntryRows (c.in_ok-check.ensures.cases ∙ was.said.cases)) was.named was.sound told)
 
 pub returns-clause-ok : goal.returns-clause-ok
-returns-clause-ok g c first court next prior clean =
+returns-clause-ok g c v first court next prior clean =
     let start = state g.S.Store first in
     let old = state g.S.Store c.args.conn.now in
     let new = state g.S.Store c.judge.new.conn in
@@ -44,15 +44,16 @@ returns-clause-ok g c first court next prior clean =
     record {
       same = unchanged_then start old new was.same told.0;
       rows = rows;
-      sound = all_more (Holds start court next rows) (before table.Entries) table.Entries was.sound (read_rows table.Entries start IsEntryRow entry_cells taken c.in_ok-count.count held (AreSoundEntries (length was.rows.cases)) (subst (λ n. AreSoundEntries n read.records) given read.taken.sound));
+      named = was.named;
+      sound = all_more (Holds v start court next rows) (before table.Entries) table.Entries was.sound (read_rows table.Entries start IsEntryRow entry_cells taken c.in_ok-count.count held (AreSoundEntries (length was.rows.cases)) (subst (λ n. AreSoundEntries n read.records) given read.taken.sound));
       said = record {
         court = was.said.court;
         calendar = was.said.calendar;
         short_days = was.said.short_days;
+        unread = was.said.unread;
+        names = was.said.names;
         cases = was.said.cases;
         parties = was.said.parties;
-        deadlines = was.said.deadlines;
-        sized = λ below. absurd (omega (arith, below));
         held = λ i. record (was.said.held i) { entries = count i };
       };
     }

@@ -27,10 +27,10 @@ returns-in_err-check-2-clause-err g c v first court next prior =
     let early : HasCleanDisk old = omega (arith, clean, c.judge.ensures.writes_nothing.clean) in
     let was = prior early in
     let told = rw c.in_err-check-2.was at (c.judge.ensures.told clean c.in_ok-check.ensures.none) in
-    failed start old was.same v table.Parties (each_has v table.Parties tt) court next new was.rows (ArePartyRows (parties_checked c.in_ok-check.check)) fault (ap ArePartyRows (c.in_ok-check.ensures.cases ∙ was.said.cases)) was.sound told)
+    failed start old was.same v table.Parties (each_has v table.Parties tt) court next new was.rows (ArePartyRows (parties_checked c.in_ok-check.check)) fault (ap ArePartyRows (c.in_ok-check.ensures.cases ∙ was.said.cases)) was.named was.sound told)
 
 pub returns-clause-ok : goal.returns-clause-ok
-returns-clause-ok g c first court next prior clean =
+returns-clause-ok g c v first court next prior clean =
     let start = state g.S.Store first in
     let old = state g.S.Store c.args.conn.now in
     let new = state g.S.Store c.judge.new.conn in
@@ -46,15 +46,16 @@ returns-clause-ok g c first court next prior clean =
     record {
       same = unchanged_then start old new was.same told.0;
       rows = rows;
-      sound = all_more (Holds start court next rows) (before table.Parties) table.Parties was.sound (read_rows table.Parties start IsPartyRow party_cells taken c.in_ok-check-2.count held (AreSoundParties (length was.rows.cases)) (subst (λ n. AreSoundParties n read.records) given read.taken.sound));
+      named = was.named;
+      sound = all_more (Holds v start court next rows) (before table.Parties) table.Parties was.sound (read_rows table.Parties start IsPartyRow party_cells taken c.in_ok-check-2.count held (AreSoundParties (length was.rows.cases)) (subst (λ n. AreSoundParties n read.records) given read.taken.sound));
       said = record {
         court = was.said.court;
         calendar = was.said.calendar;
         short_days = was.said.short_days;
+        unread = was.said.unread;
+        names = was.said.names;
         cases = was.said.cases;
         parties = ap parties_of c.counts.ensures ∙ parties_counted c.in_ok-check-2.check.numbering (map party_key read.records) read.taken.numbered;
-        deadlines = was.said.deadlines;
-        sized = λ below. absurd (omega (arith, below));
         held = λ i. record (was.said.held i) { parties = count i };
       };
     }

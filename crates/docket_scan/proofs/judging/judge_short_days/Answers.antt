@@ -29,7 +29,7 @@ returns-in_err-count-clause-err g c first court next prior =
     let was = prior early in
     let context = readied court next was.rows.calendar was.rows.short_days check was.said.short_days in
     let told = rw c.in_err-count.was at (c.judge.ensures.told clean was.said.short_days.none) in
-    failed start old was.same Second table.ShortDays tt court next new was.rows (AreSoundRows (short_day_context check)) fault (ap AreSoundRows context) was.sound told)
+    failed start old was.same Second table.ShortDays tt court next new was.rows (AreSoundRows (short_day_context check)) fault (ap AreSoundRows context) was.named was.sound told)
 
 pub returns-clause-ok : goal.returns-clause-ok
 returns-clause-ok g c first court next prior clean =
@@ -52,7 +52,8 @@ returns-clause-ok g c first court next prior clean =
     record {
       same = unchanged_then start old new was.same told.0;
       rows = rows;
-      sound = all_more (Holds start court next rows) (before table.ShortDays) table.ShortDays was.sound
+      named = was.named;
+      sound = all_more (Holds Second start court next rows) (before table.ShortDays) table.ShortDays was.sound
           (read_rows table.ShortDays start IsShortDayRow short_day_cells taken c.in_ok-count.count held (AreSoundShortDays court.close_minute next numbers) sound);
       said = now_held court next was.rows was.said.short_days.unread c.args.read.held was.said.held read.records sound c.in_ok-count.count count _ total;
     }

@@ -4,15 +4,26 @@ use Rattle.docket_scan.specs.Holdings.{holdings_of}
 use Rattle.docket_scan.proofs.JudgingLemmas.{nothing_then, told_of}
 use Rattle.docket_scan.proofs.judging.judge_tables.Goals as goal
 
+pub returns-in_err-names-clause-told : goal.returns-in_err-names-clause-told
+returns-in_err-names-clause-told g c clean =
+    let first = c.args.conn.now in
+    let version = c.args.version in
+    let court = c.args.court in
+    let next = c.args.next_row in
+    let fault = c.in_err-names.field-0.0 in
+    told_of version court next (state g.S.Store first) (state g.S.Store c.read_names.new.conn) (λ r held. held ≡ holdings_of court r) c.from_residual.result fault c.from_residual.ensures.1
+    (c.in_err-names.ensures.err court next clean)
+
 pub returns-in_err-read-clause-told : goal.returns-in_err-read-clause-told
 returns-in_err-read-clause-told g c clean =
     let first = c.args.conn.now in
     let version = c.args.version in
     let court = c.args.court in
     let next = c.args.next_row in
+    let names = c.in_ok-names.ensures.ok in
     let fault = c.in_err-read.field-0.0 in
-    told_of version court next (state g.S.Store first) (state g.S.Store c.judge_calendar.new.conn) (λ r held. held ≡ holdings_of court r) c.from_residual.result fault c.from_residual.ensures.1
-    (c.in_err-read.ensures.err version clean)
+    told_of version court next (state g.S.Store first) (state g.S.Store c.judge_calendar.new.conn) (λ r held. held ≡ holdings_of court r) c.from_residual-in_err-read.result fault c.from_residual-in_err-read.ensures.1
+    (c.in_err-read.ensures.err version first names clean)
 
 pub returns-in_err-read-2-clause-told : goal.returns-in_err-read-2-clause-told
 returns-in_err-read-2-clause-told g c clean =
@@ -20,10 +31,14 @@ returns-in_err-read-2-clause-told g c clean =
     let version = c.args.version in
     let court = c.args.court in
     let next = c.args.next_row in
-    let read = c.in_ok-read.ensures.ok in
+    let names = c.in_ok-names.ensures.ok in
+    let read = c.in_ok-read.ensures.ok version first names in
     let fault = c.in_err-read-2.field-0.0 in
     told_of version court next (state g.S.Store first) (state g.S.Store c.judge_cases.new.conn) (λ r held. held ≡ holdings_of court r) c.from_residual-in_err-read-2.result fault c.from_residual-in_err-read-2.ensures.1
     (c.in_err-read-2.ensures.err version first court next read clean)
+
+pub returns-in_err-read-3-clause-writes_nothing : goal.returns-in_err-read-3-clause-writes_nothing
+returns-in_err-read-3-clause-writes_nothing g c = nothing_then (nothing_then (nothing_then c.read_names.ensures.writes_nothing c.judge_calendar.ensures.writes_nothing) c.judge_cases.ensures.writes_nothing) c.judge_parties.ensures.writes_nothing
 
 pub returns-in_err-read-3-clause-told : goal.returns-in_err-read-3-clause-told
 returns-in_err-read-3-clause-told g c clean =
@@ -31,14 +46,15 @@ returns-in_err-read-3-clause-told g c clean =
     let version = c.args.version in
     let court = c.args.court in
     let next = c.args.next_row in
-    let read = c.in_ok-read.ensures.ok in
-    let read = c.in_ok-read-2.ensures.ok first court next read in
+    let names = c.in_ok-names.ensures.ok in
+    let read = c.in_ok-read.ensures.ok version first names in
+    let read = c.in_ok-read-2.ensures.ok version first court next read in
     let fault = c.in_err-read-3.field-0.0 in
     told_of version court next (state g.S.Store first) (state g.S.Store c.judge_parties.new.conn) (λ r held. held ≡ holdings_of court r) c.from_residual-in_err-read-3.result fault c.from_residual-in_err-read-3.ensures.1
     (c.in_err-read-3.ensures.err version first court next read clean)
 
 pub returns-in_err-read-4-clause-writes_nothing : goal.returns-in_err-read-4-clause-writes_nothing
-returns-in_err-read-4-clause-writes_nothing g c = nothing_then (nothing_then (nothing_then c.judge_calendar.ensures.writes_nothing c.judge_cases.ensures.writes_nothing) c.judge_parties.ensures.writes_nothing) c.judge_entries.ensures.writes_nothing
+returns-in_err-read-4-clause-writes_nothing g c = nothing_then (nothing_then (nothing_then (nothing_then c.read_names.ensures.writes_nothing c.judge_calendar.ensures.writes_nothing) c.judge_cases.ensures.writes_nothing) c.judge_parties.ensures.writes_nothing) c.judge_entries.ensures.writes_nothing
 
 pub returns-in_err-read-4-clause-told : goal.returns-in_err-read-4-clause-told
 returns-in_err-read-4-clause-told g c clean =
@@ -46,75 +62,85 @@ returns-in_err-read-4-clause-told g c clean =
     let version = c.args.version in
     let court = c.args.court in
     let next = c.args.next_row in
-    let read = c.in_ok-read.ensures.ok in
-    let read = c.in_ok-read-2.ensures.ok first court next read in
-    let read = c.in_ok-read-3.ensures.ok first court next read in
+    let names = c.in_ok-names.ensures.ok in
+    let read = c.in_ok-read.ensures.ok version first names in
+    let read = c.in_ok-read-2.ensures.ok version first court next read in
+    let read = c.in_ok-read-3.ensures.ok version first court next read in
     let fault = c.in_err-read-4.field-0.0 in
     told_of version court next (state g.S.Store first) (state g.S.Store c.judge_entries.new.conn) (λ r held. held ≡ holdings_of court r) c.from_residual-in_err-read-4.result fault c.from_residual-in_err-read-4.ensures.1
     (c.in_err-read-4.ensures.err version first court next read clean)
 
-pub returns-in_err-read-5-clause-writes_nothing : goal.returns-in_err-read-5-clause-writes_nothing
-returns-in_err-read-5-clause-writes_nothing g c = nothing_then (nothing_then (nothing_then (nothing_then c.judge_calendar.ensures.writes_nothing c.judge_cases.ensures.writes_nothing) c.judge_parties.ensures.writes_nothing) c.judge_entries.ensures.writes_nothing) c.judge_deadlines.ensures.writes_nothing
+pub returns-in_err-acts-clause-writes_nothing : goal.returns-in_err-acts-clause-writes_nothing
+returns-in_err-acts-clause-writes_nothing g c = nothing_then (nothing_then (nothing_then (nothing_then (nothing_then c.read_names.ensures.writes_nothing c.judge_calendar.ensures.writes_nothing) c.judge_cases.ensures.writes_nothing) c.judge_parties.ensures.writes_nothing) c.judge_entries.ensures.writes_nothing) c.judge_deadlines.ensures.writes_nothing
 
-pub returns-in_err-read-5-clause-told : goal.returns-in_err-read-5-clause-told
-returns-in_err-read-5-clause-told g c clean =
+pub returns-in_err-acts-clause-mode : goal.returns-in_err-acts-clause-mode
+returns-in_err-acts-clause-mode g c idle = c.judge_deadlines.ensures.mode (c.judge_entries.ensures.mode (c.judge_parties.ensures.mode (c.judge_cases.ensures.mode (c.judge_calendar.ensures.mode (c.read_names.ensures.mode idle)))))
+
+pub returns-in_err-acts-clause-told : goal.returns-in_err-acts-clause-told
+returns-in_err-acts-clause-told g c clean =
     let first = c.args.conn.now in
     let version = c.args.version in
     let court = c.args.court in
     let next = c.args.next_row in
-    let read = c.in_ok-read.ensures.ok in
-    let read = c.in_ok-read-2.ensures.ok first court next read in
-    let read = c.in_ok-read-3.ensures.ok first court next read in
-    let read = c.in_ok-read-4.ensures.ok first court next read in
-    let fault = c.in_err-read-5.field-0.0 in
-    told_of version court next (state g.S.Store first) (state g.S.Store c.judge_deadlines.new.conn) (λ r held. held ≡ holdings_of court r) c.from_residual-in_err-read-5.result fault c.from_residual-in_err-read-5.ensures.1
-    (c.in_err-read-5.ensures.err version first court next read clean)
+    let names = c.in_ok-names.ensures.ok in
+    let read = c.in_ok-read.ensures.ok version first names in
+    let read = c.in_ok-read-2.ensures.ok version first court next read in
+    let read = c.in_ok-read-3.ensures.ok version first court next read in
+    let read = c.in_ok-read-4.ensures.ok version first court next read in
+    let fault = c.in_err-acts.field-0.0 in
+    told_of version court next (state g.S.Store first) (state g.S.Store c.judge_deadlines.new.conn) (λ r held. held ≡ holdings_of court r) c.from_residual-in_err-acts.result fault c.from_residual-in_err-acts.ensures.1
+    (c.in_err-acts.ensures.err version first court next read clean)
 
-pub returns-in_err-read-6-clause-writes_nothing : goal.returns-in_err-read-6-clause-writes_nothing
-returns-in_err-read-6-clause-writes_nothing g c = nothing_then (nothing_then (nothing_then (nothing_then (nothing_then c.judge_calendar.ensures.writes_nothing c.judge_cases.ensures.writes_nothing) c.judge_parties.ensures.writes_nothing) c.judge_entries.ensures.writes_nothing) c.judge_deadlines.ensures.writes_nothing) c.judge_acts.ensures.writes_nothing
+pub returns-in_err-ends-clause-writes_nothing : goal.returns-in_err-ends-clause-writes_nothing
+returns-in_err-ends-clause-writes_nothing g c = nothing_then (nothing_then (nothing_then (nothing_then (nothing_then (nothing_then c.read_names.ensures.writes_nothing c.judge_calendar.ensures.writes_nothing) c.judge_cases.ensures.writes_nothing) c.judge_parties.ensures.writes_nothing) c.judge_entries.ensures.writes_nothing) c.judge_deadlines.ensures.writes_nothing) c.judge_acts.ensures.writes_nothing
 
-pub returns-in_err-read-6-clause-told : goal.returns-in_err-read-6-clause-told
-returns-in_err-read-6-clause-told g c clean =
+pub returns-in_err-ends-clause-mode : goal.returns-in_err-ends-clause-mode
+returns-in_err-ends-clause-mode g c idle = c.judge_acts.ensures.mode (c.judge_deadlines.ensures.mode (c.judge_entries.ensures.mode (c.judge_parties.ensures.mode (c.judge_cases.ensures.mode (c.judge_calendar.ensures.mode (c.read_names.ensures.mode idle))))))
+
+pub returns-in_err-ends-clause-told : goal.returns-in_err-ends-clause-told
+returns-in_err-ends-clause-told g c clean =
     let first = c.args.conn.now in
     let version = c.args.version in
     let court = c.args.court in
     let next = c.args.next_row in
-    let read = c.in_ok-read.ensures.ok in
-    let read = c.in_ok-read-2.ensures.ok first court next read in
-    let read = c.in_ok-read-3.ensures.ok first court next read in
-    let read = c.in_ok-read-4.ensures.ok first court next read in
-    let read = c.in_ok-read-5.ensures.ok first court next read in
-    let fault = c.in_err-read-6.field-0.0 in
-    told_of version court next (state g.S.Store first) (state g.S.Store c.judge_acts.new.conn) (λ r held. held ≡ holdings_of court r) c.from_residual-in_err-read-6.result fault c.from_residual-in_err-read-6.ensures.1
-    (c.in_err-read-6.ensures.err version first court next read clean)
+    let names = c.in_ok-names.ensures.ok in
+    let read = c.in_ok-read.ensures.ok version first names in
+    let read = c.in_ok-read-2.ensures.ok version first court next read in
+    let read = c.in_ok-read-3.ensures.ok version first court next read in
+    let read = c.in_ok-read-4.ensures.ok version first court next read in
+    let acts = c.in_ok-acts.ensures.ok version first court next read in
+    let fault = c.in_err-ends.field-0.0 in
+    told_of version court next (state g.S.Store first) (state g.S.Store c.judge_acts.new.conn) (λ r held. held ≡ holdings_of court r) c.from_residual-in_err-ends.result fault c.from_residual-in_err-ends.ensures.1
+    (c.in_err-ends.ensures.err version first court next acts clean)
 
-pub returns-in_err-read-7-clause-writes_nothing : goal.returns-in_err-read-7-clause-writes_nothing
-returns-in_err-read-7-clause-writes_nothing g c = nothing_then (nothing_then (nothing_then (nothing_then (nothing_then (nothing_then c.judge_calendar.ensures.writes_nothing c.judge_cases.ensures.writes_nothing) c.judge_parties.ensures.writes_nothing) c.judge_entries.ensures.writes_nothing) c.judge_deadlines.ensures.writes_nothing) c.judge_acts.ensures.writes_nothing) c.judge_receipts.ensures.writes_nothing
+pub returns-in_err-ends-2-clause-writes_nothing : goal.returns-in_err-ends-2-clause-writes_nothing
+returns-in_err-ends-2-clause-writes_nothing g c = nothing_then (nothing_then (nothing_then (nothing_then (nothing_then (nothing_then (nothing_then c.read_names.ensures.writes_nothing c.judge_calendar.ensures.writes_nothing) c.judge_cases.ensures.writes_nothing) c.judge_parties.ensures.writes_nothing) c.judge_entries.ensures.writes_nothing) c.judge_deadlines.ensures.writes_nothing) c.judge_acts.ensures.writes_nothing) c.judge_receipts.ensures.writes_nothing
 
-pub returns-in_err-read-7-clause-mode : goal.returns-in_err-read-7-clause-mode
-returns-in_err-read-7-clause-mode g c idle = c.judge_receipts.ensures.mode (c.judge_acts.ensures.mode (c.judge_deadlines.ensures.mode (c.judge_entries.ensures.mode (c.judge_parties.ensures.mode (c.judge_cases.ensures.mode (c.judge_calendar.ensures.mode idle))))))
+pub returns-in_err-ends-2-clause-mode : goal.returns-in_err-ends-2-clause-mode
+returns-in_err-ends-2-clause-mode g c idle = c.judge_receipts.ensures.mode (c.judge_acts.ensures.mode (c.judge_deadlines.ensures.mode (c.judge_entries.ensures.mode (c.judge_parties.ensures.mode (c.judge_cases.ensures.mode (c.judge_calendar.ensures.mode (c.read_names.ensures.mode idle)))))))
 
-pub returns-in_err-read-7-clause-told : goal.returns-in_err-read-7-clause-told
-returns-in_err-read-7-clause-told g c clean =
+pub returns-in_err-ends-2-clause-told : goal.returns-in_err-ends-2-clause-told
+returns-in_err-ends-2-clause-told g c clean =
     let first = c.args.conn.now in
     let version = c.args.version in
     let court = c.args.court in
     let next = c.args.next_row in
-    let read = c.in_ok-read.ensures.ok in
-    let read = c.in_ok-read-2.ensures.ok first court next read in
-    let read = c.in_ok-read-3.ensures.ok first court next read in
-    let read = c.in_ok-read-4.ensures.ok first court next read in
-    let read = c.in_ok-read-5.ensures.ok first court next read in
-    let read = c.in_ok-read-6.ensures.ok first court next read in
-    let fault = c.in_err-read-7.field-0.0 in
-    told_of version court next (state g.S.Store first) (state g.S.Store c.judge_receipts.new.conn) (λ r held. held ≡ holdings_of court r) c.from_residual-in_err-read-7.result fault c.from_residual-in_err-read-7.ensures.1
-    (c.in_err-read-7.ensures.err version first court next read clean)
+    let names = c.in_ok-names.ensures.ok in
+    let read = c.in_ok-read.ensures.ok version first names in
+    let read = c.in_ok-read-2.ensures.ok version first court next read in
+    let read = c.in_ok-read-3.ensures.ok version first court next read in
+    let read = c.in_ok-read-4.ensures.ok version first court next read in
+    let acts = c.in_ok-acts.ensures.ok version first court next read in
+    let ends = c.in_ok-ends.ensures.ok version first court next acts in
+    let fault = c.in_err-ends-2.field-0.0 in
+    told_of version court next (state g.S.Store first) (state g.S.Store c.judge_receipts.new.conn) (λ r held. held ≡ holdings_of court r) c.from_residual-in_err-ends-2.result fault c.from_residual-in_err-ends-2.ensures.1
+    (c.in_err-ends-2.ensures.err first court next ends clean)
 
 pub returns-in_err-last-clause-writes_nothing : goal.returns-in_err-last-clause-writes_nothing
-returns-in_err-last-clause-writes_nothing g c = nothing_then (nothing_then (nothing_then (nothing_then (nothing_then (nothing_then (nothing_then c.judge_calendar.ensures.writes_nothing c.judge_cases.ensures.writes_nothing) c.judge_parties.ensures.writes_nothing) c.judge_entries.ensures.writes_nothing) c.judge_deadlines.ensures.writes_nothing) c.judge_acts.ensures.writes_nothing) c.judge_receipts.ensures.writes_nothing) c.judge_ends.ensures.writes_nothing
+returns-in_err-last-clause-writes_nothing g c = nothing_then (nothing_then (nothing_then (nothing_then (nothing_then (nothing_then (nothing_then (nothing_then c.read_names.ensures.writes_nothing c.judge_calendar.ensures.writes_nothing) c.judge_cases.ensures.writes_nothing) c.judge_parties.ensures.writes_nothing) c.judge_entries.ensures.writes_nothing) c.judge_deadlines.ensures.writes_nothing) c.judge_acts.ensures.writes_nothing) c.judge_receipts.ensures.writes_nothing) c.judge_ends.ensures.writes_nothing
 
 pub returns-in_err-last-clause-mode : goal.returns-in_err-last-clause-mode
-returns-in_err-last-clause-mode g c idle = c.judge_ends.ensures.mode (c.judge_receipts.ensures.mode (c.judge_acts.ensures.mode (c.judge_deadlines.ensures.mode (c.judge_entries.ensures.mode (c.judge_parties.ensures.mode (c.judge_cases.ensures.mode (c.judge_calendar.ensures.mode idle)))))))
+returns-in_err-last-clause-mode g c idle = c.judge_ends.ensures.mode (c.judge_receipts.ensures.mode (c.judge_acts.ensures.mode (c.judge_deadlines.ensures.mode (c.judge_entries.ensures.mode (c.judge_parties.ensures.mode (c.judge_cases.ensures.mode (c.judge_calendar.ensures.mode (c.read_names.ensures.mode idle))))))))
 
 pub returns-in_err-last-clause-told : goal.returns-in_err-last-clause-told
 returns-in_err-last-clause-told g c clean =
@@ -122,34 +148,37 @@ returns-in_err-last-clause-told g c clean =
     let version = c.args.version in
     let court = c.args.court in
     let next = c.args.next_row in
-    let read = c.in_ok-read.ensures.ok in
-    let read = c.in_ok-read-2.ensures.ok first court next read in
-    let read = c.in_ok-read-3.ensures.ok first court next read in
-    let read = c.in_ok-read-4.ensures.ok first court next read in
-    let read = c.in_ok-read-5.ensures.ok first court next read in
-    let read = c.in_ok-read-6.ensures.ok first court next read in
-    let read = c.in_ok-read-7.ensures.ok first court next read in
+    let names = c.in_ok-names.ensures.ok in
+    let read = c.in_ok-read.ensures.ok version first names in
+    let read = c.in_ok-read-2.ensures.ok version first court next read in
+    let read = c.in_ok-read-3.ensures.ok version first court next read in
+    let read = c.in_ok-read-4.ensures.ok version first court next read in
+    let acts = c.in_ok-acts.ensures.ok version first court next read in
+    let ends = c.in_ok-ends.ensures.ok version first court next acts in
+    let ends = c.in_ok-ends-2.ensures.ok first court next ends in
     let fault = c.in_err-last.field-0.0 in
     told_of version court next (state g.S.Store first) (state g.S.Store c.judge_ends.new.conn) (λ r held. held ≡ holdings_of court r) c.from_residual-in_err-last.result fault c.from_residual-in_err-last.ensures.1
-    (c.in_err-last.ensures.err version first court next read clean)
+    (c.in_err-last.ensures.err version first court next ends clean)
 
 pub returns-clause-writes_nothing : goal.returns-clause-writes_nothing
-returns-clause-writes_nothing g c = nothing_then (nothing_then (nothing_then (nothing_then (nothing_then (nothing_then (nothing_then (nothing_then c.judge_calendar.ensures.writes_nothing c.judge_cases.ensures.writes_nothing) c.judge_parties.ensures.writes_nothing) c.judge_entries.ensures.writes_nothing) c.judge_deadlines.ensures.writes_nothing) c.judge_acts.ensures.writes_nothing) c.judge_receipts.ensures.writes_nothing) c.judge_ends.ensures.writes_nothing) c.judge_more.ensures.writes_nothing
+returns-clause-writes_nothing g c = nothing_then (nothing_then (nothing_then (nothing_then (nothing_then (nothing_then (nothing_then (nothing_then (nothing_then c.read_names.ensures.writes_nothing c.judge_calendar.ensures.writes_nothing) c.judge_cases.ensures.writes_nothing) c.judge_parties.ensures.writes_nothing) c.judge_entries.ensures.writes_nothing) c.judge_deadlines.ensures.writes_nothing) c.judge_acts.ensures.writes_nothing) c.judge_receipts.ensures.writes_nothing) c.judge_ends.ensures.writes_nothing) c.judge_more.ensures.writes_nothing
 
 pub returns-clause-mode : goal.returns-clause-mode
-returns-clause-mode g c idle = c.judge_more.ensures.mode (c.judge_ends.ensures.mode (c.judge_receipts.ensures.mode (c.judge_acts.ensures.mode (c.judge_deadlines.ensures.mode (c.judge_entries.ensures.mode (c.judge_parties.ensures.mode (c.judge_cases.ensures.mode (c.judge_calendar.ensures.mode idle))))))))
+returns-clause-mode g c idle = c.judge_more.ensures.mode (c.judge_ends.ensures.mode (c.judge_receipts.ensures.mode (c.judge_acts.ensures.mode (c.judge_deadlines.ensures.mode (c.judge_entries.ensures.mode (c.judge_parties.ensures.mode (c.judge_cases.ensures.mode (c.judge_calendar.ensures.mode (c.read_names.ensures.mode idle)))))))))
 
 pub returns-clause-told : goal.returns-clause-told
 returns-clause-told g c clean =
     let first = c.args.conn.now in
+    let version = c.args.version in
     let court = c.args.court in
     let next = c.args.next_row in
-    let read = c.in_ok-read.ensures.ok in
-    let read = c.in_ok-read-2.ensures.ok first court next read in
-    let read = c.in_ok-read-3.ensures.ok first court next read in
-    let read = c.in_ok-read-4.ensures.ok first court next read in
-    let read = c.in_ok-read-5.ensures.ok first court next read in
-    let read = c.in_ok-read-6.ensures.ok first court next read in
-    let read = c.in_ok-read-7.ensures.ok first court next read in
-    let last = c.in_ok-last.ensures.ok first court next read in
+    let names = c.in_ok-names.ensures.ok in
+    let read = c.in_ok-read.ensures.ok version first names in
+    let read = c.in_ok-read-2.ensures.ok version first court next read in
+    let read = c.in_ok-read-3.ensures.ok version first court next read in
+    let read = c.in_ok-read-4.ensures.ok version first court next read in
+    let acts = c.in_ok-acts.ensures.ok version first court next read in
+    let ends = c.in_ok-ends.ensures.ok version first court next acts in
+    let ends = c.in_ok-ends-2.ensures.ok first court next ends in
+    let last = c.in_ok-last.ensures.ok version first court next ends in
     c.judge_more.ensures.told first court next last clean

@@ -1,6 +1,6 @@
 use Rattle.docket_sound.proofs.SortedActs.{sorted_acts}
 use Rattle.docket_sound.proofs.SortedReceipts.{sorted_receipts}
-use Rattle.docket_sound.proofs.SortedRows.{sorted_calendar, sorted_short_days, sorted_cases, sorted_parties, party_counts, sorted_entries, sorted_deadlines, deadline_counts}
+use Rattle.docket_sound.proofs.SortedRows.{sorted_calendar, sorted_short_days, sorted_cases, sorted_parties, party_counts, sorted_entries, sorted_local_rules, sorted_deadlines, deadline_counts}
 use Rattle.docket_sound.proofs.laws.sorted_histories_are_sound.Goals as goal
 
 pub returns : goal.returns
@@ -11,8 +11,9 @@ returns c = record {
   parties = λ court h rows is order. sorted_parties court h is rows order;
   party_counts = λ court h rows is order. party_counts court h is rows order;
   entries = λ court h rows is order. sorted_entries court h is rows order;
-  deadlines = λ court h rows is order. sorted_deadlines court h is rows order;
+  local_rules = λ court h rules is order. sorted_local_rules court h is rules order;
+  deadlines = λ court h rules rows is of_rules order. sorted_deadlines court h is rules rows of_rules order;
   deadline_counts = λ court h rows is order. deadline_counts court h is rows order;
   acts = λ court h rows is order. sorted_acts court h is rows order;
-  receipts = λ court h rows is all order. sorted_receipts court h is all rows order;
+  receipts = λ court later h rows is all known order. sorted_receipts court later h is all known rows order;
 }

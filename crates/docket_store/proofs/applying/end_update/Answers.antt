@@ -3,10 +3,10 @@ use Rattle.std.proofs.lemmas.List.Sorted.{IsPermutation-refl}
 use Rattle.docket_core.specs.EndRows.{all_changed_ends, end_rows}
 use Rattle.docket_core.specs.Histories.{case_rows}
 use Rattle.docket_core.specs.Tables.{rows_of}
-use Rattle.docket_changes.specs.Settling.{IsUpdate, case_moved, changes_calendar, moves_all_cases}
+use Rattle.docket_changes.specs.Settling.{IsUpdate, case_moved, moves_all_cases}
 use Rattle.docket_changes.specs.declared.moving.EndUpdate.{EndUpdate}
 use Rattle.docket_changes.specs.declared.moving.EndUpdate.TheVariants.{Calendar}
-use Rattle.docket_changes.proofs.HistoryLemmas.{ends_kept, named_quiet}
+use Rattle.docket_changes.proofs.HistoryLemmas.{ends_kept}
 use Rattle.docket_store.specs.Dockets.{serving}
 use Rattle.docket_store.proofs.ApplyLemmas.{calendar_accepted}
 use Rattle.docket_store.proofs.AskLemmas.{asks_weaker}

@@ -1,8 +1,12 @@
 use Rattle.std.proofs.Common.{◌∙◌, inl, inr, arith}
 use Rattle.std.proofs.Math.Logic.{∥∥₁_map}
 use Rattle.sqlite.specs.Files.{over_files}
+use Rattle.sqlite.specs.Held.{state}
+use Rattle.sqlite.specs.State.{HasCleanDisk}
 use Rattle.docket_core.specs.Outcomes.{after}
+use Rattle.docket_store.specs.Reopening.{AppliesOnce, IsNotRecovered}
 use Rattle.docket_store.proofs.AgainLemmas.{once_given}
+use Rattle.docket_store.proofs.ReopeningLemmas.{match_told}
 use Rattle.docket_store.proofs.recovering.apply_again.Goals as goal
 
 pub returns-clause-once : goal.returns-clause-once
@@ -16,3 +20,9 @@ returns-clause-once g c it court h was is leaves may clean =
       ],
       c.apply-answer.ensures.court ∙ one.1,
     )))
+
+pub returns-in_err-docket-clause-once : goal.returns-in_err-docket-clause-once
+returns-in_err-docket-clause-once g c it court h was is leaves may =
+    let later = after court h c.args.command.now in
+    match_told (λ r. HasCleanDisk (state over_files r.0.conn) → AppliesOnce over_files r.0 court h c.args.command.now r.1) (IsNotRecovered court h later) c.from_residual.result
+    c.in_err-docket.field-0.0 c.from_residual.ensures.1 (c.in_err-docket.ensures.either it court h later was is leaves may)

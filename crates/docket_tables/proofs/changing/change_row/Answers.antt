@@ -3,12 +3,12 @@ use Rattle.std.proofs.lemmas.Result.{IfOk-weaker}
 use Rattle.sqlite.specs.Held.{state}
 use Rattle.docket_core.specs.ShortDays.{day_and_span_rows, short_day_rows}
 use Rattle.docket_core.specs.Tables.{changed}
-use Rattle.docket_columns.specs.Cells.{calendar_cells, short_day_cells, case_cells, party_cells, entry_cells, deadline_cells, act_cells}
+use Rattle.docket_columns.specs.Cells.{calendar_cells, short_day_cells, case_cells, party_cells, entry_cells, deadline_cells, act_cells, local_rule_cells}
 use Rattle.docket_tables.specs.AnyRows.{row_changed}
 use Rattle.docket_tables.specs.Contents.{rows_with}
 use Rattle.docket_tables.specs.Stands.{Sees}
-use Rattle.docket_tables.specs.declared.table.Table.TheVariants.{Cases, Parties, Entries, Deadlines, Acts}
-use Rattle.docket_tables.proofs.ContentsLemmas.{row_inserted, sees_same, case_added, party_added, entry_added, deadline_added, act_added, calendar_removed, keyed_rows}
+use Rattle.docket_tables.specs.declared.table.Table.TheVariants.{Cases, Parties, Entries, Deadlines, Acts, LocalRules}
+use Rattle.docket_tables.proofs.ContentsLemmas.{row_inserted, sees_same, case_added, party_added, entry_added, deadline_added, act_added, local_rule_added, calendar_removed, keyed_rows}
 use Rattle.docket_tables.proofs.changing.change_row.Goals as goal
 
 pub returns-in-AddCalendar-clause-ok : goal.returns-in-AddCalendar-clause-ok
@@ -64,6 +64,14 @@ returns-in-AddAct-clause-ok g c clean court t ends small sees =
     row_inserted c.insert-in-AddAct.result old new Acts _ (act_cells row) (rows_with court t ends) (rows_with court (changed c.args.change.now t) ends) c.act_values.ensures refl
     (λ other. act_added court t ends row other ∙ ap (λ x. rows_with court (changed x t) ends other) (sym c.in-AddAct.is)) (c.insert-in-AddAct.ensures.ok clean) sees
 
+pub returns-in-AddLocalRule-clause-ok : goal.returns-in-AddLocalRule-clause-ok
+returns-in-AddLocalRule-clause-ok g c clean court t ends small sees =
+    let row = c.in-AddLocalRule.row in
+    let old = state g.S.Store c.args.tx.now.conn.now in
+    let new = state g.S.Store c.insert-in-AddLocalRule.new.tx.conn.now in
+    row_inserted c.insert-in-AddLocalRule.result old new LocalRules _ (local_rule_cells row) (rows_with court t ends) (rows_with court (changed c.args.change.now t) ends) c.local_rule_values.ensures refl
+    (λ other. local_rule_added court t ends row other ∙ ap (λ x. rows_with court (changed x t) ends other) (sym c.in-AddLocalRule.is)) (c.insert-in-AddLocalRule.ensures.ok clean) sees
+
 pub returns-in-AddCalendar-clause-any : goal.returns-in-AddCalendar-clause-any
 returns-in-AddCalendar-clause-any g c clean court n stored rows are small sees =
     IfOk-weaker c.add_calendar_row.result _ _ (λ _ h. subst (λ x. Sees (state g.S.Store c.add_calendar_row.new.tx.conn.now) (row_changed court n x rows)) (sym c.in-AddCalendar.is) h)
@@ -108,3 +116,10 @@ returns-in-AddAct-clause-any g c clean court n stored rows are small sees =
     let new = state g.S.Store c.insert-in-AddAct.new.tx.conn.now in
     row_inserted c.insert-in-AddAct.result old new Acts _ (act_cells c.in-AddAct.row) rows (row_changed court n c.args.change.now rows) c.act_values.ensures refl
     (λ other. ap (λ x. row_changed court n x rows other) (sym c.in-AddAct.is)) (c.insert-in-AddAct.ensures.ok clean) sees
+
+pub returns-in-AddLocalRule-clause-any : goal.returns-in-AddLocalRule-clause-any
+returns-in-AddLocalRule-clause-any g c clean court n stored rows are small sees =
+    let old = state g.S.Store c.args.tx.now.conn.now in
+    let new = state g.S.Store c.insert-in-AddLocalRule.new.tx.conn.now in
+    row_inserted c.insert-in-AddLocalRule.result old new LocalRules _ (local_rule_cells c.in-AddLocalRule.row) rows (row_changed court n c.args.change.now rows) c.local_rule_values.ensures refl
+    (λ other. ap (λ x. row_changed court n x rows other) (sym c.in-AddLocalRule.is)) (c.insert-in-AddLocalRule.ensures.ok clean) sees

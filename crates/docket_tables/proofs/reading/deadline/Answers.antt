@@ -8,10 +8,10 @@ pub returns-clause-read : goal.returns-clause-read
 returns-clause-read g c court t orderly holds =
     let asked = c.in_ok-rows.ensures.ok (rows_in court t) holds in
     let rows = c.in_ok-rows.rows.items in
-    gives g.S.Store c.ask.new.conn (rows_in court t) _ c.deadline_in.result asked.0 (λ clean.
+    gives g.S.Store c.ask.new.conn (rows_in court t) _ c.first_in.result asked.0 (λ clean.
     let answer = rw (c.to_sql.ensures, c.to_sql-2.ensures) at (asked.1 clean) in
-    deadline_read c.args.case c.args.number c.deadline_in.result rows t.deadlines orderly.deadlines (orderly.deadlines_run c.args.case) answer (λ none. c.deadline_in.ensures.none (c.as_slice.ensures.value ∙ none))
-    (λ row typed one. c.deadline_in.ensures.one row typed (c.as_slice.ensures.value ∙ one)))
+    deadline_read c.args.case c.args.number c.first_in.result rows t.deadlines orderly.deadlines (orderly.deadlines_run c.args.case) answer (λ none. c.first_in.ensures.none (c.as_slice.ensures.value ∙ none))
+    (λ row typed one. c.first_in.ensures.one row typed (c.as_slice.ensures.value ∙ one)))
 
 pub returns-clause-stays : goal.returns-clause-stays
-returns-clause-stays g c rows holds = stays g.S.Store c.ask.new.conn rows c.deadline_in.result (c.in_ok-rows.ensures.ok rows holds).0
+returns-clause-stays g c rows holds = stays g.S.Store c.ask.new.conn rows c.first_in.result (c.in_ok-rows.ensures.ok rows holds).0

@@ -3,15 +3,15 @@ use Rattle.docket_scan.proofs.CountLemmas.{parties_counted}
 use Rattle.docket_scan.proofs.reading.TablesRead.begin.Goals as goal
 
 pub returns : goal.returns
-returns c days next same counted ready = record {
+returns c days texts next same counted ready known = record {
   court = refl;
   calendar = same;
   short_days = ready;
+  unread = refl;
+  names = known;
   cases = refl;
   parties = parties_counted c.in_ok-none.field-0 [] c.in_ok-none.ensures;
-  deadlines = c.in_ok-none-2.ensures;
-  sized = λ below. absurd (omega (arith, below));
-  held = λ i. record (c.none-3.ensures c.args.court i) { calendar_rows = (counted ∙ none_more (length days)) i };
+  held = λ i. record (c.none-2.ensures c.args.court i) { calendar_rows = (counted ∙ none_more (length days)) i };
 }
   where
     none_more : (n : ℕ) → n ≡ n + 0

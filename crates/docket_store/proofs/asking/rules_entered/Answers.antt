@@ -1,0 +1,28 @@
+use Rattle.std.proofs.Common.{◌≡◌, Vec, Global, arith}
+use Rattle.docket_core.specs.Histories.{local_rule_rows}
+use Rattle.docket_core.specs.declared.row.LocalRuleRow.{LocalRuleRow}
+use Rattle.docket_core.specs.Tables.{rows_of}
+use Rattle.docket_store.specs.Applying.{docket_rows}
+use Rattle.docket_store.proofs.ApplyLemmas.{docket_orderly}
+use Rattle.docket_store.proofs.AskLemmas.{asks_failed}
+use Rattle.docket_store.proofs.asking.rules_entered.Goals as goal
+
+pub returns-in-Ok-clause-answer : goal.returns-in-Ok-clause-answer
+returns-in-Ok-clause-answer g c court kept h stands =
+    let read = c.in-Ok.ensures.read court (rows_of court h) (docket_orderly court h stands.docket) stands.rows in (
+      record { docket = stands.docket; serves = stands.serves; rows = read.0; calendar = λ clean. stands.calendar (omega (arith, c.local_rules.ensures.clean)) },
+      read.1,
+    )
+
+pub returns-in-Err-clause-answer : goal.returns-in-Err-clause-answer
+returns-in-Err-clause-answer g c court kept h stands =
+    let fails = c.in-Err.ensures.read court (rows_of court h) (docket_orderly court h stands.docket) stands.rows in
+    asks_failed g.S.Store {X = Vec LocalRuleRow Global} c.read_fault.new.conn court kept h (λ found. found.items ≡ local_rule_rows h) c.read_fault.result stands.docket
+    (λ clean. stands.calendar (omega (arith, c.local_rules.ensures.clean, c.read_fault.ensures.clean)))
+    (c.read_fault.ensures.left (docket_rows court h) (docket_rows court h) fails)
+
+pub returns-in-Ok-clause-stays : goal.returns-in-Ok-clause-stays
+returns-in-Ok-clause-stays g c rows holds = c.in-Ok.ensures.stays rows holds
+
+pub returns-in-Err-clause-stays : goal.returns-in-Err-clause-stays
+returns-in-Err-clause-stays g c rows holds = c.read_fault.ensures.stays rows (c.in-Err.ensures.stays rows holds)

@@ -1,0 +1,18 @@
+use Rattle.std.proofs.Common.{◌∙◌}
+use Rattle.docket_tables.specs.Contents.{rows_in}
+use Rattle.docket_tables.proofs.ReadLemmas.{gives, stays}
+use Rattle.docket_tables.proofs.FoundLemmas.{local_rule_read}
+use Rattle.docket_tables.proofs.reading.local_rule.Goals as goal
+
+pub returns-clause-read : goal.returns-clause-read
+returns-clause-read g c court t orderly holds =
+    let asked = c.in_ok-rows.ensures.ok (rows_in court t) holds in
+    let rows = c.in_ok-rows.rows.items in
+    let name = c.args.name.now in
+    gives g.S.Store c.ask.new.conn (rows_in court t) _ c.local_rule_in.result asked.0 (λ clean.
+    let answer = rw c.to_sql.ensures at (asked.1 clean) in
+    local_rule_read name c.local_rule_in.result rows t.local_rules orderly.local_rules (orderly.one_local_rule name) answer (λ none. c.local_rule_in.ensures.none (c.as_slice.ensures.value ∙ none))
+    (λ row typed one. c.local_rule_in.ensures.one row typed (c.as_slice.ensures.value ∙ one)))
+
+pub returns-clause-stays : goal.returns-clause-stays
+returns-clause-stays g c rows holds = stays g.S.Store c.ask.new.conn rows c.local_rule_in.result (c.in_ok-rows.ensures.ok rows holds).0

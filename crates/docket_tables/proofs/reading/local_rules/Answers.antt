@@ -1,0 +1,18 @@
+use Rattle.std.proofs.Common.{◌∙◌, refl}
+use Rattle.docket_columns.specs.Cells.{local_rule_cells}
+use Rattle.docket_tables.specs.Contents.{rows_in}
+use Rattle.docket_tables.specs.declared.query.Query.TheVariants as ask
+use Rattle.docket_tables.proofs.AnswerLemmas.{all_in_order, rises_running}
+use Rattle.docket_tables.proofs.ReadLemmas.{gives, stays}
+use Rattle.docket_tables.proofs.reading.local_rules.Goals as goal
+
+pub returns-clause-read : goal.returns-clause-read
+returns-clause-read g c court t orderly holds =
+    let asked = c.in_ok-rows.ensures.ok (rows_in court t) holds in
+    let rows = c.in_ok-rows.rows.items in
+    gives g.S.Store c.ask.new.conn (rows_in court t) _ c.all_in.result asked.0 (λ clean.
+    let are = all_in_order ask.LocalRules local_rule_cells (λ row. row.number) t.local_rules rows (λ row. refl) (λ row. refl) refl refl (rises_running 1 _ orderly.local_rules_run) (asked.1 clean) in
+    c.all_in.ensures t.local_rules orderly.local_rules (c.as_slice.ensures.value ∙ are))
+
+pub returns-clause-stays : goal.returns-clause-stays
+returns-clause-stays g c rows holds = stays g.S.Store c.ask.new.conn rows c.all_in.result (c.in_ok-rows.ensures.ok rows holds).0
