@@ -1,7 +1,7 @@
 """A plain docket over the module sqlite3, in a file with the tables of `docketctl create`: file_model.py FILE [in-memory] < COMMANDS.
 With the second word it works on a copy of the file in memory, which is not kept.
 
-It answers the five kinds of commands that bench/file sends, one transaction each, with a log that is synced at each commit. It
+It answers the seven kinds of commands that bench/file sends, one transaction each, with a log that is synced at each commit. It
 refuses nothing but a key that was used for another command and a label that stands, and knows no calendar but the statutory
 holidays.
 """
@@ -80,13 +80,29 @@ class Docket:
         self.conn.execute("INSERT INTO entry VALUES (?, ?, ?, ?)", (c["case"], number, day, c["text"]))
         return number
 
+    def local_rule(self, c):
+        if self.one("SELECT 1 FROM local_rule WHERE name = ?", c["name"]):
+            return None
+        number = (self.one("SELECT number FROM local_rule ORDER BY number DESC LIMIT 1") or 0) + 1
+        row = (number, c["name"], c["days"], 1, int(c["three"]), int(c["extendable"]))
+        self.conn.execute("INSERT INTO local_rule VALUES (?, ?, ?, ?, ?, ?)", row)
+        return number
+
+    def local_period(self, c):
+        sql = "SELECT days, three FROM local_rule WHERE name = ?"
+        days, three = self.conn.execute(sql, (c["rule"],)).fetchone()
+        return self.add_deadline(c, c["rule"], date.fromisoformat(c["start"]), days, three and c["method"] in "CDF")
+
     def serve_pleading(self, c):
-        case, served, three = c["case"], date.fromisoformat(c["served"]), c["method"] in "CDF"
+        return self.add_deadline(c, "12(a)(1)(B)", date.fromisoformat(c["served"]), 21, c["method"] in "CDF")
+
+    def add_deadline(self, c, rule, start, days, three):
+        case = c["case"]
         number = self.next_number("deadline", case)
-        self.conn.execute("INSERT INTO deadline VALUES (?, ?, ?, '12(a)(1)(B)', 0)", (case, number, c["party"]))
-        act = (case, number, 1, 1, number_of(served), 1, 21, 1, int(three))
+        self.conn.execute("INSERT INTO deadline VALUES (?, ?, ?, ?, 0)", (case, number, c["party"], rule))
+        act = (case, number, 1, 1, number_of(start), 1, days, 1, int(three))
         self.conn.execute("INSERT INTO act VALUES (?, ?, ?, ?, ?, ?, ?, ?, ?)", act)
-        end = rolled(served + timedelta(21))
+        end = rolled(start + timedelta(days))
         end = rolled(end + timedelta(3)) if three else end
         self.conn.execute("INSERT INTO due VALUES (?, ?, ?, ?)", (case, number, number_of(end), WHOLE_DAY))
         return number

@@ -1,14 +1,27 @@
-"""Mixed commands: mixed_commands.py CASES COMMANDS prints commands that open so many cases, and so many over 1,000 of these: parties,
-entries, counterclaims that are served, and extensions of their deadlines, all accepted. The same arguments give the same ones."""
+"""Mixed commands: mixed_commands.py CASES COMMANDS [local] prints commands that open so many cases, and so many over 1,000 of these:
+parties, entries, counterclaims that are served, and extensions of their deadlines, all accepted. With the third word 20 local rules
+are entered first, and a third of the deadlines run by them in the place of the counterclaim's. The same arguments give the same ones."""
 import json
 import random
 import sys
 from datetime import date, timedelta
 
-cases, commands = int(sys.argv[1]), int(sys.argv[2])
+cases, commands, local = int(sys.argv[1]), int(sys.argv[2]), sys.argv[3:] == ["local"]
 random.seed(6103)
 day = lambda: str(date(2025, 1, 1) + timedelta(random.randrange(300)))
+served = 0
 filled = [[0, []] for _ in range(1000)]  # of each of the 1,000 its number of parties and its deadlines, each with its extensions
+
+
+def time_served(numbered, party):
+    """A counterclaim that is served, or the like by a local rule."""
+    global served
+    served += 1
+    start, method = day(), random.choice("ABCDEF")
+    if local and served % 3 == 0:
+        return {"do": "local_period", **numbered, "party": party, "rule": f"LR{served % 20 + 1}", "start": start, "method": method}
+    return {"do": "serve_pleading", **numbered, "party": party, "kind": "counterclaim", "basis": "private", "served": start,
+            "method": method}
 
 
 def command():
@@ -21,8 +34,7 @@ def command():
         return {"do": "file_entry", **numbered, "day": day(), "text": "Motion to dismiss, with a memorandum of law"}
     if len(case[1]) < 900 and random.random() < 0.6:
         case[1].append(0)
-        return {"do": "serve_pleading", **numbered, "party": random.randint(1, case[0]), "kind": "counterclaim",
-                "basis": "private", "served": day(), "method": random.choice("ABCDEF")}
+        return time_served(numbered, random.randint(1, case[0]))
     if case[1]:
         deadline = random.randrange(len(case[1]))
         if case[1][deadline] < 90:
@@ -31,6 +43,9 @@ def command():
     return {"do": "file_entry", **numbered, "day": day(), "text": "Order"}
 
 
+for number in range(20 if local else 0):
+    print(json.dumps({"do": "local_rule", "key": f"r{number}", "name": f"LR{number + 1}", "days": 21, "direction": "forward",
+                      "three": True, "extendable": True}))
 for number in range(cases):
     print(json.dumps({"do": "open_case", "key": f"c{number}", "label": f"1:25-cv-{number:06}", "caption": "Roe v. Doe", "filed": "2025-06-02"}))
 for number in range(commands):
