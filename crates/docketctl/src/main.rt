@@ -5,7 +5,8 @@
 use clap::error::ErrorKind;
 use docket_jobs::read_job;
 use job_runs::{Progress, Status, run_job};
-use std::io::{IsTerminal, Write};
+use sqlite::Unknown;
+use std::io::{IsTerminal, Stderr, Write};
 use std::process::ExitCode;
 use std::{env, fs, io};
 
@@ -19,11 +20,14 @@ fn input_is_a_file(rt: &HostRuntime) -> bool {
 
 /// A terminal is told how far a job is. Of a run it is told only where it does not show the answers
 /// already, and the lines come from a file, and so as fast as they are answered.
-fn progress(rt: &HostRuntime) -> Progress {
-    let is_terminal = rt.stderr().is_terminal();
+fn progress(rt: &HostRuntime) -> Progress<Stderr> {
+    if !rt.stderr().is_terminal() {
+        return Progress::untold();
+    }
+    let is_shown = rt.stdout().is_terminal() || !input_is_a_file(rt);
     Progress {
-        of_opening: is_terminal,
-        of_answers: is_terminal && !rt.stdout().is_terminal() && input_is_a_file(rt),
+        of_opening: Some(rt.stderr()),
+        of_answers: if is_shown { None } else { Some(rt.stderr()) },
     }
 }
 
@@ -55,14 +59,17 @@ fn run(rt: &HostRuntime) -> io::Result<Status> {
         Ok(job) => job,
         Err(error) => return told(rt, &error),
     };
-    Ok(run_job(
+    let mut e = rt.stderr();
+    let (end, mut w) = run_job(
         rt,
+        Unknown,
         job,
         progress(rt),
         &mut rt.stdin(),
-        &mut rt.stdout(),
-        &mut rt.stderr(),
-    ))
+        rt.stdout(),
+        &mut e,
+    );
+    Ok(end.finish(rt.alloc(), &mut w, &mut e))
 }
 
 fn main(rt: HostRuntime) -> ExitCode {

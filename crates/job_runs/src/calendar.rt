@@ -1,25 +1,53 @@
-//! The calendar of a docket.
+//! The calendar of the docket in a file.
+ghost use Rattle.std.specs.Prelude.{[], ℕ, List, Option};
+ghost use Rattle.court_days.specs.Court.{CourtSettings};
+ghost use Rattle.docket_calendar.specs.Calendar.{text_of_calendar};
+ghost use Rattle.docket_core.specs.Histories.{History};
+ghost use Rattle.file_jobs.specs.Tells.{ListsTo};
+ghost use Rattle.job_runs.specs.Ends.{HasTold};
 
+use crate::end::JobEnd;
+use crate::opening::{done_on_docket, ready};
 use crate::status::Status;
 use crate::telling::failed;
 use court_days::Day;
-use docket_store::{CalendarEnd, Docket};
-use sqlite::Alter;
+use docket_store::CalendarEnd;
+use file_jobs::calendar_on_file;
+use sqlite::{FileFrom, Start};
 use std::alloc::Global;
 use std::io::Write;
 
-/// Tells the deadlines that fall due from one day to another. Each line is written as it is read.
-pub(crate) fn tell_calendar<S: Alter, W: Write, E: Write>(
-    alloc: Global,
-    docket: &mut Docket<S>,
+/// How the writing of a calendar ended.
+fn calendar_told<E: Write>(alloc: Global, end: Result<u32, CalendarEnd>, e: &mut E) -> Status
+    ensures { (court : CourtSettings) (h : History) (from to : ℕ) (before after : Option (List ℕ)) → ListsTo court h from to before after end
+        → HasTold (text_of_calendar court h from to) before after [] result }
+{
+    match end {
+        Ok(_) => Status::Done,
+        Err(CalendarEnd::Store(fault)) => failed(alloc, e, &fault),
+        Err(CalendarEnd::WriteFailed) => failed(alloc, e, &"the output could not be written"),
+    }
+}
+
+/// Tells the deadlines that fall due from one day to another, by the docket in a file. Each line is
+/// written as it is read.
+pub(crate) fn tell_calendar<S: Start, P: Write + Drop, W: Write, E: Write>(
+    rt: &HostRuntime,
+    start: S,
+    screen: Option<P>,
+    path: &str,
     from: Day,
     to: Day,
     w: &mut W,
     e: &mut E,
-) -> Status {
-    match docket.calendar(from, to, w) {
-        Ok(_) => Status::Done,
-        Err(CalendarEnd::Store(fault)) => failed(alloc, e, &fault),
-        Err(CalendarEnd::WriteFailed) => failed(alloc, e, &"the output could not be written"),
+) -> JobEnd<FileFrom<S>> {
+    let rows = match ready(rt, path, screen, e) {
+        Ok(rows) => rows,
+        Err(status) => return JobEnd::of(status),
+    };
+    let ended = calendar_on_file(rt, path, start, rows, from, to, w);
+    match done_on_docket(rt.alloc(), path, ended, e) {
+        Ok((end, left)) => JobEnd::of(calendar_told(rt.alloc(), end, e)).with(Some(left)),
+        Err(end) => end,
     }
 }

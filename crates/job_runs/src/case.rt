@@ -1,47 +1,58 @@
-//! A case of a docket.
+//! A case of the docket in a file.
+ghost use Rattle.std.specs.Prelude.{◌≡◌, ℕ, List, Option, None, string_bytes};
+ghost use Rattle.std.specs.Option.{option_map};
+ghost use Rattle.std.specs.Cow.{cow_str_bytes};
+ghost use Rattle.file_jobs.specs.Tells.{AnswersTo};
+ghost use Rattle.job_runs.specs.Ends.{TellsIfAny};
 
+use crate::end::JobEnd;
+use crate::opening::{done_on_docket, ready};
 use crate::status::Status;
 use crate::telling::failed;
-use crate::work::Told;
-use docket_store::{Docket, Fault};
-use docket_text::case_text;
+use docket_store::Fault;
+use file_jobs::case_on_file;
 use line_io::write_bytes;
-use sqlite::Alter;
+use sqlite::{FileFrom, Start};
+use sqlite_disk::Disk;
 use std::alloc::Global;
 use std::io::Write;
 
-/// The text of the case of a number, if there is one.
-fn text_of<S: Alter>(
+/// What is told of a case that was asked for.
+fn case_told<D: Disk + Drop, E: Write>(
     alloc: Global,
-    docket: &mut Docket<S>,
-    number: u32,
-) -> Result<Option<String>, Fault> {
-    let Some(case) = docket.case(number)? else {
-        return Ok(None);
-    };
-    let Some(deadlines) = docket.deadlines(number)? else {
-        return Ok(None);
-    };
-    let text = case_text(alloc, docket.court(), &case, deadlines.as_slice())?;
-    Ok(Some(text))
-}
-
-/// Tells the case of a number.
-pub(crate) fn case_told<S: Alter, E: Write>(
-    alloc: Global,
-    docket: &mut Docket<S>,
-    number: u32,
+    answer: Result<Option<String>, Fault>,
     e: &mut E,
-) -> Told {
-    match text_of(alloc, docket, number) {
-        Ok(Some(text)) => Told {
-            text,
-            status: Status::Done,
-        },
+) -> JobEnd<D>
+    ensures told { (found : Option (List ℕ)) → AnswersTo (λ text. option_map string_bytes text ≡ found) answer
+        → TellsIfAny found (cow_str_bytes result.text) result.status }
+    ensures left { result.left ≡ None }
+{
+    match answer {
+        Ok(Some(text)) => JobEnd::told(text),
         Ok(None) => {
             let _ = write_bytes(e, b"no such case\n");
-            Told::nothing(alloc, Status::SomeBad)
+            JobEnd::of(Status::SomeBad)
         }
-        Err(fault) => Told::nothing(alloc, failed(alloc, e, &fault)),
+        Err(fault) => JobEnd::of(failed(alloc, e, &fault)),
+    }
+}
+
+/// Tells the case of a number of the docket in a file.
+pub(crate) fn tell_case<S: Start, P: Write + Drop, E: Write>(
+    rt: &HostRuntime,
+    start: S,
+    screen: Option<P>,
+    path: &str,
+    number: u32,
+    e: &mut E,
+) -> JobEnd<FileFrom<S>> {
+    let rows = match ready(rt, path, screen, e) {
+        Ok(rows) => rows,
+        Err(status) => return JobEnd::of(status),
+    };
+    let ended = case_on_file(rt, path, start, rows, number);
+    match done_on_docket(rt.alloc(), path, ended, e) {
+        Ok((answer, left)) => case_told(rt.alloc(), answer, e).with(Some(left)),
+        Err(end) => end,
     }
 }

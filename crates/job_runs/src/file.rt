@@ -1,6 +1,6 @@
 //! The files of dockets.
 
-use sqlite::{Connection, Error, ErrorCode, File, FileStore};
+use sqlite::{Error, ErrorCode};
 use std::io::{ErrorKind, Read};
 use std::{fmt, fs};
 
@@ -8,7 +8,7 @@ use std::{fmt, fs};
 const MAGIC: &[u8; 16] = b"SQLite format 3\0";
 
 /// Why no database was opened.
-#[derive(Clone, Copy, Debug)]
+#[derive(Clone, Copy, Debug, PartialEq, Eq)]
 pub(crate) enum FileFault {
     Missing,
     NotAFile,
@@ -86,7 +86,7 @@ fn begins_well(rt: &HostRuntime, path: &str) -> Result<bool, FileFault> {
 }
 
 /// Tests the file, so that nothing is written beside one that is no database.
-fn test_file(rt: &HostRuntime, path: &str) -> Result<(), FileFault> {
+pub(crate) fn test_file(rt: &HostRuntime, path: &str) -> Result<(), FileFault> {
     if !fs::metadata(rt, path)?.is_file() {
         return Err(FileFault::NotAFile);
     }
@@ -94,25 +94,4 @@ fn test_file(rt: &HostRuntime, path: &str) -> Result<(), FileFault> {
         return Err(FileFault::NotADatabase);
     }
     Ok(())
-}
-
-/// Opens the database in a file that is there.
-pub(crate) fn open_file(
-    rt: &HostRuntime,
-    path: &str,
-) -> Result<Connection<FileStore<File>>, FileFault> {
-    test_file(rt, path)?;
-    Ok(Connection::open(rt, path)?)
-}
-
-/// Opens the database in a file, or makes it where there is none.
-pub(crate) fn open_or_make_file(
-    rt: &HostRuntime,
-    path: &str,
-) -> Result<Connection<FileStore<File>>, FileFault> {
-    match test_file(rt, path) {
-        Ok(()) | Err(FileFault::Missing) => {}
-        Err(fault) => return Err(fault),
-    }
-    Ok(Connection::open(rt, path)?)
 }

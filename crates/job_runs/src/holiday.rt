@@ -1,23 +1,29 @@
 //! The holidays of a year.
+ghost use Rattle.std.specs.Prelude.{◌≡◌, None};
+ghost use Rattle.std.specs.Cow.{cow_str_bytes};
 ghost use Rattle.std.specs.Int.{IsInRange};
+ghost use Rattle.docket_text.specs.HolidayTexts.{holiday_text};
+ghost use Rattle.job_runs.specs.Ends.{TellsText};
 
-use crate::status::Status;
-use crate::telling::{no_memory, write_text};
+use crate::end::JobEnd;
+use crate::telling::no_memory;
 use docket_text::holiday_text;
+use sqlite_disk::Disk;
 use std::alloc::Global;
 use std::io::Write;
 
 /// Tells the holidays of a year from 2000 to 2099.
-pub(crate) fn tell_holidays<W: Write, E: Write>(
+pub(crate) fn tell_holidays<D: Disk + Drop, E: Write>(
     alloc: Global,
     year: u32,
-    w: &mut W,
     e: &mut E,
-) -> Status
+) -> JobEnd<D>
     requires { IsInRange 2000 2099 year }
+    ensures told { TellsText (holiday_text year) (cow_str_bytes result.text) result.status }
+    ensures left { result.left ≡ None }
 {
     match holiday_text(alloc, year) {
-        Ok(text) => write_text(alloc, text.as_str(), Status::Done, w, e),
-        Err(_) => no_memory(e),
+        Ok(text) => JobEnd::told(text),
+        Err(_) => JobEnd::of(no_memory(e)),
     }
 }

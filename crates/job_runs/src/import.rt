@@ -1,13 +1,19 @@
-//! A table of days, entered in the calendar of a docket by one command.
+//! A table of days, entered in the calendar of the docket in a file by one command.
+ghost use Rattle.std.specs.Prelude.{◌≡◌, ◌∷◌, ◌++◌, [], IfOk, None, Ok, Err, string_bytes};
+ghost use Rattle.std.specs.Cow.{cow_str_bytes};
+ghost use Rattle.docket_wire.specs.Texts.{reply_text};
+ghost use Rattle.job_runs.specs.Imports.{TellsAnswer, TellsApplied};
 
-use crate::progress::Progress;
+use crate::end::JobEnd;
+use crate::opening::{done_on_docket, ready};
 use crate::status::Status;
 use crate::telling::{failed, failed_by, no_memory, write_text};
-use crate::work::{Told, Work, work_on_file};
 use docket_command::{Action, Command, ImportCalendar, NewDay, NewDays, Refusal, Reply, Text};
-use docket_store::{Docket, Fault};
+use docket_store::Fault;
 use docket_wire::{CsvFault, read_calendar_csv, reply_text};
-use sqlite::Alter;
+use file_jobs::apply_on_file;
+use sqlite::{FileFrom, Start};
+use sqlite_disk::Disk;
 use std::alloc::{AllocError, Global};
 use std::io::{Read, Write};
 
@@ -21,32 +27,67 @@ fn import_of(alloc: Global, key: &str, days: Vec<NewDay>) -> Result<Command, All
     })
 }
 
-/// The line of an answer, and how the job ends.
-fn answer_told(alloc: Global, answer: &Result<Reply, Refusal>) -> Result<Told, AllocError> {
-    let status = match answer {
+/// The line of an answer.
+fn answer_line(alloc: Global, answer: &Result<Reply, Refusal>) -> Result<String, AllocError>
+    ensures { IfOk result (λ line. string_bytes line ≡ reply_text answer.now ++ 10 ∷ []) }
+{
+    let mut text = reply_text(alloc, answer)?;
+    text.push('\n')?;
+    Ok(text)
+}
+
+/// What is told of an answer, and how the job ends.
+fn answer_told<D: Disk + Drop, E: Write>(
+    alloc: Global,
+    answer: Result<Reply, Refusal>,
+    e: &mut E,
+) -> JobEnd<D>
+    ensures told { TellsAnswer answer (cow_str_bytes result.text) result.status }
+    ensures left { result.left ≡ None }
+{
+    let status = match &answer {
         Ok(_) => Status::Done,
         Err(_) => Status::SomeBad,
     };
-    let mut text = reply_text(alloc, answer)?;
-    text.push('\n')?;
-    Ok(Told { text, status })
+    match answer_line(alloc, &answer) {
+        Ok(text) => JobEnd::told(text).ending(status),
+        Err(_) => JobEnd::of(no_memory(e)),
+    }
 }
 
-/// Applies the command, and tells what it is answered.
-pub(crate) fn import_told<S: Alter, E: Write>(
+/// What is told of a command that was applied, or not.
+fn import_told<D: Disk + Drop, E: Write>(
     alloc: Global,
-    docket: &mut Docket<S>,
+    answer: Result<Reply, Fault>,
+    e: &mut E,
+) -> JobEnd<D>
+    ensures told { TellsApplied answer (cow_str_bytes result.text) result.status }
+    ensures left { result.left ≡ None }
+{
+    match answer {
+        Ok(reply) => answer_told(alloc, Ok(reply), e),
+        Err(Fault::Refused(refusal)) => answer_told(alloc, Err(refusal), e),
+        Err(fault) => JobEnd::of(failed(alloc, e, &fault)),
+    }
+}
+
+/// Applies the command to the docket in a file, and tells what it is answered.
+fn import_by<S: Start, P: Write + Drop, E: Write>(
+    rt: &HostRuntime,
+    start: S,
+    screen: Option<P>,
+    path: &str,
     command: &Command,
     e: &mut E,
-) -> Told {
-    let answer = match docket.apply(command) {
-        Ok(reply) => Ok(reply),
-        Err(Fault::Refused(refusal)) => Err(refusal),
-        Err(fault) => return Told::nothing(alloc, failed(alloc, e, &fault)),
+) -> JobEnd<FileFrom<S>> {
+    let rows = match ready(rt, path, screen, e) {
+        Ok(rows) => rows,
+        Err(status) => return JobEnd::of(status),
     };
-    match answer_told(alloc, &answer) {
-        Ok(told) => told,
-        Err(_) => Told::nothing(alloc, no_memory(e)),
+    let ended = apply_on_file(rt, path, start, rows, command);
+    match done_on_docket(rt.alloc(), path, ended, e) {
+        Ok((answer, left)) => import_told(rt.alloc(), answer, e).with(Some(left)),
+        Err(end) => end,
     }
 }
 
@@ -61,26 +102,41 @@ fn refuse<W: Write, E: Write>(alloc: Global, fault: CsvFault, w: &mut W, e: &mut
     }
 }
 
+/// The command that enters the days of the input's table, or how the job ends.
+fn read_import<R: Read, W: Write, E: Write>(
+    alloc: Global,
+    key: &str,
+    r: &mut R,
+    w: &mut W,
+    e: &mut E,
+) -> Result<Command, Status> {
+    let mut table = Vec::new(alloc);
+    if let Err(error) = r.read_to_end(&mut table) {
+        return Err(failed_by(alloc, e, error.kind(), "the input could not be read"));
+    }
+    match read_calendar_csv(alloc, table.as_slice()) {
+        Ok(days) => match import_of(alloc, key, days) {
+            Ok(command) => Ok(command),
+            Err(_) => Err(no_memory(e)),
+        },
+        Err(fault) => Err(refuse(alloc, fault, w, e)),
+    }
+}
+
 /// Enters the days of the input's table in the calendar of the docket in a file. The table is read
 /// before the file is opened.
-pub(crate) fn import_days<R: Read, W: Write, E: Write>(
+pub(crate) fn import_days<S: Start, P: Write + Drop, R: Read, W: Write, E: Write>(
     rt: &HostRuntime,
-    progress: Progress,
+    start: S,
+    screen: Option<P>,
     path: &str,
     key: &str,
     r: &mut R,
     w: &mut W,
     e: &mut E,
-) -> Status {
-    let mut table = Vec::new(rt.alloc());
-    if let Err(error) = r.read_to_end(&mut table) {
-        return failed_by(rt.alloc(), e, &error, "the input could not be read");
-    }
-    match read_calendar_csv(rt.alloc(), table.as_slice()) {
-        Ok(days) => match import_of(rt.alloc(), key, days) {
-            Ok(command) => work_on_file(rt, progress, path, &Work::Import(&command), r, w, e),
-            Err(_) => no_memory(e),
-        },
-        Err(fault) => refuse(rt.alloc(), fault, w, e),
+) -> JobEnd<FileFrom<S>> {
+    match read_import(rt.alloc(), key, r, w, e) {
+        Ok(command) => import_by(rt, start, screen, path, &command, e),
+        Err(status) => JobEnd::of(status),
     }
 }

@@ -1,4 +1,5 @@
 //! How far a job has come, told to whoever waits for it.
+ghost use Rattle.std.specs.Prelude.{◌≡◌};
 
 use docket_store::Watch;
 use std::io;
@@ -8,21 +9,21 @@ use std::time::{Clock, Duration, Instant};
 /// How many rows go by between two looks at the clock.
 const ROWS_A_LOOK: u64 = 4096;
 
-/// What is told on standard error of how far a job is, once a second, in a line that is written over.
-#[derive(Clone, Copy, Debug, PartialEq, Eq)]
-pub struct Progress {
+/// Where it is told how far a job is, once a second, in a line that is written over.
+#[derive(Drop)]
+pub struct Progress<P> {
     /// How many rows were read, while a docket is opened.
-    pub of_opening: bool,
+    pub of_opening: Option<P>,
     /// How many lines `run` has answered.
-    pub of_answers: bool,
+    pub of_answers: Option<P>,
 }
 
-impl Progress {
+impl<P> Progress<P> {
     /// Nothing is told.
-    pub fn untold() -> Progress {
+    pub fn untold() -> Progress<P> {
         Progress {
-            of_opening: false,
-            of_answers: false,
+            of_opening: None,
+            of_answers: None,
         }
     }
 }
@@ -94,32 +95,42 @@ impl<C: Clock + Drop, E: Write + Drop> Counter<C, E> {
     }
 }
 
-/// Hands on the answers of a run, and tells how many lines they are.
+/// Hands on the answers of a run, and tells how many lines they are, if anyone waits.
 #[derive(Drop)]
-pub(crate) struct LineCounter<C, W, E> {
+pub(crate) struct LineCounter<C, W, P> {
     answers: W,
-    lines: Counter<C, E>,
+    lines: Option<Counter<C, P>>,
 }
 
-impl<C: Clock + Drop, W: Write + Drop, E: Write + Drop> LineCounter<C, W, E> {
-    pub(crate) fn new(clock: C, answers: W, screen: E) -> LineCounter<C, W, E> {
-        let lines = Counter::new(clock, screen, "lines answered");
+impl<C: Clock + Drop, W: Write + Drop, P: Write + Drop> LineCounter<C, W, P> {
+    pub(crate) fn new(clock: C, answers: W, screen: Option<P>) -> LineCounter<C, W, P>
+        ensures { result.answers ≡ answers }
+    {
+        let lines = screen.map(|screen| Counter::new(clock, screen, "lines answered"));
         LineCounter { answers, lines }
     }
 
-    pub(crate) fn finish(self) {
-        self.lines.finish();
+    /// Ends the line of the count, and gives the writer back.
+    pub(crate) fn finish(self) -> W
+        ensures { result ≡ self.answers }
+    {
+        let LineCounter { answers, lines } = self;
+        if let Some(lines) = lines {
+            lines.finish();
+        }
+        answers
     }
 }
 
-impl<C: Clock + Drop, W: Write + Drop, E: Write + Drop> Write for LineCounter<C, W, E> {
+impl<C: Clock + Drop, W: Write + Drop, P: Write + Drop> Write for LineCounter<C, W, P> {
     ghost contents = { λ counter. W.contents counter.answers };
 
     fn write(&mut self, bytes: &[u8]) -> io::Result<usize> {
         let count = self.answers.write(bytes)?;
-        let lines = bytes[..count].iter().filter(|byte| **byte == b'\n').count();
-        self.lines.add(lines as u64);
-        self.lines.look();
+        if let Some(lines) = &mut self.lines {
+            lines.add(line_feeds(&bytes[..count]));
+            lines.look();
+        }
         Ok(count)
     }
 
@@ -128,29 +139,41 @@ impl<C: Clock + Drop, W: Write + Drop, E: Write + Drop> Write for LineCounter<C,
     }
 }
 
-/// Tells how many rows were read while a docket is opened.
-#[derive(Drop)]
-pub(crate) struct RowCounter<C, E> {
-    rows: Counter<C, E>,
+fn line_feeds(bytes: &[u8]) -> u64 {
+    bytes.iter().filter(|byte| **byte == b'\n').count() as u64
 }
 
-impl<C: Clock + Drop, E: Write + Drop> RowCounter<C, E> {
-    pub(crate) fn new(clock: C, screen: E) -> RowCounter<C, E> {
+/// Tells how many rows were read while a docket is opened, if anyone waits. The line ends when the counter
+/// is let go.
+pub(crate) struct RowCounter<C: Clock + Drop, P: Write + Drop> {
+    rows: Option<Counter<C, P>>,
+}
+
+impl<C: Clock + Drop, P: Write + Drop> RowCounter<C, P> {
+    pub(crate) fn new(clock: C, screen: Option<P>) -> RowCounter<C, P> {
         RowCounter {
-            rows: Counter::new(clock, screen, "rows read"),
+            rows: screen.map(|screen| Counter::new(clock, screen, "rows read")),
         }
     }
+}
 
-    pub(crate) fn finish(self) {
-        self.rows.finish();
+impl<C: Clock + Drop, P: Write + Drop> Drop for RowCounter<C, P> {
+    fn drop(self) {
+        let RowCounter { rows } = self;
+        if let Some(rows) = rows {
+            rows.finish();
+        }
     }
 }
 
-impl<C: Clock + Drop, E: Write + Drop> Watch for RowCounter<C, E> {
+impl<C: Clock + Drop, P: Write + Drop> Watch for RowCounter<C, P> {
     fn on_row(&mut self) {
-        self.rows.add(1);
-        if self.rows.count % ROWS_A_LOOK == 0 {
-            self.rows.look();
+        let Some(rows) = &mut self.rows else {
+            return;
+        };
+        rows.add(1);
+        if rows.count % ROWS_A_LOOK == 0 {
+            rows.look();
         }
     }
 }

@@ -1,39 +1,62 @@
 //! The rules by which deadlines run.
+ghost use Rattle.std.specs.Prelude.{◌≡◌, ℕ, List, [], None, string_bytes};
+ghost use Rattle.std.specs.Cow.{cow_str_bytes};
+ghost use Rattle.docket_text.specs.RuleTexts.{rules_text};
+ghost use Rattle.file_jobs.specs.Tells.{AnswersTo};
+ghost use Rattle.job_runs.specs.Ends.{TellsText};
 
-use crate::status::Status;
-use crate::telling::{failed, no_memory, write_text};
-use crate::work::Told;
-use docket_store::{Docket, Fault};
+use crate::end::JobEnd;
+use crate::opening::{done_on_docket, ready};
+use crate::telling::{failed, no_memory};
+use docket_store::Fault;
 use docket_text::rules_text;
-use sqlite::Alter;
+use file_jobs::rules_on_file;
+use sqlite::{FileFrom, Start};
+use sqlite_disk::Disk;
 use std::alloc::Global;
 use std::io::Write;
 
 /// Tells the rules of the table.
-pub(crate) fn tell_table<W: Write, E: Write>(alloc: Global, w: &mut W, e: &mut E) -> Status {
+pub(crate) fn tell_table<D: Disk + Drop, E: Write>(alloc: Global, e: &mut E) -> JobEnd<D>
+    ensures told { TellsText (rules_text []) (cow_str_bytes result.text) result.status }
+    ensures left { result.left ≡ None }
+{
     match rules_text(alloc, &[]) {
-        Ok(text) => write_text(alloc, text.as_str(), Status::Done, w, e),
-        Err(_) => no_memory(e),
+        Ok(text) => JobEnd::told(text),
+        Err(_) => JobEnd::of(no_memory(e)),
     }
 }
 
-/// The text of the rules of the table and of the docket's local rules.
-fn text_of<S: Alter>(alloc: Global, docket: &mut Docket<S>) -> Result<String, Fault> {
-    let rows = docket.local_rules()?;
-    Ok(rules_text(alloc, rows.as_slice())?)
+/// What is told of the rules that a docket was asked for.
+fn rules_told<D: Disk + Drop, E: Write>(
+    alloc: Global,
+    answer: Result<String, Fault>,
+    e: &mut E,
+) -> JobEnd<D>
+    ensures told { (wanted : List ℕ) → AnswersTo (λ text. string_bytes text ≡ wanted) answer → TellsText wanted (cow_str_bytes result.text) result.status }
+    ensures left { result.left ≡ None }
+{
+    match answer {
+        Ok(text) => JobEnd::told(text),
+        Err(fault) => JobEnd::of(failed(alloc, e, &fault)),
+    }
 }
 
-/// Tells the rules of the table, and behind them the docket's local rules.
-pub(crate) fn rules_told<S: Alter, E: Write>(
-    alloc: Global,
-    docket: &mut Docket<S>,
+/// Tells the rules of the table, and behind them the local rules of the docket in a file.
+pub(crate) fn tell_rules<S: Start, P: Write + Drop, E: Write>(
+    rt: &HostRuntime,
+    start: S,
+    screen: Option<P>,
+    path: &str,
     e: &mut E,
-) -> Told {
-    match text_of(alloc, docket) {
-        Ok(text) => Told {
-            text,
-            status: Status::Done,
-        },
-        Err(fault) => Told::nothing(alloc, failed(alloc, e, &fault)),
+) -> JobEnd<FileFrom<S>> {
+    let rows = match ready(rt, path, screen, e) {
+        Ok(rows) => rows,
+        Err(status) => return JobEnd::of(status),
+    };
+    let ended = rules_on_file(rt, path, start, rows);
+    match done_on_docket(rt.alloc(), path, ended, e) {
+        Ok((answer, left)) => rules_told(rt.alloc(), answer, e).with(Some(left)),
+        Err(end) => end,
     }
 }

@@ -1,14 +1,14 @@
-//! A docket, served by HTTP.
+//! The docket in a file, served by HTTP.
 
+use crate::end::JobEnd;
+use crate::opening::{done_on_docket, ready};
 use crate::status::Status;
 use crate::telling::{failed, failed_by};
-use docket_serving::serve_run;
-use docket_store::Docket;
-use sqlite::Alter;
+use file_jobs::{ServeEnd, serve_on_file};
+use sqlite::{FileFrom, Start};
 use std::alloc::Global;
+use std::fmt;
 use std::io::{ErrorKind, Write};
-use std::net::TcpListener;
-use std::{fmt, io};
 
 /// Why nobody listens at a port.
 #[derive(Drop)]
@@ -29,46 +29,41 @@ impl fmt::Display for NotListening {
     }
 }
 
-/// Tells where connections are taken.
-fn announce<W: Write>(alloc: Global, listener: &TcpListener, w: &mut W) -> io::Result<()> {
-    let address = listener.local_addr()?;
-    let line = format!(in alloc; "listening on {address}\n")?;
-    w.write_all(line.as_bytes())?;
-    w.flush()
-}
-
-/// Serves so many connections of a listener.
-fn serve_all<W: Write, E: Write, S: Alter>(
-    rt: &HostRuntime,
-    listener: &TcpListener,
-    count: u32,
-    docket: &mut Docket<S>,
-    w: &mut W,
+/// How the serving of a docket ended.
+fn serving_told<E: Write>(
+    alloc: Global,
+    port: u16,
+    end: Result<(), ServeEnd>,
     e: &mut E,
 ) -> Status {
-    if let Err(error) = announce(rt.alloc(), listener, w) {
-        return failed_by(rt.alloc(), e, &error, "the output could not be written");
-    }
-    match serve_run(rt, listener, count, docket, e) {
+    match end {
         Ok(()) => Status::Done,
-        Err(fault) => failed(rt.alloc(), e, &fault),
+        Err(ServeEnd::NotListening(kind)) => failed(alloc, e, &NotListening { port, kind }),
+        Err(ServeEnd::NotAnnounced(kind)) => {
+            failed_by(alloc, e, kind, "the output could not be written")
+        }
+        Err(ServeEnd::Stopped(fault)) => failed(alloc, e, &fault),
     }
 }
 
-/// Listens at a port of this machine alone, and serves so many connections.
-pub(crate) fn listen<W: Write, E: Write, S: Alter>(
+/// Serves so many connections at a port of this machine alone, by the docket in a file.
+pub(crate) fn serve_docket<S: Start, P: Write + Drop, W: Write, E: Write>(
     rt: &HostRuntime,
+    start: S,
+    screen: Option<P>,
+    path: &str,
     port: u16,
     count: u32,
-    docket: &mut Docket<S>,
     w: &mut W,
     e: &mut E,
-) -> Status {
-    match TcpListener::bind(rt, ("127.0.0.1", port)) {
-        Ok(listener) => serve_all(rt, &listener, count, docket, w, e),
-        Err(error) => {
-            let kind = error.kind();
-            failed(rt.alloc(), e, &NotListening { port, kind })
-        }
+) -> JobEnd<FileFrom<S>> {
+    let rows = match ready(rt, path, screen, e) {
+        Ok(rows) => rows,
+        Err(status) => return JobEnd::of(status),
+    };
+    let ended = serve_on_file(rt, path, start, rows, port, count, w, e);
+    match done_on_docket(rt.alloc(), path, ended, e) {
+        Ok((end, left)) => JobEnd::of(serving_told(rt.alloc(), port, end, e)).with(Some(left)),
+        Err(end) => end,
     }
 }

@@ -6,6 +6,7 @@ mod imports;
 use docket_jobs::read_job;
 use failing_ends::{Pieces, Taker};
 use job_runs::{Progress, Status, run_job};
+use sqlite::Unknown;
 use std::alloc::{AllocError, Global};
 use std::test::Fail;
 use std::{env, fs, process};
@@ -61,7 +62,9 @@ fn done(
     let Ok(job) = read_job(rt.alloc(), words) else {
         return Status::BadLine;
     };
-    run_job(rt, job, Progress::untold(), input, output, errors)
+    let untold: Progress<Taker> = Progress::untold();
+    let (end, output) = run_job(rt, Unknown, job, untold, input, output, errors);
+    end.finish(rt.alloc(), output, errors)
 }
 
 /// A writer that fails after so many writes.

@@ -1,0 +1,4 @@
+mod ApplyLemmas
+mod KeepLemmas
+mod RunLemmas
+mod TellLemmas

@@ -1,0 +1,20 @@
+use Rattle.std.proofs.Common.{sym, subst}
+use Rattle.sqlite.specs.Files.{over_files}
+use Rattle.docket_tables.specs.Layouts.{Rows}
+use Rattle.file_jobs.specs.Keeping.{HoldsBetween, rows_of}
+use Rattle.file_jobs.specs.Left.{LeavesRows}
+use Rattle.file_jobs.specs.Tells.{WorksTo}
+use Rattle.file_jobs.proofs.ApplyLemmas.{applies_map, err_map}
+use Rattle.file_jobs.proofs.TellLemmas.{works_map}
+use Rattle.file_jobs.proofs.file.apply_on_file.Goals as goal
+
+pub returns-clause-applies : goal.returns-clause-applies
+returns-clause-applies g c told is files clean =
+    let applied = c.apply_over.ensures.applies told is (c.in_ok-conn.ensures.docket told.court told.history files) (c.leave.ensures.trust clean) in
+    let more : (rows next : Rows) → HoldsBetween over_files c.apply_over.result.connection rows next → LeavesRows c.leave.result.left rows next = λ rows next holds. c.leave.ensures.left rows next holds clean in
+    subst (WorksTo _) (sym c.leave.ensures.outcome) (works_map _ _ (applies_map (HoldsBetween over_files c.apply_over.result.connection) (LeavesRows c.leave.result.left) more told c.args.command.now) c.apply_over.result.outcome applied)
+
+pub returns-clause-stays : goal.returns-clause-stays
+returns-clause-stays g c told is files clean =
+    err_map _ _ (λ fault holds. c.leave.ensures.left (rows_of told) (rows_of told) holds clean) c.leave.result.outcome c.apply_over.result.outcome c.leave.ensures.outcome
+    (c.apply_over.ensures.stays told is (c.in_ok-conn.ensures.docket told.court told.history files))

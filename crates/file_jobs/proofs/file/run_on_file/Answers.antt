@@ -1,0 +1,26 @@
+use Rattle.std.proofs.Common.{sym, subst}
+use Rattle.sqlite.specs.Files.{over_files}
+use Rattle.docket_tables.specs.Layouts.{Rows}
+use Rattle.file_jobs.specs.Keeping.{HoldsBetween}
+use Rattle.file_jobs.specs.Left.{LeavesRows}
+use Rattle.file_jobs.specs.Tells.{WorksTo}
+use Rattle.file_jobs.proofs.ApplyLemmas.{err_map}
+use Rattle.file_jobs.proofs.RunLemmas.{answers_map, prefix_map}
+use Rattle.file_jobs.proofs.TellLemmas.{some_map, works_map}
+use Rattle.file_jobs.proofs.file.run_on_file.Goals as goal
+
+pub returns-clause-runs : goal.returns-clause-runs
+returns-clause-runs g c told is files clean =
+    let ran = c.run_over.ensures.runs told is (c.in_ok-conn.ensures.docket told.court told.history files) (c.leave.ensures.trust clean) in
+    let more : (rows next : Rows) → HoldsBetween over_files c.run_over.result.connection rows next → LeavesRows c.leave.result.left rows next = λ rows next holds. c.leave.ensures.left rows next holds clean in
+    some_map (g.R.Read.remaining c.args.reader.now) _ _ (λ input works.
+    subst (WorksTo _) (sym c.leave.ensures.outcome) (works_map _ _ (answers_map (HoldsBetween over_files c.run_over.result.connection) (LeavesRows c.leave.result.left) more told input _ _) c.run_over.result.outcome works)) ran
+
+pub returns-clause-prefix : goal.returns-clause-prefix
+returns-clause-prefix g c told is files clean =
+    let left = c.run_over.ensures.prefix told is (c.in_ok-conn.ensures.docket told.court told.history files) (c.leave.ensures.trust clean) in
+    let more : (rows next : Rows) → HoldsBetween over_files c.run_over.result.connection rows next → LeavesRows c.leave.result.left rows next = λ rows next holds. c.leave.ensures.left rows next holds clean in
+    some_map (g.R.Read.remaining c.args.reader.now) _ _ (λ input. prefix_map (HoldsBetween over_files c.run_over.result.connection) (LeavesRows c.leave.result.left) more told input _ _) left
+
+pub returns-clause-unread : goal.returns-clause-unread
+returns-clause-unread g c = err_map _ _ (λ fault same. same) c.leave.result.outcome c.run_over.result.outcome c.leave.ensures.outcome c.run_over.ensures.unread

@@ -1,0 +1,23 @@
+//! The jobs of `docketctl` on a docket in files, each from the open to the last byte that it leaves. A
+//! job is one call: its contract says what goes out, by what the files held, and what is left of them.
+#![tactic(auto)]
+
+mod adopting;
+mod asking;
+mod checking;
+mod creating;
+mod ended;
+mod file;
+mod importing;
+mod leaving;
+mod migrating;
+mod running;
+mod serving;
+
+pub use checking::Sound;
+pub use ended::Ended;
+pub use file::{
+    OnFile, apply_on_file, calendar_on_file, case_on_file, check_on_file, create_on_file,
+    migrate_on_file, rules_on_file, run_on_file, serve_on_file,
+};
+pub use serving::ServeEnd;

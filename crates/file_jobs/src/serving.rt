@@ -1,0 +1,77 @@
+//! The docket of a database, served by HTTP.
+ghost use Rattle.std.specs.Prelude.{◌≡◌, IfErr};
+
+use crate::adopting::adopt;
+use crate::ended::Worked;
+use docket_serving::{ServingFault, serve_run};
+use docket_store::{AdoptFault, Docket, Watch};
+use sqlite::{Alter, Connection};
+use std::alloc::Global;
+use std::io;
+use std::io::{ErrorKind, Write};
+use std::net::TcpListener;
+use std::rt::HostRuntime;
+
+/// Why a docket was not served to the end.
+#[derive(Clone, Copy, Debug, PartialEq, Eq)]
+pub enum ServeEnd {
+    /// Nobody can listen at the port.
+    NotListening(ErrorKind),
+    /// It could not be told where connections are taken.
+    NotAnnounced(ErrorKind),
+    Stopped(ServingFault),
+}
+
+/// Tells where connections are taken.
+fn announce<W: Write>(alloc: Global, listener: &TcpListener, w: &mut W) -> io::Result<()> {
+    let address = listener.local_addr()?;
+    let line = format!(in alloc; "listening on {address}\n")?;
+    w.write_all(line.as_bytes())?;
+    w.flush()
+}
+
+/// Listens at a port of this machine alone, and serves so many connections.
+fn listen<S: Alter, W: Write, E: Write>(
+    rt: &HostRuntime,
+    port: u16,
+    count: u32,
+    docket: &mut Docket<S>,
+    w: &mut W,
+    e: &mut E,
+) -> Result<(), ServeEnd> {
+    let listener = match TcpListener::bind(rt, ("127.0.0.1", port)) {
+        Ok(listener) => listener,
+        Err(error) => return Err(ServeEnd::NotListening(error.kind())),
+    };
+    if let Err(error) = announce(rt.alloc(), &listener, w) {
+        return Err(ServeEnd::NotAnnounced(error.kind()));
+    }
+    match serve_run(rt, &listener, count, docket, e) {
+        Ok(()) => Ok(()),
+        Err(fault) => Err(ServeEnd::Stopped(fault)),
+    }
+}
+
+/// Adopts the docket that a database holds, tells on `w` where connections are taken, and serves so many
+/// of them. What goes wrong with one is told on `e`.
+pub(crate) fn serve_over<S: Alter, V: Watch + Drop, W: Write, E: Write>(
+    rt: &HostRuntime,
+    conn: Connection<S>,
+    watch: V,
+    port: u16,
+    count: u32,
+    w: &mut W,
+    e: &mut E,
+) -> Worked<S, Result<(), ServeEnd>, AdoptFault>
+    ensures unserved { IfErr result.outcome (λ _. (w.new ≡ w.old) × (e.new ≡ e.old)) }
+{
+    let (mut docket, _) = match adopt(rt.alloc(), conn, watch) {
+        Ok(found) => found,
+        Err(returned) => return Worked::from(returned),
+    };
+    let end = listen(rt, port, count, &mut docket, w, e);
+    Worked {
+        outcome: Ok(end),
+        connection: docket.close(),
+    }
+}

@@ -1,0 +1,51 @@
+-- What a job tells, and how it ends.
+use Rattle.std.specs.Prelude.{◌≡◌, ◌⊎◌, ℕ, List, [], Option, Some, None, codes}
+use Rattle.std.specs.Io.KnownBytes.{Appends}
+use Rattle.line_io.specs.Output.{AppendsFront, HasFront}
+use Rattle.docket_store.specs.declared.fault.Fault.TheVariants.{Closed, Damaged}
+use Rattle.command_lines.specs.declared.fault.RunFault.{RunFault}
+use Rattle.command_lines.specs.declared.fault.RunFault.TheVariants as run
+use Rattle.job_runs.specs.declared.status.Status.{Status}
+use Rattle.job_runs.specs.declared.status.Status.TheVariants.{Done, SomeBad, BadLine, Failed}
+
+-- the text went out, and the job ends so; or a front of it did, and the job failed
+abbrev pub Writes : List ℕ → Status → Option (List ℕ) → Option (List ℕ) → Status → Type 0
+Writes text status before after result =
+    ((result ≡ status) × Appends before after text) ⊎ ((result ≡ Failed) × AppendsFront before after text)
+
+-- nothing is still to be told, since the job failed
+abbrev pub TellsNothing : List ℕ → Status → Type 0
+TellsNothing text status = (status ≡ Failed) × (text ≡ [])
+
+-- a text is told, or the job failed
+abbrev pub TellsText : List ℕ → List ℕ → Status → Type 0
+TellsText wanted text Done = text ≡ wanted
+TellsText wanted text SomeBad = ⊥
+TellsText wanted text BadLine = ⊥
+TellsText wanted text Failed = text ≡ []
+
+-- a text is told if there is one, or the job failed
+abbrev pub TellsIfAny : Option (List ℕ) → List ℕ → Status → Type 0
+TellsIfAny found text Done = found ≡ Some text
+TellsIfAny found text SomeBad = (found ≡ None) × (text ≡ [])
+TellsIfAny found text BadLine = ⊥
+TellsIfAny found text Failed = text ≡ []
+
+-- a text went out as the job went on, and nothing is still to be told; or a front of it did, and the job failed
+abbrev pub HasTold : List ℕ → Option (List ℕ) → Option (List ℕ) → List ℕ → Status → Type 0
+HasTold wanted before after text Done = Appends before after wanted × (text ≡ [])
+HasTold wanted before after text SomeBad = ⊥
+HasTold wanted before after text BadLine = ⊥
+HasTold wanted before after text Failed = HasFront before after wanted × (text ≡ [])
+
+-- the last line of an output whose job failed
+abbrev pub no_memory_line : List ℕ
+no_memory_line = codes "{\"error\":\"no-memory\"}\n"
+
+abbrev pub last_line : RunFault → List ℕ
+last_line (run.Store Closed) = codes "{\"error\":\"closed\"}\n"
+last_line (run.Store Damaged) = codes "{\"error\":\"damaged\"}\n"
+last_line (run.Store _) = codes "{\"error\":\"store\"}\n"
+last_line run.NoMemory = no_memory_line
+last_line run.ReadFailed = []
+last_line run.WriteFailed = []

@@ -1,0 +1,3 @@
+pub mod Ends
+pub mod Imports
+pub mod Runs
