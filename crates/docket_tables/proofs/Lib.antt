@@ -1,6 +1,7 @@
 pub mod AnswerLemmas
 pub mod AnyLemmas
 mod CalendarLemmas
+mod CauseLemmas
 pub mod CaseActs
 pub mod CellLemmas
 mod ChangesLemmas
@@ -16,6 +17,7 @@ pub mod InsertLemmas
 pub mod InsideLemmas
 pub mod LayoutLemmas
 mod MoveLemmas
+pub mod PassedCauses
 mod ProbeLemmas
 mod QueryLemmas
 pub mod ReadLemmas

@@ -22,20 +22,20 @@ use Rattle.docket_tables.specs.Tables.{layout_of}
 use Rattle.docket_tables.specs.Texts.{names_in}
 use Rattle.docket_tables.proofs.SelectLemmas.{SelectsFrom, selects, answered_as}
 
-abbrev has : ℕ → ℕ → Term
+abbrev pub has : ℕ → ℕ → Term
 has place parameter = op2 (Compare Eq Binary) (col 1 place) (col 0 parameter)
 
-abbrev keeps_from : Table → ℕ → List ℕ → List Term
+abbrev pub keeps_from : Table → ℕ → List ℕ → List Term
 keeps_from table n [] = []
 keeps_from table n (key ∷ more) = has (get_or (places_of table) key 0) n ∷ keeps_from table (suc n) more
 
-abbrev shows_of : Table → List Term
+abbrev pub shows_of : Table → List Term
 shows_of table = map (col 1) (places_of table)
 
-abbrev order_in : Question → List (Term × Key)
+abbrev pub order_in : Question → List (Term × Key)
 order_in q = map (λ key. (col 1 (get_or (places_of q.table) key 0), record { collation = Binary; descending = q.is_last })) q.order
 
-abbrev limit_in : Question → Term
+abbrev pub limit_in : Question → Term
 limit_in q = if q.is_last then lit (Int (pos 1)) else lit (Int (negsuc 0))
 
 pub select_means : (q : Query) → SelectsFrom docket_schema (select_text q) (tree_of (table_of q)) (places_of (table_of q)) (has_key (keys_of q)) (picks q) (directions q) (most_of q)

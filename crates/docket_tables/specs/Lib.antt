@@ -1,4 +1,5 @@
 pub mod AnyRows
+pub mod Causes
 pub mod Contents
 pub mod Creation
 pub mod Holds

@@ -7,7 +7,8 @@
 //! `fault_of` tells why a question or a transaction failed. Every call works over any store of `sqlite`.
 //! A contract sees a connection as the rows that it holds, and that each database holds which a power
 //! failure may leave (`HoldsRows`), and a step of a transaction as the rows that it saw and sees then
-//! (`Inside`).
+//! (`Inside`). A question fails of the store only for a cause (`IsCaused`): the disk failed or refused more
+//! often than before, memory was refused, or a query came to a limit on steps that was set.
 #![tactic(auto)]
 
 mod changing;

@@ -5,7 +5,7 @@ ghost use Rattle.sqlite.specs.State.{Survives};
 ghost use Rattle.sqlite.specs.View.{doubt};
 ghost use Rattle.sqlite.specs.declared.error.Error.TheVariants.{SqliteFailure};
 ghost use Rattle.sqlite.specs.declared.error.ErrorCode.TheVariants.{OutOfMemory};
-ghost use Rattle.docket_tables.specs.declared.fault.StoreFault.TheVariants.{StoreFailed};
+ghost use Rattle.docket_tables.specs.declared.fault.StoreFault.TheVariants.{NoMemory, StoreFailed};
 ghost use Rattle.docket_tables.specs.Layouts.{Rows};
 ghost use Rattle.docket_tables.specs.Stands.{HoldsRows, LastsAsEither, Leaves};
 
@@ -31,6 +31,7 @@ pub fn fault_of<S: Alter>(conn: &mut Connection<S>, error: Error) -> StoreFault
     ensures writes_nothing { Survives (state S.Store conn.old) (state S.Store conn.new) (λ _. ⊥) }
     ensures clean { doubt (state S.Store conn.old).is_clean ≤ doubt (state S.Store conn.new).is_clean }
     ensures other { error ≢ SqliteFailure OutOfMemory → result ≡ StoreFailed }
+    ensures memory { result ≡ NoMemory → error ≡ SqliteFailure OutOfMemory }
     ensures left { (rows next : Rows) → LastsAsEither S.Store conn.old rows next → Leaves S.Store conn.new rows next result }
 {
     if error != Error::SqliteFailure(ErrorCode::OutOfMemory) {

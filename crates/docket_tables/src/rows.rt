@@ -1,5 +1,5 @@
 //! Rows of SQL as rows of a docket.
-ghost use Rattle.std.specs.Prelude.{◌≡◌, ℕ, ◌^◌, ◌<◌, List, [], ◌∷◌, Ok, Some, None, pos, map, IfOk};
+ghost use Rattle.std.specs.Prelude.{◌≡◌, ℕ, ◌^◌, ◌<◌, List, [], ◌∷◌, Ok, Some, None, pos, map, IfOk, IfErr};
 ghost use Rattle.std.specs.List.{AllByRecursion};
 ghost use Rattle.sqlite.specs.Order.{Row as Cells, column};
 ghost use Rattle.sqlite.specs.declared.types.Value.TheVariants.{Int};
@@ -18,6 +18,7 @@ ghost use Rattle.docket_wire.specs.Writing.{canonical};
 ghost use Rattle.docket_columns.specs.Cells.{act_cells, calendar_cells, court_cells, local_rule_cells, receipt_cells, short_day_cells, stored_cells};
 ghost use Rattle.docket_columns.specs.Fits.{IsActRow, IsCalendarRow, IsCourtRow, IsLocalRuleRow, IsReceipt, IsShortDayRow};
 ghost use Rattle.docket_orderly.specs.Orderly.{Rises};
+ghost use Rattle.docket_tables.specs.Causes.{IsOwn};
 ghost use Rattle.docket_tables.specs.Readings.{IsReadAs};
 
 use crate::fault::ReadFault;
@@ -30,7 +31,8 @@ use std::alloc::{AllocError, Global};
 
 /// What all rows say.
 pub(crate) fn all_in<R: StoredRow>(alloc: Global, rows: &[Row]) -> Result<Vec<R>, ReadFault>
-    ensures { (all : List R) → AllByRecursion R.Is all → rows.now ≡ map R.cells all → IsReadAs (λ found. found.items ≡ all) result }
+    ensures read { (all : List R) → AllByRecursion R.Is all → rows.now ≡ map R.cells all → IsReadAs (λ found. found.items ≡ all) result }
+    ensures own { IfErr result IsOwn }
 {
     let mut found = Vec::new(alloc);
     for row in rows {
@@ -61,8 +63,9 @@ pub(crate) fn calendar_in(
     rows: &[Row],
     short_rows: &[Row],
 ) -> Result<Vec<CalendarRow>, ReadFault>
-    ensures { (all : List Entered) → AllByRecursion IsCalendarRow (day_and_span_rows all) → AllByRecursion IsShortDayRow (short_day_rows all) → Rises (map (λ row. row.number) all)
+    ensures read { (all : List Entered) → AllByRecursion IsCalendarRow (day_and_span_rows all) → AllByRecursion IsShortDayRow (short_day_rows all) → Rises (map (λ row. row.number) all)
         → rows.now ≡ map calendar_cells (day_and_span_rows all) → short_rows.now ≡ map short_day_cells (short_day_rows all) → IsReadAs (λ found. found.items ≡ all) result }
+    ensures own { IfErr result IsOwn }
 {
     let calendar: Vec<CalendarRow> = all_in(alloc, rows)?;
     let short_days: Vec<ShortDayRow> = all_in(alloc, short_rows)?;
@@ -73,6 +76,7 @@ pub(crate) fn calendar_in(
 pub(crate) fn first_in<R: StoredRow>(alloc: Global, rows: &[Row]) -> Result<Option<R>, ReadFault>
     ensures none { rows.now ≡ [] → IsReadAs (λ found. found ≡ None) result }
     ensures one { (r : R) → R.Is r → rows.now ≡ R.cells r ∷ [] → IsReadAs (λ found. found ≡ Some r) result }
+    ensures own { IfErr result IsOwn }
 {
     let Some(row) = rows.first() else {
         return Ok(None);
@@ -92,7 +96,8 @@ fn acts_alone(alloc: Global, rows: &[ActRow]) -> Result<Vec<Act>, AllocError>
 
 /// The acts of rows, without their places.
 pub(crate) fn acts_alone_in(alloc: Global, rows: &[Row]) -> Result<Vec<Act>, ReadFault>
-    ensures { (all : List OnDeadline) → AllByRecursion IsActRow all → rows.now ≡ map act_cells all → IsReadAs (λ found. found.items ≡ map (λ row. row.act) all) result }
+    ensures read { (all : List OnDeadline) → AllByRecursion IsActRow all → rows.now ≡ map act_cells all → IsReadAs (λ found. found.items ≡ map (λ row. row.act) all) result }
+    ensures own { IfErr result IsOwn }
 {
     let acts: Vec<ActRow> = all_in(alloc, rows)?;
     Ok(acts_alone(alloc, acts.as_slice())?)
@@ -102,6 +107,7 @@ pub(crate) fn acts_alone_in(alloc: Global, rows: &[Row]) -> Result<Vec<Act>, Rea
 pub(crate) fn local_rule_in(alloc: Global, rows: &[Row]) -> Result<Option<LocalRule>, ReadFault>
     ensures none { rows.now ≡ [] → IsReadAs (λ found. found ≡ None) result }
     ensures one { (r : Entry) → IsLocalRuleRow r → rows.now ≡ local_rule_cells r ∷ [] → IsReadAs (λ found. found ≡ Some r.rule) result }
+    ensures own { IfErr result IsOwn }
 {
     let found: Option<LocalRuleRow> = first_in(alloc, rows)?;
     Ok(found.map(|row| row.rule))
@@ -109,8 +115,9 @@ pub(crate) fn local_rule_in(alloc: Global, rows: &[Row]) -> Result<Option<LocalR
 
 /// The court of the first row.
 pub(crate) fn court_in(alloc: Global, rows: &[Row]) -> Result<CourtRow, ReadFault>
-    ensures { (settings : CourtSettings) (next : ℕ) → IsCourtRow settings next → rows.now ≡ court_cells settings next ∷ []
+    ensures read { (settings : CourtSettings) (next : ℕ) → IsCourtRow settings next → rows.now ≡ court_cells settings next ∷ []
         → IsReadAs (λ found. found ≡ record { zone = settings.zone_text; close = settings.close_minute; next_row = next }) result }
+    ensures own { IfErr result IsOwn }
 {
     let row = rows.first().ok_or(ReadFault::Damaged)?;
     court_of(alloc, row, Version::KEPT)?.ok_or(ReadFault::Damaged)
@@ -123,6 +130,7 @@ pub(crate) fn kept_in(rows: &[Row], body: &str) -> Result<Kept, ReadFault>
         → result ≡ Ok (kept_by (Some r) c) }
     ensures same { (reply : Reply) → result ≡ Ok (kept.Same reply)
         → (key : List ℕ) × (rest : List Cells) × (rows.now ≡ stored_cells key body.now reply.number ∷ rest) }
+    ensures own { IfErr result IsOwn }
 {
     let Some(row) = rows.first() else {
         return Ok(Kept::Fresh);
@@ -134,6 +142,7 @@ pub(crate) fn kept_in(rows: &[Row], body: &str) -> Result<Kept, ReadFault>
 pub(crate) fn number_in(rows: &[Row], place: usize) -> Result<u32, ReadFault>
     ensures none { rows.now ≡ [] → result ≡ Ok 0 }
     ensures first { (row : Cells) (n : ℕ) → n < 2 ^ 32 → rows.now ≡ row ∷ [] → column row place ≡ Int (pos n) → result ≡ Ok n }
+    ensures own { IfErr result IsOwn }
 {
     let Some(row) = rows.first() else {
         return Ok(0);

@@ -1,9 +1,9 @@
 //! Calls of the database.
-ghost use Rattle.std.specs.Prelude.{◌≡◌, pos, ◌≤◌, ◌<◌, ◌^◌, ◌+◌, [], ◌∷◌, ℕ, List, map, Ok, OnOk, OnErr, IfOk, false, true};
+ghost use Rattle.std.specs.Prelude.{◌≡◌, pos, ◌≤◌, ◌<◌, ◌^◌, ◌+◌, [], ◌∷◌, ℕ, List, map, Ok, OnOk, OnErr, IfOk, IfErr, false, true};
 ghost use Rattle.sqlite.specs.Given.{IsPlain};
 ghost use Rattle.sqlite.specs.Held.{state};
 ghost use Rattle.sqlite.specs.Listing.{understood};
-ghost use Rattle.sqlite.specs.State.{HasCleanDisk, Shown, Executes, Shows as Turns};
+ghost use Rattle.sqlite.specs.State.{FailsToQuery, HasCleanDisk, Shown, Executes, Shows as Turns};
 ghost use Rattle.sqlite.specs.Values.{bound};
 ghost use Rattle.sqlite.specs.View.{doubt};
 ghost use Rattle.court_days.specs.Court.{CourtSettings};
@@ -11,6 +11,7 @@ ghost use Rattle.docket_columns.specs.Cells.{court_cells, end_cells};
 ghost use Rattle.docket_core.specs.EndRows.{changed_ends};
 ghost use Rattle.docket_core.specs.declared.end_row.EndChange.TheVariants as end_change;
 ghost use Rattle.docket_core.specs.declared.end_row.EndRow.{EndRow as Ended};
+ghost use Rattle.docket_tables.specs.Causes.{IsCaused, Suits};
 ghost use Rattle.docket_tables.specs.Holds.{IsKeyed, without_number, without_key};
 ghost use Rattle.sqlite.specs.declared.types.Value.TheVariants.{Int};
 ghost use Rattle.docket_tables.specs.Layouts.{Rows, Fits, with_row, with_rows};
@@ -41,6 +42,9 @@ pub(crate) fn read<S: Alter>(
     ensures err { (rows : Rows) → HoldsRows S.Store conn.old rows → IsPlain (understood docket_schema sql.now) → OnErr result (Lasts S.Store conn.new rows) }
     ensures clean { doubt (state S.Store conn.old).is_clean ≤ doubt (state S.Store conn.new).is_clean }
     ensures mode { conn.old.in_transaction ≡ false → conn.new.in_transaction ≡ false }
+    ensures counts { (state S.Store conn.old).faults ≤ (state S.Store conn.new).faults }
+    ensures limit { (state S.Store conn.new).step_limit ≡ (state S.Store conn.old).step_limit }
+    ensures fails { HasCleanDisk (state S.Store conn.new) → IfErr result (FailsToQuery sql.now (bound params.now) (state S.Store conn.old) (state S.Store conn.new)) }
 {
     conn.query_all(sql, params)
 }
@@ -56,6 +60,10 @@ pub(crate) fn ask<S: Alter>(
     ensures err { (rows : Rows) → HoldsRows S.Store conn.old rows → OnErr result (Lasts S.Store conn.new rows) }
     ensures clean { doubt (state S.Store conn.old).is_clean ≤ doubt (state S.Store conn.new).is_clean }
     ensures mode { conn.old.in_transaction ≡ false → conn.new.in_transaction ≡ false }
+    ensures counts { (state S.Store conn.old).faults ≤ (state S.Store conn.new).faults }
+    ensures limit { (state S.Store conn.new).step_limit ≡ (state S.Store conn.old).step_limit }
+    ensures cause { (rows : Rows) → HoldsRows S.Store conn.old rows → Suits query (bound values.now) → HasCleanDisk (state S.Store conn.new)
+        → IfErr result (IsCaused (state S.Store conn.old) (state S.Store conn.new)) }
 {
     read(conn, select_text(query), values)
 }

@@ -3,6 +3,7 @@ use Rattle.sqlite.specs.Held.{state}
 use Rattle.sqlite.specs.State.{HasCleanDisk}
 use Rattle.docket_core.specs.Records.{record_of}
 use Rattle.docket_tables.specs.Contents.{rows_in}
+use Rattle.docket_tables.proofs.PassedCauses.{err_fails, fault_after}
 use Rattle.docket_tables.proofs.ReadLemmas.{err_given, err_stays}
 use Rattle.docket_changes.proofs.telling.case_record.Goals as goal
 
@@ -44,3 +45,15 @@ returns-in_ok-record_of-in-Some-clause-stays g c rows holds = c.in_ok-record_of-
 
 pub returns-in-None-clause-stays : goal.returns-in-None-clause-stays
 returns-in-None-clause-stays g c rows holds = c.in_ok-row.ensures.stays rows holds
+
+pub returns-in_err-row-clause-cause : goal.returns-in_err-row-clause-cause
+returns-in_err-row-clause-cause g c rows holds clean =
+    err_fails (state g.S.Store c.args.conn.now) (state g.S.Store c.case.new.conn) c.in_err-row.field-0.0 c.from_residual.result c.from_residual.ensures.1 (c.in_err-row.ensures.cause rows holds clean)
+
+pub returns-in_err-record_of-in-Some-clause-cause : goal.returns-in_err-record_of-in-Some-clause-cause
+returns-in_err-record_of-in-Some-clause-cause g c rows holds clean =
+    let last = state g.S.Store c.record_of.new.conn in
+    let fault = c.in_err-record_of-in-Some.field-0.0 in
+    let cause1 = c.in_err-record_of-in-Some.ensures.cause rows (c.in_ok-row.ensures.stays rows holds) clean in
+    let cause0 = fault_after (state g.S.Store c.args.conn.now) (state g.S.Store c.case.new.conn) last fault c.case.ensures.counts c.case.ensures.limit cause1 in
+    err_fails (state g.S.Store c.args.conn.now) last fault c.from_residual-in_err-record_of-in-Some.result c.from_residual-in_err-record_of-in-Some.ensures.1 cause0

@@ -1,6 +1,9 @@
 use Rattle.std.proofs.Common.{◌∙◌, ap}
 use Rattle.docket_core.specs.Histories.{items_of}
 use Rattle.docket_tables.specs.Contents.{rows_in}
+use Rattle.sqlite.specs.Held.{state}
+use Rattle.docket_tables.specs.declared.fault.ReadFault.TheVariants.{NoMemory}
+use Rattle.docket_tables.proofs.PassedCauses.{err_fails}
 use Rattle.docket_tables.proofs.ReadLemmas.{err_given, short_given, err_stays, short_stays}
 use Rattle.docket_changes.proofs.viewing.calendar_items.Goals as goal
 
@@ -28,3 +31,10 @@ returns-in_err-items_of-clause-stays g c rows holds = short_stays g.S.Store c.ca
 
 pub returns-clause-stays : goal.returns-clause-stays
 returns-clause-stays g c rows holds = c.in_ok-rows.ensures.stays rows holds
+
+pub returns-in_err-rows-clause-cause : goal.returns-in_err-rows-clause-cause
+returns-in_err-rows-clause-cause g c rows holds clean =
+    err_fails (state g.S.Store c.args.conn.now) (state g.S.Store c.calendar.new.conn) c.in_err-rows.field-0.0 c.from_residual.result c.from_residual.ensures.1 (c.in_err-rows.ensures.cause rows holds clean)
+
+pub returns-in_err-items_of-clause-cause : goal.returns-in_err-items_of-clause-cause
+returns-in_err-items_of-clause-cause g c rows holds clean = err_fails (state g.S.Store c.args.conn.now) (state g.S.Store c.calendar.new.conn) NoMemory c.from_residual-in_err-items_of.result c.from_residual-in_err-items_of.ensures.1 tt

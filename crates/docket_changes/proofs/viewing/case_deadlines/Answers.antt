@@ -3,6 +3,7 @@ use Rattle.sqlite.specs.Held.{state}
 use Rattle.sqlite.specs.State.{HasCleanDisk}
 use Rattle.docket_core.specs.Tables.{is_case_in}
 use Rattle.docket_tables.specs.Contents.{rows_in}
+use Rattle.docket_tables.proofs.PassedCauses.{err_fails, fault_after}
 use Rattle.docket_tables.proofs.ReadLemmas.{err_given, err_stays}
 use Rattle.docket_changes.proofs.ViewLemmas.{none_told, deadlines_told}
 use Rattle.docket_changes.proofs.viewing.case_deadlines.Goals as goal
@@ -49,3 +50,15 @@ returns-in_err-deadline_views-clause-stays g c rows holds = err_stays g.S.Store 
 
 pub returns-clause-stays : goal.returns-clause-stays
 returns-clause-stays g c rows holds = c.in_ok-deadline_views.ensures.stays rows (c.in_ok-count.ensures.stays rows holds)
+
+pub returns-in_err-count-clause-cause : goal.returns-in_err-count-clause-cause
+returns-in_err-count-clause-cause g c rows holds clean =
+    err_fails (state g.S.Store c.args.conn.now) (state g.S.Store c.cases.new.conn) c.in_err-count.field-0.0 c.from_residual.result c.from_residual.ensures.1 (c.in_err-count.ensures.cause rows holds clean)
+
+pub returns-in_err-deadline_views-clause-cause : goal.returns-in_err-deadline_views-clause-cause
+returns-in_err-deadline_views-clause-cause g c rows holds clean =
+    let last = state g.S.Store c.deadline_views.new.conn in
+    let fault = c.in_err-deadline_views.field-0.0 in
+    let cause1 = c.in_err-deadline_views.ensures.cause rows (c.in_ok-count.ensures.stays rows holds) clean in
+    let cause0 = fault_after (state g.S.Store c.args.conn.now) (state g.S.Store c.cases.new.conn) last fault c.cases.ensures.counts c.cases.ensures.limit cause1 in
+    err_fails (state g.S.Store c.args.conn.now) last fault c.from_residual-in_err-deadline_views.result c.from_residual-in_err-deadline_views.ensures.1 cause0

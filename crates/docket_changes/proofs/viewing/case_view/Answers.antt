@@ -3,6 +3,7 @@ use Rattle.sqlite.specs.Held.{state}
 use Rattle.sqlite.specs.State.{HasCleanDisk}
 use Rattle.docket_core.specs.Tables.{is_case_in}
 use Rattle.docket_tables.specs.Contents.{rows_in}
+use Rattle.docket_tables.proofs.PassedCauses.{err_fails, fault_after}
 use Rattle.docket_tables.proofs.ReadLemmas.{err_given, err_stays}
 use Rattle.docket_changes.proofs.ViewLemmas.{no_case, one_case}
 use Rattle.docket_changes.proofs.viewing.case_view.Goals as goal
@@ -100,3 +101,57 @@ returns-in_err-is_served-clause-stays g c rows holds = err_stays g.S.Store c.is_
 
 pub returns-clause-stays : goal.returns-clause-stays
 returns-clause-stays g c rows holds = c.in_ok-is_served.ensures.stays rows (c.in_ok-named.ensures.stays rows (c.in_ok-deadlines.ensures.stays rows (c.in_ok-entries.ensures.stays rows (c.in_ok-parties.ensures.stays rows (c.in_ok-count.ensures.stays rows holds)))))
+
+pub returns-in_err-count-clause-cause : goal.returns-in_err-count-clause-cause
+returns-in_err-count-clause-cause g c rows holds clean =
+    err_fails (state g.S.Store c.args.conn.now) (state g.S.Store c.cases.new.conn) c.in_err-count.field-0.0 c.from_residual.result c.from_residual.ensures.1 (c.in_err-count.ensures.cause rows holds clean)
+
+pub returns-in_err-parties-clause-cause : goal.returns-in_err-parties-clause-cause
+returns-in_err-parties-clause-cause g c rows holds clean =
+    let last = state g.S.Store c.parties_if_asked.new.conn in
+    let fault = c.in_err-parties.field-0.0 in
+    let cause1 = c.in_err-parties.ensures.cause rows (c.in_ok-count.ensures.stays rows holds) clean in
+    let cause0 = fault_after (state g.S.Store c.args.conn.now) (state g.S.Store c.cases.new.conn) last fault c.cases.ensures.counts c.cases.ensures.limit cause1 in
+    err_fails (state g.S.Store c.args.conn.now) last fault c.from_residual-in_err-parties.result c.from_residual-in_err-parties.ensures.1 cause0
+
+pub returns-in_err-entries-clause-cause : goal.returns-in_err-entries-clause-cause
+returns-in_err-entries-clause-cause g c rows holds clean =
+    let last = state g.S.Store c.entries_if_asked.new.conn in
+    let fault = c.in_err-entries.field-0.0 in
+    let cause2 = c.in_err-entries.ensures.cause rows (c.in_ok-parties.ensures.stays rows (c.in_ok-count.ensures.stays rows holds)) clean in
+    let cause1 = fault_after (state g.S.Store c.cases.new.conn) (state g.S.Store c.parties_if_asked.new.conn) last fault c.parties_if_asked.ensures.counts c.parties_if_asked.ensures.limit cause2 in
+    let cause0 = fault_after (state g.S.Store c.args.conn.now) (state g.S.Store c.cases.new.conn) last fault c.cases.ensures.counts c.cases.ensures.limit cause1 in
+    err_fails (state g.S.Store c.args.conn.now) last fault c.from_residual-in_err-entries.result c.from_residual-in_err-entries.ensures.1 cause0
+
+pub returns-in_err-deadlines-clause-cause : goal.returns-in_err-deadlines-clause-cause
+returns-in_err-deadlines-clause-cause g c rows holds clean =
+    let last = state g.S.Store c.deadlines_if_asked.new.conn in
+    let fault = c.in_err-deadlines.field-0.0 in
+    let cause3 = c.in_err-deadlines.ensures.cause rows (c.in_ok-entries.ensures.stays rows (c.in_ok-parties.ensures.stays rows (c.in_ok-count.ensures.stays rows holds))) clean in
+    let cause2 = fault_after (state g.S.Store c.parties_if_asked.new.conn) (state g.S.Store c.entries_if_asked.new.conn) last fault c.entries_if_asked.ensures.counts c.entries_if_asked.ensures.limit cause3 in
+    let cause1 = fault_after (state g.S.Store c.cases.new.conn) (state g.S.Store c.parties_if_asked.new.conn) last fault c.parties_if_asked.ensures.counts c.parties_if_asked.ensures.limit cause2 in
+    let cause0 = fault_after (state g.S.Store c.args.conn.now) (state g.S.Store c.cases.new.conn) last fault c.cases.ensures.counts c.cases.ensures.limit cause1 in
+    err_fails (state g.S.Store c.args.conn.now) last fault c.from_residual-in_err-deadlines.result c.from_residual-in_err-deadlines.ensures.1 cause0
+
+pub returns-in_err-named-clause-cause : goal.returns-in_err-named-clause-cause
+returns-in_err-named-clause-cause g c rows holds clean =
+    let last = state g.S.Store c.deadline_asked.new.conn in
+    let fault = c.in_err-named.field-0.0 in
+    let cause4 = c.in_err-named.ensures.cause rows (c.in_ok-deadlines.ensures.stays rows (c.in_ok-entries.ensures.stays rows (c.in_ok-parties.ensures.stays rows (c.in_ok-count.ensures.stays rows holds)))) clean in
+    let cause3 = fault_after (state g.S.Store c.entries_if_asked.new.conn) (state g.S.Store c.deadlines_if_asked.new.conn) last fault c.deadlines_if_asked.ensures.counts c.deadlines_if_asked.ensures.limit cause4 in
+    let cause2 = fault_after (state g.S.Store c.parties_if_asked.new.conn) (state g.S.Store c.entries_if_asked.new.conn) last fault c.entries_if_asked.ensures.counts c.entries_if_asked.ensures.limit cause3 in
+    let cause1 = fault_after (state g.S.Store c.cases.new.conn) (state g.S.Store c.parties_if_asked.new.conn) last fault c.parties_if_asked.ensures.counts c.parties_if_asked.ensures.limit cause2 in
+    let cause0 = fault_after (state g.S.Store c.args.conn.now) (state g.S.Store c.cases.new.conn) last fault c.cases.ensures.counts c.cases.ensures.limit cause1 in
+    err_fails (state g.S.Store c.args.conn.now) last fault c.from_residual-in_err-named.result c.from_residual-in_err-named.ensures.1 cause0
+
+pub returns-in_err-is_served-clause-cause : goal.returns-in_err-is_served-clause-cause
+returns-in_err-is_served-clause-cause g c rows holds clean =
+    let last = state g.S.Store c.is_served.new.conn in
+    let fault = c.in_err-is_served.field-0.0 in
+    let cause5 = c.in_err-is_served.ensures.cause rows (c.in_ok-named.ensures.stays rows (c.in_ok-deadlines.ensures.stays rows (c.in_ok-entries.ensures.stays rows (c.in_ok-parties.ensures.stays rows (c.in_ok-count.ensures.stays rows holds))))) clean in
+    let cause4 = fault_after (state g.S.Store c.deadlines_if_asked.new.conn) (state g.S.Store c.deadline_asked.new.conn) last fault c.deadline_asked.ensures.counts c.deadline_asked.ensures.limit cause5 in
+    let cause3 = fault_after (state g.S.Store c.entries_if_asked.new.conn) (state g.S.Store c.deadlines_if_asked.new.conn) last fault c.deadlines_if_asked.ensures.counts c.deadlines_if_asked.ensures.limit cause4 in
+    let cause2 = fault_after (state g.S.Store c.parties_if_asked.new.conn) (state g.S.Store c.entries_if_asked.new.conn) last fault c.entries_if_asked.ensures.counts c.entries_if_asked.ensures.limit cause3 in
+    let cause1 = fault_after (state g.S.Store c.cases.new.conn) (state g.S.Store c.parties_if_asked.new.conn) last fault c.parties_if_asked.ensures.counts c.parties_if_asked.ensures.limit cause2 in
+    let cause0 = fault_after (state g.S.Store c.args.conn.now) (state g.S.Store c.cases.new.conn) last fault c.cases.ensures.counts c.cases.ensures.limit cause1 in
+    err_fails (state g.S.Store c.args.conn.now) last fault c.from_residual-in_err-is_served.result c.from_residual-in_err-is_served.ensures.1 cause0

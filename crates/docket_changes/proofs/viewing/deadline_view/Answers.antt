@@ -2,6 +2,7 @@ use Rattle.std.proofs.Common.{◌∙◌, sym, arith}
 use Rattle.sqlite.specs.Held.{state}
 use Rattle.sqlite.specs.State.{HasCleanDisk}
 use Rattle.docket_tables.specs.Contents.{rows_in}
+use Rattle.docket_tables.proofs.PassedCauses.{err_fails, fault_after}
 use Rattle.docket_tables.proofs.ReadLemmas.{err_given, err_stays}
 use Rattle.docket_changes.proofs.ViewLemmas.{no_deadline, one_deadline}
 use Rattle.docket_changes.proofs.viewing.deadline_view.Goals as goal
@@ -43,3 +44,15 @@ returns-in_err-acts-clause-stays g c rows holds = err_stays g.S.Store c.acts_of_
 
 pub returns-clause-stays : goal.returns-clause-stays
 returns-clause-stays g c rows holds = c.in_ok-acts.ensures.stays rows (c.in_ok-row.ensures.stays rows holds)
+
+pub returns-in_err-row-clause-cause : goal.returns-in_err-row-clause-cause
+returns-in_err-row-clause-cause g c rows holds clean =
+    err_fails (state g.S.Store c.args.conn.now) (state g.S.Store c.deadline.new.conn) c.in_err-row.field-0.0 c.from_residual.result c.from_residual.ensures.1 (c.in_err-row.ensures.cause rows holds clean)
+
+pub returns-in_err-acts-clause-cause : goal.returns-in_err-acts-clause-cause
+returns-in_err-acts-clause-cause g c rows holds clean =
+    let last = state g.S.Store c.acts_of_deadline.new.conn in
+    let fault = c.in_err-acts.field-0.0 in
+    let cause1 = c.in_err-acts.ensures.cause rows (c.in_ok-row.ensures.stays rows holds) clean in
+    let cause0 = fault_after (state g.S.Store c.args.conn.now) (state g.S.Store c.deadline.new.conn) last fault c.deadline.ensures.counts c.deadline.ensures.limit cause1 in
+    err_fails (state g.S.Store c.args.conn.now) last fault c.from_residual-in_err-acts.result c.from_residual-in_err-acts.ensures.1 cause0

@@ -1,6 +1,8 @@
 use Rattle.std.proofs.Common.{◌∙◌, ap}
 use Rattle.docket_core.specs.Views.{is_served_among}
 use Rattle.docket_tables.specs.Contents.{rows_in}
+use Rattle.sqlite.specs.Held.{state}
+use Rattle.docket_tables.proofs.PassedCauses.{err_fails}
 use Rattle.docket_tables.proofs.ReadLemmas.{err_given, err_stays}
 use Rattle.docket_changes.proofs.viewing.is_served.Goals as goal
 
@@ -20,3 +22,7 @@ returns-in_err-deadlines-clause-stays g c rows holds = err_stays g.S.Store c.dea
 
 pub returns-clause-stays : goal.returns-clause-stays
 returns-clause-stays g c rows holds = c.in_ok-deadlines.ensures.stays rows holds
+
+pub returns-in_err-deadlines-clause-cause : goal.returns-in_err-deadlines-clause-cause
+returns-in_err-deadlines-clause-cause g c rows holds clean =
+    err_fails (state g.S.Store c.args.conn.now) (state g.S.Store c.deadline_views.new.conn) c.in_err-deadlines.field-0.0 c.from_residual.result c.from_residual.ensures.1 (c.in_err-deadlines.ensures.cause rows holds clean)

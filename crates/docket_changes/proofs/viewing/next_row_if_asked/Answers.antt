@@ -1,6 +1,8 @@
 use Rattle.std.proofs.Common.{◌≡◌, ◌∙◌, false, true, ap, sym}
 use Rattle.docket_core.specs.Actions.{asks_next_row, if_asked}
 use Rattle.docket_tables.specs.Contents.{rows_in}
+use Rattle.sqlite.specs.Held.{state}
+use Rattle.docket_tables.proofs.PassedCauses.{err_fails}
 use Rattle.docket_tables.proofs.ReadLemmas.{err_given, err_stays}
 use Rattle.docket_changes.proofs.viewing.next_row_if_asked.Goals as goal
 
@@ -24,3 +26,7 @@ returns-in_err-court-clause-stays g c rows holds = err_stays g.S.Store c.court.n
 
 pub returns-clause-stays : goal.returns-clause-stays
 returns-clause-stays g c rows holds = c.in_ok-court.ensures.stays rows holds
+
+pub returns-in_err-court-clause-cause : goal.returns-in_err-court-clause-cause
+returns-in_err-court-clause-cause g c rows holds clean =
+    err_fails (state g.S.Store c.args.conn.now) (state g.S.Store c.court.new.conn) c.in_err-court.field-0.0 c.from_residual.result c.from_residual.ensures.1 (c.in_err-court.ensures.cause rows holds clean)

@@ -2,6 +2,7 @@ use Rattle.std.proofs.Common.{Ok, ap, arith}
 use Rattle.sqlite.specs.Held.{state}
 use Rattle.sqlite.specs.State.{HasCleanDisk}
 use Rattle.docket_tables.specs.Contents.{rows_in}
+use Rattle.docket_tables.proofs.PassedCauses.{err_fails, fault_after}
 use Rattle.docket_tables.proofs.ReadLemmas.{err_given, err_stays}
 use Rattle.docket_changes.proofs.ViewLemmas.{whole_view}
 use Rattle.docket_changes.proofs.viewing.view.Goals as goal
@@ -120,3 +121,84 @@ returns-clause-kept g c rows holds clean reply same =
     let read : HasCleanDisk (state g.S.Store c.kept.new.conn) =
     omega (arith, clean, c.cases_if_asked.ensures.clean, c.is_asked_label_taken.ensures.clean, c.case_asked.ensures.clean, c.is_asked_row_standing.ensures.clean, c.next_row_if_asked.ensures.clean, c.local_rule_asked.ensures.clean, c.local_rules_if_asked.ensures.clean) in
     c.in_ok-kept.ensures.found rows holds read reply (ap Ok same)
+
+pub returns-in_err-kept-clause-cause : goal.returns-in_err-kept-clause-cause
+returns-in_err-kept-clause-cause g c rows holds clean =
+    err_fails (state g.S.Store c.args.conn.now) (state g.S.Store c.kept.new.conn) c.in_err-kept.field-0.0 c.from_residual.result c.from_residual.ensures.1 (c.in_err-kept.ensures.cause rows holds clean)
+
+pub returns-in_err-cases-clause-cause : goal.returns-in_err-cases-clause-cause
+returns-in_err-cases-clause-cause g c rows holds clean =
+    let last = state g.S.Store c.cases_if_asked.new.conn in
+    let fault = c.in_err-cases.field-0.0 in
+    let cause1 = c.in_err-cases.ensures.cause rows (c.in_ok-kept.ensures.stays rows holds) clean in
+    let cause0 = fault_after (state g.S.Store c.args.conn.now) (state g.S.Store c.kept.new.conn) last fault c.kept.ensures.counts c.kept.ensures.limit cause1 in
+    err_fails (state g.S.Store c.args.conn.now) last fault c.from_residual-in_err-cases.result c.from_residual-in_err-cases.ensures.1 cause0
+
+pub returns-in_err-label_taken-clause-cause : goal.returns-in_err-label_taken-clause-cause
+returns-in_err-label_taken-clause-cause g c rows holds clean =
+    let last = state g.S.Store c.is_asked_label_taken.new.conn in
+    let fault = c.in_err-label_taken.field-0.0 in
+    let cause2 = c.in_err-label_taken.ensures.cause rows (c.in_ok-cases.ensures.stays rows (c.in_ok-kept.ensures.stays rows holds)) clean in
+    let cause1 = fault_after (state g.S.Store c.kept.new.conn) (state g.S.Store c.cases_if_asked.new.conn) last fault c.cases_if_asked.ensures.counts c.cases_if_asked.ensures.limit cause2 in
+    let cause0 = fault_after (state g.S.Store c.args.conn.now) (state g.S.Store c.kept.new.conn) last fault c.kept.ensures.counts c.kept.ensures.limit cause1 in
+    err_fails (state g.S.Store c.args.conn.now) last fault c.from_residual-in_err-label_taken.result c.from_residual-in_err-label_taken.ensures.1 cause0
+
+pub returns-in_err-case-clause-cause : goal.returns-in_err-case-clause-cause
+returns-in_err-case-clause-cause g c rows holds clean =
+    let last = state g.S.Store c.case_asked.new.conn in
+    let fault = c.in_err-case.field-0.0 in
+    let cause3 = c.in_err-case.ensures.cause rows (c.in_ok-label_taken.ensures.stays rows (c.in_ok-cases.ensures.stays rows (c.in_ok-kept.ensures.stays rows holds))) clean in
+    let cause2 = fault_after (state g.S.Store c.cases_if_asked.new.conn) (state g.S.Store c.is_asked_label_taken.new.conn) last fault c.is_asked_label_taken.ensures.counts c.is_asked_label_taken.ensures.limit cause3 in
+    let cause1 = fault_after (state g.S.Store c.kept.new.conn) (state g.S.Store c.cases_if_asked.new.conn) last fault c.cases_if_asked.ensures.counts c.cases_if_asked.ensures.limit cause2 in
+    let cause0 = fault_after (state g.S.Store c.args.conn.now) (state g.S.Store c.kept.new.conn) last fault c.kept.ensures.counts c.kept.ensures.limit cause1 in
+    err_fails (state g.S.Store c.args.conn.now) last fault c.from_residual-in_err-case.result c.from_residual-in_err-case.ensures.1 cause0
+
+pub returns-in_err-row_stands-clause-cause : goal.returns-in_err-row_stands-clause-cause
+returns-in_err-row_stands-clause-cause g c rows holds clean =
+    let last = state g.S.Store c.is_asked_row_standing.new.conn in
+    let fault = c.in_err-row_stands.field-0.0 in
+    let cause4 = c.in_err-row_stands.ensures.cause rows (c.in_ok-case.ensures.stays rows (c.in_ok-label_taken.ensures.stays rows (c.in_ok-cases.ensures.stays rows (c.in_ok-kept.ensures.stays rows holds)))) clean in
+    let cause3 = fault_after (state g.S.Store c.is_asked_label_taken.new.conn) (state g.S.Store c.case_asked.new.conn) last fault c.case_asked.ensures.counts c.case_asked.ensures.limit cause4 in
+    let cause2 = fault_after (state g.S.Store c.cases_if_asked.new.conn) (state g.S.Store c.is_asked_label_taken.new.conn) last fault c.is_asked_label_taken.ensures.counts c.is_asked_label_taken.ensures.limit cause3 in
+    let cause1 = fault_after (state g.S.Store c.kept.new.conn) (state g.S.Store c.cases_if_asked.new.conn) last fault c.cases_if_asked.ensures.counts c.cases_if_asked.ensures.limit cause2 in
+    let cause0 = fault_after (state g.S.Store c.args.conn.now) (state g.S.Store c.kept.new.conn) last fault c.kept.ensures.counts c.kept.ensures.limit cause1 in
+    err_fails (state g.S.Store c.args.conn.now) last fault c.from_residual-in_err-row_stands.result c.from_residual-in_err-row_stands.ensures.1 cause0
+
+pub returns-in_err-next_row-clause-cause : goal.returns-in_err-next_row-clause-cause
+returns-in_err-next_row-clause-cause g c rows holds clean =
+    let last = state g.S.Store c.next_row_if_asked.new.conn in
+    let fault = c.in_err-next_row.field-0.0 in
+    let cause5 = c.in_err-next_row.ensures.cause rows (c.in_ok-row_stands.ensures.stays rows (c.in_ok-case.ensures.stays rows (c.in_ok-label_taken.ensures.stays rows (c.in_ok-cases.ensures.stays rows (c.in_ok-kept.ensures.stays rows holds))))) clean in
+    let cause4 = fault_after (state g.S.Store c.case_asked.new.conn) (state g.S.Store c.is_asked_row_standing.new.conn) last fault c.is_asked_row_standing.ensures.counts c.is_asked_row_standing.ensures.limit cause5 in
+    let cause3 = fault_after (state g.S.Store c.is_asked_label_taken.new.conn) (state g.S.Store c.case_asked.new.conn) last fault c.case_asked.ensures.counts c.case_asked.ensures.limit cause4 in
+    let cause2 = fault_after (state g.S.Store c.cases_if_asked.new.conn) (state g.S.Store c.is_asked_label_taken.new.conn) last fault c.is_asked_label_taken.ensures.counts c.is_asked_label_taken.ensures.limit cause3 in
+    let cause1 = fault_after (state g.S.Store c.kept.new.conn) (state g.S.Store c.cases_if_asked.new.conn) last fault c.cases_if_asked.ensures.counts c.cases_if_asked.ensures.limit cause2 in
+    let cause0 = fault_after (state g.S.Store c.args.conn.now) (state g.S.Store c.kept.new.conn) last fault c.kept.ensures.counts c.kept.ensures.limit cause1 in
+    err_fails (state g.S.Store c.args.conn.now) last fault c.from_residual-in_err-next_row.result c.from_residual-in_err-next_row.ensures.1 cause0
+
+pub returns-in_err-local-clause-cause : goal.returns-in_err-local-clause-cause
+returns-in_err-local-clause-cause g c rows holds clean =
+    let last = state g.S.Store c.local_rule_asked.new.conn in
+    let fault = c.in_err-local.field-0.0 in
+    let cause6 = c.in_err-local.ensures.cause rows (c.in_ok-next_row.ensures.stays rows (c.in_ok-row_stands.ensures.stays rows (c.in_ok-case.ensures.stays rows (c.in_ok-label_taken.ensures.stays rows (c.in_ok-cases.ensures.stays rows (c.in_ok-kept.ensures.stays rows holds)))))) clean in
+    let cause5 = fault_after (state g.S.Store c.is_asked_row_standing.new.conn) (state g.S.Store c.next_row_if_asked.new.conn) last fault c.next_row_if_asked.ensures.counts c.next_row_if_asked.ensures.limit cause6 in
+    let cause4 = fault_after (state g.S.Store c.case_asked.new.conn) (state g.S.Store c.is_asked_row_standing.new.conn) last fault c.is_asked_row_standing.ensures.counts c.is_asked_row_standing.ensures.limit cause5 in
+    let cause3 = fault_after (state g.S.Store c.is_asked_label_taken.new.conn) (state g.S.Store c.case_asked.new.conn) last fault c.case_asked.ensures.counts c.case_asked.ensures.limit cause4 in
+    let cause2 = fault_after (state g.S.Store c.cases_if_asked.new.conn) (state g.S.Store c.is_asked_label_taken.new.conn) last fault c.is_asked_label_taken.ensures.counts c.is_asked_label_taken.ensures.limit cause3 in
+    let cause1 = fault_after (state g.S.Store c.kept.new.conn) (state g.S.Store c.cases_if_asked.new.conn) last fault c.cases_if_asked.ensures.counts c.cases_if_asked.ensures.limit cause2 in
+    let cause0 = fault_after (state g.S.Store c.args.conn.now) (state g.S.Store c.kept.new.conn) last fault c.kept.ensures.counts c.kept.ensures.limit cause1 in
+    err_fails (state g.S.Store c.args.conn.now) last fault c.from_residual-in_err-local.result c.from_residual-in_err-local.ensures.1 cause0
+
+pub returns-in_err-local_rules-clause-cause : goal.returns-in_err-local_rules-clause-cause
+returns-in_err-local_rules-clause-cause g c rows holds clean =
+    let last = state g.S.Store c.local_rules_if_asked.new.conn in
+    let fault = c.in_err-local_rules.field-0.0 in
+    let cause7 = c.in_err-local_rules.ensures.cause rows (c.in_ok-local.ensures.stays rows (c.in_ok-next_row.ensures.stays rows (c.in_ok-row_stands.ensures.stays rows (c.in_ok-case.ensures.stays rows (c.in_ok-label_taken.ensures.stays rows (c.in_ok-cases.ensures.stays rows (c.in_ok-kept.ensures.stays rows holds))))))) clean in
+    let cause6 = fault_after (state g.S.Store c.next_row_if_asked.new.conn) (state g.S.Store c.local_rule_asked.new.conn) last fault c.local_rule_asked.ensures.counts c.local_rule_asked.ensures.limit cause7 in
+    let cause5 = fault_after (state g.S.Store c.is_asked_row_standing.new.conn) (state g.S.Store c.next_row_if_asked.new.conn) last fault c.next_row_if_asked.ensures.counts c.next_row_if_asked.ensures.limit cause6 in
+    let cause4 = fault_after (state g.S.Store c.case_asked.new.conn) (state g.S.Store c.is_asked_row_standing.new.conn) last fault c.is_asked_row_standing.ensures.counts c.is_asked_row_standing.ensures.limit cause5 in
+    let cause3 = fault_after (state g.S.Store c.is_asked_label_taken.new.conn) (state g.S.Store c.case_asked.new.conn) last fault c.case_asked.ensures.counts c.case_asked.ensures.limit cause4 in
+    let cause2 = fault_after (state g.S.Store c.cases_if_asked.new.conn) (state g.S.Store c.is_asked_label_taken.new.conn) last fault c.is_asked_label_taken.ensures.counts c.is_asked_label_taken.ensures.limit cause3 in
+    let cause1 = fault_after (state g.S.Store c.kept.new.conn) (state g.S.Store c.cases_if_asked.new.conn) last fault c.cases_if_asked.ensures.counts c.cases_if_asked.ensures.limit cause2 in
+    let cause0 = fault_after (state g.S.Store c.args.conn.now) (state g.S.Store c.kept.new.conn) last fault c.kept.ensures.counts c.kept.ensures.limit cause1 in
+    err_fails (state g.S.Store c.args.conn.now) last fault c.from_residual-in_err-local_rules.result c.from_residual-in_err-local_rules.ensures.1 cause0

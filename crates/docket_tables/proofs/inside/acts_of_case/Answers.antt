@@ -36,7 +36,7 @@ returns-clause-inside g c court t ends orderly sees =
             λ n. ap (λ xs. filter (λ row. row.deadline == n) xs) are ∙ in_turn_of k t.acts runs n,
             subst (IsNonDecreasingBy (λ (row : ActRow). row.deadline)) (sym are) (in_turn_rises k t.acts runs),
           ))
-          (c.all_in.ensures (in_turn k t.acts runs) (in_turn_all k t.acts runs IsActRow orderly.acts) (c.as_slice.ensures.value ∙ answered_in_turn k t.acts runs shown answer))) asked.0,
+          (c.all_in.ensures.read (in_turn k t.acts runs) (in_turn_all k t.acts runs IsActRow orderly.acts) (c.as_slice.ensures.value ∙ answered_in_turn k t.acts runs shown answer))) asked.0,
     )
 
 pub returns-in_err-rows-clause-still : goal.returns-in_err-rows-clause-still

@@ -37,7 +37,7 @@ returns-clause-inside g c court t ends orderly =
     let days = days_shown t.calendar c.in_ok-rows.rows.items orderly.calendar_rises asked in
     let short_days = short_days_shown t.calendar c.in_ok-short_rows.short_rows.items orderly.calendar_rises next.1 in
     read_inside c.calendar_in.result _ _
-    (c.calendar_in.ensures t.calendar orderly.calendar orderly.short_days orderly.calendar_rises (c.as_slice.ensures.value ∙ days) (c.as_slice-2.ensures.value ∙ short_days)) next.0)
+    (c.calendar_in.ensures.read t.calendar orderly.calendar orderly.short_days orderly.calendar_rises (c.as_slice.ensures.value ∙ days) (c.as_slice-2.ensures.value ∙ short_days)) next.0)
 
 pub returns-in_err-rows-clause-still : goal.returns-in_err-rows-clause-still
 returns-in_err-rows-clause-still g c rows =

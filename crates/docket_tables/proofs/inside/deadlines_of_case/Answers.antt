@@ -32,7 +32,7 @@ returns-clause-inside g c court t ends orderly sees =
           let answer = rw c.to_sql.ensures at asked.1 in
           let shown = c.in_ok-rows.rows.items in
           let are = in_order ask.Deadlines (Int (pos k) ∷ []) deadline_cells (λ row. row.case == k) (λ row. and_yes _ ∙ equal_number row.case k) t.deadlines shown (λ row. row.number) (λ row. refl) refl refl (rises_running 1 _ (orderly.deadlines_run k)) answer in
-          read_inside c.all_in.result _ _ (c.all_in.ensures (deadlines_of_case k t.deadlines) (all-filter _ _ t.deadlines orderly.deadlines) (c.as_slice.ensures.value ∙ are)) asked.0,
+          read_inside c.all_in.result _ _ (c.all_in.ensures.read (deadlines_of_case k t.deadlines) (all-filter _ _ t.deadlines orderly.deadlines) (c.as_slice.ensures.value ∙ are)) asked.0,
     )
 
 pub returns-in_err-rows-clause-still : goal.returns-in_err-rows-clause-still

@@ -25,7 +25,7 @@ returns-clause-inside g c court t ends are sees =
           let asked = c.in_ok-rows.ensures.ok clean rows (sees before) in
           let answer = rw c.to_sql.ensures at asked.1 in
           let shown = c.in_ok-rows.rows.items in
-          read_inside c.all_in.result _ _ (c.all_in.ensures (ends_of k ends) are.fit (c.as_slice.ensures.value ∙ ends_shown k ends shown are.rows answer)) asked.0,
+          read_inside c.all_in.result _ _ (c.all_in.ensures.read (ends_of k ends) are.fit (c.as_slice.ensures.value ∙ ends_shown k ends shown are.rows answer)) asked.0,
     )
 
 pub returns-in_err-rows-clause-still : goal.returns-in_err-rows-clause-still

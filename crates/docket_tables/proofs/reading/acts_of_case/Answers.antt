@@ -4,6 +4,8 @@ use Rattle.docket_core.specs.declared.row.ActRow.{ActRow}
 use Rattle.docket_columns.specs.Fits.{IsActRow}
 use Rattle.docket_tables.specs.Contents.{rows_in}
 use Rattle.docket_tables.proofs.CaseActs.{in_turn, in_turn_of, in_turn_rises, in_turn_all, answered_in_turn}
+use Rattle.sqlite.specs.Held.{state}
+use Rattle.docket_tables.proofs.CauseLemmas.{err_caused, number_suits}
 use Rattle.docket_tables.proofs.ReadLemmas.{gives, read_as, stays}
 use Rattle.docket_tables.proofs.reading.acts_of_case.Goals as goal
 
@@ -20,7 +22,11 @@ returns-clause-read g c court t orderly holds =
       λ n. ap (λ xs. filter (λ row. row.deadline == n) xs) are ∙ in_turn_of k t.acts runs n,
       subst (IsNonDecreasingBy (λ (row : ActRow). row.deadline)) (sym are) (in_turn_rises k t.acts runs),
     ))
-    (c.all_in.ensures turn (in_turn_all k t.acts runs IsActRow orderly.acts) (c.as_slice.ensures.value ∙ answered_in_turn k t.acts runs rows answer)))
+    (c.all_in.ensures.read turn (in_turn_all k t.acts runs IsActRow orderly.acts) (c.as_slice.ensures.value ∙ answered_in_turn k t.acts runs rows answer)))
 
 pub returns-clause-stays : goal.returns-clause-stays
 returns-clause-stays g c rows holds = stays g.S.Store c.ask.new.conn rows c.all_in.result (c.in_ok-rows.ensures.ok rows holds).0
+
+pub returns-in_err-rows-clause-cause : goal.returns-in_err-rows-clause-cause
+returns-in_err-rows-clause-cause g c rows holds clean =
+    err_caused (state g.S.Store c.args.conn.now) (state g.S.Store c.ask.new.conn) c.in_err-rows.field-0.0 c.from_residual.result c.from_residual.ensures.1 (c.in_err-rows.ensures.cause rows holds (number_suits c.to_sql.ensures) clean)

@@ -9,6 +9,8 @@ use Rattle.docket_orderly.specs.Orderly.{acts_on}
 use Rattle.docket_tables.specs.declared.query.Query.TheVariants as ask
 use Rattle.docket_tables.proofs.AnswerLemmas.{in_order, rises_running}
 use Rattle.docket_tables.proofs.FoundLemmas.{equal_numbers}
+use Rattle.sqlite.specs.Held.{state}
+use Rattle.docket_tables.proofs.CauseLemmas.{err_caused, numbers_suit}
 use Rattle.docket_tables.proofs.ReadLemmas.{gives, stays}
 use Rattle.docket_tables.proofs.reading.acts_of_deadline.Goals as goal
 
@@ -22,7 +24,11 @@ returns-clause-read g c court t orderly holds =
     let answer = rw (c.to_sql.ensures, c.to_sql-2.ensures) at (asked.1 clean) in
     let are = in_order ask.DeadlineActs (Int (pos k) ∷ Int (pos n) ∷ []) act_cells (λ (row : ActRow). row.case == k && row.deadline == n) (λ row. equal_numbers row.case k row.deadline n) t.acts rows (λ row. row.number) (λ row. refl) refl refl
     (rises_running 1 _ (orderly.acts_run k n)) answer in
-    c.acts_alone_in.ensures (acts_on k n t.acts) (all-filter IsActRow _ t.acts orderly.acts) (c.as_slice.ensures.value ∙ are))
+    c.acts_alone_in.ensures.read (acts_on k n t.acts) (all-filter IsActRow _ t.acts orderly.acts) (c.as_slice.ensures.value ∙ are))
 
 pub returns-clause-stays : goal.returns-clause-stays
 returns-clause-stays g c rows holds = stays g.S.Store c.ask.new.conn rows c.acts_alone_in.result (c.in_ok-rows.ensures.ok rows holds).0
+
+pub returns-in_err-rows-clause-cause : goal.returns-in_err-rows-clause-cause
+returns-in_err-rows-clause-cause g c rows holds clean =
+    err_caused (state g.S.Store c.args.conn.now) (state g.S.Store c.ask.new.conn) c.in_err-rows.field-0.0 c.from_residual.result c.from_residual.ensures.1 (c.in_err-rows.ensures.cause rows holds (numbers_suit c.to_sql.ensures c.to_sql-2.ensures) clean)

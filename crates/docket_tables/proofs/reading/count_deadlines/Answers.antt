@@ -7,6 +7,8 @@ use Rattle.docket_tables.specs.Contents.{rows_in}
 use Rattle.docket_tables.specs.declared.query.Query.TheVariants as ask
 use Rattle.docket_tables.proofs.AnswerLemmas.{the_last, equal_number}
 use Rattle.docket_tables.proofs.HoldsLemmas.{and_yes}
+use Rattle.sqlite.specs.Held.{state}
+use Rattle.docket_tables.proofs.CauseLemmas.{err_caused, number_suits}
 use Rattle.docket_tables.proofs.ReadLemmas.{gives, read_ok, stays}
 use Rattle.docket_tables.proofs.reading.count_deadlines.Goals as goal
 
@@ -25,3 +27,7 @@ returns-clause-read g c court t orderly holds =
 
 pub returns-clause-stays : goal.returns-clause-stays
 returns-clause-stays g c rows holds = stays g.S.Store c.ask.new.conn rows c.number_in.result (c.in_ok-rows.ensures.ok rows holds).0
+
+pub returns-in_err-rows-clause-cause : goal.returns-in_err-rows-clause-cause
+returns-in_err-rows-clause-cause g c rows holds clean =
+    err_caused (state g.S.Store c.args.conn.now) (state g.S.Store c.ask.new.conn) c.in_err-rows.field-0.0 c.from_residual.result c.from_residual.ensures.1 (c.in_err-rows.ensures.cause rows holds (number_suits c.to_sql.ensures) clean)

@@ -3,6 +3,8 @@ use Rattle.docket_columns.specs.Cells.{court_cells}
 use Rattle.docket_tables.specs.Contents.{rows_in}
 use Rattle.docket_tables.specs.declared.query.Query.TheVariants as ask
 use Rattle.docket_tables.proofs.AnswerLemmas.{the_one}
+use Rattle.sqlite.specs.Held.{state}
+use Rattle.docket_tables.proofs.CauseLemmas.{err_caused}
 use Rattle.docket_tables.proofs.ReadLemmas.{gives, stays}
 use Rattle.docket_tables.proofs.reading.court.Goals as goal
 
@@ -12,7 +14,11 @@ returns-clause-read g c court t orderly holds =
     let rows = c.in_ok-rows.rows.items in
     gives g.S.Store c.ask.new.conn (rows_in court t) _ c.court_in.result asked.0 (λ clean.
     let are = the_one ask.Court [] (court_cells court) (λ _. true) (λ _. refl) (t.next_row ∷ []) rows refl (omega arith) (asked.1 clean) in
-    c.court_in.ensures court t.next_row orderly.court (c.as_slice.ensures.value ∙ are))
+    c.court_in.ensures.read court t.next_row orderly.court (c.as_slice.ensures.value ∙ are))
 
 pub returns-clause-stays : goal.returns-clause-stays
 returns-clause-stays g c rows holds = stays g.S.Store c.ask.new.conn rows c.court_in.result (c.in_ok-rows.ensures.ok rows holds).0
+
+pub returns-in_err-rows-clause-cause : goal.returns-in_err-rows-clause-cause
+returns-in_err-rows-clause-cause g c rows holds clean =
+    err_caused (state g.S.Store c.args.conn.now) (state g.S.Store c.ask.new.conn) c.in_err-rows.field-0.0 c.from_residual.result c.from_residual.ensures.1 (c.in_err-rows.ensures.cause rows holds refl clean)

@@ -1,5 +1,7 @@
 use Rattle.std.proofs.Common.{◌∙◌}
 use Rattle.docket_tables.specs.Contents.{rows_in}
+use Rattle.sqlite.specs.Held.{state}
+use Rattle.docket_tables.proofs.CauseLemmas.{err_caused, numbers_suit}
 use Rattle.docket_tables.proofs.ReadLemmas.{gives, stays}
 use Rattle.docket_tables.proofs.FoundLemmas.{deadline_read}
 use Rattle.docket_tables.proofs.reading.deadline.Goals as goal
@@ -15,3 +17,7 @@ returns-clause-read g c court t orderly holds =
 
 pub returns-clause-stays : goal.returns-clause-stays
 returns-clause-stays g c rows holds = stays g.S.Store c.ask.new.conn rows c.first_in.result (c.in_ok-rows.ensures.ok rows holds).0
+
+pub returns-in_err-rows-clause-cause : goal.returns-in_err-rows-clause-cause
+returns-in_err-rows-clause-cause g c rows holds clean =
+    err_caused (state g.S.Store c.args.conn.now) (state g.S.Store c.ask.new.conn) c.in_err-rows.field-0.0 c.from_residual.result c.from_residual.ensures.1 (c.in_err-rows.ensures.cause rows holds (numbers_suit c.to_sql.ensures c.to_sql-2.ensures) clean)

@@ -5,6 +5,8 @@ use Rattle.docket_core.specs.ShortDays.{short_day_rows}
 use Rattle.docket_core.specs.declared.row.ShortDayRow.{ShortDayRow}
 use Rattle.docket_tables.specs.Contents.{rows_in}
 use Rattle.docket_tables.specs.declared.fault.ReadFault.TheVariants.{Store}
+use Rattle.sqlite.specs.Held.{state}
+use Rattle.docket_tables.proofs.CauseLemmas.{err_caused, number_suits, caused_after}
 use Rattle.docket_tables.proofs.ReadLemmas.{err_given, err_stays}
 use Rattle.docket_tables.proofs.TwoTables.{day_numbered, short_day_numbered, stands_in_either}
 use Rattle.docket_tables.proofs.reading.is_row_standing.Goals as goal
@@ -56,3 +58,16 @@ pub returns-clause-stays : goal.returns-clause-stays
 returns-clause-stays g c rows holds =
     let asked = c.in_ok-rows.ensures.ok rows holds in
     (c.in_ok-short_rows.ensures.ok rows asked.0).0
+
+pub returns-in_err-rows-clause-cause : goal.returns-in_err-rows-clause-cause
+returns-in_err-rows-clause-cause g c rows holds clean =
+    err_caused (state g.S.Store c.args.conn.now) (state g.S.Store c.ask.new.conn) c.in_err-rows.field-0.0 c.from_residual.result c.from_residual.ensures.1 (c.in_err-rows.ensures.cause rows holds (number_suits c.to_sql.ensures) clean)
+
+pub returns-in_err-short_rows-clause-cause : goal.returns-in_err-short_rows-clause-cause
+returns-in_err-short_rows-clause-cause g c rows holds clean =
+    let old = state g.S.Store c.args.conn.now in
+    let mid = state g.S.Store c.ask.new.conn in
+    let new = state g.S.Store c.ask-2.new.conn in
+    let e = c.in_err-short_rows.field-0.0 in
+    let cause = c.in_err-short_rows.ensures.cause rows (c.in_ok-rows.ensures.ok rows holds).0 (number_suits c.to_sql-2.ensures) clean in
+    err_caused old new e c.from_residual-in_err-short_rows.result c.from_residual-in_err-short_rows.ensures.1 (caused_after old mid new e c.ask.ensures.counts c.ask.ensures.limit cause)

@@ -3,6 +3,8 @@ use Rattle.docket_columns.specs.Cells.{stored_cells}
 use Rattle.docket_wire.specs.Writing.{canonical}
 use Rattle.docket_tables.specs.Contents.{rows_in}
 use Rattle.docket_tables.specs.declared.table.Table.TheVariants.{Receipts}
+use Rattle.sqlite.specs.Held.{state}
+use Rattle.docket_tables.proofs.CauseLemmas.{err_caused, text_suits}
 use Rattle.docket_tables.proofs.ReadLemmas.{gives, stays}
 use Rattle.docket_tables.proofs.FoundLemmas.{kept_read}
 use Rattle.docket_tables.proofs.ReceiptLemmas.{receipt_found}
@@ -26,3 +28,7 @@ returns-clause-found g c rows holds clean reply same =
     let it = c.kept_in.ensures.same reply same in
     let body = ap (λ text. stored_cells it.0 text reply.number ∷ it.1) c.requires.body in
     receipt_found c.args.command.now.key (canonical c.args.command.now) reply.number (rows Receipts) c.in_ok-rows.rows.items answer (it.0, it.1, sym c.as_slice.ensures.value ∙ it.2 ∙ body)
+
+pub returns-in_err-rows-clause-cause : goal.returns-in_err-rows-clause-cause
+returns-in_err-rows-clause-cause g c rows holds clean =
+    err_caused (state g.S.Store c.args.conn.now) (state g.S.Store c.ask.new.conn) c.in_err-rows.field-0.0 c.from_residual.result c.from_residual.ensures.1 (c.in_err-rows.ensures.cause rows holds (text_suits c.to_sql.ensures) clean)

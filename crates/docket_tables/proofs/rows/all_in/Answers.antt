@@ -2,8 +2,8 @@ use Rattle.std.proofs.Common.{◌≡◌, ◌∙◌, ◌<◌, ◌++◌, [], ◌�
 use Rattle.docket_tables.proofs.RowLemmas.{row_of}
 use Rattle.docket_tables.proofs.rows.all_in.Goals as goal
 
-pub returns-in_default : goal.returns-in_default
-returns-in_default g c all each are =
+pub returns-in_default-clause-read : goal.returns-in_default-clause-read
+returns-in_default-clause-read g c all each are =
     let is : c.row-item.result ≡ get_or c.args.rows.now c.loop-row.row-index c.row-item.result = search rules in
     let low : c.loop-row.row-index < length c.args.rows.now = omega (arith, c.loop-row-test.true) in
     let row = row_of g.R.StoredRow.cells g.R.StoredRow.Is all c.args.rows.now c.loop-row.row-index c.row-item.result each are low is in

@@ -1,0 +1,22 @@
+-- A failure that came of a part has the cause that it had there.
+use Rattle.std.proofs.Common.{◌≡◌, ◌≤◌, IsErrAnd, Result, Ok, Err, sym, subst}
+use Rattle.sqlite.specs.State.{State}
+use Rattle.docket_tables.specs.Causes.{IsCausedFault, FailsForCause}
+use Rattle.docket_tables.specs.declared.fault.ReadFault.{ReadFault}
+use Rattle.docket_tables.specs.declared.fault.ReadFault.TheVariants.{Store, NoMemory, Damaged}
+use Rattle.docket_tables.proofs.CauseLemmas.{caused_after}
+
+-- the fault of a part is that of the whole
+pub err_fails : {X : Type 0} (old new : State) (f : ReadFault) (result : Result X ReadFault) → IsErrAnd result (λ other. other ≡ f) → IsCausedFault old new f → FailsForCause old new result
+err_fails old new f (Ok x) same cause = absurd same
+err_fails old new f (Err other) same cause = subst (IsCausedFault old new) (sym same) cause
+
+-- the part began later
+pub fault_after : (first old new : State) (f : ReadFault) → first.faults ≤ old.faults → old.step_limit ≡ first.step_limit → IsCausedFault old new f → IsCausedFault first new f
+fault_after first old new (Store e) counts limit cause = caused_after first old new e counts limit cause
+fault_after first old new NoMemory counts limit cause = tt
+fault_after first old new Damaged counts limit cause = tt
+
+pub fails_after : {X : Type 0} (first old new : State) (result : Result X ReadFault) → first.faults ≤ old.faults → old.step_limit ≡ first.step_limit → FailsForCause old new result → FailsForCause first new result
+fails_after first old new (Ok x) counts limit cause = tt
+fails_after first old new (Err f) counts limit cause = fault_after first old new f counts limit cause

@@ -1,0 +1,56 @@
+-- Why a call of the database fails.
+use Rattle.std.specs.Prelude.{◌≡◌, ◌⊎◌, IsTrue, IsSome, IfErr, Result, List, map, get_or, true}
+use Rattle.sqlite.specs.Disk.{MoreFaults}
+use Rattle.sqlite.specs.Kind.{Kind}
+use Rattle.sqlite.specs.Kind.TheVariants.{Integer}
+use Rattle.sqlite.specs.Order.{Row}
+use Rattle.sqlite.specs.State.{State, is_disk_error}
+use Rattle.sqlite.specs.declared.error.Error.{Error}
+use Rattle.sqlite.specs.declared.error.Error.TheVariants.{SqliteFailure}
+use Rattle.sqlite.specs.declared.error.ErrorCode.TheVariants.{OutOfMemory, OperationInterrupted}
+use Rattle.docket_tables.specs.Layouts.{are_of}
+use Rattle.docket_tables.specs.Queries.{keys_of, table_of}
+use Rattle.docket_tables.specs.Schema.{kinds_of}
+use Rattle.docket_tables.specs.declared.fault.ReadFault.{ReadFault}
+use Rattle.docket_tables.specs.declared.fault.ReadFault.TheVariants.{Store, NoMemory, Damaged}
+use Rattle.docket_tables.specs.declared.query.Query.{Query}
+
+-- the error is one of the disk, which failed or refused more often than before
+abbrev pub IsOfDisk : State → State → Error → Type 0
+IsOfDisk old new e = IsTrue (is_disk_error e) × MoreFaults old.faults new.faults
+
+-- memory was refused, of which no count is kept
+abbrev pub IsOfMemory : Error → Type 0
+IsOfMemory e = e ≡ SqliteFailure OutOfMemory
+
+-- a query came to the limit on steps, which was set
+abbrev pub IsOfLimit : State → Error → Type 0
+IsOfLimit old e = (e ≡ SqliteFailure OperationInterrupted) × IsSome old.step_limit
+
+-- the error of a question to a connection that held rows has a cause
+abbrev pub IsCaused : State → State → Error → Type 0
+IsCaused old new e = IsOfDisk old new e ⊎ (IsOfMemory e ⊎ IsOfLimit old e)
+
+-- and so has the error for which the store gave no answer
+abbrev pub IsCausedFault : State → State → ReadFault → Type 0
+IsCausedFault old new (Store e) = IsCaused old new e
+IsCausedFault old new NoMemory = Unit {0}
+IsCausedFault old new Damaged = Unit {0}
+
+-- a failure is one of the store only for a cause
+abbrev pub FailsForCause : {X : Type 0} → State → State → Result X ReadFault → Type 0
+FailsForCause old new result = IfErr result (IsCausedFault old new)
+
+-- the fault is none of the store
+abbrev pub IsOwn : ReadFault → Type 0
+IsOwn (Store e) = ⊥
+IsOwn NoMemory = Unit {0}
+IsOwn Damaged = Unit {0}
+
+-- what the columns hold that are asked for
+abbrev pub kinds_asked : Query → List Kind
+kinds_asked query = map (λ key. get_or (kinds_of (table_of query)) key Integer) (keys_of query)
+
+-- the values are of the kinds of those columns
+abbrev pub Suits : Query → Row → Type 0
+Suits query params = are_of (kinds_asked query) params ≡ true
