@@ -1,6 +1,12 @@
 -- What an open finds of a docket.
-use Rattle.std.proofs.Common.{◌≡◌, ◌⊎◌, inl, inr, Ok, Err, Result, IfOk, IfErr, IsErrAnd, MatchResult, IsTrue, refl, sym, subst}
+use Rattle.std.proofs.Common.{◌≡◌, ◌⊎◌, ◌∙◌, inl, inr, Ok, Err, Result, Option, Some, None, IfOk, IfErr, IfSome, IsErrAnd, MatchResult, IsTrue, refl, sym, ap, subst}
 use Rattle.std.proofs.Math.Logic.{∥∥₁_elim, ∥∥₁_map}
+use base.Stored.{Coded-set}
+use Rattle.sqlite_schema.specs.contracts.schema.Schema as schema
+use Rattle.sqlite_catalog.proofs.ReadLemmas.{lists_once}
+use Rattle.sqlite_trees.specs.Objects.{catalog_tree}
+use Rattle.sqlite.specs.Effect.{Database}
+use Rattle.sqlite.specs.Schema.{Schema}
 use Rattle.sqlite_pool.proofs.ResealLemmas.{adopts_of}
 use Rattle.sqlite_pool.proofs.StateLemmas.{size_is_allowed}
 use Rattle.sqlite_catalog.specs.Listing.{IsSound}
@@ -13,20 +19,33 @@ use Rattle.sqlite_trees.specs.View.{IsRolledBack as IsUndone}
 use Rattle.sqlite.specs.Tree.{Trees}
 use Rattle.sqlite.specs.Files.{HoldsDatabase, IsOpened, file_state, over_files}
 use Rattle.sqlite.specs.Held.{Held, IsNew}
-use Rattle.sqlite.specs.State.{HasCleanDisk, State}
+use Rattle.sqlite.specs.State.{HasCleanDisk, IsLive, Opens, State}
 use Rattle.court_days.specs.Court.{CourtSettings}
 use Rattle.docket_core.specs.Histories.{History}
-use Rattle.docket_tables.specs.Schema.{docket_schema}
-use Rattle.docket_tables.specs.Layouts.{Rows}
-use Rattle.docket_tables.specs.Stands.{IsImage, IsEither, IsSettled}
-use Rattle.docket_tables.proofs.ReopenLemmas.{image_known, opened_stands}
+use Rattle.docket_columns.specs.declared.version.Version.{Version}
+use Rattle.docket_columns.specs.declared.version.Version.TheVariants.{First, Second}
+use Rattle.docket_tables.specs.Schema.{docket_schema, schema_of}
+use Rattle.docket_tables.specs.Layouts.{AreRowsIn, Rows}
+use Rattle.docket_tables.specs.Stands.{HoldsRowsIn, IsEither, IsImage, IsImageIn, IsSettled, IsSettledIn}
+use Rattle.docket_tables.proofs.CommitLemmas.{LeavesCommit}
 use Rattle.docket_store.specs.Applying.{StandsFor, docket_rows}
-use Rattle.docket_store.specs.Reopening.{HoldDocket, HoldEither, LeavesEither, MayLeave, StandsForEither}
+use Rattle.docket_store.specs.Reopening.{HoldDocket, HoldEither, HoldRows, LeavesEither, MayLeave, StandsForEither}
 
 -- what three clauses say of a value
 pub if_ok : {T E : Type 0} (A B C P : T → Type 0) (r : Result T E) → ((x : T) → A x → B x → C x → P x) → IfOk r A → IfOk r B → IfOk r C → IfOk r P
 if_ok A B C P (Ok x) then a b c = then x a b c
 if_ok A B C P (Err e) then a b c = a
+
+-- what is so of what is left, where an open failed
+pub if_left : {T E L : Type 0} (A B : E → L → Type 0) → ((e : E) (left : L) → A e left → B e left) → (r : Result T (E × Option L)) → IfErr r (λ e. IfSome e.1 (A e.0)) → IfErr r (λ e. IfSome e.1 (B e.0))
+if_left A B then (Ok x) is = is
+if_left A B then (Err (e, None)) is = is
+if_left A B then (Err (e, Some left)) is = then e left is
+
+-- the same of the one or the other
+pub err_either : {T E : Type 0} (A B : Type 0) (P Q : E → Type 0) (r : Result T E) → (A → IfErr r P) → (B → IfErr r Q) → ∥ A ⊎ B ∥₁ → IfErr r (λ e. ∥ P e ⊎ Q e ∥₁)
+err_either A B P Q (Ok x) was is held = tt
+err_either A B P Q (Err e) was is held = ∥∥₁_map held (λ one. elim one [ inl a ↦ inl (was a) | inr b ↦ inr (is b) ])
 
 -- what holds of an error holds of the result that is told by it
 pub err_told : {T E : Type 0} (P : E → Type 0) (r : Result T E) (e : E) → IsErrAnd r (λ f. f ≡ e) → P e → IfErr r P
@@ -76,18 +95,50 @@ leaves_docket it court h next files leaves may =
       | inr image ↦ inr ∣ (found.0, found.2, image) ∣₁
     ])
 
+-- what is known of an image in part is known of it
+pub image_known : (v : Version) (rows : Rows) (db : Trees) → ∥ IsImageIn v rows db ∥₁ → IsImageIn v rows db
+image_known First rows db known = record {
+  sound = ∥∥₁_elim known squash₁ (λ image. image.sound);
+  holds = λ table is. ∥∥₁_elim known squash₁ (λ image. image.holds table is);
+}
+image_known Second rows db known = record {
+  sound = ∥∥₁_elim known squash₁ (λ image. image.sound);
+  holds = λ table. ∥∥₁_elim known squash₁ (λ image. image.holds table);
+}
+
+-- trees list one schema at most
+same_schema : (s t : Schema) (db : Trees) → ∥ IsSound s db ∥₁ → IsSound t db → t ≡ s
+same_schema s t db p q = ∥∥₁_elim p (Coded-set schema.the_row.coded _ _) (λ h. lists_once (db catalog_tree) t s q.lists h.lists)
+
+-- a connection that was just opened on an image of the rows holds them
+opened_holds : (v : Version) (s : State) (rows : Rows) → Opens s → IsLive s → LeavesCommit s → IsImageIn v rows s.committed.trees → IsSettledIn v s rows
+opened_holds v s rows opens live leaves image =
+    let is = opens.clean in
+    record {
+      idle = opens.autocommit;
+      shows = record {
+        is_open = opens.is_open;
+        schema = ap (λ (b : Database). b.schema) is ∙ same_schema (schema_of v) s.committed.schema s.committed.trees image.sound (live opens.is_open).1;
+        live = (live opens.is_open).0;
+        holds = subst (AreRowsIn v rows) (sym (ap (λ (b : Database). b.trees) is)) image.holds;
+      };
+      committed = sym is;
+      images = λ db may. subst (IsImageIn v rows) (sym (leaves db opens.is_open may)) image;
+    }
+
 module _ {D : Type 0} {g : Ghosts D} (files : Image) (conn : Held (FileStore D g)) (new : IsNew conn) (opened : HasCleanDisk (file_state conn) → IsOpened conn)
     (found : HasCleanDisk (file_state conn) → (db : Trees) → HoldsDatabase files db → (file_state conn).committed.trees ≡ db)
     (settled : (db : Trees) → IsTrue (file_state conn).is_open → (file_state conn).may_leave db → db ≡ (file_state conn).committed.trees) where
-  pub stands_again : (court : CourtSettings) (h : History) → HoldDocket files court h → StandsFor over_files conn court h
-  stands_again court h held = (
+  pub holds_again : (v : Version) (rows : Rows) → HoldRows v files rows → HoldsRowsIn over_files v conn rows
+  holds_again v rows held = (
     new.autocommit,
     λ clean.
-        let rows : Rows = docket_rows court h in
-        let image : IsImage rows (file_state conn).committed.trees =
-        image_known rows _ (∥∥₁_map held (λ one. subst (IsImage rows) (sym (found clean one.0 one.1)) one.2)) in
-        opened_stands (file_state conn) rows (opened clean).0 (opened clean).1 settled image,
+        let image = image_known v rows _ (∥∥₁_map held (λ one. subst (IsImageIn v rows) (sym (found clean one.0 one.1)) one.2)) in
+        opened_holds v (file_state conn) rows (opened clean).0 (opened clean).1 settled image,
   )
+
+  pub stands_again : (court : CourtSettings) (h : History) → HoldDocket files court h → StandsFor over_files conn court h
+  stands_again court h = holds_again Second (docket_rows court h)
 
   pub stands_for_either : (court : CourtSettings) (h next : History) → HoldEither files court h next → StandsForEither over_files conn court h next
   stands_for_either court h next held = ∥∥₁_map held (λ one. elim one [ inl was ↦ inl (stands_again court h was) | inr is ↦ inr (stands_again court next is) ])

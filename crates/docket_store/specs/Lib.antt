@@ -1,6 +1,7 @@
 pub mod AnyRows
 pub mod Applying
 pub mod Dockets
+pub mod Left
 pub mod Listing
 pub mod Migrating
 pub mod Opening

@@ -7,26 +7,34 @@ use Rattle.sqlite_store.specs.declared.store.FileStore.{FileStore}
 use Rattle.sqlite_store.specs.FileStore.{state, view, recovers}
 use Rattle.sqlite.specs.Store.{Ghosts}
 use Rattle.sqlite.specs.Tree.{Trees}
-use Rattle.sqlite.specs.Files.{FailsToOpenFiles, HoldsDatabase, IsCleanLeft, LeavesFiles, over_files}
+use Rattle.sqlite.specs.Files.{FailsToOpenFiles, IsCleanLeft, LeavesFiles, over_files}
 use Rattle.sqlite.specs.Held as held
 use Rattle.sqlite.specs.Held.{Held}
 use Rattle.sqlite.specs.State.{HasCleanDisk}
 use Rattle.court_days.specs.Court.{CourtSettings}
+use Rattle.docket_columns.specs.declared.version.Version.{Version}
+use Rattle.docket_columns.specs.declared.version.Version.TheVariants.{Second}
 use Rattle.docket_command.specs.declared.command.Command.{Command}
 use Rattle.docket_command.specs.declared.refusal.Reply.{Reply}
 use Rattle.docket_core.specs.Histories.{History}
 use Rattle.docket_core.specs.Outcomes.{after}
-use Rattle.docket_tables.specs.Stands.{IsImage}
+use Rattle.docket_tables.specs.Layouts.{Rows}
+use Rattle.docket_tables.specs.Stands.{IsImage, IsImageIn}
 use Rattle.docket_store.specs.Applying.{StandsFor, Stands, docket_rows, Applies, Faults}
 use Rattle.docket_store.specs.Dockets.{Docket}
+use Rattle.docket_store.specs.Left.{HoldSome}
 use Rattle.docket_store.specs.Opening.{IsNotAdopted}
 use Rattle.docket_store.specs.declared.fault.Fault.{Fault}
 use Rattle.docket_store.specs.declared.recovering.RecoverFault.{RecoverFault}
 use Rattle.docket_store.specs.declared.recovering.RecoverFault.TheVariants.{NotOpened, NotAdopted}
 
--- the database file and its log hold the docket
+-- the database file and its log hold the rows, in the tables of the version
+abbrev pub HoldRows : Version → Image → Rows → Type 0
+HoldRows v files rows = HoldSome (IsImageIn v rows) files
+
+-- they hold the docket
 abbrev pub HoldDocket : Image → CourtSettings → History → Type 0
-HoldDocket files court h = ∥ ((db : Trees) × HoldsDatabase files db × IsImage (docket_rows court h) db) ∥₁
+HoldDocket files court h = HoldRows Second files (docket_rows court h)
 
 -- a power failure leaves the docket of the one history or of the other
 pub record LeavesEither {D : Type 0} {g : Disk D} (it : FileStore D g) (court : CourtSettings) (h next : History) : Type 0 where

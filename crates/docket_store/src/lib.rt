@@ -29,7 +29,9 @@ pub use laws::courts_begin_without_a_record;
 pub use listing::{CalendarEnd, ListingEnd};
 pub use migrating::MigrateFault;
 pub use recovering::{RecoverFault, apply_again, recover};
-pub use reopening::{power_failures_leave_dockets, reopen, reopen_from, stop};
+pub use reopening::{
+    plain_files_have_sums, power_failures_leave_dockets, reopen, reopen_from, stop,
+};
 pub use returned::Returned;
 pub use sequence::{answer, apply_all};
 pub use sessions::{SessionEnd, session};

@@ -1,6 +1,7 @@
 //! Opening the files that a run left, also one that a power failure stopped.
-ghost use Rattle.std.specs.Prelude.{◌≡◌, IsTrue, IfOk, IfErr, false};
+ghost use Rattle.std.specs.Prelude.{◌≡◌, ◌⊎◌, ℕ, IsTrue, IfOk, IfErr, false};
 ghost use Rattle.sqlite_wal.specs.Files.{image_at};
+ghost use Rattle.sqlite_wal.specs.PageSize.{IsPageSize};
 ghost use Rattle.sqlite_wal.specs.Reads.{AreClean};
 ghost use Rattle.sqlite_wal.specs.Recovery.{Image};
 ghost use Rattle.sqlite_store.specs.declared.store.FileStore.{FileStore};
@@ -8,12 +9,17 @@ ghost use Rattle.sqlite_store.specs.FileStore.{view};
 ghost use Rattle.sqlite.specs.View.{IsClean};
 ghost use Rattle.sqlite.specs.Files.{over_files, image_of, IsCleanLeft, FailsToOpenFiles, LeavesFiles};
 ghost use Rattle.sqlite.specs.Held.{state};
+ghost use Rattle.sqlite.specs.Opening.{HoldsIn};
 ghost use Rattle.sqlite.specs.State.{HasCleanDisk};
+ghost use Rattle.sqlite.specs.Tree.{Trees};
 ghost use Rattle.court_days.specs.Court.{CourtSettings};
+ghost use Rattle.docket_columns.specs.declared.version.Version.{Version};
 ghost use Rattle.docket_core.specs.Histories.{History};
-ghost use Rattle.docket_tables.specs.Stands.{LastsAsEither};
+ghost use Rattle.docket_tables.specs.Layouts.{Rows};
+ghost use Rattle.docket_tables.specs.Stands.{HoldsRowsIn, IsImage, IsImageIn, LastsAsEither};
 ghost use Rattle.docket_store.specs.Applying.{StandsFor, docket_rows};
-ghost use Rattle.docket_store.specs.Reopening.{HoldDocket, HoldEither, LeavesEither, MayLeave, StandsForEither};
+ghost use Rattle.docket_store.specs.Left.{HaveSums, IsUnharmed};
+ghost use Rattle.docket_store.specs.Reopening.{HoldDocket, HoldEither, HoldRows, LeavesEither, MayLeave, StandsForEither};
 
 use sqlite::{Connection, Error, FileFrom, FileStore, Files, Leftover, Options, Start};
 use sqlite_disk::Disk;
@@ -24,6 +30,11 @@ use std::rt::HostRuntime;
 pub fn power_failures_leave_dockets<D: Disk>()
     ensures { (it : FileStore D D.Disk) (court : CourtSettings) (h next : History) (files : Image)
         → LeavesEither it court h next → MayLeave it files → HoldEither files court h next }
+{}
+
+/// Files whose pages end in no sums lack none.
+pub fn plain_files_have_sums()
+    ensures { (files : Image) (size : ℕ) (db : Trees) → IsPageSize size → HoldsIn size files db → HaveSums files }
 {}
 
 /// Ends a run without closing the files: what is not committed is rolled back. What a power failure may
@@ -59,17 +70,25 @@ pub fn reopen<D: Disk + Drop>(
     Connection::open_files(alloc, files, options)
 }
 
-/// Opens the files at a path, where `start` stands for what they hold.
+/// Opens the files at a path, where `start` stands for what they hold. An error comes with what is left
+/// of them, once they were opened; what they held is in them still, also past a power failure.
 pub fn reopen_from<S: Start>(
     rt: &HostRuntime,
     path: &str,
     start: S,
 ) -> Result<Connection<FileStore<FileFrom<S>>>, (Error, Option<Leftover<FileFrom<S>>>)>
     ensures idle { IfOk result (λ conn. conn.in_transaction ≡ false) }
+    ensures rows { (v : Version) (rows : Rows) → HoldRows v (image_at S.Start) rows
+        → IfOk result (λ conn. HoldsRowsIn over_files v conn rows) }
     ensures docket { (court : CourtSettings) (h : History) → HoldDocket (image_at S.Start) court h
         → IfOk result (λ conn. StandsFor over_files conn court h) }
     ensures either { (court : CourtSettings) (h next : History) → HoldEither (image_at S.Start) court h next
         → IfOk result (λ conn. StandsForEither over_files conn court h next) }
+    ensures unharmed { (v : Version) (rows : Rows) → HoldRows v (image_at S.Start) rows
+        → IfErr result (IsUnharmed (image_at S.Start) (IsImageIn v rows)) }
+    ensures either_unharmed { (court : CourtSettings) (h next : History) → HoldEither (image_at S.Start) court h next
+        → IfErr result (λ failed. ∥ IsUnharmed (image_at S.Start) (IsImage (docket_rows court h)) failed
+        ⊎ IsUnharmed (image_at S.Start) (IsImage (docket_rows court next)) failed ∥₁) }
 {
     Connection::open_from(rt, path, false, start)
 }

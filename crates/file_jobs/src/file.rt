@@ -16,7 +16,7 @@ ghost use Rattle.command_lines.specs.Lines.{Docket as Told};
 ghost use Rattle.file_jobs.specs.Checks.{IsSoundDocket};
 ghost use Rattle.file_jobs.specs.Commands.{AppliesTo};
 ghost use Rattle.file_jobs.specs.Keeping.{rows_of};
-ghost use Rattle.file_jobs.specs.Left.{LeavesRows};
+ghost use Rattle.docket_store.specs.Left.{LeavesRows};
 ghost use Rattle.file_jobs.specs.Runs.{Answers, LeavesPrefix};
 ghost use Rattle.file_jobs.specs.Tells.{AnswersTo, ListsTo, WorksTo, text_of_case};
 

@@ -5,7 +5,7 @@ ghost use Rattle.sqlite.specs.Held.{state};
 ghost use Rattle.sqlite.specs.State.{HasCleanDisk};
 ghost use Rattle.docket_tables.specs.Layouts.{Rows};
 ghost use Rattle.file_jobs.specs.Keeping.{HoldsBetween};
-ghost use Rattle.file_jobs.specs.Left.{LeavesRows};
+ghost use Rattle.docket_store.specs.Left.{LeavesRows};
 
 use crate::ended::{Ended, Worked};
 use sqlite::{Connection, FileStore, Leftover};

@@ -2,7 +2,7 @@ use Rattle.std.proofs.Common.{sym, subst}
 use Rattle.sqlite.specs.Files.{over_files}
 use Rattle.docket_tables.specs.Layouts.{Rows}
 use Rattle.file_jobs.specs.Keeping.{HoldsBetween}
-use Rattle.file_jobs.specs.Left.{LeavesRows}
+use Rattle.docket_store.specs.Left.{LeavesRows}
 use Rattle.file_jobs.specs.Tells.{WorksTo}
 use Rattle.file_jobs.proofs.ApplyLemmas.{err_map}
 use Rattle.file_jobs.proofs.RunLemmas.{answers_map, prefix_map}
