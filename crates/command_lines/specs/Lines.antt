@@ -61,14 +61,18 @@ judged docket line = judged_read docket (command_in line)
 abbrev pub judged_long : Docket → Judged Docket
 judged_long docket = judged_fault docket NotJson
 
+-- a line of any length
+abbrev pub line_judged : Docket → List ℕ → Judged Docket
+line_judged = within 1_048_576 judged judged_long
+
 -- the answers to the lines in order
 abbrev pub run_text : Docket → List ℕ → List ℕ
-run_text docket input = text_of (within 1_048_576 judged judged_long) docket (lines_of input)
+run_text docket input = text_of line_judged docket (lines_of input)
 
 -- how many of them are refusals and faults
 abbrev pub bad_answers : Docket → List ℕ → ℕ
-bad_answers docket input = bad_of (within 1_048_576 judged judged_long) docket (lines_of input)
+bad_answers docket input = bad_of line_judged docket (lines_of input)
 
 -- the docket that the lines leave
 abbrev pub docket_after : Docket → List ℕ → Docket
-docket_after docket input = after_of (within 1_048_576 judged judged_long) docket (lines_of input)
+docket_after docket input = after_of line_judged docket (lines_of input)

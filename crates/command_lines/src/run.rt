@@ -6,13 +6,12 @@ ghost use Rattle.sqlite.specs.State.{HasCleanDisk};
 ghost use Rattle.line_io.specs.Lines.{lines_of};
 ghost use Rattle.line_io.specs.Output.{HasFront};
 ghost use Rattle.line_io.specs.Ending.{BreaksOff};
-ghost use Rattle.line_io.specs.Report.{within};
 ghost use Rattle.line_io.specs.Steps.{Reaches};
 ghost use Rattle.docket_store.specs.AnyRows.{WritesAtMostOne};
 ghost use Rattle.docket_store.specs.declared.fault.Fault.TheVariants as fault;
 ghost use Rattle.command_lines.specs.Ending.{StandsAs, Leaves};
 ghost use Rattle.command_lines.specs.declared.fault.RunFault.TheVariants as run;
-ghost use Rattle.command_lines.specs.Lines.{Docket, run_text, bad_answers, docket_after, judged, judged_long};
+ghost use Rattle.command_lines.specs.Lines.{Docket, run_text, bad_answers, docket_after, line_judged};
 
 use crate::clerk::Clerk;
 use crate::fault::RunFault;
@@ -49,7 +48,7 @@ pub fn command_run<R: Read, W: Write, S: Alter>(
     // The docket stands for the lines answered, and at most for one line more.
     ensures left { IfErr result (λ fault. (docket : Docket) → StandsAs S.Store clerk.old docket
         → HasCleanDisk (state S.Store clerk.new.conn) → IfSome (R.remaining reader.old) (λ input.
-        BreaksOff (within 1_048_576 judged judged_long) (Leaves S.Store clerk.new fault) 0 docket (lines_of input)
+        BreaksOff line_judged (Leaves S.Store clerk.new fault) 0 docket (lines_of input)
         (W.contents writer.old) (W.contents writer.new))) }
     // Whatever docket it was: each line wrote nothing, or one command whole, with its receipt.
     ensures steps { Reaches (WritesAtMostOne S.Store) clerk.old clerk.new }

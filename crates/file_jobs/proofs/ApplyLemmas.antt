@@ -14,7 +14,7 @@ use Rattle.docket_store.specs.declared.fault.Fault.{Fault}
 use Rattle.docket_store.specs.declared.fault.Fault.TheVariants.{Refused, NoMemory, StoreFailed, Closed, Damaged}
 use Rattle.command_lines.specs.Lines.{Docket, docket_with}
 use Rattle.file_jobs.specs.Commands.{AppliesTo}
-use Rattle.file_jobs.specs.Keeping.{HoldsBetween, Keeps, rows_of}
+use Rattle.file_jobs.specs.Keeping.{HoldsBetween, Keeps, rows_told}
 use Rattle.file_jobs.proofs.KeepLemmas.{held, either}
 
 module _ (L M : Rows → Rows → Type 0) (more : (rows next : Rows) → L rows next → M rows next) (docket : Docket) (c : Command) where
@@ -57,6 +57,6 @@ module _ {S : Type 0} (g : Ghosts S) (stored : Stored S) (docket : Docket) (c : 
       subst P same (is.1 clean, (is.0.docket, held g stored.conn _ is.0.rows))
   applied (Err (Refused r)) is clean = (subst (λ (court : CourtSettings). outcome court docket.history c ≡ refused r) same (is.1 clean), kept is.0)
   applied (Err NoMemory) is clean = kept is
-  applied (Err StoreFailed) is clean = subst (λ (court : CourtSettings). HoldsBetween g stored.conn (rows_of (record { court = court; history = docket.history })) (rows_of (docket_with (record { court = court; history = docket.history }) c))) same (either g stored.conn _ _ is)
+  applied (Err StoreFailed) is clean = subst (λ (court : CourtSettings). HoldsBetween g stored.conn (rows_told (record { court = court; history = docket.history })) (rows_told (docket_with (record { court = court; history = docket.history }) c))) same (either g stored.conn _ _ is)
   applied (Err Closed) is clean = absurd is
   applied (Err Damaged) is clean = absurd (is clean)

@@ -1,4 +1,6 @@
 mod ApplyLemmas
 mod KeepLemmas
+mod MigrateLemmas
+mod OpenLemmas
 mod RunLemmas
 mod TellLemmas

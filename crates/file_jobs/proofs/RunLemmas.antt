@@ -16,11 +16,11 @@ use Rattle.line_io.specs.Output.{HasFront}
 use Rattle.line_io.specs.Report.{Judged, after_of, text_of}
 use Rattle.line_io.specs.declared.ending.CountEnd.{CountEnd}
 use Rattle.command_lines.specs.Ending.{Leaves, StandsAs}
-use Rattle.command_lines.specs.Lines.{Docket, bad_answers, docket_after, run_text}
+use Rattle.command_lines.specs.Lines.{Docket, bad_answers, docket_after, line_judged, run_text}
 use Rattle.command_lines.specs.declared.fault.RunFault.{RunFault}
 use Rattle.command_lines.specs.declared.fault.RunFault.TheVariants as run
-use Rattle.file_jobs.specs.Keeping.{HoldsBetween, Keeps, rows_of}
-use Rattle.file_jobs.specs.Runs.{Answers, LeavesPrefix, LeftBetween, line_judged}
+use Rattle.file_jobs.specs.Keeping.{HoldsBetween, Keeps, rows_told}
+use Rattle.file_jobs.specs.Runs.{Answers, LeavesPrefix, LeftBetween}
 use Rattle.file_jobs.proofs.KeepLemmas.{either, first, second}
 use Rattle.file_jobs.proofs.TellLemmas.{some_map, some_both, keeps_held}
 
@@ -62,7 +62,7 @@ module _ {S : Type 0} (g : Ghosts S) (stored : Stored S) where
   left_between run.WriteFailed before next left = keeps_held g stored next left
   left_between run.NoMemory before next (inl was) = inl (keeps_held g stored before was)
   left_between run.NoMemory before next (inr is) = inr (keeps_held g stored next is)
-  left_between (run.Store StoreFailed) before next left = either g stored.conn (rows_of before) (rows_of next) left
+  left_between (run.Store StoreFailed) before next left = either g stored.conn (rows_told before) (rows_told next) left
   left_between (run.Store (Refused r)) before next left = left
   left_between (run.Store NoMemory) before next left = left
   left_between (run.Store Closed) before next left = left
@@ -94,14 +94,14 @@ module _ {S : Type 0} (g : Ghosts S) (stored : Stored S) where
 -- The same of whatever else is left by that.
 module _ (L M : Rows → Rows → Type 0) (more : (rows next : Rows) → L rows next → M rows next) where
   keeps_map : (docket : Docket) → Keeps L docket → Keeps M docket
-  keeps_map docket keeps = (keeps.0, more (rows_of docket) (rows_of docket) keeps.1)
+  keeps_map docket keeps = (keeps.0, more (rows_told docket) (rows_told docket) keeps.1)
 
   between_map : (fault : RunFault) (before next : Docket) → LeftBetween L fault before next → LeftBetween M fault before next
   between_map run.ReadFailed before next left = keeps_map before left
   between_map run.WriteFailed before next left = keeps_map next left
   between_map run.NoMemory before next (inl was) = inl (keeps_map before was)
   between_map run.NoMemory before next (inr is) = inr (keeps_map next is)
-  between_map (run.Store StoreFailed) before next left = more (rows_of before) (rows_of next) left
+  between_map (run.Store StoreFailed) before next left = more (rows_told before) (rows_told next) left
   between_map (run.Store (Refused r)) before next left = left
   between_map (run.Store NoMemory) before next left = left
   between_map (run.Store Closed) before next left = left
@@ -129,11 +129,11 @@ module _ (L M : Rows → Rows → Type 0) (more : (rows next : Rows) → L rows 
     }
 
 module _ {S : Type 0} (g : Ghosts S) (conn : Held S) where
-  prefix_left : (fault : RunFault) (before next : Docket) → LeftBetween (HoldsBetween g conn) fault before next → HoldsBetween g conn (rows_of before) (rows_of next)
-  prefix_left run.ReadFailed before next left = first g conn (rows_of before) (rows_of next) left.1
-  prefix_left run.WriteFailed before next left = second g conn (rows_of before) (rows_of next) left.1
-  prefix_left run.NoMemory before next (inl was) = first g conn (rows_of before) (rows_of next) was.1
-  prefix_left run.NoMemory before next (inr is) = second g conn (rows_of before) (rows_of next) is.1
+  prefix_left : (fault : RunFault) (before next : Docket) → LeftBetween (HoldsBetween g conn) fault before next → HoldsBetween g conn (rows_told before) (rows_told next)
+  prefix_left run.ReadFailed before next left = first g conn (rows_told before) (rows_told next) left.1
+  prefix_left run.WriteFailed before next left = second g conn (rows_told before) (rows_told next) left.1
+  prefix_left run.NoMemory before next (inl was) = first g conn (rows_told before) (rows_told next) was.1
+  prefix_left run.NoMemory before next (inr is) = second g conn (rows_told before) (rows_told next) is.1
   prefix_left (run.Store StoreFailed) before next left = left
   prefix_left (run.Store (Refused r)) before next left = absurd left
   prefix_left (run.Store NoMemory) before next left = absurd left
@@ -145,7 +145,7 @@ module _ {S : Type 0} (g : Ghosts S) (conn : Held S) where
     prefix_of : (r : Result CountEnd RunFault) → Answers (HoldsBetween g conn) docket input before after r
         → LeavesPrefix (HoldsBetween g conn) docket input before after
     prefix_of (Ok end) all =
-        let nothing_more : List (List ℕ) → Type 0 = λ lines. HoldsBetween g conn (rows_of (docket_after docket input)) (rows_of (after_of line_judged docket lines)) in
+        let nothing_more : List (List ℕ) → Type 0 = λ lines. HoldsBetween g conn (rows_told (docket_after docket input)) (rows_told (after_of line_judged docket lines)) in
         record {
           answered = lines_of input;
           more = [];
@@ -183,7 +183,7 @@ module _ {S : Type 0} (g : Ghosts S) (conn : Held S) where
     prefix_done (Err fault) answers = absurd answers
 
     -- where the docket was not adopted nothing went out, and it stays
-    pub prefix_unadopted : HoldsBetween g conn (rows_of docket) (rows_of docket) → after ≡ before
+    pub prefix_unadopted : HoldsBetween g conn (rows_told docket) (rows_told docket) → after ≡ before
         → LeavesPrefix (HoldsBetween g conn) docket input before after
     prefix_unadopted holds same = record {
       answered = [];

@@ -67,6 +67,10 @@ module _ {S : Type 0} (g : Ghosts S) where
   pub keeps_closed : (stored : Stored S) (conn : Held S) (docket : Docket) → conn ≡ stored.conn → StandsAs g stored docket → Keeps (HoldsBetween g conn) docket
   keeps_closed stored conn docket same is = subst (λ (c : Held S). Keeps (HoldsBetween g c) docket) (sym same) (keeps_held stored docket is)
 
+  -- and what it held is held
+  pub held_closed : (now conn : Held S) (rows : Rows) → now ≡ conn → HoldsBetween g conn rows rows → HoldsBetween g now rows rows
+  held_closed now conn rows same = subst (λ (c : Held S). HoldsBetween g c rows rows) (sym same)
+
   module _ (conn : Held S) (rows : Rows) where
     pub kept_at : (fault : Fault) → PreservesAt g conn rows fault → HoldsBetween g conn rows rows
     kept_at (Refused r) holds = held g conn rows holds

@@ -7,7 +7,7 @@ use Rattle.docket_tables.specs.Layouts.{Rows}
 use Rattle.docket_store.specs.declared.fault.Fault.{Fault}
 use Rattle.docket_store.specs.declared.fault.Fault.TheVariants.{NoMemory, Refused, StoreFailed}
 use Rattle.command_lines.specs.Lines.{Docket, docket_with}
-use Rattle.file_jobs.specs.Keeping.{Keeps, rows_of}
+use Rattle.file_jobs.specs.Keeping.{Keeps, rows_told}
 
 -- a reply leaves the docket after the command; a refusal and want of memory the docket as it was; where the database failed one of them is left
 abbrev pub AppliesTo : (Rows → Rows → Type 0) → Docket → Command → Result Reply Fault → Type 0
@@ -16,5 +16,5 @@ AppliesTo Left docket c (Ok reply) =
     × Keeps Left (docket_with docket c)
 AppliesTo Left docket c (Err (Refused r)) = (outcome docket.court docket.history c ≡ refused r) × Keeps Left docket
 AppliesTo Left docket c (Err NoMemory) = Keeps Left docket
-AppliesTo Left docket c (Err StoreFailed) = Left (rows_of docket) (rows_of (docket_with docket c))
+AppliesTo Left docket c (Err StoreFailed) = Left (rows_told docket) (rows_told (docket_with docket c))
 AppliesTo Left docket c (Err _) = ⊥

@@ -17,9 +17,9 @@ pub record IsBetween (s : State) (rows next : Rows) : Type 0 where
 abbrev pub HoldsBetween : {S : Type 0} → Ghosts S → Held S → Rows → Rows → Type 0
 HoldsBetween g conn rows next = HasCleanDisk (state g conn) → IsBetween (state g conn) rows next
 
-abbrev pub rows_of : Docket → Rows
-rows_of docket = docket_rows docket.court docket.history
+abbrev pub rows_told : Docket → Rows
+rows_told docket = docket_rows docket.court docket.history
 
 -- whatever is left, `Left` says that it has the rows or the next ones: here it is this docket
 abbrev pub Keeps : (Rows → Rows → Type 0) → Docket → Type 0
-Keeps Left docket = IsDocket docket.court docket.history × Left (rows_of docket) (rows_of docket)
+Keeps Left docket = IsDocket docket.court docket.history × Left (rows_told docket) (rows_told docket)

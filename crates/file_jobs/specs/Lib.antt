@@ -1,5 +1,6 @@
 pub mod Checks
 pub mod Commands
 pub mod Keeping
+pub mod Migrates
 pub mod Runs
 pub mod Tells

@@ -6,16 +6,12 @@ use Rattle.docket_store.specs.declared.fault.Fault.TheVariants.{StoreFailed}
 use Rattle.line_io.specs.Ending.{BreaksOff}
 use Rattle.line_io.specs.Lines.{lines_of}
 use Rattle.line_io.specs.Output.{HasFront}
-use Rattle.line_io.specs.Report.{Judged, after_of, text_of, within}
+use Rattle.line_io.specs.Report.{after_of, text_of}
 use Rattle.line_io.specs.declared.ending.CountEnd.{CountEnd}
-use Rattle.command_lines.specs.Lines.{Docket, bad_answers, docket_after, judged, judged_long, run_text}
+use Rattle.command_lines.specs.Lines.{Docket, bad_answers, docket_after, line_judged, run_text}
 use Rattle.command_lines.specs.declared.fault.RunFault.{RunFault}
 use Rattle.command_lines.specs.declared.fault.RunFault.TheVariants as run
-use Rattle.file_jobs.specs.Keeping.{Keeps, rows_of}
-
--- a line of `run`, by the docket that the lines before it left
-abbrev pub line_judged : Docket → List ℕ → Judged Docket
-line_judged = within 1_048_576 judged judged_long
+use Rattle.file_jobs.specs.Keeping.{Keeps, rows_told}
 
 -- whatever is left, `Left` says that it has the rows or the next ones
 module _ (Left : Rows → Rows → Type 0) where
@@ -24,7 +20,7 @@ module _ (Left : Rows → Rows → Type 0) where
   LeftBetween run.ReadFailed before next = Keeps Left before
   LeftBetween run.WriteFailed before next = Keeps Left next
   LeftBetween run.NoMemory before next = Keeps Left before ⊎ Keeps Left next
-  LeftBetween (run.Store StoreFailed) before next = Left (rows_of before) (rows_of next)
+  LeftBetween (run.Store StoreFailed) before next = Left (rows_told before) (rows_told next)
   LeftBetween (run.Store _) before next = ⊥
 
   -- the answers to all lines went out, and the docket after them is left
@@ -57,4 +53,4 @@ module _ (Left : Rows → Rows → Type 0) where
     pub acknowledged : out ≡ text_of line_judged docket answered ++ begun
     pub lost : List ℕ
     pub no_further : text_of line_judged docket (answered ++ more) ≡ out ++ lost
-    pub left : Left (rows_of (after_of line_judged docket answered)) (rows_of (after_of line_judged docket (answered ++ more)))
+    pub left : Left (rows_told (after_of line_judged docket answered)) (rows_told (after_of line_judged docket (answered ++ more)))

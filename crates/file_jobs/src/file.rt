@@ -7,16 +7,20 @@ ghost use Rattle.std.specs.Prelude.{◌≡◌, [], IfErr, IfOk, IfSome, MatchRes
 ghost use Rattle.std.specs.Option.{option_map};
 ghost use Rattle.sqlite_wal.specs.Files.{image_at};
 ghost use Rattle.sqlite.specs.Files.{IsCleanLeft};
+ghost use Rattle.docket_columns.specs.declared.version.Version.TheVariants.{First};
 ghost use Rattle.docket_core.specs.Histories.{local_rule_rows};
-ghost use Rattle.docket_scan.specs.Dockets.{holdings_in};
+ghost use Rattle.docket_scan.specs.Dockets.{MayHold, holdings_in};
+ghost use Rattle.docket_tables.specs.Stands.{IsImage};
 ghost use Rattle.docket_text.specs.RuleTexts.{rules_text};
 ghost use Rattle.docket_store.specs.Applying.{IsDocket, docket_rows};
+ghost use Rattle.docket_store.specs.Left.{IsUnharmed, LeavesRows};
+ghost use Rattle.docket_store.specs.Migrating.{HoldFirst};
 ghost use Rattle.docket_store.specs.Reopening.{HoldDocket};
 ghost use Rattle.command_lines.specs.Lines.{Docket as Told};
 ghost use Rattle.file_jobs.specs.Checks.{IsSoundDocket};
 ghost use Rattle.file_jobs.specs.Commands.{AppliesTo};
-ghost use Rattle.file_jobs.specs.Keeping.{rows_of};
-ghost use Rattle.docket_store.specs.Left.{LeavesRows};
+ghost use Rattle.file_jobs.specs.Keeping.{rows_told};
+ghost use Rattle.file_jobs.specs.Migrates.{IsFirst, MigratesTo};
 ghost use Rattle.file_jobs.specs.Runs.{Answers, LeavesPrefix};
 ghost use Rattle.file_jobs.specs.Tells.{AnswersTo, ListsTo, WorksTo, text_of_case};
 
@@ -61,6 +65,8 @@ pub fn run_on_file<S: Start, V: Watch + Drop, R: Read, W: Write>(
     ensures prefix { (told : Told) → IsDocket told.court told.history → HoldDocket (image_at S.Start) told.court told.history
         → IfOk result (λ done. IsCleanLeft done.left → IfSome (R.remaining reader.old) (λ input.
         LeavesPrefix (LeavesRows done.left) told input (W.contents writer.old) (W.contents writer.new))) }
+    ensures unopened { (told : Told) → HoldDocket (image_at S.Start) told.court told.history
+        → IfErr result (IsUnharmed (image_at S.Start) (IsImage (rows_told told))) }
     // Where there is no docket nothing is read or written.
     ensures unread { MatchResult result (λ done. IfErr done.outcome (λ _. (reader.new ≡ reader.old) × (writer.new ≡ writer.old)))
         (λ _. (reader.new ≡ reader.old) × (writer.new ≡ writer.old)) }
@@ -81,7 +87,9 @@ pub fn case_on_file<S: Start, V: Watch + Drop>(
         → IfOk result (λ done. IsCleanLeft done.left
         → WorksTo (AnswersTo (λ text. option_map string_bytes text ≡ text_of_case told.court told.history number)) done.outcome) }
     ensures stays { (told : Told) → HoldDocket (image_at S.Start) told.court told.history
-        → IfOk result (λ done. IsCleanLeft done.left → LeavesRows done.left (rows_of told) (rows_of told)) }
+        → IfOk result (λ done. IsCleanLeft done.left → LeavesRows done.left (rows_told told) (rows_told told)) }
+    ensures unopened { (told : Told) → HoldDocket (image_at S.Start) told.court told.history
+        → IfErr result (IsUnharmed (image_at S.Start) (IsImage (rows_told told))) }
 {
     let conn = reopen_from(rt, path, start)?;
     Ok(leave(case_over(rt.alloc(), conn, watch, number)))
@@ -99,7 +107,9 @@ pub fn rules_on_file<S: Start, V: Watch + Drop>(
         → IfOk result (λ done. IsCleanLeft done.left
         → WorksTo (AnswersTo (λ text. string_bytes text ≡ rules_text (local_rule_rows told.history))) done.outcome) }
     ensures stays { (told : Told) → HoldDocket (image_at S.Start) told.court told.history
-        → IfOk result (λ done. IsCleanLeft done.left → LeavesRows done.left (rows_of told) (rows_of told)) }
+        → IfOk result (λ done. IsCleanLeft done.left → LeavesRows done.left (rows_told told) (rows_told told)) }
+    ensures unopened { (told : Told) → HoldDocket (image_at S.Start) told.court told.history
+        → IfErr result (IsUnharmed (image_at S.Start) (IsImage (rows_told told))) }
 {
     let conn = reopen_from(rt, path, start)?;
     Ok(leave(rules_over(rt.alloc(), conn, watch)))
@@ -120,7 +130,9 @@ pub fn calendar_on_file<S: Start, V: Watch + Drop, W: Write>(
         → IfOk result (λ done. IsCleanLeft done.left
         → WorksTo (ListsTo told.court told.history from to (W.contents writer.old) (W.contents writer.new)) done.outcome) }
     ensures stays { (told : Told) → HoldDocket (image_at S.Start) told.court told.history
-        → IfOk result (λ done. IsCleanLeft done.left → LeavesRows done.left (rows_of told) (rows_of told)) }
+        → IfOk result (λ done. IsCleanLeft done.left → LeavesRows done.left (rows_told told) (rows_told told)) }
+    ensures unopened { (told : Told) → HoldDocket (image_at S.Start) told.court told.history
+        → IfErr result (IsUnharmed (image_at S.Start) (IsImage (rows_told told))) }
     ensures unwritten { MatchResult result (λ done. IfErr done.outcome (λ _. writer.new ≡ writer.old)) (λ _. writer.new ≡ writer.old) }
 {
     let conn = reopen_from(rt, path, start)?;
@@ -138,7 +150,9 @@ pub fn check_on_file<S: Start, V: Watch + Drop>(
         → IfOk result (λ done. IsCleanLeft done.left
         → WorksTo (IsSoundDocket told.court (holdings_in told.court told.history)) done.outcome) }
     ensures stays { (told : Told) → HoldDocket (image_at S.Start) told.court told.history
-        → IfOk result (λ done. IsCleanLeft done.left → LeavesRows done.left (rows_of told) (rows_of told)) }
+        → IfOk result (λ done. IsCleanLeft done.left → LeavesRows done.left (rows_told told) (rows_told told)) }
+    ensures unopened { (told : Told) → HoldDocket (image_at S.Start) told.court told.history
+        → IfErr result (IsUnharmed (image_at S.Start) (IsImage (rows_told told))) }
 {
     let conn = reopen_from(rt, path, start)?;
     Ok(leave(check_over(rt.alloc(), conn, watch)))
@@ -156,7 +170,9 @@ pub fn apply_on_file<S: Start, V: Watch + Drop>(
         → IfOk result (λ done. IsCleanLeft done.left
         → WorksTo (AppliesTo (LeavesRows done.left) told command.now) done.outcome) }
     ensures stays { (told : Told) → IsDocket told.court told.history → HoldDocket (image_at S.Start) told.court told.history
-        → IfOk result (λ done. IsCleanLeft done.left → IfErr done.outcome (λ _. LeavesRows done.left (rows_of told) (rows_of told))) }
+        → IfOk result (λ done. IsCleanLeft done.left → IfErr done.outcome (λ _. LeavesRows done.left (rows_told told) (rows_told told))) }
+    ensures unopened { (told : Told) → HoldDocket (image_at S.Start) told.court told.history
+        → IfErr result (IsUnharmed (image_at S.Start) (IsImage (rows_told told))) }
 {
     let conn = reopen_from(rt, path, start)?;
     Ok(leave(apply_over(rt.alloc(), conn, watch, command)))
@@ -176,13 +192,19 @@ pub fn create_on_file<S: Start>(
     Ok(leave(create_over(rt.alloc(), conn, court)))
 }
 
-/// Takes the docket in the files at a path from the first version of the tables to the second.
+/// Takes the docket in the files at a path from the first version of the tables to the second. The first
+/// holds no command of the last three kinds.
 pub fn migrate_on_file<S: Start, V: Watch + Drop>(
     rt: &HostRuntime,
     path: &str,
     start: S,
     watch: V,
-) -> OnFile<S, (), MigrateFault> {
+) -> OnFile<S, (), MigrateFault>
+    ensures migrated { (told : Told) → IsDocket told.court told.history → MayHold First told.history → HoldFirst (image_at S.Start) told.court told.history
+        → IfOk result (λ done. IsCleanLeft done.left → MigratesTo done.left told done.outcome) }
+    ensures unopened { (told : Told) → HoldFirst (image_at S.Start) told.court told.history
+        → IfErr result (IsUnharmed (image_at S.Start) (IsFirst told)) }
+{
     let conn = reopen_from(rt, path, start)?;
     Ok(leave(migrate_over(rt.alloc(), conn, watch)))
 }

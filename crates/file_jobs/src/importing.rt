@@ -5,7 +5,7 @@ ghost use Rattle.sqlite.specs.State.{HasCleanDisk};
 ghost use Rattle.docket_store.specs.Applying.{IsDocket, StandsFor};
 ghost use Rattle.command_lines.specs.Lines.{Docket as Told};
 ghost use Rattle.file_jobs.specs.Commands.{AppliesTo};
-ghost use Rattle.file_jobs.specs.Keeping.{HoldsBetween, rows_of};
+ghost use Rattle.file_jobs.specs.Keeping.{HoldsBetween, rows_told};
 ghost use Rattle.file_jobs.specs.Tells.{WorksTo};
 
 use crate::adopting::adopt;
@@ -26,7 +26,7 @@ pub(crate) fn apply_over<S: Alter, V: Watch + Drop>(
         → HasCleanDisk (state S.Store result.connection)
         → WorksTo (AppliesTo (HoldsBetween S.Store result.connection) told command.now) result.outcome }
     ensures stays { (told : Told) → IsDocket told.court told.history → StandsFor S.Store conn told.court told.history
-        → IfErr result.outcome (λ _. HoldsBetween S.Store result.connection (rows_of told) (rows_of told)) }
+        → IfErr result.outcome (λ _. HoldsBetween S.Store result.connection (rows_told told) (rows_told told)) }
 {
     let (mut docket, _) = match adopt(alloc, conn, watch) {
         Ok(found) => found,

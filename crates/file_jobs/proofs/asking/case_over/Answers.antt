@@ -1,22 +1,21 @@
-use Rattle.std.proofs.Common.{◌≡◌, sym, subst, arith}
+use Rattle.std.proofs.Common.{◌≡◌, subst, arith}
 use Rattle.std.specs.Option.{option_map}
 use Rattle.std.specs.Prelude.{string_bytes}
 use Rattle.sqlite.specs.Held.{Held, state}
 use Rattle.sqlite.specs.State.{HasCleanDisk}
 use Rattle.court_days.specs.Court.{CourtSettings}
-use Rattle.file_jobs.specs.Keeping.{HoldsBetween}
 use Rattle.file_jobs.specs.Tells.{AnswersTo, text_of_case}
-use Rattle.file_jobs.proofs.TellLemmas.{asked, kept, kept_rejected}
+use Rattle.file_jobs.proofs.TellLemmas.{asked, held_closed, kept, kept_rejected}
 use Rattle.file_jobs.proofs.asking.case_over.Goals as goal
 
 pub returns-in-Err-clause-stays : goal.returns-in-Err-clause-stays
 returns-in-Err-clause-stays g c rows holds =
-    subst (λ (conn : Held g.row.S.Denot). HoldsBetween g.S.Store conn rows rows) (sym c.from.ensures.1)
+    held_closed g.S.Store _ _ rows c.from.ensures.1
     (kept_rejected g.S.Store c.in-Err.returned.connection rows c.in-Err.returned.fault (c.in-Err.ensures.stays rows holds))
 
 pub returns-clause-stays : goal.returns-clause-stays
 returns-clause-stays g c rows holds =
-    subst (λ (conn : Held g.row.S.Denot). HoldsBetween g.S.Store conn rows rows) (sym c.close.ensures.conn)
+    held_closed g.S.Store _ _ rows c.close.ensures.conn
     (kept g.S.Store c.text_of_case-answer.new.docket.conn rows c.text_of_case-answer.result (c.text_of_case-answer.ensures.stays rows (c.in-Ok.ensures.stays rows holds)))
 
 pub returns-clause-told : goal.returns-clause-told

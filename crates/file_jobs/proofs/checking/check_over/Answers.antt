@@ -1,15 +1,12 @@
-use Rattle.std.proofs.Common.{sym, subst}
-use Rattle.sqlite.specs.Held.{Held}
-use Rattle.file_jobs.specs.Keeping.{HoldsBetween}
 use Rattle.file_jobs.proofs.KeepLemmas.{held}
-use Rattle.file_jobs.proofs.TellLemmas.{kept_rejected}
+use Rattle.file_jobs.proofs.TellLemmas.{held_closed, kept_rejected}
 use Rattle.file_jobs.proofs.checking.check_over.Goals as goal
 
 pub returns-in-Err-clause-stays : goal.returns-in-Err-clause-stays
 returns-in-Err-clause-stays g c rows holds =
-    subst (λ (conn : Held g.row.S.Denot). HoldsBetween g.S.Store conn rows rows) (sym c.from.ensures.1)
+    held_closed g.S.Store _ _ rows c.from.ensures.1
     (kept_rejected g.S.Store c.in-Err.returned.connection rows c.in-Err.returned.fault (c.in-Err.ensures.stays rows holds))
 
 pub returns-clause-stays : goal.returns-clause-stays
 returns-clause-stays g c rows holds =
-    subst (λ (conn : Held g.row.S.Denot). HoldsBetween g.S.Store conn rows rows) (sym c.close.ensures.conn) (held g.S.Store c.in-Ok.found.0.conn rows (c.in-Ok.ensures.stays rows holds))
+    held_closed g.S.Store _ _ rows c.close.ensures.conn (held g.S.Store c.in-Ok.found.0.conn rows (c.in-Ok.ensures.stays rows holds))

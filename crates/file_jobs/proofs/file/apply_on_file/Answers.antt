@@ -1,11 +1,13 @@
 use Rattle.std.proofs.Common.{sym, subst}
 use Rattle.sqlite.specs.Files.{over_files}
 use Rattle.docket_tables.specs.Layouts.{Rows}
-use Rattle.file_jobs.specs.Keeping.{HoldsBetween, rows_of}
+use Rattle.file_jobs.specs.Keeping.{HoldsBetween, rows_told}
 use Rattle.docket_store.specs.Left.{LeavesRows}
 use Rattle.file_jobs.specs.Tells.{WorksTo}
 use Rattle.file_jobs.proofs.ApplyLemmas.{applies_map, err_map}
 use Rattle.file_jobs.proofs.TellLemmas.{works_map}
+use Rattle.docket_columns.specs.declared.version.Version.TheVariants.{Second}
+use Rattle.file_jobs.proofs.OpenLemmas.{err_told}
 use Rattle.file_jobs.proofs.file.apply_on_file.Goals as goal
 
 pub returns-clause-applies : goal.returns-clause-applies
@@ -16,5 +18,9 @@ returns-clause-applies g c told is files clean =
 
 pub returns-clause-stays : goal.returns-clause-stays
 returns-clause-stays g c told is files clean =
-    err_map _ _ (λ fault holds. c.leave.ensures.left (rows_of told) (rows_of told) holds clean) c.leave.result.outcome c.apply_over.result.outcome c.leave.ensures.outcome
+    err_map _ _ (λ fault holds. c.leave.ensures.left (rows_told told) (rows_told told) holds clean) c.leave.result.outcome c.apply_over.result.outcome c.leave.ensures.outcome
     (c.apply_over.ensures.stays told is (c.in_ok-conn.ensures.docket told.court told.history files))
+
+pub returns-in_err-conn-clause-unopened : goal.returns-in_err-conn-clause-unopened
+returns-in_err-conn-clause-unopened g c told held =
+    err_told _ c.from_residual.result c.in_err-conn.field-0.0 c.from_residual.ensures.1 (c.in_err-conn.ensures.unharmed Second (rows_told told) held)

@@ -7,6 +7,9 @@ use Rattle.file_jobs.specs.Tells.{WorksTo}
 use Rattle.file_jobs.proofs.ApplyLemmas.{err_map}
 use Rattle.file_jobs.proofs.RunLemmas.{answers_map, prefix_map}
 use Rattle.file_jobs.proofs.TellLemmas.{some_map, works_map}
+use Rattle.docket_columns.specs.declared.version.Version.TheVariants.{Second}
+use Rattle.file_jobs.specs.Keeping.{rows_told}
+use Rattle.file_jobs.proofs.OpenLemmas.{err_told}
 use Rattle.file_jobs.proofs.file.run_on_file.Goals as goal
 
 pub returns-clause-runs : goal.returns-clause-runs
@@ -24,3 +27,7 @@ returns-clause-prefix g c told is files clean =
 
 pub returns-clause-unread : goal.returns-clause-unread
 returns-clause-unread g c = err_map _ _ (λ fault same. same) c.leave.result.outcome c.run_over.result.outcome c.leave.ensures.outcome c.run_over.ensures.unread
+
+pub returns-in_err-conn-clause-unopened : goal.returns-in_err-conn-clause-unopened
+returns-in_err-conn-clause-unopened g c told held =
+    err_told _ c.from_residual.result c.in_err-conn.field-0.0 c.from_residual.ensures.1 (c.in_err-conn.ensures.unharmed Second (rows_told told) held)

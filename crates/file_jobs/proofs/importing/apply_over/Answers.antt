@@ -2,15 +2,15 @@ use Rattle.std.proofs.Common.{◌∙◌, sym, subst, arith}
 use Rattle.sqlite.specs.Held.{Held, state}
 use Rattle.sqlite.specs.State.{HasCleanDisk}
 use Rattle.file_jobs.specs.Commands.{AppliesTo}
-use Rattle.file_jobs.specs.Keeping.{HoldsBetween, rows_of}
+use Rattle.file_jobs.specs.Keeping.{HoldsBetween, rows_told}
 use Rattle.file_jobs.proofs.ApplyLemmas.{applied, any_err}
 use Rattle.file_jobs.proofs.TellLemmas.{unadopted_keeps}
 use Rattle.file_jobs.proofs.importing.apply_over.Goals as goal
 
 pub returns-in-Err-clause-stays : goal.returns-in-Err-clause-stays
 returns-in-Err-clause-stays g c told is stands =
-    any_err _ c.from.result.outcome (subst (λ (conn : Held g.row.S.Denot). HoldsBetween g.S.Store conn (rows_of told) (rows_of told)) (sym c.from.ensures.1)
-    (unadopted_keeps g.S.Store c.in-Err.returned.connection (rows_of told) c.in-Err.returned.fault (c.in-Err.ensures.adopted told.court told.history is stands)))
+    any_err _ c.from.result.outcome (subst (λ (conn : Held g.row.S.Denot). HoldsBetween g.S.Store conn (rows_told told) (rows_told told)) (sym c.from.ensures.1)
+    (unadopted_keeps g.S.Store c.in-Err.returned.connection (rows_told told) c.in-Err.returned.fault (c.in-Err.ensures.adopted told.court told.history is stands)))
 
 pub returns-clause-applies : goal.returns-clause-applies
 returns-clause-applies g c told is stands clean =

@@ -17,3 +17,6 @@ returns-clause-left g c rows next holds is db may =
     let clean = clean_of (view c.into_store.result).is_clean is in
     let was : HasCleanDisk (state over_files c.args.conn) = omega (arith, quiet.clean, clean) in
     (holds was).images db (quiet.outcomes db may)
+
+pub returns-clause-images : goal.returns-clause-images
+returns-clause-images g c db may = c.into_store.ensures.quiet.outcomes db may

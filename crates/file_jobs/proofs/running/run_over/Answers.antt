@@ -1,6 +1,6 @@
 use Rattle.std.proofs.Common.{refl}
 use Rattle.command_lines.specs.Ending.{StandsAs}
-use Rattle.file_jobs.specs.Keeping.{rows_of}
+use Rattle.file_jobs.specs.Keeping.{rows_told}
 use Rattle.file_jobs.proofs.RunLemmas.{prefix_done, prefix_unadopted}
 use Rattle.file_jobs.proofs.TellLemmas.{some_all, some_map, unadopted_keeps}
 use Rattle.file_jobs.proofs.running.run_over.Goals as goal
@@ -14,5 +14,5 @@ returns-in-Ok-clause-prefix g c told is stands clean =
 pub returns-in-Err-clause-prefix : goal.returns-in-Err-clause-prefix
 returns-in-Err-clause-prefix g c told is stands clean =
     let returned = c.in-Err.field-0 in
-    let keeps = unadopted_keeps g.S.Store returned.connection (rows_of told) returned.fault (c.in-Err.ensures.adopted told.court told.history is stands) in
+    let keeps = unadopted_keeps g.S.Store returned.connection (rows_told told) returned.fault (c.in-Err.ensures.adopted told.court told.history is stands) in
     some_all (g.R.Read.remaining c.args.reader.now) _ (λ input. prefix_unadopted g.S.Store returned.connection told input _ _ keeps refl)
