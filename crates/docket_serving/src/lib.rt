@@ -4,8 +4,13 @@
 //! for its answer. What goes wrong with one connection is told in a line, and the next is served.
 #![tactic(auto)]
 
-mod connection;
+mod connections;
+mod desk;
+mod listening;
 mod parting;
 mod serving;
 
+pub use connections::{Attendant, Connections};
+pub use desk::Desk;
+pub use listening::Listening;
 pub use serving::{ServingFault, serve_run};

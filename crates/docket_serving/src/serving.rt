@@ -2,17 +2,17 @@
 ghost use Rattle.std.specs.Prelude.{◌≡◌, ◌≤◌, true};
 ghost use Rattle.sqlite.specs.Held.{state};
 ghost use Rattle.sqlite.specs.View.{doubt};
+ghost use Rattle.docket_serving.specs.Exchanges.{tells_failure};
+ghost use Rattle.docket_serving.specs.Serving.{ServesRun};
 
-use crate::connection::serve;
-use crate::parting::part;
+use crate::connections::Connections;
+use crate::desk::Desk;
 use docket_http::{ServeFault, Served};
-use docket_store::Docket;
 use line_io::write_bytes;
 use sqlite::Alter;
 use std::alloc::Global;
 use std::fmt;
 use std::io::Write;
-use std::net::{TcpListener, TcpStream};
 
 /// Why no more connections are served.
 #[derive(Clone, Copy, Debug, PartialEq, Eq)]
@@ -41,28 +41,29 @@ fn tell<E: Write, F: fmt::Display>(alloc: Global, e: &mut E, fault: &F) {
 }
 
 /// Whether the docket failed in serving a request.
-fn is_failed(served: &Result<Served, ServeFault>) -> bool {
+fn is_failed(served: &Result<Served, ServeFault>) -> bool
+    ensures { result ≡ tells_failure served.now }
+{
     match served {
         Ok(served) => served.status == 503,
-        Err(fault) => *fault == ServeFault::StoreFailed,
+        Err(fault) => matches!(fault, ServeFault::StoreFailed),
     }
 }
 
-/// Serves a connection, and ends it.
-fn serve_and_part<S: Alter, E: Write>(
-    rt: &HostRuntime,
-    stream: &TcpStream,
-    docket: &mut Docket<S>,
+/// Serves the next connection, and ends it.
+fn serve_next<C: Connections, S: Alter, E: Write>(
+    alloc: Global,
+    connections: &mut C,
+    desk: &mut Desk<S>,
     e: &mut E,
 ) -> Result<(), ServingFault>
-    ensures court { docket.new.court ≡ docket.old.court }
-    ensures clean { doubt (state S.Store docket.old.conn).is_clean ≤ doubt (state S.Store docket.new.conn).is_clean }
-    ensures closed { docket.old.closed ≡ true → docket.new ≡ docket.old }
+    ensures next { ServesRun S.Store desk.old desk.new 1 (C.log connections.old) (C.log connections.new) result }
 {
-    let served = serve(rt, stream, docket);
-    part(rt, stream, &served);
+    let Ok((_peer, served)) = connections.next(desk) else {
+        return Err(ServingFault::AcceptFailed);
+    };
     if let Err(fault) = &served {
-        tell(rt.alloc(), e, fault);
+        tell(alloc, e, fault);
     }
     if is_failed(&served) {
         return Err(ServingFault::DocketFailed);
@@ -70,24 +71,23 @@ fn serve_and_part<S: Alter, E: Write>(
     Ok(())
 }
 
-/// Serves so many connections, one after the other. What goes wrong with a connection is told on `e`,
-/// and the next is served.
-pub fn serve_run<S: Alter, E: Write>(
-    rt: &HostRuntime,
-    listener: &TcpListener,
+/// Serves so many connections, one after the other, each by the docket that the one before it left.
+/// What goes wrong with a connection is told on `e`, and the next is served; a docket that failed is
+/// served no more.
+pub fn serve_run<C: Connections, S: Alter, E: Write>(
+    alloc: Global,
+    connections: &mut C,
     count: u32,
-    docket: &mut Docket<S>,
+    desk: &mut Desk<S>,
     e: &mut E,
 ) -> Result<(), ServingFault>
-    ensures court { docket.new.court ≡ docket.old.court }
-    ensures clean { doubt (state S.Store docket.old.conn).is_clean ≤ doubt (state S.Store docket.new.conn).is_clean }
-    ensures closed { docket.old.closed ≡ true → docket.new ≡ docket.old }
+    ensures court { desk.new.court ≡ desk.old.court }
+    ensures clean { doubt (state S.Store desk.old.conn).is_clean ≤ doubt (state S.Store desk.new.conn).is_clean }
+    ensures closed { desk.old.closed ≡ true → desk.new ≡ desk.old }
+    ensures served { ServesRun S.Store desk.old desk.new count (C.log connections.old) (C.log connections.new) result }
 {
     for _ in 0..count {
-        let Ok((stream, _)) = listener.accept() else {
-            return Err(ServingFault::AcceptFailed);
-        };
-        serve_and_part(rt, &stream, docket, e)?;
+        serve_next(alloc, connections, desk, e)?;
     }
     Ok(())
 }

@@ -3,4 +3,5 @@ pub mod Commands
 pub mod Keeping
 pub mod Migrates
 pub mod Runs
+pub mod Serves
 pub mod Tells

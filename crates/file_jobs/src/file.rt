@@ -22,6 +22,7 @@ ghost use Rattle.file_jobs.specs.Commands.{AppliesTo};
 ghost use Rattle.file_jobs.specs.Keeping.{rows_told};
 ghost use Rattle.file_jobs.specs.Migrates.{IsFirst, MigratesTo};
 ghost use Rattle.file_jobs.specs.Runs.{Answers, LeavesPrefix};
+ghost use Rattle.file_jobs.specs.Serves.{IfUnserved};
 ghost use Rattle.file_jobs.specs.Tells.{AnswersTo, ListsTo, WorksTo, text_of_case};
 
 use crate::asking::{calendar_over, case_over, rules_over};
@@ -221,6 +222,11 @@ pub fn serve_on_file<S: Start, V: Watch + Drop, W: Write, E: Write>(
     w: &mut W,
     e: &mut E,
 ) -> OnFile<S, Result<(), ServeEnd>>
+    // Where no connection was waited for the docket stays.
+    ensures stays { (told : Told) → HoldDocket (image_at S.Start) told.court told.history
+        → IfOk result (λ done. IsCleanLeft done.left → IfUnserved done.outcome (LeavesRows done.left (rows_told told) (rows_told told))) }
+    ensures unopened { (told : Told) → HoldDocket (image_at S.Start) told.court told.history
+        → IfErr result (IsUnharmed (image_at S.Start) (IsImage (rows_told told))) }
     ensures unserved { MatchResult result (λ done. IfErr done.outcome (λ _. (w.new ≡ w.old) × (e.new ≡ e.old))) (λ _. (w.new ≡ w.old) × (e.new ≡ e.old)) }
 {
     let conn = reopen_from(rt, path, start)?;

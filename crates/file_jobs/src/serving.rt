@@ -1,10 +1,20 @@
 //! The docket of a database, served by HTTP.
-ghost use Rattle.std.specs.Prelude.{◌≡◌, IfErr};
+ghost use Rattle.std.specs.Prelude.{◌≡◌, ◌≤◌, IfErr};
+ghost use Rattle.sqlite.specs.Held.{state};
+ghost use Rattle.sqlite.specs.State.{HasCleanDisk};
+ghost use Rattle.sqlite.specs.View.{doubt};
+ghost use Rattle.docket_tables.specs.Layouts.{Rows};
+ghost use Rattle.docket_tables.specs.Stands.{HoldsRows};
+ghost use Rattle.docket_store.specs.Applying.{IsDocket, StandsFor};
+ghost use Rattle.command_lines.specs.Lines.{Docket as Told};
+ghost use Rattle.file_jobs.specs.Keeping.{HoldsBetween};
+ghost use Rattle.file_jobs.specs.Serves.{IfUnserved, Serves, ServesPort};
+ghost use Rattle.file_jobs.specs.Tells.{WorksTo};
 
 use crate::adopting::adopt;
 use crate::ended::Worked;
-use docket_serving::{ServingFault, serve_run};
-use docket_store::{AdoptFault, Docket, Watch};
+use docket_serving::{Desk, Listening, ServingFault, serve_run};
+use docket_store::{AdoptFault, Watch};
 use sqlite::{Alter, Connection};
 use std::alloc::Global;
 use std::io;
@@ -35,10 +45,13 @@ fn listen<S: Alter, W: Write, E: Write>(
     rt: &HostRuntime,
     port: u16,
     count: u32,
-    docket: &mut Docket<S>,
+    desk: &mut Desk<S>,
     w: &mut W,
     e: &mut E,
-) -> Result<(), ServeEnd> {
+) -> Result<(), ServeEnd>
+    ensures served { ServesPort S.Store desk.old desk.new count result }
+    ensures clean { doubt (state S.Store desk.old.conn).is_clean ≤ doubt (state S.Store desk.new.conn).is_clean }
+{
     let listener = match TcpListener::bind(rt, ("127.0.0.1", port)) {
         Ok(listener) => listener,
         Err(error) => return Err(ServeEnd::NotListening(error.kind())),
@@ -46,7 +59,8 @@ fn listen<S: Alter, W: Write, E: Write>(
     if let Err(error) = announce(rt.alloc(), &listener, w) {
         return Err(ServeEnd::NotAnnounced(error.kind()));
     }
-    match serve_run(rt, &listener, count, docket, e) {
+    let mut connections = Listening::new(rt, &listener);
+    match serve_run(rt.alloc(), &mut connections, count, desk, e) {
         Ok(()) => Ok(()),
         Err(fault) => Err(ServeEnd::Stopped(fault)),
     }
@@ -63,15 +77,21 @@ pub(crate) fn serve_over<S: Alter, V: Watch + Drop, W: Write, E: Write>(
     w: &mut W,
     e: &mut E,
 ) -> Worked<S, Result<(), ServeEnd>, AdoptFault>
+    ensures served { (told : Told) → IsDocket told.court told.history → StandsFor S.Store conn told.court told.history
+        → HasCleanDisk (state S.Store result.connection)
+        → WorksTo (Serves S.Store result.connection told count) result.outcome }
+    ensures stays { (rows : Rows) → HoldsRows S.Store conn rows
+        → IfUnserved result.outcome (HoldsBetween S.Store result.connection rows rows) }
     ensures unserved { IfErr result.outcome (λ _. (w.new ≡ w.old) × (e.new ≡ e.old)) }
 {
-    let (mut docket, _) = match adopt(rt.alloc(), conn, watch) {
+    let (docket, _) = match adopt(rt.alloc(), conn, watch) {
         Ok(found) => found,
         Err(returned) => return Worked::from(returned),
     };
-    let end = listen(rt, port, count, &mut docket, w, e);
+    let mut desk = Desk::new(rt.alloc(), docket);
+    let end = listen(rt, port, count, &mut desk, w, e);
     Worked {
         outcome: Ok(end),
-        connection: docket.close(),
+        connection: desk.into_docket().close(),
     }
 }

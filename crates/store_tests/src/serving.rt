@@ -1,6 +1,6 @@
 //! A docket served over a socket of this machine, by one thread: the client's request waits in the socket.
 use crate::asking::court;
-use docket_serving::serve_run;
+use docket_serving::{Desk, Listening, serve_run};
 use docket_store::Docket;
 use failing_ends::Taker;
 use sqlite::{Connection, MemStore};
@@ -39,14 +39,15 @@ fn docket(alloc: Global) -> Option<Docket<MemStore>> {
 fn visited(
     rt: &HostRuntime,
     listener: &TcpListener,
-    docket: &mut Docket<MemStore>,
+    desk: &mut Desk<MemStore>,
     request: &[u8],
 ) -> Result<(Vec<u8>, Vec<u8>), Fail> {
     let mut client = TcpStream::connect(rt, listener.local_addr()?)?;
     client.write_all(request)?;
     client.shutdown(Shutdown::Write)?;
     let mut told = Taker::new(rt.alloc(), usize::MAX, u32::MAX, true);
-    if serve_run(rt, listener, 1, docket, &mut told).is_err() {
+    let mut connections = Listening::new(rt, listener);
+    if serve_run(rt.alloc(), &mut connections, 1, desk, &mut told).is_err() {
         return Err(Fail::new("serving ended"));
     }
     let mut answer = Vec::new(rt.alloc());
@@ -56,10 +57,11 @@ fn visited(
 
 #[test]
 fn clients_of_a_socket(rt: HostRuntime) -> Result<(), Fail> {
-    let mut docket = docket(rt.alloc()).ok_or("no docket")?;
+    let docket = docket(rt.alloc()).ok_or("no docket")?;
+    let mut desk = Desk::new(rt.alloc(), docket);
     let listener = TcpListener::bind(&rt, "127.0.0.1:0")?;
     for (request, wanted, fault) in VISITS {
-        let (answer, told) = visited(&rt, &listener, &mut docket, request)?;
+        let (answer, told) = visited(&rt, &listener, &mut desk, request)?;
         assert_eq!(rt; answer.as_slice(), wanted);
         assert_eq!(rt; told.as_slice(), fault);
     }

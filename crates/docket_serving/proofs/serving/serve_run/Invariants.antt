@@ -1,11 +1,9 @@
-use Rattle.std.proofs.Common.{◌≡◌, ◌≤◌, true}
-use Rattle.sqlite.specs.Held.{state}
-use Rattle.sqlite.specs.View.{doubt}
+use Rattle.std.proofs.Common.{Ok, ◌≤◌}
+use Rattle.docket_serving.specs.Serving.{ServesRun}
 use Rattle.docket_serving.proofs.serving.serve_run.Given as goal
 
 abbrev pub invariant-loop : goal.invariant-loop
 invariant-loop g l = record {
-  court : l.docket.court ≡ l.fn.docket.court;
-  clean : doubt (state g.S.Store l.fn.docket.conn).is_clean ≤ doubt (state g.S.Store l.docket.conn).is_clean;
-  closed : l.fn.docket.closed ≡ true → l.docket ≡ l.fn.docket;
+  within : l.counter ≤ l.fn.count;
+  served : ServesRun g.S.Store l.fn.desk l.desk l.counter (g.C.Connections.log l.fn.connections) (g.C.Connections.log l.connections) (Ok tt);
 }

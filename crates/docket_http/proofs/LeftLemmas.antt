@@ -1,0 +1,82 @@
+-- What an answer leaves of the docket of a history, whatever was told.
+use Rattle.std.proofs.Common.{◌≡◌, ◌==◌, ◌⊎◌, inl, inr, ℕ, true, false, List, Option, Some, None, Result, Ok, Err, refl, ap, ◌∙◌}
+use Rattle.sqlite.specs.Store.{Ghosts}
+use Rattle.court_days.specs.Court.{CourtSettings}
+use Rattle.docket_command.specs.declared.command.Command.{Command}
+use Rattle.docket_core.specs.Histories.{History}
+use Rattle.docket_core.specs.Outcomes.{Answer, accepted, outcome, refused, repeated}
+use Rattle.docket_core.specs.Records.{case_record, deadline_lines}
+use Rattle.docket_core.specs.declared.record.CaseRecord.{CaseRecord}
+use Rattle.docket_core.specs.declared.record.DeadlineLine.{DeadlineLine}
+use Rattle.docket_tables.specs.Stands.{LastsAsEither}
+use Rattle.docket_store.specs.Applying.{Stands, docket_rows}
+use Rattle.docket_store.specs.Dockets.{Docket}
+use Rattle.docket_wire.specs.Reading.{command_in}
+use Rattle.docket_wire.specs.declared.fault.WireFault.{WireFault}
+use Rattle.http_request.specs.declared.fields.Rejection.{Rejection}
+use Rattle.http_request.specs.declared.fields.Rejection.TheVariants as rejection
+use Rattle.http_request.specs.declared.wish.Wish.{Wish}
+use Rattle.http_request.specs.declared.wish.Wish.TheVariants.{Reject, Command as CommandWish, Case, Deadlines, Calendar, Holidays}
+use Rattle.docket_http.specs.Answer.{Response, rejection_status}
+use Rattle.docket_http.specs.Asking.{IsAnswered, LeftBy, case_response, command_response, deadlines_response, history_after, outcome_response, response_to, told}
+use Rattle.docket_http.specs.declared.problem.Problem.{Problem}
+use Rattle.docket_http.specs.declared.problem.Problem.TheVariants.{Rejected, NoSuchCase, NoMemory, Store, Closed, Damaged}
+
+-- no answer to what is asked says 503
+
+rejected_fine : (r : Rejection) → (rejection_status r == 503) ≡ false
+rejected_fine rejection.HeadTooLong = refl
+rejected_fine rejection.BadHead = refl
+rejected_fine rejection.NotFound = refl
+rejected_fine rejection.Method = refl
+rejected_fine rejection.BadPathValue = refl
+rejected_fine rejection.LengthRequired = refl
+rejected_fine rejection.TooLong = refl
+
+outcome_fine : (a : Answer) → ((outcome_response a).status == 503) ≡ false
+outcome_fine (accepted reply) = refl
+outcome_fine (repeated reply) = refl
+outcome_fine (refused r) = refl
+
+command_fine : (court : CourtSettings) (h : History) (r : Result Command WireFault) → ((command_response court h r).status == 503) ≡ false
+command_fine court h (Ok c) = outcome_fine (outcome court h c)
+command_fine court h (Err fault) = refl
+
+case_fine : (court : CourtSettings) (row : Option CaseRecord) (lines : Option (List DeadlineLine)) → ((case_response court row lines).status == 503) ≡ false
+case_fine court None lines = refl
+case_fine court (Some row) None = refl
+case_fine court (Some row) (Some lines) = refl
+
+deadlines_fine : (court : CourtSettings) (lines : Option (List DeadlineLine)) → ((deadlines_response court lines).status == 503) ≡ false
+deadlines_fine court None = refl
+deadlines_fine court (Some lines) = refl
+
+response_fine : (court : CourtSettings) (h : History) (wish : Wish) (body : List ℕ) → ((response_to court h wish body).status == 503) ≡ false
+response_fine court h (Reject r) body = rejected_fine r
+response_fine court h (CommandWish len) body = command_fine court h (command_in body)
+response_fine court h (Case number) body = case_fine court (case_record h number) (deadline_lines court h number)
+response_fine court h (Deadlines number) body = deadlines_fine court (deadline_lines court h number)
+response_fine court h (Calendar from to) body = refl
+response_fine court h (Holidays year) body = refl
+
+module _ {S : Type 0} (g : Ghosts S) (d : Docket S) (h : History) (wish : Wish) (body : List ℕ) (response : Response) where
+  says : {b : _} (other : Response) → response ≡ other → (other.status == 503) ≡ b → (response.status == 503) ≡ b
+  says other is fine = ap (λ (r : Response). r.status == 503) is ∙ fine
+
+  -- the docket stands for the history or for the next one; or it failed, and 503 was told
+  abbrev pub Left : Type 0
+  Left =
+      ((Stands g d h ⊎ Stands g d (history_after d.court h wish body)) × ((response.status == 503) ≡ false))
+      ⊎ (LastsAsEither g d.conn (docket_rows d.court h) (docket_rows d.court (history_after d.court h wish body)) × ((response.status == 503) ≡ true))
+
+  left_by : (problem : Option Problem) → response ≡ told problem (response_to d.court h wish body) → LeftBy g problem d h wish body → Left
+  left_by None is left = inl (inr left, says _ is (response_fine d.court h wish body))
+  left_by (Some NoMemory) is left = inl (left.1, says _ is refl)
+  left_by (Some Store) is left = inr (left.1, says _ is refl)
+  left_by (Some (Rejected r)) is left = absurd left
+  left_by (Some NoSuchCase) is left = absurd left
+  left_by (Some Closed) is left = absurd left
+  left_by (Some Damaged) is left = absurd left
+
+  pub left : IsAnswered g d h wish body response → Left
+  left answered = left_by answered.problem answered.is answered.left

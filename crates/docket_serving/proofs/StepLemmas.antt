@@ -1,0 +1,64 @@
+-- What one connection leaves of the docket of a history.
+use Rattle.std.proofs.Common.{◌≡◌, ◌==◌, ◌⊎◌, inl, inr, ℕ, true, false, List, Result, Ok, Err, refl, sym, ap, subst, ◌∙◌}
+use Rattle.sqlite.specs.Store.{Ghosts}
+use Rattle.docket_core.specs.Histories.{History}
+use Rattle.docket_tables.specs.Stands.{LastsAsEither}
+use Rattle.docket_store.specs.Applying.{Stands, docket_rows}
+use Rattle.docket_store.specs.Dockets.{Docket}
+use Rattle.http_request.specs.declared.wish.Wish.{Wish}
+use Rattle.docket_http.specs.Answer.{Response}
+use Rattle.docket_http.specs.Asking.{IsAnswered, history_after}
+use Rattle.docket_http.specs.Serve.{IsAsked}
+use Rattle.docket_http.specs.declared.fault.ServeFault.{ServeFault}
+use Rattle.docket_http.specs.declared.fault.ServeFault.TheVariants as serve
+use Rattle.docket_http.specs.declared.sending.Served.{Served}
+use Rattle.docket_http.proofs.LeftLemmas.{Left, left as split}
+use Rattle.docket_serving.specs.Exchanges.{Exchange, tells_failure}
+use Rattle.docket_serving.specs.Serving.{Answers, Fell, IsNext, Stays}
+
+module _ {S : Type 0} (g : Ghosts S) where
+  -- the docket of a history, or one that fell
+  abbrev pub Leaves : History → Exchange → Docket S → Type 0
+  Leaves h e left = ((next : History) × Stays g h e left next) ⊎ Fell g h e left
+
+  left_same : (old left : Docket S) (h : History) (e : Exchange) → left ≡ old → Stands g old h → tells_failure e.end ≡ false → Leaves h e left
+  left_same old left h e same stands told =
+      inl (h, record { is = inl refl; stands = subst (λ (d : Docket S). Stands g d h) (sym same) stands; told = told })
+
+  module _ (left : Docket S) (h : History) (e : Exchange) (wish : Wish) (body : List ℕ) (asked : IsAsked e.input wish body) where
+    after : IsNext left.court h e (history_after left.court h wish body)
+    after = inr (wish, body, asked, refl)
+
+    left_after : Stands g left (history_after left.court h wish body) → tells_failure e.end ≡ false → Leaves h e left
+    left_after stands told = inl (history_after left.court h wish body, record { is = after; stands = stands; told = told })
+
+    left_either : Stands g left h ⊎ Stands g left (history_after left.court h wish body) → tells_failure e.end ≡ false → Leaves h e left
+    left_either (inl stands) told = inl (h, record { is = inl refl; stands = stands; told = told })
+    left_either (inr stands) told = left_after stands told
+
+    fell : LastsAsEither g left.conn (docket_rows left.court h) (docket_rows left.court (history_after left.court h wish body))
+        → (tells_failure e.end ≡ true) ⊎ (e.end ≡ Err serve.WriteFailed) → Leaves h e left
+    fell lasts told = inr (record { next = history_after left.court h wish body; is = after; lasts = lasts; told = told })
+
+    left_as : (response : Response) → Left g left h wish body response → ((response.status == 503) ≡ false → tells_failure e.end ≡ false)
+        → ((response.status == 503) ≡ true → (tells_failure e.end ≡ true) ⊎ (e.end ≡ Err serve.WriteFailed)) → Leaves h e left
+    left_as response (inl stands) fine failed = left_either stands.0 (fine stands.1)
+    left_as response (inr lasts) fine failed = fell lasts.0 (failed lasts.1)
+
+    -- an answer, of which so much went out
+    left_told : (response : Response) → IsAnswered g left h wish body response → ((response.status == 503) ≡ false → tells_failure e.end ≡ false)
+        → ((response.status == 503) ≡ true → (tells_failure e.end ≡ true) ⊎ (e.end ≡ Err serve.WriteFailed)) → Leaves h e left
+    left_told response answered fine failed = left_as response (split g left h wish body response answered) fine failed
+
+  pub leaves : (old left : Docket S) (h : History) (e : Exchange) (end : Result Served ServeFault) → e.end ≡ end → Stands g old h → Answers g old left h e end → Leaves h e left
+  leaves old left h e (Ok served) ended stands (inl is) =
+      let now : tells_failure e.end ≡ (is.3.response.status == 503) = ap tells_failure ended ∙ ap (λ n. n == 503) is.3.status_told in
+      left_told left h e is.0 is.1 is.2 is.3.response is.3.answered (λ fine. now ∙ fine) (λ failed. inl (now ∙ failed))
+  leaves old left h e (Ok served) ended stands (inr is) = left_same old left h e is.same stands (ap tells_failure ended ∙ ap (λ n. n == 503) is.status_told)
+  leaves old left h e (Err serve.ReadFailed) ended stands is = left_same old left h e is.0 stands (ap tells_failure ended)
+  leaves old left h e (Err serve.EndedEarly) ended stands is = left_same old left h e is.0 stands (ap tells_failure ended)
+  leaves old left h e (Err serve.WriteFailed) ended stands (inl is) =
+      left_told left h e is.0 is.1 is.2 is.3.response is.3.answered (λ fine. ap tells_failure ended) (λ failed. inr ended)
+  leaves old left h e (Err serve.WriteFailed) ended stands (inr is) = left_same old left h e is.0 stands (ap tells_failure ended)
+  leaves old left h e (Err serve.NoMemory) ended stands is = left_either left h e is.0 is.1 is.2 is.3.0.1 (ap tells_failure ended)
+  leaves old left h e (Err serve.StoreFailed) ended stands is = fell left h e is.0 is.1 is.2 is.3.0.1 (inl (ap tells_failure ended))

@@ -1,0 +1,47 @@
+-- What came of connections, as their source tells it.
+use Rattle.std.specs.Prelude.{◌≡◌, ◌≤◌, ◌<◌, ◌==◌, ℕ, Bool, true, false, List, [], ◌∷◌, ◌++◌, length, Option, Some, None, Result, Ok, Err, ⊤}
+use Rattle.std.specs.List.{AllByRecursion}
+use Rattle.docket_http.specs.declared.fault.ServeFault.{ServeFault}
+use Rattle.docket_http.specs.declared.fault.ServeFault.TheVariants.{StoreFailed}
+use Rattle.docket_http.specs.declared.sending.Served.{Served}
+use Rattle.docket_serving.specs.declared.serving.ServingFault.{ServingFault}
+use Rattle.docket_serving.specs.declared.serving.ServingFault.TheVariants.{AcceptFailed, DocketFailed}
+
+-- one connection: what its reader held as it came, what its writer had before and after, each where it is known, and how it ended
+pub record Exchange : Type 0 where
+  pub input : Option (List ℕ)
+  pub before : Option (List ℕ)
+  pub after : Option (List ℕ)
+  pub end : Result Served ServeFault
+
+abbrev pub exchange : Option (List ℕ) → Option (List ℕ) → Option (List ℕ) → Result Served ServeFault → Exchange
+exchange input before after end = record { input = input; before = before; after = after; end = end }
+
+-- known exchanges grow by these
+abbrev pub Logs : Option (List Exchange) → Option (List Exchange) → List Exchange → Type 0
+Logs None new more = ⊤
+Logs (Some old) None more = ⊥
+Logs (Some old) (Some new) more = new ≡ old ++ more
+
+-- whether an end tells that the docket failed
+abbrev pub tells_failure : Result Served ServeFault → Bool
+tells_failure (Ok served) = served.status == 503
+tells_failure (Err StoreFailed) = true
+tells_failure (Err _) = false
+
+abbrev pub NoneFailed : List Exchange → Type 0
+NoneFailed = AllByRecursion (λ e. tells_failure e.end ≡ false)
+
+-- the last one tells that the docket failed, and none before it
+pub record FailsAtLast (all : List Exchange) : Type 0 where
+  pub first : List Exchange
+  pub last : Exchange
+  pub is : all ≡ first ++ (last ∷ [])
+  pub none_before : NoneFailed first
+  pub failed : tells_failure last.end ≡ true
+
+-- of so many connections all were taken; or fewer, where one could not be taken; or those up to the first that tells that the docket failed
+abbrev pub Ends : ℕ → List Exchange → Result (Unit {0}) ServingFault → Type 0
+Ends count all (Ok _) = (length all ≡ count) × NoneFailed all
+Ends count all (Err AcceptFailed) = (length all < count) × NoneFailed all
+Ends count all (Err DocketFailed) = (length all ≤ count) × FailsAtLast all

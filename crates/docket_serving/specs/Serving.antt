@@ -1,0 +1,83 @@
+-- What a docket is brought to by connections that are served one after the other.
+use Rattle.std.specs.Prelude.{◌≡◌, ◌⊎◌, ◌≤◌, ℕ, true, false, List, [], ◌∷◌, Option, Result, Ok, Err, IfErr}
+use Rattle.std.specs.Io.KnownBytes.{Keeps}
+use Rattle.std.specs.List.{AllByRecursion}
+use Rattle.sqlite.specs.Store.{Ghosts}
+use Rattle.sqlite.specs.Held.{state}
+use Rattle.sqlite.specs.State.{HasCleanDisk}
+use Rattle.sqlite.specs.View.{doubt}
+use Rattle.court_days.specs.Court.{CourtSettings}
+use Rattle.docket_core.specs.Histories.{History}
+use Rattle.docket_tables.specs.Stands.{LastsAsEither}
+use Rattle.docket_store.specs.AnyRows.{HoldsDocketRows, WritesAtMostOne}
+use Rattle.docket_store.specs.Applying.{Stands, docket_rows}
+use Rattle.docket_store.specs.Dockets.{Docket}
+use Rattle.http_request.specs.declared.wish.Wish.{Wish}
+use Rattle.docket_http.specs.Asking.{history_after}
+use Rattle.docket_http.specs.Recorded.{ServesBacked}
+use Rattle.docket_http.specs.Serve.{Fails, IsAsked, Serves, ServesClosed}
+use Rattle.docket_http.specs.declared.fault.ServeFault.{ServeFault}
+use Rattle.docket_http.specs.declared.fault.ServeFault.TheVariants.{EndedEarly, ReadFailed, WriteFailed}
+use Rattle.docket_http.specs.declared.sending.Served.{Served}
+use Rattle.docket_serving.specs.Exchanges.{Ends, Exchange, Logs, tells_failure}
+use Rattle.docket_serving.specs.declared.serving.ServingFault.{ServingFault}
+
+-- the history is that before a connection, or that after the command which it gave
+abbrev pub IsNext : CourtSettings → History → Exchange → History → Type 0
+IsNext court h e next = (next ≡ h) ⊎ ((wish : Wish) × (body : List ℕ) × IsAsked e.input wish body × (next ≡ history_after court h wish body))
+
+-- a closed docket's answer went out, or a front of it
+abbrev pub IsToldClosed : Exchange → Type 0
+IsToldClosed e = ServesClosed e.input e.before e.after e.end
+
+module _ {S : Type 0} (g : Ghosts S) where
+  -- what a connection is served where the docket stood for a history
+  abbrev pub Answers : Docket S → Docket S → History → Exchange → Result Served ServeFault → Type 0
+  Answers old new h e (Ok served) = Serves g e.input old new h e.before e.after served.status
+  Answers old new h e (Err fault) = Fails g e.input old new h e.before e.after fault
+
+  -- all that is promised of one connection, whatever the docket
+  pub record IsAttended (old : Docket S) (e : Exchange) (new : Docket S) : Type 0 where
+    pub court : new.court ≡ old.court
+    pub clean : doubt (state g old.conn).is_clean ≤ doubt (state g new.conn).is_clean
+    pub any : WritesAtMostOne g old new
+    pub closed : old.closed ≡ true → (new ≡ old) × IsToldClosed e
+    pub answers : (h : History) → Stands g old h → HasCleanDisk (state g new.conn) → Answers old new h e e.end
+    pub recorded : HoldsDocketRows g old → ServesBacked g e.input new e.before e.after e.end
+    pub untouched : IfErr e.end (λ fault. (fault ≡ ReadFailed) ⊎ (fault ≡ EndedEarly) → (new ≡ old) × Keeps e.before e.after)
+
+  -- the connections were served one after the other, each by the docket that the one before it left
+  abbrev pub ServesEach : Docket S → List Exchange → Docket S → Type 0
+  ServesEach old [] new = new ≡ old
+  ServesEach old (e ∷ rest) new = (left : Docket S) × IsAttended old e left × ServesEach left rest new
+
+  -- the docket stands for the next history, and the connection was not told that it failed
+  pub record Stays (h : History) (e : Exchange) (left : Docket S) (next : History) : Type 0 where
+    pub is : IsNext left.court h e next
+    pub stands : Stands g left next
+    pub told : tells_failure e.end ≡ false
+
+  -- the database failed: a power failure leaves the docket of the history or of the next. The connection was told so, but where its answer
+  -- could not be written whole
+  pub record Fell (h : History) (e : Exchange) (left : Docket S) : Type 0 where
+    pub next : History
+    pub is : IsNext left.court h e next
+    pub lasts : LastsAsEither g left.conn (docket_rows left.court h) (docket_rows left.court next)
+    pub told : (tells_failure e.end ≡ true) ⊎ (e.end ≡ Err WriteFailed)
+
+  -- from a docket that stands for a history: each connection is served by the docket of the history that those before it led to, up to the
+  -- last, or to one at which the database failed
+  abbrev pub Leads : Docket S → History → List Exchange → Docket S → Type 0
+  Leads old h [] new = (new ≡ old) × Stands g new h
+  Leads old h (e ∷ rest) new =
+      (left : Docket S) × Answers old left h e e.end
+      × (((next : History) × Stays h e left next × Leads left next rest new) ⊎ (Fell h e left × ServesEach left rest new))
+
+  -- so many connections were taken, as the source's log tells them, and served
+  pub record ServesRun (old new : Docket S) (count : ℕ) (before after : Option (List Exchange)) (result : Result (Unit {0}) ServingFault) : Type 0 where
+    pub exchanges : List Exchange
+    pub logged : Logs before after exchanges
+    pub ends : Ends count exchanges result
+    pub each : ServesEach old exchanges new
+    pub closed : old.closed ≡ true → (new ≡ old) × AllByRecursion IsToldClosed exchanges
+    pub leads : (h : History) → Stands g old h → HasCleanDisk (state g new.conn) → Leads old h exchanges new

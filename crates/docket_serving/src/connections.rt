@@ -1,0 +1,40 @@
+//! Where connections come from, and who attends to them.
+ghost use Rattle.std.specs.Prelude.{◌≡◌, ◌∷◌, [], List, Option, None, IfOk, OnErr};
+ghost use Rattle.docket_serving.specs.Exchanges.{Exchange, Logs, exchange};
+
+use docket_http::{ServeFault, Served};
+use std::io;
+use std::io::{Read, Write};
+
+/// Attends to connections.
+pub trait Attendant {
+    // What one connection does to the attendant.
+    ghost Attends: { Self → Exchange → Self → Type 0 };
+
+    /// Attends to one connection: reads its request, and writes the answer.
+    fn attend<R: Read, W: Write>(
+        &mut self,
+        reader: &mut R,
+        writer: &mut W,
+    ) -> Result<Served, ServeFault>
+        ensures { Attends self.old (exchange (R.remaining reader.old) (W.contents writer.old) (W.contents writer.new) result) self.new };
+}
+
+/// A source of connections. It has the attendant attend to each one that it takes: nothing else can
+/// bring an attendant to what `Attends` says.
+pub trait Connections {
+    /// What is left of a connection. It is closed where this is dropped.
+    type Peer: Drop;
+
+    // The exchanges of the connections that were taken, one after the other, where they are known.
+    ghost log: { Self → Option (List Exchange) } = { λ _. None };
+
+    /// Takes the next connection, has it attended to once, and tells how it ended.
+    fn next<A: Attendant>(
+        &mut self,
+        attendant: &mut A,
+    ) -> io::Result<(Self::Peer, Result<Served, ServeFault>)>
+        ensures attended { IfOk result (λ met. (e : Exchange) × (e.end ≡ met.1)
+            × Logs (log self.old) (log self.new) (e ∷ []) × A.Attends attendant.old e attendant.new) }
+        ensures missed { OnErr result (Logs (log self.old) (log self.new) [] × (attendant.new ≡ attendant.old)) };
+}

@@ -1,0 +1,33 @@
+-- What a docket is brought to by the connections that come to a port.
+use Rattle.std.specs.Prelude.{◌≡◌, ℕ, None, Result, Ok, Err}
+use Rattle.sqlite.specs.Held.{Held}
+use Rattle.sqlite.specs.Store.{Ghosts}
+use Rattle.docket_scan.specs.declared.fault.AdoptFault.{AdoptFault}
+use Rattle.docket_store.specs.Dockets.{Docket as Stored}
+use Rattle.docket_serving.specs.Serving.{ServesRun}
+use Rattle.command_lines.specs.Ending.{StandsAs}
+use Rattle.command_lines.specs.Lines.{Docket}
+use Rattle.file_jobs.specs.declared.serving.ServeEnd.{ServeEnd}
+use Rattle.file_jobs.specs.declared.serving.ServeEnd.TheVariants.{Stopped}
+
+-- what is so where no connection was waited for: the docket was not adopted, or nobody could listen or tell where
+abbrev pub IfUnserved : Result (Result (Unit {0}) ServeEnd) AdoptFault → Type 0 → Type 0
+IfUnserved (Ok (Ok done)) P = Unit {0}
+IfUnserved (Ok (Err (Stopped fault))) P = Unit {0}
+IfUnserved (Ok (Err _)) P = P
+IfUnserved (Err fault) P = P
+
+module _ {S : Type 0} (g : Ghosts S) where
+  -- a docket was served to so many connections, whose bytes are not known; where none was waited for it is as it was
+  abbrev pub ServesPort : Stored S → Stored S → ℕ → Result (Unit {0}) ServeEnd → Type 0
+  ServesPort old new count (Ok done) = ServesRun g old new count None None (Ok done)
+  ServesPort old new count (Err (Stopped fault)) = ServesRun g old new count None None (Err fault)
+  ServesPort old new count (Err _) = new ≡ old
+
+  -- the docket of a history was adopted and served, and the connection is the one that it was left with
+  pub record Serves (conn : Held S) (told : Docket) (count : ℕ) (end : Result (Unit {0}) ServeEnd) : Type 0 where
+    pub adopted : Stored S
+    pub last : Stored S
+    pub stands : StandsAs g adopted told
+    pub served : ServesPort adopted last count end
+    pub left : conn ≡ last.conn
