@@ -1,5 +1,4 @@
 //! Judging the docket of a database, and telling what it holds.
-ghost use Rattle.std.specs.Prelude.{◌≡◌, Ok};
 ghost use Rattle.sqlite.specs.Held.{state};
 ghost use Rattle.sqlite.specs.State.{HasCleanDisk};
 ghost use Rattle.docket_scan.specs.Dockets.{holdings_in};
@@ -14,16 +13,16 @@ ghost use Rattle.file_jobs.specs.Tells.{WorksTo};
 use crate::adopting::adopt;
 use crate::ended::Worked;
 use court_days::Court;
+use docket_command::TimeOfDay;
 use docket_store::{AdoptFault, Holdings, Watch};
 use sqlite::{Alter, Connection};
 use std::alloc::{AllocError, Global};
 
-/// A sound docket: the text of its court's zone, the minute at which the clerk's office closes, and what
-/// its tables hold.
+/// A sound docket: the text of its court's zone, when the clerk's office closes, and what its tables hold.
 #[derive(Debug, Drop)]
 pub struct Sound {
     pub zone: String,
-    pub close: u32,
+    pub close: TimeOfDay,
     pub held: Holdings,
 }
 
@@ -32,7 +31,7 @@ fn sound_docket(alloc: Global, court: &Court, held: Holdings) -> Result<Sound, A
 {
     Ok(Sound {
         zone: String::from_str(alloc, court.zone_text())?,
-        close: court.close_minute(),
+        close: TimeOfDay::new(court.close_minute()).unwrap(),
         held,
     })
 }

@@ -1,8 +1,11 @@
--- What goes out of a text.
-use Rattle.std.proofs.Common.{◌≡◌, ℕ, List, length, take, Option, Result, Ok, Err, OnOk, OnErr, sym, subst, arith}
-use Rattle.std.proofs.lemmas.List.{take_all}
+-- How a job on files ended, and what goes out of a text.
+use Rattle.std.proofs.Common.{◌≡◌, ℕ, List, [], length, Option, Some, None, Result, Ok, Err, IfErr, IfOk, IfSome, IsErr, IsOkAnd, MatchOption, MatchResult, OnOk, OnErr, sym, subst, subst₂, arith}
+use Rattle.std.proofs.lemmas.Bool.{false≢true}
+use Rattle.std.proofs.lemmas.List.{append-nil, take_all}
 use Rattle.std.specs.Io.KnownBytes.{Appends}
+use Rattle.docket_scan.specs.declared.fault.AdoptFault.{AdoptFault}
 use Rattle.line_io.specs.Output.{AppendsFront}
+use Rattle.file_jobs.specs.Tells.{WorksTo}
 
 -- all of it is a front of it
 whole_front : (before after : Option (List ℕ)) (bytes : List ℕ) → Appends before after bytes → AppendsFront before after bytes
@@ -16,3 +19,81 @@ pub written : {T E : Type 0} (r : Result T E) (before after : Option (List ℕ))
     → OnOk r (Appends before after bytes) → OnErr r (AppendsFront before after bytes) → AppendsFront before after bytes
 written (Ok x) before after bytes whole front = whole_front before after bytes whole
 written (Err e) before after bytes whole front = front
+
+pub err_holds : {T E : Type 0} (r : Result T E) (K : Type 0) → IfErr r (λ _. K) → IsErr r → K
+err_holds (Ok x) K all is = absurd (false≢true is)
+err_holds (Err e) K all is = all
+
+-- what is so of an outcome that is a fault
+pub of_fault : {T E : Type 0} (r : Result T E) (Q : Result T E → Type 0) → Q r → IsErr r → (fault : E) × Q (Err fault)
+of_fault (Ok x) Q holds is = absurd (false≢true is)
+of_fault (Err e) Q holds is = (e, holds)
+
+-- Of a job on files that were opened, `outcome` is what it came to, and `left_of` what is left of them. What is so of any outcome is so of the
+-- one that was found.
+pub gives : {X Y L R : Type 0} (ended : Result X Y) (left_of : X → L) (Clean : L → Type 0) (outcome : X → R) (Q : L → R → Type 0) (found : R) (left : L)
+    → IfOk ended (λ it. Clean (left_of it) → Q (left_of it) (outcome it)) → IsOkAnd ended (λ it. (outcome it ≡ found) × (left_of it ≡ left)) → Clean left → Q left found
+gives (Ok it) left_of Clean outcome Q found left all is clean = subst₂ Q is.1 is.0 (all (subst Clean (sym is.1) clean))
+gives (Err y) left_of Clean outcome Q found left all is clean = absurd is
+
+-- and what is so of anything that is left is so of what was left then
+pub keeps : {X Y L : Type 0} (ended : Result X Y) (left_of : X → L) (Clean : L → Type 0) (A : X → Type 0) (K : L → Type 0) (left : L)
+    → IfOk ended (λ it. Clean (left_of it) → K (left_of it)) → IsOkAnd ended (λ it. A it × (left_of it ≡ left)) → Clean left → K left
+keeps (Ok it) left_of Clean A K left all is clean = subst K is.1 (all (subst Clean (sym is.1) clean))
+keeps (Err y) left_of Clean A K left all is clean = absurd is
+
+-- the work was not begun, or the files were not opened
+pub undone : {X Y L : Type 0} (ended : Result X Y) (left_of : X → L) (Clean : L → Type 0) (A : X → Type 0) (K : L → Type 0) (N : Type 0) (left : Option L)
+    → IfOk ended (λ it. Clean (left_of it) → A it → K (left_of it)) → MatchResult ended (λ it. (left ≡ Some (left_of it)) × A it) (λ _. left ≡ None) → N
+    → MatchOption left N (λ rest. Clean rest → K rest)
+undone (Ok it) left_of Clean A K N left all is none = subst (λ o. MatchOption o N (λ rest. Clean rest → K rest)) (sym is.0) (λ clean. all clean is.1)
+undone (Err y) left_of Clean A K N left all is none = subst (λ o. MatchOption o N (λ rest. Clean rest → K rest)) (sym is) none
+
+-- a question to a docket was answered, and the docket is left as it was
+pub answered : {X Y L T : Type 0} (ended : Result X Y) (left_of : X → L) (Clean : L → Type 0) (outcome : X → Result T AdoptFault) (P : T → Type 0) (found : T) (left : L)
+    (K : L → Type 0) (Told : Type 0) → IfOk ended (λ it. Clean (left_of it) → WorksTo P (outcome it)) → IfOk ended (λ it. Clean (left_of it) → K (left_of it))
+    → IsOkAnd ended (λ it. (outcome it ≡ Ok found) × (left_of it ≡ left)) → (P found → Told) → Clean left → Told × K left
+answered ended left_of Clean outcome P found left K Told works kept is tells clean =
+    (tells (gives ended left_of Clean outcome (λ _. WorksTo P) (Ok found) left works is clean), keeps ended left_of Clean (λ it. outcome it ≡ Ok found) K left kept is clean)
+
+-- and where it was not asked
+pub unasked : {X Y L T : Type 0} (ended : Result X Y) (left_of : X → L) (Clean : L → Type 0) (outcome : X → Result T AdoptFault) (K : L → Type 0) (N Told : Type 0) (left : Option L)
+    → IfOk ended (λ it. Clean (left_of it) → K (left_of it)) → MatchResult ended (λ it. (left ≡ Some (left_of it)) × IsErr (outcome it)) (λ _. left ≡ None) → N → Told
+    → MatchOption left N (λ rest. Clean rest → Told × K rest)
+unasked (Ok it) left_of Clean outcome K N Told left kept is none told = subst (λ o. MatchOption o N (λ rest. Clean rest → Told × K rest)) (sym is.0) (λ clean. (told, kept clean))
+unasked (Err y) left_of Clean outcome K N Told left kept is none told = subst (λ o. MatchOption o N (λ rest. Clean rest → Told × K rest)) (sym is) none
+
+-- and where it was not asked, so that nothing was written
+pub unwritten : {X Y L T : Type 0} (ended : Result X Y) (left_of : X → L) (Clean : L → Type 0) (outcome : X → Result T AdoptFault) (K : L → Type 0) (N W Told : Type 0) (left : Option L)
+    → IfOk ended (λ it. Clean (left_of it) → K (left_of it)) → MatchResult ended (λ it. IfErr (outcome it) (λ _. W)) (λ _. W) → (W → Told)
+    → MatchResult ended (λ it. (left ≡ Some (left_of it)) × IsErr (outcome it)) (λ _. left ≡ None) → N → MatchOption left N (λ rest. Clean rest → Told × K rest)
+unwritten (Ok it) left_of Clean outcome K N W Told left kept same tells is none =
+    subst (λ o. MatchOption o N (λ rest. Clean rest → Told × K rest)) (sym is.0) (λ clean. (tells (err_holds (outcome it) W same is.1), kept clean))
+unwritten (Err y) left_of Clean outcome K N W Told left kept same tells is none = subst (λ o. MatchOption o N (λ rest. Clean rest → Told × K rest)) (sym is) none
+
+-- a work that was done leaves this
+pub made_left : {X Y L T E : Type 0} (ended : Result X Y) (left_of : X → L) (Clean : L → Type 0) (outcome : X → Result T E) (K : L → Type 0) (found : T) (left : L)
+    → IfOk ended (λ it. Clean (left_of it) → OnOk (outcome it) (K (left_of it))) → IsOkAnd ended (λ it. (outcome it ≡ Ok found) × (left_of it ≡ left)) → Clean left → K left
+made_left (Ok it) left_of Clean outcome K found left all is clean = subst K is.1 (subst (λ o. OnOk o (K (left_of it))) is.0 (all (subst Clean (sym is.1) clean)))
+made_left (Err y) left_of Clean outcome K found left all is clean = absurd is
+
+-- something is left
+pub some_left : {L : Type 0} (o : Option L) (left : L) (N : Type 0) (Q : L → Type 0) → o ≡ Some left → Q left → MatchOption o N Q
+some_left o left N Q is holds = subst (λ o. MatchOption o N Q) (sym is) holds
+
+pub no_left : {L : Type 0} (o : Option L) (N : Type 0) (Q : L → Type 0) → o ≡ None → N → MatchOption o N Q
+no_left o N Q is holds = subst (λ o. MatchOption o N Q) (sym is) holds
+
+-- nothing more went out
+pub nothing_more : (known : Option (List ℕ)) → Appends known known []
+nothing_more None = tt
+nothing_more (Some xs) = sym (append-nil xs)
+
+-- of bytes that are known
+pub where_known : {A : Type 0} (known : Option A) (P Q : A → Type 0) → ((x : A) → P x → Q x) → IfSome known P → IfSome known Q
+where_known None P Q more holds = tt
+where_known (Some x) P Q more holds = more x holds
+
+pub whatever_known : {A : Type 0} (known : Option A) (Q : A → Type 0) → ((x : A) → Q x) → IfSome known Q
+whatever_known None Q all = tt
+whatever_known (Some x) Q all = all x

@@ -1,1 +1,3 @@
 mod EndLemmas
+mod ImportLemmas
+mod RunLemmas

@@ -1,10 +1,12 @@
 //! The calendar of the docket in a file.
 ghost use Rattle.std.specs.Prelude.{[], ℕ, List, Option};
+ghost use Rattle.sqlite_wal.specs.Files.{image_at};
 ghost use Rattle.court_days.specs.Court.{CourtSettings};
 ghost use Rattle.docket_calendar.specs.Calendar.{text_of_calendar};
 ghost use Rattle.docket_core.specs.Histories.{History};
 ghost use Rattle.file_jobs.specs.Tells.{ListsTo};
 ghost use Rattle.job_runs.specs.Ends.{HasTold};
+ghost use Rattle.job_runs.specs.Jobs.{OfDocket, TellsOf};
 
 use crate::end::JobEnd;
 use crate::opening::{done_on_docket, ready};
@@ -40,7 +42,9 @@ pub(crate) fn tell_calendar<S: Start, P: Write + Drop, W: Write, E: Write>(
     to: Day,
     w: &mut W,
     e: &mut E,
-) -> JobEnd<FileFrom<S>> {
+) -> JobEnd<FileFrom<S>>
+    ensures told { OfDocket (image_at S.Start) (λ docket. TellsOf docket (HasTold (text_of_calendar docket.court docket.history from to) (W.contents w.old) (W.contents w.new)) result) }
+{
     let rows = match ready(rt, path, screen, e) {
         Ok(rows) => rows,
         Err(status) => return JobEnd::of(status),

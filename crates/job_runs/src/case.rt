@@ -2,8 +2,10 @@
 ghost use Rattle.std.specs.Prelude.{◌≡◌, ℕ, List, Option, None, string_bytes};
 ghost use Rattle.std.specs.Option.{option_map};
 ghost use Rattle.std.specs.Cow.{cow_str_bytes};
-ghost use Rattle.file_jobs.specs.Tells.{AnswersTo};
+ghost use Rattle.sqlite_wal.specs.Files.{image_at};
+ghost use Rattle.file_jobs.specs.Tells.{AnswersTo, text_of_case};
 ghost use Rattle.job_runs.specs.Ends.{TellsIfAny};
+ghost use Rattle.job_runs.specs.Jobs.{OfDocket, TellsOf};
 
 use crate::end::JobEnd;
 use crate::opening::{done_on_docket, ready};
@@ -45,7 +47,9 @@ pub(crate) fn tell_case<S: Start, P: Write + Drop, E: Write>(
     path: &str,
     number: u32,
     e: &mut E,
-) -> JobEnd<FileFrom<S>> {
+) -> JobEnd<FileFrom<S>>
+    ensures told { OfDocket (image_at S.Start) (λ docket. TellsOf docket (TellsIfAny (text_of_case docket.court docket.history number)) result) }
+{
     let rows = match ready(rt, path, screen, e) {
         Ok(rows) => rows,
         Err(status) => return JobEnd::of(status),

@@ -1,4 +1,14 @@
 //! Whether the docket in a file is sound, and what it holds.
+ghost use Rattle.std.specs.Prelude.{◌≡◌, IfOk, None, Ok, string_bytes};
+ghost use Rattle.std.specs.Cow.{cow_str_bytes};
+ghost use Rattle.sqlite_wal.specs.Files.{image_at};
+ghost use Rattle.court_days.specs.Court.{CourtSettings};
+ghost use Rattle.docket_scan.specs.Dockets.{holdings_in};
+ghost use Rattle.docket_scan.specs.declared.holdings.Holdings.{Holdings as Held};
+ghost use Rattle.file_jobs.specs.Checks.{IsSoundDocket};
+ghost use Rattle.job_runs.specs.Checks.{check_text};
+ghost use Rattle.job_runs.specs.Ends.{TellsText};
+ghost use Rattle.job_runs.specs.Jobs.{OfDocket, TellsOf};
 
 use crate::end::JobEnd;
 use crate::holdings::{court_line, holdings_text};
@@ -11,7 +21,9 @@ use std::alloc::{AllocError, Global};
 use std::io::Write;
 
 /// What is told of a docket whose tables are sound.
-fn sound_text(alloc: Global, sound: &Sound) -> Result<String, AllocError> {
+fn sound_text(alloc: Global, sound: &Sound) -> Result<String, AllocError>
+    ensures { (court : CourtSettings) (held : Held) → IsSoundDocket court held (Ok sound.now) → IfOk result (λ text. string_bytes text ≡ check_text court held) }
+{
     let line = court_line(alloc, sound.zone.as_str(), sound.close)?;
     let held = holdings_text(alloc, &sound.held)?;
     format!(in alloc; "sound\n{line}{held}")
@@ -22,12 +34,14 @@ fn check_told<D: Disk + Drop, E: Write>(
     alloc: Global,
     judged: Result<Sound, AllocError>,
     e: &mut E,
-) -> JobEnd<D> {
-    let text = match judged {
-        Ok(sound) => sound_text(alloc, &sound),
-        Err(error) => Err(error),
+) -> JobEnd<D>
+    ensures told { (court : CourtSettings) (held : Held) → IsSoundDocket court held judged → TellsText (check_text court held) (cow_str_bytes result.text) result.status }
+    ensures left { result.left ≡ None }
+{
+    let Ok(sound) = judged else {
+        return JobEnd::of(no_memory(e));
     };
-    match text {
+    match sound_text(alloc, &sound) {
         Ok(text) => JobEnd::told(text),
         Err(_) => JobEnd::of(no_memory(e)),
     }
@@ -41,7 +55,9 @@ pub(crate) fn tell_check<S: Start, P: Write + Drop, E: Write>(
     screen: Option<P>,
     path: &str,
     e: &mut E,
-) -> JobEnd<FileFrom<S>> {
+) -> JobEnd<FileFrom<S>>
+    ensures told { OfDocket (image_at S.Start) (λ docket. TellsOf docket (TellsText (check_text docket.court (holdings_in docket.court docket.history))) result) }
+{
     let rows = match ready(rt, path, screen, e) {
         Ok(rows) => rows,
         Err(status) => return JobEnd::of(status),

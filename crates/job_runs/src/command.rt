@@ -1,6 +1,19 @@
 //! Commands of a docket, one a line.
-ghost use Rattle.std.specs.Prelude.{◌≡◌};
+ghost use Rattle.std.specs.Prelude.{◌≡◌, [], Ok, IfOk, IfSome, IsErr, MatchResult};
+ghost use Rattle.std.specs.Cow.{cow_str_bytes};
+ghost use Rattle.std.specs.Io.KnownBytes.{Appends};
+ghost use Rattle.sqlite_wal.specs.Files.{image_at};
+ghost use Rattle.sqlite.specs.Files.{IsCleanLeft};
+ghost use Rattle.docket_store.specs.Applying.{IsDocket};
+ghost use Rattle.docket_store.specs.Reopening.{HoldDocket};
+ghost use Rattle.line_io.specs.Output.{HasFront};
+ghost use Rattle.command_lines.specs.Ending.{StandsAs};
+ghost use Rattle.command_lines.specs.Lines.{Docket as Told, bad_answers, run_text};
+ghost use Rattle.docket_store.specs.Left.{LeavesRows};
+ghost use Rattle.file_jobs.specs.Runs.{Answers, LeavesPrefix};
+ghost use Rattle.file_jobs.specs.Tells.{WorksTo};
 ghost use Rattle.job_runs.specs.Ends.{last_line};
+ghost use Rattle.job_runs.specs.Jobs.{FailsOr, IsHonest, OfDocket, Runs, RunsInMemory, new_docket};
 ghost use Rattle.job_runs.specs.Runs.{TellsEnd};
 
 use crate::end::JobEnd;
@@ -60,7 +73,14 @@ fn run_told<S: Start, V: Watch + Drop, P: Write + Drop, R: Read, W: Write + Drop
     path: &str,
     r: &mut R,
     w: W,
-) -> (OnFile<S, Result<CountEnd, RunFault>>, W) {
+) -> (OnFile<S, Result<CountEnd, RunFault>>, W)
+    ensures runs { (told : Told) → IsDocket told.court told.history → HoldDocket (image_at S.Start) told.court told.history
+        → IfOk result.0 (λ done. IsCleanLeft done.left → IfSome (R.remaining r.old) (λ input. WorksTo
+        (Answers (LeavesRows done.left) told input (W.contents w) (W.contents result.1)) done.outcome)) }
+    ensures prefix { (told : Told) → IsDocket told.court told.history → HoldDocket (image_at S.Start) told.court told.history
+        → IfOk result.0 (λ done. IsCleanLeft done.left → IfSome (R.remaining r.old) (λ input.
+        LeavesPrefix (LeavesRows done.left) told input (W.contents w) (W.contents result.1))) }
+{
     let mut answers = LineCounter::new(rt, w, screen);
     let ended = run_on_file(rt, path, start, rows, r, &mut answers);
     (ended, answers.finish())
@@ -77,7 +97,11 @@ pub(crate) fn run_commands<S: Start, P: Write + Drop, R: Read, W: Write + Drop, 
     r: &mut R,
     w: W,
     e: &mut E,
-) -> (JobEnd<FileFrom<S>>, W) {
+) -> (JobEnd<FileFrom<S>>, W)
+    ensures runs { OfDocket (image_at S.Start) (λ docket. IfSome (R.remaining r.old) (λ input.
+        FailsOr result.0 (λ left. Runs (LeavesRows left) docket input (W.contents w) (W.contents result.1) result.0.status))) }
+    ensures untold { cow_str_bytes result.0.text ≡ [] }
+{
     let rows = match ready(rt, path, opening, e) {
         Ok(rows) => rows,
         Err(status) => return (JobEnd::of(status), w),
@@ -97,7 +121,9 @@ fn created<S: Alter + Drop>(
     alloc: Global,
     conn: Connection<S>,
     court: Court,
-) -> Result<Docket<S>, CreateFault> {
+) -> Result<Docket<S>, CreateFault>
+    ensures made { IfOk result (λ docket. StandsAs S.Store docket (new_docket court)) }
+{
     match Docket::create(alloc, conn, court) {
         Ok(docket) => Ok(docket),
         Err(
@@ -109,10 +135,12 @@ fn created<S: Alter + Drop>(
     }
 }
 
-/// What a fault is where the files are in memory: these fail for want of it alone.
-fn fault_in_memory(fault: RunFault) -> RunFault {
-    match fault {
-        RunFault::Store(Fault::StoreFailed) => RunFault::NoMemory,
+/// How a run ended where the files are in memory: these fail for want of it alone.
+fn end_in_memory(end: Result<CountEnd, RunFault>) -> Result<CountEnd, RunFault>
+    ensures same { MatchResult result (λ told. end ≡ Ok told) (λ _. IsErr end) }
+{
+    match end {
+        Err(RunFault::Store(Fault::StoreFailed)) => Err(RunFault::NoMemory),
         other => other,
     }
 }
@@ -124,11 +152,15 @@ fn answer_all<S: Alter + Drop, P: Write + Drop, R: Read, W: Write + Drop>(
     docket: Docket<S>,
     r: &mut R,
     w: W,
-) -> (Result<CountEnd, RunFault>, W) {
+) -> (Result<CountEnd, RunFault>, W)
+    ensures answers { (told : Told) → StandsAs S.Store docket told → IsHonest S.Store → IfSome (R.remaining r.old) (λ input. MatchResult result.0
+        (λ end. Appends (W.contents w) (W.contents result.1) (run_text told input) × (end.bad ≡ bad_answers told input))
+        (λ _. HasFront (W.contents w) (W.contents result.1) (run_text told input))) }
+{
     let mut clerk = Clerk::new(rt.alloc(), docket);
     let mut answers = LineCounter::new(rt, w, screen);
     let end = command_run(rt.alloc(), r, &mut answers, &mut clerk);
-    (end.map_err(fault_in_memory), answers.finish())
+    (end, answers.finish())
 }
 
 /// Answers commands of a new docket of the court in a database that is in memory.
@@ -140,12 +172,14 @@ fn answer_of_new<S: Alter + Drop, P: Write + Drop, R: Read, W: Write + Drop, E: 
     r: &mut R,
     mut w: W,
     e: &mut E,
-) -> (Status, W) {
+) -> (Status, W)
+    ensures runs { IsHonest S.Store → IfSome (R.remaining r.old) (λ input. RunsInMemory (new_docket court) input (W.contents w) (W.contents result.1) result.0) }
+{
     let alloc = rt.alloc();
     match created(alloc, conn, court) {
         Ok(docket) => {
             let (end, mut w) = answer_all(rt, screen, docket, r, w);
-            (tell_end(alloc, end, &mut w, e), w)
+            (tell_end(alloc, end_in_memory(end), &mut w, e), w)
         }
         Err(CreateFault::NoMemory | CreateFault::StoreFailed) => (out_of_memory(&mut w), w),
         Err(fault) => (failed(alloc, e, &fault), w),
@@ -160,7 +194,9 @@ pub(crate) fn run_in_memory<P: Write + Drop, R: Read, W: Write + Drop, E: Write>
     r: &mut R,
     mut w: W,
     e: &mut E,
-) -> (Status, W) {
+) -> (Status, W)
+    ensures runs { IfSome (R.remaining r.old) (λ input. RunsInMemory (new_docket court) input (W.contents w) (W.contents result.1) result.0) }
+{
     let alloc = rt.alloc();
     match Connection::open_files(alloc, MemoryFile::pair(alloc), Options::new(0)) {
         Ok(conn) => answer_of_new(rt, screen, conn, court, r, w, e),

@@ -1,7 +1,6 @@
 //! A new docket in a file.
-ghost use Rattle.std.specs.Prelude.{MatchOption, codes};
 ghost use Rattle.std.specs.Cow.{cow_str_bytes};
-ghost use Rattle.job_runs.specs.Ends.{TellsNothing, TellsText};
+ghost use Rattle.job_runs.specs.Jobs.{FailsOr, Makes};
 
 use crate::end::JobEnd;
 use crate::file::{FileFault, test_file};
@@ -22,8 +21,7 @@ pub(crate) fn create_docket<S: Start, E: Write>(
     court: Court,
     e: &mut E,
 ) -> JobEnd<FileFrom<S>>
-    ensures told { MatchOption result.left (TellsNothing (cow_str_bytes result.text) result.status)
-        (λ left. TellsText (codes "created\n") (cow_str_bytes result.text) result.status) }
+    ensures made { FailsOr result (λ left. Makes court left (cow_str_bytes result.text) result.status) }
 {
     match test_file(rt, path) {
         Ok(()) | Err(FileFault::Missing) => {}

@@ -1,8 +1,14 @@
 //! A table of days, entered in the calendar of the docket in a file by one command.
-ghost use Rattle.std.specs.Prelude.{◌≡◌, ◌∷◌, ◌++◌, [], IfOk, None, Ok, Err, string_bytes};
+ghost use Rattle.std.specs.Prelude.{◌≡◌, ◌≢◌, ◌∷◌, ◌++◌, [], List, IfOk, IfSome, MatchOption, MatchResult, None, Ok, Err, string_bytes};
 ghost use Rattle.std.specs.Cow.{cow_str_bytes};
+ghost use Rattle.sqlite_wal.specs.Files.{image_at};
+ghost use Rattle.sqlite.specs.Files.{IsCleanLeft};
+ghost use Rattle.docket_command.specs.declared.new_day.NewDay.{NewDay as Entered};
+ghost use Rattle.docket_wire.specs.CalendarCsv.{IsTable};
 ghost use Rattle.docket_wire.specs.Texts.{reply_text};
+ghost use Rattle.docket_store.specs.Left.{LeavesRows};
 ghost use Rattle.job_runs.specs.Imports.{TellsAnswer, TellsApplied};
+ghost use Rattle.job_runs.specs.Jobs.{Applies, FailsOr, Imports, OfDocket, import_command};
 
 use crate::end::JobEnd;
 use crate::opening::{done_on_docket, ready};
@@ -18,7 +24,9 @@ use std::alloc::{AllocError, Global};
 use std::io::{Read, Write};
 
 /// The one command that enters the days.
-fn import_of(alloc: Global, key: &str, days: Vec<NewDay>) -> Result<Command, AllocError> {
+fn import_of(alloc: Global, key: &str, days: Vec<NewDay>) -> Result<Command, AllocError>
+    ensures { IfOk result (λ command. command ≡ import_command key.now days.items) }
+{
     Ok(Command {
         key: Text::from_str(alloc, key)?,
         action: Action::ImportCalendar(ImportCalendar {
@@ -79,7 +87,9 @@ fn import_by<S: Start, P: Write + Drop, E: Write>(
     path: &str,
     command: &Command,
     e: &mut E,
-) -> JobEnd<FileFrom<S>> {
+) -> JobEnd<FileFrom<S>>
+    ensures applied { OfDocket (image_at S.Start) (λ docket. FailsOr result (λ left. Applies (LeavesRows left) docket command.now (cow_str_bytes result.text) result.status)) }
+{
     let rows = match ready(rt, path, screen, e) {
         Ok(rows) => rows,
         Err(status) => return JobEnd::of(status),
@@ -92,7 +102,9 @@ fn import_by<S: Start, P: Write + Drop, E: Write>(
 }
 
 /// Tells why the input is no table.
-fn refuse<W: Write, E: Write>(alloc: Global, fault: CsvFault, w: &mut W, e: &mut E) -> Status {
+fn refuse<W: Write, E: Write>(alloc: Global, fault: CsvFault, w: &mut W, e: &mut E) -> Status
+    ensures { result ≢ Status.Done }
+{
     match fault {
         CsvFault::NoMemory => no_memory(e),
         CsvFault::BadRow(_) | CsvFault::BadCsv => match format!(in alloc; "{fault}\n") {
@@ -109,7 +121,11 @@ fn read_import<R: Read, W: Write, E: Write>(
     r: &mut R,
     w: &mut W,
     e: &mut E,
-) -> Result<Command, Status> {
+) -> Result<Command, Status>
+    ensures read { MatchResult result
+        (λ command. IfSome (R.remaining r.old) (λ input. (days : List Entered) × IsTable input days × (command ≡ import_command key.now days)))
+        (λ status. status ≢ Status.Done) }
+{
     let mut table = Vec::new(alloc);
     if let Err(error) = r.read_to_end(&mut table) {
         return Err(failed_by(alloc, e, error.kind(), "the input could not be read"));
@@ -134,7 +150,11 @@ pub(crate) fn import_days<S: Start, P: Write + Drop, R: Read, W: Write, E: Write
     r: &mut R,
     w: &mut W,
     e: &mut E,
-) -> JobEnd<FileFrom<S>> {
+) -> JobEnd<FileFrom<S>>
+    ensures entered { OfDocket (image_at S.Start) (λ docket. IfSome (R.remaining r.old) (λ input.
+        MatchOption result.left ((result.status ≢ Status.Done) × (cow_str_bytes result.text ≡ []))
+        (λ left. IsCleanLeft left → Imports docket key.now input left (cow_str_bytes result.text) result.status))) }
+{
     match read_import(rt.alloc(), key, r, w, e) {
         Ok(command) => import_by(rt, start, screen, path, &command, e),
         Err(status) => JobEnd::of(status),

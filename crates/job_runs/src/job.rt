@@ -1,5 +1,8 @@
 //! A job, done.
+ghost use Rattle.std.specs.Prelude.{IfSome};
+ghost use Rattle.sqlite_wal.specs.Files.{image_at};
 ghost use Rattle.docket_jobs.specs.Jobs.{IsLimited};
+ghost use Rattle.job_runs.specs.Jobs.{Counts, Does};
 
 use crate::calendar::tell_calendar;
 use crate::case::tell_case;
@@ -22,7 +25,9 @@ use std::alloc::Global;
 use std::io::{Read, Write};
 
 /// Answers lines of days.
-fn count<R: Read, W: Write, E: Write>(alloc: Global, r: &mut R, w: &mut W, e: &mut E) -> Status {
+fn count<R: Read, W: Write, E: Write>(alloc: Global, r: &mut R, w: &mut W, e: &mut E) -> Status
+    ensures { IfSome (R.remaining r.old) (λ input. Counts input (W.contents w.old) (W.contents w.new) result) }
+{
     match count_run(alloc, r, w) {
         Ok(end) if end.bad == 0 => Status::Done,
         Ok(_) => Status::SomeBad,
@@ -43,33 +48,36 @@ pub fn run_job<S: Start, P: Write + Drop, R: Read, W: Write + Drop, E: Write>(
     e: &mut E,
 ) -> (JobEnd<FileFrom<S>>, W)
     requires { IsLimited job }
+    ensures { Does job.entry (image_at S.Start) (R.remaining r.old) (W.contents w) (W.contents result.1) result.0 }
 {
     let screen = progress.of_opening;
-    let end = match job {
-        Job::Count => return (JobEnd::of(count(rt.alloc(), r, &mut w, e)), w),
-        Job::Holidays { year } => return (tell_holidays(rt.alloc(), year, e), w),
+    match job {
+        Job::Count => (JobEnd::of(count(rt.alloc(), r, &mut w, e)), w),
+        Job::Holidays { year } => (tell_holidays(rt.alloc(), year, e), w),
         Job::RunInMemory { court } => {
             let (status, w) = run_in_memory(rt, progress.of_answers, court, r, w, e);
-            return (JobEnd::of(status), w);
+            (JobEnd::of(status), w)
         }
-        Job::Run { file } => {
-            return run_commands(rt, start, screen, progress.of_answers, file, r, w, e);
-        }
-        Job::Create { file, court } => return (create_docket(rt, start, file, court, e), w),
+        Job::Run { file } => { run_commands(rt, start, screen, progress.of_answers, file, r, w, e) }
+        Job::Create { file, court } => (create_docket(rt, start, file, court, e), w),
         Job::Rules { file } => match file {
-            Some(file) => tell_rules(rt, start, screen, file, e),
-            None => return (tell_table(rt.alloc(), e), w),
+            Some(file) => (tell_rules(rt, start, screen, file, e), w),
+            None => (tell_table(rt.alloc(), e), w),
         },
-        Job::Import { file, key } => import_days(rt, start, screen, file, key, r, &mut w, e),
-        Job::Case { file, number } => tell_case(rt, start, screen, file, number, e),
+        Job::Import { file, key } => {
+            let end = import_days(rt, start, screen, file, key, r, &mut w, e);
+            (end, w)
+        }
+        Job::Case { file, number } => (tell_case(rt, start, screen, file, number, e), w),
         Job::Calendar { file, from, to } => {
-            tell_calendar(rt, start, screen, file, from, to, &mut w, e)
+            let end = tell_calendar(rt, start, screen, file, from, to, &mut w, e);
+            (end, w)
         }
-        Job::Check { file } => tell_check(rt, start, screen, file, e),
-        Job::Migrate { file } => migrate_docket(rt, start, screen, file, e),
+        Job::Check { file } => (tell_check(rt, start, screen, file, e), w),
+        Job::Migrate { file } => (migrate_docket(rt, start, screen, file, e), w),
         Job::Serve { file, port, count } => {
-            serve_docket(rt, start, screen, file, port, count, &mut w, e)
+            let end = serve_docket(rt, start, screen, file, port, count, &mut w, e);
+            (end, w)
         }
-    };
-    (end, w)
+    }
 }

@@ -1,4 +1,12 @@
 //! The docket in a file, taken to the version of the tables that is kept.
+ghost use Rattle.std.specs.Cow.{cow_str_bytes};
+ghost use Rattle.sqlite_wal.specs.Files.{image_at};
+ghost use Rattle.docket_columns.specs.declared.version.Version.TheVariants.{First};
+ghost use Rattle.docket_scan.specs.Dockets.{MayHold};
+ghost use Rattle.docket_store.specs.Applying.{IsDocket};
+ghost use Rattle.docket_store.specs.Migrating.{HoldFirst};
+ghost use Rattle.command_lines.specs.Lines.{Docket as Told};
+ghost use Rattle.job_runs.specs.Jobs.{FailsOr, Migrates};
 
 use crate::end::JobEnd;
 use crate::opening::{done, ready};
@@ -15,7 +23,10 @@ pub(crate) fn migrate_docket<S: Start, P: Write + Drop, E: Write>(
     screen: Option<P>,
     path: &str,
     e: &mut E,
-) -> JobEnd<FileFrom<S>> {
+) -> JobEnd<FileFrom<S>>
+    ensures migrated { (told : Told) → IsDocket told.court told.history → MayHold First told.history → HoldFirst (image_at S.Start) told.court told.history
+        → FailsOr result (λ left. Migrates told left (cow_str_bytes result.text) result.status) }
+{
     let rows = match ready(rt, path, screen, e) {
         Ok(rows) => rows,
         Err(status) => return JobEnd::of(status),

@@ -1,9 +1,12 @@
 //! The rules by which deadlines run.
 ghost use Rattle.std.specs.Prelude.{◌≡◌, ℕ, List, [], None, string_bytes};
 ghost use Rattle.std.specs.Cow.{cow_str_bytes};
+ghost use Rattle.sqlite_wal.specs.Files.{image_at};
+ghost use Rattle.docket_core.specs.Histories.{local_rule_rows};
 ghost use Rattle.docket_text.specs.RuleTexts.{rules_text};
 ghost use Rattle.file_jobs.specs.Tells.{AnswersTo};
 ghost use Rattle.job_runs.specs.Ends.{TellsText};
+ghost use Rattle.job_runs.specs.Jobs.{OfDocket, TellsOf};
 
 use crate::end::JobEnd;
 use crate::opening::{done_on_docket, ready};
@@ -49,7 +52,9 @@ pub(crate) fn tell_rules<S: Start, P: Write + Drop, E: Write>(
     screen: Option<P>,
     path: &str,
     e: &mut E,
-) -> JobEnd<FileFrom<S>> {
+) -> JobEnd<FileFrom<S>>
+    ensures told { OfDocket (image_at S.Start) (λ docket. TellsOf docket (TellsText (rules_text (local_rule_rows docket.history))) result) }
+{
     let rows = match ready(rt, path, screen, e) {
         Ok(rows) => rows,
         Err(status) => return JobEnd::of(status),

@@ -1,4 +1,6 @@
 //! The docket in a file, served by HTTP.
+ghost use Rattle.std.specs.Prelude.{◌≡◌, []};
+ghost use Rattle.std.specs.Cow.{cow_str_bytes};
 
 use crate::end::JobEnd;
 use crate::opening::{done_on_docket, ready};
@@ -56,7 +58,9 @@ pub(crate) fn serve_docket<S: Start, P: Write + Drop, W: Write, E: Write>(
     count: u32,
     w: &mut W,
     e: &mut E,
-) -> JobEnd<FileFrom<S>> {
+) -> JobEnd<FileFrom<S>>
+    ensures untold { cow_str_bytes result.text ≡ [] }
+{
     let rows = match ready(rt, path, screen, e) {
         Ok(rows) => rows,
         Err(status) => return JobEnd::of(status),

@@ -1,0 +1,143 @@
+-- What each job does, by what the files of its docket held, by what its input was, and by what went out on its writer.
+use Rattle.std.specs.Prelude.{◌≡◌, ◌≢◌, ℕ, List, [], Option, Some, None, Result, Ok, Err, IfSome, MatchOption, codes}
+use Rattle.std.specs.Cow.{cow_str_bytes}
+use Rattle.std.specs.Io.KnownBytes.{Appends}
+use Rattle.sqlite_disk.specs.declared.Disk.{Ghosts}
+use Rattle.sqlite_wal.specs.Recovery.{Image}
+use Rattle.sqlite.specs.Files.{IsCleanLeft}
+use Rattle.sqlite.specs.Held.{Held, state}
+use Rattle.sqlite.specs.State.{HasCleanDisk}
+use Rattle.sqlite.specs.Store.{Ghosts as Store}
+use Rattle.sqlite.specs.declared.file.Leftover.{Leftover}
+use Rattle.court_days.specs.Court.{CourtSettings}
+use Rattle.count_lines.specs.Count.{bad_answers as bad_days, count_text}
+use Rattle.docket_calendar.specs.Calendar.{text_of_calendar}
+use Rattle.docket_command.specs.declared.command.Command.{Command}
+use Rattle.docket_command.specs.declared.command.Action.TheVariants.{ImportCalendar}
+use Rattle.docket_command.specs.declared.new_day.NewDay.{NewDay}
+use Rattle.docket_command.specs.declared.refusal.Reply.{Reply}
+use Rattle.docket_core.specs.Histories.{local_rule_rows}
+use Rattle.docket_jobs.specs.declared.job.Job.{Job}
+use Rattle.docket_jobs.specs.declared.job.Job.TheVariants as job
+use Rattle.docket_columns.specs.declared.version.Version.TheVariants.{First}
+use Rattle.docket_scan.specs.Dockets.{MayHold, holdings_in}
+use Rattle.docket_store.specs.Applying.{IsDocket, docket_rows}
+use Rattle.docket_store.specs.Migrating.{HoldFirst}
+use Rattle.docket_store.specs.Reopening.{HoldDocket}
+use Rattle.docket_store.specs.declared.fault.Fault.{Fault}
+use Rattle.docket_store.specs.declared.migrating.MigrateFault.{MigrateFault}
+use Rattle.docket_tables.specs.Layouts.{Rows}
+use Rattle.docket_text.specs.HolidayTexts.{holiday_text}
+use Rattle.docket_text.specs.RuleTexts.{rules_text}
+use Rattle.docket_wire.specs.CalendarCsv.{IsTable}
+use Rattle.line_io.specs.Output.{AppendsFront, HasFront}
+use Rattle.command_lines.specs.Lines.{Docket, bad_answers, docket_after, run_text}
+use Rattle.command_lines.specs.declared.fault.RunFault.{RunFault}
+use Rattle.file_jobs.specs.Commands.{AppliesTo}
+use Rattle.file_jobs.specs.Keeping.{Keeps, rows_told}
+use Rattle.docket_store.specs.Left.{LeavesRows}
+use Rattle.file_jobs.specs.Migrates.{MigratesTo}
+use Rattle.file_jobs.specs.Runs.{LeavesPrefix}
+use Rattle.file_jobs.specs.Tells.{text_of_case}
+use Rattle.job_runs.specs.Checks.{check_text}
+use Rattle.job_runs.specs.Ends.{HasTold, TellsIfAny, TellsNothing, TellsText, last_line}
+use Rattle.job_runs.specs.Imports.{TellsApplied}
+use Rattle.job_runs.specs.declared.end.JobEnd.{JobEnd}
+use Rattle.job_runs.specs.declared.status.Status.{Status}
+use Rattle.job_runs.specs.declared.status.Status.TheVariants.{Done, SomeBad, BadLine, Failed}
+
+-- the command that enters days in the calendar under a key
+abbrev pub import_command : List ℕ → List NewDay → Command
+import_command key days = record { key = key; action = ImportCalendar (record { rows = days }) }
+
+-- the answers to all lines of days went out, and the status says whether one is `bad` or `full`; or a front of them did
+abbrev pub Counts : List ℕ → Option (List ℕ) → Option (List ℕ) → Status → Type 0
+Counts input before after Done = Appends before after (count_text input) × (bad_days input ≡ 0)
+Counts input before after SomeBad = Appends before after (count_text input) × (bad_days input ≢ 0)
+Counts input before after BadLine = ⊥
+Counts input before after Failed = HasFront before after (count_text input)
+
+-- the docket of a court, without any record
+abbrev pub new_docket : CourtSettings → Docket
+new_docket court = record { court = court; history = [] }
+
+-- memory gives back what it took
+abbrev pub IsHonest : {S : Type 0} → Store S → Type 0
+IsHonest {S} g = (held : Held S) → HasCleanDisk (state g held)
+
+-- of the docket that the files held
+abbrev pub OfDocket : Image → (Docket → Type 0) → Type 0
+OfDocket files P = (docket : Docket) → IsDocket docket.court docket.history → HoldDocket files docket.court docket.history → P docket
+
+-- whatever is left, `Left` says that it has the rows or the next ones
+module _ (Left : Rows → Rows → Type 0) where
+  -- The answers to all lines went out, the docket after them is left, and the status says whether an answer is a refusal or a fault. Where
+  -- the job failed, what went out and what is left are as of a prefix of the lines, and behind that a last line or a front of it.
+  abbrev pub Runs : Docket → List ℕ → Option (List ℕ) → Option (List ℕ) → Status → Type 0
+  Runs docket input before after Done = Appends before after (run_text docket input) × (bad_answers docket input ≡ 0) × Keeps Left (docket_after docket input)
+  Runs docket input before after SomeBad = Appends before after (run_text docket input) × (bad_answers docket input ≢ 0) × Keeps Left (docket_after docket input)
+  Runs docket input before after BadLine = ⊥
+  Runs docket input before after Failed =
+      (mid : Option (List ℕ)) × LeavesPrefix Left docket input before mid × (fault : RunFault) × AppendsFront mid after (last_line fault)
+
+  -- a command came to this answer, which is told
+  abbrev pub Applies : Docket → Command → List ℕ → Status → Type 0
+  Applies docket c text status = (answer : Result Reply Fault) × AppliesTo Left docket c answer × TellsApplied answer text status
+
+-- The same of a docket in memory, of which nothing is left.
+abbrev pub RunsInMemory : Docket → List ℕ → Option (List ℕ) → Option (List ℕ) → Status → Type 0
+RunsInMemory docket input before after Done = Appends before after (run_text docket input) × (bad_answers docket input ≡ 0)
+RunsInMemory docket input before after SomeBad = Appends before after (run_text docket input) × (bad_answers docket input ≢ 0)
+RunsInMemory docket input before after BadLine = ⊥
+RunsInMemory docket input before after Failed =
+    (mid : Option (List ℕ)) × HasFront before mid (run_text docket input) × (fault : RunFault) × AppendsFront mid after (last_line fault)
+
+module _ {D : Type 0} {g : Ghosts D} where
+  -- Where a job opened no files it failed; where it did, this is so, unless the disk was not honest.
+  abbrev pub FailsOr : JobEnd D g → (Leftover D g → Type 0) → Type 0
+  FailsOr end P = MatchOption end.left (TellsNothing (cow_str_bytes end.text) end.status) (λ left. IsCleanLeft left → P left)
+
+  -- a question is told as it is answered, and the docket is left as it was
+  abbrev pub TellsOf : Docket → (List ℕ → Status → Type 0) → JobEnd D g → Type 0
+  TellsOf docket P end = FailsOr end (λ left. P (cow_str_bytes end.text) end.status × LeavesRows left (rows_told docket) (rows_told docket))
+
+  -- a docket without any record is made, or the job failed
+  abbrev pub Makes : CourtSettings → Leftover D g → List ℕ → Status → Type 0
+  Makes court left text Done = (text ≡ codes "created\n") × IsDocket court [] × LeavesRows left (docket_rows court []) (docket_rows court [])
+  Makes court left text Failed = text ≡ []
+  Makes court left text _ = ⊥
+
+  -- a docket is taken from the first version of the tables to the second; or the job failed, and what is left is as of the fault
+  abbrev pub Migrates : Docket → Leftover D g → List ℕ → Status → Type 0
+  Migrates docket left text Done = (text ≡ codes "migrated\n") × MigratesTo left docket (Ok tt)
+  Migrates docket left text Failed = (text ≡ []) × ((fault : MigrateFault) × MigratesTo left docket (Err fault))
+  Migrates docket left text _ = ⊥
+
+  -- the table of the input is entered by one command
+  abbrev pub Imports : Docket → List ℕ → List ℕ → Leftover D g → List ℕ → Status → Type 0
+  Imports docket key input left text status = (days : List NewDay) × IsTable input days × Applies (LeavesRows left) docket (import_command key days) text status
+
+  -- what a job comes to: the files of its docket held this, its input and its output were these, and it ended so
+  abbrev pub Does : Job → Image → Option (List ℕ) → Option (List ℕ) → Option (List ℕ) → JobEnd D g → Type 0
+  Does job.Count files input before after end = IfSome input (λ bytes. Counts bytes before after end.status) × (cow_str_bytes end.text ≡ []) × (end.left ≡ None)
+  Does (job.Holidays year) files input before after end = TellsText (holiday_text year) (cow_str_bytes end.text) end.status × (end.left ≡ None) × (after ≡ before)
+  Does (job.RunInMemory court) files input before after end =
+      IfSome input (λ bytes. RunsInMemory (new_docket court) bytes before after end.status) × (cow_str_bytes end.text ≡ []) × (end.left ≡ None)
+  Does (job.Run file) files input before after end =
+      OfDocket files (λ docket. IfSome input (λ bytes. FailsOr end (λ left. Runs (LeavesRows left) docket bytes before after end.status)))
+  Does (job.Create file court) files input before after end = FailsOr end (λ left. Makes court left (cow_str_bytes end.text) end.status) × (after ≡ before)
+  Does (job.Rules None) files input before after end = TellsText (rules_text []) (cow_str_bytes end.text) end.status × (end.left ≡ None) × (after ≡ before)
+  Does (job.Rules (Some file)) files input before after end =
+      OfDocket files (λ docket. TellsOf docket (TellsText (rules_text (local_rule_rows docket.history))) end) × (after ≡ before)
+  Does (job.Import file key) files input before after end =
+      OfDocket files (λ docket. IfSome input (λ bytes. MatchOption end.left ((end.status ≢ Done) × (cow_str_bytes end.text ≡ []))
+      (λ left. IsCleanLeft left → Imports docket key.now bytes left (cow_str_bytes end.text) end.status)))
+  Does (job.Case file number) files input before after end =
+      OfDocket files (λ docket. TellsOf docket (TellsIfAny (text_of_case docket.court docket.history number)) end) × (after ≡ before)
+  Does (job.Calendar file from to) files input before after end =
+      OfDocket files (λ docket. TellsOf docket (HasTold (text_of_calendar docket.court docket.history from to) before after) end)
+  Does (job.Check file) files input before after end = OfDocket files (λ docket. TellsOf docket (TellsText (check_text docket.court (holdings_in docket.court docket.history))) end) × (after ≡ before)
+  Does (job.Migrate file) files input before after end =
+      ((docket : Docket) → IsDocket docket.court docket.history → MayHold First docket.history → HoldFirst files docket.court docket.history
+      → FailsOr end (λ left. Migrates docket left (cow_str_bytes end.text) end.status)) × (after ≡ before)
+  Does (job.Serve file port count) files input before after end = cow_str_bytes end.text ≡ []
