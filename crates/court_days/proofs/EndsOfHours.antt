@@ -7,8 +7,9 @@ use Rattle.civil_time.proofs.LocalTimeLemmas.{local_near}
 use Rattle.court_days.specs.Calendar.{Entered, IsWithinLimits}
 use Rattle.court_days.specs.Civil.{IsEnteredDay}
 use Rattle.court_days.specs.Ends.{first_day, last_business}
-use Rattle.court_days.specs.HourEnds.{is_accessible, is_accessible_day, forward_end, moved_end, end_of_hours}
+use Rattle.court_days.specs.HourEnds.{is_accessible, is_accessible_day, first_accessible, forward_end, moved_end, end_of_hours}
 use Rattle.court_days.specs.Hours.{IsAccessible, IsAccessibleDay, same_time_on, RunsForward, MovesIfShut, IsEndOfHours, IsNearEntered}
+use Rattle.court_days.specs.Period.{IsFirstFrom}
 use Rattle.court_days.specs.declared.calendar.Direction.{Direction}
 use Rattle.court_days.specs.declared.calendar.Direction.TheVariants.{Forward, Backward}
 use Rattle.court_days.proofs.Accessible.{entered_start, is_accessible-means, is_accessible_day-means, same_time_on-near, accessible_near}
@@ -34,6 +35,12 @@ module _ (entered : Entered) (limits : IsWithinLimits entered) (zone : ZoneRules
         omega (arith, lies.0, found.reached),
         omega (arith, lies.1, found.within, near.2),
       )
+
+  pub first_accessible-is : (direction : Direction) (instant start : ℕ) → IsInstant instant → 3660 ≤ start → start ≤ 690_001
+      → (day : ℕ) → IsFirstFrom (IsAccessibleDay entered zone direction instant) start day → day ≡ first_accessible entered zone direction instant start
+  unfolding forward_end-finds
+  first_accessible-is direction instant start moment low high day first =
+      first_once (IsAccessibleDay entered zone direction instant) start day _ first (forward_end-finds direction instant start moment low high).0.1
 
   pub forward_end-is : (direction : Direction) (instant start end : ℕ) → IsInstant instant → 3660 ≤ start → start ≤ 690_001
       → RunsForward entered zone direction instant start end → end ≡ forward_end entered zone direction instant start

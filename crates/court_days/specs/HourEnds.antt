@@ -23,7 +23,12 @@ unfoldable pub is_accessible_day : Entered → ZoneRules → Direction → ℕ �
 is_accessible_day entered zone direction instant day =
     is_business_day entered direction day && is_accessible entered zone (same_time_on zone instant day)
 
--- the same time on the first such day from a day on; none of the 50,000 days runs out
+-- the first such day from a day on; none of the 50,000 days runs out
+abbrev pub first_accessible : Entered → ZoneRules → Direction → ℕ → ℕ → ℕ
+first_accessible entered zone direction instant start =
+    first_day (is_accessible_day entered zone direction instant) 50_000 start
+
+-- the same time on that day
 unfoldable pub forward_end : Entered → ZoneRules → Direction → ℕ → ℕ → ℕ
 forward_end entered zone direction instant start =
     same_time_on zone instant (first_day (is_accessible_day entered zone direction instant) 50_000 start)

@@ -6,7 +6,7 @@ ghost use Rattle.civil_time.specs.Zone.{IsZone};
 ghost use Rattle.court_days.specs.Calendar.{IsWithinLimits};
 ghost use Rattle.court_days.specs.Civil.{IsEnteredDay};
 ghost use Rattle.court_days.specs.Court.{zone_of};
-ghost use Rattle.court_days.specs.HourEnds.{end_of_hours};
+ghost use Rattle.court_days.specs.HourEnds.{is_accessible, first_accessible, end_of_hours};
 ghost use Rattle.court_days.specs.Hours.{IsAccessible, same_time_on, IsAccessibleDay, RunsForward, RunsBackward, IsEndOfHours, IsNearEntered};
 ghost use Rattle.court_days.specs.Period.{IsFirstFrom};
 
@@ -188,4 +188,42 @@ pub fn count_hours(
     ensures near { IsNearEntered (seconds result) }
 {
     end_of_hours(calendar, court.zone(), direction, at as u64, hours) as i64
+}
+
+/// Whether the clerk's office was accessible throughout the hour up to the instant (Fed. R. Civ. P.
+/// 6(a)(3)(B)).
+pub fn was_accessible(court: &Court, calendar: &Calendar, end: i64) -> bool
+    requires { IsNearEntered (seconds end) }
+    ensures value { result ≡ is_accessible calendar.now (zone_of court.now) (seconds end) }
+    ensures means { IsTrue result ↔ IsAccessible calendar.now (zone_of court.now) (seconds end) }
+{
+    is_accessible(calendar, court.zone(), end as u64)
+}
+
+/// The same time on a day as that of the instant, by the court's clock (Fed. R. Civ. P. 6(a)(2)(C)).
+pub fn same_time(court: &Court, at: i64, day: Day) -> i64
+    requires instant { IsMoment at }
+    requires day { IsInRange 10_000 50_000 day }
+    ensures value { result ≡ pos (same_time_on (zone_of court.now) (seconds at) day) }
+    ensures near { (86_400 * day ≤ seconds result + 46_800) × (seconds result ≤ 86_400 * day + 129_600) }
+{
+    same_time_on(court.zone(), at as u64, day) as i64
+}
+
+/// The first business day from `start` on with the office accessible in the hour before the time of the
+/// instant.
+pub fn first_accessible(
+    court: &Court,
+    calendar: &Calendar,
+    direction: Direction,
+    at: i64,
+    start: Day,
+) -> Day
+    requires instant { IsMoment at }
+    requires start { IsInRange 3660 690_000 start }
+    ensures value { result ≡ first_accessible calendar.now (zone_of court.now) direction (seconds at) start }
+    ensures reached { start ≤ result }
+    ensures near { result ≤ max start 47_484 + 7 }
+{
+    first_accessible_day(calendar, court.zone(), direction, at as u64, start)
 }

@@ -4,7 +4,7 @@ ghost use Rattle.civil_time.specs.Months.{IsMonthsAfter};
 ghost use Rattle.court_days.specs.Calendar.{IsWithinLimits};
 ghost use Rattle.court_days.specs.Legal.{IsBusinessDay, IsOpenBusinessDay};
 ghost use Rattle.court_days.specs.Period.{IsFirstFrom, IsLastUpTo, IsEndFrom, IsEndOfDays, IsEndOfMonths, IsTrigger, IsInReach, days_away, shift};
-ghost use Rattle.court_days.specs.Ends.{months_away, end_from, end_of_days, end_of_months, service_end};
+ghost use Rattle.court_days.specs.Ends.{first_open, last_business, months_away, end_from, end_of_days, end_of_months, service_end};
 
 use crate::calendar::{Calendar, DayKind, Direction};
 use crate::legal::{business, is_open_business};
@@ -13,8 +13,18 @@ use civil_time::{Day, months_earlier, months_later};
 /// How many days service adds to a period (Fed. R. Civ. P. 6(d)).
 const SERVICE_DAYS: u32 = 3;
 
+/// The first open business day from `start` on, a day up to 3941-04-23.
+pub fn first_open(calendar: &Calendar, direction: Direction, start: Day) -> Day
+    requires { start ≤ 720_000 }
+    ensures value { result ≡ first_open calendar.now direction start }
+    ensures first { IsFirstFrom (IsOpenBusinessDay calendar.now direction) start result }
+    ensures limits { IsWithinLimits calendar.now }
+{
+    first_open_from(calendar, direction, start)
+}
+
 /// The first open business day from `start` on.
-fn first_open(calendar: &Calendar, direction: Direction, start: Day) -> Day
+fn first_open_from(calendar: &Calendar, direction: Direction, start: Day) -> Day
     requires { start ≤ 720_000 }
     ensures first { IsFirstFrom (IsOpenBusinessDay calendar.now direction) start result }
     ensures limits { IsWithinLimits calendar.now }
@@ -26,8 +36,20 @@ fn first_open(calendar: &Calendar, direction: Direction, start: Day) -> Day
     day
 }
 
+/// The last business day up to `start`, for a period that is counted backward; `start` is a day from
+/// 1989-03-02 on.
+pub fn last_business(calendar: &Calendar, start: Day) -> Day
+    requires { 7_000 ≤ start }
+    ensures value { start ≤ 55_000 → result ≡ last_business calendar.now start }
+    ensures last { IsLastUpTo (IsBusinessDay calendar.now Direction.Backward) start result }
+    ensures near { min start 10_956 ≤ result + 7 }
+    ensures limits { IsWithinLimits calendar.now }
+{
+    last_business_to(calendar, start)
+}
+
 /// The last business day up to `start`, for a period that is counted backward.
-pub(crate) fn last_business(calendar: &Calendar, start: Day) -> Day
+fn last_business_to(calendar: &Calendar, start: Day) -> Day
     requires { 7_000 ≤ start }
     ensures last { IsLastUpTo (IsBusinessDay calendar.now Direction.Backward) start result }
     ensures near { min start 10_956 ≤ result + 7 }

@@ -84,7 +84,7 @@ fn extended_by(court: &Court, calendar: &Calendar, days: u32, before: Standing) 
 }
 
 /// Where a deadline stands after the act, by where it stood before.
-fn standing_after(court: &Court, calendar: &Calendar, before: Standing, act: Act) -> Standing
+pub fn standing_after(court: &Court, calendar: &Calendar, before: Standing, act: Act) -> Standing
     requires within { is_within act ≡ true }
     requires begins { begins_on_entered_day (zone_of court.now) act ≡ true }
     requires before { StandsAfter 99 before }

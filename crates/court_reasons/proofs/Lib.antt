@@ -1,0 +1,14 @@
+pub mod Acts
+pub mod DayWays
+pub mod HourWays
+pub mod LastEnds
+pub mod Naming
+pub mod NextDates
+pub mod OneWay
+pub mod PassedDays
+pub mod Pushing
+pub mod StatutoryDays
+pub mod Through
+pub mod ToldActs
+pub mod TrueCauses
+pub mod WhichHoliday
