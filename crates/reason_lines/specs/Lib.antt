@@ -1,0 +1,3 @@
+pub mod CauseWords
+pub mod Lines
+pub mod Words
