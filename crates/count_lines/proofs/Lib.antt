@@ -1,3 +1,4 @@
+pub mod Beginnings
 pub mod CourtTexts
 pub mod TextNames
 pub mod Words

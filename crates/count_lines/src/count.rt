@@ -1,10 +1,12 @@
 //! The engine of `count`: lines of days in, one answer each out.
-ghost use Rattle.std.specs.Prelude.{◌≡◌, ◌≤◌, length, IfOk, OnErr, IfSome};
+ghost use Rattle.std.specs.Prelude.{◌≡◌, ◌≤◌, true, length, IfOk, OnErr, IfSome};
 ghost use Rattle.std.specs.Io.KnownBytes.{Appends};
 ghost use Rattle.line_io.specs.Lines.{lines_of};
 ghost use Rattle.line_io.specs.Output.{HasFront};
-ghost use Rattle.civil_time.specs.LocalTime.{IsMoment, seconds};
-ghost use Rattle.count_lines.specs.Answers.{outcome, outcome_of, entering, spanning, shortening, after_hours, last_day, state_of};
+ghost use Rattle.civil_time.specs.LocalTime.{IsMoment, local_day, seconds};
+ghost use Rattle.court_days.specs.Court.{zone_of};
+ghost use Rattle.court_rules.specs.Acts.{is_entered_day, is_instant};
+ghost use Rattle.count_lines.specs.Answers.{outcome, outcome_of, entering, spanning, shortening, after_hours, last_day, first_state, state_of};
 ghost use Rattle.count_lines.specs.Requests.{IsAsked};
 ghost use Rattle.count_lines.specs.Count.{count_text, bad_answers};
 
@@ -22,7 +24,7 @@ use std::io::{Read, Write};
 
 /// Answers lines by what the lines before them entered.
 #[derive(Debug, Drop)]
-pub(crate) struct Counter {
+pub struct Counter {
     alloc: Global,
     court: Court,
     calendar: Calendar,
@@ -79,7 +81,54 @@ fn last_day(end: Option<Day>) -> Answer
     }
 }
 
+/// Whether a court may enter the day.
+fn is_entered_day(day: Day) -> bool
+    ensures { result ≡ is_entered_day day }
+{
+    is_entered(day)
+}
+
+/// Whether a period of hours may begin at the moment: its local day is one that a court may enter.
+/// Each such moment is one from 1999-12-31T00:00Z to 2100-01-02T00:00Z.
+pub fn may_begin(court: &Court, at: i64) -> bool
+    requires { IsMoment at }
+    ensures value { result ≡ is_entered_day (local_day (zone_of court.now) (seconds at)) }
+    ensures instant { result ≡ true → is_instant at ≡ true }
+{
+    let (day, _) = court.local(at);
+    is_entered_day(day)
+}
+
 impl Counter {
+    /// Before the first line the court keeps the time of Greenwich and closes at 17:00, and nothing
+    /// is entered.
+    pub fn start(alloc: Global) -> Result<Counter, AllocError>
+        ensures { IfOk result (λ counter. state_of counter ≡ first_state) }
+    {
+        let Ok(court) = Court::read(alloc, "UTC0", "17:00") else {
+            return Err(AllocError);
+        };
+        Ok(Counter {
+            alloc,
+            court,
+            calendar: Calendar::new(alloc),
+        })
+    }
+
+    /// The court in which the next line is read.
+    pub fn court(&self) -> &Court
+        ensures { result.now ≡ (state_of self.now).court }
+    {
+        &self.court
+    }
+
+    /// What the lines so far entered.
+    pub fn calendar(&self) -> &Calendar
+        ensures { result.now ≡ (state_of self.now).calendar }
+    {
+        &self.calendar
+    }
+
     fn enter(&mut self, kind: DayKind, day: Day) -> Result<Answer, AllocError>
         requires { IsAsked (Request.Enter kind day) }
         ensures { IfOk result (λ answer. (answer, state_of self.new) ≡ entering (state_of self.old) kind day) }
@@ -191,13 +240,8 @@ pub fn count_run<R: Read, W: Write>(
     ensures front { OnErr result (IfSome (R.remaining reader.old) (λ input.
         HasFront (W.contents writer.old) (W.contents writer.new) (count_text input))) }
 {
-    let Ok(court) = Court::read(alloc, "UTC0", "17:00") else {
+    let Ok(mut counter) = Counter::start(alloc) else {
         return Err(RunFault::NoMemory);
-    };
-    let mut counter = Counter {
-        alloc,
-        court,
-        calendar: Calendar::new(alloc),
     };
     match run_lines(alloc, reader, writer, &mut counter) {
         Ok(end) => Ok(end),

@@ -8,7 +8,8 @@ mod fault;
 mod laws;
 mod request;
 
-pub use count::count_run;
+pub use count::{Counter, count_run, may_begin};
 pub use fault::RunFault;
 pub use laws::lines_are_read_as_spelled;
 pub use line_io::CountEnd;
+pub use request::{Request, read_request};

@@ -262,7 +262,7 @@ fn read_by_word(word: &[u8], text: &[u8]) -> Option<Request>
 }
 
 /// What the line asks for, if it has the form of a request and its values lie in their limits.
-pub(crate) fn read_request(alloc: Global, line: &[u8]) -> Result<Option<Request>, AllocError>
+pub fn read_request(alloc: Global, line: &[u8]) -> Result<Option<Request>, AllocError>
     ensures value { IfOk result (λ request. request ≡ request_of line.now) }
     ensures asked { IfOk result (λ request. IfSome request IsAsked) }
 {

@@ -4,7 +4,6 @@ use Rattle.std.proofs.lemmas.Option.{IfSome_then}
 use Rattle.line_io.specs.Lines.{lines_of}
 use Rattle.count_lines.specs.Answers.{first_state}
 use Rattle.count_lines.specs.Count.{count_text, bad_answers}
-use Rattle.count_lines.proofs.CourtTexts.{started}
 use Rattle.count_lines.proofs.count.count_run.Goals as goal
 
 pub returns-in-Ok-run_lines-clause-whole : goal.returns-in-Ok-run_lines-clause-whole
@@ -12,4 +11,4 @@ returns-in-Ok-run_lines-clause-whole g c =
     IfSome_then (g.R.Read.remaining c.args.reader.now)
     {Q = λ input. Appends (g.W.Write.contents c.args.writer.now) (g.W.Write.contents c.run_lines.new.writer) (count_text input)
     × (c.in-Ok-run_lines.end.lines ≡ length (lines_of input)) × (c.in-Ok-run_lines.end.bad ≡ bad_answers input)}
-    (c.in-Ok-run_lines.ensures.whole first_state (started _ _ c.in-Ok.ensures.text c.in-Ok.ensures.close c.new.ensures) tt) (λ input told. (told.0, told.1, told.2))
+    (c.in-Ok-run_lines.ensures.whole first_state c.in-Ok.ensures tt) (λ input told. (told.0, told.1, told.2))
