@@ -1,5 +1,5 @@
 -- From what the docket answers to what is replied.
-use Rattle.std.proofs.Common.{◌≡◌, ◌≤◌, IsTrue, IsErrAnd, inl, inr, ℕ, List, Option, Some, None, Result, Ok, Err, refl, sym, ap, subst, ◌∙◌, arith}
+use Rattle.std.proofs.Common.{◌≡◌, ◌≤◌, IsTrue, IsErrAnd, inl, inr, ℕ, List, Option, Some, None, Result, Ok, Err, refl, sym, ap, subst, ◌∙◌, arith, true}
 use Rattle.sqlite.specs.Store.{Ghosts}
 use Rattle.sqlite.specs.State.{HasCleanDisk}
 use Rattle.sqlite.specs.Held.{state}
@@ -67,24 +67,24 @@ module _ {S : Type 0} (g : Ghosts S) where
   passed_on d h wish body (Err e) f told replies = subst (λ (x : Fault). Replies g d h wish body (Err x)) (sym told) replies
 
   -- a command that got no answer
-  pub halted_replied : (d : Docket S) (h : History) (c : Command) (f : Fault) (len : ℕ) (body : List ℕ) → command_in body ≡ Ok c → Halts g d h c f
+  pub halted_replied : (d : Docket S) (h : History) (c : Command) (f : Fault) (len : ℕ) (body : List ℕ) → command_in body ≡ Ok c → (f ≡ fault.StoreFailed → d.closed ≡ true) → Halts g d h c f
       → Replies g d h (CommandWish len) body (Err f)
-  halted_replied d h c fault.NoMemory len body spells halts = λ clean. (refl, inl halts)
-  halted_replied d h c fault.StoreFailed len body spells halts =
-      (refl, subst (λ (r : Result Command WireFault). LastsAsEither g d.conn (docket_rows d.court h) (docket_rows d.court (after_reading d.court h r))) (sym spells) halts)
-  halted_replied d h c fault.Damaged len body spells halts = halts
-  halted_replied d h c fault.Closed len body spells halts = absurd halts
-  halted_replied d h c (fault.Refused r) len body spells halts = absurd halts
+  halted_replied d h c fault.NoMemory len body spells closes halts = λ clean. (refl, inl halts)
+  halted_replied d h c fault.StoreFailed len body spells closes halts =
+      (refl, subst (λ (r : Result Command WireFault). LastsAsEither g d.conn (docket_rows d.court h) (docket_rows d.court (after_reading d.court h r))) (sym spells) halts, closes refl)
+  halted_replied d h c fault.Damaged len body spells closes halts = halts
+  halted_replied d h c fault.Closed len body spells closes halts = absurd halts
+  halted_replied d h c (fault.Refused r) len body spells closes halts = absurd halts
 
   -- a question that got no answer
   pub asked_replied : {X : Type 0} (d : Docket S) (h : History) (wish : Wish) (body : List ℕ) (f : Fault) (answer : X → Type 0)
-      → IsTrue (asks_docket wish) → IsTrue (takes_memory wish) → history_after d.court h wish body ≡ h → Asks g d h answer (Err f) → Replies g d h wish body (Err f)
-  asked_replied d h wish body fault.NoMemory answer asks takes same left = λ clean. (takes, inl left)
-  asked_replied d h wish body fault.StoreFailed answer asks takes same left =
-      (asks, subst (λ (k : History). LastsAsEither g d.conn (docket_rows d.court h) (docket_rows d.court k)) (sym same) (either_from_lasts d h left))
-  asked_replied d h wish body fault.Damaged answer asks takes same left = left
-  asked_replied d h wish body fault.Closed answer asks takes same left = absurd left
-  asked_replied d h wish body (fault.Refused r) answer asks takes same left = absurd left
+      → IsTrue (asks_docket wish) → IsTrue (takes_memory wish) → history_after d.court h wish body ≡ h → (f ≡ fault.StoreFailed → d.closed ≡ true) → Asks g d h answer (Err f) → Replies g d h wish body (Err f)
+  asked_replied d h wish body fault.NoMemory answer asks takes same closes left = λ clean. (takes, inl left)
+  asked_replied d h wish body fault.StoreFailed answer asks takes same closes left =
+      (asks, subst (λ (k : History). LastsAsEither g d.conn (docket_rows d.court h) (docket_rows d.court k)) (sym same) (either_from_lasts d h left), closes refl)
+  asked_replied d h wish body fault.Damaged answer asks takes same closes left = left
+  asked_replied d h wish body fault.Closed answer asks takes same closes left = absurd left
+  asked_replied d h wish body (fault.Refused r) answer asks takes same closes left = absurd left
 
   -- a case that is not there
   pub unknown_case : (d : Docket S) (h : History) (number : ℕ) (body : List ℕ) → Stands g d h → (HasCleanDisk (state g d.conn) → None ≡ case_record h number)

@@ -63,16 +63,16 @@ module _ {S : Type 0} (g : Ghosts S) (d : Docket S) (h : History) (wish : Wish) 
   says : {b : _} (other : Response) → response ≡ other → (other.status == 503) ≡ b → (response.status == 503) ≡ b
   says other is fine = ap (λ (r : Response). r.status == 503) is ∙ fine
 
-  -- the docket stands for the history or for the next one; or it failed, and 503 was told
+  -- the docket stands for the history or for the next one; or it failed and is closed, and 503 was told
   abbrev pub Left : Type 0
   Left =
       ((Stands g d h ⊎ Stands g d (history_after d.court h wish body)) × ((response.status == 503) ≡ false))
-      ⊎ (LastsAsEither g d.conn (docket_rows d.court h) (docket_rows d.court (history_after d.court h wish body)) × ((response.status == 503) ≡ true))
+      ⊎ (LastsAsEither g d.conn (docket_rows d.court h) (docket_rows d.court (history_after d.court h wish body)) × ((response.status == 503) ≡ true) × (d.closed ≡ true))
 
   left_by : (problem : Option Problem) → response ≡ told problem (response_to d.court h wish body) → LeftBy g problem d h wish body → Left
   left_by None is left = inl (inr left, says _ is (response_fine d.court h wish body))
   left_by (Some NoMemory) is left = inl (left.1, says _ is refl)
-  left_by (Some Store) is left = inr (left.1, says _ is refl)
+  left_by (Some Store) is left = inr (left.1, says _ is refl, left.2)
   left_by (Some (Rejected r)) is left = absurd left
   left_by (Some NoSuchCase) is left = absurd left
   left_by (Some Closed) is left = absurd left

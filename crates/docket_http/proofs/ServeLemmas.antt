@@ -1,5 +1,5 @@
 -- From the writing of a reply to what a connection is served.
-use Rattle.std.proofs.Common.{◌≡◌, ◌+◌, ◌++◌, [], inl, inr, ℕ, List, Option, Some, None, Result, Ok, Err, IfOk, IfErr, length, take, take_at, length-append, append-nil, refl, sym, ap, subst, ◌∙◌, arith}
+use Rattle.std.proofs.Common.{◌≡◌, ◌+◌, ◌++◌, [], inl, inr, ℕ, List, Option, Some, None, Result, Ok, Err, IfOk, IfErr, true, length, take, take_at, length-append, append-nil, refl, sym, ap, subst, ◌∙◌, arith}
 use Rattle.std.specs.Io.KnownBytes.{Appends}
 use Rattle.sqlite.specs.Store.{Ghosts}
 use Rattle.sqlite.specs.State.{HasCleanDisk}
@@ -155,10 +155,10 @@ module _ {S : Type 0} (g : Ghosts S) where
   unread_fails old (Ok s) input o n front = tt
   unread_fails old (Err e) input o n front = λ h stands clean. subst (λ (x : ServeFault). Fails g input old old h o n x) (sym front.0) (inr (refl, front.1))
 
-  pub calendar_told : (d : Docket S) (h : History) (from to : ℕ) (body front : List ℕ) (o m : Option (List ℕ)) (f : Fault) (p : Problem) → p ≡ problem_of_fault f
+  pub calendar_told : (d : Docket S) (h : History) (from to : ℕ) (body front : List ℕ) (o m : Option (List ℕ)) (f : Fault) (p : Problem) → p ≡ problem_of_fault f → (f ≡ fault.StoreFailed → d.closed ≡ true)
       → Lists g d h from to front o m (Err (listing.NotBegun f)) → HasCleanDisk (state g d.conn) → Tells g d h (Calendar from to) body (Fixed p) × Appends o m []
-  calendar_told d h from to body front o m f p e lists clean =
-      (problem_told g d h (Calendar from to) body f p e (asked_replied g d h (Calendar from to) body f (λ (lines : ℕ). ⊥) refl refl refl lists.0) clean, lists.1 clean)
+  calendar_told d h from to body front o m f p e closes lists clean =
+      (problem_told g d h (Calendar from to) body f p e (asked_replied g d h (Calendar from to) body f (λ (lines : ℕ). ⊥) refl refl refl closes lists.0) clean, lists.1 clean)
 
   -- the bytes of a calendar's answer
   calendar_bytes : (court : CourtSettings) (h : History) (from to : ℕ) (front : List ℕ) → ((len : ℕ) → front ≡ head_bytes 200 OpenText len)
@@ -185,12 +185,12 @@ module _ {S : Type 0} (g : Ghosts S) where
   }
 
   pub calendar_broken : (d : Docket S) (h : History) (from to : ℕ) (body front : List ℕ) (o n : Option (List ℕ)) (f : Fault)
-      → ((len : ℕ) → front ≡ head_bytes 200 OpenText len) → Lists g d h from to front o n (Err (listing.Broken f)) → HasCleanDisk (state g d.conn)
+      → (f ≡ fault.StoreFailed → d.closed ≡ true) → ((len : ℕ) → front ≡ head_bytes 200 OpenText len) → Lists g d h from to front o n (Err (listing.Broken f)) → HasCleanDisk (state g d.conn)
       → IsBroken g d h (Calendar from to) body o n (fault_of_broken f)
-  calendar_broken d h from to body front o n fault.NoMemory head lists clean =
+  calendar_broken d h from to body front o n fault.NoMemory closes head lists clean =
       ((refl, inl lists.0), subst (λ (b : List ℕ). Begins o n b) (calendar_bytes d.court h from to front head) (begins_of o n _ (lists.1 clean)), λ built. built)
-  calendar_broken d h from to body front o n fault.StoreFailed head lists clean =
-      ((refl, either_from_lasts g d h lists.0), subst (λ (b : List ℕ). Begins o n b) (calendar_bytes d.court h from to front head) (begins_of o n _ (lists.1 clean)), λ built. built)
-  calendar_broken d h from to body front o n fault.Damaged head lists clean = absurd (lists.0 clean)
-  calendar_broken d h from to body front o n fault.Closed head lists clean = absurd lists.0
-  calendar_broken d h from to body front o n (fault.Refused r) head lists clean = absurd lists.0
+  calendar_broken d h from to body front o n fault.StoreFailed closes head lists clean =
+      ((refl, either_from_lasts g d h lists.0, closes refl), subst (λ (b : List ℕ). Begins o n b) (calendar_bytes d.court h from to front head) (begins_of o n _ (lists.1 clean)), λ built. built)
+  calendar_broken d h from to body front o n fault.Damaged closes head lists clean = absurd (lists.0 clean)
+  calendar_broken d h from to body front o n fault.Closed closes head lists clean = absurd lists.0
+  calendar_broken d h from to body front o n (fault.Refused r) closes head lists clean = absurd lists.0

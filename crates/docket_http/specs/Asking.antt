@@ -109,12 +109,13 @@ told (Some problem) response = problem_response problem
 
 module _ {S : Type 0} (g : Ghosts S) where
   -- what is left of the docket where this was told: with the answer, the docket that the answer reports; where memory was short, that or
-  -- the docket before; where the database failed, a power failure leaves the one or the other. No other problem is told in an answer's place
+  -- the docket before; where the database failed, a power failure leaves the one or the other, and the docket is closed. No other problem is
+  -- told in an answer's place
   abbrev pub LeftBy : Option Problem → Docket S → History → Wish → List ℕ → Type 0
   LeftBy None d h wish body = Stands g d (history_after d.court h wish body)
   LeftBy (Some NoMemory) d h wish body = IsTrue (takes_memory wish) × (Stands g d h ⊎ Stands g d (history_after d.court h wish body))
   LeftBy (Some Store) d h wish body =
-      IsTrue (asks_docket wish) × LastsAsEither g d.conn (docket_rows d.court h) (docket_rows d.court (history_after d.court h wish body))
+      IsTrue (asks_docket wish) × LastsAsEither g d.conn (docket_rows d.court h) (docket_rows d.court (history_after d.court h wish body)) × (d.closed ≡ true)
   LeftBy (Some _) d h wish body = ⊥
 
   -- what the docket replies to what is asked, and what it leaves

@@ -36,14 +36,14 @@ module _ {S : Type 0} (g : Ghosts S) where
     left_either (inl stands) told = inl (h, record { is = inl refl; stands = stands; told = told })
     left_either (inr stands) told = left_after stands told
 
-    fell : LastsAsEither g left.conn (docket_rows left.court h) (docket_rows left.court (history_after left.court h wish body))
+    fell : LastsAsEither g left.conn (docket_rows left.court h) (docket_rows left.court (history_after left.court h wish body)) → left.closed ≡ true
         → (tells_failure e.end ≡ true) ⊎ (e.end ≡ Err serve.WriteFailed) → Leaves h e left
-    fell lasts told = inr (record { next = history_after left.court h wish body; is = after; lasts = lasts; told = told })
+    fell lasts closed told = inr (record { next = history_after left.court h wish body; is = after; lasts = lasts; closed = closed; told = told })
 
     left_as : (response : Response) → Left g left h wish body response → ((response.status == 503) ≡ false → tells_failure e.end ≡ false)
         → ((response.status == 503) ≡ true → (tells_failure e.end ≡ true) ⊎ (e.end ≡ Err serve.WriteFailed)) → Leaves h e left
     left_as response (inl stands) fine failed = left_either stands.0 (fine stands.1)
-    left_as response (inr lasts) fine failed = fell lasts.0 (failed lasts.1)
+    left_as response (inr lasts) fine failed = fell lasts.0 lasts.2 (failed lasts.1)
 
     -- an answer, of which so much went out
     left_told : (response : Response) → IsAnswered g left h wish body response → ((response.status == 503) ≡ false → tells_failure e.end ≡ false)
@@ -61,4 +61,4 @@ module _ {S : Type 0} (g : Ghosts S) where
       left_told left h e is.0 is.1 is.2 is.3.response is.3.answered (λ fine. ap tells_failure ended) (λ failed. inr ended)
   leaves old left h e (Err serve.WriteFailed) ended stands (inr is) = left_same old left h e is.0 stands (ap tells_failure ended)
   leaves old left h e (Err serve.NoMemory) ended stands is = left_either left h e is.0 is.1 is.2 is.3.0.1 (ap tells_failure ended)
-  leaves old left h e (Err serve.StoreFailed) ended stands is = fell left h e is.0 is.1 is.2 is.3.0.1 (inl (ap tells_failure ended))
+  leaves old left h e (Err serve.StoreFailed) ended stands is = fell left h e is.0 is.1 is.2 is.3.0.1 is.3.0.2 (inl (ap tells_failure ended))

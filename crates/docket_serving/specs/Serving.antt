@@ -57,12 +57,13 @@ module _ {S : Type 0} (g : Ghosts S) where
     pub stands : Stands g left next
     pub told : tells_failure e.end ≡ false
 
-  -- the database failed: a power failure leaves the docket of the history or of the next. The connection was told so, but where its answer
-  -- could not be written whole
+  -- the database failed: a power failure leaves the docket of the history or of the next, and the docket is closed. The connection was told
+  -- so, but where its answer could not be written whole
   pub record Fell (h : History) (e : Exchange) (left : Docket S) : Type 0 where
     pub next : History
     pub is : IsNext left.court h e next
     pub lasts : LastsAsEither g left.conn (docket_rows left.court h) (docket_rows left.court next)
+    pub closed : left.closed ≡ true
     pub told : (tells_failure e.end ≡ true) ⊎ (e.end ≡ Err WriteFailed)
 
   -- from a docket that stands for a history: each connection is served by the docket of the history that those before it led to, up to the

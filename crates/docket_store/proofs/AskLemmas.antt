@@ -1,12 +1,13 @@
 -- From what the tables' questions give to what a question to a docket gives.
 use Rattle.std.proofs.Common.{◌≡◌, ◌∙◌, ◌&&◌, ℕ, Bool, true, false, List, [], Option, Some, None, length, nat_le, unwrap_or, if◌then◌else◌, Result, Ok, Err, IsErrAnd, refl, sym, ap, subst, arith}
-use Rattle.std.specs.Prelude.{MatchResult}
+use Rattle.std.specs.Prelude.{MatchResult, is_some}
 use Rattle.std.specs.Option.{option_map}
 use Rattle.std.proofs.lemmas.List.{length-map}
 use Rattle.std.proofs.lemmas.List.Elements.{recursion_from_All}
 use Rattle.sqlite.specs.Store.{Ghosts}
 use Rattle.sqlite.specs.State.{HasCleanDisk}
 use Rattle.sqlite.specs.Held.{Held, state}
+use Rattle.sqlite.specs.declared.error.Error.{Error}
 use Rattle.court_days.specs.Court.{CourtSettings, zone_of}
 use Rattle.docket_command.specs.declared.command.Command.{Command}
 use Rattle.docket_command.specs.declared.refusal.Reply.{Reply}
@@ -43,11 +44,18 @@ module _ {S : Type 0} (g : Ghosts S) where
   asks_failed conn court kept h answer Damaged is keeps fails = fails
 
   -- a docket is closed where its database failed, and there alone
-  pub asks_kept : {X : Type 0} (conn : Held S) (court : CourtSettings) (kept : Option (List CalendarItem)) (h : History) (answer : X → Type 0) (closed : Bool) (result : Result X Fault) → (closed ≡ true → result ≡ Err StoreFailed)
-      → Asks g (serving conn court kept) h answer result → Asks g (record { conn = conn; court = court; closed = closed; calendar = kept }) h answer result
-  asks_kept conn court kept h answer false result failed asks = asks
-  asks_kept conn court kept h answer true result failed asks =
-      subst (λ r. Asks g (record { conn = conn; court = court; closed = true; calendar = kept }) h answer r) (sym (failed refl)) (subst (λ r. Asks g (serving conn court kept) h answer r) (failed refl) asks)
+  pub asks_kept : {X : Type 0} (conn : Held S) (court : CourtSettings) (kept : Option (List CalendarItem)) (h : History) (answer : X → Type 0) (by : Option Error) (result : Result X Fault) → (is_some by ≡ true → result ≡ Err StoreFailed)
+      → Asks g (serving conn court kept) h answer result → Asks g (record { conn = conn; court = court; closed = is_some by; closed_by = by; calendar = kept }) h answer result
+  asks_kept conn court kept h answer None result failed asks = asks
+  asks_kept conn court kept h answer (Some e) result failed asks =
+      subst (λ r. Asks g (record { conn = conn; court = court; closed = true; closed_by = Some e; calendar = kept }) h answer r) (sym (failed refl)) (subst (λ r. Asks g (serving conn court kept) h answer r) (failed refl) asks)
+
+  -- and so it is where a command was given
+  pub applies_kept : (conn : Held S) (court : CourtSettings) (kept : Option (List CalendarItem)) (h : History) (c : Command) (by : Option Error) (result : Result Reply Fault) → (is_some by ≡ true → result ≡ Err StoreFailed)
+      → Applies g (serving conn court kept) h c result → Applies g (record { conn = conn; court = court; closed = is_some by; closed_by = by; calendar = kept }) h c result
+  applies_kept conn court kept h c None result failed applies = applies
+  applies_kept conn court kept h c (Some e) result failed applies =
+      subst (λ r. Applies g (record { conn = conn; court = court; closed = true; closed_by = Some e; calendar = kept }) h c r) (sym (failed refl)) (subst (λ r. Applies g (serving conn court kept) h c r) (failed refl) applies)
 
   -- the same of another question
   pub fault_of_other : {X Y : Type 0} (d : Docket S) (h : History) (P : X → Type 0) (Q : Y → Type 0) (f : Fault) → Asks g d h P (Err f) → Asks g d h Q (Err f)

@@ -2,6 +2,7 @@ pub mod AnyLemmas
 mod AgainLemmas
 mod ApplyLemmas
 mod AskLemmas
+mod FailureLemmas
 mod LeftLemmas
 mod LineLemmas
 mod ListingLemmas

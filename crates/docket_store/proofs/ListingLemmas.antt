@@ -1,8 +1,10 @@
 -- From what the writing of a calendar leaves of the tables to what it leaves of the docket.
-use Rattle.std.proofs.Common.{◌≡◌, ◌⊎◌, inl, inr, ℕ, Bool, true, false, List, [], Option, Result, Err, refl, sym, subst}
+use Rattle.std.proofs.Common.{◌≡◌, ◌⊎◌, inl, inr, ℕ, Bool, true, false, List, [], Option, Some, None, Result, Err, refl, sym, subst}
 use Rattle.std.specs.Io.KnownBytes.{Appends}
+use Rattle.std.specs.Prelude.{is_some}
 use Rattle.sqlite.specs.Store.{Ghosts}
 use Rattle.sqlite.specs.Held.{Held}
+use Rattle.sqlite.specs.declared.error.Error.{Error}
 use Rattle.court_days.specs.Court.{CourtSettings}
 use Rattle.docket_core.specs.Histories.{History}
 use Rattle.docket_core.specs.declared.item.CalendarItem.{CalendarItem}
@@ -26,10 +28,10 @@ IsBroken result = (result ≡ Err (listing_end.NotBegun StoreFailed)) ⊎ (resul
 
 module _ {S : Type 0} (g : Ghosts S) (h : History) (from to : ℕ) (front : List ℕ) (before after : Option (List ℕ)) where
   -- a docket is closed where its database failed, and there alone
-  pub lists_kept : (conn : Held S) (court : CourtSettings) (kept : Option (List CalendarItem)) (closed : Bool) (result : Result ℕ ListingEnd) → (closed ≡ true → IsBroken result)
-      → Lists g (serving conn court kept) h from to front before after result → Lists g (record { conn = conn; court = court; closed = closed; calendar = kept }) h from to front before after result
-  lists_kept conn court kept false result broken lists = lists
-  lists_kept conn court kept true result broken lists = elim (broken refl) [
-    | inl none ↦ subst (Lists g (record { conn = conn; court = court; closed = true; calendar = kept }) h from to front before after) (sym none) (subst (Lists g (serving conn court kept) h from to front before after) none lists)
-    | inr part ↦ subst (Lists g (record { conn = conn; court = court; closed = true; calendar = kept }) h from to front before after) (sym part) (subst (Lists g (serving conn court kept) h from to front before after) part lists)
+  pub lists_kept : (conn : Held S) (court : CourtSettings) (kept : Option (List CalendarItem)) (by : Option Error) (result : Result ℕ ListingEnd) → (is_some by ≡ true → IsBroken result)
+      → Lists g (serving conn court kept) h from to front before after result → Lists g (record { conn = conn; court = court; closed = is_some by; closed_by = by; calendar = kept }) h from to front before after result
+  lists_kept conn court kept None result broken lists = lists
+  lists_kept conn court kept (Some e) result broken lists = elim (broken refl) [
+    | inl none ↦ subst (Lists g (record { conn = conn; court = court; closed = true; closed_by = Some e; calendar = kept }) h from to front before after) (sym none) (subst (Lists g (serving conn court kept) h from to front before after) none lists)
+    | inr part ↦ subst (Lists g (record { conn = conn; court = court; closed = true; closed_by = Some e; calendar = kept }) h from to front before after) (sym part) (subst (Lists g (serving conn court kept) h from to front before after) part lists)
   ]

@@ -1,5 +1,6 @@
 pub mod AnyRows
 pub mod Applying
+pub mod Causes
 pub mod Dockets
 pub mod Left
 pub mod Listing

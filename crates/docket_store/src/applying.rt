@@ -1,5 +1,5 @@
 //! One command, in one transaction.
-ghost use Rattle.std.specs.Prelude.{◌≡◌, ◌≤◌, ◌<◌, ◌^◌, ◌∷◌, ℕ, List, Option, length, false};
+ghost use Rattle.std.specs.Prelude.{◌≡◌, ◌≤◌, ◌<◌, ◌^◌, ◌∷◌, ℕ, List, Option, length, false, IfErr};
 ghost use Rattle.sqlite.specs.Held.{state};
 ghost use Rattle.sqlite.specs.State.{HasCleanDisk};
 ghost use Rattle.sqlite.specs.View.{doubt};
@@ -18,6 +18,7 @@ ghost use Rattle.docket_tables.specs.Layouts.{Rows};
 ghost use Rattle.docket_tables.specs.Stands.{HoldsRows};
 ghost use Rattle.docket_store.specs.AnyRows.{Preserves, WritesWhole};
 ghost use Rattle.docket_store.specs.Applying.{IsDocket, StandsFor, Keeps, Stands, IsAccepted, AreNamed, Applies, Asks};
+ghost use Rattle.docket_store.specs.Causes.{IsCausedBy, IsNamed, IsNotAccepted};
 ghost use Rattle.docket_store.specs.Dockets.{serving};
 
 use crate::asking::calendar_told;
@@ -30,7 +31,7 @@ use docket_command::{Action, Command, Reply};
 use docket_core::{CalendarItems, Changes, Decision};
 use docket_tables::cases;
 use docket_wire::command_text;
-use sqlite::{Alter, Connection};
+use sqlite::{Alter, Connection, Error};
 use std::alloc::Global;
 
 /// Changes lie in memory, so there are far fewer of them than a row may have numbers.
@@ -51,17 +52,21 @@ fn keep_calendar(kept: &mut Option<CalendarItems>, action: &Action)
 }
 
 /// What is done about the stored ends, where those of any case may move.
-fn calendar_update<S: Alter>(conn: &mut Connection<S>) -> Result<EndUpdate, Fault>
+fn calendar_update<S: Alter>(
+    conn: &mut Connection<S>,
+    failure: &mut Option<Error>,
+) -> Result<EndUpdate, Fault>
     requires { conn.old.in_transaction ≡ false }
     ensures idle { conn.new.in_transaction ≡ false }
     ensures clean { doubt (state S.Store conn.old).is_clean ≤ doubt (state S.Store conn.new).is_clean }
     ensures stays { (rows : Rows) → HoldsRows S.Store conn.old rows → Preserves S.Store conn.new rows result }
+    ensures named { IfErr result (IsNamed failure.new) }
     ensures update { (court : CourtSettings) (kept : Option (List Item)) (h : History) → Stands S.Store (serving conn.old court kept) h
         → Asks S.Store (serving conn.new court kept) h (λ found. found ≡ update.Calendar (length (case_rows h))) result }
 {
     match cases(conn) {
         Ok(cases) => Ok(EndUpdate::Calendar { cases }),
-        Err(fault) => Err(read_fault(conn, fault)),
+        Err(fault) => Err(read_fault(conn, fault, failure)),
     }
 }
 
@@ -74,20 +79,22 @@ fn case_update<S: Alter>(
     command: &Command,
     named: &[Act],
     changes: &Changes,
+    failure: &mut Option<Error>,
 ) -> Result<EndUpdate, Fault>
     requires idle { conn.old.in_transaction ≡ false }
     requires calm { changes_calendar command.now.action ≡ false }
     ensures idle { conn.new.in_transaction ≡ false }
     ensures clean { doubt (state S.Store conn.old).is_clean ≤ doubt (state S.Store conn.new).is_clean }
     ensures stays { (rows : Rows) → HoldsRows S.Store conn.old rows → Preserves S.Store conn.new rows result }
+    ensures named { IfErr result (IsNamed failure.new) }
     ensures update { (h : History) → Stands S.Store (serving conn.old court.now kept.old) h
         → (HasCleanDisk (state S.Store conn.old) → IsAccepted court.now h command.now changes.now × AreNamed h command.now named.now)
         → Asks S.Store (serving conn.new court.now kept.new) h (λ found. IsUpdate court.now found (rows_of court.now h) (rows_of court.now (command.now ∷ h))) result }
 {
-    let calendar = calendar_told(conn, alloc, court, kept)?;
+    let calendar = calendar_told(conn, alloc, court, kept, failure)?;
     match moves(alloc, court, &calendar, named, changes.rows.as_slice()) {
         Ok(update) => Ok(update),
-        Err(fault) => Err(read_fault(conn, fault)),
+        Err(fault) => Err(read_fault(conn, fault, failure)),
     }
 }
 
@@ -101,21 +108,23 @@ fn end_update<S: Alter>(
     command: &Command,
     named: &[Act],
     changes: &Changes,
+    failure: &mut Option<Error>,
 ) -> Result<EndUpdate, Fault>
     requires idle { conn.old.in_transaction ≡ false }
     requires lawful { IsCommand command.now }
     ensures idle { conn.new.in_transaction ≡ false }
     ensures clean { doubt (state S.Store conn.old).is_clean ≤ doubt (state S.Store conn.new).is_clean }
     ensures stays { (rows : Rows) → HoldsRows S.Store conn.old rows → Preserves S.Store conn.new rows result }
+    ensures named { IfErr result (IsNamed failure.new) }
     ensures update { (h : History) → Stands S.Store (serving conn.old court.now kept.old) h
         → (HasCleanDisk (state S.Store conn.old) → IsAccepted court.now h command.now changes.now × AreNamed h command.now named.now)
         → Asks S.Store (serving conn.new court.now kept.new) h (λ found. IsUpdate court.now found (rows_of court.now h) (rows_of court.now (command.now ∷ h))) result }
 {
     if moves_all_cases(&command.action) {
-        return calendar_update(conn);
+        return calendar_update(conn, failure);
     }
     match case_moved(&command.action) {
-        Some(_) => case_update(conn, alloc, court, kept, command, named, changes),
+        Some(_) => case_update(conn, alloc, court, kept, command, named, changes, failure),
         None => Ok(EndUpdate::Moves(Vec::new(alloc))),
     }
 }
@@ -130,12 +139,14 @@ fn keep<S: Alter>(
     body: &str,
     named: &[Act],
     changes: &Changes,
+    failure: &mut Option<Error>,
 ) -> Result<Reply, Fault>
     requires idle { conn.old.in_transaction ≡ false }
     requires body { body.now ≡ canonical command.now }
     requires lawful { IsCommand command.now }
     ensures idle { conn.new.in_transaction ≡ false }
     ensures clean { doubt (state S.Store conn.old).is_clean ≤ doubt (state S.Store conn.new).is_clean }
+    ensures named { IfErr result (IsNamed failure.new) }
     ensures any { (rows : Rows) (n : ℕ) (stored : List Ended) → AreDocketRows court.now n stored rows → n < 2 ^ 62 → HoldsRows S.Store conn.old rows
         → WritesWhole S.Store conn.new court.now n rows command.now result }
     ensures kept { (h : History) → Stands S.Store (serving conn.old court.now kept.old) h
@@ -143,11 +154,11 @@ fn keep<S: Alter>(
         → Applies S.Store (serving conn.new court.now kept.new) h command.now result }
 {
     changes_fit(changes);
-    let update = end_update(conn, alloc, court, kept, command, named, changes)?;
+    let update = end_update(conn, alloc, court, kept, command, named, changes, failure)?;
     keep_calendar(kept, &command.action);
     match write(conn, alloc, court, &update, command, body, changes) {
         Ok(()) => Ok(changes.reply),
-        Err(error) => Err(store_fault(conn, error)),
+        Err(error) => Err(store_fault(conn, error, failure)),
     }
 }
 
@@ -158,17 +169,30 @@ pub(crate) fn apply_to<S: Alter>(
     court: &Court,
     kept: &mut Option<CalendarItems>,
     command: &Command,
+    failure: &mut Option<Error>,
 ) -> Result<Reply, Fault>
     requires { conn.old.in_transaction ≡ false }
     ensures idle { conn.new.in_transaction ≡ false }
     ensures clean { doubt (state S.Store conn.old).is_clean ≤ doubt (state S.Store conn.new).is_clean }
+    ensures named { IfErr result (IsNamed failure.new) }
     ensures any { (rows : Rows) (n : ℕ) (stored : List Ended) → AreDocketRows court.now n stored rows → n < 2 ^ 62 → HoldsRows S.Store conn.old rows
         → WritesWhole S.Store conn.new court.now n rows command.now result }
     ensures answer { (h : History) → Stands S.Store (serving conn.old court.now kept.old) h
         → Applies S.Store (serving conn.new court.now kept.new) h command.now result }
+    // What nothing is written for fails only for a cause.
+    ensures spared { (h : History) → Stands S.Store (serving conn.old court.now kept.old) h → HasCleanDisk (state S.Store conn.new) → IsNotAccepted court.now h command.now
+        → IfErr result (IsCausedBy (state S.Store conn.old) (state S.Store conn.new) failure.new) }
 {
     let body = command_text(alloc, command)?;
-    let Judged { decision, named } = judge(conn, alloc, court, kept, command, body.as_str())?;
+    let Judged { decision, named } = judge(
+        conn,
+        alloc,
+        court,
+        kept,
+        command,
+        body.as_str(),
+        failure,
+    )?;
     match decision {
         Decision::Repeat(reply) => Ok(reply),
         Decision::Change(changes) => keep(
@@ -180,6 +204,7 @@ pub(crate) fn apply_to<S: Alter>(
             body.as_str(),
             named.as_slice(),
             &changes,
+            failure,
         ),
     }
 }

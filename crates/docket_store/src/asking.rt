@@ -1,5 +1,5 @@
 //! What the docket that the tables hold tells of a case.
-ghost use Rattle.std.specs.Prelude.{◌≡◌, ◌≤◌, List, Option, Some, [], false, MatchResult};
+ghost use Rattle.std.specs.Prelude.{◌≡◌, ◌≤◌, List, Option, Some, [], false, IfErr, MatchResult};
 ghost use Rattle.std.specs.Option.{option_map};
 ghost use Rattle.sqlite.specs.Held.{state};
 ghost use Rattle.sqlite.specs.State.{HasCleanDisk};
@@ -16,6 +16,7 @@ ghost use Rattle.docket_tables.specs.Layouts.{Rows};
 ghost use Rattle.docket_tables.specs.Stands.{HoldsRows};
 ghost use Rattle.docket_store.specs.AnyRows.{Preserves};
 ghost use Rattle.docket_store.specs.Applying.{Stands, Asks};
+ghost use Rattle.docket_store.specs.Causes.{IsCausedBy, IsNamed};
 ghost use Rattle.docket_store.specs.Dockets.{serving};
 ghost use Rattle.docket_store.specs.Sound.{IsNotTold};
 
@@ -29,7 +30,7 @@ use docket_core::{
     calendar_of,
 };
 use docket_tables::{ends_of_case, local_rules};
-use sqlite::{Alter, Connection};
+use sqlite::{Alter, Connection, Error};
 use std::alloc::Global;
 
 /// The case of a number, with its parties and its entries.
@@ -37,17 +38,23 @@ pub(crate) fn record_numbered<S: Alter>(
     conn: &mut Connection<S>,
     alloc: Global,
     number: u32,
+    failure: &mut Option<Error>,
 ) -> Result<Option<CaseRecord>, Fault>
     requires { conn.old.in_transaction ≡ false }
     ensures idle { conn.new.in_transaction ≡ false }
     ensures clean { doubt (state S.Store conn.old).is_clean ≤ doubt (state S.Store conn.new).is_clean }
     ensures stays { (rows : Rows) → HoldsRows S.Store conn.old rows → Preserves S.Store conn.new rows result }
+    ensures counts { (state S.Store conn.old).faults ≤ (state S.Store conn.new).faults }
+    ensures limit { (state S.Store conn.new).step_limit ≡ (state S.Store conn.old).step_limit }
+    ensures named { IfErr result (IsNamed failure.new) }
+    ensures cause { (rows : Rows) → HoldsRows S.Store conn.old rows → HasCleanDisk (state S.Store conn.new)
+        → IfErr result (IsCausedBy (state S.Store conn.old) (state S.Store conn.new) failure.new) }
     ensures answer { (court : CourtSettings) (kept : Option (List Item)) (h : History) → Stands S.Store (serving conn.old court kept) h
         → Asks S.Store (serving conn.new court kept) h (λ found. found ≡ case_record h number) result }
 {
     match case_record(conn, alloc, number) {
         Ok(found) => Ok(found),
-        Err(fault) => Err(read_fault(conn, fault)),
+        Err(fault) => Err(read_fault(conn, fault, failure)),
     }
 }
 
@@ -55,17 +62,23 @@ pub(crate) fn record_numbered<S: Alter>(
 pub(crate) fn rules_entered<S: Alter>(
     conn: &mut Connection<S>,
     alloc: Global,
+    failure: &mut Option<Error>,
 ) -> Result<Vec<LocalRuleRow>, Fault>
     requires { conn.old.in_transaction ≡ false }
     ensures idle { conn.new.in_transaction ≡ false }
     ensures clean { doubt (state S.Store conn.old).is_clean ≤ doubt (state S.Store conn.new).is_clean }
     ensures stays { (rows : Rows) → HoldsRows S.Store conn.old rows → Preserves S.Store conn.new rows result }
+    ensures counts { (state S.Store conn.old).faults ≤ (state S.Store conn.new).faults }
+    ensures limit { (state S.Store conn.new).step_limit ≡ (state S.Store conn.old).step_limit }
+    ensures named { IfErr result (IsNamed failure.new) }
+    ensures cause { (rows : Rows) → HoldsRows S.Store conn.old rows → HasCleanDisk (state S.Store conn.new)
+        → IfErr result (IsCausedBy (state S.Store conn.old) (state S.Store conn.new) failure.new) }
     ensures answer { (court : CourtSettings) (kept : Option (List Item)) (h : History) → Stands S.Store (serving conn.old court kept) h
         → Asks S.Store (serving conn.new court kept) h (λ found. found.items ≡ local_rule_rows h) result }
 {
     match local_rules(conn, alloc) {
         Ok(found) => Ok(found),
-        Err(fault) => Err(read_fault(conn, fault)),
+        Err(fault) => Err(read_fault(conn, fault, failure)),
     }
 }
 
@@ -74,17 +87,23 @@ fn deadlines_shown<S: Alter>(
     conn: &mut Connection<S>,
     alloc: Global,
     number: u32,
+    failure: &mut Option<Error>,
 ) -> Result<Option<Vec<DeadlineView>>, Fault>
     requires { conn.old.in_transaction ≡ false }
     ensures idle { conn.new.in_transaction ≡ false }
     ensures clean { doubt (state S.Store conn.old).is_clean ≤ doubt (state S.Store conn.new).is_clean }
     ensures stays { (rows : Rows) → HoldsRows S.Store conn.old rows → Preserves S.Store conn.new rows result }
+    ensures counts { (state S.Store conn.old).faults ≤ (state S.Store conn.new).faults }
+    ensures limit { (state S.Store conn.new).step_limit ≡ (state S.Store conn.old).step_limit }
+    ensures named { IfErr result (IsNamed failure.new) }
+    ensures cause { (rows : Rows) → HoldsRows S.Store conn.old rows → HasCleanDisk (state S.Store conn.new)
+        → IfErr result (IsCausedBy (state S.Store conn.old) (state S.Store conn.new) failure.new) }
     ensures answer { (court : CourtSettings) (kept : Option (List Item)) (h : History) → Stands S.Store (serving conn.old court kept) h
         → Asks S.Store (serving conn.new court kept) h (λ found. option_map (λ deadlines. deadlines.items) found ≡ case_deadlines (rows_of court h) number) result }
 {
     match case_deadlines(conn, alloc, number) {
         Ok(found) => Ok(found),
-        Err(fault) => Err(read_fault(conn, fault)),
+        Err(fault) => Err(read_fault(conn, fault, failure)),
     }
 }
 
@@ -93,17 +112,23 @@ fn calendar_shown<S: Alter>(
     conn: &mut Connection<S>,
     alloc: Global,
     kept: &mut Option<CalendarItems>,
+    failure: &mut Option<Error>,
 ) -> Result<CalendarItems, Fault>
     requires { conn.old.in_transaction ≡ false }
     ensures idle { conn.new.in_transaction ≡ false }
     ensures clean { doubt (state S.Store conn.old).is_clean ≤ doubt (state S.Store conn.new).is_clean }
     ensures stays { (rows : Rows) → HoldsRows S.Store conn.old rows → Preserves S.Store conn.new rows result }
+    ensures counts { (state S.Store conn.old).faults ≤ (state S.Store conn.new).faults }
+    ensures limit { (state S.Store conn.new).step_limit ≡ (state S.Store conn.old).step_limit }
+    ensures named { IfErr result (IsNamed failure.new) }
+    ensures cause { (rows : Rows) → HoldsRows S.Store conn.old rows → HasCleanDisk (state S.Store conn.new)
+        → IfErr result (IsCausedBy (state S.Store conn.old) (state S.Store conn.new) failure.new) }
     ensures answer { (court : CourtSettings) (h : History) → Stands S.Store (serving conn.old court kept.old) h
         → Asks S.Store (serving conn.new court kept.new) h (λ items. items ≡ items_of (standing_rows h)) result }
 {
     match take_calendar(conn, alloc, kept) {
         Ok(items) => Ok(items),
-        Err(fault) => Err(read_fault(conn, fault)),
+        Err(fault) => Err(read_fault(conn, fault, failure)),
     }
 }
 
@@ -123,15 +148,21 @@ pub(crate) fn calendar_told<S: Alter>(
     alloc: Global,
     court: &Court,
     kept: &mut Option<CalendarItems>,
+    failure: &mut Option<Error>,
 ) -> Result<Calendar, Fault>
     requires { conn.old.in_transaction ≡ false }
     ensures idle { conn.new.in_transaction ≡ false }
     ensures clean { doubt (state S.Store conn.old).is_clean ≤ doubt (state S.Store conn.new).is_clean }
     ensures stays { (rows : Rows) → HoldsRows S.Store conn.old rows → Preserves S.Store conn.new rows result }
+    ensures counts { (state S.Store conn.old).faults ≤ (state S.Store conn.new).faults }
+    ensures limit { (state S.Store conn.new).step_limit ≡ (state S.Store conn.old).step_limit }
+    ensures named { IfErr result (IsNamed failure.new) }
+    ensures cause { (rows : Rows) → HoldsRows S.Store conn.old rows → HasCleanDisk (state S.Store conn.new)
+        → IfErr result (IsCausedBy (state S.Store conn.old) (state S.Store conn.new) failure.new) }
     ensures answer { (h : History) → Stands S.Store (serving conn.old court.now kept.old) h
         → Asks S.Store (serving conn.new court.now kept.new) h (λ found. found ≡ calendar h) result }
 {
-    let items = calendar_shown(conn, alloc, kept)?;
+    let items = calendar_shown(conn, alloc, kept, failure)?;
     let answer = calendar_by(alloc, court, items.as_slice());
     *kept = Some(items);
     answer
@@ -142,17 +173,23 @@ fn ends_shown<S: Alter>(
     conn: &mut Connection<S>,
     alloc: Global,
     number: u32,
+    failure: &mut Option<Error>,
 ) -> Result<Vec<EndRow>, Fault>
     requires { conn.old.in_transaction ≡ false }
     ensures idle { conn.new.in_transaction ≡ false }
     ensures clean { doubt (state S.Store conn.old).is_clean ≤ doubt (state S.Store conn.new).is_clean }
     ensures stays { (rows : Rows) → HoldsRows S.Store conn.old rows → Preserves S.Store conn.new rows result }
+    ensures counts { (state S.Store conn.old).faults ≤ (state S.Store conn.new).faults }
+    ensures limit { (state S.Store conn.new).step_limit ≡ (state S.Store conn.old).step_limit }
+    ensures named { IfErr result (IsNamed failure.new) }
+    ensures cause { (rows : Rows) → HoldsRows S.Store conn.old rows → HasCleanDisk (state S.Store conn.new)
+        → IfErr result (IsCausedBy (state S.Store conn.old) (state S.Store conn.new) failure.new) }
     ensures answer { (court : CourtSettings) (kept : Option (List Item)) (h : History) → Stands S.Store (serving conn.old court kept) h
         → Asks S.Store (serving conn.new court kept) h (λ found. found.items ≡ end_rows_of (zone_of court) (calendar h) number (deadlines number h)) result }
 {
     match ends_of_case(conn, alloc, number) {
         Ok(found) => Ok(found),
-        Err(fault) => Err(read_fault(conn, fault)),
+        Err(fault) => Err(read_fault(conn, fault, failure)),
     }
 }
 
@@ -165,17 +202,23 @@ fn lines_of_case<S: Alter>(
     entered: &Calendar,
     number: u32,
     deadlines: &[DeadlineView],
+    failure: &mut Option<Error>,
 ) -> Result<Vec<DeadlineLine>, Fault>
     requires { conn.old.in_transaction ≡ false }
     ensures idle { conn.new.in_transaction ≡ false }
     ensures clean { doubt (state S.Store conn.old).is_clean ≤ doubt (state S.Store conn.new).is_clean }
     ensures stays { (rows : Rows) → HoldsRows S.Store conn.old rows → Preserves S.Store conn.new rows result }
+    ensures counts { (state S.Store conn.old).faults ≤ (state S.Store conn.new).faults }
+    ensures limit { (state S.Store conn.new).step_limit ≡ (state S.Store conn.old).step_limit }
+    ensures named { IfErr result (IsNamed failure.new) }
+    ensures cause { (rows : Rows) → HoldsRows S.Store conn.old rows → HasCleanDisk (state S.Store conn.new)
+        → IfErr result (IsCausedBy (state S.Store conn.old) (state S.Store conn.new) failure.new) }
     ensures answer { (kept : Option (List Item)) (h : History) → Stands S.Store (serving conn.old court.now kept) h
         → (HasCleanDisk (state S.Store conn.old) → entered.now ≡ calendar h)
         → (HasCleanDisk (state S.Store conn.old) → case_deadlines (rows_of court.now h) number ≡ Some deadlines.now)
         → Asks S.Store (serving conn.new court.now kept) h (λ lines. Some lines.items ≡ deadline_lines court.now h number) result }
 {
-    let stored = ends_shown(conn, alloc, number)?;
+    let stored = ends_shown(conn, alloc, number, failure)?;
     lines_told(alloc, court, entered, deadlines, stored.as_slice())
 }
 
@@ -187,18 +230,32 @@ pub(crate) fn lines_numbered<S: Alter>(
     court: &Court,
     kept: &mut Option<CalendarItems>,
     number: u32,
+    failure: &mut Option<Error>,
 ) -> Result<Option<Vec<DeadlineLine>>, Fault>
     requires { conn.old.in_transaction ≡ false }
     ensures idle { conn.new.in_transaction ≡ false }
     ensures clean { doubt (state S.Store conn.old).is_clean ≤ doubt (state S.Store conn.new).is_clean }
     ensures stays { (rows : Rows) → HoldsRows S.Store conn.old rows → Preserves S.Store conn.new rows result }
+    ensures counts { (state S.Store conn.old).faults ≤ (state S.Store conn.new).faults }
+    ensures limit { (state S.Store conn.new).step_limit ≡ (state S.Store conn.old).step_limit }
+    ensures named { IfErr result (IsNamed failure.new) }
+    ensures cause { (rows : Rows) → HoldsRows S.Store conn.old rows → HasCleanDisk (state S.Store conn.new)
+        → IfErr result (IsCausedBy (state S.Store conn.old) (state S.Store conn.new) failure.new) }
     ensures answer { (h : History) → Stands S.Store (serving conn.old court.now kept.old) h
         → Asks S.Store (serving conn.new court.now kept.new) h (λ found. option_map (λ lines. lines.items) found ≡ deadline_lines court.now h number) result }
 {
-    let Some(deadlines) = deadlines_shown(conn, alloc, number)? else {
+    let Some(deadlines) = deadlines_shown(conn, alloc, number, failure)? else {
         return Ok(None);
     };
-    let entered = calendar_told(conn, alloc, court, kept)?;
-    let lines = lines_of_case(conn, alloc, court, &entered, number, deadlines.as_slice())?;
+    let entered = calendar_told(conn, alloc, court, kept, failure)?;
+    let lines = lines_of_case(
+        conn,
+        alloc,
+        court,
+        &entered,
+        number,
+        deadlines.as_slice(),
+        failure,
+    )?;
     Ok(Some(lines))
 }

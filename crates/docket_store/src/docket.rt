@@ -1,5 +1,5 @@
 //! The docket of a court in a database.
-ghost use Rattle.std.specs.Prelude.{◌≡◌, ◌↔◌, ◌⊎◌, ◌≤◌, ◌<◌, ◌^◌, ℕ, List, [], true, false, Ok, Err, IfOk, OnOk, IfErr, IsErrAnd, IsTrue, MatchResult};
+ghost use Rattle.std.specs.Prelude.{◌≡◌, ◌↔◌, ◌⊎◌, ◌≤◌, ◌<◌, ◌^◌, ℕ, List, [], true, false, Ok, Err, IfOk, OnOk, IfErr, IsErrAnd, IsTrue, MatchResult, is_some};
 ghost use Rattle.sqlite.specs.Held.{state};
 ghost use Rattle.sqlite.specs.State.{HasCleanDisk, Survives};
 ghost use Rattle.sqlite.specs.View.{doubt};
@@ -22,6 +22,7 @@ ghost use Rattle.docket_tables.specs.Stands.{HoldsRows, HoldsRowsIn};
 ghost use Rattle.docket_tables.specs.declared.table.Table.TheVariants as table;
 ghost use Rattle.docket_store.specs.AnyRows.{Preserves, PreservesCalendar, PreservesListing, PreservesRejected, WritesWhole};
 ghost use Rattle.docket_store.specs.Applying.{IsDocket, StandsFor, Stands, Applies, Asks, docket_rows};
+ghost use Rattle.docket_store.specs.Causes.{IsClosedForCause, IsNamed, IsNotAccepted};
 ghost use Rattle.docket_store.specs.Listing.{Lists, ListsCalendar};
 ghost use Rattle.docket_store.specs.Migrating.{cause_of};
 ghost use Rattle.docket_store.specs.Opening.{IsAdopted, IsNotAdopted, IsNotMade, IsRejected, IsSoundDocket, IsSoundWith};
@@ -36,7 +37,7 @@ use crate::asking::{lines_numbered, record_numbered, rules_entered};
 use crate::creating::{CreateFault, make_docket};
 use crate::fault::Fault;
 use crate::laws::courts_begin_without_a_record;
-use crate::listing::{CalendarEnd, ListingEnd, is_broken_store, list_days};
+use crate::listing::{CalendarEnd, ListingEnd, breaking_error, list_days};
 use crate::migrating::MigrateFault;
 use crate::returned::Returned;
 use court_days::{Court, Day};
@@ -44,7 +45,7 @@ use docket_command::{Command, Reply};
 use docket_core::{CalendarItems, CaseRecord, DeadlineLine, LocalRuleRow};
 use docket_migration::migrate;
 use docket_scan::{AdoptFault, FoundDocket, Holdings, Unwatched, Watch};
-use sqlite::{Alter, Connection};
+use sqlite::{Alter, Connection, Error};
 use std::alloc::Global;
 use std::io::Write;
 use std::marker::Model;
@@ -55,21 +56,21 @@ pub struct Docket<S: Alter> {
     alloc: Global,
     conn: Connection<S>,
     court: Court,
-    // Whether the database failed.
-    closed: bool,
+    // The error of the database, where it failed.
+    closed_by: Option<Error>,
     // The calendar, from when it is first asked for until it changes.
     calendar: Option<CalendarItems>,
 }
 
 impl<S: Alter> Model for Docket<S> {
-    ghost use Rattle.std.specs.Prelude.{◌≡◌, false};
+    ghost use Rattle.std.specs.Prelude.{◌≡◌, false, is_some};
     ghost use Rattle.docket_store.specs.Dockets.{Docket, docket_code};
 
     ghost Value = { Docket S };
 
     ghost coded = { docket_code S.code };
 
-    ghost view = { λ d. record { conn = d.conn; court = d.court; closed = d.closed; calendar = d.calendar } };
+    ghost view = { λ d. record { conn = d.conn; court = d.court; closed = is_some d.closed_by; closed_by = d.closed_by; calendar = d.calendar } };
 
     ghost invariant = { λ d. d.conn.in_transaction ≡ false };
 }
@@ -79,6 +80,18 @@ fn is_store_failure<T>(answer: &Result<T, Fault>) -> bool
     ensures { (result ≡ true) ↔ (answer.now ≡ Err fault.StoreFailed) }
 {
     matches!(answer, Err(Fault::StoreFailed))
+}
+
+/// The error that closes the docket: the last failure, where the database failed.
+fn closing_error<T>(answer: &Result<T, Fault>, failure: Option<Error>) -> Option<Error>
+    requires { IfErr answer.now (IsNamed failure) }
+    ensures fails { (is_some result ≡ true) ↔ (answer.now ≡ Err fault.StoreFailed) }
+    ensures kept { answer.now ≡ Err fault.StoreFailed → result ≡ failure }
+{
+    if is_store_failure(answer) {
+        return failure;
+    }
+    None
 }
 
 impl<S: Alter> Docket<S> {
@@ -100,7 +113,7 @@ impl<S: Alter> Docket<S> {
                 alloc,
                 conn: connection,
                 court,
-                closed: false,
+                closed_by: None,
                 calendar: None,
             }),
             Err(fault) => Err(Returned { fault, connection }),
@@ -170,7 +183,7 @@ impl<S: Alter> Docket<S> {
                     alloc,
                     conn: connection,
                     court,
-                    closed: false,
+                    closed_by: None,
                     calendar: None,
                 };
                 Ok((docket, held))
@@ -251,14 +264,18 @@ impl<S: Alter> Docket<S> {
             → WritesWhole S.Store self.new.conn self.new.court n rows command.now result }
         ensures clean { doubt (state S.Store self.old.conn).is_clean ≤ doubt (state S.Store self.new.conn).is_clean }
         ensures closes { self.old.closed ≡ false → (self.new.closed ≡ true) ↔ (result ≡ Err fault.StoreFailed) }
+        // A command that is refused, or a repeat, fails of the database only for a cause.
+        ensures cause { (h : History) → Stands S.Store self.old h → IsNotAccepted self.old.court h command.now → HasCleanDisk (state S.Store self.new.conn)
+            → result ≡ Err fault.StoreFailed → IsClosedForCause S.Store self.old self.new }
     {
-        if self.closed {
+        if self.closed_by.is_some() {
             return Err(Fault::Closed);
         }
         let conn = &mut self.conn;
         let kept = &mut self.calendar;
-        let answer = apply_to(conn, self.alloc, &self.court, kept, command);
-        self.closed = is_store_failure(&answer);
+        let mut failure = None;
+        let answer = apply_to(conn, self.alloc, &self.court, kept, command, &mut failure);
+        self.closed_by = closing_error(&answer, failure);
         answer
     }
 
@@ -272,12 +289,16 @@ impl<S: Alter> Docket<S> {
         ensures stays { (rows : Rows) → HoldsRows S.Store self.old.conn rows → Preserves S.Store self.new.conn rows result }
         ensures clean { doubt (state S.Store self.old.conn).is_clean ≤ doubt (state S.Store self.new.conn).is_clean }
         ensures closes { self.old.closed ≡ false → (self.new.closed ≡ true) ↔ (result ≡ Err fault.StoreFailed) }
+        // The database fails only for a cause.
+        ensures cause { (rows : Rows) → HoldsRows S.Store self.old.conn rows → HasCleanDisk (state S.Store self.new.conn)
+            → result ≡ Err fault.StoreFailed → IsClosedForCause S.Store self.old self.new }
     {
-        if self.closed {
+        if self.closed_by.is_some() {
             return Err(Fault::Closed);
         }
-        let answer = record_numbered(&mut self.conn, self.alloc, number);
-        self.closed = is_store_failure(&answer);
+        let mut failure = None;
+        let answer = record_numbered(&mut self.conn, self.alloc, number, &mut failure);
+        self.closed_by = closing_error(&answer, failure);
         answer
     }
 
@@ -291,14 +312,18 @@ impl<S: Alter> Docket<S> {
         ensures stays { (rows : Rows) → HoldsRows S.Store self.old.conn rows → Preserves S.Store self.new.conn rows result }
         ensures clean { doubt (state S.Store self.old.conn).is_clean ≤ doubt (state S.Store self.new.conn).is_clean }
         ensures closes { self.old.closed ≡ false → (self.new.closed ≡ true) ↔ (result ≡ Err fault.StoreFailed) }
+        // The database fails only for a cause.
+        ensures cause { (rows : Rows) → HoldsRows S.Store self.old.conn rows → HasCleanDisk (state S.Store self.new.conn)
+            → result ≡ Err fault.StoreFailed → IsClosedForCause S.Store self.old self.new }
     {
-        if self.closed {
+        if self.closed_by.is_some() {
             return Err(Fault::Closed);
         }
         let conn = &mut self.conn;
         let kept = &mut self.calendar;
-        let answer = lines_numbered(conn, self.alloc, &self.court, kept, number);
-        self.closed = is_store_failure(&answer);
+        let mut failure = None;
+        let answer = lines_numbered(conn, self.alloc, &self.court, kept, number, &mut failure);
+        self.closed_by = closing_error(&answer, failure);
         answer
     }
 
@@ -312,12 +337,16 @@ impl<S: Alter> Docket<S> {
         ensures stays { (rows : Rows) → HoldsRows S.Store self.old.conn rows → Preserves S.Store self.new.conn rows result }
         ensures clean { doubt (state S.Store self.old.conn).is_clean ≤ doubt (state S.Store self.new.conn).is_clean }
         ensures closes { self.old.closed ≡ false → (self.new.closed ≡ true) ↔ (result ≡ Err fault.StoreFailed) }
+        // The database fails only for a cause.
+        ensures cause { (rows : Rows) → HoldsRows S.Store self.old.conn rows → HasCleanDisk (state S.Store self.new.conn)
+            → result ≡ Err fault.StoreFailed → IsClosedForCause S.Store self.old self.new }
     {
-        if self.closed {
+        if self.closed_by.is_some() {
             return Err(Fault::Closed);
         }
-        let answer = rules_entered(&mut self.conn, self.alloc);
-        self.closed = is_store_failure(&answer);
+        let mut failure = None;
+        let answer = rules_entered(&mut self.conn, self.alloc, &mut failure);
+        self.closed_by = closing_error(&answer, failure);
         answer
     }
 
@@ -343,13 +372,18 @@ impl<S: Alter> Docket<S> {
         ensures closes { self.old.closed ≡ false → (self.new.closed ≡ true)
             ↔ ((result ≡ Err (listing_end.NotBegun fault.StoreFailed)) ⊎ (result ≡ Err (listing_end.Broken fault.StoreFailed))) }
     {
-        if self.closed {
+        if self.closed_by.is_some() {
             return Err(ListingEnd::NotBegun(Fault::Closed));
         }
+        let mut failure = None;
         let conn = &mut self.conn;
         let kept = &mut self.calendar;
-        let answer = list_days(conn, self.alloc, &self.court, kept, from, to, front, writer);
-        self.closed = is_broken_store(&answer);
+        let court = &self.court;
+        let error = &mut failure;
+        let answer = list_days(
+            conn, self.alloc, court, kept, from, to, front, writer, error,
+        );
+        self.closed_by = breaking_error(&answer, failure);
         answer
     }
 
@@ -391,7 +425,14 @@ impl<S: Alter> Docket<S> {
     pub fn is_closed(&self) -> bool
         ensures { result ≡ self.now.closed }
     {
-        self.closed
+        self.closed_by.is_some()
+    }
+
+    /// The error of the database for which the docket is closed.
+    pub fn closed_by(&self) -> Option<Error>
+        ensures { result ≡ self.now.closed_by }
+    {
+        self.closed_by
     }
 
     /// The connection, with whatever it holds.
@@ -403,7 +444,7 @@ impl<S: Alter> Docket<S> {
             alloc: _,
             conn,
             court: _,
-            closed: _,
+            closed_by: _,
             calendar: _,
         } = self;
         conn

@@ -1,12 +1,16 @@
 //! Why a docket gave no answer.
-ghost use Rattle.std.specs.Prelude.{◌≡◌, ◌≤◌, false};
+ghost use Rattle.std.specs.Prelude.{◌≡◌, ◌≤◌, false, Option, Some};
 ghost use Rattle.sqlite.specs.Held.{state};
 ghost use Rattle.sqlite.specs.View.{doubt};
+ghost use Rattle.sqlite.specs.declared.error.Error.{Error as Failure};
 ghost use Rattle.docket_tables.specs.Layouts.{Rows};
 ghost use Rattle.docket_tables.specs.Readings.{Fails, StaysAt};
 ghost use Rattle.docket_tables.specs.Stands.{Lasts, LastsAsEither};
 ghost use Rattle.docket_store.specs.AnyRows.{PreservesAt};
+ghost use Rattle.docket_tables.specs.declared.fault.ReadFault.TheVariants.{Store};
 ghost use Rattle.docket_store.specs.Applying.{FailsAs};
+ghost use Rattle.docket_store.specs.Causes.{IsNamed};
+ghost use Rattle.docket_store.specs.declared.fault.Fault.TheVariants.{StoreFailed};
 
 use docket_command::Refusal;
 use docket_tables::{ReadFault, StoreFault, fault_of};
@@ -64,30 +68,48 @@ impl fmt::Display for Fault {
     }
 }
 
-/// What an error of the database comes to.
-pub(crate) fn store_fault<S: Alter>(conn: &mut Connection<S>, error: Error) -> Fault
+/// What an error of the database comes to. It is kept as the last failure.
+pub(crate) fn store_fault<S: Alter>(
+    conn: &mut Connection<S>,
+    error: Error,
+    failure: &mut Option<Error>,
+) -> Fault
     requires { conn.old.in_transaction ≡ false }
     ensures idle { conn.new.in_transaction ≡ false }
     ensures clean { doubt (state S.Store conn.old).is_clean ≤ doubt (state S.Store conn.new).is_clean }
     ensures stays { (rows : Rows) → Lasts S.Store conn.old rows → PreservesAt S.Store conn.new rows result }
     ensures left { (rows next : Rows) → LastsAsEither S.Store conn.old rows next → FailsAs S.Store conn.new rows next result }
+    ensures counts { (state S.Store conn.old).faults ≤ (state S.Store conn.new).faults }
+    ensures limit { (state S.Store conn.new).step_limit ≡ (state S.Store conn.old).step_limit }
+    ensures named { IsNamed failure.new result }
+    ensures kept { failure.new ≡ Some error }
 {
+    *failure = Some(error);
     match fault_of(conn, error) {
         StoreFault::NoMemory => Fault::NoMemory,
         StoreFault::StoreFailed => Fault::StoreFailed,
     }
 }
 
-/// What a question that the tables did not answer comes to.
-pub(crate) fn read_fault<S: Alter>(conn: &mut Connection<S>, fault: ReadFault) -> Fault
+/// What a question that the tables did not answer comes to. An error of the database is kept as the last
+/// failure.
+pub(crate) fn read_fault<S: Alter>(
+    conn: &mut Connection<S>,
+    fault: ReadFault,
+    failure: &mut Option<Error>,
+) -> Fault
     requires { conn.old.in_transaction ≡ false }
     ensures idle { conn.new.in_transaction ≡ false }
     ensures clean { doubt (state S.Store conn.old).is_clean ≤ doubt (state S.Store conn.new).is_clean }
     ensures stays { (rows : Rows) → StaysAt S.Store conn.old rows fault → PreservesAt S.Store conn.new rows result }
     ensures left { (rows next : Rows) → Fails S.Store conn.old rows fault → FailsAs S.Store conn.new rows next result }
+    ensures counts { (state S.Store conn.old).faults ≤ (state S.Store conn.new).faults }
+    ensures limit { (state S.Store conn.new).step_limit ≡ (state S.Store conn.old).step_limit }
+    ensures named { IsNamed failure.new result }
+    ensures blames { result ≡ StoreFailed → (e : Failure) × (fault ≡ Store e) × (failure.new ≡ Some e) }
 {
     match fault {
-        ReadFault::Store(error) => store_fault(conn, error),
+        ReadFault::Store(error) => store_fault(conn, error, failure),
         ReadFault::NoMemory => Fault::NoMemory,
         ReadFault::Damaged => Fault::Damaged,
     }

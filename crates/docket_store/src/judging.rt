@@ -1,5 +1,5 @@
 //! What is done with a command, by the docket that the tables hold.
-ghost use Rattle.std.specs.Prelude.{◌≡◌, ◌≤◌, [], false, if◌then◌else◌, IfOk};
+ghost use Rattle.std.specs.Prelude.{◌≡◌, ◌≤◌, [], false, if◌then◌else◌, IfErr, IfOk};
 ghost use Rattle.sqlite.specs.Held.{state};
 ghost use Rattle.sqlite.specs.State.{HasCleanDisk};
 ghost use Rattle.sqlite.specs.View.{doubt};
@@ -9,11 +9,13 @@ ghost use Rattle.docket_core.specs.Histories.{History, items_of, standing_rows};
 ghost use Rattle.docket_core.specs.Outcomes.{shown};
 ghost use Rattle.docket_wire.specs.Valid.{IsCommand};
 ghost use Rattle.docket_wire.specs.Writing.{canonical};
+ghost use Rattle.docket_tables.specs.Causes.{FailsForCause};
 ghost use Rattle.docket_tables.specs.Layouts.{Rows};
 ghost use Rattle.docket_tables.specs.Readings.{Gives, Stays};
 ghost use Rattle.docket_tables.specs.Stands.{HoldsRows};
 ghost use Rattle.docket_store.specs.AnyRows.{Preserves, RepeatsReceipt, ShowsReceipt};
 ghost use Rattle.docket_store.specs.Applying.{IsDocket, StandsFor, Keeps, Stands, Shows, Judges, docket_rows};
+ghost use Rattle.docket_store.specs.Causes.{IsCausedBy, IsNamed};
 ghost use Rattle.docket_store.specs.Dockets.{serving};
 
 use crate::fault::{Fault, read_fault};
@@ -23,7 +25,7 @@ use docket_changes::{calendar_items, is_sound, view};
 use docket_command::{Action, Command};
 use docket_core::{CalendarItems, DecideFault, Decision, View, acts_named, asks_calendar, decide};
 use docket_tables::ReadFault;
-use sqlite::{Alter, Connection};
+use sqlite::{Alter, Connection, Error};
 use std::alloc::Global;
 
 /// The calendar: what is kept of it is taken, and else the tables are asked.
@@ -35,6 +37,9 @@ pub(crate) fn take_calendar<S: Alter>(
     ensures mode { conn.old.in_transaction ≡ false → conn.new.in_transaction ≡ false }
     ensures clean { doubt (state S.Store conn.old).is_clean ≤ doubt (state S.Store conn.new).is_clean }
     ensures stays { (rows : Rows) → HoldsRows S.Store conn.old rows → Stays S.Store conn.new rows result }
+    ensures counts { (state S.Store conn.old).faults ≤ (state S.Store conn.new).faults }
+    ensures limit { (state S.Store conn.new).step_limit ≡ (state S.Store conn.old).step_limit }
+    ensures cause { (rows : Rows) → HoldsRows S.Store conn.old rows → HasCleanDisk (state S.Store conn.new) → FailsForCause (state S.Store conn.old) (state S.Store conn.new) result }
     ensures kept { (h : History) → Keeps kept.old h → Keeps kept.new h }
     ensures read { (court : CourtSettings) (h : History) → Stands S.Store (serving conn.old court kept.old) h
         → Gives S.Store conn.new (docket_rows court h) (λ items. items ≡ items_of (standing_rows h)) result }
@@ -55,6 +60,9 @@ fn calendar_asked<S: Alter>(
     ensures mode { conn.old.in_transaction ≡ false → conn.new.in_transaction ≡ false }
     ensures clean { doubt (state S.Store conn.old).is_clean ≤ doubt (state S.Store conn.new).is_clean }
     ensures stays { (rows : Rows) → HoldsRows S.Store conn.old rows → Stays S.Store conn.new rows result }
+    ensures counts { (state S.Store conn.old).faults ≤ (state S.Store conn.new).faults }
+    ensures limit { (state S.Store conn.new).step_limit ≡ (state S.Store conn.old).step_limit }
+    ensures cause { (rows : Rows) → HoldsRows S.Store conn.old rows → HasCleanDisk (state S.Store conn.new) → FailsForCause (state S.Store conn.old) (state S.Store conn.new) result }
     ensures kept { (h : History) → Keeps kept.old h → Keeps kept.new h }
     ensures read { (court : CourtSettings) (h : History) → Stands S.Store (serving conn.old court kept.old) h
         → Gives S.Store conn.new (docket_rows court h) (λ items. items ≡ (if asks_calendar action.now then items_of (standing_rows h) else [])) result }
@@ -78,6 +86,9 @@ fn shown<S: Alter>(
     ensures mode { conn.old.in_transaction ≡ false → conn.new.in_transaction ≡ false }
     ensures clean { doubt (state S.Store conn.old).is_clean ≤ doubt (state S.Store conn.new).is_clean }
     ensures stays { (rows : Rows) → HoldsRows S.Store conn.old rows → Stays S.Store conn.new rows result }
+    ensures counts { (state S.Store conn.old).faults ≤ (state S.Store conn.new).faults }
+    ensures limit { (state S.Store conn.new).step_limit ≡ (state S.Store conn.old).step_limit }
+    ensures cause { (rows : Rows) → HoldsRows S.Store conn.old rows → HasCleanDisk (state S.Store conn.new) → FailsForCause (state S.Store conn.old) (state S.Store conn.new) result }
     ensures kept { (h : History) → Keeps kept.old h → Keeps kept.new h }
     ensures read { (court : CourtSettings) (h : History) → Stands S.Store (serving conn.old court kept.old) h
         → Gives S.Store conn.new (docket_rows court h) (λ view. view ≡ shown court h command.now) result }
@@ -94,6 +105,7 @@ fn look<S: Alter>(
     kept: &mut Option<CalendarItems>,
     command: &Command,
     body: &str,
+    failure: &mut Option<Error>,
 ) -> Result<View, Fault>
     requires idle { conn.old.in_transaction ≡ false }
     requires body { body.now ≡ canonical command.now }
@@ -101,13 +113,18 @@ fn look<S: Alter>(
     ensures idle { conn.new.in_transaction ≡ false }
     ensures clean { doubt (state S.Store conn.old).is_clean ≤ doubt (state S.Store conn.new).is_clean }
     ensures stays { (rows : Rows) → HoldsRows S.Store conn.old rows → Preserves S.Store conn.new rows result }
+    ensures counts { (state S.Store conn.old).faults ≤ (state S.Store conn.new).faults }
+    ensures limit { (state S.Store conn.new).step_limit ≡ (state S.Store conn.old).step_limit }
+    ensures cause { (rows : Rows) → HoldsRows S.Store conn.old rows → HasCleanDisk (state S.Store conn.new)
+        → IfErr result (IsCausedBy (state S.Store conn.old) (state S.Store conn.new) failure.new) }
+    ensures named { IfErr result (IsNamed failure.new) }
     ensures shown { (court : CourtSettings) (h : History) → Stands S.Store (serving conn.old court kept.old) h
         → Shows S.Store (serving conn.new court kept.new) h command.now result }
     ensures receipt { (rows : Rows) → HoldsRows S.Store conn.old rows → HasCleanDisk (state S.Store conn.new) → IfOk result (ShowsReceipt rows command.now) }
 {
     match shown(conn, alloc, kept, command, body) {
         Ok(view) => Ok(view),
-        Err(fault) => Err(read_fault(conn, fault)),
+        Err(fault) => Err(read_fault(conn, fault, failure)),
     }
 }
 
@@ -126,6 +143,7 @@ pub(crate) fn judge<S: Alter>(
     kept: &mut Option<CalendarItems>,
     command: &Command,
     body: &str,
+    failure: &mut Option<Error>,
 ) -> Result<Judged, Fault>
     requires idle { conn.old.in_transaction ≡ false }
     requires body { body.now ≡ canonical command.now }
@@ -133,12 +151,17 @@ pub(crate) fn judge<S: Alter>(
     ensures idle { conn.new.in_transaction ≡ false }
     ensures clean { doubt (state S.Store conn.old).is_clean ≤ doubt (state S.Store conn.new).is_clean }
     ensures stays { (rows : Rows) → HoldsRows S.Store conn.old rows → Preserves S.Store conn.new rows result }
+    ensures counts { (state S.Store conn.old).faults ≤ (state S.Store conn.new).faults }
+    ensures limit { (state S.Store conn.new).step_limit ≡ (state S.Store conn.old).step_limit }
+    ensures cause { (rows : Rows) → HoldsRows S.Store conn.old rows → HasCleanDisk (state S.Store conn.new)
+        → IfErr result (IsCausedBy (state S.Store conn.old) (state S.Store conn.new) failure.new) }
+    ensures named { IfErr result (IsNamed failure.new) }
     ensures judged { (h : History) → Stands S.Store (serving conn.old court.now kept.old) h
         → Judges S.Store (serving conn.new court.now kept.new) h command.now result }
     ensures repeats { (rows : Rows) → HoldsRows S.Store conn.old rows → HasCleanDisk (state S.Store conn.new)
         → IfOk result (λ judged. RepeatsReceipt rows command.now judged.decision) }
 {
-    let view = look(conn, alloc, kept, command, body)?;
+    let view = look(conn, alloc, kept, command, body, failure)?;
     if !is_sound(court, &view) {
         return Err(Fault::Damaged);
     }

@@ -1,5 +1,5 @@
 //! The calendar of a docket, written row by row.
-ghost use Rattle.std.specs.Prelude.{◌≡◌, ◌≤◌, ◌⊎◌, ◌↔◌, List, Option, Err, true, false, MatchResult};
+ghost use Rattle.std.specs.Prelude.{◌≡◌, ◌≤◌, ◌⊎◌, ◌↔◌, List, Option, Err, is_some, true, false, MatchResult};
 ghost use Rattle.sqlite.specs.Held.{state};
 ghost use Rattle.sqlite.specs.View.{doubt};
 ghost use Rattle.sqlite.specs.State.{HasCleanDisk};
@@ -10,6 +10,7 @@ ghost use Rattle.docket_tables.specs.Layouts.{Rows};
 ghost use Rattle.docket_tables.specs.Stands.{HoldsRows};
 ghost use Rattle.docket_store.specs.AnyRows.{PreservesListing};
 ghost use Rattle.docket_store.specs.Applying.{Stands};
+ghost use Rattle.docket_store.specs.Causes.{IsNamedEnd};
 ghost use Rattle.docket_store.specs.Dockets.{serving};
 ghost use Rattle.docket_store.specs.Listing.{Lists};
 ghost use Rattle.docket_store.specs.declared.fault.Fault.TheVariants as fault;
@@ -19,7 +20,7 @@ use crate::fault::{Fault, read_fault};
 use court_days::{Calendar, Court, Day};
 use docket_calendar::{Stop, calendar};
 use docket_core::CalendarItems;
-use sqlite::{Alter, Connection};
+use sqlite::{Alter, Connection, Error};
 use std::alloc::Global;
 use std::io::Write;
 
@@ -44,13 +45,27 @@ pub enum ListingEnd {
 }
 
 /// Whether the database failed.
-pub(crate) fn is_broken_store(answer: &Result<u32, ListingEnd>) -> bool
+fn is_broken_store(answer: &Result<u32, ListingEnd>) -> bool
     ensures { (result ≡ true) ↔ ((answer.now ≡ Err (ListingEnd.NotBegun fault.StoreFailed)) ⊎ (answer.now ≡ Err (ListingEnd.Broken fault.StoreFailed))) }
 {
     matches!(
         answer,
         Err(ListingEnd::NotBegun(Fault::StoreFailed) | ListingEnd::Broken(Fault::StoreFailed))
     )
+}
+
+/// The error that closes the docket: the last failure, where the database failed.
+pub(crate) fn breaking_error(
+    answer: &Result<u32, ListingEnd>,
+    failure: Option<Error>,
+) -> Option<Error>
+    requires { IsNamedEnd failure answer.now }
+    ensures { (is_some result ≡ true) ↔ ((answer.now ≡ Err (ListingEnd.NotBegun fault.StoreFailed)) ⊎ (answer.now ≡ Err (ListingEnd.Broken fault.StoreFailed))) }
+{
+    if is_broken_store(answer) {
+        return failure;
+    }
+    None
 }
 
 /// Writes the bytes, and the calendar of the days from one to another behind them, by a calendar that
@@ -64,19 +79,21 @@ fn list_by<S: Alter, W: Write>(
     to: Day,
     front: &[u8],
     writer: &mut W,
+    failure: &mut Option<Error>,
 ) -> Result<u32, ListingEnd>
     requires { conn.old.in_transaction ≡ false }
     ensures idle { conn.new.in_transaction ≡ false }
     ensures clean { doubt (state S.Store conn.old).is_clean ≤ doubt (state S.Store conn.new).is_clean }
     ensures stays { (rows : Rows) → HoldsRows S.Store conn.old rows → PreservesListing S.Store conn.new rows result }
+    ensures named { IsNamedEnd failure.new result }
     ensures lists { (kept : Option (List Item)) (h : History) → Stands S.Store (serving conn.old court.now kept) h
         → (HasCleanDisk (state S.Store conn.old) → entered.now ≡ entered_by h)
         → Lists S.Store (serving conn.new court.now kept) h from to front.now (W.contents writer.old) (W.contents writer.new) result }
 {
     match calendar(conn, alloc, court, entered, from, to, front, writer) {
         Ok(lines) => Ok(lines),
-        Err(Stop::NotBegun(fault)) => Err(ListingEnd::NotBegun(read_fault(conn, fault))),
-        Err(Stop::Broken(fault)) => Err(ListingEnd::Broken(read_fault(conn, fault))),
+        Err(Stop::NotBegun(fault)) => Err(ListingEnd::NotBegun(read_fault(conn, fault, failure))),
+        Err(Stop::Broken(fault)) => Err(ListingEnd::Broken(read_fault(conn, fault, failure))),
         Err(Stop::WriteFailed) => Err(ListingEnd::WriteFailed),
     }
 }
@@ -92,17 +109,21 @@ pub(crate) fn list_days<S: Alter, W: Write>(
     to: Day,
     front: &[u8],
     writer: &mut W,
+    failure: &mut Option<Error>,
 ) -> Result<u32, ListingEnd>
     requires { conn.old.in_transaction ≡ false }
     ensures idle { conn.new.in_transaction ≡ false }
     ensures clean { doubt (state S.Store conn.old).is_clean ≤ doubt (state S.Store conn.new).is_clean }
     ensures stays { (rows : Rows) → HoldsRows S.Store conn.old rows → PreservesListing S.Store conn.new rows result }
+    ensures named { IsNamedEnd failure.new result }
     ensures lists { (h : History) → Stands S.Store (serving conn.old court.now kept.old) h
         → Lists S.Store (serving conn.new court.now kept.new) h from to front.now (W.contents writer.old) (W.contents writer.new) result }
 {
-    let entered = match calendar_told(conn, alloc, court, kept) {
+    let entered = match calendar_told(conn, alloc, court, kept, failure) {
         Ok(entered) => entered,
         Err(fault) => return Err(ListingEnd::NotBegun(fault)),
     };
-    list_by(conn, alloc, court, &entered, from, to, front, writer)
+    list_by(
+        conn, alloc, court, &entered, from, to, front, writer, failure,
+    )
 }

@@ -30,6 +30,7 @@ pub fn answer<S: Alter>(
         → AnswersWhole S.Store docket.new.conn docket.new.court n rows command.now result }
     ensures answer { (h : History) → Stands S.Store docket.old h → IfOk result (Answers S.Store docket.new h command.now) }
     ensures halts { (h : History) → Stands S.Store docket.old h → IfErr result (Halts S.Store docket.new h command.now) }
+    ensures closes { result ≡ Err fault.StoreFailed → docket.new.closed ≡ true }
 {
     match docket.apply(command) {
         Ok(reply) => Ok(Ok(reply)),

@@ -1,6 +1,7 @@
-use Rattle.std.proofs.Common.{◌∙◌, sym}
-use Rattle.docket_http.proofs.AskingLemmas.{unknown_case}
+use Rattle.std.proofs.Common.{◌∙◌, sym, ℕ, ap, refl, Err}
+use Rattle.docket_http.proofs.AskingLemmas.{unknown_case, asked_replied, passed_on}
 use Rattle.docket_store.proofs.AnyLemmas.{err_preserves}
+use Rattle.http_request.specs.declared.wish.Wish.TheVariants.{Case}
 use Rattle.docket_http.proofs.asking.case_reply.Goals as goal
 
 pub returns-in-Some-clause-replies : goal.returns-in-Some-clause-replies
@@ -18,3 +19,8 @@ returns-in_err-case-clause-stays g c rows holds = err_preserves g.S.Store c.case
 
 pub returns-in-Some-clause-stays : goal.returns-in-Some-clause-stays
 returns-in-Some-clause-stays g c rows holds = c.found_reply.ensures.stays rows (c.in_ok-case.ensures.stays rows holds)
+
+pub returns-in_err-case-clause-replies : goal.returns-in_err-case-clause-replies
+returns-in_err-case-clause-replies g c h body stands =
+    passed_on g.S.Store c.case.new.self h (Case c.args.number) body c.from_residual.result _ c.from_residual.ensures.1
+    (asked_replied g.S.Store c.case.new.self h (Case c.args.number) body _ (λ (n : ℕ). ⊥) refl refl refl (λ is. (c.in_err-case.ensures.closes stands.serves).1 (ap Err is)) (c.in_err-case.ensures.answer h stands))

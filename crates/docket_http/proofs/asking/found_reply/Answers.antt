@@ -1,4 +1,4 @@
-use Rattle.std.proofs.Common.{◌∙◌, ℕ, sym, ap, refl, Some}
+use Rattle.std.proofs.Common.{◌∙◌, ℕ, sym, ap, refl, Some, Err}
 use Rattle.std.specs.Option.{option_map}
 use Rattle.http_request.specs.declared.wish.Wish.TheVariants.{Case}
 use Rattle.docket_http.proofs.AskingLemmas.{case_replied, case_missing, clean_before, asked_replied, passed_on}
@@ -23,7 +23,7 @@ returns-in-None-clause-replies g c h body stands recorded =
 pub returns-in_err-lines-clause-replies : goal.returns-in_err-lines-clause-replies
 returns-in_err-lines-clause-replies g c h body stands recorded =
     passed_on g.S.Store c.deadlines.new.self h (Case c.args.number) body c.from_residual.result _ c.from_residual.ensures.1
-    (asked_replied g.S.Store c.deadlines.new.self h (Case c.args.number) body _ (λ (n : ℕ). ⊥) refl refl refl (c.in_err-lines.ensures.answer h stands))
+    (asked_replied g.S.Store c.deadlines.new.self h (Case c.args.number) body _ (λ (n : ℕ). ⊥) refl refl refl (λ is. (c.in_err-lines.ensures.closes stands.serves).1 (ap Err is)) (c.in_err-lines.ensures.answer h stands))
 
 pub returns-in_err-lines-clause-stays : goal.returns-in_err-lines-clause-stays
 returns-in_err-lines-clause-stays g c rows holds = err_preserves g.S.Store c.deadlines.new.self.conn rows c.in_err-lines.field-0.0 c.from_residual.result c.from_residual.ensures.1 (c.in_err-lines.ensures.stays rows holds)

@@ -1,6 +1,7 @@
-use Rattle.std.proofs.Common.{◌∙◌, ℕ, ap, sym, subst, Err}
+use Rattle.std.proofs.Common.{◌∙◌, ℕ, ap, sym, subst, Err, inl, inr}
 use Rattle.docket_store.specs.Listing.{Lists}
 use Rattle.docket_store.specs.declared.listing.ListingEnd.{ListingEnd}
+use Rattle.docket_store.specs.declared.listing.ListingEnd.TheVariants.{NotBegun, Broken}
 use Rattle.http_request.specs.declared.wish.Wish.TheVariants.{Calendar}
 use Rattle.docket_http.specs.Asking.{problem_of_fault}
 use Rattle.docket_http.specs.Serve.{IsServed, IsBroken, fault_of_broken}
@@ -28,6 +29,7 @@ returns-in-Err-NotBegun-clause-served g c =
     (λ h body stands clean.
     calendar_told g.S.Store c.calendar_after.new.self h c.args.from c.args.to body c.open_head.result.now
     (g.W.Write.contents c.args.writer.now) (g.W.Write.contents c.calendar_after.new.writer) c.in-Err-NotBegun.fault c.problem_of.result (c.problem_of.ensures ∙ ap problem_of_fault c.in-Err-NotBegun.fault-is)
+    (λ is. (c.in-Err-NotBegun.ensures.closes stands.serves).1 (inl (ap Err (c.in-Err-NotBegun.field-0-is ∙ ap NotBegun is))))
     (subst (λ (e : ListingEnd). Lists g.S.Store c.calendar_after.new.self h c.args.from c.args.to c.open_head.result.now
     (g.W.Write.contents c.args.writer.now) (g.W.Write.contents c.calendar_after.new.writer) (Err e)) c.in-Err-NotBegun.field-0-is (c.in-Err-NotBegun.ensures.answer h stands))
     clean)
@@ -40,6 +42,7 @@ returns-in-Err-NotBegun-clause-fails g c =
     (λ h body stands clean.
     calendar_told g.S.Store c.calendar_after.new.self h c.args.from c.args.to body c.open_head.result.now
     (g.W.Write.contents c.args.writer.now) (g.W.Write.contents c.calendar_after.new.writer) c.in-Err-NotBegun.fault c.problem_of.result (c.problem_of.ensures ∙ ap problem_of_fault c.in-Err-NotBegun.fault-is)
+    (λ is. (c.in-Err-NotBegun.ensures.closes stands.serves).1 (inl (ap Err (c.in-Err-NotBegun.field-0-is ∙ ap NotBegun is))))
     (subst (λ (e : ListingEnd). Lists g.S.Store c.calendar_after.new.self h c.args.from c.args.to c.open_head.result.now
     (g.W.Write.contents c.args.writer.now) (g.W.Write.contents c.calendar_after.new.writer) (Err e)) c.in-Err-NotBegun.field-0-is (c.in-Err-NotBegun.ensures.answer h stands))
     clean)
@@ -51,7 +54,8 @@ returns-in-Err-Broken-clause-fails g c h body stands clean =
     (g.W.Write.contents c.args.writer.now) (g.W.Write.contents c.calendar_after.new.writer) (Err e)) c.in-Err-Broken.field-0-is (c.in-Err-Broken.ensures.answer h stands) in
     subst (λ (e : ServeFault). IsBroken g.S.Store c.calendar_after.new.self h (Calendar c.args.from c.args.to) body (g.W.Write.contents c.args.writer.now) (g.W.Write.contents c.calendar_after.new.writer) e)
     (sym (c.broken.ensures.fault ∙ ap fault_of_broken c.in-Err-Broken.fault-is))
-    (calendar_broken g.S.Store c.calendar_after.new.self h c.args.from c.args.to body c.open_head.result.now _ _ c.in-Err-Broken.fault c.open_head.ensures lists clean)
+    (calendar_broken g.S.Store c.calendar_after.new.self h c.args.from c.args.to body c.open_head.result.now _ _ c.in-Err-Broken.fault
+    (λ is. (c.in-Err-Broken.ensures.closes stands.serves).1 (inr (ap Err (c.in-Err-Broken.field-0-is ∙ ap Broken is)))) c.open_head.ensures lists clean)
 
 pub returns-in-Err-WriteFailed-clause-fails : goal.returns-in-Err-WriteFailed-clause-fails
 returns-in-Err-WriteFailed-clause-fails g c h body stands clean =

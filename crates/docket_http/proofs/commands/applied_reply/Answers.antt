@@ -1,3 +1,4 @@
+use Rattle.std.proofs.Common.{Err, ap}
 use Rattle.http_request.specs.declared.wish.Wish.TheVariants.{Command}
 use Rattle.docket_http.proofs.AskingLemmas.{said_replied, halted_replied, passed_on}
 use Rattle.docket_store.proofs.AnyLemmas.{answered_one, err_ok}
@@ -12,7 +13,7 @@ returns-clause-replies g c h len body stands spells =
 pub returns-in_err-said-clause-replies : goal.returns-in_err-said-clause-replies
 returns-in_err-said-clause-replies g c h len body stands spells =
     passed_on g.S.Store c.answer.new.docket h (Command len) body c.from_residual.result _ c.from_residual.ensures.1
-    (halted_replied g.S.Store c.answer.new.docket h c.args.command.now _ len body spells (c.in_err-said.ensures.halts h stands))
+    (halted_replied g.S.Store c.answer.new.docket h c.args.command.now _ len body spells (λ is. c.in_err-said.ensures.closes (ap Err is)) (c.in_err-said.ensures.halts h stands))
 
 pub returns-in_err-said-clause-any : goal.returns-in_err-said-clause-any
 returns-in_err-said-clause-any g c = λ rows n stored are small holds.

@@ -1,4 +1,4 @@
-use Rattle.std.proofs.Common.{◌≡◌, ◌∙◌, Ok, inr, sym, ap, subst}
+use Rattle.std.proofs.Common.{◌≡◌, ◌∙◌, Ok, inr, sym, ap, subst, arith}
 use Rattle.sqlite.specs.Held.{state}
 use Rattle.sqlite.specs.State.{HasCleanDisk}
 use Rattle.docket_core.specs.Decisions.{IsAnswer, LeadsTo}
@@ -9,8 +9,10 @@ use Rattle.docket_store.specs.AnyRows.{RepeatsReceipt}
 use Rattle.docket_store.specs.Applying.{IsAccepted, Keeps, docket_rows}
 use Rattle.docket_store.proofs.ApplyLemmas.{docket_after, after_repeated, holds_same}
 use Rattle.docket_store.proofs.AnyLemmas.{unwritten}
-use Rattle.std.proofs.Common.{inl as left}
+use Rattle.std.proofs.Common.{IfErr, inl as left}
 use Rattle.docket_store.specs.declared.fault.Fault.TheVariants as fault
+use Rattle.docket_store.specs.Causes.{IsCausedBy}
+use Rattle.docket_store.proofs.FailureLemmas.{err_named, err_caused_by}
 use Rattle.docket_store.proofs.applying.apply_to.Goals as goal
 
 pub returns-in-Repeat-clause-answer : goal.returns-in-Repeat-clause-answer
@@ -55,3 +57,27 @@ returns-in-Repeat-clause-any g c rows n stored are small holds =
 
 pub returns-clause-any : goal.returns-clause-any
 returns-clause-any g c rows n stored are small holds = c.keep.ensures.any rows n stored are small (c.in_ok-decision.ensures.stays rows holds)
+
+pub returns-in_err-body-clause-named : goal.returns-in_err-body-clause-named
+returns-in_err-body-clause-named g c = err_named c.args.failure.now fault.NoMemory c.from_residual.result c.from_residual.ensures.1 tt
+
+pub returns-in_err-decision-clause-named : goal.returns-in_err-decision-clause-named
+returns-in_err-decision-clause-named g c = err_named c.judge.new.failure c.in_err-decision.field-0.0 c.from_residual-in_err-decision.result c.from_residual-in_err-decision.ensures.1 c.in_err-decision.ensures.named
+
+pub returns-in_err-body-clause-spared : goal.returns-in_err-body-clause-spared
+returns-in_err-body-clause-spared g c h stands clean spared =
+    err_caused_by (state g.S.Store c.args.conn.now) (state g.S.Store c.args.conn.now) c.args.failure.now fault.NoMemory c.from_residual.result c.from_residual.ensures.1 tt
+
+pub returns-in_err-decision-clause-spared : goal.returns-in_err-decision-clause-spared
+returns-in_err-decision-clause-spared g c h stands clean spared =
+    err_caused_by (state g.S.Store c.args.conn.now) (state g.S.Store c.judge.new.conn) c.judge.new.failure c.in_err-decision.field-0.0 c.from_residual-in_err-decision.result c.from_residual-in_err-decision.ensures.1
+    (c.in_err-decision.ensures.cause (docket_rows c.args.court.now h) stands.rows clean)
+
+pub returns-clause-spared : goal.returns-clause-spared
+returns-clause-spared g c h stands clean spared =
+    let court = c.args.court.now in
+    let command = c.args.command.now in
+    let early : HasCleanDisk (state g.S.Store c.judge.new.conn) = omega (arith, c.keep.ensures.clean, clean) in
+    let judged = (c.in_ok-decision.ensures.judged h stands).1 early in
+    absurd {A = IfErr c.keep.result (IsCausedBy (state g.S.Store c.args.conn.now) (state g.S.Store c.keep.new.conn) c.keep.new.failure)}
+    (spared c.in-Change.changes.reply (subst (λ (d : Decision). IsAnswer (Ok d) (outcome court h command)) c.in-Change.is judged.0))

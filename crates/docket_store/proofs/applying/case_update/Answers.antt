@@ -10,6 +10,7 @@ use Rattle.docket_store.specs.Applying.{docket_rows}
 use Rattle.docket_store.proofs.ApplyLemmas.{fails_apart, follows_accepted}
 use Rattle.docket_store.proofs.AskLemmas.{asks_failed}
 use Rattle.docket_store.proofs.AnyLemmas.{err_preserves, read_held_at}
+use Rattle.docket_store.proofs.FailureLemmas.{err_named}
 use Rattle.docket_store.proofs.applying.case_update.Goals as goal
 
 pub returns-in-Ok-clause-update : goal.returns-in-Ok-clause-update
@@ -47,3 +48,6 @@ returns-in_err-calendar-clause-stays g c rows holds = err_preserves g.S.Store c.
 
 pub returns-clause-stays : goal.returns-clause-stays
 returns-clause-stays g c rows holds = c.read_fault.ensures.stays rows (read_held_at g.S.Store c.calendar_told.new.conn rows c.in-Err.fault (c.in_ok-calendar.ensures.stays rows holds))
+
+pub returns-in_err-calendar-clause-named : goal.returns-in_err-calendar-clause-named
+returns-in_err-calendar-clause-named g c = err_named c.calendar_told.new.failure c.in_err-calendar.field-0.0 c.from_residual.result c.from_residual.ensures.1 c.in_err-calendar.ensures.named

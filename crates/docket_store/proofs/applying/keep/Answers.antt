@@ -11,6 +11,7 @@ use Rattle.docket_store.proofs.ApplyLemmas.{after_accepted, docket_after, number
 use Rattle.docket_store.proofs.AskLemmas.{applies_err}
 use Rattle.docket_store.proofs.AnyLemmas.{unwritten, written_or_not}
 use Rattle.std.proofs.Common.{◌+◌, ◌<◌, ◌^◌, inr as right, length}
+use Rattle.docket_store.proofs.FailureLemmas.{err_named}
 use Rattle.docket_store.proofs.applying.keep.Goals as goal
 
 pub returns-in_err-update-clause-kept : goal.returns-in_err-update-clause-kept
@@ -75,3 +76,6 @@ returns-clause-any g c rows n stored are small holds =
     let wrote = c.in-Err.ensures.any n stored rows are fits (c.in_ok-update.ensures.stays rows holds) in
     written_or_not g.S.Store c.store_fault.new.conn rows c.args.court.now n c.args.command.now c.args.changes.now.reply _ (record { changes = changes; stored = wrote.0; is = refl }) c.store_fault.ensures.idle c.store_fault.result
     (c.store_fault.ensures.left rows _ wrote.2)
+
+pub returns-in_err-update-clause-named : goal.returns-in_err-update-clause-named
+returns-in_err-update-clause-named g c = err_named c.end_update.new.failure c.in_err-update.field-0.0 c.from_residual.result c.from_residual.ensures.1 c.in_err-update.ensures.named

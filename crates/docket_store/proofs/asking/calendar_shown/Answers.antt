@@ -3,6 +3,8 @@ use Rattle.docket_core.specs.Histories.{items_of, standing_rows}
 use Rattle.docket_core.specs.declared.item.CalendarItem.{CalendarItem}
 use Rattle.docket_store.specs.Applying.{docket_rows}
 use Rattle.docket_store.proofs.AskLemmas.{asks_failed}
+use Rattle.sqlite.specs.Held.{state}
+use Rattle.docket_store.proofs.FailureLemmas.{blamed_caused}
 use Rattle.docket_store.proofs.asking.calendar_shown.Goals as goal
 
 pub returns-in-Err-clause-answer : goal.returns-in-Err-clause-answer
@@ -16,3 +18,8 @@ returns-in-Ok-clause-stays g c rows holds = c.in-Ok.ensures.stays rows holds
 
 pub returns-in-Err-clause-stays : goal.returns-in-Err-clause-stays
 returns-in-Err-clause-stays g c rows holds = c.read_fault.ensures.stays rows (c.in-Err.ensures.stays rows holds)
+
+pub returns-in-Err-clause-cause : goal.returns-in-Err-clause-cause
+returns-in-Err-clause-cause g c rows holds clean =
+    blamed_caused (state g.S.Store c.args.conn.now) (state g.S.Store c.take_calendar.new.conn) (state g.S.Store c.read_fault.new.conn) c.in-Err.fault c.read_fault.new.failure c.read_fault.result c.read_fault.ensures.counts c.read_fault.ensures.blames
+    (c.in-Err.ensures.cause rows holds (omega (arith, c.read_fault.ensures.clean, clean)))

@@ -10,6 +10,7 @@ use Rattle.docket_store.specs.Applying.{Stands}
 use Rattle.docket_store.specs.Dockets.{serving}
 use Rattle.docket_store.proofs.AskLemmas.{asks_told, sound_calendar}
 use Rattle.docket_store.proofs.AnyLemmas.{err_preserves, held_after}
+use Rattle.docket_store.proofs.FailureLemmas.{err_caused_by, err_named, told_caused, told_named}
 use Rattle.docket_store.proofs.asking.calendar_told.Goals as goal
 
 pub returns-clause-answer : goal.returns-clause-answer
@@ -30,3 +31,21 @@ returns-in_err-items-clause-stays g c rows holds = err_preserves g.S.Store c.cal
 
 pub returns-clause-stays : goal.returns-clause-stays
 returns-clause-stays g c rows holds = held_after g.S.Store c.calendar_shown.new.conn rows c.calendar_by-answer.result (c.in_ok-items.ensures.stays rows holds)
+
+pub returns-in_err-items-clause-named : goal.returns-in_err-items-clause-named
+returns-in_err-items-clause-named g c = err_named c.calendar_shown.new.failure c.in_err-items.field-0.0 c.from_residual.result c.from_residual.ensures.1 c.in_err-items.ensures.named
+
+pub returns-clause-named : goal.returns-clause-named
+returns-clause-named g c =
+    let items : List CalendarItem = c.as_slice.result.now in
+    told_named c.calendar_shown.new.failure (IsSoundCase c.args.court.now items []) (λ found. found ≡ calendar_of items) c.calendar_by-answer.result c.calendar_by-answer.ensures
+
+pub returns-in_err-items-clause-cause : goal.returns-in_err-items-clause-cause
+returns-in_err-items-clause-cause g c rows holds clean =
+    err_caused_by (state g.S.Store c.args.conn.now) (state g.S.Store c.calendar_shown.new.conn) c.calendar_shown.new.failure c.in_err-items.field-0.0 c.from_residual.result c.from_residual.ensures.1 (c.in_err-items.ensures.cause rows holds clean)
+
+pub returns-clause-cause : goal.returns-clause-cause
+returns-clause-cause g c rows holds clean =
+    let items : List CalendarItem = c.as_slice.result.now in
+    told_caused (state g.S.Store c.args.conn.now) (state g.S.Store c.calendar_shown.new.conn) c.calendar_shown.new.failure (IsSoundCase c.args.court.now items []) (λ found. found ≡ calendar_of items) c.calendar_by-answer.result
+    c.calendar_by-answer.ensures

@@ -9,6 +9,7 @@ use Rattle.docket_core.specs.declared.view.DeadlineView.{DeadlineView}
 use Rattle.docket_store.specs.Dockets.{serving}
 use Rattle.docket_store.proofs.AskLemmas.{asks_err}
 use Rattle.docket_store.proofs.AnyLemmas.{err_preserves}
+use Rattle.docket_store.proofs.FailureLemmas.{caused_by_after, err_caused_by, err_named}
 use Rattle.docket_store.proofs.asking.lines_numbered.Goals as goal
 
 pub returns-in_err-lines-clause-answer : goal.returns-in_err-lines-clause-answer
@@ -37,3 +38,39 @@ returns-in_err-lines-clause-stays g c rows holds = err_preserves g.S.Store c.lin
 
 pub returns-clause-stays : goal.returns-clause-stays
 returns-clause-stays g c rows holds = c.in_ok-lines.ensures.stays rows (c.in_ok-entered.ensures.stays rows (c.in_ok-deadlines.ensures.stays rows holds))
+
+pub returns-in_err-deadlines-clause-named : goal.returns-in_err-deadlines-clause-named
+returns-in_err-deadlines-clause-named g c = err_named c.deadlines_shown.new.failure c.in_err-deadlines.field-0.0 c.from_residual.result c.from_residual.ensures.1 c.in_err-deadlines.ensures.named
+
+pub returns-in_err-entered-clause-named : goal.returns-in_err-entered-clause-named
+returns-in_err-entered-clause-named g c = err_named c.calendar_told.new.failure c.in_err-entered.field-0.0 c.from_residual-in_err-entered.result c.from_residual-in_err-entered.ensures.1 c.in_err-entered.ensures.named
+
+pub returns-in_err-lines-clause-named : goal.returns-in_err-lines-clause-named
+returns-in_err-lines-clause-named g c = err_named c.lines_of_case.new.failure c.in_err-lines.field-0.0 c.from_residual-in_err-lines.result c.from_residual-in_err-lines.ensures.1 c.in_err-lines.ensures.named
+
+pub returns-in_err-deadlines-clause-cause : goal.returns-in_err-deadlines-clause-cause
+returns-in_err-deadlines-clause-cause g c rows holds clean =
+    err_caused_by (state g.S.Store c.args.conn.now) (state g.S.Store c.deadlines_shown.new.conn) c.deadlines_shown.new.failure c.in_err-deadlines.field-0.0 c.from_residual.result c.from_residual.ensures.1 (c.in_err-deadlines.ensures.cause rows holds clean)
+
+pub returns-in_err-entered-clause-cause : goal.returns-in_err-entered-clause-cause
+returns-in_err-entered-clause-cause g c rows holds clean =
+    let first = state g.S.Store c.args.conn.now in
+    let last = state g.S.Store c.calendar_told.new.conn in
+    let failure = c.calendar_told.new.failure in
+    let fault = c.in_err-entered.field-0.0 in
+    let cause1 = c.in_err-entered.ensures.cause rows (c.in_ok-deadlines.ensures.stays rows holds) clean in
+    err_caused_by first last failure fault c.from_residual-in_err-entered.result c.from_residual-in_err-entered.ensures.1
+    (caused_by_after first (state g.S.Store c.deadlines_shown.new.conn) last failure fault c.deadlines_shown.ensures.counts c.deadlines_shown.ensures.limit cause1)
+
+pub returns-in_err-lines-clause-cause : goal.returns-in_err-lines-clause-cause
+returns-in_err-lines-clause-cause g c rows holds clean =
+    let first = state g.S.Store c.args.conn.now in
+    let shown = state g.S.Store c.deadlines_shown.new.conn in
+    let told = state g.S.Store c.calendar_told.new.conn in
+    let last = state g.S.Store c.lines_of_case.new.conn in
+    let failure = c.lines_of_case.new.failure in
+    let fault = c.in_err-lines.field-0.0 in
+    let cause2 = c.in_err-lines.ensures.cause rows (c.in_ok-entered.ensures.stays rows (c.in_ok-deadlines.ensures.stays rows holds)) clean in
+    let cause1 = caused_by_after shown told last failure fault c.calendar_told.ensures.counts c.calendar_told.ensures.limit cause2 in
+    err_caused_by first last failure fault c.from_residual-in_err-lines.result c.from_residual-in_err-lines.ensures.1
+    (caused_by_after first shown last failure fault c.deadlines_shown.ensures.counts c.deadlines_shown.ensures.limit cause1)

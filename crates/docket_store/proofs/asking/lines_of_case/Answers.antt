@@ -14,6 +14,7 @@ use Rattle.docket_store.specs.Dockets.{serving}
 use Rattle.docket_store.specs.Sound.{AreEndsBy}
 use Rattle.docket_store.proofs.AskLemmas.{asks_told, sound_ends, lines_shown, deadlines_shown}
 use Rattle.docket_store.proofs.AnyLemmas.{err_preserves, held_after}
+use Rattle.docket_store.proofs.FailureLemmas.{err_caused_by, err_named, told_caused, told_named}
 use Rattle.docket_store.proofs.asking.lines_of_case.Goals as goal
 
 pub returns-clause-answer : goal.returns-clause-answer
@@ -46,3 +47,27 @@ returns-in_err-stored-clause-stays g c rows holds = err_preserves g.S.Store c.en
 
 pub returns-clause-stays : goal.returns-clause-stays
 returns-clause-stays g c rows holds = held_after g.S.Store c.ends_shown.new.conn rows c.lines_told.result (c.in_ok-stored.ensures.stays rows holds)
+
+pub returns-in_err-stored-clause-named : goal.returns-in_err-stored-clause-named
+returns-in_err-stored-clause-named g c = err_named c.ends_shown.new.failure c.in_err-stored.field-0.0 c.from_residual.result c.from_residual.ensures.1 c.in_err-stored.ensures.named
+
+pub returns-clause-named : goal.returns-clause-named
+returns-clause-named g c =
+    let court = c.args.court.now in
+    let by : Entered = c.args.entered.now in
+    let ds : List DeadlineView = c.args.deadlines.now in
+    let rows : List EndRow = c.as_slice.result.now in
+    told_named c.ends_shown.new.failure (AreEndsBy court by c.args.number ds rows) (λ (lines : Vec DeadlineLine Global). AreEndsBy court by c.args.number ds rows → lines.items ≡ lines_from court by 1 ds) c.lines_told.result (c.lines_told.ensures c.args.number)
+
+pub returns-in_err-stored-clause-cause : goal.returns-in_err-stored-clause-cause
+returns-in_err-stored-clause-cause g c rows holds clean =
+    err_caused_by (state g.S.Store c.args.conn.now) (state g.S.Store c.ends_shown.new.conn) c.ends_shown.new.failure c.in_err-stored.field-0.0 c.from_residual.result c.from_residual.ensures.1 (c.in_err-stored.ensures.cause rows holds clean)
+
+pub returns-clause-cause : goal.returns-clause-cause
+returns-clause-cause g c held holds clean =
+    let court = c.args.court.now in
+    let by : Entered = c.args.entered.now in
+    let ds : List DeadlineView = c.args.deadlines.now in
+    let rows : List EndRow = c.as_slice.result.now in
+    told_caused (state g.S.Store c.args.conn.now) (state g.S.Store c.ends_shown.new.conn) c.ends_shown.new.failure (AreEndsBy court by c.args.number ds rows)
+    (λ (lines : Vec DeadlineLine Global). AreEndsBy court by c.args.number ds rows → lines.items ≡ lines_from court by 1 ds) c.lines_told.result (c.lines_told.ensures c.args.number)

@@ -1,6 +1,9 @@
 use Rattle.std.proofs.Common.{IsTrue}
 use Rattle.docket_store.proofs.ApplyLemmas.{shown_sound}
 use Rattle.docket_store.proofs.AnyLemmas.{err_preserves, repeat_has, short_preserves}
+use Rattle.docket_store.proofs.FailureLemmas.{err_named, err_caused_by}
+use Rattle.docket_store.specs.declared.fault.Fault.TheVariants as fault
+use Rattle.sqlite.specs.Held.{state}
 use Rattle.docket_store.proofs.judging.judge.Goals as goal
 
 pub returns-then-not-is_sound-clause-judged : goal.returns-then-not-is_sound-clause-judged
@@ -18,3 +21,17 @@ returns-in_err-named-clause-stays g c rows holds = short_preserves g.S.Store c.l
 pub returns-in-Ok-clause-repeats : goal.returns-in-Ok-clause-repeats
 returns-in-Ok-clause-repeats g c rows holds clean =
     repeat_has rows c.args.command.now c.in_ok-view.view c.in-Ok.decision (c.in_ok-view.ensures.receipt rows holds clean) c.in-Ok.ensures.repeats
+
+pub returns-in_err-view-clause-named : goal.returns-in_err-view-clause-named
+returns-in_err-view-clause-named g c = err_named c.look.new.failure c.in_err-view.field-0.0 c.from_residual.result c.from_residual.ensures.1 c.in_err-view.ensures.named
+
+pub returns-in_err-named-clause-named : goal.returns-in_err-named-clause-named
+returns-in_err-named-clause-named g c = err_named c.look.new.failure fault.NoMemory c.from_residual-in_err-named.result c.from_residual-in_err-named.ensures.1 tt
+
+pub returns-in_err-view-clause-cause : goal.returns-in_err-view-clause-cause
+returns-in_err-view-clause-cause g c rows holds clean =
+    err_caused_by (state g.S.Store c.args.conn.now) (state g.S.Store c.look.new.conn) c.look.new.failure c.in_err-view.field-0.0 c.from_residual.result c.from_residual.ensures.1 (c.in_err-view.ensures.cause rows holds clean)
+
+pub returns-in_err-named-clause-cause : goal.returns-in_err-named-clause-cause
+returns-in_err-named-clause-cause g c rows holds clean =
+    err_caused_by (state g.S.Store c.args.conn.now) (state g.S.Store c.look.new.conn) c.look.new.failure fault.NoMemory c.from_residual-in_err-named.result c.from_residual-in_err-named.ensures.1 tt

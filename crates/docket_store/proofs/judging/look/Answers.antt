@@ -2,6 +2,8 @@ use Rattle.std.proofs.Common.{arith}
 use Rattle.docket_core.specs.Outcomes.{after}
 use Rattle.docket_store.specs.Applying.{docket_rows}
 use Rattle.docket_store.proofs.ApplyLemmas.{faults_of}
+use Rattle.sqlite.specs.Held.{state}
+use Rattle.docket_store.proofs.FailureLemmas.{blamed_caused}
 use Rattle.docket_store.proofs.judging.look.Goals as goal
 
 pub returns-in-Ok-clause-shown : goal.returns-in-Ok-clause-shown
@@ -26,3 +28,8 @@ returns-in-Err-clause-stays g c rows holds = c.read_fault.ensures.stays rows (c.
 
 pub returns-in-Ok-clause-receipt : goal.returns-in-Ok-clause-receipt
 returns-in-Ok-clause-receipt g c rows holds clean = c.in-Ok.ensures.receipt rows holds clean
+
+pub returns-in-Err-clause-cause : goal.returns-in-Err-clause-cause
+returns-in-Err-clause-cause g c rows holds clean =
+    blamed_caused (state g.S.Store c.args.conn.now) (state g.S.Store c.shown.new.conn) (state g.S.Store c.read_fault.new.conn) c.in-Err.fault c.read_fault.new.failure c.read_fault.result c.read_fault.ensures.counts c.read_fault.ensures.blames
+    (c.in-Err.ensures.cause rows holds (omega (arith, c.read_fault.ensures.clean, clean)))

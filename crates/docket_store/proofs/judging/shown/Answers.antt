@@ -4,6 +4,8 @@ use Rattle.docket_tables.proofs.ReadLemmas.{err_given, gives_clean}
 use Rattle.docket_store.specs.Applying.{docket_rows}
 use Rattle.docket_store.proofs.ApplyLemmas.{docket_orderly}
 use Rattle.docket_tables.proofs.ReadLemmas.{err_stays}
+use Rattle.sqlite.specs.Held.{state}
+use Rattle.docket_tables.proofs.PassedCauses.{err_fails, fails_after}
 use Rattle.docket_store.proofs.judging.shown.Goals as goal
 
 pub returns-in_err-calendar-clause-read : goal.returns-in_err-calendar-clause-read
@@ -25,3 +27,12 @@ returns-clause-stays g c rows holds = c.view.ensures.stays rows (c.in_ok-calenda
 
 pub returns-clause-receipt : goal.returns-clause-receipt
 returns-clause-receipt g c rows holds clean = c.view.ensures.kept rows (c.in_ok-calendar.ensures.stays rows holds) clean
+
+pub returns-in_err-calendar-clause-cause : goal.returns-in_err-calendar-clause-cause
+returns-in_err-calendar-clause-cause g c rows holds clean =
+    err_fails (state g.S.Store c.args.conn.now) (state g.S.Store c.calendar_asked.new.conn) c.in_err-calendar.field-0.0 c.from_residual.result c.from_residual.ensures.1 (c.in_err-calendar.ensures.cause rows holds clean)
+
+pub returns-clause-cause : goal.returns-clause-cause
+returns-clause-cause g c rows holds clean =
+    fails_after (state g.S.Store c.args.conn.now) (state g.S.Store c.calendar_asked.new.conn) (state g.S.Store c.view.new.conn) c.view.result c.calendar_asked.ensures.counts c.calendar_asked.ensures.limit
+    (c.view.ensures.cause rows (c.in_ok-calendar.ensures.stays rows holds) clean)

@@ -1,10 +1,12 @@
-use Rattle.std.proofs.Common.{sym, ap, subst}
+use Rattle.std.proofs.Common.{refl, sym, ap, subst, ◌∙◌}
 use Rattle.docket_core.specs.Histories.{History}
 use Rattle.docket_core.specs.Outcomes.{after_answer}
 use Rattle.docket_store.specs.Applying.{Faults, Stands}
 use Rattle.docket_store.specs.declared.fault.Fault.{Fault}
 use Rattle.std.proofs.Common.{Err}
 use Rattle.docket_store.specs.AnyRows.{WritesWhole}
+use Rattle.docket_store.specs.declared.fault.Fault.TheVariants.{StoreFailed}
+use Rattle.docket_store.proofs.FailureLemmas.{failed_closes, same_fault}
 use Rattle.docket_store.proofs.sequence.answer.Goals as goal
 
 pub returns-in-Err-Refused-clause-answer : goal.returns-in-Err-Refused-clause-answer
@@ -20,3 +22,6 @@ returns-in-Err-Refused-clause-any g c rows n stored are small holds =
 
 pub returns-in-Err-clause-any : goal.returns-in-Err-clause-any
 returns-in-Err-clause-any g c rows n stored are small holds = c.in-Err.ensures.any rows n stored are small holds
+
+pub returns-in-Err-clause-closes : goal.returns-in-Err-clause-closes
+returns-in-Err-clause-closes g c failed = failed_closes c.args.docket.now.closed c.apply.new.self.closed c.apply.result (λ shut. (c.apply.ensures.closed shut).0) c.apply.ensures.closes (c.in-Err.is ∙ ap Err (same_fault _ c.in-Err.fault StoreFailed refl failed))

@@ -14,7 +14,7 @@ returns-clause-answer g c h stands =
     let here = subst (λ (d : Docket g.row.S.Denot). Stands g.S.Store d h) (sym c.self.view_is) stands in
     let serves : Stands g.S.Store (serving c.self.inside.conn court old) h = record { docket = here.docket; serves = refl; rows = here.rows; calendar = here.calendar } in
     lists_kept g.S.Store h c.args.from c.args.to c.args.front.now (g.W.Write.contents c.args.writer.now) (g.W.Write.contents c.list_days-answer.new.writer) conn court kept
-    c.is_broken_store-self-inside.result c.list_days-answer.result c.is_broken_store-self-inside.ensures.0
+    c.breaking_error-self-inside.result c.list_days-answer.result c.breaking_error-self-inside.ensures.0
     (c.list_days-answer.ensures.lists h serves)
 
 pub returns-clause-stays : goal.returns-clause-stays

@@ -1,9 +1,13 @@
-use Rattle.std.proofs.Common.{◌≡◌, refl, sym, subst}
+use Rattle.std.proofs.Common.{◌≡◌, refl, sym, subst, ◌∙◌, Some}
 use Rattle.docket_core.specs.Records.{case_record}
 use Rattle.docket_store.specs.Applying.{Stands}
 use Rattle.docket_store.specs.Dockets.{Docket, serving}
 use Rattle.docket_store.proofs.AskLemmas.{asks_kept}
 use Rattle.docket_tables.specs.Stands.{HoldsRows}
+use Rattle.sqlite.specs.Held.{state}
+use Rattle.sqlite.specs.declared.error.Error.{Error}
+use Rattle.docket_tables.specs.Causes.{IsCaused}
+use Rattle.docket_store.proofs.FailureLemmas.{failed_caused}
 use Rattle.docket_store.proofs.docket.Docket.case.Goals as goal
 
 pub returns-clause-answer : goal.returns-clause-answer
@@ -13,8 +17,15 @@ returns-clause-answer g c h stands =
     let kept = c.self.inside.calendar in
     let here = subst (λ (d : Docket g.row.S.Denot). Stands g.S.Store d h) (sym c.self.view_is) stands in
     let serves : Stands g.S.Store (serving c.self.inside.conn court kept) h = record { docket = here.docket; serves = refl; rows = here.rows; calendar = here.calendar } in
-    asks_kept g.S.Store conn court kept h (λ found. found ≡ case_record h c.args.number) c.is_store_failure-self-inside.result c.record_numbered-answer.result c.is_store_failure-self-inside.ensures.0
+    asks_kept g.S.Store conn court kept h (λ found. found ≡ case_record h c.args.number) c.closing_error-self-inside.result c.record_numbered-answer.result c.closing_error-self-inside.ensures.fails.0
     (c.record_numbered-answer.ensures.answer court kept h serves)
 
 pub returns-clause-stays : goal.returns-clause-stays
 returns-clause-stays g c rows holds = c.record_numbered-answer.ensures.stays rows (subst (λ (d : Docket g.row.S.Denot). HoldsRows g.S.Store d.conn rows) (sym c.self.view_is) holds)
+
+pub returns-clause-cause : goal.returns-clause-cause
+returns-clause-cause g c rows holds clean failed =
+    let before = subst (λ (d : Docket g.row.S.Denot). HoldsRows g.S.Store d.conn rows) (sym c.self.view_is) holds in
+    let cause = failed_caused (state g.S.Store c.self.inside.conn) (state g.S.Store c.record_numbered-answer.new.conn) c.record_numbered-answer.new.failure c.record_numbered-answer.result failed (c.record_numbered-answer.ensures.cause rows before clean) in
+    subst (λ (d : Docket g.row.S.Denot). (e : Error) × (c.closing_error-self-inside.result ≡ Some e) × IsCaused (state g.S.Store d.conn) (state g.S.Store c.record_numbered-answer.new.conn) e) c.self.view_is
+    (cause.0, c.closing_error-self-inside.ensures.kept failed ∙ cause.1, cause.2)
