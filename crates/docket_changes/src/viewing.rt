@@ -149,8 +149,8 @@ fn is_among(number: u32, count: u32) -> bool
     1 <= number && number <= count
 }
 
-/// The deadline of a case and a number, with its acts.
-fn deadline_view<S: Alter>(
+/// The deadline of a number, from 1, of a case, with its acts.
+pub fn deadline_view<S: Alter>(
     conn: &mut Connection<S>,
     alloc: Global,
     case: u32,

@@ -23,6 +23,10 @@ with_default value rule = record rule { defaults = value ∷ [] }
 abbrev pub place_rule : Text → Rule
 place_rule name = record (new_rule name) { action = Some Set; value_names = 1; required = true }
 
+-- it may be left out
+abbrev pub optional : Rule → Rule
+optional rule = record rule { required = false }
+
 abbrev pub file_rule : Rule
 file_rule = option_rule (codes "db")
 
@@ -50,6 +54,9 @@ case_line = with_rule (with_rule (new_app (codes "case")) (required file_rule)) 
 unfoldable pub calendar_line : App
 calendar_line = with_rule (with_rule (with_rule (new_app (codes "calendar")) (required file_rule)) (place_rule (codes "from"))) (place_rule (codes "to"))
 
+unfoldable pub explain_line : App
+explain_line = with_rule (with_rule (with_rule (new_app (codes "explain")) file_rule) (optional (place_rule (codes "case")))) (optional (place_rule (codes "deadline")))
+
 unfoldable pub check_line : App
 check_line = with_rule (new_app (codes "check")) (required file_rule)
 
@@ -71,8 +78,8 @@ bare_line = on_top (λ top. record top { has_version = true }) (new_app (codes "
 
 unfoldable pub docketctl : App
 docketctl =
-    with_subcommand (with_subcommand (with_subcommand (with_subcommand (with_subcommand (with_subcommand (with_subcommand (with_subcommand (with_subcommand (with_subcommand (with_subcommand
-    bare_line count_line.top) create_line.top) run_line.top) import_line.top) case_line.top) calendar_line.top) check_line.top) migrate_line.top) serve_line.top) rules_line.top) holidays_line.top
+    with_subcommand (with_subcommand (with_subcommand (with_subcommand (with_subcommand (with_subcommand (with_subcommand (with_subcommand (with_subcommand (with_subcommand (with_subcommand (with_subcommand
+    bare_line count_line.top) create_line.top) run_line.top) import_line.top) case_line.top) calendar_line.top) explain_line.top) check_line.top) migrate_line.top) serve_line.top) rules_line.top) holidays_line.top
 
 -- the command has this line, and no option for its subcommands too
 abbrev pub HasLine : App → Command → Type 0

@@ -28,6 +28,8 @@ pub data Asked : Type 0 where
   to_import : Text → Text → Asked
   to_tell_case : Text → ℕ → Asked
   to_tell_calendar : Text → ℕ → ℕ → Asked
+  to_explain : Text → ℕ → ℕ → Asked
+  to_explain_lines : Asked
   to_check : Text → Asked
   to_migrate : Text → Asked
   to_serve : Text → ℕ → ℕ → Asked
@@ -42,6 +44,8 @@ asked (job.RunInMemory court) = to_run_in_memory court
 asked (job.Import file key) = to_import file.now key.now
 asked (job.Case file number) = to_tell_case file.now number
 asked (job.Calendar file from to) = to_tell_calendar file.now from to
+asked (job.Explain file case deadline) = to_explain file.now case deadline
+asked job.ExplainLines = to_explain_lines
 asked (job.Check file) = to_check file.now
 asked (job.Migrate file) = to_migrate file.now
 asked (job.Serve file port count) = to_serve file.now port count
@@ -119,6 +123,19 @@ abbrev pub calendar_asked : List Row → Option Asked
 calendar_asked found =
     calendar_if (value_of (codes "db") found) (day_of_text (value_of (codes "from") found)) (day_of_text (value_of (codes "to") found))
 
+abbrev pub explain_numbers : Text → Option ℕ → Option ℕ → Option Asked
+explain_numbers file (Some case) (Some deadline) = Some (to_explain file case deadline)
+explain_numbers file _ _ = None
+
+-- a deadline of a case goes with a file; with neither, lines are explained
+abbrev pub explain_if : Option Text → Option Text → Option Text → Option Asked
+explain_if (Some file) (Some case) (Some deadline) = explain_numbers file (number_of case) (number_of deadline)
+explain_if None None None = Some to_explain_lines
+explain_if _ _ _ = None
+
+abbrev pub explain_asked : List Row → Option Asked
+explain_asked found = explain_if (first_of (codes "db") found) (first_of (codes "case") found) (first_of (codes "deadline") found)
+
 abbrev pub check_asked : List Row → Asked
 check_asked found = to_check (value_of (codes "db") found)
 
@@ -149,12 +166,13 @@ asked_by name found =
     else (if bytes_eq name (codes "import") then Some (import_asked found)
     else (if bytes_eq name (codes "case") then case_asked found
     else (if bytes_eq name (codes "calendar") then calendar_asked found
+    else (if bytes_eq name (codes "explain") then explain_asked found
     else (if bytes_eq name (codes "check") then Some (check_asked found)
     else (if bytes_eq name (codes "migrate") then Some (migrate_asked found)
     else (if bytes_eq name (codes "serve") then serve_asked found
     else (if bytes_eq name (codes "rules") then Some (rules_asked found)
     else (if bytes_eq name (codes "holidays") then holidays_asked found
-    else Some to_count)))))))))
+    else Some to_count))))))))))
 
 -- with no subcommand docketctl counts
 abbrev pub asked_in : Option (Text × List Row) → Option Asked

@@ -2,11 +2,11 @@
 ghost use Rattle.std.specs.Prelude.{◌≡◌, false, IfOk};
 ghost use Rattle.clap.specs.Walk.{rule_of};
 ghost use Rattle.clap.specs.Simple.{new_app};
-ghost use Rattle.docket_jobs.specs.CommandLine.{option_rule, required, with_default, place_rule, HasLine, count_line, create_line, run_line, import_line, case_line, calendar_line, check_line, migrate_line, serve_line, rules_line, holidays_line, bare_line, docketctl};
+ghost use Rattle.docket_jobs.specs.CommandLine.{option_rule, required, optional, with_default, place_rule, HasLine, count_line, create_line, run_line, import_line, case_line, calendar_line, explain_line, check_line, migrate_line, serve_line, rules_line, holidays_line, bare_line, docketctl};
 
 use crate::help::{
-    CALENDAR_HELP, CASE_HELP, CHECK_HELP, COUNT_HELP, CREATE_HELP, HOLIDAYS_HELP, IMPORT_HELP,
-    MIGRATE_HELP, PROGRAM_HELP, RULES_HELP, RUN_HELP, SERVE_HELP,
+    CALENDAR_HELP, CASE_HELP, CHECK_HELP, COUNT_HELP, CREATE_HELP, EXPLAIN_HELP, HOLIDAYS_HELP,
+    IMPORT_HELP, MIGRATE_HELP, PROGRAM_HELP, RULES_HELP, RUN_HELP, SERVE_HELP,
 };
 use clap::{Arg, ArgAction, Command};
 use std::alloc::{AllocError, Global};
@@ -53,6 +53,14 @@ fn place<'a>(alloc: Global, id: &'a str, value: &'a str, help: &'a str) -> Arg<'
         .value_name(value)
         .help(help)
         .required(true)
+}
+
+/// A value that stands alone, and may be left out.
+fn optional_place<'a>(alloc: Global, id: &'a str, value: &'a str, help: &'a str) -> Arg<'a>
+    ensures rule { rule_of result ≡ optional (place_rule id.now) }
+    ensures local { result.global ≡ false }
+{
+    place(alloc, id, value, help).required(false)
 }
 
 /// An option that is as if `default` were given, where it is not.
@@ -175,6 +183,23 @@ fn calendar_command<'a>(alloc: Global) -> Result<Command<'a>, AllocError>
     .arg(to)
 }
 
+fn explain_command<'a>(alloc: Global) -> Result<Command<'a>, AllocError>
+    ensures { IfOk result (HasLine explain_line) }
+{
+    let file = option(alloc, "db", "FILE", FILE_TEXT);
+    let case = optional_place(alloc, "case", "CASE", "The number of the case");
+    let deadline = optional_place(alloc, "deadline", "DEADLINE", "The number of its deadline");
+    subcommand(
+        alloc,
+        "explain",
+        "Tell the steps by which the end of a deadline was found",
+        EXPLAIN_HELP,
+    )
+    .arg(file)?
+    .arg(case)?
+    .arg(deadline)
+}
+
 fn check_command<'a>(alloc: Global) -> Result<Command<'a>, AllocError>
     ensures { IfOk result (HasLine check_line) }
 {
@@ -274,6 +299,7 @@ pub(crate) fn command<'a>(alloc: Global) -> Result<Command<'a>, AllocError>
         .subcommand(import_command(alloc)?)?
         .subcommand(case_command(alloc)?)?
         .subcommand(calendar_command(alloc)?)?
+        .subcommand(explain_command(alloc)?)?
         .subcommand(check_command(alloc)?)?
         .subcommand(migrate_command(alloc)?)?
         .subcommand(serve_command(alloc)?)?

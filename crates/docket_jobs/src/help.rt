@@ -35,6 +35,7 @@ With no command, docketctl counts. A docket in a file is made, kept and read lik
   docketctl run --db court.db < commands.jsonl
   docketctl case --db court.db 1
   docketctl calendar --db court.db 2027-01-01 2027-12-31
+  docketctl explain --db court.db 1 1
   docketctl rules --db court.db
   docketctl check --db court.db
 One of an older program is taken further, once:
@@ -115,6 +116,26 @@ for other filing; one of hours ends at an instant. The last line tells how many 
 FROM and TO are days from 1980-01-01 to 3999-12-31, and TO is not before FROM.
 
 Exit status: 0 the calendar was told, 2 bad command line, 3 writing, memory or the database failed.";
+
+pub(crate) const EXPLAIN_HELP: &str = "\
+Each step by which the end of a deadline was found has a line, with the rule of the Federal Rules of
+Civil Procedure that it follows: what began the time, the day that it was counted to, each day passed
+over and every reason why, the end, and until when that day counts:
+  docketctl explain --db court.db 1 1
+  2025-06-13 Fri  summons and complaint served; 21 days after, 12(a)(1)(A)(i)
+  2025-07-04 Fri  counted to this day, 6(a)(1)(A), (B)
+  2025-07-04 Fri  passed over: Independence Day, 6(a)(6)(A)
+  2025-07-05 Sat  passed over: Saturday
+  2025-07-06 Sun  passed over: Sunday
+  2025-07-07 Mon  the period ends, 6(a)(1)(C)
+  2025-07-07 Mon  due: to 24:00 electronically, to 17:00 at the clerk's office, 6(a)(4)
+CASE and DEADLINE are numbers from 1 to 4294967295, without a leading zero.
+
+With no file, standard input has the lines of `docketctl count`. A line that asks for the end of a
+period, of days, months or hours or by a rule, is answered by its steps, and any other as there.
+
+Exit status: 0 the steps were told, 1 there is no such case or deadline, or a line was answered with
+`bad` or `full`, 2 bad command line, 3 reading, writing, memory or the database failed.";
 
 pub(crate) const CHECK_HELP: &str = "\
 A file that comes from a backup or from another program is read whole, table by table, and its rows

@@ -6,7 +6,7 @@ ghost use Rattle.clap.specs.Simple.{subcommand_rows_of};
 ghost use Rattle.clap.specs.Values.{kind_of};
 ghost use Rattle.clap.specs.Walk.{rows_of};
 ghost use Rattle.civil_time.specs.DayText.{day_of_text};
-ghost use Rattle.docket_jobs.specs.Jobs.{IsLimited, asked, asked_by, asked_in, asked_of, calendar_asked, case_asked, check_asked, court_asked, create_asked, holidays_asked, import_asked, line_faults, migrate_asked, rules_asked, run_asked, serve_asked, value_of};
+ghost use Rattle.docket_jobs.specs.Jobs.{IsLimited, asked, asked_by, asked_in, asked_of, calendar_asked, case_asked, check_asked, court_asked, create_asked, explain_asked, explain_numbers, holidays_asked, import_asked, line_faults, migrate_asked, number_of, rules_asked, run_asked, serve_asked, value_of};
 
 use crate::command_line::command;
 use crate::number::{read_count, read_number, read_port, read_year};
@@ -52,6 +52,16 @@ pub enum Job<'a> {
         from: Day,
         to: Day,
     },
+    /// `explain` with a file: tell the steps by which the end of a deadline of a case was found, of numbers
+    /// from 1 on, of the docket in a file.
+    Explain {
+        file: &'a str,
+        case: u32,
+        deadline: u32,
+    },
+    /// `explain` without a file: answer lines of days from the input, each that asks for an end by its
+    /// steps.
+    ExplainLines,
     /// `check`: tell whether the tables of the docket in a file are sound.
     Check {
         file: &'a str,
@@ -84,6 +94,8 @@ enum BadValue<'a> {
     Zone(&'a str),
     Close(&'a str),
     Number,
+    Numbers,
+    Places,
     Day,
     Range,
     Port,
@@ -106,6 +118,10 @@ impl fmt::Display for BadValue<'_> {
             BadValue::Number => f.write_str(
                 "NUMBER is a number from 1 to 4294967295, without a leading zero",
             ),
+            BadValue::Numbers => f.write_str(
+                "CASE and DEADLINE are numbers from 1 to 4294967295, without a leading zero",
+            ),
+            BadValue::Places => f.write_str("CASE and DEADLINE go with --db, and --db with both"),
             BadValue::Day => f.write_str(
                 "FROM and TO are days from 1980-01-01 to 3999-12-31, as 2027-04-19",
             ),
@@ -221,6 +237,33 @@ fn calendar_job<'a>(found: &ArgMatches<'a>) -> Result<Job<'a>, BadValue<'a>>
     })
 }
 
+fn stored_job<'a>(file: &'a str, case: &str, deadline: &str) -> Result<Job<'a>, BadValue<'a>>
+    ensures { MatchResult result (λ job. explain_numbers file.now (number_of case.now) (number_of deadline.now) ≡ Some (asked job))
+        (λ _. explain_numbers file.now (number_of case.now) (number_of deadline.now) ≡ None) }
+{
+    let case = read_number(case).ok_or(BadValue::Numbers)?;
+    let deadline = read_number(deadline).ok_or(BadValue::Numbers)?;
+    Ok(Job::Explain {
+        file,
+        case,
+        deadline,
+    })
+}
+
+/// Only with a file there is a deadline to explain.
+#[tactic(auto, using(crate::proofs::MatchLemmas::first_value_is))]
+fn explain_job<'a>(found: &ArgMatches<'a>) -> Result<Job<'a>, BadValue<'a>>
+    ensures { MatchResult result (λ job. explain_asked (rows_of (found_of found.now)) ≡ Some (asked job))
+        (λ _. explain_asked (rows_of (found_of found.now)) ≡ None) }
+{
+    let places = (found.get_str("case"), found.get_str("deadline"));
+    match (found.get_str("db"), places.0, places.1) {
+        (Some(file), Some(case), Some(deadline)) => stored_job(file, case, deadline),
+        (None, None, None) => Ok(Job::ExplainLines),
+        _ => Err(BadValue::Places),
+    }
+}
+
 fn check_job<'a>(found: &ArgMatches<'a>) -> Job<'a>
     ensures { asked result ≡ check_asked (rows_of (found_of found.now)) }
 {
@@ -284,6 +327,7 @@ fn job_by<'a>(
         "import" => Ok(Ok(import_job(found))),
         "case" => Ok(case_job(found)),
         "calendar" => Ok(calendar_job(found)),
+        "explain" => Ok(explain_job(found)),
         "check" => Ok(Ok(check_job(found))),
         "migrate" => Ok(Ok(migrate_job(found))),
         "serve" => Ok(serve_job(found)),

@@ -1,9 +1,9 @@
 -- From what the tables' questions give to what a question to a docket gives.
-use Rattle.std.proofs.Common.{◌≡◌, ◌∙◌, ◌&&◌, ℕ, Bool, true, false, List, [], Option, Some, None, length, nat_le, unwrap_or, if◌then◌else◌, Result, Ok, Err, IsErrAnd, refl, sym, ap, subst, arith}
+use Rattle.std.proofs.Common.{◌≡◌, ◌∙◌, ◌&&◌, ℕ, zero, suc, ◌∷◌, Bool, true, false, List, [], Option, Some, None, length, nat_le, unwrap_or, if◌then◌else◌, Result, Ok, Err, IsErrAnd, refl, sym, ap, subst, arith}
 use Rattle.std.specs.Prelude.{MatchResult, is_some}
 use Rattle.std.specs.Option.{option_map}
 use Rattle.std.proofs.lemmas.List.{length-map}
-use Rattle.std.proofs.lemmas.List.Elements.{recursion_from_All}
+use Rattle.std.proofs.lemmas.List.Elements.{All-cons, All-nil, recursion_from_All}
 use Rattle.sqlite.specs.Store.{Ghosts}
 use Rattle.sqlite.specs.State.{HasCleanDisk}
 use Rattle.sqlite.specs.Held.{Held, state}
@@ -14,7 +14,9 @@ use Rattle.docket_command.specs.declared.refusal.Reply.{Reply}
 use Rattle.docket_core.specs.CalendarItems.{IsEnteredItem}
 use Rattle.docket_core.specs.EndRows.{end_rows, end_rows_of}
 use Rattle.docket_core.specs.Histories.{History, items_of, standing_rows, case_rows, act_rows, deadline_rows, deadlines, deadlines_of_case}
+use Rattle.court_rules.specs.Standings.{AreActs}
 use Rattle.docket_core.specs.Records.{calendar, deadline_lines, lines_from}
+use Rattle.docket_core.specs.Views.{deadline_at}
 use Rattle.docket_core.specs.Tables.{case_deadlines, rows_of}
 use Rattle.docket_core.specs.declared.end_row.EndRow.{EndRow}
 use Rattle.docket_core.specs.declared.item.CalendarItem.{CalendarItem}
@@ -22,6 +24,7 @@ use Rattle.docket_core.specs.declared.row.CalendarRow.{CalendarRow}
 use Rattle.docket_core.specs.declared.view.DeadlineView.{DeadlineView}
 use Rattle.docket_core.proofs.Leading.{length-deadlines_from}
 use Rattle.docket_core.proofs.LimitsKept.{within_limits, lawful_deadlines}
+use Rattle.docket_core.proofs.Passed.{one_of_all}
 use Rattle.docket_store.specs.Applying.{IsDocket, Stands, Asks, Applies, Faults, FailsAs, Keeps, docket_rows}
 use Rattle.docket_store.specs.Dockets.{Docket, serving}
 use Rattle.docket_tables.specs.Contents.{ends_of}
@@ -112,6 +115,17 @@ pub sound_calendar : (court : CourtSettings) (h : History) → IsDocket court h 
 sound_calendar court h is =
     let sound = sound_case court h 0 is in
     record { entered = sound.entered; rows = sound.rows; few = omega arith; acts = λ i d low. absurd (omega (arith, low)) }
+
+-- and so is a deadline of a case alone
+pub sound_deadline : (court : CourtSettings) (h : History) (k n : ℕ) (d : DeadlineView) → IsDocket court h → deadline_at (deadlines k h) n ≡ Some d → IsSoundCase court [] (d ∷ [])
+sound_deadline court h k zero d is at = absurd (cc)
+sound_deadline court h k (suc n) d is at =
+    let P : DeadlineView → Type 0 = λ (other : DeadlineView). AreActs (zone_of court) other.acts in record {
+      entered = λ i item low. absurd (omega (arith, low));
+      rows = omega arith;
+      few = omega arith;
+      acts = All-cons P d [] (one_of_all P (deadlines k h) n d (sound_case court h k is).acts at) (All-nil P);
+    }
 
 -- and so are its deadlines with the rows of their ends
 pub sound_ends : (court : CourtSettings) (h : History) (k : ℕ) → IsDocket court h → AreEndsBy court (calendar h) k (deadlines k h) (end_rows_of (zone_of court) (calendar h) k (deadlines k h))

@@ -2,7 +2,7 @@ pub mod AnyLemmas
 mod AgainLemmas
 mod ApplyLemmas
 mod AskLemmas
-mod FailureLemmas
+pub mod FailureLemmas
 mod LeftLemmas
 mod LineLemmas
 mod ListingLemmas

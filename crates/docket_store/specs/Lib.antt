@@ -2,6 +2,7 @@ pub mod AnyRows
 pub mod Applying
 pub mod Causes
 pub mod Dockets
+pub mod Grounds
 pub mod Left
 pub mod Listing
 pub mod Migrating

@@ -1,9 +1,10 @@
 //! The docket of a court in a database.
-ghost use Rattle.std.specs.Prelude.{◌≡◌, ◌↔◌, ◌⊎◌, ◌≤◌, ◌<◌, ◌^◌, ℕ, List, [], true, false, Ok, Err, IfOk, OnOk, IfErr, IsErrAnd, IsTrue, MatchResult, is_some};
+ghost use Rattle.std.specs.Prelude.{◌≡◌, ◌↔◌, ◌⊎◌, ◌≤◌, ◌<◌, ◌^◌, ℕ, List, [], true, false, Ok, Err, IfOk, OnOk, IfErr, IfSome, IsErrAnd, IsTrue, MatchResult, is_some};
 ghost use Rattle.sqlite.specs.Held.{state};
 ghost use Rattle.sqlite.specs.State.{HasCleanDisk, Survives};
 ghost use Rattle.sqlite.specs.View.{doubt};
-ghost use Rattle.court_days.specs.Court.{CourtSettings};
+ghost use Rattle.court_days.specs.Court.{CourtSettings, zone_of};
+ghost use Rattle.court_rules.specs.Standings.{AreActs};
 ghost use Rattle.std.specs.Option.{option_map};
 ghost use Rattle.docket_core.specs.Histories.{History, local_rule_rows};
 ghost use Rattle.docket_core.specs.Records.{case_record, deadline_lines};
@@ -23,6 +24,7 @@ ghost use Rattle.docket_tables.specs.declared.table.Table.TheVariants as table;
 ghost use Rattle.docket_store.specs.AnyRows.{Preserves, PreservesCalendar, PreservesListing, PreservesRejected, WritesWhole};
 ghost use Rattle.docket_store.specs.Applying.{IsDocket, StandsFor, Stands, Applies, Asks, docket_rows};
 ghost use Rattle.docket_store.specs.Causes.{IsClosedForCause, IsNamed, IsNotAccepted};
+ghost use Rattle.docket_store.specs.Grounds.{AreGrounds};
 ghost use Rattle.docket_store.specs.Listing.{Lists, ListsCalendar};
 ghost use Rattle.docket_store.specs.Migrating.{cause_of};
 ghost use Rattle.docket_store.specs.Opening.{IsAdopted, IsNotAdopted, IsNotMade, IsRejected, IsSoundDocket, IsSoundWith};
@@ -35,6 +37,7 @@ use crate::adopting::adopt_from;
 use crate::applying::apply_to;
 use crate::asking::{lines_numbered, record_numbered, rules_entered};
 use crate::creating::{CreateFault, make_docket};
+use crate::explaining::{Grounds, grounds_of};
 use crate::fault::Fault;
 use crate::laws::courts_begin_without_a_record;
 use crate::listing::{CalendarEnd, ListingEnd, breaking_error, list_days};
@@ -323,6 +326,34 @@ impl<S: Alter> Docket<S> {
         let kept = &mut self.calendar;
         let mut failure = None;
         let answer = lines_numbered(conn, self.alloc, &self.court, kept, number, &mut failure);
+        self.closed_by = closing_error(&answer, failure);
+        answer
+    }
+
+    /// What decides where the deadline of a number, from 1, of a case stands: its rule, its acts, and the
+    /// calendar of the docket. The acts are ones that a docket has.
+    pub fn grounds(&mut self, case: u32, deadline: u32) -> Result<Option<Grounds>, Fault>
+        ensures court { self.new.court ≡ self.old.court }
+        ensures answer { (h : History) → Stands S.Store self.old h
+            → Asks S.Store self.new h (AreGrounds h case deadline) result }
+        ensures acts { IfOk result (λ found. IfSome found (λ grounds. AreActs (zone_of self.old.court) grounds.deadline.acts)) }
+        ensures closed { self.old.closed ≡ true → (result ≡ Err fault.Closed) × (self.new ≡ self.old) }
+        // Of any docket, no row changes.
+        ensures stays { (rows : Rows) → HoldsRows S.Store self.old.conn rows → Preserves S.Store self.new.conn rows result }
+        ensures clean { doubt (state S.Store self.old.conn).is_clean ≤ doubt (state S.Store self.new.conn).is_clean }
+        ensures closes { self.old.closed ≡ false → (self.new.closed ≡ true) ↔ (result ≡ Err fault.StoreFailed) }
+        // The database fails only for a cause.
+        ensures cause { (rows : Rows) → HoldsRows S.Store self.old.conn rows → HasCleanDisk (state S.Store self.new.conn)
+            → result ≡ Err fault.StoreFailed → IsClosedForCause S.Store self.old self.new }
+    {
+        if self.closed_by.is_some() {
+            return Err(Fault::Closed);
+        }
+        let conn = &mut self.conn;
+        let kept = &mut self.calendar;
+        let court = &self.court;
+        let mut failure = None;
+        let answer = grounds_of(conn, self.alloc, court, kept, case, deadline, &mut failure);
         self.closed_by = closing_error(&answer, failure);
         answer
     }

@@ -1,9 +1,14 @@
 -- What a job on the docket of a history tells.
 use Rattle.std.specs.Prelude.{◌≡◌, ℕ, List, length, Option, Some, None, Result, Ok, Err}
 use Rattle.std.specs.Io.KnownBytes.{Appends}
-use Rattle.court_days.specs.Court.{CourtSettings}
-use Rattle.docket_core.specs.Histories.{History}
-use Rattle.docket_core.specs.Records.{case_record, deadline_lines}
+use Rattle.std.specs.Option.{option_map}
+use Rattle.court_days.specs.Calendar.{Entered}
+use Rattle.court_days.specs.Court.{CourtSettings, zone_of}
+use Rattle.court_reasons.specs.Steps.{steps_of}
+use Rattle.docket_core.specs.Histories.{History, deadlines}
+use Rattle.docket_core.specs.Records.{calendar, case_record, deadline_lines}
+use Rattle.docket_core.specs.Views.{deadline_at}
+use Rattle.docket_core.specs.declared.view.DeadlineView.{DeadlineView}
 use Rattle.docket_core.specs.declared.record.CaseRecord.{CaseRecord}
 use Rattle.docket_core.specs.declared.record.DeadlineLine.{DeadlineLine}
 use Rattle.docket_calendar.specs.Calendar.{calendar_rows, text_of_calendar}
@@ -15,6 +20,7 @@ use Rattle.docket_store.specs.declared.listing.CalendarEnd.{CalendarEnd}
 use Rattle.docket_store.specs.declared.listing.CalendarEnd.TheVariants as calendar_end
 use Rattle.docket_text.specs.CaseTexts.{case_text}
 use Rattle.line_io.specs.Output.{HasFront}
+use Rattle.reason_lines.specs.Lines.{reasons_text}
 
 -- the docket was adopted, and this is so of the work on it; it is not adopted only for want of memory or where the database failed
 abbrev pub WorksTo : {T : Type 0} → (T → Type 0) → Result T AdoptFault → Type 0
@@ -37,6 +43,14 @@ text_of_found court _ _ = None
 -- the text of the case of a number, with its deadlines, if there is such a case
 abbrev pub text_of_case : CourtSettings → History → ℕ → Option (List ℕ)
 text_of_case court h number = text_of_found court (case_record h number) (deadline_lines court h number)
+
+-- the steps by which a deadline's standing is found, by the calendar, a line a step
+abbrev pub reasons_of : CourtSettings → Entered → DeadlineView → List ℕ
+reasons_of court calendar deadline = reasons_text court calendar (Some deadline.rule) (steps_of (zone_of court) calendar deadline.acts)
+
+-- those of the deadline of a number, from 1, of a case, if there is one
+abbrev pub text_of_reasons : CourtSettings → History → ℕ → ℕ → Option (List ℕ)
+text_of_reasons court h case number = option_map (reasons_of court (calendar h)) (deadline_at (deadlines case h) number)
 
 -- the calendar of the days from one to another went out, or a front of it
 abbrev pub ListsTo : CourtSettings → History → ℕ → ℕ → Option (List ℕ) → Option (List ℕ) → Result ℕ CalendarEnd → Type 0

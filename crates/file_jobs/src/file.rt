@@ -23,12 +23,13 @@ ghost use Rattle.file_jobs.specs.Keeping.{rows_told};
 ghost use Rattle.file_jobs.specs.Migrates.{IsFirst, MigratesTo};
 ghost use Rattle.file_jobs.specs.Runs.{Answers, LeavesPrefix};
 ghost use Rattle.file_jobs.specs.Serves.{IfUnserved};
-ghost use Rattle.file_jobs.specs.Tells.{AnswersTo, ListsTo, WorksTo, text_of_case};
+ghost use Rattle.file_jobs.specs.Tells.{AnswersTo, ListsTo, WorksTo, text_of_case, text_of_reasons};
 
 use crate::asking::{calendar_over, case_over, rules_over};
 use crate::checking::{Sound, check_over};
 use crate::creating::create_over;
 use crate::ended::Ended;
+use crate::explaining::explain_over;
 use crate::importing::apply_over;
 use crate::leaving::leave;
 use crate::migrating::migrate_over;
@@ -94,6 +95,28 @@ pub fn case_on_file<S: Start, V: Watch + Drop>(
 {
     let conn = reopen_from(rt, path, start)?;
     Ok(leave(case_over(rt.alloc(), conn, watch, number)))
+}
+
+/// Tells why the deadline of a number, from 1, of a case of the docket in the files at a path is what it
+/// is. Nothing is changed.
+pub fn explain_on_file<S: Start, V: Watch + Drop>(
+    rt: &HostRuntime,
+    path: &str,
+    start: S,
+    watch: V,
+    case: u32,
+    deadline: u32,
+) -> OnFile<S, Result<Option<String>, Fault>>
+    ensures told { (told : Told) → IsDocket told.court told.history → HoldDocket (image_at S.Start) told.court told.history
+        → IfOk result (λ done. IsCleanLeft done.left
+        → WorksTo (AnswersTo (λ text. option_map string_bytes text ≡ text_of_reasons told.court told.history case deadline)) done.outcome) }
+    ensures stays { (told : Told) → HoldDocket (image_at S.Start) told.court told.history
+        → IfOk result (λ done. IsCleanLeft done.left → LeavesRows done.left (rows_told told) (rows_told told)) }
+    ensures unopened { (told : Told) → HoldDocket (image_at S.Start) told.court told.history
+        → IfErr result (IsUnharmed (image_at S.Start) (IsImage (rows_told told))) }
+{
+    let conn = reopen_from(rt, path, start)?;
+    Ok(leave(explain_over(rt.alloc(), conn, watch, case, deadline)))
 }
 
 /// Tells the rules of the table, and behind them the local rules of the docket in the files at a path.

@@ -7,6 +7,7 @@ mod asking;
 mod checking;
 mod creating;
 mod ended;
+mod explaining;
 mod file;
 mod importing;
 mod leaving;
@@ -18,6 +19,6 @@ pub use checking::Sound;
 pub use ended::Ended;
 pub use file::{
     OnFile, apply_on_file, calendar_on_file, case_on_file, check_on_file, create_on_file,
-    migrate_on_file, rules_on_file, run_on_file, serve_on_file,
+    explain_on_file, migrate_on_file, rules_on_file, run_on_file, serve_on_file,
 };
 pub use serving::ServeEnd;

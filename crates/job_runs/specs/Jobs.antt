@@ -38,7 +38,8 @@ use Rattle.file_jobs.specs.Keeping.{Keeps, rows_told}
 use Rattle.docket_store.specs.Left.{LeavesRows}
 use Rattle.file_jobs.specs.Migrates.{MigratesTo}
 use Rattle.file_jobs.specs.Runs.{LeavesPrefix}
-use Rattle.file_jobs.specs.Tells.{text_of_case}
+use Rattle.explain_lines.specs.Explain.{explain_text}
+use Rattle.file_jobs.specs.Tells.{text_of_case, text_of_reasons}
 use Rattle.job_runs.specs.Checks.{check_text}
 use Rattle.job_runs.specs.Ends.{HasTold, TellsIfAny, TellsNothing, TellsText, last_line}
 use Rattle.job_runs.specs.Imports.{TellsApplied}
@@ -50,12 +51,19 @@ use Rattle.job_runs.specs.declared.status.Status.TheVariants.{Done, SomeBad, Bad
 abbrev pub import_command : List ℕ → List NewDay → Command
 import_command key days = record { key = key; action = ImportCalendar (record { rows = days }) }
 
--- the answers to all lines of days went out, and the status says whether one is `bad` or `full`; or a front of them did
+-- the answers to all lines went out, this text, and the status says whether so many of them are `bad` or `full`; or a front of them did
+abbrev pub AnswersAll : List ℕ → ℕ → Option (List ℕ) → Option (List ℕ) → Status → Type 0
+AnswersAll text bad before after Done = Appends before after text × (bad ≡ 0)
+AnswersAll text bad before after SomeBad = Appends before after text × (bad ≢ 0)
+AnswersAll text bad before after BadLine = ⊥
+AnswersAll text bad before after Failed = HasFront before after text
+
+-- lines of days are answered, or explained: as many of them are bad
 abbrev pub Counts : List ℕ → Option (List ℕ) → Option (List ℕ) → Status → Type 0
-Counts input before after Done = Appends before after (count_text input) × (bad_days input ≡ 0)
-Counts input before after SomeBad = Appends before after (count_text input) × (bad_days input ≢ 0)
-Counts input before after BadLine = ⊥
-Counts input before after Failed = HasFront before after (count_text input)
+Counts input = AnswersAll (count_text input) (bad_days input)
+
+abbrev pub Explains : List ℕ → Option (List ℕ) → Option (List ℕ) → Status → Type 0
+Explains input = AnswersAll (explain_text input) (bad_days input)
 
 -- the docket of a court, without any record
 abbrev pub new_docket : CourtSettings → Docket
@@ -136,6 +144,9 @@ module _ {D : Type 0} {g : Ghosts D} where
       OfDocket files (λ docket. TellsOf docket (TellsIfAny (text_of_case docket.court docket.history number)) end) × (after ≡ before)
   Does (job.Calendar file from to) files input before after end =
       OfDocket files (λ docket. TellsOf docket (HasTold (text_of_calendar docket.court docket.history from to) before after) end)
+  Does (job.Explain file case deadline) files input before after end =
+      OfDocket files (λ docket. TellsOf docket (TellsIfAny (text_of_reasons docket.court docket.history case deadline)) end) × (after ≡ before)
+  Does job.ExplainLines files input before after end = IfSome input (λ bytes. Explains bytes before after end.status) × (cow_str_bytes end.text ≡ []) × (end.left ≡ None)
   Does (job.Check file) files input before after end = OfDocket files (λ docket. TellsOf docket (TellsText (check_text docket.court (holdings_in docket.court docket.history))) end) × (after ≡ before)
   Does (job.Migrate file) files input before after end =
       ((docket : Docket) → IsDocket docket.court docket.history → MayHold First docket.history → HoldFirst files docket.court docket.history

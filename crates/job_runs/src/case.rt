@@ -19,10 +19,11 @@ use sqlite_disk::Disk;
 use std::alloc::Global;
 use std::io::Write;
 
-/// What is told of a case that was asked for.
-fn case_told<D: Disk + Drop, E: Write>(
+/// What is told of what was asked for, or that it is missing, in the words `missing`.
+pub(crate) fn told_if_any<D: Disk + Drop, E: Write>(
     alloc: Global,
     answer: Result<Option<String>, Fault>,
+    missing: &str,
     e: &mut E,
 ) -> JobEnd<D>
     ensures told { (found : Option (List ℕ)) → AnswersTo (λ text. option_map string_bytes text ≡ found) answer
@@ -32,7 +33,7 @@ fn case_told<D: Disk + Drop, E: Write>(
     match answer {
         Ok(Some(text)) => JobEnd::told(text),
         Ok(None) => {
-            let _ = write_bytes(e, b"no such case\n");
+            let _ = write_bytes(e, missing.as_bytes());
             JobEnd::of(Status::SomeBad)
         }
         Err(fault) => JobEnd::of(failed(alloc, e, &fault)),
@@ -56,7 +57,9 @@ pub(crate) fn tell_case<S: Start, P: Write + Drop, E: Write>(
     };
     let ended = case_on_file(rt, path, start, rows, number);
     match done_on_docket(rt.alloc(), path, ended, e) {
-        Ok((answer, left)) => case_told(rt.alloc(), answer, e).with(Some(left)),
+        Ok((answer, left)) => {
+            told_if_any(rt.alloc(), answer, "no such case\n", e).with(Some(left))
+        }
         Err(end) => end,
     }
 }

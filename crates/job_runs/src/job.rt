@@ -10,6 +10,7 @@ use crate::check::tell_check;
 use crate::command::{run_commands, run_in_memory};
 use crate::create::create_docket;
 use crate::end::JobEnd;
+use crate::explain::{explain_all, explain_deadline};
 use crate::holiday::tell_holidays;
 use crate::import::import_days;
 use crate::migrate::migrate_docket;
@@ -73,6 +74,15 @@ pub fn run_job<S: Start, P: Write + Drop, R: Read, W: Write + Drop, E: Write>(
             let end = tell_calendar(rt, start, screen, file, from, to, &mut w, e);
             (end, w)
         }
+        Job::Explain {
+            file,
+            case,
+            deadline,
+        } => {
+            let end = explain_deadline(rt, start, screen, file, case, deadline, e);
+            (end, w)
+        }
+        Job::ExplainLines => (JobEnd::of(explain_all(rt.alloc(), r, &mut w, e)), w),
         Job::Check { file } => (tell_check(rt, start, screen, file, e), w),
         Job::Migrate { file } => (migrate_docket(rt, start, screen, file, e), w),
         Job::Serve { file, port, count } => {

@@ -7,6 +7,7 @@ mod check;
 mod command;
 mod create;
 mod end;
+mod explain;
 mod file;
 mod holdings;
 mod holiday;

@@ -6,6 +6,7 @@
 //! each call of a disk, and so is the migration of that docket.
 mod comparing;
 mod counting;
+mod explaining;
 mod requests;
 mod running;
 mod texts;
@@ -17,6 +18,7 @@ use anyhow::Error;
 pub(crate) use comparing::input;
 use comparing::is_as_stored;
 use counting::counted;
+use explaining::{explained, reasoned};
 use running::ran;
 use std::alloc::Global;
 use std::io;
@@ -29,12 +31,16 @@ pub(crate) use worked::{ASKED, ZONE, eastern_court};
 enum Play {
     /// By `count`.
     Count,
+    /// By `explain`.
+    Explain,
     /// By reading each command and writing its canonical text, or the fault of its line.
     Texts,
     /// By `run`, in a court of UTC0.
     Run,
     /// By `run`, in a court of Eastern time, with where the deadlines of case 1 stand.
     Worked,
+    /// By `run`, in a court of Eastern time, with the reasons for the deadlines of case 1.
+    Reasons,
     /// By serving each request, which comes in pieces of so many bytes.
     Served(usize),
     /// By cutting each request after each of its bytes, and then serving all of them.
@@ -48,12 +54,13 @@ enum Play {
 }
 
 /// The input is data/NAME.in, and what is to be written is data/NAME.out.
-const INPUTS: [(Play, &str); 44] = [
+const INPUTS: [(Play, &str); 46] = [
     (Play::Count, "count-days"),
     (Play::Count, "count-1"),
     (Play::Count, "count-2"),
     (Play::Count, "count-3"),
     (Play::Count, "count-short"),
+    (Play::Explain, "explain"),
     (Play::Texts, "texts-wire"),
     (Play::Run, "run-calendar"),
     (Play::Run, "run-chain"),
@@ -86,6 +93,7 @@ const INPUTS: [(Play, &str); 44] = [
     (Play::Worked, "worked-again"),
     (Play::Worked, "worked-kept-calendar"),
     (Play::Worked, "worked-moving-ends"),
+    (Play::Reasons, "reasons"),
     (Play::Served(1), "requests"),
     (Play::Served(7), "requests"),
     (Play::Served(usize::MAX), "requests"),
@@ -99,9 +107,11 @@ const INPUTS: [(Play, &str); 44] = [
 fn played(alloc: Global, play: Play, input: &[u8]) -> Result<Vec<u8>, Error> {
     match play {
         Play::Count => counted(alloc, input),
+        Play::Explain => explained(alloc, input),
         Play::Texts => canonical(alloc, input),
         Play::Run => ran(alloc, input),
         Play::Worked => worked_out(alloc, input),
+        Play::Reasons => reasoned(alloc, input),
         Play::Served(size) => requests::served(alloc, size, input),
         Play::Cut => requests::cut(alloc, input),
         Play::Stopped => stopped(alloc, input),
@@ -114,7 +124,9 @@ fn played(alloc: Global, play: Play, input: &[u8]) -> Result<Vec<u8>, Error> {
 fn played_in_vectors(alloc: Global, play: Play, input: &[u8]) -> Option<Result<Vec<u8>, Error>> {
     match play {
         Play::Count
+        | Play::Explain
         | Play::Texts
+        | Play::Reasons
         | Play::Served(_)
         | Play::Cut
         | Play::Stopped

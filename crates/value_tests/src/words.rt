@@ -13,7 +13,7 @@ fn words_of(alloc: Global, line: &str) -> Result<Vec<String>, AllocError> {
 }
 
 /// What the words ask for, as `told` tells it.
-const JOBS: [(&str, &str); 21] = [
+const JOBS: [(&str, &str); 24] = [
     ("docketctl check --db court.db", "check court.db"),
     ("docketctl migrate --db court.db", "migrate court.db"),
     ("docketctl", "count"),
@@ -63,6 +63,15 @@ const JOBS: [(&str, &str); 21] = [
         "docketctl serve --count=1000000 --db court.db --port=65535",
         "serve court.db 65535 1000000",
     ),
+    ("docketctl explain", "explain lines"),
+    (
+        "docketctl explain --db court.db 1 2",
+        "explain court.db 1 2",
+    ),
+    (
+        "docketctl explain 1 4294967295 --db=court.db",
+        "explain court.db 1 4294967295",
+    ),
     ("docketctl rules", "rules -"),
     ("docketctl rules --db court.db", "rules court.db"),
     ("docketctl holidays 2000", "holidays 2000"),
@@ -81,6 +90,12 @@ fn told(alloc: Global, job: &Job<'_>) -> Result<String, AllocError> {
         Job::Calendar { file, from, to } => {
             format!(in alloc; "calendar {file} {} {}", from.number(), to.number())
         }
+        Job::Explain {
+            file,
+            case,
+            deadline,
+        } => format!(in alloc; "explain {file} {case} {deadline}"),
+        Job::ExplainLines => String::from_str(alloc, "explain lines"),
         Job::Check { file } => format!(in alloc; "check {file}"),
         Job::Migrate { file } => format!(in alloc; "migrate {file}"),
         Job::Serve { file, port, count } => format!(in alloc; "serve {file} {port} {count}"),
@@ -122,7 +137,7 @@ fn jobs(rt: HostRuntime) {
 }
 
 /// What is printed where the words ask for no job, and whether that is a mistake.
-const TEXTS: [(&str, &str, bool); 34] = [
+const TEXTS: [(&str, &str, bool); 38] = [
     ("docketctl --help", "Usage: docketctl [COMMAND]", false),
     ("docketctl --version", "docketctl 0.1.0", false),
     ("docketctl count --help", "forward DAY N", false),
@@ -179,6 +194,26 @@ const TEXTS: [(&str, &str, bool); 34] = [
     (
         "docketctl case --db court.db +1",
         "error: NUMBER is a number from 1 to 4294967295, without a leading zero",
+        true,
+    ),
+    (
+        "docketctl explain --help",
+        "2025-07-04 Fri  passed over: Independence Day, 6(a)(6)(A)",
+        false,
+    ),
+    (
+        "docketctl explain --db court.db 1 0",
+        "error: CASE and DEADLINE are numbers from 1 to 4294967295, without a leading zero",
+        true,
+    ),
+    (
+        "docketctl explain --db court.db 1",
+        "error: CASE and DEADLINE go with --db, and --db with both",
+        true,
+    ),
+    (
+        "docketctl explain 1 2",
+        "error: CASE and DEADLINE go with --db, and --db with both",
         true,
     ),
     (

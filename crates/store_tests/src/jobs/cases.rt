@@ -78,6 +78,45 @@ const CALENDAR: Step<'static> = Step {
     status: 0,
 };
 
+/// Why the deadline is due on that day.
+const EXPLAINED: Step<'static> = Step {
+    line: "docketctl explain --db @/court.db 1 1",
+    input: "",
+    output: "2025-06-13 Fri  summons and complaint served; 21 days after, 12(a)(1)(A)(i)
+2025-07-04 Fri  counted to this day, 6(a)(1)(A), (B)
+2025-07-04 Fri  passed over: Independence Day, 6(a)(6)(A)
+2025-07-05 Sat  passed over: Saturday
+2025-07-06 Sun  passed over: Sunday
+2025-07-07 Mon  the period ends, 6(a)(1)(C)
+2025-07-07 Mon  due: to 24:00 electronically, to 17:00 at the clerk's office, 6(a)(4)
+",
+    errors: "",
+    status: 0,
+};
+
+const NO_OTHER_DEADLINE: Step<'static> = Step {
+    line: "docketctl explain --db @/court.db 1 2",
+    input: "",
+    output: "",
+    errors: "no such deadline\n",
+    status: 1,
+};
+
+/// Lines of days are explained without a docket.
+const LINES_EXPLAINED: Step<'static> = Step {
+    line: "docketctl explain",
+    input: "closed 2025-07-11\nforward 2025-07-01 9\nforward\n",
+    output: "ok
+2025-07-01 Tue  event; 9 days after, 6(a)(1)
+2025-07-10 Thu  counted to this day, 6(a)(1)(A), (B)
+2025-07-10 Thu  the period ends, 6(a)(1)(C)
+2025-07-10 Thu  due: to 24:00 electronically, to 17:00 at the clerk's office, 6(a)(4)
+bad
+",
+    errors: "",
+    status: 1,
+};
+
 /// The tables are read whole, and counted.
 const CHECKED: Step<'static> = Step {
     line: "docketctl check --db @/court.db",
@@ -119,13 +158,16 @@ const NO_COMMANDS: Step<'static> = Step {
     status: 1,
 };
 
-const STEPS: [Step<'static>; 11] = [
+const STEPS: [Step<'static>; 14] = [
     OPENING,
     OPENED,
     NO_OTHER,
     RECORDS,
     RECORDED,
     CALENDAR,
+    EXPLAINED,
+    NO_OTHER_DEADLINE,
+    LINES_EXPLAINED,
     OPENING,
     NO_COMMANDS,
     RECORDED,

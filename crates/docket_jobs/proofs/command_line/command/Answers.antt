@@ -12,8 +12,9 @@ returns c =
     let imports = subcommand_added _ _ _ _ _ runs c.in_ok-import_command.ensures c.in_ok-subcommand-4.ensures in
     let cases = subcommand_added _ _ _ _ _ imports c.in_ok-case_command.ensures c.in_ok-subcommand-5.ensures in
     let calendars = subcommand_added _ _ _ _ _ cases c.in_ok-calendar_command.ensures c.in_ok-subcommand-6.ensures in
-    let checks = subcommand_added _ _ _ _ _ calendars c.in_ok-check_command.ensures c.in_ok-subcommand-7.ensures in
-    let migrates = subcommand_added _ _ _ _ _ checks c.in_ok-migrate_command.ensures c.in_ok-subcommand-8.ensures in
-    let serves = subcommand_added _ _ _ _ _ migrates c.in_ok-serve_command.ensures c.in_ok-subcommand-9.ensures in
-    let tells_rules = subcommand_added _ _ _ _ _ serves c.in_ok-rules_command.ensures c.in_ok-subcommand-10.ensures in
-    IfOk-weaker c.subcommand-11.result _ _ (λ _ adds. subcommand_added _ _ _ _ _ tells_rules c.in_ok-holidays_command.ensures adds) c.subcommand-11.ensures
+    let explains = subcommand_added _ _ _ _ _ calendars c.in_ok-explain_command.ensures c.in_ok-subcommand-7.ensures in
+    let checks = subcommand_added _ _ _ _ _ explains c.in_ok-check_command.ensures c.in_ok-subcommand-8.ensures in
+    let migrates = subcommand_added _ _ _ _ _ checks c.in_ok-migrate_command.ensures c.in_ok-subcommand-9.ensures in
+    let serves = subcommand_added _ _ _ _ _ migrates c.in_ok-serve_command.ensures c.in_ok-subcommand-10.ensures in
+    let tells_rules = subcommand_added _ _ _ _ _ serves c.in_ok-rules_command.ensures c.in_ok-subcommand-11.ensures in
+    IfOk-weaker c.subcommand-12.result _ _ (λ _ adds. subcommand_added _ _ _ _ _ tells_rules c.in_ok-holidays_command.ensures adds) c.subcommand-12.ensures

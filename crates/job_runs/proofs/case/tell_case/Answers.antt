@@ -13,7 +13,7 @@ returns-in-Ok-done_on_docket g c = record {
   told = λ docket is files.
       some_left c.with.result.left c.in-Ok-done_on_docket.left _ _ c.with.ensures.left (answered c.case_on_file-ended.result (λ it. it.left) IsCleanLeft (λ it. it.outcome) (AnswersTo (λ text. option_map string_bytes text ≡ text_of_case docket.court docket.history c.args.number))
       c.in-Ok-done_on_docket.answer c.in-Ok-done_on_docket.left (λ left. LeavesRows left (rows_told docket) (rows_told docket)) _
-      (c.case_on_file-ended.ensures.told docket is files) (c.case_on_file-ended.ensures.stays docket files) c.in-Ok-done_on_docket.ensures.done (λ answers. subst₂ (λ text status. TellsIfAny (text_of_case docket.court docket.history c.args.number) (cow_str_bytes text) status) (sym c.with.ensures.text) (sym c.with.ensures.status) (c.case_told.ensures.told (text_of_case docket.court docket.history c.args.number) answers)));
+      (c.case_on_file-ended.ensures.told docket is files) (c.case_on_file-ended.ensures.stays docket files) c.in-Ok-done_on_docket.ensures.done (λ answers. subst₂ (λ text status. TellsIfAny (text_of_case docket.court docket.history c.args.number) (cow_str_bytes text) status) (sym c.with.ensures.text) (sym c.with.ensures.status) (c.told_if_any.ensures.told (text_of_case docket.court docket.history c.args.number) answers)));
 }
 
 pub returns-in-Err-done_on_docket : goal.returns-in-Err-done_on_docket
