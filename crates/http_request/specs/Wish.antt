@@ -5,9 +5,9 @@ use Rattle.std.specs.Cmp.Lexicographic.{pointwise}
 use Rattle.civil_time.specs.DayText.{day_of_text}
 use Rattle.httparse.specs.Grammar.{RequestHead, ReadsRequest}
 use Rattle.httparse.specs.Spans.{name_and_value}
-use Rattle.http_routes.specs.declared.Route.{Route}
-use Rattle.http_routes.specs.declared.Route.TheVariants.{Commands, Case as CaseRoute, Deadlines as DeadlinesRoute, Calendar as CalendarRoute, Holidays as HolidaysRoute}
-use Rattle.http_routes.specs.Path.{Place, place_of}
+use Rattle.http_request.specs.declared.route.Route.{Route}
+use Rattle.http_request.specs.declared.route.Route.TheVariants.{Commands, Case as CaseRoute, Deadlines as DeadlinesRoute, Calendar as CalendarRoute, Holidays as HolidaysRoute}
+use Rattle.http_request.specs.Path.{Place, place_of}
 use Rattle.http_request.specs.declared.fields.Rejection.{Rejection}
 use Rattle.http_request.specs.declared.fields.Rejection.TheVariants.{BadHead, NotFound, Method, BadPathValue}
 use Rattle.http_request.specs.declared.wish.Wish.{Wish}

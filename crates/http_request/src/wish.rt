@@ -2,16 +2,17 @@
 ghost use Rattle.std.specs.Prelude.{◌≡◌, ◌==◌, ◌≤◌, length, map, All, IfOk, IfErr, IfSome, IsUtf8};
 ghost use Rattle.std.specs.List.{before_first};
 ghost use Rattle.httparse.specs.Spans.{IsHeaderWithin, header_bytes};
-ghost use Rattle.http_routes.specs.Rows.{route_rows};
+ghost use Rattle.http_request.specs.Rows.{route_rows};
 ghost use Rattle.civil_time.specs.DayText.{day_of_text};
 ghost use Rattle.http_request.specs.Wish.{number_of, year_of, body_wish, number_wish, holidays_wish, calendar_wish, route_wish, wish_of, route_method, is_method, IsHeadWish, IsWithinLimits};
 
 use crate::fields::{Rejection, body_length};
+use crate::input::InputFault;
 use crate::number::read_digits;
+use crate::place::{Found, find};
+use crate::route::{Route, router};
 use civil_time::{Day, read_day};
 use http::Method;
-use http_input::InputFault;
-use http_routes::{Found, Route, find, router};
 use httparse::Status;
 use httparse::spans::{EMPTY_HEADER_SPAN, HeaderSpan, parse_request};
 use matchit::Router;

@@ -1,4 +1,0 @@
-pub mod EndLemmas
-pub mod FindLemmas
-pub mod HeadLemmas
-pub mod InputLemmas
