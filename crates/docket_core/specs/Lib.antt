@@ -12,6 +12,5 @@ pub mod Tables
 pub mod Times
 pub mod Values
 pub mod Views
-pub mod Worked
 pub mod InOrder
 pub mod Limits

@@ -1,5 +1,5 @@
 -- What a history tells of its cases and deadlines.
-use Rattle.std.specs.Prelude.{ℕ, zero, suc, ◌+◌, ◌&&◌, if◌then◌else◌, nat_le, List, [], ◌∷◌, length, slice_get, Option, Some, None}
+use Rattle.std.specs.Prelude.{ℕ, zero, suc, ◌+◌, ◌&&◌, if◌then◌else◌, nat_le, List, [], ◌∷◌, length, slice_get, find, bytes_eq, Option, Some, None}
 use Rattle.court_days.specs.Calendar.{Entered}
 use Rattle.court_days.specs.Court.{CourtSettings, zone_of}
 use Rattle.court_days.specs.Timely.{closing}
@@ -17,6 +17,10 @@ use Rattle.docket_core.specs.declared.row.CaseRow.{CaseRow}
 use Rattle.docket_core.specs.declared.row.PartyRow.{PartyRow}
 use Rattle.docket_core.specs.declared.row.EntryRow.{EntryRow}
 use Rattle.docket_core.specs.declared.view.DeadlineView.{DeadlineView}
+
+-- the case that has a label
+abbrev pub case_labelled : List CaseRow → List ℕ → Option CaseRow
+case_labelled rows label = find (λ row. bytes_eq row.label label) rows
 
 -- the case of a number, from 1
 abbrev pub case_at : List CaseRow → ℕ → Option CaseRow

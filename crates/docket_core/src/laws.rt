@@ -15,8 +15,7 @@ ghost use Rattle.docket_core.specs.InOrder.{in_order, numbered_by, opened, case_
 ghost use Rattle.docket_core.specs.declared.deadline.NewDeadline.{NewDeadline};
 ghost use Rattle.docket_core.specs.declared.row.CalendarRow.{CalendarRow};
 ghost use Rattle.docket_core.specs.Limits.{IsWithinLimits};
-ghost use Rattle.docket_core.specs.Outcomes.{IsHistory, shown, answers};
-ghost use Rattle.docket_core.specs.Worked.{asked, answered, closed_and_withdrawn, closed_and_withdrawn_answered, timed_locally, timed_locally_answered};
+ghost use Rattle.docket_core.specs.Outcomes.{IsHistory, shown};
 
 /// Every history keeps to the limits, and what it shows about a command is sound.
 pub fn limits_are_kept()
@@ -49,13 +48,6 @@ pub fn acts_are_in_order()
 /// A row of the calendar stands if a command added it and no later one withdraws it.
 pub fn rows_stand_until_withdrawn()
     ensures { (h : History) (row : CalendarRow) → Contains (standing_rows h) row ↔ IsAddedAndKept h row }
-{}
-
-/// Three dockets played through, in any court.
-pub fn worked_dockets()
-    ensures case { (court : CourtSettings) → answers court [] asked ≡ answered }
-    ensures calendar { (court : CourtSettings) → answers court [] closed_and_withdrawn ≡ closed_and_withdrawn_answered }
-    ensures locally { (court : CourtSettings) → answers court [] timed_locally ≡ timed_locally_answered }
 {}
 
 /// A short day moves no deadline: where each stands is a matter of the days and the spans of the calendar

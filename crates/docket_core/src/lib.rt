@@ -24,7 +24,7 @@ pub use end_row::{EndChange, EndRow, EndTime, due_changes};
 pub use item::CalendarItem;
 pub use laws::{
     acts_are_in_order, limits_are_kept, rows_are_numbered_in_order, rows_stand_until_withdrawn,
-    short_days_move_no_deadline, worked_dockets,
+    short_days_move_no_deadline,
 };
 pub use lines::{close_of_end, close_of_standing, deadline_lines, line_of};
 pub use moving::{acts_named, acts_with, end_moves};

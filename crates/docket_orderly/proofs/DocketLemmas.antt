@@ -9,6 +9,7 @@ use Rattle.docket_wire.specs.Valid.{IsCommand}
 use Rattle.docket_orderly.specs.Orderly.{IsCourtSettings, IsOrderly}
 use Rattle.docket_orderly.proofs.ActLemmas.{acts_held, acts_run}
 use Rattle.docket_orderly.proofs.CalendarLemmas.{calendar_held, short_days_held, calendar_rises}
+use Rattle.docket_orderly.proofs.LabelLemmas.{one_case}
 use Rattle.docket_orderly.proofs.LocalRuleLemmas.{local_rules_held, local_rules_run, one_local_rule}
 use Rattle.docket_orderly.proofs.ReceiptLemmas.{receipts_held, one_receipt}
 use Rattle.docket_orderly.proofs.RowLemmas.{cases_held, cases_run, parties_held, parties_run, entries_held, entries_run, deadlines_held, deadlines_run}
@@ -23,6 +24,7 @@ orderly court h held is all =
       calendar_rises = calendar_rises h;
       cases = cases_held court h is all;
       cases_run = cases_run h;
+      one_case = one_case court h is;
       parties = parties_held court h is all;
       parties_run = parties_run h;
       entries = entries_held court h is all;

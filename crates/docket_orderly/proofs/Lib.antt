@@ -3,6 +3,7 @@ pub mod ActLemmas
 pub mod CalendarLemmas
 pub mod DeadlineLemmas
 pub mod DocketLemmas
+pub mod LabelLemmas
 mod ListLemmas
 pub mod LocalRuleLemmas
 pub mod ReceiptLemmas

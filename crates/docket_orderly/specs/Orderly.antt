@@ -6,6 +6,7 @@ use Rattle.docket_core.specs.Histories.{parties_of_case, entries_of_case, deadli
 use Rattle.docket_core.specs.ShortDays.{day_and_span_rows, short_day_rows}
 use Rattle.docket_core.specs.Tables.{Tables}
 use Rattle.docket_core.specs.declared.row.ActRow.{ActRow}
+use Rattle.docket_core.specs.declared.row.CaseRow.{CaseRow}
 use Rattle.docket_core.specs.declared.row.LocalRuleRow.{LocalRuleRow}
 use Rattle.docket_core.specs.declared.row.Receipt.{Receipt}
 use Rattle.docket_columns.specs.Fits.{IsCourtRow, IsCalendarRow, IsShortDayRow, IsCaseRow, IsPartyRow, IsEntryRow, IsDeadlineRow, IsActRow, IsReceipt, IsLocalRuleRow}
@@ -27,6 +28,9 @@ RunsFrom n (m ∷ more) = (m ≡ n) × RunsFrom (suc n) more
 abbrev pub acts_on : ℕ → ℕ → List ActRow → List ActRow
 acts_on k n rows = filter (λ row. row.case == k && row.deadline == n) rows
 
+abbrev pub cases_labelled : List ℕ → List CaseRow → List CaseRow
+cases_labelled label rows = filter (λ row. bytes_eq row.label label) rows
+
 abbrev pub receipts_under : List ℕ → List Receipt → List Receipt
 receipts_under key rows = filter (λ row. bytes_eq row.command.key key) rows
 
@@ -40,6 +44,7 @@ pub record IsOrderly (settings : CourtSettings) (t : Tables) : Type 0 where
   pub calendar_rises : Rises (map (λ row. row.number) t.calendar)
   pub cases : AllByRecursion IsCaseRow t.cases
   pub cases_run : RunsFrom 1 (map (λ row. row.number) t.cases)
+  pub one_case : (label : List ℕ) → length (cases_labelled label t.cases) ≤ 1
   pub parties : AllByRecursion IsPartyRow t.parties
   pub parties_run : (k : ℕ) → RunsFrom 1 (map (λ row. row.number) (parties_of_case k t.parties))
   pub entries : AllByRecursion IsEntryRow t.entries

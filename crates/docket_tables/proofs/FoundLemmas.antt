@@ -11,7 +11,7 @@ use Rattle.sqlite_trees.proofs.ListLemmas.{all-filter}
 use Rattle.court_rules.specs.declared.local_rule.LocalRule.{LocalRule}
 use Rattle.docket_command.specs.declared.command.Command.{Command}
 use Rattle.docket_core.specs.Outcomes.{kept, kept_by}
-use Rattle.docket_core.specs.Records.{case_at}
+use Rattle.docket_core.specs.Records.{case_at, case_labelled}
 use Rattle.docket_core.specs.Histories.{deadlines_of_case, local_rule_in}
 use Rattle.docket_core.specs.declared.row.CaseRow.{CaseRow}
 use Rattle.docket_core.specs.declared.row.DeadlineRow.{DeadlineRow}
@@ -21,7 +21,7 @@ use Rattle.docket_core.specs.declared.view.Kept.{Kept}
 use Rattle.docket_core.specs.declared.view.Kept.TheVariants.{Fresh}
 use Rattle.docket_columns.specs.Cells.{case_cells, deadline_cells, local_rule_cells, receipt_cells}
 use Rattle.docket_columns.specs.Fits.{IsCaseRow, IsDeadlineRow, IsLocalRuleRow, IsReceipt}
-use Rattle.docket_orderly.specs.Orderly.{RunsFrom, local_rules_named, receipts_under}
+use Rattle.docket_orderly.specs.Orderly.{RunsFrom, cases_labelled, local_rules_named, receipts_under}
 use Rattle.docket_tables.specs.Queries.{IsAnswer}
 use Rattle.docket_tables.specs.Readings.{IsReadAs, row_at}
 use Rattle.docket_tables.specs.declared.fault.ReadFault.{ReadFault}
@@ -100,6 +100,20 @@ kept_read c result found receipts each few answer none one =
   where
     is : found ≡ map receipt_cells (receipts_under c.key receipts)
     is = the_one ask.Receipt (Text c.key ∷ []) receipt_cells (λ r. bytes_eq r.command.key c.key) (λ r. and_yes _ ∙ equal_text r.command.key c.key) receipts found refl few answer
+
+pub case_labelled_read : (label : List ℕ) (result : Result (Option CaseRow) ReadFault) (found : List Row) (rows : List CaseRow) → AllByRecursion IsCaseRow rows → length (cases_labelled label rows) ≤ 1
+    → IsAnswer ask.CaseLabelled (Text label ∷ []) (map case_cells rows) found
+    → (found ≡ [] → IsReadAs (λ c. c ≡ None) result) → ((row : CaseRow) → IsCaseRow row → found ≡ case_cells row ∷ [] → IsReadAs (λ c. c ≡ Some row) result)
+    → IsReadAs (λ c. c ≡ case_labelled rows label) result
+case_labelled_read label result found rows each few answer none one =
+    elim (first_kept (λ (row : CaseRow). bytes_eq row.label label) rows) [
+      | inl absent ↦ subst (λ o. IsReadAs (λ c. c ≡ o) result) (sym absent.0) (none (is ∙ ap (map case_cells) absent.1))
+      | inr it ↦ subst (λ o. IsReadAs (λ c. c ≡ o) result) (sym it.2)
+          (one it.0 (subst (AllByRecursion IsCaseRow) it.3 (all-filter _ _ rows each)).0 (is ∙ ap (map case_cells) (it.3 ∙ alone it.0 it.1 (omega (arith, few, ap length it.3)))))
+    ]
+  where
+    is : found ≡ map case_cells (cases_labelled label rows)
+    is = the_one ask.CaseLabelled (Text label ∷ []) case_cells (λ row. bytes_eq row.label label) (λ row. and_yes _ ∙ equal_text row.label label) rows found refl few answer
 
 pub local_rule_read : (name : List ℕ) (result : Result (Option LocalRule) ReadFault) (found : List Row) (rows : List LocalRuleRow) → AllByRecursion IsLocalRuleRow rows → length (local_rules_named name rows) ≤ 1
     → IsAnswer ask.LocalRuleNamed (Text name ∷ []) (map local_rule_cells rows) found

@@ -31,9 +31,9 @@ pub use fault::{ReadFault, StoreFault};
 pub use laws::{commands_keep_docket_rows, dockets_are_recognized};
 pub use probe::fault_of;
 pub use reading::{
-    acts_of_case, acts_of_deadline, calendar, case, cases, count_deadlines, count_entries,
-    count_local_rules, count_parties, court, deadline, deadlines, ends_of_case, entries,
-    is_label_taken, is_row_standing, kept, local_rule, local_rules, parties,
+    acts_of_case, acts_of_deadline, calendar, case, case_labelled, cases, count_deadlines,
+    count_entries, count_local_rules, count_parties, court, deadline, deadlines, ends_of_case,
+    entries, is_label_taken, is_row_standing, kept, local_rule, local_rules, parties,
 };
 pub use recognition::{has_docket_table, is_bare};
 pub use statement::{create_text, scan_text};

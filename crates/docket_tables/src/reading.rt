@@ -9,7 +9,7 @@ ghost use Rattle.docket_command.specs.declared.refusal.Reply.{Reply};
 ghost use Rattle.docket_core.specs.EndRows.{end_rows};
 ghost use Rattle.docket_core.specs.Histories.{parties_of_case, entries_of_case, deadlines_of_case, acts_of_deadline, local_rule_in};
 ghost use Rattle.docket_core.specs.Outcomes.{kept};
-ghost use Rattle.docket_core.specs.Records.{case_at};
+ghost use Rattle.docket_core.specs.Records.{case_at, case_labelled};
 ghost use Rattle.docket_core.specs.declared.view.Kept.TheVariants.{Same};
 ghost use Rattle.docket_wire.specs.Valid.{IsCommand};
 ghost use Rattle.docket_wire.specs.Writing.{canonical};
@@ -129,6 +129,24 @@ pub fn case<S: Alter>(
     ensures cause { (rows : Rows) → HoldsRows S.Store conn.old rows → HasCleanDisk (state S.Store conn.new) → FailsForCause (state S.Store conn.old) (state S.Store conn.new) result }
 {
     let rows = ask(conn, Query::CaseNumbered, &[number.to_sql()])?;
+    first_in(alloc, rows.as_slice())
+}
+
+/// The case that has the label.
+pub fn case_labelled<S: Alter>(
+    conn: &mut Connection<S>,
+    alloc: Global,
+    label: &str,
+) -> Result<Option<CaseRow>, ReadFault>
+    ensures read { Reads S.Store conn.old conn.new result (λ _ t found. found ≡ case_labelled t.cases label.now) }
+    ensures stays { (rows : Rows) → HoldsRows S.Store conn.old rows → Stays S.Store conn.new rows result }
+    ensures clean { doubt (state S.Store conn.old).is_clean ≤ doubt (state S.Store conn.new).is_clean }
+    ensures mode { conn.old.in_transaction ≡ false → conn.new.in_transaction ≡ false }
+    ensures counts { (state S.Store conn.old).faults ≤ (state S.Store conn.new).faults }
+    ensures limit { (state S.Store conn.new).step_limit ≡ (state S.Store conn.old).step_limit }
+    ensures cause { (rows : Rows) → HoldsRows S.Store conn.old rows → HasCleanDisk (state S.Store conn.new) → FailsForCause (state S.Store conn.old) (state S.Store conn.new) result }
+{
+    let rows = ask(conn, Query::CaseLabelled, &[label.to_sql()])?;
     first_in(alloc, rows.as_slice())
 }
 

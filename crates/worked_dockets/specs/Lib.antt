@@ -1,0 +1,11 @@
+pub mod Commands
+pub mod Keys
+pub mod BadValues
+pub mod Service
+pub mod Pleadings
+pub mod Motions
+pub mod Filings
+pub mod Judgments
+pub mod Orders
+pub mod CourtCalendar
+pub mod LocalRules
