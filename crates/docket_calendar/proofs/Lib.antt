@@ -1,3 +1,4 @@
+mod CauseLemmas
 pub mod DueLemmas
 pub mod EndBounds
 pub mod HistoryLemmas

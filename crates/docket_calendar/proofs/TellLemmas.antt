@@ -1,5 +1,5 @@
 -- What a calendar that is written row by row comes to, wherever it stops.
-use Rattle.std.proofs.Common.{◌≡◌, ◌⊎◌, inl, inr, ℕ, ◌+◌, Bool, true, false, List, [], ◌++◌, Option, Some, None, Result, Ok, Err, IsTrue, IsErrAnd, append-nil, refl, sym, ap, subst, subst₂, ◌∙◌}
+use Rattle.std.proofs.Common.{◌≡◌, ◌⊎◌, inl, inr, ℕ, ◌+◌, Bool, true, false, List, [], ◌++◌, Option, Some, None, Result, Ok, Err, IsTrue, IsErrAnd, is_some, append-nil, refl, sym, ap, subst, subst₂, ◌∙◌}
 use Rattle.std.specs.Io.KnownBytes.{Appends}
 use Rattle.std.proofs.KnownBytes.{Appends-nil, Appends-trans}
 use Rattle.sqlite.specs.Order.{Row}
@@ -85,6 +85,15 @@ module _ {S : Type 0} (g : Ghosts S) (court : CourtSettings) (listed : List DueR
   write_stops sql params n front text u v old new due (Err f) stop next is h failed same =
       let left = next_same sql params n old new due next in
       subst (λ e. SendsNext g sql params court listed n front u v old new (Err e)) (sym (same ∙ failed)) (left.0, (due, left.1, subst (λ (t : List ℕ). HasFront u v (front ++ t)) is h))
+
+  -- and one that was
+  pub line_sent : (sql : List ℕ) (params : Row) (n : ℕ) (front text : List ℕ) (u v : Option (List ℕ)) (old new : Held S) (due : Option DueRow) (more : Bool)
+      → Next g sql params court listed n old new (Ok due) → text ≡ text_at court n due → Appends u v (front ++ text) → more ≡ is_some due
+      → SendsNext g sql params court listed n front u v old new (Ok more)
+  line_sent sql params n front text u v old new (Some d) more next is went some =
+      subst (λ b. SendsNext g sql params court listed n front u v old new (Ok b)) (sym some) (next.0, (d, next.1, subst (λ (t : List ℕ). Appends u v (front ++ t)) is went), next.2)
+  line_sent sql params n front text u v old new None more next is went none =
+      subst (λ b. SendsNext g sql params court listed n front u v old new (Ok b)) (sym none) (next.0, next.1, subst (λ (t : List ℕ). Appends u v (front ++ t)) is went)
 
   module _ (front : List ℕ) (sql : List ℕ) (params : Row) where
     -- how far the calendar has come

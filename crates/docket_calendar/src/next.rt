@@ -1,10 +1,12 @@
 //! The rows of the question, one at a time.
-ghost use Rattle.std.specs.Prelude.{◌≡◌, false, ℕ, List};
+ghost use Rattle.std.specs.Prelude.{◌≡◌, false, ℕ, List, IfSome, MatchResult};
 ghost use Rattle.sqlite.specs.Order.{Row as Cells};
 ghost use Rattle.sqlite.specs.Held.{state};
 ghost use Rattle.sqlite.specs.State.{HasCleanDisk, Survives};
 ghost use Rattle.docket_core.specs.declared.record.DueRow.{DueRow as Due};
+ghost use Rattle.docket_tables.specs.Causes.{IsCausedFault};
 ghost use Rattle.docket_calendar.specs.Asked.{Lists, Gave, Next, RemainsAfter};
+ghost use Rattle.docket_calendar.specs.Stops.{IsUnderWay};
 
 use crate::row::due_of;
 use court_days::{Calendar, Court};
@@ -23,6 +25,9 @@ pub(crate) fn next_due<S: Alter>(
     ensures same_reference { rows.new.conn.ghost_name ≡ rows.old.conn.ghost_name }
     ensures mode { rows.old.conn.now.in_transaction ≡ false → rows.new.conn.now.in_transaction ≡ false }
     ensures survives { Survives (state S.Store rows.old.conn.now) (state S.Store rows.new.conn.now) (λ _. ⊥) }
+    // The store fails only for a cause, and a row leaves the question under way.
+    ensures cause { HasCleanDisk (state S.Store rows.new.conn.now) → IsUnderWay S.Store rows.old.conn.now
+        → MatchResult result (λ due. IfSome due (λ _. IsUnderWay S.Store rows.new.conn.now)) (IsCausedFault (state S.Store rows.old.conn.now) (state S.Store rows.new.conn.now)) }
     ensures remains { HasCleanDisk (state S.Store rows.new.conn.now) → RemainsAfter S.Store rows.old.conn.now rows.new.conn.now result }
     ensures next { (sql : List ℕ) (params : Cells) (listed : List Due) (n : ℕ)
         → HasCleanDisk (state S.Store rows.new.conn.now)

@@ -1,5 +1,5 @@
 //! The lines of a calendar, each written before the next row is read.
-ghost use Rattle.std.specs.Prelude.{◌≡◌, ◌++◌, false, ℕ, List, [], IfOk, IsTrue, Ok, Err, string_bytes, MatchResult};
+ghost use Rattle.std.specs.Prelude.{◌≡◌, ◌++◌, false, ℕ, List, [], IfOk, IfErr, IsTrue, Ok, Err, string_bytes, MatchResult};
 ghost use Rattle.std.specs.Option.{option_copied};
 ghost use Rattle.std.specs.Io.KnownBytes.{Appends};
 ghost use Rattle.sqlite.specs.Order.{Row as Cells};
@@ -9,7 +9,7 @@ ghost use Rattle.docket_core.specs.declared.record.DueRow.{DueRow as Due};
 ghost use Rattle.line_io.specs.Output.{HasFront};
 ghost use Rattle.docket_calendar.specs.Asked.{Lists, Gave};
 ghost use Rattle.docket_calendar.specs.Sending.{opening, text_at, Remains, SendsNext, SendsAll};
-ghost use Rattle.docket_calendar.specs.Stops.{IsStopAt};
+ghost use Rattle.docket_calendar.specs.Stops.{IsCausedStop, IsStopAt, IsUnderWay};
 
 use crate::next::next_due;
 use crate::stop::Stop;
@@ -83,6 +83,8 @@ fn send_next<S: Alter, W: Write>(
     ensures same_reference { rows.new.conn.ghost_name ≡ rows.old.conn.ghost_name }
     ensures mode { rows.old.conn.now.in_transaction ≡ false → rows.new.conn.now.in_transaction ≡ false }
     ensures survives { Survives (state S.Store rows.old.conn.now) (state S.Store rows.new.conn.now) (λ _. ⊥) }
+    ensures cause { HasCleanDisk (state S.Store rows.new.conn.now) → IsUnderWay S.Store rows.old.conn.now
+        → MatchResult result (λ more. IsTrue more → IsUnderWay S.Store rows.new.conn.now) (IsCausedStop (state S.Store rows.old.conn.now) (state S.Store rows.new.conn.now)) }
     ensures remains { HasCleanDisk (state S.Store rows.new.conn.now) → Remains S.Store rows.old.conn.now rows.new.conn.now result }
     ensures sends { (sql : List ℕ) (params : Cells) (listed : List Due)
         → HasCleanDisk (state S.Store rows.new.conn.now)
@@ -116,6 +118,8 @@ pub(crate) fn send_all<S: Alter, W: Write>(
     ensures same_reference { rows.new.conn.ghost_name ≡ rows.old.conn.ghost_name }
     ensures mode { rows.old.conn.now.in_transaction ≡ false → rows.new.conn.now.in_transaction ≡ false }
     ensures survives { Survives (state S.Store rows.old.conn.now) (state S.Store rows.new.conn.now) (λ _. ⊥) }
+    ensures cause { HasCleanDisk (state S.Store rows.new.conn.now) → IsUnderWay S.Store rows.old.conn.now
+        → IfErr result (IsCausedStop (state S.Store rows.old.conn.now) (state S.Store rows.new.conn.now)) }
     ensures remains { HasCleanDisk (state S.Store rows.new.conn.now) → IsTrue (state S.Store rows.old.conn.now).is_open → Remains S.Store rows.old.conn.now rows.new.conn.now result }
     ensures sends { (sql : List ℕ) (params : Cells) (listed : List Due)
         → HasCleanDisk (state S.Store rows.new.conn.now)

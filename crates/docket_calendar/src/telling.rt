@@ -1,5 +1,5 @@
 //! The calendar of a docket in a database.
-ghost use Rattle.std.specs.Prelude.{◌≡◌, ◌≤◌, false, List};
+ghost use Rattle.std.specs.Prelude.{◌≡◌, ◌≤◌, false, ℕ, IfErr, List};
 ghost use Rattle.sqlite.specs.Given.{IsPlain};
 ghost use Rattle.sqlite.specs.Held.{state};
 ghost use Rattle.sqlite.specs.Listing.{understood};
@@ -15,6 +15,7 @@ ghost use Rattle.docket_tables.specs.Stands.{HoldsRows};
 ghost use Rattle.docket_calendar.specs.Asked.{Lists};
 ghost use Rattle.docket_calendar.specs.Question.{question, days_asked};
 ghost use Rattle.docket_calendar.specs.Sending.{Remains, SendsAll};
+ghost use Rattle.docket_calendar.specs.Stops.{IsCausedStop};
 ghost use Rattle.docket_calendar.specs.Telling.{IsHistoryOf, Stays, Tells, history_rows};
 
 use crate::sending::send_all;
@@ -47,6 +48,10 @@ fn tell<S: Alter, W: Write>(
 ) -> Result<u32, Stop>
     ensures mode { conn.old.in_transaction ≡ false → conn.new.in_transaction ≡ false }
     ensures clean { doubt (state S.Store conn.old).is_clean ≤ doubt (state S.Store conn.new).is_clean }
+    ensures counts { (state S.Store conn.old).faults ≤ (state S.Store conn.new).faults }
+    ensures limit { (state S.Store conn.new).step_limit ≡ (state S.Store conn.old).step_limit }
+    ensures cause { (first last : ℕ) (rows : Rows) → sql.now ≡ question → bound values.now ≡ days_asked first last → HoldsRows S.Store conn.old rows → HasCleanDisk (state S.Store conn.new)
+        → IfErr result (IsCausedStop (state S.Store conn.old) (state S.Store conn.new)) }
     ensures survives { IsPlain (understood conn.old.schema sql.now) → Survives (state S.Store conn.old) (state S.Store conn.new) (λ _. ⊥) }
     ensures remains { IsPlain (understood conn.old.schema sql.now) → HasCleanDisk (state S.Store conn.new) → Remains S.Store conn.old conn.new result }
     ensures sends { (listed : List Due) → HasCleanDisk (state S.Store conn.new)
@@ -72,6 +77,10 @@ fn tell_days<S: Alter, W: Write>(
 ) -> Result<u32, Stop>
     ensures mode { conn.old.in_transaction ≡ false → conn.new.in_transaction ≡ false }
     ensures clean { doubt (state S.Store conn.old).is_clean ≤ doubt (state S.Store conn.new).is_clean }
+    ensures counts { (state S.Store conn.old).faults ≤ (state S.Store conn.new).faults }
+    ensures limit { (state S.Store conn.new).step_limit ≡ (state S.Store conn.old).step_limit }
+    ensures cause { (rows : Rows) → HoldsRows S.Store conn.old rows → HasCleanDisk (state S.Store conn.new)
+        → IfErr result (IsCausedStop (state S.Store conn.old) (state S.Store conn.new)) }
     ensures survives { IsPlain (understood conn.old.schema question) → Survives (state S.Store conn.old) (state S.Store conn.new) (λ _. ⊥) }
     ensures remains { IsPlain (understood conn.old.schema question) → HasCleanDisk (state S.Store conn.new) → Remains S.Store conn.old conn.new result }
     ensures sends { (listed : List Due) → HasCleanDisk (state S.Store conn.new)
@@ -99,6 +108,11 @@ pub fn calendar<S: Alter, W: Write>(
 ) -> Result<u32, Stop>
     ensures mode { conn.old.in_transaction ≡ false → conn.new.in_transaction ≡ false }
     ensures clean { doubt (state S.Store conn.old).is_clean ≤ doubt (state S.Store conn.new).is_clean }
+    ensures counts { (state S.Store conn.old).faults ≤ (state S.Store conn.new).faults }
+    ensures limit { (state S.Store conn.new).step_limit ≡ (state S.Store conn.old).step_limit }
+    // The store fails only for a cause.
+    ensures cause { (rows : Rows) → HoldsRows S.Store conn.old rows → HasCleanDisk (state S.Store conn.new)
+        → IfErr result (IsCausedStop (state S.Store conn.old) (state S.Store conn.new)) }
     ensures stays { (rows : Rows) → HoldsRows S.Store conn.old rows → Stays S.Store conn.new rows result }
     ensures tells { (h : History) → IsHistoryOf court.now h → HoldsRows S.Store conn.old (history_rows court.now h)
         → (HasCleanDisk (state S.Store conn.new) → entered.now ≡ calendar_in (rows_of court.now h))

@@ -1,12 +1,15 @@
 -- The error for which a question was not answered, and its cause.
-use Rattle.std.proofs.Common.{◌≡◌, ◌∙◌, ◌≤◌, ◌↔◌, Bool, true, false, inl, inr, Option, Some, IsSome, IfErr, IsErrAnd, MatchResult, Result, Ok, Err, refl, sym, ap, subst, arith}
+use Rattle.std.proofs.Common.{◌≡◌, ◌∙◌, ◌≤◌, ◌↔◌, ℕ, Bool, true, false, inl, inr, Option, Some, IfErr, IsErrAnd, MatchResult, Result, Ok, Err, refl, sym, ap, subst, arith}
 use Rattle.sqlite.specs.State.{State}
 use Rattle.sqlite.specs.declared.error.Error.{Error}
-use Rattle.docket_tables.specs.Causes.{IsCaused, IsCausedFault}
+use Rattle.docket_tables.specs.Causes.{FailsForCause, IsCaused, IsCausedFault}
 use Rattle.docket_tables.specs.declared.fault.ReadFault.{ReadFault}
 use Rattle.docket_tables.specs.declared.fault.ReadFault.TheVariants.{Store}
 use Rattle.docket_tables.proofs.PassedCauses.{fault_after}
-use Rattle.docket_store.specs.Causes.{IsNamed, IsCausedBy}
+use Rattle.docket_store.specs.Causes.{IsNamed, IsCausedBy, IsCausedEnd}
+use Rattle.docket_store.specs.Listing.{HasBroken}
+use Rattle.docket_store.specs.declared.listing.ListingEnd.{ListingEnd}
+use Rattle.docket_store.specs.declared.listing.ListingEnd.TheVariants.{NotBegun, Broken, WriteFailed}
 use Rattle.docket_store.specs.Sound.{IsNotTold}
 use Rattle.docket_store.specs.declared.fault.Fault.{Fault}
 use Rattle.docket_store.specs.declared.fault.Fault.TheVariants.{Refused, NoMemory, StoreFailed, Closed, Damaged}
@@ -81,3 +84,21 @@ fault_in (Err fault) = fault
 
 pub same_fault : {X : Type 0} (result : Result X Fault) (a b : Fault) → result ≡ Err a → result ≡ Err b → a ≡ b
 same_fault result a b one other = sym (ap fault_in one) ∙ ap fault_in other
+
+-- the same of a calendar
+
+pub end_caused_after : (first old new : State) (failure : Option Error) (result : Result ℕ ListingEnd) → first.faults ≤ old.faults → old.step_limit ≡ first.step_limit → IfErr result (IsCausedEnd old new failure)
+    → IfErr result (IsCausedEnd first new failure)
+end_caused_after first old new failure (Ok lines) counts limit cause = tt
+end_caused_after first old new failure (Err (NotBegun fault)) counts limit cause = caused_by_after first old new failure fault counts limit cause
+end_caused_after first old new failure (Err (Broken fault)) counts limit cause = caused_by_after first old new failure fault counts limit cause
+end_caused_after first old new failure (Err WriteFailed) counts limit cause = tt
+
+pub broken_caused : (old new : State) (failure : Option Error) (result : Result ℕ ListingEnd) → HasBroken result → IfErr result (IsCausedEnd old new failure) → IsCausedBy old new failure StoreFailed
+broken_caused old new failure result (inl none) cause = subst (λ r. IfErr r (IsCausedEnd old new failure)) none cause
+broken_caused old new failure result (inr part) cause = subst (λ r. IfErr r (IsCausedEnd old new failure)) part cause
+
+-- the error that a question to the tables failed for, and its cause
+pub told_cause : {X : Type 0} (first old new : State) (answer : Result X ReadFault) (by : Option Error) → old.faults ≤ new.faults → (e : Error) × (answer ≡ Err (Store e)) × (by ≡ Some e) → FailsForCause first old answer
+    → (e : Error) × (by ≡ Some e) × IsCaused first new e
+told_cause first old new answer by counts blamed cause = (blamed.0, blamed.2, caused_still first old new blamed.0 counts (subst (FailsForCause first old) blamed.1 cause))

@@ -7,6 +7,7 @@ mod LeftLemmas
 mod LineLemmas
 mod ListingLemmas
 mod OpeningLemmas
+mod QuestionLemmas
 mod ReopeningLemmas
 mod RunLemmas
 mod SessionLemmas

@@ -14,7 +14,7 @@ use Rattle.docket_store.specs.Dockets.{Docket}
 use Rattle.docket_store.specs.declared.fault.Fault.{Fault}
 use Rattle.docket_store.specs.declared.fault.Fault.TheVariants.{StoreFailed}
 use Rattle.docket_store.specs.declared.listing.ListingEnd.{ListingEnd}
-use Rattle.docket_store.specs.declared.listing.ListingEnd.TheVariants.{NotBegun, Broken}
+use Rattle.docket_store.specs.declared.listing.ListingEnd.TheVariants.{NotBegun, Broken, WriteFailed}
 
 -- where the database failed, its error is known
 abbrev pub IsNamed : Option Error → Fault → Type 0
@@ -30,6 +30,12 @@ IsNamedEnd failure _ = Unit {0}
 abbrev pub IsCausedBy : State → State → Option Error → Fault → Type 0
 IsCausedBy old new failure StoreFailed = (e : Error) × (failure ≡ Some e) × IsCaused old new e
 IsCausedBy old new failure _ = Unit {0}
+
+-- the same, where a calendar was not written whole
+abbrev pub IsCausedEnd : State → State → Option Error → ListingEnd → Type 0
+IsCausedEnd old new failure (NotBegun fault) = IsCausedBy old new failure fault
+IsCausedEnd old new failure (Broken fault) = IsCausedBy old new failure fault
+IsCausedEnd old new failure WriteFailed = Unit {0}
 
 -- the docket keeps the error of the database that closed it, and this has a cause
 abbrev pub IsClosedForCause : {S : Type 0} → Ghosts S → Docket S → Docket S → Type 0

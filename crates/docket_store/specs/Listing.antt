@@ -1,5 +1,5 @@
 -- What the writing of a calendar leaves of a docket and of the writer.
-use Rattle.std.specs.Prelude.{◌≡◌, ℕ, List, [], ◌++◌, length, Option, Result, Ok, Err}
+use Rattle.std.specs.Prelude.{◌≡◌, ◌⊎◌, ℕ, List, [], ◌++◌, length, Option, Result, Ok, Err}
 use Rattle.std.specs.Io.KnownBytes.{Appends}
 use Rattle.sqlite.specs.Store.{Ghosts}
 use Rattle.sqlite.specs.State.{HasCleanDisk}
@@ -9,11 +9,16 @@ use Rattle.docket_calendar.specs.Calendar.{calendar_rows, text_of_calendar}
 use Rattle.docket_calendar.specs.Sending.{HasBegun}
 use Rattle.docket_store.specs.Applying.{Stands, Asks}
 use Rattle.docket_store.specs.Dockets.{Docket}
+use Rattle.docket_store.specs.declared.fault.Fault.TheVariants.{StoreFailed}
 use Rattle.docket_store.specs.declared.listing.CalendarEnd.{CalendarEnd}
 use Rattle.docket_store.specs.declared.listing.CalendarEnd.TheVariants as calendar_end
 use Rattle.docket_store.specs.declared.listing.ListingEnd.{ListingEnd}
 use Rattle.docket_store.specs.declared.listing.ListingEnd.TheVariants as listing_end
 use Rattle.line_io.specs.Output.{HasFront}
+
+-- the database failed
+abbrev pub HasBroken : Result ℕ ListingEnd → Type 0
+HasBroken result = (result ≡ Err (listing_end.NotBegun StoreFailed)) ⊎ (result ≡ Err (listing_end.Broken StoreFailed))
 
 module _ {S : Type 0} (g : Ghosts S) (d : Docket S) (h : History) (from to : ℕ) where
   -- bytes and the calendar of the range behind them: all went out, with so many lines; or nothing did, or a front, which is not empty

@@ -33,55 +33,6 @@ use docket_tables::{ends_of_case, local_rules};
 use sqlite::{Alter, Connection, Error};
 use std::alloc::Global;
 
-/// The case of a number, with its parties and its entries.
-pub(crate) fn record_numbered<S: Alter>(
-    conn: &mut Connection<S>,
-    alloc: Global,
-    number: u32,
-    failure: &mut Option<Error>,
-) -> Result<Option<CaseRecord>, Fault>
-    requires { conn.old.in_transaction ≡ false }
-    ensures idle { conn.new.in_transaction ≡ false }
-    ensures clean { doubt (state S.Store conn.old).is_clean ≤ doubt (state S.Store conn.new).is_clean }
-    ensures stays { (rows : Rows) → HoldsRows S.Store conn.old rows → Preserves S.Store conn.new rows result }
-    ensures counts { (state S.Store conn.old).faults ≤ (state S.Store conn.new).faults }
-    ensures limit { (state S.Store conn.new).step_limit ≡ (state S.Store conn.old).step_limit }
-    ensures named { IfErr result (IsNamed failure.new) }
-    ensures cause { (rows : Rows) → HoldsRows S.Store conn.old rows → HasCleanDisk (state S.Store conn.new)
-        → IfErr result (IsCausedBy (state S.Store conn.old) (state S.Store conn.new) failure.new) }
-    ensures answer { (court : CourtSettings) (kept : Option (List Item)) (h : History) → Stands S.Store (serving conn.old court kept) h
-        → Asks S.Store (serving conn.new court kept) h (λ found. found ≡ case_record h number) result }
-{
-    match case_record(conn, alloc, number) {
-        Ok(found) => Ok(found),
-        Err(fault) => Err(read_fault(conn, fault, failure)),
-    }
-}
-
-/// The local rules, in the order in which they were entered.
-pub(crate) fn rules_entered<S: Alter>(
-    conn: &mut Connection<S>,
-    alloc: Global,
-    failure: &mut Option<Error>,
-) -> Result<Vec<LocalRuleRow>, Fault>
-    requires { conn.old.in_transaction ≡ false }
-    ensures idle { conn.new.in_transaction ≡ false }
-    ensures clean { doubt (state S.Store conn.old).is_clean ≤ doubt (state S.Store conn.new).is_clean }
-    ensures stays { (rows : Rows) → HoldsRows S.Store conn.old rows → Preserves S.Store conn.new rows result }
-    ensures counts { (state S.Store conn.old).faults ≤ (state S.Store conn.new).faults }
-    ensures limit { (state S.Store conn.new).step_limit ≡ (state S.Store conn.old).step_limit }
-    ensures named { IfErr result (IsNamed failure.new) }
-    ensures cause { (rows : Rows) → HoldsRows S.Store conn.old rows → HasCleanDisk (state S.Store conn.new)
-        → IfErr result (IsCausedBy (state S.Store conn.old) (state S.Store conn.new) failure.new) }
-    ensures answer { (court : CourtSettings) (kept : Option (List Item)) (h : History) → Stands S.Store (serving conn.old court kept) h
-        → Asks S.Store (serving conn.new court kept) h (λ found. found.items ≡ local_rule_rows h) result }
-{
-    match local_rules(conn, alloc) {
-        Ok(found) => Ok(found),
-        Err(fault) => Err(read_fault(conn, fault, failure)),
-    }
-}
-
 /// The deadlines of the case of a number, each with its acts.
 fn deadlines_shown<S: Alter>(
     conn: &mut Connection<S>,

@@ -35,34 +35,30 @@ ghost use Rattle.docket_store.specs.declared.listing.ListingEnd.TheVariants as l
 
 use crate::adopting::adopt_from;
 use crate::applying::apply_to;
-use crate::asking::{lines_numbered, record_numbered, rules_entered};
 use crate::creating::{CreateFault, make_docket};
-use crate::explaining::{Grounds, grounds_of};
-use crate::fault::Fault;
+use crate::fault::{Fault, closing_error};
 use crate::laws::courts_begin_without_a_record;
-use crate::listing::{CalendarEnd, ListingEnd, breaking_error, list_days};
 use crate::migrating::MigrateFault;
 use crate::returned::Returned;
-use court_days::{Court, Day};
+use court_days::Court;
 use docket_command::{Command, Reply};
-use docket_core::{CalendarItems, CaseRecord, DeadlineLine, LocalRuleRow};
+use docket_core::CalendarItems;
 use docket_migration::migrate;
 use docket_scan::{AdoptFault, FoundDocket, Holdings, Unwatched, Watch};
 use sqlite::{Alter, Connection, Error};
 use std::alloc::Global;
-use std::io::Write;
 use std::marker::Model;
 
 /// The docket of a court, kept in a database.
 #[derive(Drop)]
 pub struct Docket<S: Alter> {
-    alloc: Global,
-    conn: Connection<S>,
-    court: Court,
+    pub(crate) alloc: Global,
+    pub(crate) conn: Connection<S>,
+    pub(crate) court: Court,
     // The error of the database, where it failed.
-    closed_by: Option<Error>,
+    pub(crate) closed_by: Option<Error>,
     // The calendar, from when it is first asked for until it changes.
-    calendar: Option<CalendarItems>,
+    pub(crate) calendar: Option<CalendarItems>,
 }
 
 impl<S: Alter> Model for Docket<S> {
@@ -76,25 +72,6 @@ impl<S: Alter> Model for Docket<S> {
     ghost view = { λ d. record { conn = d.conn; court = d.court; closed = is_some d.closed_by; closed_by = d.closed_by; calendar = d.calendar } };
 
     ghost invariant = { λ d. d.conn.in_transaction ≡ false };
-}
-
-/// Whether the database failed.
-fn is_store_failure<T>(answer: &Result<T, Fault>) -> bool
-    ensures { (result ≡ true) ↔ (answer.now ≡ Err fault.StoreFailed) }
-{
-    matches!(answer, Err(Fault::StoreFailed))
-}
-
-/// The error that closes the docket: the last failure, where the database failed.
-fn closing_error<T>(answer: &Result<T, Fault>, failure: Option<Error>) -> Option<Error>
-    requires { IfErr answer.now (IsNamed failure) }
-    ensures fails { (is_some result ≡ true) ↔ (answer.now ≡ Err fault.StoreFailed) }
-    ensures kept { answer.now ≡ Err fault.StoreFailed → result ≡ failure }
-{
-    if is_store_failure(answer) {
-        return failure;
-    }
-    None
 }
 
 impl<S: Alter> Docket<S> {
@@ -280,169 +257,6 @@ impl<S: Alter> Docket<S> {
         let answer = apply_to(conn, self.alloc, &self.court, kept, command, &mut failure);
         self.closed_by = closing_error(&answer, failure);
         answer
-    }
-
-    /// The case of a number, with its parties and its entries.
-    pub fn case(&mut self, number: u32) -> Result<Option<CaseRecord>, Fault>
-        ensures court { self.new.court ≡ self.old.court }
-        ensures answer { (h : History) → Stands S.Store self.old h
-            → Asks S.Store self.new h (λ found. found ≡ case_record h number) result }
-        ensures closed { self.old.closed ≡ true → (result ≡ Err fault.Closed) × (self.new ≡ self.old) }
-        // Of any docket, no row changes.
-        ensures stays { (rows : Rows) → HoldsRows S.Store self.old.conn rows → Preserves S.Store self.new.conn rows result }
-        ensures clean { doubt (state S.Store self.old.conn).is_clean ≤ doubt (state S.Store self.new.conn).is_clean }
-        ensures closes { self.old.closed ≡ false → (self.new.closed ≡ true) ↔ (result ≡ Err fault.StoreFailed) }
-        // The database fails only for a cause.
-        ensures cause { (rows : Rows) → HoldsRows S.Store self.old.conn rows → HasCleanDisk (state S.Store self.new.conn)
-            → result ≡ Err fault.StoreFailed → IsClosedForCause S.Store self.old self.new }
-    {
-        if self.closed_by.is_some() {
-            return Err(Fault::Closed);
-        }
-        let mut failure = None;
-        let answer = record_numbered(&mut self.conn, self.alloc, number, &mut failure);
-        self.closed_by = closing_error(&answer, failure);
-        answer
-    }
-
-    /// The deadlines of the case of a number, and where each stands by the calendar of the docket.
-    pub fn deadlines(&mut self, number: u32) -> Result<Option<Vec<DeadlineLine>>, Fault>
-        ensures court { self.new.court ≡ self.old.court }
-        ensures answer { (h : History) → Stands S.Store self.old h
-            → Asks S.Store self.new h (λ found. option_map (λ lines. lines.items) found ≡ deadline_lines self.old.court h number) result }
-        ensures closed { self.old.closed ≡ true → (result ≡ Err fault.Closed) × (self.new ≡ self.old) }
-        // Of any docket, no row changes.
-        ensures stays { (rows : Rows) → HoldsRows S.Store self.old.conn rows → Preserves S.Store self.new.conn rows result }
-        ensures clean { doubt (state S.Store self.old.conn).is_clean ≤ doubt (state S.Store self.new.conn).is_clean }
-        ensures closes { self.old.closed ≡ false → (self.new.closed ≡ true) ↔ (result ≡ Err fault.StoreFailed) }
-        // The database fails only for a cause.
-        ensures cause { (rows : Rows) → HoldsRows S.Store self.old.conn rows → HasCleanDisk (state S.Store self.new.conn)
-            → result ≡ Err fault.StoreFailed → IsClosedForCause S.Store self.old self.new }
-    {
-        if self.closed_by.is_some() {
-            return Err(Fault::Closed);
-        }
-        let conn = &mut self.conn;
-        let kept = &mut self.calendar;
-        let mut failure = None;
-        let answer = lines_numbered(conn, self.alloc, &self.court, kept, number, &mut failure);
-        self.closed_by = closing_error(&answer, failure);
-        answer
-    }
-
-    /// What decides where the deadline of a number, from 1, of a case stands: its rule, its acts, and the
-    /// calendar of the docket. The acts are ones that a docket has.
-    pub fn grounds(&mut self, case: u32, deadline: u32) -> Result<Option<Grounds>, Fault>
-        ensures court { self.new.court ≡ self.old.court }
-        ensures answer { (h : History) → Stands S.Store self.old h
-            → Asks S.Store self.new h (AreGrounds h case deadline) result }
-        ensures acts { IfOk result (λ found. IfSome found (λ grounds. AreActs (zone_of self.old.court) grounds.deadline.acts)) }
-        ensures closed { self.old.closed ≡ true → (result ≡ Err fault.Closed) × (self.new ≡ self.old) }
-        // Of any docket, no row changes.
-        ensures stays { (rows : Rows) → HoldsRows S.Store self.old.conn rows → Preserves S.Store self.new.conn rows result }
-        ensures clean { doubt (state S.Store self.old.conn).is_clean ≤ doubt (state S.Store self.new.conn).is_clean }
-        ensures closes { self.old.closed ≡ false → (self.new.closed ≡ true) ↔ (result ≡ Err fault.StoreFailed) }
-        // The database fails only for a cause.
-        ensures cause { (rows : Rows) → HoldsRows S.Store self.old.conn rows → HasCleanDisk (state S.Store self.new.conn)
-            → result ≡ Err fault.StoreFailed → IsClosedForCause S.Store self.old self.new }
-    {
-        if self.closed_by.is_some() {
-            return Err(Fault::Closed);
-        }
-        let conn = &mut self.conn;
-        let kept = &mut self.calendar;
-        let court = &self.court;
-        let mut failure = None;
-        let answer = grounds_of(conn, self.alloc, court, kept, case, deadline, &mut failure);
-        self.closed_by = closing_error(&answer, failure);
-        answer
-    }
-
-    /// The court's local rules, in the order in which they were entered.
-    pub fn local_rules(&mut self) -> Result<Vec<LocalRuleRow>, Fault>
-        ensures court { self.new.court ≡ self.old.court }
-        ensures answer { (h : History) → Stands S.Store self.old h
-            → Asks S.Store self.new h (λ found. found.items ≡ local_rule_rows h) result }
-        ensures closed { self.old.closed ≡ true → (result ≡ Err fault.Closed) × (self.new ≡ self.old) }
-        // Of any docket, no row changes.
-        ensures stays { (rows : Rows) → HoldsRows S.Store self.old.conn rows → Preserves S.Store self.new.conn rows result }
-        ensures clean { doubt (state S.Store self.old.conn).is_clean ≤ doubt (state S.Store self.new.conn).is_clean }
-        ensures closes { self.old.closed ≡ false → (self.new.closed ≡ true) ↔ (result ≡ Err fault.StoreFailed) }
-        // The database fails only for a cause.
-        ensures cause { (rows : Rows) → HoldsRows S.Store self.old.conn rows → HasCleanDisk (state S.Store self.new.conn)
-            → result ≡ Err fault.StoreFailed → IsClosedForCause S.Store self.old self.new }
-    {
-        if self.closed_by.is_some() {
-            return Err(Fault::Closed);
-        }
-        let mut failure = None;
-        let answer = rules_entered(&mut self.conn, self.alloc, &mut failure);
-        self.closed_by = closing_error(&answer, failure);
-        answer
-    }
-
-    /// Writes the bytes, then the calendar of the days from one to another, both included, and counts
-    /// its lines: the deadlines of the docket whose time runs to one of these days, in order. Each line
-    /// is written before the next row is read, so its memory does not grow with them, and the bytes go
-    /// out with the first: where there is not even a first line, nothing does. The docket stays as it is.
-    pub fn calendar_after<W: Write>(
-        &mut self,
-        front: &[u8],
-        from: Day,
-        to: Day,
-        writer: &mut W,
-    ) -> Result<u32, ListingEnd>
-        ensures court { self.new.court ≡ self.old.court }
-        ensures answer { (h : History) → Stands S.Store self.old h
-            → Lists S.Store self.new h from to front.now (W.contents writer.old) (W.contents writer.new) result }
-        ensures closed { self.old.closed ≡ true
-            → (result ≡ Err (listing_end.NotBegun fault.Closed)) × (self.new ≡ self.old) × (writer.new ≡ writer.old) }
-        // Of any docket, no row changes.
-        ensures stays { (rows : Rows) → HoldsRows S.Store self.old.conn rows → PreservesListing S.Store self.new.conn rows result }
-        ensures clean { doubt (state S.Store self.old.conn).is_clean ≤ doubt (state S.Store self.new.conn).is_clean }
-        ensures closes { self.old.closed ≡ false → (self.new.closed ≡ true)
-            ↔ ((result ≡ Err (listing_end.NotBegun fault.StoreFailed)) ⊎ (result ≡ Err (listing_end.Broken fault.StoreFailed))) }
-    {
-        if self.closed_by.is_some() {
-            return Err(ListingEnd::NotBegun(Fault::Closed));
-        }
-        let mut failure = None;
-        let conn = &mut self.conn;
-        let kept = &mut self.calendar;
-        let court = &self.court;
-        let error = &mut failure;
-        let answer = list_days(
-            conn, self.alloc, court, kept, from, to, front, writer, error,
-        );
-        self.closed_by = breaking_error(&answer, failure);
-        answer
-    }
-
-    /// Writes the calendar of the days from one to another, both included, and counts its lines, as
-    /// `calendar_after` does with no bytes in front of it.
-    pub fn calendar<W: Write>(
-        &mut self,
-        from: Day,
-        to: Day,
-        writer: &mut W,
-    ) -> Result<u32, CalendarEnd>
-        ensures court { self.new.court ≡ self.old.court }
-        ensures answer { (h : History) → Stands S.Store self.old h
-            → ListsCalendar S.Store self.new h from to (W.contents writer.old) (W.contents writer.new) result }
-        ensures closed { self.old.closed ≡ true
-            → (result ≡ Err (calendar_end.Store fault.Closed)) × (self.new ≡ self.old) × (writer.new ≡ writer.old) }
-        // Of any docket, no row changes.
-        ensures stays { (rows : Rows) → HoldsRows S.Store self.old.conn rows → PreservesCalendar S.Store self.new.conn rows result }
-        ensures clean { doubt (state S.Store self.old.conn).is_clean ≤ doubt (state S.Store self.new.conn).is_clean }
-        ensures closes { self.old.closed ≡ false
-            → (self.new.closed ≡ true) ↔ (result ≡ Err (calendar_end.Store fault.StoreFailed)) }
-    {
-        match self.calendar_after(&[], from, to, writer) {
-            Ok(lines) => Ok(lines),
-            Err(ListingEnd::NotBegun(fault)) => Err(CalendarEnd::Store(fault)),
-            Err(ListingEnd::Broken(fault)) => Err(CalendarEnd::Store(fault)),
-            Err(ListingEnd::WriteFailed) => Err(CalendarEnd::WriteFailed),
-        }
     }
 
     /// The court whose docket it is.

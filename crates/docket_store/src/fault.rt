@@ -1,5 +1,5 @@
 //! Why a docket gave no answer.
-ghost use Rattle.std.specs.Prelude.{◌≡◌, ◌≤◌, false, Option, Some};
+ghost use Rattle.std.specs.Prelude.{◌≡◌, ◌↔◌, ◌≤◌, false, true, Option, Some, Err, IfErr, is_some};
 ghost use Rattle.sqlite.specs.Held.{state};
 ghost use Rattle.sqlite.specs.View.{doubt};
 ghost use Rattle.sqlite.specs.declared.error.Error.{Error as Failure};
@@ -113,4 +113,23 @@ pub(crate) fn read_fault<S: Alter>(
         ReadFault::NoMemory => Fault::NoMemory,
         ReadFault::Damaged => Fault::Damaged,
     }
+}
+
+/// Whether the database failed.
+fn is_store_failure<T>(answer: &Result<T, Fault>) -> bool
+    ensures { (result ≡ true) ↔ (answer.now ≡ Err StoreFailed) }
+{
+    matches!(answer, Err(Fault::StoreFailed))
+}
+
+/// The error that closes the docket: the last failure, where the database failed.
+pub(crate) fn closing_error<T>(answer: &Result<T, Fault>, failure: Option<Error>) -> Option<Error>
+    requires { IfErr answer.now (IsNamed failure) }
+    ensures fails { (is_some result ≡ true) ↔ (answer.now ≡ Err StoreFailed) }
+    ensures kept { answer.now ≡ Err StoreFailed → result ≡ failure }
+{
+    if is_store_failure(answer) {
+        return failure;
+    }
+    None
 }

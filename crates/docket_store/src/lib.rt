@@ -15,6 +15,7 @@ mod laws;
 mod lines;
 mod listing;
 mod migrating;
+mod questions;
 mod recovering;
 mod reopening;
 mod returned;

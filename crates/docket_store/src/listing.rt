@@ -1,5 +1,5 @@
 //! The calendar of a docket, written row by row.
-ghost use Rattle.std.specs.Prelude.{◌≡◌, ◌≤◌, ◌⊎◌, ◌↔◌, List, Option, Err, is_some, true, false, MatchResult};
+ghost use Rattle.std.specs.Prelude.{◌≡◌, ◌≤◌, ◌⊎◌, ◌↔◌, List, Option, IfErr, is_some, true, false, MatchResult};
 ghost use Rattle.sqlite.specs.Held.{state};
 ghost use Rattle.sqlite.specs.View.{doubt};
 ghost use Rattle.sqlite.specs.State.{HasCleanDisk};
@@ -10,9 +10,9 @@ ghost use Rattle.docket_tables.specs.Layouts.{Rows};
 ghost use Rattle.docket_tables.specs.Stands.{HoldsRows};
 ghost use Rattle.docket_store.specs.AnyRows.{PreservesListing};
 ghost use Rattle.docket_store.specs.Applying.{Stands};
-ghost use Rattle.docket_store.specs.Causes.{IsNamedEnd};
+ghost use Rattle.docket_store.specs.Causes.{IsCausedEnd, IsNamedEnd};
 ghost use Rattle.docket_store.specs.Dockets.{serving};
-ghost use Rattle.docket_store.specs.Listing.{Lists};
+ghost use Rattle.docket_store.specs.Listing.{HasBroken, Lists};
 ghost use Rattle.docket_store.specs.declared.fault.Fault.TheVariants as fault;
 
 use crate::asking::calendar_told;
@@ -46,7 +46,7 @@ pub enum ListingEnd {
 
 /// Whether the database failed.
 fn is_broken_store(answer: &Result<u32, ListingEnd>) -> bool
-    ensures { (result ≡ true) ↔ ((answer.now ≡ Err (ListingEnd.NotBegun fault.StoreFailed)) ⊎ (answer.now ≡ Err (ListingEnd.Broken fault.StoreFailed))) }
+    ensures { (result ≡ true) ↔ HasBroken answer.now }
 {
     matches!(
         answer,
@@ -60,7 +60,8 @@ pub(crate) fn breaking_error(
     failure: Option<Error>,
 ) -> Option<Error>
     requires { IsNamedEnd failure answer.now }
-    ensures { (is_some result ≡ true) ↔ ((answer.now ≡ Err (ListingEnd.NotBegun fault.StoreFailed)) ⊎ (answer.now ≡ Err (ListingEnd.Broken fault.StoreFailed))) }
+    ensures fails { (is_some result ≡ true) ↔ HasBroken answer.now }
+    ensures kept { HasBroken answer.now → result ≡ failure }
 {
     if is_broken_store(answer) {
         return failure;
@@ -86,6 +87,8 @@ fn list_by<S: Alter, W: Write>(
     ensures clean { doubt (state S.Store conn.old).is_clean ≤ doubt (state S.Store conn.new).is_clean }
     ensures stays { (rows : Rows) → HoldsRows S.Store conn.old rows → PreservesListing S.Store conn.new rows result }
     ensures named { IsNamedEnd failure.new result }
+    ensures cause { (rows : Rows) → HoldsRows S.Store conn.old rows → HasCleanDisk (state S.Store conn.new)
+        → IfErr result (IsCausedEnd (state S.Store conn.old) (state S.Store conn.new) failure.new) }
     ensures lists { (kept : Option (List Item)) (h : History) → Stands S.Store (serving conn.old court.now kept) h
         → (HasCleanDisk (state S.Store conn.old) → entered.now ≡ entered_by h)
         → Lists S.Store (serving conn.new court.now kept) h from to front.now (W.contents writer.old) (W.contents writer.new) result }
@@ -116,6 +119,8 @@ pub(crate) fn list_days<S: Alter, W: Write>(
     ensures clean { doubt (state S.Store conn.old).is_clean ≤ doubt (state S.Store conn.new).is_clean }
     ensures stays { (rows : Rows) → HoldsRows S.Store conn.old rows → PreservesListing S.Store conn.new rows result }
     ensures named { IsNamedEnd failure.new result }
+    ensures cause { (rows : Rows) → HoldsRows S.Store conn.old rows → HasCleanDisk (state S.Store conn.new)
+        → IfErr result (IsCausedEnd (state S.Store conn.old) (state S.Store conn.new) failure.new) }
     ensures lists { (h : History) → Stands S.Store (serving conn.old court.now kept.old) h
         → Lists S.Store (serving conn.new court.now kept.new) h from to front.now (W.contents writer.old) (W.contents writer.new) result }
 {

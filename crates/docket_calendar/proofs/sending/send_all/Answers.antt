@@ -3,6 +3,8 @@ use Rattle.sqlite.specs.State.{HasCleanDisk}
 use Rattle.sqlite.specs.Held.{state}
 use Rattle.sqlite.proofs.Callers.{unchanged_then}
 use Rattle.sqlite.proofs.StateLemmas.{survives_then}
+use Rattle.docket_calendar.specs.Stops.{IsCausedStop}
+use Rattle.docket_calendar.proofs.CauseLemmas.{err_caused, stop_after}
 use Rattle.docket_calendar.proofs.TellLemmas.{lists_still, goes_on_as, whole_as, stops_as, err_remains, remains_from}
 use Rattle.docket_calendar.proofs.sending.send_all.Goals as goal
 
@@ -40,6 +42,9 @@ rows-preserved g c =
       same_reference = c.send_next.ensures.same_reference ∙ c.rows.invariant.same_reference;
       mode = λ idle. c.send_next.ensures.mode (c.rows.invariant.mode idle);
       survives = survives_then (state g.S.Store old) (state g.S.Store now) (state g.S.Store new) _ _ _ (λ _ db none. none) (λ _ db none. none) c.rows.invariant.survives c.send_next.ensures.survives;
+      way = λ clean asked.
+          let early : HasCleanDisk (state g.S.Store now) = omega (arith, c.send_next.ensures.survives.clean, clean) in
+          c.in_ok-send_next.ensures.cause clean (c.rows.invariant.way early asked) (let more = c.if-not-branch.false in cc);
       remains = λ clean is_open.
           let early : HasCleanDisk (state g.S.Store now) = omega (arith, c.send_next.ensures.survives.clean, clean) in
           unchanged_then (state g.S.Store old) (state g.S.Store now) (state g.S.Store new) (c.rows.invariant.remains early is_open) (c.in_ok-send_next.ensures.remains clean);
@@ -71,3 +76,13 @@ returns-then-not-branch-clause-remains g c = λ clean is_open.
     let new = c.send_next.new.rows.conn.now in
     let early : HasCleanDisk (state g.S.Store now) = omega (arith, c.send_next.ensures.survives.clean, clean) in
     unchanged_then (state g.S.Store old) (state g.S.Store now) (state g.S.Store new) (c.rows.invariant.remains early is_open) (c.in_ok-send_next.ensures.remains clean)
+
+pub returns-in_err-send_next-clause-cause : goal.returns-in_err-send_next-clause-cause
+returns-in_err-send_next-clause-cause g c = λ clean asked.
+    let old = c.args.rows.now.conn.now in
+    let now = c.rows.rows.conn.now in
+    let new = c.send_next.new.rows.conn.now in
+    let early : HasCleanDisk (state g.S.Store now) = omega (arith, c.send_next.ensures.survives.clean, clean) in
+    let cause = c.in_err-send_next.ensures.cause clean (c.rows.invariant.way early asked) in
+    err_caused (IsCausedStop (state g.S.Store old) (state g.S.Store new)) _ c.from_residual.result c.from_residual.ensures.1
+    (stop_after (state g.S.Store old) (state g.S.Store now) (state g.S.Store new) _ c.rows.invariant.survives.counts c.rows.invariant.survives.limit cause)

@@ -5,6 +5,7 @@ use Rattle.sqlite.specs.State.{HasCleanDisk, IsUnchanged, Survives}
 use Rattle.sqlite.specs.Held.{state}
 use Rattle.docket_core.specs.declared.record.DueRow.{DueRow}
 use Rattle.docket_calendar.specs.Asked.{Lists, Gave}
+use Rattle.docket_calendar.specs.Stops.{IsUnderWay}
 use Rattle.docket_calendar.proofs.TellLemmas.{IsTold}
 use Rattle.docket_calendar.proofs.sending.send_all.Given as goal
 
@@ -16,6 +17,7 @@ invariant-rows g l =
       same_reference : l.rows.conn.ghost_name ≡ l.fn.rows.conn.ghost_name;
       mode : old.in_transaction ≡ false → now.in_transaction ≡ false;
       survives : Survives (state g.S.Store old) (state g.S.Store now) (λ _. ⊥);
+      way : HasCleanDisk (state g.S.Store now) → IsUnderWay g.S.Store old → IsUnderWay g.S.Store now;
       remains : HasCleanDisk (state g.S.Store now) → IsTrue (state g.S.Store old).is_open → IsUnchanged (state g.S.Store old) (state g.S.Store now);
       told : HasCleanDisk (state g.S.Store now) → (sql : List ℕ) (params : Row) (listed : List DueRow) → Lists sql params l.court l.entered (state g.S.Store old).now listed → Gave g.S.Store sql params l.court listed 0 old
           → IsTrue (state g.S.Store old).is_open → IsTold g.S.Store l.court listed l.fn.front sql params l.lines (g.W.Write.contents l.fn.writer) (g.W.Write.contents l.writer) old now;

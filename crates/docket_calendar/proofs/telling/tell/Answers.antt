@@ -1,5 +1,6 @@
-use Rattle.std.proofs.Common.{◌≡◌, ◌≤◌, arith, sym, subst, rules}
-use Rattle.sqlite.specs.State.{HasCleanDisk, Survives}
+use Rattle.std.proofs.Common.{◌≡◌, ◌≤◌, ◌∙◌, arith, sym, subst, subst₂, rules, IfErr}
+use Rattle.sqlite.specs.Given.{HasBegun}
+use Rattle.sqlite.specs.State.{HasCleanDisk, FailsToQuery, Survives}
 use Rattle.sqlite.specs.Held.{state}
 use Rattle.sqlite.specs.Values.{bound}
 use Rattle.sqlite.specs.View.{doubt}
@@ -8,6 +9,8 @@ use Rattle.sqlite.proofs.Callers.{begun_plain}
 use Rattle.std.proofs.KnownBytes.{Appends-nil}
 use Rattle.docket_tables.proofs.StandsLemmas.{failed_query}
 use Rattle.docket_calendar.specs.Sending.{Remains, SendsAll}
+use Rattle.docket_calendar.specs.Stops.{IsCausedStop}
+use Rattle.docket_calendar.proofs.CauseLemmas.{begins, question_caused, result_after}
 use Rattle.docket_calendar.proofs.StandsLemmas.{reads_only}
 use Rattle.docket_calendar.proofs.TellLemmas.{lists_still, remains_from, sends_from}
 use Rattle.docket_calendar.proofs.telling.tell.Goals as goal
@@ -76,3 +79,45 @@ pub returns-in-Err-clause-remains : goal.returns-in-Err-clause-remains
 returns-in-Err-clause-remains g c = λ plain clean.
     let refused = rw c.in-Err.is at c.query.follows.holds-at-none in
     failed_query c.args.sql.now (bound c.args.values.now) (state g.S.Store c.args.conn.now) (state g.S.Store c.query.follows.lender-at-none) c.in-Err.error plain (refused.err clean)
+
+pub returns-in-Ok-clause-cause : goal.returns-in-Ok-clause-cause
+returns-in-Ok-clause-cause g c = λ first last rows is days holds clean.
+    let old = c.args.conn.now in
+    let mid = c.in-Ok.rows.conn.now in
+    let new = c.send_all.new.rows.conn.now in
+    let end : new ≡ c.conn-1.given.0 = search rules in
+    let late : HasCleanDisk (state g.S.Store new) = subst (λ h. HasCleanDisk (state g.S.Store h)) (sym end) clean in
+    let early : HasCleanDisk (state g.S.Store mid) = omega (arith, c.send_all.ensures.survives.clean, late) in
+    let before : HasCleanDisk (state g.S.Store old) = omega (arith, c.in-Ok.ensures.survives.clean, early) in
+    let way = begins g.S.Store first last old mid (holds.1 before).shows.schema (subst₂ (λ sql params. HasBegun g.S.Store sql params old mid) is days (c.in-Ok.ensures.begun early)) in
+    let from_old = result_after (state g.S.Store old) (state g.S.Store mid) (state g.S.Store new) c.send_all.result c.in-Ok.ensures.survives.counts c.in-Ok.ensures.survives.limit (c.send_all.ensures.cause late way) in
+    subst (λ h. IfErr c.send_all.result (IsCausedStop (state g.S.Store old) (state g.S.Store h))) end from_old
+
+pub returns-in-Err-clause-cause : goal.returns-in-Err-clause-cause
+returns-in-Err-clause-cause g c = λ first last rows is days holds clean.
+    let old = state g.S.Store c.args.conn.now in
+    let new = state g.S.Store c.query.follows.lender-at-none in
+    let refused = rw c.in-Err.is at c.query.follows.holds-at-none in
+    let before : HasCleanDisk old = omega (arith, refused.survives.clean, clean) in
+    let shows = (holds.1 before).shows in
+    question_caused first last old new c.in-Err.error shows.schema shows.is_open (subst₂ (λ sql params. FailsToQuery sql params old new c.in-Err.error) is days (refused.err clean))
+
+pub returns-in-Err-clause-counts : goal.returns-in-Err-clause-counts
+returns-in-Err-clause-counts g c = let refused = rw c.in-Err.is at c.query.follows.holds-at-none in refused.survives.counts
+
+pub returns-in-Err-clause-limit : goal.returns-in-Err-clause-limit
+returns-in-Err-clause-limit g c = let refused = rw c.in-Err.is at c.query.follows.holds-at-none in refused.survives.limit
+
+pub returns-in-Ok-clause-counts : goal.returns-in-Ok-clause-counts
+returns-in-Ok-clause-counts g c =
+    let old = c.args.conn.now in
+    let new = c.send_all.new.rows.conn.now in
+    let both : (state g.S.Store old).faults ≤ (state g.S.Store new).faults = omega (arith, c.in-Ok.ensures.survives.counts, c.send_all.ensures.survives.counts) in
+    search rules
+
+pub returns-in-Ok-clause-limit : goal.returns-in-Ok-clause-limit
+returns-in-Ok-clause-limit g c =
+    let old = c.args.conn.now in
+    let new = c.send_all.new.rows.conn.now in
+    let both : (state g.S.Store new).step_limit ≡ (state g.S.Store old).step_limit = c.send_all.ensures.survives.limit ∙ c.in-Ok.ensures.survives.limit in
+    search rules

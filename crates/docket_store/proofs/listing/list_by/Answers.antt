@@ -1,9 +1,12 @@
 use Rattle.std.proofs.Common.{ℕ, Err, subst, arith}
+use Rattle.sqlite.specs.Held.{state}
 use Rattle.docket_calendar.specs.Telling.{Stays, Tells}
 use Rattle.docket_calendar.specs.declared.stop.Stop.{Stop}
 use Rattle.docket_store.specs.Applying.{docket_rows}
 use Rattle.docket_store.proofs.AskLemmas.{asks_failed}
 use Rattle.docket_store.proofs.ListingLemmas.{history_of}
+use Rattle.docket_calendar.specs.Stops.{IsCausedStop}
+use Rattle.docket_store.proofs.FailureLemmas.{blamed_caused}
 use Rattle.docket_store.proofs.listing.list_by.Goals as goal
 
 pub returns-in-Ok-clause-lists : goal.returns-in-Ok-clause-lists
@@ -55,3 +58,21 @@ returns-in-Err-Broken-clause-stays g c rows holds =
 
 pub returns-in-Err-WriteFailed-clause-stays : goal.returns-in-Err-WriteFailed-clause-stays
 returns-in-Err-WriteFailed-clause-stays g c rows holds = subst (λ (stop : Stop). Stays g.S.Store c.calendar.new.conn rows (Err stop)) c.in-Err-WriteFailed.field-0-is (c.in-Err-WriteFailed.ensures.stays rows holds)
+
+pub returns-in-Err-NotBegun-clause-cause : goal.returns-in-Err-NotBegun-clause-cause
+returns-in-Err-NotBegun-clause-cause g c rows holds clean =
+    let old = state g.S.Store c.args.conn.now in
+    let mid = state g.S.Store c.calendar.new.conn in
+    let read = c.read_fault in
+    let cause = c.in-Err-NotBegun.ensures.cause rows holds (omega (arith, read.ensures.clean, clean)) in
+    blamed_caused old mid (state g.S.Store read.new.conn) c.in-Err-NotBegun.fault read.new.failure read.result read.ensures.counts read.ensures.blames
+    (subst (λ (stop : Stop). IsCausedStop old mid stop) c.in-Err-NotBegun.field-0-is cause)
+
+pub returns-in-Err-Broken-clause-cause : goal.returns-in-Err-Broken-clause-cause
+returns-in-Err-Broken-clause-cause g c rows holds clean =
+    let old = state g.S.Store c.args.conn.now in
+    let mid = state g.S.Store c.calendar.new.conn in
+    let read = c.read_fault-in-Err-Broken in
+    let cause = c.in-Err-Broken.ensures.cause rows holds (omega (arith, read.ensures.clean, clean)) in
+    blamed_caused old mid (state g.S.Store read.new.conn) c.in-Err-Broken.fault read.new.failure read.result read.ensures.counts read.ensures.blames
+    (subst (λ (stop : Stop). IsCausedStop old mid stop) c.in-Err-Broken.field-0-is cause)

@@ -1,9 +1,11 @@
 use Rattle.std.proofs.Common.{◌≡◌, ℕ}
 use Rattle.std.proofs.KnownBytes.{Appends-nil}
 use Rattle.court_days.specs.Calendar.{Entered}
+use Rattle.sqlite.specs.Held.{state}
 use Rattle.docket_core.specs.Records.{calendar}
 use Rattle.docket_store.specs.Dockets.{serving}
 use Rattle.docket_store.proofs.AskLemmas.{fault_of_other}
+use Rattle.docket_store.proofs.FailureLemmas.{end_caused_after}
 use Rattle.docket_store.proofs.listing.list_days.Goals as goal
 
 pub returns-in-Err-clause-lists : goal.returns-in-Err-clause-lists
@@ -20,3 +22,9 @@ returns-clause-lists g c h stands =
 
 pub returns-clause-stays : goal.returns-clause-stays
 returns-clause-stays g c rows holds = c.list_by.ensures.stays rows (c.in-Ok.ensures.stays rows holds)
+
+pub returns-clause-cause : goal.returns-clause-cause
+returns-clause-cause g c rows holds clean =
+    let told = c.calendar_told in
+    end_caused_after (state g.S.Store c.args.conn.now) (state g.S.Store told.new.conn) (state g.S.Store c.list_by.new.conn) c.list_by.new.failure c.list_by.result told.ensures.counts told.ensures.limit
+    (c.list_by.ensures.cause rows (c.in-Ok.ensures.stays rows holds) clean)

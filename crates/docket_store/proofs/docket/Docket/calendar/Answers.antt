@@ -1,6 +1,7 @@
 use Rattle.std.proofs.Common.{Err, subst}
 use Rattle.docket_store.specs.AnyRows.{PreservesListing}
 use Rattle.docket_store.specs.declared.listing.ListingEnd.{ListingEnd}
+use Rattle.docket_store.proofs.ListingLemmas.{none_broken, part_broken}
 use Rattle.docket_store.proofs.docket.Docket.calendar.Goals as goal
 
 pub returns-in-Err-NotBegun-clause-stays : goal.returns-in-Err-NotBegun-clause-stays
@@ -11,3 +12,11 @@ returns-in-Err-Broken-clause-stays g c rows holds = subst (λ (end : ListingEnd)
 
 pub returns-in-Err-WriteFailed-clause-stays : goal.returns-in-Err-WriteFailed-clause-stays
 returns-in-Err-WriteFailed-clause-stays g c rows holds = subst (λ (end : ListingEnd). PreservesListing g.S.Store c.calendar_after.new.self.conn rows (Err end)) c.in-Err-WriteFailed.field-0-is (c.in-Err-WriteFailed.ensures.stays rows holds)
+
+pub returns-in-Err-NotBegun-clause-cause : goal.returns-in-Err-NotBegun-clause-cause
+returns-in-Err-NotBegun-clause-cause g c rows holds clean failed =
+    c.in-Err-NotBegun.ensures.cause rows holds clean (none_broken c.in-Err-NotBegun.field-0 c.in-Err-NotBegun.fault c.in-Err-NotBegun.field-0-is failed)
+
+pub returns-in-Err-Broken-clause-cause : goal.returns-in-Err-Broken-clause-cause
+returns-in-Err-Broken-clause-cause g c rows holds clean failed =
+    c.in-Err-Broken.ensures.cause rows holds clean (part_broken c.in-Err-Broken.field-0 c.in-Err-Broken.fault c.in-Err-Broken.field-0-is failed)

@@ -1,32 +1,32 @@
-use Rattle.std.proofs.Common.{◌≡◌, Vec, Global, refl, sym, subst, ◌∙◌, Some}
+use Rattle.std.proofs.Common.{◌≡◌, Vec, Global, Some, sym, subst, arith}
 use Rattle.docket_core.specs.Histories.{local_rule_rows}
 use Rattle.docket_core.specs.declared.row.LocalRuleRow.{LocalRuleRow}
+use Rattle.docket_core.specs.Tables.{rows_of}
 use Rattle.docket_store.specs.Applying.{Stands}
-use Rattle.docket_store.specs.Dockets.{Docket, serving}
-use Rattle.docket_store.proofs.AskLemmas.{asks_kept}
+use Rattle.docket_store.specs.Dockets.{Docket}
+use Rattle.docket_store.proofs.ApplyLemmas.{docket_orderly}
+use Rattle.docket_store.proofs.FailureLemmas.{told_cause}
+use Rattle.docket_store.proofs.QuestionLemmas.{question_asks}
+use Rattle.docket_tables.specs.Causes.{IsCaused}
 use Rattle.docket_tables.specs.Stands.{HoldsRows}
 use Rattle.sqlite.specs.Held.{state}
 use Rattle.sqlite.specs.declared.error.Error.{Error}
-use Rattle.docket_tables.specs.Causes.{IsCaused}
-use Rattle.docket_store.proofs.FailureLemmas.{failed_caused}
 use Rattle.docket_store.proofs.docket.Docket.local_rules.Goals as goal
 
 pub returns-clause-answer : goal.returns-clause-answer
 returns-clause-answer g c h stands =
-    let conn = c.rules_entered-answer.new.conn in
+    let conn = c.local_rules-found.new.conn in
     let court = c.self.inside.court in
-    let kept = c.self.inside.calendar in
     let here = subst (λ (d : Docket g.row.S.Denot). Stands g.S.Store d h) (sym c.self.view_is) stands in
-    let serves : Stands g.S.Store (serving c.self.inside.conn court kept) h = record { docket = here.docket; serves = refl; rows = here.rows; calendar = here.calendar } in
-    asks_kept g.S.Store {X = Vec LocalRuleRow Global} conn court kept h (λ found. found.items ≡ local_rule_rows h) c.closing_error-self-inside.result c.rules_entered-answer.result c.closing_error-self-inside.ensures.fails.0
-    (c.rules_entered-answer.ensures.answer court kept h serves)
+    question_asks g.S.Store court c.self.inside.calendar h {X = Vec LocalRuleRow Global} conn c.told.new.conn (λ found. found.items ≡ local_rule_rows h) c.local_rules-found.result c.told.new.closed_by c.told.result here.docket
+    (λ clean. here.calendar (omega (arith, c.local_rules-found.ensures.clean, clean))) c.told.ensures.clean (c.local_rules-found.ensures.read court (rows_of court h) (docket_orderly court h here.docket) here.rows)
+    c.told.ensures.ok c.told.ensures.left c.told.ensures.closes
 
 pub returns-clause-stays : goal.returns-clause-stays
-returns-clause-stays g c rows holds = c.rules_entered-answer.ensures.stays rows (subst (λ (d : Docket g.row.S.Denot). HoldsRows g.S.Store d.conn rows) (sym c.self.view_is) holds)
+returns-clause-stays g c rows holds = c.told.ensures.stays rows (c.local_rules-found.ensures.stays rows (subst (λ (d : Docket g.row.S.Denot). HoldsRows g.S.Store d.conn rows) (sym c.self.view_is) holds))
 
 pub returns-clause-cause : goal.returns-clause-cause
 returns-clause-cause g c rows holds clean failed =
     let before = subst (λ (d : Docket g.row.S.Denot). HoldsRows g.S.Store d.conn rows) (sym c.self.view_is) holds in
-    let cause = failed_caused (state g.S.Store c.self.inside.conn) (state g.S.Store c.rules_entered-answer.new.conn) c.rules_entered-answer.new.failure c.rules_entered-answer.result failed (c.rules_entered-answer.ensures.cause rows before clean) in
-    subst (λ (d : Docket g.row.S.Denot). (e : Error) × (c.closing_error-self-inside.result ≡ Some e) × IsCaused (state g.S.Store d.conn) (state g.S.Store c.rules_entered-answer.new.conn) e) c.self.view_is
-    (cause.0, c.closing_error-self-inside.ensures.kept failed ∙ cause.1, cause.2)
+    let cause = told_cause (state g.S.Store c.self.inside.conn) (state g.S.Store c.local_rules-found.new.conn) (state g.S.Store c.told.new.conn) c.local_rules-found.result c.told.new.closed_by c.told.ensures.counts (c.told.ensures.blames failed) (c.local_rules-found.ensures.cause rows before (omega (arith, c.told.ensures.clean, clean))) in
+    subst (λ (d : Docket g.row.S.Denot). (e : Error) × (c.told.new.closed_by ≡ Some e) × IsCaused (state g.S.Store d.conn) (state g.S.Store c.told.new.conn) e) c.self.view_is cause

@@ -1,0 +1,316 @@
+//! What is asked of the docket. A question changes nothing; where the database fails under it, the docket is
+//! closed.
+ghost use Rattle.std.specs.Prelude.{◌≡◌, ◌↔◌, ◌⊎◌, ◌≤◌, List, Option, Some, None, true, false, Ok, Err, IfOk, IfErr, IfSome, IsErrAnd, is_some};
+ghost use Rattle.std.specs.Option.{option_map};
+ghost use Rattle.sqlite.specs.Held.{state};
+ghost use Rattle.sqlite.specs.State.{HasCleanDisk};
+ghost use Rattle.sqlite.specs.View.{doubt};
+ghost use Rattle.sqlite.specs.declared.error.Error.{Error as Failure};
+ghost use Rattle.court_days.specs.Court.{zone_of};
+ghost use Rattle.court_rules.specs.Standings.{AreActs};
+ghost use Rattle.docket_core.specs.Histories.{History, case_rows, local_rule_rows, parties_of_case, party_rows, standing_rows};
+ghost use Rattle.docket_core.specs.Records.{case_at, case_labelled, case_record, deadline_lines};
+ghost use Rattle.docket_tables.specs.Layouts.{Rows};
+ghost use Rattle.docket_tables.specs.Readings.{Fails, Stays};
+ghost use Rattle.docket_tables.specs.Stands.{HoldsRows};
+ghost use Rattle.docket_tables.specs.declared.fault.ReadFault.{ReadFault as Unread};
+ghost use Rattle.docket_tables.specs.declared.fault.ReadFault.TheVariants.{Store};
+ghost use Rattle.docket_store.specs.AnyRows.{Preserves, PreservesCalendar, PreservesListing};
+ghost use Rattle.docket_store.specs.Applying.{Asks, FailsAs, Stands};
+ghost use Rattle.docket_store.specs.Causes.{IsClosedForCause};
+ghost use Rattle.docket_store.specs.Grounds.{AreGrounds};
+ghost use Rattle.docket_store.specs.Listing.{HasBroken, Lists, ListsCalendar};
+ghost use Rattle.docket_store.specs.declared.fault.Fault.TheVariants as fault;
+ghost use Rattle.docket_store.specs.declared.listing.CalendarEnd.TheVariants as calendar_end;
+ghost use Rattle.docket_store.specs.declared.listing.ListingEnd.TheVariants as listing_end;
+
+use crate::asking::lines_numbered;
+use crate::docket::Docket;
+use crate::explaining::{Grounds, grounds_of};
+use crate::fault::{Fault, closing_error, read_fault};
+use crate::listing::{CalendarEnd, ListingEnd, breaking_error, list_days};
+use court_days::Day;
+use docket_changes::case_record;
+use docket_core::{CalendarRow, CaseRecord, CaseRow, DeadlineLine, LocalRuleRow, PartyRow};
+use docket_tables::{ReadFault, calendar, case, case_labelled, local_rules, parties};
+use sqlite::{Alter, Connection, Error};
+use std::io::Write;
+
+/// What a question to the tables comes to: its answer, or a fault, which closes the docket where the database
+/// failed.
+fn told<S: Alter, T>(
+    conn: &mut Connection<S>,
+    closed_by: &mut Option<Error>,
+    answer: Result<T, ReadFault>,
+) -> Result<T, Fault>
+    requires idle { conn.old.in_transaction ≡ false }
+    requires serves { closed_by.old ≡ None }
+    ensures idle { conn.new.in_transaction ≡ false }
+    ensures clean { doubt (state S.Store conn.old).is_clean ≤ doubt (state S.Store conn.new).is_clean }
+    ensures ok { (found : T) → answer ≡ Ok found → (result ≡ Ok found) × (conn.new ≡ conn.old) × (closed_by.new ≡ None) }
+    ensures left { (why : Unread) (rows next : Rows) → answer ≡ Err why → Fails S.Store conn.old rows why → IsErrAnd result (FailsAs S.Store conn.new rows next) }
+    ensures stays { (rows : Rows) → Stays S.Store conn.old rows answer → Preserves S.Store conn.new rows result }
+    ensures closes { (is_some closed_by.new ≡ true) ↔ (result ≡ Err fault.StoreFailed) }
+    ensures counts { (state S.Store conn.old).faults ≤ (state S.Store conn.new).faults }
+    ensures blames { result ≡ Err fault.StoreFailed → (e : Failure) × (answer ≡ Err (Store e)) × (closed_by.new ≡ Some e) }
+{
+    match answer {
+        Ok(found) => Ok(found),
+        Err(why) => {
+            let mut failure = None;
+            let answer = Err(read_fault(conn, why, &mut failure));
+            *closed_by = closing_error(&answer, failure);
+            answer
+        }
+    }
+}
+
+impl<S: Alter> Docket<S> {
+    /// The case of a number, with its parties and its entries.
+    pub fn case(&mut self, number: u32) -> Result<Option<CaseRecord>, Fault>
+        ensures court { self.new.court ≡ self.old.court }
+        ensures answer { (h : History) → Stands S.Store self.old h
+            → Asks S.Store self.new h (λ found. found ≡ case_record h number) result }
+        ensures closed { self.old.closed ≡ true → (result ≡ Err fault.Closed) × (self.new ≡ self.old) }
+        // Of any docket, no row changes.
+        ensures stays { (rows : Rows) → HoldsRows S.Store self.old.conn rows → Preserves S.Store self.new.conn rows result }
+        ensures clean { doubt (state S.Store self.old.conn).is_clean ≤ doubt (state S.Store self.new.conn).is_clean }
+        ensures closes { self.old.closed ≡ false → (self.new.closed ≡ true) ↔ (result ≡ Err fault.StoreFailed) }
+        // The database fails only for a cause.
+        ensures cause { (rows : Rows) → HoldsRows S.Store self.old.conn rows → HasCleanDisk (state S.Store self.new.conn)
+            → result ≡ Err fault.StoreFailed → IsClosedForCause S.Store self.old self.new }
+    {
+        if self.closed_by.is_some() {
+            return Err(Fault::Closed);
+        }
+        let found = case_record(&mut self.conn, self.alloc, number);
+        told(&mut self.conn, &mut self.closed_by, found)
+    }
+
+    /// The deadlines of the case of a number, and where each stands by the calendar of the docket.
+    pub fn deadlines(&mut self, number: u32) -> Result<Option<Vec<DeadlineLine>>, Fault>
+        ensures court { self.new.court ≡ self.old.court }
+        ensures answer { (h : History) → Stands S.Store self.old h
+            → Asks S.Store self.new h (λ found. option_map (λ lines. lines.items) found ≡ deadline_lines self.old.court h number) result }
+        ensures closed { self.old.closed ≡ true → (result ≡ Err fault.Closed) × (self.new ≡ self.old) }
+        // Of any docket, no row changes.
+        ensures stays { (rows : Rows) → HoldsRows S.Store self.old.conn rows → Preserves S.Store self.new.conn rows result }
+        ensures clean { doubt (state S.Store self.old.conn).is_clean ≤ doubt (state S.Store self.new.conn).is_clean }
+        ensures closes { self.old.closed ≡ false → (self.new.closed ≡ true) ↔ (result ≡ Err fault.StoreFailed) }
+        // The database fails only for a cause.
+        ensures cause { (rows : Rows) → HoldsRows S.Store self.old.conn rows → HasCleanDisk (state S.Store self.new.conn)
+            → result ≡ Err fault.StoreFailed → IsClosedForCause S.Store self.old self.new }
+    {
+        if self.closed_by.is_some() {
+            return Err(Fault::Closed);
+        }
+        let conn = &mut self.conn;
+        let kept = &mut self.calendar;
+        let mut failure = None;
+        let answer = lines_numbered(conn, self.alloc, &self.court, kept, number, &mut failure);
+        self.closed_by = closing_error(&answer, failure);
+        answer
+    }
+
+    /// What decides where the deadline of a number, from 1, of a case stands: its rule, its acts, and the
+    /// calendar of the docket. The acts are ones that a docket has.
+    pub fn grounds(&mut self, case: u32, deadline: u32) -> Result<Option<Grounds>, Fault>
+        ensures court { self.new.court ≡ self.old.court }
+        ensures answer { (h : History) → Stands S.Store self.old h
+            → Asks S.Store self.new h (AreGrounds h case deadline) result }
+        ensures acts { IfOk result (λ found. IfSome found (λ grounds. AreActs (zone_of self.old.court) grounds.deadline.acts)) }
+        ensures closed { self.old.closed ≡ true → (result ≡ Err fault.Closed) × (self.new ≡ self.old) }
+        // Of any docket, no row changes.
+        ensures stays { (rows : Rows) → HoldsRows S.Store self.old.conn rows → Preserves S.Store self.new.conn rows result }
+        ensures clean { doubt (state S.Store self.old.conn).is_clean ≤ doubt (state S.Store self.new.conn).is_clean }
+        ensures closes { self.old.closed ≡ false → (self.new.closed ≡ true) ↔ (result ≡ Err fault.StoreFailed) }
+        // The database fails only for a cause.
+        ensures cause { (rows : Rows) → HoldsRows S.Store self.old.conn rows → HasCleanDisk (state S.Store self.new.conn)
+            → result ≡ Err fault.StoreFailed → IsClosedForCause S.Store self.old self.new }
+    {
+        if self.closed_by.is_some() {
+            return Err(Fault::Closed);
+        }
+        let conn = &mut self.conn;
+        let kept = &mut self.calendar;
+        let court = &self.court;
+        let mut failure = None;
+        let answer = grounds_of(conn, self.alloc, court, kept, case, deadline, &mut failure);
+        self.closed_by = closing_error(&answer, failure);
+        answer
+    }
+
+    /// The court's local rules, in the order in which they were entered.
+    pub fn local_rules(&mut self) -> Result<Vec<LocalRuleRow>, Fault>
+        ensures court { self.new.court ≡ self.old.court }
+        ensures answer { (h : History) → Stands S.Store self.old h
+            → Asks S.Store self.new h (λ found. found.items ≡ local_rule_rows h) result }
+        ensures closed { self.old.closed ≡ true → (result ≡ Err fault.Closed) × (self.new ≡ self.old) }
+        // Of any docket, no row changes.
+        ensures stays { (rows : Rows) → HoldsRows S.Store self.old.conn rows → Preserves S.Store self.new.conn rows result }
+        ensures clean { doubt (state S.Store self.old.conn).is_clean ≤ doubt (state S.Store self.new.conn).is_clean }
+        ensures closes { self.old.closed ≡ false → (self.new.closed ≡ true) ↔ (result ≡ Err fault.StoreFailed) }
+        // The database fails only for a cause.
+        ensures cause { (rows : Rows) → HoldsRows S.Store self.old.conn rows → HasCleanDisk (state S.Store self.new.conn)
+            → result ≡ Err fault.StoreFailed → IsClosedForCause S.Store self.old self.new }
+    {
+        if self.closed_by.is_some() {
+            return Err(Fault::Closed);
+        }
+        let found = local_rules(&mut self.conn, self.alloc);
+        told(&mut self.conn, &mut self.closed_by, found)
+    }
+
+    /// The case of a number, without its parties and entries.
+    pub fn case_row(&mut self, number: u32) -> Result<Option<CaseRow>, Fault>
+        ensures court { self.new.court ≡ self.old.court }
+        ensures answer { (h : History) → Stands S.Store self.old h
+            → Asks S.Store self.new h (λ found. found ≡ case_at (case_rows h) number) result }
+        ensures closed { self.old.closed ≡ true → (result ≡ Err fault.Closed) × (self.new ≡ self.old) }
+        // Of any docket, no row changes.
+        ensures stays { (rows : Rows) → HoldsRows S.Store self.old.conn rows → Preserves S.Store self.new.conn rows result }
+        ensures clean { doubt (state S.Store self.old.conn).is_clean ≤ doubt (state S.Store self.new.conn).is_clean }
+        ensures closes { self.old.closed ≡ false → (self.new.closed ≡ true) ↔ (result ≡ Err fault.StoreFailed) }
+        // The database fails only for a cause.
+        ensures cause { (rows : Rows) → HoldsRows S.Store self.old.conn rows → HasCleanDisk (state S.Store self.new.conn)
+            → result ≡ Err fault.StoreFailed → IsClosedForCause S.Store self.old self.new }
+    {
+        if self.closed_by.is_some() {
+            return Err(Fault::Closed);
+        }
+        let found = case(&mut self.conn, self.alloc, number);
+        told(&mut self.conn, &mut self.closed_by, found)
+    }
+
+    /// The case that has the label, without its parties and entries.
+    pub fn case_labelled(&mut self, label: &str) -> Result<Option<CaseRow>, Fault>
+        ensures court { self.new.court ≡ self.old.court }
+        ensures answer { (h : History) → Stands S.Store self.old h
+            → Asks S.Store self.new h (λ found. found ≡ case_labelled (case_rows h) label.now) result }
+        ensures closed { self.old.closed ≡ true → (result ≡ Err fault.Closed) × (self.new ≡ self.old) }
+        // Of any docket, no row changes.
+        ensures stays { (rows : Rows) → HoldsRows S.Store self.old.conn rows → Preserves S.Store self.new.conn rows result }
+        ensures clean { doubt (state S.Store self.old.conn).is_clean ≤ doubt (state S.Store self.new.conn).is_clean }
+        ensures closes { self.old.closed ≡ false → (self.new.closed ≡ true) ↔ (result ≡ Err fault.StoreFailed) }
+        // The database fails only for a cause.
+        ensures cause { (rows : Rows) → HoldsRows S.Store self.old.conn rows → HasCleanDisk (state S.Store self.new.conn)
+            → result ≡ Err fault.StoreFailed → IsClosedForCause S.Store self.old self.new }
+    {
+        if self.closed_by.is_some() {
+            return Err(Fault::Closed);
+        }
+        let found = case_labelled(&mut self.conn, self.alloc, label);
+        told(&mut self.conn, &mut self.closed_by, found)
+    }
+
+    /// The parties of a case, in the order of their numbers.
+    pub fn parties(&mut self, case: u32) -> Result<Vec<PartyRow>, Fault>
+        ensures court { self.new.court ≡ self.old.court }
+        ensures answer { (h : History) → Stands S.Store self.old h
+            → Asks S.Store self.new h (λ found. found.items ≡ parties_of_case case (party_rows h)) result }
+        ensures closed { self.old.closed ≡ true → (result ≡ Err fault.Closed) × (self.new ≡ self.old) }
+        // Of any docket, no row changes.
+        ensures stays { (rows : Rows) → HoldsRows S.Store self.old.conn rows → Preserves S.Store self.new.conn rows result }
+        ensures clean { doubt (state S.Store self.old.conn).is_clean ≤ doubt (state S.Store self.new.conn).is_clean }
+        ensures closes { self.old.closed ≡ false → (self.new.closed ≡ true) ↔ (result ≡ Err fault.StoreFailed) }
+        // The database fails only for a cause.
+        ensures cause { (rows : Rows) → HoldsRows S.Store self.old.conn rows → HasCleanDisk (state S.Store self.new.conn)
+            → result ≡ Err fault.StoreFailed → IsClosedForCause S.Store self.old self.new }
+    {
+        if self.closed_by.is_some() {
+            return Err(Fault::Closed);
+        }
+        let found = parties(&mut self.conn, self.alloc, case);
+        told(&mut self.conn, &mut self.closed_by, found)
+    }
+
+    /// The rows of the court calendar, in the order of their numbers.
+    pub fn calendar_rows(&mut self) -> Result<Vec<CalendarRow>, Fault>
+        ensures court { self.new.court ≡ self.old.court }
+        ensures answer { (h : History) → Stands S.Store self.old h
+            → Asks S.Store self.new h (λ found. found.items ≡ standing_rows h) result }
+        ensures closed { self.old.closed ≡ true → (result ≡ Err fault.Closed) × (self.new ≡ self.old) }
+        // Of any docket, no row changes.
+        ensures stays { (rows : Rows) → HoldsRows S.Store self.old.conn rows → Preserves S.Store self.new.conn rows result }
+        ensures clean { doubt (state S.Store self.old.conn).is_clean ≤ doubt (state S.Store self.new.conn).is_clean }
+        ensures closes { self.old.closed ≡ false → (self.new.closed ≡ true) ↔ (result ≡ Err fault.StoreFailed) }
+        // The database fails only for a cause.
+        ensures cause { (rows : Rows) → HoldsRows S.Store self.old.conn rows → HasCleanDisk (state S.Store self.new.conn)
+            → result ≡ Err fault.StoreFailed → IsClosedForCause S.Store self.old self.new }
+    {
+        if self.closed_by.is_some() {
+            return Err(Fault::Closed);
+        }
+        let found = calendar(&mut self.conn, self.alloc);
+        told(&mut self.conn, &mut self.closed_by, found)
+    }
+
+    /// Writes the bytes, then the calendar of the days from one to another, both included, and counts
+    /// its lines: the deadlines of the docket whose time runs to one of these days, in order. Each line
+    /// is written before the next row is read, so its memory does not grow with them, and the bytes go
+    /// out with the first: where there is not even a first line, nothing does. The docket stays as it is.
+    pub fn calendar_after<W: Write>(
+        &mut self,
+        front: &[u8],
+        from: Day,
+        to: Day,
+        writer: &mut W,
+    ) -> Result<u32, ListingEnd>
+        ensures court { self.new.court ≡ self.old.court }
+        ensures answer { (h : History) → Stands S.Store self.old h
+            → Lists S.Store self.new h from to front.now (W.contents writer.old) (W.contents writer.new) result }
+        ensures closed { self.old.closed ≡ true
+            → (result ≡ Err (listing_end.NotBegun fault.Closed)) × (self.new ≡ self.old) × (writer.new ≡ writer.old) }
+        // Of any docket, no row changes.
+        ensures stays { (rows : Rows) → HoldsRows S.Store self.old.conn rows → PreservesListing S.Store self.new.conn rows result }
+        ensures clean { doubt (state S.Store self.old.conn).is_clean ≤ doubt (state S.Store self.new.conn).is_clean }
+        ensures closes { self.old.closed ≡ false → (self.new.closed ≡ true) ↔ HasBroken result }
+        // The database fails only for a cause.
+        ensures cause { (rows : Rows) → HoldsRows S.Store self.old.conn rows → HasCleanDisk (state S.Store self.new.conn)
+            → HasBroken result → IsClosedForCause S.Store self.old self.new }
+    {
+        if self.closed_by.is_some() {
+            return Err(ListingEnd::NotBegun(Fault::Closed));
+        }
+        let mut failure = None;
+        let conn = &mut self.conn;
+        let kept = &mut self.calendar;
+        let court = &self.court;
+        let error = &mut failure;
+        let answer = list_days(
+            conn, self.alloc, court, kept, from, to, front, writer, error,
+        );
+        self.closed_by = breaking_error(&answer, failure);
+        answer
+    }
+
+    /// Writes the calendar of the days from one to another, both included, and counts its lines, as
+    /// `calendar_after` does with no bytes in front of it.
+    pub fn calendar<W: Write>(
+        &mut self,
+        from: Day,
+        to: Day,
+        writer: &mut W,
+    ) -> Result<u32, CalendarEnd>
+        ensures court { self.new.court ≡ self.old.court }
+        ensures answer { (h : History) → Stands S.Store self.old h
+            → ListsCalendar S.Store self.new h from to (W.contents writer.old) (W.contents writer.new) result }
+        ensures closed { self.old.closed ≡ true
+            → (result ≡ Err (calendar_end.Store fault.Closed)) × (self.new ≡ self.old) × (writer.new ≡ writer.old) }
+        // Of any docket, no row changes.
+        ensures stays { (rows : Rows) → HoldsRows S.Store self.old.conn rows → PreservesCalendar S.Store self.new.conn rows result }
+        ensures clean { doubt (state S.Store self.old.conn).is_clean ≤ doubt (state S.Store self.new.conn).is_clean }
+        ensures closes { self.old.closed ≡ false
+            → (self.new.closed ≡ true) ↔ (result ≡ Err (calendar_end.Store fault.StoreFailed)) }
+        // The database fails only for a cause.
+        ensures cause { (rows : Rows) → HoldsRows S.Store self.old.conn rows → HasCleanDisk (state S.Store self.new.conn)
+            → result ≡ Err (calendar_end.Store fault.StoreFailed) → IsClosedForCause S.Store self.old self.new }
+    {
+        match self.calendar_after(&[], from, to, writer) {
+            Ok(lines) => Ok(lines),
+            Err(ListingEnd::NotBegun(fault)) => Err(CalendarEnd::Store(fault)),
+            Err(ListingEnd::Broken(fault)) => Err(CalendarEnd::Store(fault)),
+            Err(ListingEnd::WriteFailed) => Err(CalendarEnd::WriteFailed),
+        }
+    }
+}
