@@ -51,6 +51,9 @@ import_line = with_rule (with_rule (new_app (codes "import")) (required file_rul
 unfoldable pub case_line : App
 case_line = with_rule (with_rule (new_app (codes "case")) (required file_rule)) (place_rule (codes "number"))
 
+unfoldable pub cases_line : App
+cases_line = with_rule (with_rule (with_rule (new_app (codes "cases")) (required file_rule)) (option_rule (codes "label"))) (option_rule (codes "party"))
+
 unfoldable pub calendar_line : App
 calendar_line = with_rule (with_rule (with_rule (new_app (codes "calendar")) (required file_rule)) (place_rule (codes "from"))) (place_rule (codes "to"))
 
@@ -70,7 +73,7 @@ unfoldable pub rules_line : App
 rules_line = with_rule (new_app (codes "rules")) file_rule
 
 unfoldable pub holidays_line : App
-holidays_line = with_rule (new_app (codes "holidays")) (place_rule (codes "year"))
+holidays_line = with_rule (with_rule (with_rule (new_app (codes "holidays")) file_rule) (place_rule (codes "year"))) (optional (place_rule (codes "to")))
 
 -- docketctl with `--version` and without a subcommand yet
 unfoldable pub bare_line : App
@@ -78,8 +81,8 @@ bare_line = on_top (λ top. record top { has_version = true }) (new_app (codes "
 
 unfoldable pub docketctl : App
 docketctl =
-    with_subcommand (with_subcommand (with_subcommand (with_subcommand (with_subcommand (with_subcommand (with_subcommand (with_subcommand (with_subcommand (with_subcommand (with_subcommand (with_subcommand
-    bare_line count_line.top) create_line.top) run_line.top) import_line.top) case_line.top) calendar_line.top) explain_line.top) check_line.top) migrate_line.top) serve_line.top) rules_line.top) holidays_line.top
+    with_subcommand (with_subcommand (with_subcommand (with_subcommand (with_subcommand (with_subcommand (with_subcommand (with_subcommand (with_subcommand (with_subcommand (with_subcommand (with_subcommand (with_subcommand
+    bare_line count_line.top) create_line.top) run_line.top) import_line.top) case_line.top) cases_line.top) calendar_line.top) explain_line.top) check_line.top) migrate_line.top) serve_line.top) rules_line.top) holidays_line.top
 
 -- the command has this line, and no option for its subcommands too
 abbrev pub HasLine : App → Command → Type 0

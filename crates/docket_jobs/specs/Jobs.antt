@@ -27,6 +27,7 @@ pub data Asked : Type 0 where
   to_run_in_memory : CourtSettings → Asked
   to_import : Text → Text → Asked
   to_tell_case : Text → ℕ → Asked
+  to_tell_cases : Text → Option Text → Option Text → Asked
   to_tell_calendar : Text → ℕ → ℕ → Asked
   to_explain : Text → ℕ → ℕ → Asked
   to_explain_lines : Asked
@@ -35,6 +36,7 @@ pub data Asked : Type 0 where
   to_serve : Text → ℕ → ℕ → Asked
   to_tell_rules : Option Text → Asked
   to_tell_holidays : ℕ → Asked
+  to_tell_court_calendar : Text → ℕ → ℕ → Asked
 
 abbrev pub asked : Job → Asked
 asked job.Count = to_count
@@ -43,6 +45,7 @@ asked (job.Run file) = to_run file.now
 asked (job.RunInMemory court) = to_run_in_memory court
 asked (job.Import file key) = to_import file.now key.now
 asked (job.Case file number) = to_tell_case file.now number
+asked (job.Cases file label party) = to_tell_cases file.now (option_copied label) (option_copied party)
 asked (job.Calendar file from to) = to_tell_calendar file.now from to
 asked (job.Explain file case deadline) = to_explain file.now case deadline
 asked job.ExplainLines = to_explain_lines
@@ -51,6 +54,7 @@ asked (job.Migrate file) = to_migrate file.now
 asked (job.Serve file port count) = to_serve file.now port count
 asked (job.Rules file) = to_tell_rules (option_copied file)
 asked (job.Holidays year) = to_tell_holidays year
+asked (job.CourtCalendar file from to) = to_tell_court_calendar file.now from to
 
 -- 1 to 10 digits, the first of them not 0
 abbrev pub is_number : Text → Bool
@@ -114,14 +118,20 @@ import_asked found = to_import (value_of (codes "db") found) (value_of (codes "k
 abbrev pub case_asked : List Row → Option Asked
 case_asked found = option_map (to_tell_case (value_of (codes "db") found)) (number_of (value_of (codes "number") found))
 
--- a calendar from a day to one that is not before it
-abbrev pub calendar_if : Text → Option ℕ → Option ℕ → Option Asked
-calendar_if file (Some from) (Some to) = if nat_le from to then Some (to_tell_calendar file from to) else None
-calendar_if file _ _ = None
+-- those of a label, where one is given, and with a party of a name that holds a text
+abbrev pub cases_asked : List Row → Asked
+cases_asked found = to_tell_cases (value_of (codes "db") found) (first_of (codes "label") found) (first_of (codes "party") found)
+
+-- what is asked of the days from one to another, which is not before it
+abbrev pub days_if : (ℕ → ℕ → Asked) → Option ℕ → Option ℕ → Option Asked
+days_if ask (Some from) (Some to) = if nat_le from to then Some (ask from to) else None
+days_if ask _ _ = None
+
+abbrev pub days_asked : (ℕ → ℕ → Asked) → Text → Text → Option Asked
+days_asked ask from to = days_if ask (day_of_text from) (day_of_text to)
 
 abbrev pub calendar_asked : List Row → Option Asked
-calendar_asked found =
-    calendar_if (value_of (codes "db") found) (day_of_text (value_of (codes "from") found)) (day_of_text (value_of (codes "to") found))
+calendar_asked found = days_asked (to_tell_calendar (value_of (codes "db") found)) (value_of (codes "from") found) (value_of (codes "to") found)
 
 abbrev pub explain_numbers : Text → Option ℕ → Option ℕ → Option Asked
 explain_numbers file (Some case) (Some deadline) = Some (to_explain file case deadline)
@@ -155,8 +165,14 @@ serve_asked found =
 abbrev pub rules_asked : List Row → Asked
 rules_asked found = to_tell_rules (first_of (codes "db") found)
 
+-- the statutory holidays of a year; with a file, its court calendar from a day to another
+abbrev pub holidays_if : Option Text → Text → Option Text → Option Asked
+holidays_if None year None = option_map to_tell_holidays (year_of year)
+holidays_if (Some file) from (Some to) = days_asked (to_tell_court_calendar file) from to
+holidays_if _ _ _ = None
+
 abbrev pub holidays_asked : List Row → Option Asked
-holidays_asked found = option_map to_tell_holidays (year_of (value_of (codes "year") found))
+holidays_asked found = holidays_if (first_of (codes "db") found) (value_of (codes "year") found) (first_of (codes "to") found)
 
 -- what a subcommand asks for with what was found for it; the last is `count`
 abbrev pub asked_by : Text → List Row → Option Asked
@@ -165,6 +181,7 @@ asked_by name found =
     else (if bytes_eq name (codes "run") then run_asked found
     else (if bytes_eq name (codes "import") then Some (import_asked found)
     else (if bytes_eq name (codes "case") then case_asked found
+    else (if bytes_eq name (codes "cases") then Some (cases_asked found)
     else (if bytes_eq name (codes "calendar") then calendar_asked found
     else (if bytes_eq name (codes "explain") then explain_asked found
     else (if bytes_eq name (codes "check") then Some (check_asked found)
@@ -172,7 +189,7 @@ asked_by name found =
     else (if bytes_eq name (codes "serve") then serve_asked found
     else (if bytes_eq name (codes "rules") then Some (rules_asked found)
     else (if bytes_eq name (codes "holidays") then holidays_asked found
-    else Some to_count))))))))))
+    else Some to_count)))))))))))
 
 -- with no subcommand docketctl counts
 abbrev pub asked_in : Option (Text × List Row) → Option Asked

@@ -2,11 +2,11 @@
 ghost use Rattle.std.specs.Prelude.{◌≡◌, false, IfOk};
 ghost use Rattle.clap.specs.Walk.{rule_of};
 ghost use Rattle.clap.specs.Simple.{new_app};
-ghost use Rattle.docket_jobs.specs.CommandLine.{option_rule, required, optional, with_default, place_rule, HasLine, count_line, create_line, run_line, import_line, case_line, calendar_line, explain_line, check_line, migrate_line, serve_line, rules_line, holidays_line, bare_line, docketctl};
+ghost use Rattle.docket_jobs.specs.CommandLine.{option_rule, required, optional, with_default, place_rule, HasLine, count_line, create_line, run_line, import_line, case_line, cases_line, calendar_line, explain_line, check_line, migrate_line, serve_line, rules_line, holidays_line, bare_line, docketctl};
 
 use crate::help::{
-    CALENDAR_HELP, CASE_HELP, CHECK_HELP, COUNT_HELP, CREATE_HELP, EXPLAIN_HELP, HOLIDAYS_HELP,
-    IMPORT_HELP, MIGRATE_HELP, PROGRAM_HELP, RULES_HELP, RUN_HELP, SERVE_HELP,
+    CALENDAR_HELP, CASE_HELP, CASES_HELP, CHECK_HELP, COUNT_HELP, CREATE_HELP, EXPLAIN_HELP,
+    HOLIDAYS_HELP, IMPORT_HELP, MIGRATE_HELP, PROGRAM_HELP, RULES_HELP, RUN_HELP, SERVE_HELP,
 };
 use clap::{Arg, ArgAction, Command};
 use std::alloc::{AllocError, Global};
@@ -166,6 +166,23 @@ fn case_command<'a>(alloc: Global) -> Result<Command<'a>, AllocError>
     .arg(number)
 }
 
+fn cases_command<'a>(alloc: Global) -> Result<Command<'a>, AllocError>
+    ensures { IfOk result (HasLine cases_line) }
+{
+    let file = needed_option(alloc, "db", "FILE", FILE_TEXT);
+    let label = option(alloc, "label", "LABEL", "Only the case with this label");
+    let party = option(
+        alloc,
+        "party",
+        "TEXT",
+        "Only cases with a party whose name holds TEXT",
+    );
+    subcommand(alloc, "cases", "Tell the cases, a line each", CASES_HELP)
+        .arg(file)?
+        .arg(label)?
+        .arg(party)
+}
+
 fn calendar_command<'a>(alloc: Global) -> Result<Command<'a>, AllocError>
     ensures { IfOk result (HasLine calendar_line) }
 {
@@ -264,14 +281,23 @@ fn rules_command<'a>(alloc: Global) -> Result<Command<'a>, AllocError>
 fn holidays_command<'a>(alloc: Global) -> Result<Command<'a>, AllocError>
     ensures { IfOk result (HasLine holidays_line) }
 {
-    let year = place(alloc, "year", "YEAR", "A year from 2000 to 2099");
+    let file = option(alloc, "db", "FILE", FILE_TEXT);
+    let year = place(
+        alloc,
+        "year",
+        "YEAR",
+        "A year from 2000 to 2099; with --db the first day, FROM",
+    );
+    let to = optional_place(alloc, "to", "TO", "With --db, the last day");
     subcommand(
         alloc,
         "holidays",
-        "Tell the statutory holidays of a year",
+        "Tell the statutory holidays of a year, or the court calendar of some days",
         HOLIDAYS_HELP,
     )
-    .arg(year)
+    .arg(file)?
+    .arg(year)?
+    .arg(to)
 }
 
 fn bare_command<'a>(alloc: Global) -> Result<Command<'a>, AllocError>
@@ -298,6 +324,7 @@ pub(crate) fn command<'a>(alloc: Global) -> Result<Command<'a>, AllocError>
         .subcommand(run_command(alloc)?)?
         .subcommand(import_command(alloc)?)?
         .subcommand(case_command(alloc)?)?
+        .subcommand(cases_command(alloc)?)?
         .subcommand(calendar_command(alloc)?)?
         .subcommand(explain_command(alloc)?)?
         .subcommand(check_command(alloc)?)?

@@ -34,7 +34,9 @@ With no command, docketctl counts. A docket in a file is made, kept and read lik
   docketctl import --db court.db --key holidays-2027 < holidays.csv
   docketctl run --db court.db < commands.jsonl
   docketctl case --db court.db 1
+  docketctl cases --db court.db
   docketctl calendar --db court.db 2027-01-01 2027-12-31
+  docketctl holidays --db court.db 2027-01-01 2027-12-31
   docketctl explain --db court.db 1 1
   docketctl rules --db court.db
   docketctl check --db court.db
@@ -83,7 +85,7 @@ The days that do not stand yet are entered by one command under KEY, all or none
 how many they were, and sent again it has the same answer and acts once:
   docketctl import --db court.db --key holidays-2027 < holidays.csv
   {\"number\":1}
-A table that is none is told, by the number of its first bad line after the first, and nothing is
+A table that is none is told, by the number of its first bad row behind the first line, and nothing is
 entered:
   bad row 1
   bad csv
@@ -103,6 +105,16 @@ NUMBER is from 1 to 4294967295, without a leading zero.
 
 Exit status: 0 the case was told, 1 there is no such case, 2 bad command line, 3 reading, writing,
 memory or the database failed.";
+
+pub(crate) const CASES_HELP: &str = "\
+Each case has a line: its number, its label, the day on which it was filed, and its caption:
+  docketctl cases --db court.db --party Roe
+  case 1 1:25-cv-00001 filed 2025-06-02 Roe v. Doe
+Without --label and --party all cases are told, in the order of their numbers. TEXT is looked for as it
+stands, in large and small letters: `Roe` is in `John Roe`, and `roe` is not.
+
+Exit status: 0 a case was told, 1 there is none, 2 bad command line, 3 reading, writing, memory or
+the database failed.";
 
 pub(crate) const CALENDAR_HELP: &str = "\
 Each deadline that runs and falls due from FROM to TO, both included, has a line: its day, its time
@@ -220,5 +232,12 @@ Saturday is observed on the Friday before, and one that falls on a Sunday on the
   2027-06-18 Fri Juneteenth (observed)
   2027-06-19 Sat Juneteenth
   and so on to 2027-12-31 Fri New Year's Day (observed)
+With --db the court calendar is told, from FROM to TO, both included: these holidays, and behind them
+what the court entered for these days. `row` stands before the number that `withdraw_calendar` wants:
+  docketctl holidays --db court.db 2027-01-01 2027-01-31
+  2027-01-01 Fri New Year's Day
+  2027-01-18 Mon Martin Luther King Jr.'s Birthday
+  row 3 closed 2027-01-05 Storm
 
-Exit status: 0 the holidays were told, 2 bad command line, 3 writing or memory failed.";
+Exit status: 0 they were told, 2 bad command line, 3 reading, writing, memory or the database
+failed.";

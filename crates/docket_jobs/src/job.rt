@@ -1,12 +1,12 @@
 //! What a command line asks for.
-ghost use Rattle.std.specs.Prelude.{◌≡◌, IfOk, MatchResult, None, Some, map, string_bytes};
+ghost use Rattle.std.specs.Prelude.{◌≡◌, ℕ, IfOk, MatchResult, None, Some, map, option_map, string_bytes};
 ghost use Rattle.clap.specs.Kinds.{FailsBy};
 ghost use Rattle.clap.specs.Matches.{found_of};
 ghost use Rattle.clap.specs.Simple.{subcommand_rows_of};
 ghost use Rattle.clap.specs.Values.{kind_of};
 ghost use Rattle.clap.specs.Walk.{rows_of};
 ghost use Rattle.civil_time.specs.DayText.{day_of_text};
-ghost use Rattle.docket_jobs.specs.Jobs.{IsLimited, asked, asked_by, asked_in, asked_of, calendar_asked, case_asked, check_asked, court_asked, create_asked, explain_asked, explain_numbers, holidays_asked, import_asked, line_faults, migrate_asked, number_of, rules_asked, run_asked, serve_asked, value_of};
+ghost use Rattle.docket_jobs.specs.Jobs.{Asked, IsLimited, asked, asked_by, asked_in, asked_of, calendar_asked, case_asked, cases_asked, check_asked, court_asked, create_asked, days_asked, explain_asked, explain_numbers, holidays_asked, import_asked, line_faults, migrate_asked, number_of, rules_asked, run_asked, serve_asked, to_tell_court_calendar, to_tell_holidays, value_of, year_of};
 
 use crate::command_line::command;
 use crate::number::{read_count, read_number, read_port, read_year};
@@ -44,6 +44,13 @@ pub enum Job<'a> {
     Case {
         file: &'a str,
         number: u32,
+    },
+    /// `cases`: tell the cases of the docket in a file; that of a label, where one is given, and those with a
+    /// party whose name holds a text.
+    Cases {
+        file: &'a str,
+        label: Option<&'a str>,
+        party: Option<&'a str>,
     },
     /// `calendar`: tell the deadlines that fall due from one day to another, which is not before it, of
     /// the docket in a file.
@@ -86,6 +93,13 @@ pub enum Job<'a> {
     Holidays {
         year: u32,
     },
+    /// `holidays` with a file: tell the statutory holidays, and what the court entered in its calendar, from
+    /// one day to another, which is not before it, of the docket in a file.
+    CourtCalendar {
+        file: &'a str,
+        from: Day,
+        to: Day,
+    },
 }
 
 /// A value of the command line that lies outside its limits.
@@ -101,6 +115,7 @@ enum BadValue<'a> {
     Port,
     Count,
     Year,
+    Days,
 }
 
 impl fmt::Display for BadValue<'_> {
@@ -131,6 +146,7 @@ impl fmt::Display for BadValue<'_> {
                 "N is a number from 1 to 1000000, without a leading zero",
             ),
             BadValue::Year => f.write_str("YEAR is a year from 2000 to 2099"),
+            BadValue::Days => f.write_str("YEAR goes alone, and --db with FROM and TO"),
         }
     }
 }
@@ -214,22 +230,35 @@ fn case_job<'a>(found: &ArgMatches<'a>) -> Result<Job<'a>, BadValue<'a>>
     })
 }
 
-fn day<'a>(found: &ArgMatches<'a>, id: &str) -> Result<Day, BadValue<'a>>
-    ensures { MatchResult result (λ day. day_of_text (value_of id.now (rows_of (found_of found.now))) ≡ Some day)
-        (λ _. day_of_text (value_of id.now (rows_of (found_of found.now))) ≡ None) }
+#[tactic(auto, using(crate::proofs::MatchLemmas::first_value_is))]
+fn cases_job<'a>(found: &ArgMatches<'a>) -> Job<'a>
+    ensures { asked result ≡ cases_asked (rows_of (found_of found.now)) }
 {
-    read_day(value(found, id).as_bytes()).ok_or(BadValue::Day)
+    Job::Cases {
+        file: value(found, "db"),
+        label: found.get_str("label"),
+        party: found.get_str("party"),
+    }
+}
+
+/// The days that the texts name, the second not before the first.
+fn days<'a>(from: &str, to: &str) -> Result<(Day, Day), BadValue<'a>>
+    ensures { (ask : ℕ → ℕ → Asked) → MatchResult result (λ days. days_asked ask from.now to.now ≡ Some (ask days.0 days.1))
+        (λ _. days_asked ask from.now to.now ≡ None) }
+{
+    let from = read_day(from.as_bytes()).ok_or(BadValue::Day)?;
+    let to = read_day(to.as_bytes()).ok_or(BadValue::Day)?;
+    if to < from {
+        return Err(BadValue::Range);
+    }
+    Ok((from, to))
 }
 
 fn calendar_job<'a>(found: &ArgMatches<'a>) -> Result<Job<'a>, BadValue<'a>>
     ensures { MatchResult result (λ job. calendar_asked (rows_of (found_of found.now)) ≡ Some (asked job))
         (λ _. calendar_asked (rows_of (found_of found.now)) ≡ None) }
 {
-    let from = day(found, "from")?;
-    let to = day(found, "to")?;
-    if to < from {
-        return Err(BadValue::Range);
-    }
+    let (from, to) = days(value(found, "from"), value(found, "to"))?;
     Ok(Job::Calendar {
         file: value(found, "db"),
         from,
@@ -302,13 +331,37 @@ fn rules_job<'a>(found: &ArgMatches<'a>) -> Job<'a>
     }
 }
 
+fn year_job<'a>(year: &str) -> Result<Job<'a>, BadValue<'a>>
+    ensures limited { IfOk result IsLimited }
+    ensures job { MatchResult result (λ job. option_map to_tell_holidays (year_of year.now) ≡ Some (asked job))
+        (λ _. option_map to_tell_holidays (year_of year.now) ≡ None) }
+{
+    let year = read_year(year).ok_or(BadValue::Year)?;
+    Ok(Job::Holidays { year })
+}
+
+fn court_calendar_job<'a>(file: &'a str, from: &str, to: &str) -> Result<Job<'a>, BadValue<'a>>
+    ensures limited { IfOk result IsLimited }
+    ensures job { MatchResult result (λ job. days_asked (to_tell_court_calendar file.now) from.now to.now ≡ Some (asked job))
+        (λ _. days_asked (to_tell_court_calendar file.now) from.now to.now ≡ None) }
+{
+    let (from, to) = days(from, to)?;
+    Ok(Job::CourtCalendar { file, from, to })
+}
+
+/// A year goes alone, and a file with two days.
+#[tactic(auto, using(crate::proofs::MatchLemmas::first_value_is))]
 fn holidays_job<'a>(found: &ArgMatches<'a>) -> Result<Job<'a>, BadValue<'a>>
     ensures limited { IfOk result IsLimited }
     ensures job { MatchResult result (λ job. holidays_asked (rows_of (found_of found.now)) ≡ Some (asked job))
         (λ _. holidays_asked (rows_of (found_of found.now)) ≡ None) }
 {
-    let year = read_year(value(found, "year")).ok_or(BadValue::Year)?;
-    Ok(Job::Holidays { year })
+    let first = value(found, "year");
+    match (found.get_str("db"), found.get_str("to")) {
+        (None, None) => year_job(first),
+        (Some(file), Some(to)) => court_calendar_job(file, first, to),
+        _ => Err(BadValue::Days),
+    }
 }
 
 /// The job of a subcommand, with what was found for it, unless memory runs out.
@@ -326,6 +379,7 @@ fn job_by<'a>(
         "run" => run_job(alloc, found),
         "import" => Ok(Ok(import_job(found))),
         "case" => Ok(case_job(found)),
+        "cases" => Ok(Ok(cases_job(found))),
         "calendar" => Ok(calendar_job(found)),
         "explain" => Ok(explain_job(found)),
         "check" => Ok(Ok(check_job(found))),

@@ -1,6 +1,9 @@
 mod ApplyLemmas
+mod CaseLemmas
 mod KeepLemmas
+mod ListLemmas
 mod MigrateLemmas
 mod OpenLemmas
+mod PartLemmas
 mod RunLemmas
 mod TellLemmas

@@ -1,3 +1,4 @@
+pub mod CaseLists
 pub mod Checks
 pub mod Commands
 pub mod Keeping

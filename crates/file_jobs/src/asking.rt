@@ -4,9 +4,10 @@ ghost use Rattle.std.specs.Option.{option_map};
 ghost use Rattle.sqlite.specs.Held.{state};
 ghost use Rattle.sqlite.specs.State.{HasCleanDisk};
 ghost use Rattle.sqlite.specs.View.{doubt};
-ghost use Rattle.docket_core.specs.Histories.{History, local_rule_rows};
+ghost use Rattle.docket_core.specs.Histories.{History, local_rule_rows, standing_rows};
 ghost use Rattle.docket_tables.specs.Layouts.{Rows};
 ghost use Rattle.docket_tables.specs.Stands.{HoldsRows};
+ghost use Rattle.docket_text.specs.CourtCalendar.{court_calendar_text};
 ghost use Rattle.docket_text.specs.RuleTexts.{rules_text};
 ghost use Rattle.docket_store.specs.AnyRows.{Preserves};
 ghost use Rattle.docket_store.specs.Applying.{Asks, IsDocket, Stands, StandsFor};
@@ -18,7 +19,7 @@ use crate::adopting::adopt;
 use crate::ended::Worked;
 use court_days::Day;
 use docket_store::{AdoptFault, CalendarEnd, Docket, Fault, Watch};
-use docket_text::{case_text, rules_text};
+use docket_text::{case_text, court_calendar_text, rules_text};
 use sqlite::{Alter, Connection};
 use std::alloc::Global;
 use std::io::Write;
@@ -53,6 +54,23 @@ fn text_of_rules<S: Alter>(alloc: Global, docket: &mut Docket<S>) -> Result<Stri
 {
     let rows = docket.local_rules()?;
     Ok(rules_text(alloc, rows.as_slice())?)
+}
+
+/// The text of the court's calendar of the days from one to another, both included.
+fn text_of_court_calendar<S: Alter>(
+    alloc: Global,
+    docket: &mut Docket<S>,
+    from: Day,
+    to: Day,
+) -> Result<String, Fault>
+    ensures answer { (h : History) → Stands S.Store docket.old h
+        → Asks S.Store docket.new h (λ text. string_bytes text ≡ court_calendar_text docket.old.court (standing_rows h) from to) result }
+    ensures stays { (rows : Rows) → HoldsRows S.Store docket.old.conn rows → Preserves S.Store docket.new.conn rows result }
+    ensures clean { doubt (state S.Store docket.old.conn).is_clean ≤ doubt (state S.Store docket.new.conn).is_clean }
+{
+    let rows = docket.calendar_rows()?;
+    let text = court_calendar_text(alloc, docket.court(), rows.as_slice(), from, to)?;
+    Ok(text)
 }
 
 /// Adopts the docket that a database holds, and tells the case of a number.
@@ -94,6 +112,31 @@ pub(crate) fn rules_over<S: Alter, V: Watch + Drop>(
         Err(returned) => return Worked::from(returned),
     };
     let answer = text_of_rules(alloc, &mut docket);
+    Worked {
+        outcome: Ok(answer),
+        connection: docket.close(),
+    }
+}
+
+/// Adopts the docket that a database holds, and tells the court's calendar of the days from one to
+/// another, both included.
+pub(crate) fn court_calendar_over<S: Alter, V: Watch + Drop>(
+    alloc: Global,
+    conn: Connection<S>,
+    watch: V,
+    from: Day,
+    to: Day,
+) -> Worked<S, Result<String, Fault>, AdoptFault>
+    ensures told { (told : Told) → IsDocket told.court told.history → StandsFor S.Store conn told.court told.history
+        → HasCleanDisk (state S.Store result.connection)
+        → WorksTo (AnswersTo (λ text. string_bytes text ≡ court_calendar_text told.court (standing_rows told.history) from to)) result.outcome }
+    ensures stays { (rows : Rows) → HoldsRows S.Store conn rows → HoldsBetween S.Store result.connection rows rows }
+{
+    let (mut docket, _) = match adopt(alloc, conn, watch) {
+        Ok(found) => found,
+        Err(returned) => return Worked::from(returned),
+    };
+    let answer = text_of_court_calendar(alloc, &mut docket, from, to);
     Worked {
         outcome: Ok(answer),
         connection: docket.close(),

@@ -3,20 +3,22 @@
 //!
 //! `start` stands for what the two files hold as they are opened. Each theorem here is one for every
 //! start, and a program hands `Unknown`.
-ghost use Rattle.std.specs.Prelude.{◌≡◌, [], IfErr, IfOk, IfSome, MatchResult, OnOk, string_bytes};
+ghost use Rattle.std.specs.Prelude.{◌≡◌, [], IfErr, IfOk, IfSome, MatchResult, OnOk, option_copied, string_bytes};
 ghost use Rattle.std.specs.Option.{option_map};
 ghost use Rattle.sqlite_wal.specs.Files.{image_at};
 ghost use Rattle.sqlite.specs.Files.{IsCleanLeft};
 ghost use Rattle.docket_columns.specs.declared.version.Version.TheVariants.{First};
-ghost use Rattle.docket_core.specs.Histories.{local_rule_rows};
+ghost use Rattle.docket_core.specs.Histories.{local_rule_rows, standing_rows};
 ghost use Rattle.docket_scan.specs.Dockets.{MayHold, holdings_in};
 ghost use Rattle.docket_tables.specs.Stands.{IsImage};
+ghost use Rattle.docket_text.specs.CourtCalendar.{court_calendar_text};
 ghost use Rattle.docket_text.specs.RuleTexts.{rules_text};
 ghost use Rattle.docket_store.specs.Applying.{IsDocket, docket_rows};
 ghost use Rattle.docket_store.specs.Left.{IsUnharmed, LeavesRows};
 ghost use Rattle.docket_store.specs.Migrating.{HoldFirst};
 ghost use Rattle.docket_store.specs.Reopening.{HoldDocket};
 ghost use Rattle.command_lines.specs.Lines.{Docket as Told};
+ghost use Rattle.file_jobs.specs.CaseLists.{ListsCases, cases_told};
 ghost use Rattle.file_jobs.specs.Checks.{IsSoundDocket};
 ghost use Rattle.file_jobs.specs.Commands.{AppliesTo};
 ghost use Rattle.file_jobs.specs.Keeping.{rows_told};
@@ -25,13 +27,14 @@ ghost use Rattle.file_jobs.specs.Runs.{Answers, LeavesPrefix};
 ghost use Rattle.file_jobs.specs.Serves.{IfUnserved};
 ghost use Rattle.file_jobs.specs.Tells.{AnswersTo, ListsTo, WorksTo, text_of_case, text_of_reasons};
 
-use crate::asking::{calendar_over, case_over, rules_over};
+use crate::asking::{calendar_over, case_over, court_calendar_over, rules_over};
 use crate::checking::{Sound, check_over};
 use crate::creating::create_over;
 use crate::ended::Ended;
 use crate::explaining::explain_over;
 use crate::importing::apply_over;
 use crate::leaving::leave;
+use crate::listing::{Wanted, cases_over};
 use crate::migrating::migrate_over;
 use crate::running::run_over;
 use crate::serving::{ServeEnd, serve_over};
@@ -137,6 +140,52 @@ pub fn rules_on_file<S: Start, V: Watch + Drop>(
 {
     let conn = reopen_from(rt, path, start)?;
     Ok(leave(rules_over(rt.alloc(), conn, watch)))
+}
+
+/// Tells the court's calendar of the days from one to another, both included, of the docket in the files at
+/// a path: the statutory holidays, and behind them the rows that the court entered. Nothing is changed.
+pub fn court_calendar_on_file<S: Start, V: Watch + Drop>(
+    rt: &HostRuntime,
+    path: &str,
+    start: S,
+    watch: V,
+    from: Day,
+    to: Day,
+) -> OnFile<S, Result<String, Fault>>
+    ensures told { (told : Told) → IsDocket told.court told.history → HoldDocket (image_at S.Start) told.court told.history
+        → IfOk result (λ done. IsCleanLeft done.left
+        → WorksTo (AnswersTo (λ text. string_bytes text ≡ court_calendar_text told.court (standing_rows told.history) from to)) done.outcome) }
+    ensures stays { (told : Told) → HoldDocket (image_at S.Start) told.court told.history
+        → IfOk result (λ done. IsCleanLeft done.left → LeavesRows done.left (rows_told told) (rows_told told)) }
+    ensures unopened { (told : Told) → HoldDocket (image_at S.Start) told.court told.history
+        → IfErr result (IsUnharmed (image_at S.Start) (IsImage (rows_told told))) }
+{
+    let conn = reopen_from(rt, path, start)?;
+    Ok(leave(court_calendar_over(rt.alloc(), conn, watch, from, to)))
+}
+
+/// Writes a line for each case that is wanted of the docket in the files at a path, in the order of their
+/// numbers, and counts them. Each line is written before the next case is read. Nothing is changed.
+pub fn cases_on_file<S: Start, V: Watch + Drop, W: Write>(
+    rt: &HostRuntime,
+    path: &str,
+    start: S,
+    watch: V,
+    wanted: &Wanted<'_>,
+    writer: &mut W,
+) -> OnFile<S, Result<u32, CalendarEnd>>
+    ensures told { (told : Told) → IsDocket told.court told.history → HoldDocket (image_at S.Start) told.court told.history
+        → IfOk result (λ done. IsCleanLeft done.left
+        → WorksTo (ListsCases (cases_told told.history (option_copied wanted.now.label) (option_copied wanted.now.party))
+        (W.contents writer.old) (W.contents writer.new)) done.outcome) }
+    ensures stays { (told : Told) → HoldDocket (image_at S.Start) told.court told.history
+        → IfOk result (λ done. IsCleanLeft done.left → LeavesRows done.left (rows_told told) (rows_told told)) }
+    ensures unopened { (told : Told) → HoldDocket (image_at S.Start) told.court told.history
+        → IfErr result (IsUnharmed (image_at S.Start) (IsImage (rows_told told))) }
+    ensures unwritten { MatchResult result (λ done. IfErr done.outcome (λ _. writer.new ≡ writer.old)) (λ _. writer.new ≡ writer.old) }
+{
+    let conn = reopen_from(rt, path, start)?;
+    Ok(leave(cases_over(rt.alloc(), conn, watch, wanted, writer)))
 }
 
 /// Writes the calendar of the days from one to another, both included, of the docket in the files at a

@@ -11,6 +11,7 @@ mod explaining;
 mod file;
 mod importing;
 mod leaving;
+mod listing;
 mod migrating;
 mod running;
 mod serving;
@@ -18,7 +19,9 @@ mod serving;
 pub use checking::Sound;
 pub use ended::Ended;
 pub use file::{
-    OnFile, apply_on_file, calendar_on_file, case_on_file, check_on_file, create_on_file,
-    explain_on_file, migrate_on_file, rules_on_file, run_on_file, serve_on_file,
+    OnFile, apply_on_file, calendar_on_file, case_on_file, cases_on_file, check_on_file,
+    court_calendar_on_file, create_on_file, explain_on_file, migrate_on_file, rules_on_file,
+    run_on_file, serve_on_file,
 };
+pub use listing::Wanted;
 pub use serving::ServeEnd;

@@ -1,11 +1,14 @@
 -- How a job on files ended, and what goes out of a text.
-use Rattle.std.proofs.Common.{◌≡◌, ℕ, List, [], length, Option, Some, None, Result, Ok, Err, IfErr, IfOk, IfSome, IsErr, IsOkAnd, MatchOption, MatchResult, OnOk, OnErr, sym, subst, subst₂, arith}
+use Rattle.std.proofs.Common.{◌≡◌, ℕ, List, [], length, Option, Some, None, Result, Ok, Err, IfErr, IfOk, IfSome, IsErr, IsOkAnd, MatchOption, MatchResult, OnOk, OnErr, ◌∙◌, sym, subst, subst₂, arith}
 use Rattle.std.proofs.lemmas.Bool.{false≢true}
 use Rattle.std.proofs.lemmas.List.{append-nil, take_all}
 use Rattle.std.specs.Io.KnownBytes.{Appends}
 use Rattle.docket_scan.specs.declared.fault.AdoptFault.{AdoptFault}
 use Rattle.line_io.specs.Output.{AppendsFront}
 use Rattle.file_jobs.specs.Tells.{WorksTo}
+use Rattle.job_runs.specs.declared.status.Status.{Status}
+use Rattle.job_runs.specs.declared.status.Status.TheVariants.{Failed}
+use Rattle.job_runs.specs.Ends.{SaysMissing}
 
 -- all of it is a front of it
 whole_front : (before after : Option (List ℕ)) (bytes : List ℕ) → Appends before after bytes → AppendsFront before after bytes
@@ -97,3 +100,12 @@ where_known (Some x) P Q more holds = more x holds
 pub whatever_known : {A : Type 0} (known : Option A) (Q : A → Type 0) → ((x : A) → Q x) → IfSome known Q
 whatever_known None Q all = tt
 whatever_known (Some x) Q all = all x
+
+-- a job that failed tells of nothing that is missing
+pub failed_otherwise : (line : List ℕ) (status : Status) (before after : Option (List ℕ)) → status ≡ Failed → SaysMissing line status before after
+failed_otherwise line status before after failed = λ is. absurd (cc)
+
+-- what was said is the same on a standard error that was untouched before, and under a status that was found so
+pub said_missing : (line : List ℕ) (status found : Status) (before mid after : Option (List ℕ)) → status ≡ found → mid ≡ before
+    → SaysMissing line found mid after → SaysMissing line status before after
+said_missing line status found before mid after same untouched says = λ is. subst (λ b. AppendsFront b after line) untouched (says (sym same ∙ is))

@@ -1,5 +1,5 @@
 -- What each job does, by what the files of its docket held, by what its input was, and by what went out on its writer.
-use Rattle.std.specs.Prelude.{◌≡◌, ◌≢◌, ℕ, List, [], Option, Some, None, Result, Ok, Err, IfSome, MatchOption, codes}
+use Rattle.std.specs.Prelude.{◌≡◌, ◌≢◌, ℕ, List, [], Option, Some, None, Result, Ok, Err, IfSome, MatchOption, codes, option_copied}
 use Rattle.std.specs.Cow.{cow_str_bytes}
 use Rattle.std.specs.Io.KnownBytes.{Appends}
 use Rattle.sqlite_disk.specs.declared.Disk.{Ghosts}
@@ -16,7 +16,7 @@ use Rattle.docket_command.specs.declared.command.Command.{Command}
 use Rattle.docket_command.specs.declared.command.Action.TheVariants.{ImportCalendar}
 use Rattle.docket_command.specs.declared.new_day.NewDay.{NewDay}
 use Rattle.docket_command.specs.declared.refusal.Reply.{Reply}
-use Rattle.docket_core.specs.Histories.{local_rule_rows}
+use Rattle.docket_core.specs.Histories.{local_rule_rows, standing_rows}
 use Rattle.docket_jobs.specs.declared.job.Job.{Job}
 use Rattle.docket_jobs.specs.declared.job.Job.TheVariants as job
 use Rattle.docket_columns.specs.declared.version.Version.TheVariants.{First}
@@ -27,12 +27,14 @@ use Rattle.docket_store.specs.Reopening.{HoldDocket}
 use Rattle.docket_store.specs.declared.fault.Fault.{Fault}
 use Rattle.docket_store.specs.declared.migrating.MigrateFault.{MigrateFault}
 use Rattle.docket_tables.specs.Layouts.{Rows}
+use Rattle.docket_text.specs.CourtCalendar.{court_calendar_text}
 use Rattle.docket_text.specs.HolidayTexts.{holiday_text}
 use Rattle.docket_text.specs.RuleTexts.{rules_text}
 use Rattle.docket_wire.specs.CalendarCsv.{IsTable}
 use Rattle.line_io.specs.Output.{AppendsFront, HasFront}
 use Rattle.command_lines.specs.Lines.{Docket, bad_answers, docket_after, run_text}
 use Rattle.command_lines.specs.declared.fault.RunFault.{RunFault}
+use Rattle.file_jobs.specs.CaseLists.{cases_told}
 use Rattle.file_jobs.specs.Commands.{AppliesTo}
 use Rattle.file_jobs.specs.Keeping.{Keeps, rows_told}
 use Rattle.docket_store.specs.Left.{LeavesRows}
@@ -41,7 +43,7 @@ use Rattle.file_jobs.specs.Runs.{LeavesPrefix}
 use Rattle.explain_lines.specs.Explain.{explain_text}
 use Rattle.file_jobs.specs.Tells.{text_of_case, text_of_reasons}
 use Rattle.job_runs.specs.Checks.{check_text}
-use Rattle.job_runs.specs.Ends.{HasTold, TellsIfAny, TellsNothing, TellsText, last_line}
+use Rattle.job_runs.specs.Ends.{HasListed, HasTold, SaysMissing, TellsIfAny, TellsNothing, TellsText, last_line, no_such_case, no_such_deadline}
 use Rattle.job_runs.specs.Imports.{TellsApplied}
 use Rattle.job_runs.specs.declared.end.JobEnd.{JobEnd}
 use Rattle.job_runs.specs.declared.status.Status.{Status}
@@ -100,6 +102,13 @@ RunsInMemory docket input before after BadLine = ⊥
 RunsInMemory docket input before after Failed =
     (mid : Option (List ℕ)) × HasFront before mid (run_text docket input) × (fault : RunFault) × AppendsFront mid after (last_line fault)
 
+-- what a job says on the standard error where there is nothing that it was asked for
+abbrev pub IfMissing : Job → Status → Option (List ℕ) → Option (List ℕ) → Type 0
+IfMissing (job.Case file number) = SaysMissing no_such_case
+IfMissing (job.Cases file label party) = SaysMissing no_such_case
+IfMissing (job.Explain file case deadline) = SaysMissing no_such_deadline
+IfMissing _ = λ status before after. Unit {0}
+
 module _ {D : Type 0} {g : Ghosts D} where
   -- Where a job opened no files it failed; where it did, this is so, unless the disk was not honest.
   abbrev pub FailsOr : JobEnd D g → (Leftover D g → Type 0) → Type 0
@@ -129,6 +138,8 @@ module _ {D : Type 0} {g : Ghosts D} where
   abbrev pub Does : Job → Image → Option (List ℕ) → Option (List ℕ) → Option (List ℕ) → JobEnd D g → Type 0
   Does job.Count files input before after end = IfSome input (λ bytes. Counts bytes before after end.status) × (cow_str_bytes end.text ≡ []) × (end.left ≡ None)
   Does (job.Holidays year) files input before after end = TellsText (holiday_text year) (cow_str_bytes end.text) end.status × (end.left ≡ None) × (after ≡ before)
+  Does (job.CourtCalendar file from to) files input before after end =
+      OfDocket files (λ docket. TellsOf docket (TellsText (court_calendar_text docket.court (standing_rows docket.history) from to)) end) × (after ≡ before)
   Does (job.RunInMemory court) files input before after end =
       IfSome input (λ bytes. RunsInMemory (new_docket court) bytes before after end.status) × (cow_str_bytes end.text ≡ []) × (end.left ≡ None)
   Does (job.Run file) files input before after end =
@@ -142,6 +153,8 @@ module _ {D : Type 0} {g : Ghosts D} where
       (λ left. IsCleanLeft left → Imports docket key.now bytes left (cow_str_bytes end.text) end.status)))
   Does (job.Case file number) files input before after end =
       OfDocket files (λ docket. TellsOf docket (TellsIfAny (text_of_case docket.court docket.history number)) end) × (after ≡ before)
+  Does (job.Cases file label party) files input before after end =
+      OfDocket files (λ docket. TellsOf docket (HasListed (cases_told docket.history (option_copied label) (option_copied party)) before after) end)
   Does (job.Calendar file from to) files input before after end =
       OfDocket files (λ docket. TellsOf docket (HasTold (text_of_calendar docket.court docket.history from to) before after) end)
   Does (job.Explain file case deadline) files input before after end =

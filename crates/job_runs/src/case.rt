@@ -4,7 +4,7 @@ ghost use Rattle.std.specs.Option.{option_map};
 ghost use Rattle.std.specs.Cow.{cow_str_bytes};
 ghost use Rattle.sqlite_wal.specs.Files.{image_at};
 ghost use Rattle.file_jobs.specs.Tells.{AnswersTo, text_of_case};
-ghost use Rattle.job_runs.specs.Ends.{TellsIfAny};
+ghost use Rattle.job_runs.specs.Ends.{SaysMissing, TellsIfAny, no_such_case};
 ghost use Rattle.job_runs.specs.Jobs.{OfDocket, TellsOf};
 
 use crate::end::JobEnd;
@@ -19,6 +19,9 @@ use sqlite_disk::Disk;
 use std::alloc::Global;
 use std::io::Write;
 
+/// The words for a case that is missing.
+pub(crate) const NO_SUCH_CASE: &str = "no such case\n";
+
 /// What is told of what was asked for, or that it is missing, in the words `missing`.
 pub(crate) fn told_if_any<D: Disk + Drop, E: Write>(
     alloc: Global,
@@ -29,6 +32,7 @@ pub(crate) fn told_if_any<D: Disk + Drop, E: Write>(
     ensures told { (found : Option (List ℕ)) → AnswersTo (λ text. option_map string_bytes text ≡ found) answer
         → TellsIfAny found (cow_str_bytes result.text) result.status }
     ensures left { result.left ≡ None }
+    ensures missing { SaysMissing missing.now result.status (E.contents e.old) (E.contents e.new) }
 {
     match answer {
         Ok(Some(text)) => JobEnd::told(text),
@@ -50,6 +54,7 @@ pub(crate) fn tell_case<S: Start, P: Write + Drop, E: Write>(
     e: &mut E,
 ) -> JobEnd<FileFrom<S>>
     ensures told { OfDocket (image_at S.Start) (λ docket. TellsOf docket (TellsIfAny (text_of_case docket.court docket.history number)) result) }
+    ensures missing { SaysMissing no_such_case result.status (E.contents e.old) (E.contents e.new) }
 {
     let rows = match ready(rt, path, screen, e) {
         Ok(rows) => rows,
@@ -57,9 +62,7 @@ pub(crate) fn tell_case<S: Start, P: Write + Drop, E: Write>(
     };
     let ended = case_on_file(rt, path, start, rows, number);
     match done_on_docket(rt.alloc(), path, ended, e) {
-        Ok((answer, left)) => {
-            told_if_any(rt.alloc(), answer, "no such case\n", e).with(Some(left))
-        }
+        Ok((answer, left)) => { told_if_any(rt.alloc(), answer, NO_SUCH_CASE, e).with(Some(left)) }
         Err(end) => end,
     }
 }

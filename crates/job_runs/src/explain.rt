@@ -2,7 +2,7 @@
 ghost use Rattle.std.specs.Prelude.{IfSome};
 ghost use Rattle.sqlite_wal.specs.Files.{image_at};
 ghost use Rattle.file_jobs.specs.Tells.{text_of_reasons};
-ghost use Rattle.job_runs.specs.Ends.{TellsIfAny};
+ghost use Rattle.job_runs.specs.Ends.{SaysMissing, TellsIfAny, no_such_deadline};
 ghost use Rattle.job_runs.specs.Jobs.{Explains, OfDocket, TellsOf};
 
 use crate::case::told_if_any;
@@ -28,6 +28,7 @@ pub(crate) fn explain_deadline<S: Start, P: Write + Drop, E: Write>(
     e: &mut E,
 ) -> JobEnd<FileFrom<S>>
     ensures told { OfDocket (image_at S.Start) (λ docket. TellsOf docket (TellsIfAny (text_of_reasons docket.court docket.history case deadline)) result) }
+    ensures missing { SaysMissing no_such_deadline result.status (E.contents e.old) (E.contents e.new) }
 {
     let rows = match ready(rt, path, screen, e) {
         Ok(rows) => rows,

@@ -2,12 +2,14 @@
 ghost use Rattle.std.specs.Prelude.{IfSome};
 ghost use Rattle.sqlite_wal.specs.Files.{image_at};
 ghost use Rattle.docket_jobs.specs.Jobs.{IsLimited};
-ghost use Rattle.job_runs.specs.Jobs.{Counts, Does};
+ghost use Rattle.job_runs.specs.Jobs.{Counts, Does, IfMissing};
 
 use crate::calendar::tell_calendar;
 use crate::case::tell_case;
+use crate::cases::tell_cases;
 use crate::check::tell_check;
 use crate::command::{run_commands, run_in_memory};
+use crate::court_calendar::tell_court_calendar;
 use crate::create::create_docket;
 use crate::end::JobEnd;
 use crate::explain::{explain_all, explain_deadline};
@@ -21,6 +23,7 @@ use crate::status::Status;
 use crate::telling::failed;
 use count_lines::count_run;
 use docket_jobs::Job;
+use file_jobs::Wanted;
 use sqlite::{FileFrom, Start};
 use std::alloc::Global;
 use std::io::{Read, Write};
@@ -49,12 +52,18 @@ pub fn run_job<S: Start, P: Write + Drop, R: Read, W: Write + Drop, E: Write>(
     e: &mut E,
 ) -> (JobEnd<FileFrom<S>>, W)
     requires { IsLimited job }
-    ensures { Does job.entry (image_at S.Start) (R.remaining r.old) (W.contents w) (W.contents result.1) result.0 }
+    ensures does { Does job.entry (image_at S.Start) (R.remaining r.old) (W.contents w) (W.contents result.1) result.0 }
+    // Where there is no such case, or no such deadline, the standard error says so.
+    ensures missing { IfMissing job.entry result.0.status (E.contents e.old) (E.contents e.new) }
 {
     let screen = progress.of_opening;
     match job {
         Job::Count => (JobEnd::of(count(rt.alloc(), r, &mut w, e)), w),
         Job::Holidays { year } => (tell_holidays(rt.alloc(), year, e), w),
+        Job::CourtCalendar { file, from, to } => {
+            let end = tell_court_calendar(rt, start, screen, file, from, to, e);
+            (end, w)
+        }
         Job::RunInMemory { court } => {
             let (status, w) = run_in_memory(rt, progress.of_answers, court, r, w, e);
             (JobEnd::of(status), w)
@@ -70,6 +79,11 @@ pub fn run_job<S: Start, P: Write + Drop, R: Read, W: Write + Drop, E: Write>(
             (end, w)
         }
         Job::Case { file, number } => (tell_case(rt, start, screen, file, number, e), w),
+        Job::Cases { file, label, party } => {
+            let wanted = Wanted { label, party };
+            let end = tell_cases(rt, start, screen, file, &wanted, &mut w, e);
+            (end, w)
+        }
         Job::Calendar { file, from, to } => {
             let end = tell_calendar(rt, start, screen, file, from, to, &mut w, e);
             (end, w)

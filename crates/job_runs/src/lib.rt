@@ -3,8 +3,10 @@
 
 mod calendar;
 mod case;
+mod cases;
 mod check;
 mod command;
+mod court_calendar;
 mod create;
 mod end;
 mod explain;

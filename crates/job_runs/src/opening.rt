@@ -1,5 +1,5 @@
 //! The files that a job works on, before they are opened, and why one was not done.
-ghost use Rattle.std.specs.Prelude.{◌≡◌, Ok, None, Some, IfErr, IsErr, IsOkAnd, MatchResult};
+ghost use Rattle.std.specs.Prelude.{◌≡◌, Ok, None, Some, IfErr, IsErr, IsOkAnd, MatchResult, OnOk};
 ghost use Rattle.std.specs.Cow.{cow_str_bytes};
 ghost use Rattle.job_runs.specs.Ends.{TellsNothing};
 
@@ -69,7 +69,8 @@ pub(crate) fn ready<'a, P: Write + Drop, E: Write>(
     mut screen: Option<P>,
     e: &mut E,
 ) -> Result<RowCounter<&'a HostRuntime, P>, Status>
-    ensures { IfErr result (λ status. status ≡ Status.Failed) }
+    ensures failed { IfErr result (λ status. status ≡ Status.Failed) }
+    ensures silent { OnOk result (e.new ≡ e.old) }
 {
     if let Some(screen) = &mut screen {
         tell_opening(rt, path, screen);
@@ -118,6 +119,7 @@ pub(crate) fn done_on_docket<S: Start, T, E: Write>(
     ensures done { MatchResult result (λ found. IsOkAnd ended (λ it. (it.outcome ≡ Ok found.0) × (it.left ≡ found.1)))
         (λ end. TellsNothing (cow_str_bytes end.text) end.status
         × MatchResult ended (λ it. (end.left ≡ Some it.left) × IsErr it.outcome) (λ _. end.left ≡ None)) }
+    ensures silent { OnOk result (e.new ≡ e.old) }
 {
     let Ended { outcome, left } = match ended {
         Ok(it) => it,

@@ -30,8 +30,8 @@ pub(crate) fn tell_table<D: Disk + Drop, E: Write>(alloc: Global, e: &mut E) -> 
     }
 }
 
-/// What is told of the rules that a docket was asked for.
-fn rules_told<D: Disk + Drop, E: Write>(
+/// What is told of a text that a docket was asked for.
+pub(crate) fn text_told<D: Disk + Drop, E: Write>(
     alloc: Global,
     answer: Result<String, Fault>,
     e: &mut E,
@@ -61,7 +61,7 @@ pub(crate) fn tell_rules<S: Start, P: Write + Drop, E: Write>(
     };
     let ended = rules_on_file(rt, path, start, rows);
     match done_on_docket(rt.alloc(), path, ended, e) {
-        Ok((answer, left)) => rules_told(rt.alloc(), answer, e).with(Some(left)),
+        Ok((answer, left)) => text_told(rt.alloc(), answer, e).with(Some(left)),
         Err(end) => end,
     }
 }

@@ -2,6 +2,7 @@
 mod cases;
 mod faults;
 mod imports;
+mod lists;
 
 use docket_jobs::read_job;
 use failing_ends::{Pieces, Taker};

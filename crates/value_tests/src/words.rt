@@ -13,7 +13,7 @@ fn words_of(alloc: Global, line: &str) -> Result<Vec<String>, AllocError> {
 }
 
 /// What the words ask for, as `told` tells it.
-const JOBS: [(&str, &str); 24] = [
+const JOBS: [(&str, &str); 30] = [
     ("docketctl check --db court.db", "check court.db"),
     ("docketctl migrate --db court.db", "migrate court.db"),
     ("docketctl", "count"),
@@ -46,6 +46,19 @@ const JOBS: [(&str, &str); 24] = [
         "docketctl case 4294967295 --db court.db",
         "case court.db 4294967295",
     ),
+    ("docketctl cases --db court.db", "cases court.db - -"),
+    (
+        "docketctl cases --label 1:25-cv-00001 --db=court.db",
+        "cases court.db 1:25-cv-00001 -",
+    ),
+    (
+        "docketctl cases --db court.db --party=Roe",
+        "cases court.db - Roe",
+    ),
+    (
+        "docketctl cases --party Roe --db court.db --label=1:25-cv-00001",
+        "cases court.db 1:25-cv-00001 Roe",
+    ),
     // Days are told as days since 1970-01-01.
     (
         "docketctl calendar --db court.db 2025-07-01 2025-07-31",
@@ -76,6 +89,14 @@ const JOBS: [(&str, &str); 24] = [
     ("docketctl rules --db court.db", "rules court.db"),
     ("docketctl holidays 2000", "holidays 2000"),
     ("docketctl holidays 2099", "holidays 2099"),
+    (
+        "docketctl holidays --db court.db 2027-01-01 2027-12-31",
+        "court calendar court.db 20819 21183",
+    ),
+    (
+        "docketctl holidays 1980-01-01 1980-01-01 --db=court.db",
+        "court calendar court.db 3652 3652",
+    ),
 ];
 
 /// A job in words.
@@ -87,6 +108,7 @@ fn told(alloc: Global, job: &Job<'_>) -> Result<String, AllocError> {
         Job::RunInMemory { court } => told_court(alloc, "run in", "memory", court),
         Job::Import { file, key } => format!(in alloc; "import {file} {key}"),
         Job::Case { file, number } => format!(in alloc; "case {file} {number}"),
+        Job::Cases { file, label, party } => told_cases(alloc, file, *label, *party),
         Job::Calendar { file, from, to } => {
             format!(in alloc; "calendar {file} {} {}", from.number(), to.number())
         }
@@ -101,7 +123,21 @@ fn told(alloc: Global, job: &Job<'_>) -> Result<String, AllocError> {
         Job::Serve { file, port, count } => format!(in alloc; "serve {file} {port} {count}"),
         Job::Rules { file } => format!(in alloc; "rules {}", file.unwrap_or("-")),
         Job::Holidays { year } => format!(in alloc; "holidays {year}"),
+        Job::CourtCalendar { file, from, to } => {
+            format!(in alloc; "court calendar {file} {} {}", from.number(), to.number())
+        }
     }
+}
+
+fn told_cases(
+    alloc: Global,
+    file: &str,
+    label: Option<&str>,
+    party: Option<&str>,
+) -> Result<String, AllocError> {
+    let label = label.unwrap_or("-");
+    let party = party.unwrap_or("-");
+    format!(in alloc; "cases {file} {label} {party}")
 }
 
 fn told_court(alloc: Global, what: &str, file: &str, court: &Court) -> Result<String, AllocError> {
@@ -137,7 +173,7 @@ fn jobs(rt: HostRuntime) {
 }
 
 /// What is printed where the words ask for no job, and whether that is a mistake.
-const TEXTS: [(&str, &str, bool); 38] = [
+const TEXTS: [(&str, &str, bool); 46] = [
     ("docketctl --help", "Usage: docketctl [COMMAND]", false),
     ("docketctl --version", "docketctl 0.1.0", false),
     ("docketctl count --help", "forward DAY N", false),
@@ -177,6 +213,26 @@ const TEXTS: [(&str, &str, bool); 38] = [
         true,
     ),
     (
+        "docketctl holidays --db court.db 2027",
+        "error: YEAR goes alone, and --db with FROM and TO",
+        true,
+    ),
+    (
+        "docketctl holidays 2027 2027-12-31",
+        "error: YEAR goes alone, and --db with FROM and TO",
+        true,
+    ),
+    (
+        "docketctl holidays --db court.db 2027-12-31 2027-01-01",
+        "error: FROM is after TO",
+        true,
+    ),
+    (
+        "docketctl holidays --db court.db 2027 2027-12-31",
+        "error: FROM and TO are days from 1980-01-01 to 3999-12-31",
+        true,
+    ),
+    (
         "docketctl case --db court.db 0",
         "error: NUMBER is a number from 1 to 4294967295, without a leading zero",
         true,
@@ -194,6 +250,26 @@ const TEXTS: [(&str, &str, bool); 38] = [
     (
         "docketctl case --db court.db +1",
         "error: NUMBER is a number from 1 to 4294967295, without a leading zero",
+        true,
+    ),
+    (
+        "docketctl cases --help",
+        "case 1 1:25-cv-00001 filed 2025-06-02 Roe v. Doe",
+        false,
+    ),
+    (
+        "docketctl cases --party Roe",
+        "the following required arguments were not provided",
+        true,
+    ),
+    (
+        "docketctl cases --db court.db Roe",
+        "error: unexpected argument 'Roe' found",
+        true,
+    ),
+    (
+        "docketctl cases --db court.db --label",
+        "a value is required for '--label <",
         true,
     ),
     (

@@ -26,10 +26,16 @@ const MISSING: &str = "docketctl: \"@/court.db\": there is no such file\n";
 
 const NO_FILE: &str = "docketctl: \"@\": it is no regular file\n";
 
-const NO_DOCKET: [Fault; 9] = [
+const NO_DOCKET: [Fault; 11] = [
     ("docketctl run --db @/court.db", MISSING, 3),
     ("docketctl check --db @/court.db", MISSING, 3),
     ("docketctl case --db @/court.db 1", MISSING, 3),
+    ("docketctl cases --db @/court.db", MISSING, 3),
+    (
+        "docketctl holidays --db @/court.db 2027-01-01 2027-12-31",
+        MISSING,
+        3,
+    ),
     (
         "docketctl serve --db @/court.db --port 0 --count 1",
         MISSING,
@@ -172,7 +178,7 @@ const WRITE_FAILED: &str = "docketctl: the output could not be written\n";
 
 // Jobs over an output that takes so many writes, and what was written. The first `run` has done its
 // first command, and told no answer; the second has its answer again, and does one more.
-const FAILING_WRITES: [(&str, &str, u32, &str); 7] = [
+const FAILING_WRITES: [(&str, &str, u32, &str); 9] = [
     ("docketctl run --db @/court.db", LINES, 0, ""),
     (
         "docketctl run --db @/court.db",
@@ -181,6 +187,18 @@ const FAILING_WRITES: [(&str, &str, u32, &str); 7] = [
         "{\"number\":1}\n",
     ),
     ("docketctl case --db @/court.db 2", "", 0, ""),
+    (
+        "docketctl cases --db @/court.db",
+        "",
+        1,
+        "case 1 1:25-cv-00001 filed 2025-06-02 Roe v. Doe\n",
+    ),
+    (
+        "docketctl holidays --db @/court.db 2027-01-01 2027-12-31",
+        "",
+        0,
+        "",
+    ),
     (
         "docketctl import --db @/court.db --key c1",
         "kind,day,name\n",

@@ -15,7 +15,7 @@ returns-in-Ok-done_on_docket g c = record {
   told = λ docket is files.
       some_left c.with.result.left c.in-Ok-done_on_docket.left _ _ c.with.ensures.left (answered c.rules_on_file-ended.result (λ it. it.left) IsCleanLeft (λ it. it.outcome) (AnswersTo (λ text. string_bytes text ≡ rules_text (local_rule_rows docket.history)))
       c.in-Ok-done_on_docket.answer c.in-Ok-done_on_docket.left (λ left. LeavesRows left (rows_told docket) (rows_told docket)) _
-      (c.rules_on_file-ended.ensures.told docket is files) (c.rules_on_file-ended.ensures.stays docket files) c.in-Ok-done_on_docket.ensures.done (λ answers. subst₂ (λ text status. TellsText (rules_text (local_rule_rows docket.history)) (cow_str_bytes text) status) (sym c.with.ensures.text) (sym c.with.ensures.status) (c.rules_told.ensures.told (rules_text (local_rule_rows docket.history)) answers)));
+      (c.rules_on_file-ended.ensures.told docket is files) (c.rules_on_file-ended.ensures.stays docket files) c.in-Ok-done_on_docket.ensures.done (λ answers. subst₂ (λ text status. TellsText (rules_text (local_rule_rows docket.history)) (cow_str_bytes text) status) (sym c.with.ensures.text) (sym c.with.ensures.status) (c.text_told.ensures.told (rules_text (local_rule_rows docket.history)) answers)));
 }
 
 pub returns-in-Err-done_on_docket : goal.returns-in-Err-done_on_docket
