@@ -1,0 +1,74 @@
+-- Rows of tables and other pieces, as they are written: what they hold, parted by the tags between.
+use Rattle.std.proofs.Common.{◌≡◌, ℕ, List, [], ◌∷◌, ◌++◌, append_assoc, refl, sym, ap, ◌∙◌}
+use Rattle.std.specs.Prelude.{codes}
+use Rattle.html_sheets.specs.Elements.{element, weekday_told, cell, number_cell, head_cell, row}
+use Rattle.html_sheets.specs.Sheets.{said}
+use Rattle.html_sheets.specs.Weeks.{end_cells}
+
+-- an element and what follows
+pub element-then : (name attributes content rest : List ℕ)
+    → element name attributes content ++ rest ≡ 60 ∷ (name ++ (attributes ++ (62 ∷ (content ++ (codes "</" ++ (name ++ 62 ∷ rest))))))
+unfolding element
+element-then name attributes content rest = simp append_assoc refl
+
+element-alone : (name attributes content : List ℕ)
+    → element name attributes content ≡ 60 ∷ (name ++ (attributes ++ (62 ∷ (content ++ (codes "</" ++ (name ++ 62 ∷ []))))))
+unfolding element
+element-alone name attributes content = refl
+
+pub case_parts : (link label filed caption : List ℕ)
+    → codes "<tr><th scope=\"row\" class=\"number\">" ++ (link ++ (codes "</th><td>" ++ (label ++ (codes "</td><td>" ++ (filed ++ (codes "</td><td>" ++ (caption ++ codes "</td></tr>\n")))))))
+    ≡ row (head_cell link ++ (cell label ++ (cell filed ++ cell caption)))
+case_parts link label filed caption = simp (append_assoc, element-then) refl
+
+-- of a party or an entry
+pub three_parts : (number first second : List ℕ)
+    → codes "<tr><th scope=\"row\" class=\"number\">" ++ (number ++ (codes "</th><td>" ++ (first ++ (codes "</td><td>" ++ (second ++ codes "</td></tr>\n")))))
+    ≡ row (head_cell number ++ (cell first ++ cell second))
+three_parts number first second = simp (append_assoc, element-then) refl
+
+pub deadline_parts : (number party rule standing : List ℕ)
+    → codes "<tr><th scope=\"row\" class=\"number\">" ++ (number ++ (codes "</th><td class=\"number\">" ++ (party ++ (codes "</td><td>" ++ (rule ++ (codes "</td><td class=\"number\">" ++ (standing ++ codes "</td></tr>\n")))))))
+    ≡ row (head_cell number ++ (number_cell party ++ (cell rule ++ number_cell standing)))
+deadline_parts number party rule standing = simp (append_assoc, element-then) refl
+
+-- what is said of a case
+pub said_parts : (number label caption filed : List ℕ)
+    → codes "<dl>\n<dt>Case</dt><dd>" ++ (number ++ (codes "</dd>\n<dt>Label</dt><dd>" ++ (label ++ (codes "</dd>\n<dt>Caption</dt><dd>" ++ (caption ++ (codes "</dd>\n<dt>Filed</dt><dd>" ++ (filed ++ codes "</dd>\n</dl>\n")))))))
+    ≡ codes "<dl>\n" ++ (said (codes "Case") number ++ (said (codes "Label") label ++ (said (codes "Caption") caption ++ (said (codes "Filed") filed ++ codes "</dl>\n"))))
+said_parts number label caption filed = simp (append_assoc, element-then) refl
+
+end_front : (day time last : List ℕ)
+    → codes "<th scope=\"row\" class=\"number\">" ++ (day ++ (codes "</th><td class=\"number\">" ++ (time ++ (codes "</td>" ++ last))))
+    ≡ head_cell day ++ (number_cell time ++ last)
+end_front day time last = simp element-then refl
+
+pub end_parts : (day : ℕ) (time closing : List ℕ)
+    → codes "<th scope=\"row\" class=\"number\">" ++ (weekday_told day ++ (codes "</th><td class=\"number\">" ++ (time ++ (codes "</td><td class=\"number\">" ++ (closing ++ codes "</td>")))))
+    ≡ end_cells day time closing
+end_parts day time closing =
+    let front = λ (last : List ℕ). codes "<th scope=\"row\" class=\"number\">" ++ (weekday_told day ++ (codes "</th><td class=\"number\">" ++ (time ++ (codes "</td>" ++ last)))) in
+    let parted : front (number_cell closing) ≡ end_cells day time closing = end_front (weekday_told day) time (number_cell closing) in
+    ap front (sym (element-alone (codes "td") (codes " class=\"number\"") closing)) ∙ parted
+
+pub due_parts : (end case number rule party : List ℕ)
+    → codes "<tr>" ++ (end ++ (codes "<td class=\"number\">" ++ (case ++ (codes "</td><td class=\"number\">" ++ (number ++ (codes "</td><td>" ++ (rule ++ (codes "</td><td class=\"number\">" ++ (party ++ codes "</td></tr>\n")))))))))
+    ≡ row (end ++ (number_cell case ++ (number_cell number ++ (cell rule ++ number_cell party))))
+due_parts end case number rule party = simp (append_assoc, element-then) refl
+
+pub page_parts : (title style heading : List ℕ)
+    → codes "<!DOCTYPE html>\n<html lang=\"en\">\n<head>\n<meta charset=\"utf-8\">\n<meta name=\"viewport\" content=\"width=device-width, initial-scale=1\">\n<title>"
+    ++ (title ++ (codes "</title>\n<style>" ++ (style ++ (codes "</style>\n</head>\n<body>\n<main>\n<h1>" ++ (heading ++ codes "</h1>\n")))))
+    ≡ codes "<!DOCTYPE html>\n<html lang=\"en\">\n<head>\n<meta charset=\"utf-8\">\n"
+    ++ (codes "<meta name=\"viewport\" content=\"width=device-width, initial-scale=1\">\n"
+    ++ (element (codes "title") [] title
+    ++ (codes "\n"
+    ++ (element (codes "style") [] style
+    ++ (codes "\n</head>\n<body>\n<main>\n"
+    ++ (element (codes "h1") [] heading ++ codes "\n"))))))
+page_parts title style heading = simp element-then refl
+
+pub week_parts : (from to before after head : List ℕ)
+    → codes "<p>" ++ (from ++ (codes " to " ++ (to ++ (codes "</p>\n<nav>" ++ (before ++ (codes " " ++ (after ++ (codes "</nav>\n" ++ head))))))))
+    ≡ element (codes "p") [] (from ++ (codes " to " ++ to)) ++ (codes "\n" ++ (element (codes "nav") [] (before ++ (codes " " ++ after)) ++ (codes "\n" ++ head)))
+week_parts from to before after head = simp (append_assoc, element-then) refl

@@ -1,0 +1,7 @@
+pub mod Elements
+pub mod Escapes
+pub mod Marks
+pub mod Pages
+pub mod Reading
+pub mod Sheets
+pub mod Weeks

@@ -1,0 +1,59 @@
+-- What is due in a week, or on other days.
+use Rattle.std.specs.Prelude.{ℕ, ◌+◌, ◌-◌, max, min, List, [], ◌∷◌, ◌++◌, codes, decimal}
+use Rattle.civil_time.specs.DayText.{day_text}
+use Rattle.civil_time.specs.LocalTime.{local_day, local_minute}
+use Rattle.civil_time.specs.MomentText.{clock_text}
+use Rattle.court_days.specs.Court.{CourtSettings, zone_of}
+use Rattle.court_days.specs.declared.filing.End.{End}
+use Rattle.court_days.specs.declared.filing.End.TheVariants.{LastDay, Moment}
+use Rattle.docket_core.specs.declared.record.DueRow.{DueRow}
+use Rattle.docket_text.specs.Parties.{party_text}
+use Rattle.docket_text.specs.Times.{shown, shown_minute}
+use Rattle.html_sheets.specs.Elements.{element, told, weekday_told, link, case_link, cell, number_cell, head_cell, row, table_head, table_foot}
+
+-- seven days earlier and later, within the days that have a date here: 1980-01-01 to 3999-12-31
+unfoldable pub week_before : ℕ → ℕ
+week_before day = max 3652 (day - 7)
+
+unfoldable pub week_after : ℕ → ℕ
+week_after day = min 741_441 (day + 7)
+
+-- a link to what is due on the days from one to another
+abbrev pub days_link : ℕ → ℕ → List ℕ → List ℕ
+days_link from to content = link (codes "/pages/calendar/" ++ (day_text from ++ (codes "/" ++ day_text to))) content
+
+-- the table of what is due, up to its rows
+unfoldable pub due_head : List ℕ
+due_head = table_head (codes "Day" ∷ codes "Time" ∷ codes "Closing" ∷ codes "Case" ∷ codes "Deadline" ∷ codes "Rule" ∷ codes "Party" ∷ [])
+
+-- the days, links to those a week before and a week after, and the table up to its rows
+abbrev pub week_head : ℕ → ℕ → List ℕ
+week_head from to =
+    element (codes "p") [] (weekday_told from ++ (codes " to " ++ weekday_told to))
+    ++ (codes "\n"
+    ++ (element (codes "nav") [] (
+    days_link (week_before from) (week_before to) (codes "Week before")
+    ++ (codes " " ++ days_link (week_after from) (week_after to) (codes "Week after")))
+    ++ (codes "\n" ++ due_head)))
+
+-- the day, the time and the closing of the clerk's office. A last day runs to its midnight for electronic filing, and to the
+-- closing on that day for other filing (Fed. R. Civ. P. 6(a)(4)). The day and the time of an instant are local, and no closing matters
+abbrev pub end_cells : ℕ → List ℕ → List ℕ → List ℕ
+end_cells day time closing = head_cell (weekday_told day) ++ (number_cell time ++ number_cell closing)
+
+abbrev pub end_of_row : CourtSettings → ℕ → End → List ℕ
+end_of_row court close (LastDay day) = end_cells day (codes "24:00") (clock_text (shown_minute close))
+end_of_row court close (Moment at) =
+    end_cells (local_day (zone_of court) (shown at)) (clock_text (local_minute (zone_of court) (shown at))) (codes "--:--")
+
+-- a deadline whose time runs: its end, its case, which leads to its page, its number there, its rule, and the party whose time it is
+abbrev pub due_row : CourtSettings → DueRow → List ℕ
+due_row court due =
+    row (end_of_row court due.close due.end
+    ++ (number_cell (case_link due.case)
+    ++ (number_cell (decimal due.number)
+    ++ (cell (told due.rule)
+    ++ number_cell (party_text due.party)))))
+
+abbrev pub week_foot : List ℕ
+week_foot = table_foot

@@ -1,0 +1,41 @@
+//! What the functions of specs/ say, with nothing to run.
+ghost use Rattle.std.specs.Prelude.{◌≡◌, ℕ, List, [], length, filter, map, drop, slice_index, IsTrue};
+ghost use Rattle.court_days.specs.Court.{CourtSettings};
+ghost use Rattle.docket_core.specs.declared.record.CaseRecord.{CaseRecord};
+ghost use Rattle.docket_core.specs.declared.record.DeadlineLine.{DeadlineLine};
+ghost use Rattle.docket_core.specs.declared.record.DueRow.{DueRow};
+ghost use Rattle.docket_core.specs.declared.row.CaseRow.{CaseRow};
+ghost use Rattle.html_sheets.specs.Escapes.{is_control, blanked_byte, escaped};
+ghost use Rattle.html_sheets.specs.Marks.{marks};
+ghost use Rattle.html_sheets.specs.Pages.{page_head, case_row};
+ghost use Rattle.html_sheets.specs.Sheets.{case_sheet};
+ghost use Rattle.html_sheets.specs.Weeks.{week_head, due_row};
+ghost use Rattle.html_sheets.specs.Reading.{begins_reference, read_text};
+
+/// A text within a page has none of `<`, `>`, `"` and `'` and no control byte, and each `&` in it begins
+/// one of the five references: it begins and ends no tag and no value of an attribute, whatever it is.
+pub fn texts_are_no_markup()
+    ensures marks { (text : List ℕ) → marks (escaped text) ≡ [] }
+    ensures controls { (text : List ℕ) → filter is_control (escaped text) ≡ [] }
+    ensures references { (text : List ℕ) (i : ℕ) → slice_index (escaped text) i ≡ 38
+        → IsTrue (begins_reference (drop i (escaped text))) }
+{}
+
+/// A reader has the text again, with a blank for each control byte.
+pub fn texts_are_read_back()
+    ensures { (text : List ℕ) → read_text (escaped text) ≡ map blanked_byte text }
+{}
+
+/// The marks of a piece are those of its own tags, whatever the docket says: two heads, two rows, and two
+/// sheets of as many parties, entries and deadlines have the same ones in the same order.
+pub fn tags_are_the_pages_own()
+    ensures heads { (title other : List ℕ) → marks (page_head title) ≡ marks (page_head other) }
+    ensures cases { (case other : CaseRow) → marks (case_row case) ≡ marks (case_row other) }
+    ensures weeks { (from to day later : ℕ) → marks (week_head from to) ≡ marks (week_head day later) }
+    ensures dues { (court place : CourtSettings) (due other : DueRow)
+        → marks (due_row court due) ≡ marks (due_row place other) }
+    ensures sheets { (court place : CourtSettings) (case other : CaseRecord) (deadlines lines : List DeadlineLine)
+        → length case.parties ≡ length other.parties → length case.entries ≡ length other.entries
+        → length deadlines ≡ length lines
+        → marks (case_sheet court case deadlines) ≡ marks (case_sheet place other lines) }
+{}

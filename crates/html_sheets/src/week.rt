@@ -1,0 +1,152 @@
+//! What is due in a week.
+ghost use Rattle.std.specs.Prelude.{◌≡◌, IfOk, string_bytes};
+ghost use Rattle.html_sheets.specs.Weeks.{week_before, week_after, due_head, week_head, due_row, week_foot};
+
+use crate::piece::{CaseLink, Told, WeekdayTold, table_foot};
+use crate::standing::{PartyText, shown_minute};
+use court_days::{Court, Day, End};
+use docket_core::DueRow;
+use docket_text::{ClockText, DayText, shown};
+use std::alloc::{AllocError, Global};
+use std::fmt;
+
+/// 1980-01-01, the first `Day`.
+const FIRST_DAY: u32 = 3652;
+
+/// 3999-12-31, the last `Day`.
+const LAST_DAY: u32 = 741_441;
+
+/// The day seven days earlier, or the first.
+#[tactic(auto, unfolding(crate::specs::Weeks::week_before))]
+fn week_before(day: Day) -> Day
+    ensures { result ≡ week_before day }
+{
+    let earlier = day.epoch_day() - FIRST_DAY;
+    day.minus(earlier.min(7))
+}
+
+/// The day seven days later, or the last.
+#[tactic(auto, unfolding(crate::specs::Weeks::week_after))]
+fn week_after(day: Day) -> Day
+    ensures { result ≡ week_after day }
+{
+    let later = LAST_DAY - day.epoch_day();
+    day.plus(later.min(7))
+}
+
+/// A link to what is due on some days.
+#[derive(Clone, Copy)]
+struct DaysLink<'a> {
+    from: Day,
+    to: Day,
+    words: &'a str,
+}
+
+impl fmt::Display for DaysLink<'_> {
+    ghost use Rattle.std.specs.Prelude.{Some};
+    ghost use Rattle.html_sheets.specs.Weeks.{days_link};
+
+    ghost output = { λ link. Some (days_link link.from link.to link.words.now) };
+
+    #[tactic(auto, unfolding(crate::specs::Elements::element))]
+    fn fmt<W: fmt::Write>(&self, f: &mut fmt::Formatter<W>) -> fmt::Result {
+        let from = DayText(self.from);
+        let to = DayText(self.to);
+        let words = self.words;
+        write!(f, "<a href=\"/pages/calendar/{from}/{to}\">{words}</a>")
+    }
+}
+
+/// The table of what is due, up to its rows.
+#[tactic(auto, unfolding(crate::specs::Weeks::due_head, crate::specs::Elements::element))]
+fn due_head() -> &'static str
+    ensures { result.now ≡ due_head }
+{
+    "<table>\n<thead>\n<tr><th scope=\"col\">Day</th><th scope=\"col\">Time</th>\
+     <th scope=\"col\">Closing</th><th scope=\"col\">Case</th><th scope=\"col\">Deadline</th>\
+     <th scope=\"col\">Rule</th><th scope=\"col\">Party</th></tr>\n</thead>\n<tbody>\n"
+}
+
+/// What is due from a day to another, up to its rows: the days, links to those a week before and a week
+/// after, and the head of the table.
+pub fn week_head(alloc: Global, from: Day, to: Day) -> Result<String, AllocError>
+    ensures { IfOk result (λ text. string_bytes text ≡ week_head from to) }
+{
+    let before = DaysLink {
+        from: week_before(from),
+        to: week_before(to),
+        words: "Week before",
+    };
+    let after = DaysLink {
+        from: week_after(from),
+        to: week_after(to),
+        words: "Week after",
+    };
+    let from = WeekdayTold(from);
+    let to = WeekdayTold(to);
+    let head = due_head();
+    format!(in alloc; "<p>{from} to {to}</p>\n<nav>{before} {after}</nav>\n{head}")
+}
+
+/// The cells of an end: its day, its time, and when the clerk's office closes on it.
+#[derive(Clone, Copy)]
+struct EndCells<'a> {
+    court: &'a Court,
+    close: u32,
+    end: End,
+}
+
+impl fmt::Display for EndCells<'_> {
+    ghost use Rattle.std.specs.Prelude.{Some};
+    ghost use Rattle.html_sheets.specs.Weeks.{end_of_row};
+
+    ghost output = { λ cells. Some (end_of_row cells.court.now cells.close cells.end) };
+
+    fn fmt<W: fmt::Write>(&self, f: &mut fmt::Formatter<W>) -> fmt::Result {
+        match self.end {
+            End::LastDay(day) => {
+                let day = WeekdayTold(day);
+                let close = shown_minute(self.close);
+                write!(
+                    f,
+                    "<th scope=\"row\" class=\"number\">{day}</th><td class=\"number\">24:00</td><td class=\"number\">{close}</td>"
+                )
+            }
+            End::Moment(at) => {
+                let (day, minute) = self.court.local(shown(at));
+                let day = WeekdayTold(day);
+                let time = ClockText { minute };
+                write!(
+                    f,
+                    "<th scope=\"row\" class=\"number\">{day}</th><td class=\"number\">{time}</td><td class=\"number\">--:--</td>"
+                )
+            }
+        }
+    }
+}
+
+/// The row of a deadline whose time runs: the day, the time and the closing of its end, its case, which
+/// leads to its page, its number there, its rule, and the party whose time it is.
+pub fn due_row(alloc: Global, court: &Court, due: &DueRow) -> Result<String, AllocError>
+    ensures { IfOk result (λ text. string_bytes text ≡ due_row court.now due.now) }
+{
+    let end = EndCells {
+        court,
+        close: due.close,
+        end: due.end,
+    };
+    let case = CaseLink(due.case);
+    let number = due.number;
+    let rule = Told(due.rule.as_str());
+    let party = PartyText(due.party);
+    format!(in alloc;
+        "<tr>{end}<td class=\"number\">{case}</td><td class=\"number\">{number}</td><td>{rule}</td><td class=\"number\">{party}</td></tr>\n"
+    )
+}
+
+/// What ends the table.
+pub fn week_foot() -> &'static str
+    ensures { result.now ≡ week_foot }
+{
+    table_foot()
+}

@@ -1,0 +1,7 @@
+use Rattle.std.proofs.Common.{refl}
+use Rattle.icalendar.specs.ContentLines.{content_line}
+use Rattle.icalendar.proofs.event.calendar_head.Goals as goal
+
+pub returns : goal.returns
+unfolding content_line
+returns c = refl

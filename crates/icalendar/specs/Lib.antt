@@ -1,0 +1,4 @@
+pub mod ContentLines
+pub mod Events
+pub mod Texts
+pub mod Times
