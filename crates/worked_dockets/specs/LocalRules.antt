@@ -81,7 +81,8 @@ ended_locally =
     ∷ keyed (codes "k") (timed_by (codes "LR7.1-mot") 1 (december 26) None)
     ∷ keyed (codes "m") (file 3 (moment (november 29) 0 0) Electronic)
     ∷ keyed (codes "n") (file 4 (moment (november 28) 23 59) Electronic)
-    ∷ keyed (codes "l") (LocalRule (record { name = codes "R7.1"; days = 14; direction = Forward; three = true; extendable = true }))
+    -- a name that does not begin with LR, no days, and three days of service before an event
+    ∷ keyed (codes "l") (LocalRule (record { name = codes "Local7.1"; days = 14; direction = Forward; three = true; extendable = true }))
     ∷ keyed (codes "l") (LocalRule (record { name = codes "LR7.2"; days = 0; direction = Forward; three = true; extendable = true }))
     ∷ keyed (codes "l") (LocalRule (record { name = codes "LR7.2"; days = 14; direction = Backward; three = true; extendable = true }))
     ∷ keyed (codes "l") (timed_by (codes "LR7.1-opp") 1 too_late None)
