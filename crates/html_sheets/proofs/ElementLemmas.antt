@@ -51,10 +51,12 @@ end_parts day time closing =
     let parted : front (number_cell closing) ≡ end_cells day time closing = end_front (weekday_told day) time (number_cell closing) in
     ap front (sym (element-alone (codes "td") (codes " class=\"number\"") closing)) ∙ parted
 
-pub due_parts : (end case number rule party : List ℕ)
-    → codes "<tr>" ++ (end ++ (codes "<td class=\"number\">" ++ (case ++ (codes "</td><td class=\"number\">" ++ (number ++ (codes "</td><td>" ++ (rule ++ (codes "</td><td class=\"number\">" ++ (party ++ codes "</td></tr>\n")))))))))
-    ≡ row (end ++ (number_cell case ++ (number_cell number ++ (cell rule ++ number_cell party))))
-due_parts end case number rule party = simp (append_assoc, element-then) refl
+-- a format takes its first twelve pieces as one
+pub due_parts : (end case number rule party caption : List ℕ)
+    → (codes "<tr>" ++ (end ++ (codes "<td class=\"number\">" ++ (case ++ (codes "</td><td class=\"number\">" ++ (number ++ (codes "</td><td>" ++ (rule ++ (codes "</td><td class=\"number\">" ++ (party ++ (codes "</td><td>" ++ caption)))))))))))
+    ++ codes "</td></tr>\n"
+    ≡ row (end ++ (number_cell case ++ (number_cell number ++ (cell rule ++ (number_cell party ++ cell caption)))))
+due_parts end case number rule party caption = simp (append_assoc, element-then) refl
 
 pub page_parts : (title style heading : List ℕ)
     → codes "<!DOCTYPE html>\n<html lang=\"en\">\n<head>\n<meta charset=\"utf-8\">\n<meta name=\"viewport\" content=\"width=device-width, initial-scale=1\">\n<title>"
@@ -67,6 +69,11 @@ pub page_parts : (title style heading : List ℕ)
     ++ (codes "\n</head>\n<body>\n<main>\n"
     ++ (element (codes "h1") [] heading ++ codes "\n"))))))
 page_parts title style heading = simp element-then refl
+
+pub days_parts : (from to head : List ℕ)
+    → codes "<p>" ++ (from ++ (codes " to " ++ (to ++ (codes "</p>\n" ++ head))))
+    ≡ element (codes "p") [] (from ++ (codes " to " ++ to)) ++ (codes "\n" ++ head)
+days_parts from to head = simp (append_assoc, element-then) refl
 
 pub week_parts : (from to before after head : List ℕ)
     → codes "<p>" ++ (from ++ (codes " to " ++ (to ++ (codes "</p>\n<nav>" ++ (before ++ (codes " " ++ (after ++ (codes "</nav>\n" ++ head))))))))

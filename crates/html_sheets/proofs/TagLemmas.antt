@@ -14,12 +14,14 @@ use Rattle.docket_core.specs.declared.record.DueRow.{DueRow}
 use Rattle.docket_core.specs.declared.row.CaseRow.{CaseRow}
 use Rattle.docket_core.specs.declared.row.EntryRow.{EntryRow}
 use Rattle.docket_core.specs.declared.row.PartyRow.{PartyRow}
-use Rattle.html_sheets.specs.Elements.{element, told, day_told, weekday_told, link, case_link, cell, number_cell, head_cell, row}
+use Rattle.html_sheets.specs.Elements.{element, told, day_told, weekday_told, link, case_link, case_number, cell, number_cell, head_cell, row}
 use Rattle.html_sheets.specs.Escapes.{escaped}
 use Rattle.html_sheets.specs.Marks.{is_mark, marks}
 use Rattle.html_sheets.specs.Pages.{style_text, page_head, case_row}
 use Rattle.html_sheets.specs.Sheets.{said, case_head, parties_head, party_row, parties_table, entries_head, entry_row, entries_table, deadlines_head, deadline_row, deadlines_table, case_sheet}
-use Rattle.html_sheets.specs.Weeks.{week_before, week_after, days_link, due_head, week_head, end_cells, end_of_row, due_row}
+use Rattle.html_sheets.specs.Weeks.{week_before, week_after, days_link, due_columns, days_told, days_head, week_head, end_cells, end_of_row, due_row}
+use Rattle.html_sheets.specs.declared.links.Links.{Links}
+use Rattle.html_sheets.specs.declared.links.Links.TheVariants.{Pages, None}
 use Rattle.html_sheets.proofs.MarkLemmas.{IsBare, decimal_bare, day_bare, close_bare, local_bare, party_bare, role_bare, weekday_bare, standing_bare}
 use Rattle.html_sheets.proofs.TextLemmas.{escaped-marks}
 
@@ -67,6 +69,10 @@ case_links : (a b : ℕ) → Same (case_link a) (case_link b)
 case_links a b =
     let numbers = bare (decimal_bare a) (decimal_bare b) in
     links _ _ _ _ (behind (codes "/pages/cases/") (decimal a) (decimal b) numbers) numbers
+
+case_numbers : (lead : Links) (a b : ℕ) → Same (case_number lead a) (case_number lead b)
+case_numbers Pages a b = case_links a b
+case_numbers None a b = bare (decimal_bare a) (decimal_bare b)
 
 cells : (a b : List ℕ) → Same a b → Same (cell a) (cell b)
 cells a b = within (codes "td") [] [] a b same
@@ -162,11 +168,17 @@ days_links a b c d words =
     (behind (codes "/pages/calendar/") _ _ (both (day_text a) (day_text c) _ _ (bare (day_bare a) (day_bare c)) (behind (codes "/") _ _ (bare (day_bare b) (day_bare d)))))
     same
 
+days_said : (a b c d : ℕ) → Same (days_told a b) (days_told c d)
+days_said a b c d = within (codes "p") [] [] _ _ same (both _ _ _ _ (weekdays a c) (behind (codes " to ") _ _ (weekdays b d)))
+
+pub days_heads : (a b c d : ℕ) → Same (days_head a b) (days_head c d)
+days_heads a b c d = before _ _ (codes "\n" ++ due_columns) (days_said a b c d)
+
 pub week_heads : (a b c d : ℕ) → Same (week_head a b) (week_head c d)
 week_heads a b c d =
-    both _ _ _ _ (within (codes "p") [] [] _ _ same (both _ _ _ _ (weekdays a c) (behind (codes " to ") _ _ (weekdays b d))))
+    both _ _ _ _ (days_said a b c d)
     (behind (codes "\n") _ _
-    (before _ _ (codes "\n" ++ due_head) (within (codes "nav") [] [] _ _ same (
+    (before _ _ (codes "\n" ++ due_columns) (within (codes "nav") [] [] _ _ same (
     both _ _ _ _ (days_links (week_before a) (week_before b) (week_before c) (week_before d) (codes "Week before"))
     (behind (codes " ") _ _ (days_links (week_after a) (week_after b) (week_after c) (week_after d) (codes "Week after")))))))
 
@@ -189,9 +201,10 @@ ends_same court place close late (LastDay day) (Moment at) = ends _ _ _ _ _ _ (b
 ends_same court place close late (Moment at) (LastDay day) = ends _ _ _ _ _ _ (bare (local_bare _ _) midnight) (bare no_closing (close_bare late))
 ends_same court place close late (Moment at) (Moment other) = ends _ _ _ _ _ _ (bare (local_bare _ _) (local_bare _ _)) (bare no_closing no_closing)
 
-pub due_rows : (court place : CourtSettings) (a b : DueRow) → Same (due_row court a) (due_row place b)
-due_rows court place a b = rows _ _ (
+pub due_rows : (lead : Links) (court place : CourtSettings) (a b : DueRow) (caption name : List ℕ) → Same (due_row lead court a caption) (due_row lead place b name)
+due_rows lead court place a b caption name = rows _ _ (
     both _ _ _ _ (ends_same court place a.close b.close a.end b.end)
-    (both _ _ _ _ (number_cells _ _ (case_links a.case b.case))
+    (both _ _ _ _ (number_cells _ _ (case_numbers lead a.case b.case))
     (both _ _ _ _ (number_cells _ _ (bare (decimal_bare a.number) (decimal_bare b.number)))
-    (both _ _ _ _ (cells _ _ (tolds a.rule b.rule)) (number_cells _ _ (bare (party_bare a.party) (party_bare b.party)))))))
+    (both _ _ _ _ (cells _ _ (tolds a.rule b.rule))
+    (both _ _ _ _ (number_cells _ _ (bare (party_bare a.party) (party_bare b.party))) (cells _ _ (tolds caption name)))))))

@@ -5,6 +5,8 @@ use Rattle.civil_time.specs.Civil.{weekday}
 use Rattle.civil_time.specs.DayText.{day_text}
 use Rattle.docket_text.specs.HolidayNames.{weekday_word}
 use Rattle.html_sheets.specs.Escapes.{escaped}
+use Rattle.html_sheets.specs.declared.links.Links.{Links}
+use Rattle.html_sheets.specs.declared.links.Links.TheVariants.{Pages, None}
 
 -- an element of a name: its start tag with its attributes, what it holds, and its end tag
 unfoldable pub element : List ℕ → List ℕ → List ℕ → List ℕ
@@ -29,6 +31,11 @@ link path content = element (codes "a") (codes " href=\"" ++ (path ++ codes "\""
 -- a link to the page of a case, by its number
 abbrev pub case_link : ℕ → List ℕ
 case_link number = link (codes "/pages/cases/" ++ decimal number) (decimal number)
+
+-- a case by its number, which leads to its page where there are pages
+abbrev pub case_number : Links → ℕ → List ℕ
+case_number Pages number = case_link number
+case_number None number = decimal number
 
 -- cells of a row, of texts and of numbers and times, and the one that heads the row
 abbrev pub cell : List ℕ → List ℕ

@@ -9,7 +9,8 @@ use Rattle.court_days.specs.declared.filing.End.TheVariants.{LastDay, Moment}
 use Rattle.docket_core.specs.declared.record.DueRow.{DueRow}
 use Rattle.docket_text.specs.Parties.{party_text}
 use Rattle.docket_text.specs.Times.{shown, shown_minute}
-use Rattle.html_sheets.specs.Elements.{element, told, weekday_told, link, case_link, cell, number_cell, head_cell, row, table_head, table_foot}
+use Rattle.html_sheets.specs.Elements.{element, told, weekday_told, link, case_number, cell, number_cell, head_cell, row, table_head, table_foot}
+use Rattle.html_sheets.specs.declared.links.Links.{Links}
 
 -- seven days earlier and later, within the days that have a date here: 1980-01-01 to 3999-12-31
 unfoldable pub week_before : ℕ → ℕ
@@ -23,18 +24,27 @@ abbrev pub days_link : ℕ → ℕ → List ℕ → List ℕ
 days_link from to content = link (codes "/pages/calendar/" ++ (day_text from ++ (codes "/" ++ day_text to))) content
 
 -- the table of what is due, up to its rows
-unfoldable pub due_head : List ℕ
-due_head = table_head (codes "Day" ∷ codes "Time" ∷ codes "Closing" ∷ codes "Case" ∷ codes "Deadline" ∷ codes "Rule" ∷ codes "Party" ∷ [])
+unfoldable pub due_columns : List ℕ
+due_columns =
+    table_head (codes "Day" ∷ codes "Time" ∷ codes "Closing" ∷ codes "Case" ∷ codes "Deadline" ∷ codes "Rule" ∷ codes "Party" ∷ codes "Caption" ∷ [])
 
--- the days, links to those a week before and a week after, and the table up to its rows
+-- the days
+abbrev pub days_told : ℕ → ℕ → List ℕ
+days_told from to = element (codes "p") [] (weekday_told from ++ (codes " to " ++ weekday_told to))
+
+-- what is due from a day to another, up to its rows: the days, and the table
+abbrev pub days_head : ℕ → ℕ → List ℕ
+days_head from to = days_told from to ++ (codes "\n" ++ due_columns)
+
+-- the same, with links to the days a week before and a week after between them
 abbrev pub week_head : ℕ → ℕ → List ℕ
 week_head from to =
-    element (codes "p") [] (weekday_told from ++ (codes " to " ++ weekday_told to))
+    days_told from to
     ++ (codes "\n"
     ++ (element (codes "nav") [] (
     days_link (week_before from) (week_before to) (codes "Week before")
     ++ (codes " " ++ days_link (week_after from) (week_after to) (codes "Week after")))
-    ++ (codes "\n" ++ due_head)))
+    ++ (codes "\n" ++ due_columns)))
 
 -- the day, the time and the closing of the clerk's office. A last day runs to its midnight for electronic filing, and to the
 -- closing on that day for other filing (Fed. R. Civ. P. 6(a)(4)). The day and the time of an instant are local, and no closing matters
@@ -46,14 +56,16 @@ end_of_row court close (LastDay day) = end_cells day (codes "24:00") (clock_text
 end_of_row court close (Moment at) =
     end_cells (local_day (zone_of court) (shown at)) (clock_text (local_minute (zone_of court) (shown at))) (codes "--:--")
 
--- a deadline whose time runs: its end, its case, which leads to its page, its number there, its rule, and the party whose time it is
-abbrev pub due_row : CourtSettings → DueRow → List ℕ
-due_row court due =
+-- a deadline whose time runs: its end, its case, which leads to its page where there are pages, its number within the case, its
+-- rule, the party whose time it is, and the caption of the case
+abbrev pub due_row : Links → CourtSettings → DueRow → List ℕ → List ℕ
+due_row links court due caption =
     row (end_of_row court due.close due.end
-    ++ (number_cell (case_link due.case)
+    ++ (number_cell (case_number links due.case)
     ++ (number_cell (decimal due.number)
     ++ (cell (told due.rule)
-    ++ number_cell (party_text due.party)))))
+    ++ (number_cell (party_text due.party)
+    ++ cell (told caption))))))
 
 abbrev pub week_foot : List ℕ
 week_foot = table_foot

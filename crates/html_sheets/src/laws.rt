@@ -9,8 +9,9 @@ ghost use Rattle.html_sheets.specs.Escapes.{is_control, blanked_byte, escaped};
 ghost use Rattle.html_sheets.specs.Marks.{marks};
 ghost use Rattle.html_sheets.specs.Pages.{page_head, case_row};
 ghost use Rattle.html_sheets.specs.Sheets.{case_sheet};
-ghost use Rattle.html_sheets.specs.Weeks.{week_head, due_row};
+ghost use Rattle.html_sheets.specs.Weeks.{days_head, week_head, due_row};
 ghost use Rattle.html_sheets.specs.Reading.{begins_reference, read_text};
+ghost use Rattle.html_sheets.specs.declared.links.Links.{Links};
 
 /// A text within a page has none of `<`, `>`, `"` and `'` and no control byte, and each `&` in it begins
 /// one of the five references: it begins and ends no tag and no value of an attribute, whatever it is.
@@ -26,14 +27,16 @@ pub fn texts_are_read_back()
     ensures { (text : List ℕ) → read_text (escaped text) ≡ map blanked_byte text }
 {}
 
-/// The marks of a piece are those of its own tags, whatever the docket says: two heads, two rows, and two
-/// sheets of as many parties, entries and deadlines have the same ones in the same order.
+/// The marks of a piece are those of its own tags, whatever the docket says: two heads, two rows whose
+/// numbers lead to the same, and two sheets of as many parties, entries and deadlines have the same ones
+/// in the same order.
 pub fn tags_are_the_pages_own()
     ensures heads { (title other : List ℕ) → marks (page_head title) ≡ marks (page_head other) }
     ensures cases { (case other : CaseRow) → marks (case_row case) ≡ marks (case_row other) }
     ensures weeks { (from to day later : ℕ) → marks (week_head from to) ≡ marks (week_head day later) }
-    ensures dues { (court place : CourtSettings) (due other : DueRow)
-        → marks (due_row court due) ≡ marks (due_row place other) }
+    ensures days { (from to day later : ℕ) → marks (days_head from to) ≡ marks (days_head day later) }
+    ensures dues { (links : Links) (court place : CourtSettings) (due other : DueRow) (caption name : List ℕ)
+        → marks (due_row links court due caption) ≡ marks (due_row links place other name) }
     ensures sheets { (court place : CourtSettings) (case other : CaseRecord) (deadlines lines : List DeadlineLine)
         → length case.parties ≡ length other.parties → length case.entries ≡ length other.entries
         → length deadlines ≡ length lines

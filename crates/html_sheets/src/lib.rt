@@ -1,6 +1,6 @@
 //! The docket as pages of HTML: the list of cases, the docket sheet of a case, and what is due in a
-//! week. They have no script and take nothing from elsewhere, and a text of the docket stands within
-//! them by its characters alone, whatever it is.
+//! week or on other days. They have no script and take nothing from elsewhere, and a text of the docket
+//! stands within them by its characters alone, whatever it is.
 //!
 //! A page is its head, then the pieces of its content, and its foot. A caller writes them one after
 //! another, so that a long list is never held as one.
@@ -9,14 +9,15 @@
 mod cases;
 mod escape;
 mod laws;
+mod links;
 mod page;
 mod piece;
 mod sheet;
-mod standing;
 mod week;
 
 pub use cases::{case_row, cases_foot, cases_head};
 pub use laws::{tags_are_the_pages_own, texts_are_no_markup, texts_are_read_back};
+pub use links::Links;
 pub use page::{page_foot, page_head};
 pub use sheet::case_sheet;
-pub use week::{due_row, week_foot, week_head};
+pub use week::{due_head, due_row, week_foot, week_head};

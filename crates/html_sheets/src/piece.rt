@@ -3,6 +3,7 @@ ghost use Rattle.std.specs.Prelude.{◌≡◌};
 ghost use Rattle.html_sheets.specs.Elements.{table_foot};
 
 use crate::escape::Escaped;
+use crate::links::Links;
 use court_days::Day;
 use docket_text::{DayText, weekday_word};
 use std::fmt;
@@ -73,6 +74,28 @@ impl fmt::Display for CaseLink {
     fn fmt<W: fmt::Write>(&self, f: &mut fmt::Formatter<W>) -> fmt::Result {
         let number = self.0;
         write!(f, "<a href=\"/pages/cases/{number}\">{number}</a>")
+    }
+}
+
+/// A case by its number, which leads to its page where there are pages.
+#[derive(Clone, Copy)]
+pub(crate) struct CaseNumber {
+    pub(crate) links: Links,
+    pub(crate) number: u32,
+}
+
+impl fmt::Display for CaseNumber {
+    ghost use Rattle.std.specs.Prelude.{Some};
+    ghost use Rattle.html_sheets.specs.Elements.{case_number};
+
+    ghost output = { λ case. Some (case_number case.links case.number) };
+
+    fn fmt<W: fmt::Write>(&self, f: &mut fmt::Formatter<W>) -> fmt::Result {
+        let number = self.number;
+        match self.links {
+            Links::Pages => CaseLink(number).fmt(f),
+            Links::None => write!(f, "{number}"),
+        }
     }
 }
 

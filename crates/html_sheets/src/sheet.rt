@@ -4,10 +4,10 @@ ghost use Rattle.std.specs.List.{flat_map};
 ghost use Rattle.html_sheets.specs.Sheets.{case_head, parties_head, party_row, parties_table, entries_head, entry_row, entries_table, deadlines_head, deadline_row, deadlines_table, case_sheet};
 
 use crate::piece::{DayTold, Told, table_foot};
-use crate::standing::{PartyText, StandingText};
 use court_days::Court;
 use docket_command::Word;
 use docket_core::{CaseRecord, DeadlineLine, EntryRow, PartyRow};
+use docket_text::{PartyText, StandingText};
 use std::alloc::{AllocError, Global};
 
 /// Adds what is said of the case itself.

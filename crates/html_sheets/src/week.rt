@@ -1,12 +1,12 @@
-//! What is due in a week.
+//! What is due in a week, or on other days.
 ghost use Rattle.std.specs.Prelude.{◌≡◌, IfOk, string_bytes};
-ghost use Rattle.html_sheets.specs.Weeks.{week_before, week_after, due_head, week_head, due_row, week_foot};
+ghost use Rattle.html_sheets.specs.Weeks.{week_before, week_after, due_columns, days_head, week_head, due_row, week_foot};
 
-use crate::piece::{CaseLink, Told, WeekdayTold, table_foot};
-use crate::standing::{PartyText, shown_minute};
+use crate::links::Links;
+use crate::piece::{CaseNumber, Told, WeekdayTold, table_foot};
 use court_days::{Court, Day, End};
 use docket_core::DueRow;
-use docket_text::{ClockText, DayText, shown};
+use docket_text::{ClockText, DayText, PartyText, shown, shown_minute};
 use std::alloc::{AllocError, Global};
 use std::fmt;
 
@@ -58,13 +58,24 @@ impl fmt::Display for DaysLink<'_> {
 }
 
 /// The table of what is due, up to its rows.
-#[tactic(auto, unfolding(crate::specs::Weeks::due_head, crate::specs::Elements::element))]
-fn due_head() -> &'static str
-    ensures { result.now ≡ due_head }
+#[tactic(auto, unfolding(crate::specs::Weeks::due_columns, crate::specs::Elements::element))]
+fn due_columns() -> &'static str
+    ensures { result.now ≡ due_columns }
 {
     "<table>\n<thead>\n<tr><th scope=\"col\">Day</th><th scope=\"col\">Time</th>\
      <th scope=\"col\">Closing</th><th scope=\"col\">Case</th><th scope=\"col\">Deadline</th>\
-     <th scope=\"col\">Rule</th><th scope=\"col\">Party</th></tr>\n</thead>\n<tbody>\n"
+     <th scope=\"col\">Rule</th><th scope=\"col\">Party</th><th scope=\"col\">Caption</th></tr>\n\
+     </thead>\n<tbody>\n"
+}
+
+/// What is due from a day to another, up to its rows: the days, and the head of the table.
+pub fn due_head(alloc: Global, from: Day, to: Day) -> Result<String, AllocError>
+    ensures { IfOk result (λ text. string_bytes text ≡ days_head from to) }
+{
+    let from = WeekdayTold(from);
+    let to = WeekdayTold(to);
+    let columns = due_columns();
+    format!(in alloc; "<p>{from} to {to}</p>\n{columns}")
 }
 
 /// What is due from a day to another, up to its rows: the days, links to those a week before and a week
@@ -84,8 +95,8 @@ pub fn week_head(alloc: Global, from: Day, to: Day) -> Result<String, AllocError
     };
     let from = WeekdayTold(from);
     let to = WeekdayTold(to);
-    let head = due_head();
-    format!(in alloc; "<p>{from} to {to}</p>\n<nav>{before} {after}</nav>\n{head}")
+    let columns = due_columns();
+    format!(in alloc; "<p>{from} to {to}</p>\n<nav>{before} {after}</nav>\n{columns}")
 }
 
 /// The cells of an end: its day, its time, and when the clerk's office closes on it.
@@ -126,21 +137,32 @@ impl fmt::Display for EndCells<'_> {
 }
 
 /// The row of a deadline whose time runs: the day, the time and the closing of its end, its case, which
-/// leads to its page, its number there, its rule, and the party whose time it is.
-pub fn due_row(alloc: Global, court: &Court, due: &DueRow) -> Result<String, AllocError>
-    ensures { IfOk result (λ text. string_bytes text ≡ due_row court.now due.now) }
+/// leads to its page where there are pages, its number within the case, its rule, the party whose time it
+/// is, and the caption of the case.
+pub fn due_row(
+    alloc: Global,
+    links: Links,
+    court: &Court,
+    due: &DueRow,
+    caption: &str,
+) -> Result<String, AllocError>
+    ensures { IfOk result (λ text. string_bytes text ≡ due_row links court.now due.now caption.now) }
 {
     let end = EndCells {
         court,
         close: due.close,
         end: due.end,
     };
-    let case = CaseLink(due.case);
+    let case = CaseNumber {
+        links,
+        number: due.case,
+    };
     let number = due.number;
     let rule = Told(due.rule.as_str());
     let party = PartyText(due.party);
+    let caption = Told(caption);
     format!(in alloc;
-        "<tr>{end}<td class=\"number\">{case}</td><td class=\"number\">{number}</td><td>{rule}</td><td class=\"number\">{party}</td></tr>\n"
+        "<tr>{end}<td class=\"number\">{case}</td><td class=\"number\">{number}</td><td>{rule}</td><td class=\"number\">{party}</td><td>{caption}</td></tr>\n"
     )
 }
 

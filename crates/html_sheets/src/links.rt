@@ -1,0 +1,11 @@
+//! Where the numbers of cases lead.
+
+/// Where the numbers of cases lead: to the pages of a docket that is served, or nowhere, for a page that
+/// stands alone.
+#[derive(Clone, Copy, Debug, PartialEq, Eq)]
+pub enum Links {
+    /// To the page of each case.
+    Pages,
+    /// Nowhere.
+    None,
+}
