@@ -7,6 +7,7 @@ pub mod JoinMeans
 pub mod KeyLemmas
 pub mod ListsLemmas
 mod Fronts
+mod GatherLemmas
 mod NextLemmas
 pub mod SendLemmas
 pub mod TellLemmas

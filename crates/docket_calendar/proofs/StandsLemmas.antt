@@ -15,13 +15,14 @@ use Rattle.docket_core.specs.EndRows.{calendar_in}
 use Rattle.docket_core.specs.Histories.{History}
 use Rattle.docket_core.specs.Tables.{rows_of}
 use Rattle.docket_tables.specs.Layouts.{Rows}
-use Rattle.docket_tables.specs.Readings.{Fails, StaysAt}
+use Rattle.docket_tables.specs.Readings.{Fails, Gives, StaysAt, Stays as FoundStays}
 use Rattle.docket_tables.specs.Stands.{HoldsRows, IsSettled, IsLasting}
 use Rattle.docket_tables.specs.declared.fault.ReadFault.{ReadFault}
 use Rattle.docket_tables.specs.declared.fault.ReadFault.TheVariants.{Store, NoMemory, Damaged}
 use Rattle.docket_tables.proofs.StandsLemmas.{unchanged_settled, undone_lasting}
-use Rattle.docket_calendar.specs.Asked.{Lists, RemainsAt}
+use Rattle.docket_calendar.specs.Asked.{Lists, RemainsAfter, RemainsAt}
 use Rattle.docket_calendar.specs.Calendar.{calendar_rows}
+use Rattle.docket_calendar.specs.Gathering.{ComesTo}
 use Rattle.docket_calendar.specs.Question.{question, days_asked}
 use Rattle.docket_calendar.specs.Sending.{LeavesAt, Remains, SendsAll}
 use Rattle.docket_calendar.specs.Telling.{IsHistoryOf, Stays, Tells, history_rows}
@@ -64,6 +65,19 @@ module _ {S : Type 0} (g : Ghosts S) (rows : Rows) (old new : Held S) (was : Hol
   stays (Err (NotBegun fault)) left = stays_at fault (λ clean. left (plainly clean) clean)
   stays (Err (Broken fault)) left = stays_at fault (λ clean. left (plainly clean) clean)
   stays (Err WriteFailed) left = (mode was.0, λ clean. settled clean (left (plainly clean) clean))
+
+  -- the same, where the deadlines come as a list
+  pub found_stays : {X : Type 0} (res : Result X ReadFault) → (IsPlain (understood old.schema question) → HasCleanDisk (state g new) → RemainsAfter g old new res) → FoundStays g new rows res
+  found_stays (Ok x) left = (mode was.0, λ clean. settled clean (left (plainly clean) clean))
+  found_stays (Err fault) left = stays_at fault (λ clean. left (plainly clean) clean)
+
+module _ {S : Type 0} (g : Ghosts S) (court : CourtSettings) (h : History) (old new : Held S) (is : IsHistoryOf court h) (was : HoldsRows g old (history_rows court h))
+    (mode : old.in_transaction ≡ false → new.in_transaction ≡ false) (early : doubt (state g old).is_clean ≤ doubt (state g new).is_clean)
+    (crash : IsPlain (understood old.schema question) → Survives (state g old) (state g new) (λ _. ⊥)) where
+  -- a list that the question came to is given of the tables
+  pub gives : {X : Type 0} (answer : X → Type 0) (res : Result X ReadFault) → (HasCleanDisk (state g new) → ComesTo g old new answer res) → Gives g new (history_rows court h) answer res
+  gives answer (Ok x) comes = ((mode was.0, λ clean. settled g (history_rows court h) old new was mode early crash clean (comes clean).0), λ clean. (comes clean).1)
+  gives answer (Err fault) comes = fails g (history_rows court h) old new was mode early crash fault comes
 
 module _ {S : Type 0} (g : Ghosts S) (court : CourtSettings) (h : History) (from to : ℕ) (front : List ℕ) (u v : Option (List ℕ)) (old new : Held S) (is : IsHistoryOf court h) (was : HoldsRows g old (history_rows court h))
     (mode : old.in_transaction ≡ false → new.in_transaction ≡ false) (early : doubt (state g old).is_clean ≤ doubt (state g new).is_clean)

@@ -50,7 +50,7 @@ module _ {S : Type 0} (g : Ghosts S) where
   err_remains old new stop (Ok x) same left = absurd same
   err_remains old new stop (Err f) same left = subst (RemainsStopped g old new) (sym same) left
 
-  remains_at : (old mid new : Held S) (fault : ReadFault) → IsUnchanged (state g old) (state g mid) → RemainsAt g mid new fault → RemainsAt g old new fault
+  pub remains_at : (old mid new : Held S) (fault : ReadFault) → IsUnchanged (state g old) (state g mid) → RemainsAt g mid new fault → RemainsAt g old new fault
   remains_at old mid new (Store e) same (inl still) = inl (unchanged_then (state g old) (state g mid) (state g new) same still)
   remains_at old mid new (Store e) same (inr undone) = inr (rolled_then (state g old) (state g mid) (state g new) same undone)
   remains_at old mid new NoMemory same still = unchanged_then (state g old) (state g mid) (state g new) same still
@@ -67,7 +67,7 @@ module _ {S : Type 0} (g : Ghosts S) (court : CourtSettings) (listed : List DueR
   pub lists_still : {entered : Entered} (sql : List ℕ) (params : Row) (old now : Held S) → IsUnchanged (state g old) (state g now) → Lists sql params court entered (state g old).now listed → Lists sql params court entered (state g now).now listed
   lists_still {entered} sql params old now same lists = subst (λ (d : Database). Lists sql params court entered d listed) (sym same.0.now_is) lists
 
-  leaves_from : (old now new : Held S) (fault : ReadFault) → IsUnchanged (state g old) (state g now) → LeavesAt g now new fault → LeavesAt g old new fault
+  pub leaves_from : (old now new : Held S) (fault : ReadFault) → IsUnchanged (state g old) (state g now) → LeavesAt g now new fault → LeavesAt g old new fault
   leaves_from old now new (Store e) same (inl still) = inl (unchanged_then (state g old) (state g now) (state g new) same still)
   leaves_from old now new (Store e) same (inr undone) = inr (rolled_then (state g old) (state g now) (state g new) same undone)
   leaves_from old now new NoMemory same still = unchanged_then (state g old) (state g now) (state g new) same still

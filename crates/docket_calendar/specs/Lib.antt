@@ -1,6 +1,7 @@
 pub mod Asked
 pub mod Calendar
 pub mod DueCells
+pub mod Gathering
 pub mod Joined
 pub mod Question
 pub mod Sending

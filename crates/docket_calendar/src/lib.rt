@@ -4,8 +4,10 @@
 //! `calendar` asks one question, whose rows come in the order of the calendar, and writes each line
 //! before it reads the next row: its memory does not grow with the lines. Its contract speaks of the
 //! history that the tables stand for: what is written is `docket_text`'s calendar of its deadlines.
+//! `due_rows` gives the same deadlines as values.
 #![tactic(auto)]
 
+mod gathering;
 mod laws;
 mod next;
 mod row;
@@ -13,6 +15,7 @@ mod sending;
 mod stop;
 mod telling;
 
+pub use gathering::due_rows;
 pub use laws::calendars_are_in_order;
 pub use stop::Stop;
 pub use telling::calendar;

@@ -29,7 +29,7 @@ use std::io::Write;
 
 /// The deadlines whose time runs to a day of a range, in the order of the calendar. The index of `due`
 /// gives the range and the order, so that no row is sorted or kept.
-fn question() -> &'static str
+pub(crate) fn question() -> &'static str
     ensures { result.now ≡ question }
 {
     "SELECT due.day, due.moment, due.case_no, due.deadline_no, deadline.party, deadline.rule FROM due JOIN deadline ON deadline.case_no = due.case_no AND deadline.number = due.deadline_no WHERE due.day >= ?1 AND due.day <= ?2 ORDER BY due.day, due.moment, due.case_no, due.deadline_no"

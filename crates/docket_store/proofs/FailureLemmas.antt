@@ -37,6 +37,11 @@ caused_by_after first old new failure StoreFailed counts limit cause = (cause.0,
 caused_by_after first old new failure Closed counts limit cause = tt
 caused_by_after first old new failure Damaged counts limit cause = tt
 
+pub caused_later : {X : Type 0} (first old new : State) (failure : Option Error) (result : Result X Fault) → first.faults ≤ old.faults → old.step_limit ≡ first.step_limit → IfErr result (IsCausedBy old new failure)
+    → IfErr result (IsCausedBy first new failure)
+caused_later first old new failure (Ok x) counts limit cause = tt
+caused_later first old new failure (Err fault) counts limit cause = caused_by_after first old new failure fault counts limit cause
+
 -- the fault of a part is that of the whole
 pub err_caused_by : {X : Type 0} (old new : State) (failure : Option Error) (fault : Fault) (result : Result X Fault) → IsErrAnd result (λ f. f ≡ fault) → IsCausedBy old new failure fault → IfErr result (IsCausedBy old new failure)
 err_caused_by old new failure fault (Ok x) same cause = absurd same

@@ -8,6 +8,7 @@ mod applying;
 mod asking;
 mod creating;
 mod docket;
+mod due;
 mod explaining;
 mod fault;
 mod judging;

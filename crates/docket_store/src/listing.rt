@@ -24,7 +24,7 @@ use sqlite::{Alter, Connection, Error};
 use std::alloc::Global;
 use std::io::Write;
 
-/// Why a calendar was not written whole.
+/// Why a calendar, or another text that is written while the docket is read, was not written whole.
 #[derive(Clone, Copy, Debug, PartialEq, Eq)]
 pub enum CalendarEnd {
     /// The docket gave no more of it. A front of the text went out.

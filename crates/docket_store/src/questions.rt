@@ -8,6 +8,7 @@ ghost use Rattle.sqlite.specs.View.{doubt};
 ghost use Rattle.sqlite.specs.declared.error.Error.{Error as Failure};
 ghost use Rattle.court_days.specs.Court.{zone_of};
 ghost use Rattle.court_rules.specs.Standings.{AreActs};
+ghost use Rattle.docket_calendar.specs.Calendar.{calendar_rows as due_rows};
 ghost use Rattle.docket_core.specs.Histories.{History, case_rows, local_rule_rows, parties_of_case, party_rows, standing_rows};
 ghost use Rattle.docket_core.specs.Records.{case_at, case_labelled, case_record, deadline_lines};
 ghost use Rattle.docket_tables.specs.Layouts.{Rows};
@@ -26,12 +27,13 @@ ghost use Rattle.docket_store.specs.declared.listing.ListingEnd.TheVariants as l
 
 use crate::asking::lines_numbered;
 use crate::docket::Docket;
+use crate::due::due_days;
 use crate::explaining::{Grounds, grounds_of};
 use crate::fault::{Fault, closing_error, read_fault};
 use crate::listing::{CalendarEnd, ListingEnd, breaking_error, list_days};
 use court_days::Day;
 use docket_changes::case_record;
-use docket_core::{CalendarRow, CaseRecord, CaseRow, DeadlineLine, LocalRuleRow, PartyRow};
+use docket_core::{CalendarRow, CaseRecord, CaseRow, DeadlineLine, DueRow, LocalRuleRow, PartyRow};
 use docket_tables::{ReadFault, calendar, case, case_labelled, local_rules, parties};
 use sqlite::{Alter, Connection, Error};
 use std::io::Write;
@@ -243,6 +245,32 @@ impl<S: Alter> Docket<S> {
         }
         let found = calendar(&mut self.conn, self.alloc);
         told(&mut self.conn, &mut self.closed_by, found)
+    }
+
+    /// The deadlines of the docket whose time runs to a day from one to another, both included, in the order
+    /// of the calendar. All of them are held at once.
+    pub fn due_rows(&mut self, from: Day, to: Day) -> Result<Vec<DueRow>, Fault>
+        ensures court { self.new.court ≡ self.old.court }
+        ensures answer { (h : History) → Stands S.Store self.old h
+            → Asks S.Store self.new h (λ found. found.items ≡ due_rows self.old.court h from to) result }
+        ensures closed { self.old.closed ≡ true → (result ≡ Err fault.Closed) × (self.new ≡ self.old) }
+        // Of any docket, no row changes.
+        ensures stays { (rows : Rows) → HoldsRows S.Store self.old.conn rows → Preserves S.Store self.new.conn rows result }
+        ensures clean { doubt (state S.Store self.old.conn).is_clean ≤ doubt (state S.Store self.new.conn).is_clean }
+        ensures closes { self.old.closed ≡ false → (self.new.closed ≡ true) ↔ (result ≡ Err fault.StoreFailed) }
+        // The database fails only for a cause.
+        ensures cause { (rows : Rows) → HoldsRows S.Store self.old.conn rows → HasCleanDisk (state S.Store self.new.conn)
+            → result ≡ Err fault.StoreFailed → IsClosedForCause S.Store self.old self.new }
+    {
+        if self.closed_by.is_some() {
+            return Err(Fault::Closed);
+        }
+        let conn = &mut self.conn;
+        let kept = &mut self.calendar;
+        let mut failure = None;
+        let answer = due_days(conn, self.alloc, &self.court, kept, from, to, &mut failure);
+        self.closed_by = closing_error(&answer, failure);
+        answer
     }
 
     /// Writes the bytes, then the calendar of the days from one to another, both included, and counts
