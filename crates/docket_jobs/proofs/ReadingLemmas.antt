@@ -8,15 +8,15 @@ use Rattle.clap.specs.Walk.{Text}
 use Rattle.clap.specs.declared.error.Error.{Error}
 use Rattle.clap.specs.declared.error.kind.ErrorKind.TheVariants.{ValueValidation}
 use Rattle.clap.specs.declared.parser.matches.ArgMatches.{ArgMatches}
-use Rattle.docket_jobs.specs.CommandLine.{docketctl, bare_line, count_line, create_line, run_line, import_line, case_line, cases_line, calendar_line, explain_line, check_line, migrate_line, serve_line, rules_line, holidays_line}
+use Rattle.docket_jobs.specs.CommandLine.{docketctl, bare_line, count_line, create_line, run_line, import_line, case_line, cases_line, calendar_line, export_line, explain_line, check_line, backup_line, migrate_line, serve_line, rules_line, holidays_line}
 use Rattle.docket_jobs.specs.Jobs.{Asked, asked_in, asked_of, line_faults}
 
 is_free : is_simple_and_free docketctl ≡ true
-unfolding docketctl bare_line count_line create_line run_line import_line case_line cases_line calendar_line explain_line check_line migrate_line serve_line rules_line holidays_line
+unfolding docketctl bare_line count_line create_line run_line import_line case_line cases_line calendar_line export_line explain_line check_line backup_line migrate_line serve_line rules_line holidays_line
 is_free = refl
 
 is_plain : is_simple docketctl ≡ true
-unfolding docketctl bare_line count_line create_line run_line import_line case_line cases_line calendar_line explain_line check_line migrate_line serve_line rules_line holidays_line
+unfolding docketctl bare_line count_line create_line run_line import_line case_line cases_line calendar_line export_line explain_line check_line backup_line migrate_line serve_line rules_line holidays_line
 is_plain = refl
 
 pub free_line : (line : App) → line ≡ docketctl → is_simple_and_free line ≡ true

@@ -57,11 +57,18 @@ cases_line = with_rule (with_rule (with_rule (new_app (codes "cases")) (required
 unfoldable pub calendar_line : App
 calendar_line = with_rule (with_rule (with_rule (new_app (codes "calendar")) (required file_rule)) (place_rule (codes "from"))) (place_rule (codes "to"))
 
+unfoldable pub export_line : App
+export_line =
+    with_rule (with_rule (with_rule (with_rule (with_rule (new_app (codes "export")) (required file_rule)) (required (option_rule (codes "as")))) (option_rule (codes "case"))) (optional (place_rule (codes "from")))) (optional (place_rule (codes "to")))
+
 unfoldable pub explain_line : App
 explain_line = with_rule (with_rule (with_rule (new_app (codes "explain")) file_rule) (optional (place_rule (codes "case")))) (optional (place_rule (codes "deadline")))
 
 unfoldable pub check_line : App
 check_line = with_rule (new_app (codes "check")) (required file_rule)
+
+unfoldable pub backup_line : App
+backup_line = with_rule (with_rule (new_app (codes "backup")) (required file_rule)) (required (option_rule (codes "to")))
 
 unfoldable pub migrate_line : App
 migrate_line = with_rule (new_app (codes "migrate")) (required file_rule)
@@ -81,8 +88,8 @@ bare_line = on_top (λ top. record top { has_version = true }) (new_app (codes "
 
 unfoldable pub docketctl : App
 docketctl =
-    with_subcommand (with_subcommand (with_subcommand (with_subcommand (with_subcommand (with_subcommand (with_subcommand (with_subcommand (with_subcommand (with_subcommand (with_subcommand (with_subcommand (with_subcommand
-    bare_line count_line.top) create_line.top) run_line.top) import_line.top) case_line.top) cases_line.top) calendar_line.top) explain_line.top) check_line.top) migrate_line.top) serve_line.top) rules_line.top) holidays_line.top
+    with_subcommand (with_subcommand (with_subcommand (with_subcommand (with_subcommand (with_subcommand (with_subcommand (with_subcommand (with_subcommand (with_subcommand (with_subcommand (with_subcommand (with_subcommand (with_subcommand (with_subcommand
+    bare_line count_line.top) create_line.top) run_line.top) import_line.top) case_line.top) cases_line.top) calendar_line.top) export_line.top) explain_line.top) check_line.top) backup_line.top) migrate_line.top) serve_line.top) rules_line.top) holidays_line.top
 
 -- the command has this line, and no option for its subcommands too
 abbrev pub HasLine : App → Command → Type 0

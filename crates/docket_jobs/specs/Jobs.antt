@@ -15,6 +15,8 @@ use Rattle.civil_time.specs.Reading.{time_of_day_at}
 use Rattle.civil_time.specs.Zone.{ZoneRules}
 use Rattle.civil_time.specs.ZoneText.{zone_at}
 use Rattle.court_days.specs.Court.{CourtSettings}
+use Rattle.due_exports.specs.declared.form.Form.{Form}
+use Rattle.due_exports.specs.declared.form.Form.TheVariants as form
 use Rattle.docket_jobs.specs.CommandLine.{docketctl}
 use Rattle.docket_jobs.specs.declared.job.Job.{Job}
 use Rattle.docket_jobs.specs.declared.job.Job.TheVariants as job
@@ -29,9 +31,12 @@ pub data Asked : Type 0 where
   to_tell_case : Text → ℕ → Asked
   to_tell_cases : Text → Option Text → Option Text → Asked
   to_tell_calendar : Text → ℕ → ℕ → Asked
+  to_export : Text → ℕ → ℕ → Form → Asked
+  to_tell_sheet : Text → ℕ → Asked
   to_explain : Text → ℕ → ℕ → Asked
   to_explain_lines : Asked
   to_check : Text → Asked
+  to_back_up : Text → Text → Asked
   to_migrate : Text → Asked
   to_serve : Text → ℕ → ℕ → Asked
   to_tell_rules : Option Text → Asked
@@ -47,9 +52,12 @@ asked (job.Import file key) = to_import file.now key.now
 asked (job.Case file number) = to_tell_case file.now number
 asked (job.Cases file label party) = to_tell_cases file.now (option_copied label) (option_copied party)
 asked (job.Calendar file from to) = to_tell_calendar file.now from to
+asked (job.Export file from to form) = to_export file.now from to form
+asked (job.Sheet file number) = to_tell_sheet file.now number
 asked (job.Explain file case deadline) = to_explain file.now case deadline
 asked job.ExplainLines = to_explain_lines
 asked (job.Check file) = to_check file.now
+asked (job.Backup file to) = to_back_up file.now to.now
 asked (job.Migrate file) = to_migrate file.now
 asked (job.Serve file port count) = to_serve file.now port count
 asked (job.Rules file) = to_tell_rules (option_copied file)
@@ -133,6 +141,32 @@ days_asked ask from to = days_if ask (day_of_text from) (day_of_text to)
 abbrev pub calendar_asked : List Row → Option Asked
 calendar_asked found = days_asked (to_tell_calendar (value_of (codes "db") found)) (value_of (codes "from") found) (value_of (codes "to") found)
 
+-- the format that a word names
+abbrev pub form_of : Text → Option Form
+form_of name =
+    if bytes_eq name (codes "ics") then Some form.Calendar
+    else (if bytes_eq name (codes "html") then Some form.Html
+    else (if bytes_eq name (codes "csv") then Some form.Csv
+    else (if bytes_eq name (codes "json") then Some form.Json
+    else None)))
+
+-- the docket sheet of a case, which is a page
+abbrev pub sheet_if : Text → Text → Form → Option Asked
+sheet_if file case form.Html = option_map (to_tell_sheet file) (number_of case)
+sheet_if file case _ = None
+
+-- a case goes without days, and without a case go both
+abbrev pub export_if : Text → Option Text → Option Text → Option Text → Form → Option Asked
+export_if file (Some case) None None form = sheet_if file case form
+export_if file None (Some from) (Some to) form = days_asked (λ from to. to_export file from to form) from to
+export_if file _ _ _ form = None
+
+abbrev pub export_asked : List Row → Option Asked
+export_asked found =
+    option_and_then
+    (export_if (value_of (codes "db") found) (first_of (codes "case") found) (first_of (codes "from") found) (first_of (codes "to") found))
+    (form_of (value_of (codes "as") found))
+
 abbrev pub explain_numbers : Text → Option ℕ → Option ℕ → Option Asked
 explain_numbers file (Some case) (Some deadline) = Some (to_explain file case deadline)
 explain_numbers file _ _ = None
@@ -148,6 +182,9 @@ explain_asked found = explain_if (first_of (codes "db") found) (first_of (codes 
 
 abbrev pub check_asked : List Row → Asked
 check_asked found = to_check (value_of (codes "db") found)
+
+abbrev pub backup_asked : List Row → Asked
+backup_asked found = to_back_up (value_of (codes "db") found) (value_of (codes "to") found)
 
 abbrev pub migrate_asked : List Row → Asked
 migrate_asked found = to_migrate (value_of (codes "db") found)
@@ -183,13 +220,15 @@ asked_by name found =
     else (if bytes_eq name (codes "case") then case_asked found
     else (if bytes_eq name (codes "cases") then Some (cases_asked found)
     else (if bytes_eq name (codes "calendar") then calendar_asked found
+    else (if bytes_eq name (codes "export") then export_asked found
     else (if bytes_eq name (codes "explain") then explain_asked found
     else (if bytes_eq name (codes "check") then Some (check_asked found)
+    else (if bytes_eq name (codes "backup") then Some (backup_asked found)
     else (if bytes_eq name (codes "migrate") then Some (migrate_asked found)
     else (if bytes_eq name (codes "serve") then serve_asked found
     else (if bytes_eq name (codes "rules") then Some (rules_asked found)
     else (if bytes_eq name (codes "holidays") then holidays_asked found
-    else Some to_count)))))))))))
+    else Some to_count)))))))))))))
 
 -- with no subcommand docketctl counts
 abbrev pub asked_in : Option (Text × List Row) → Option Asked

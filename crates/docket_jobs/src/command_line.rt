@@ -2,11 +2,12 @@
 ghost use Rattle.std.specs.Prelude.{◌≡◌, false, IfOk};
 ghost use Rattle.clap.specs.Walk.{rule_of};
 ghost use Rattle.clap.specs.Simple.{new_app};
-ghost use Rattle.docket_jobs.specs.CommandLine.{option_rule, required, optional, with_default, place_rule, HasLine, count_line, create_line, run_line, import_line, case_line, cases_line, calendar_line, explain_line, check_line, migrate_line, serve_line, rules_line, holidays_line, bare_line, docketctl};
+ghost use Rattle.docket_jobs.specs.CommandLine.{option_rule, required, optional, with_default, place_rule, HasLine, count_line, create_line, run_line, import_line, case_line, cases_line, calendar_line, export_line, explain_line, check_line, backup_line, migrate_line, serve_line, rules_line, holidays_line, bare_line, docketctl};
 
 use crate::help::{
-    CALENDAR_HELP, CASE_HELP, CASES_HELP, CHECK_HELP, COUNT_HELP, CREATE_HELP, EXPLAIN_HELP,
-    HOLIDAYS_HELP, IMPORT_HELP, MIGRATE_HELP, PROGRAM_HELP, RULES_HELP, RUN_HELP, SERVE_HELP,
+    BACKUP_HELP, CALENDAR_HELP, CASE_HELP, CASES_HELP, CHECK_HELP, COUNT_HELP, CREATE_HELP,
+    EXPLAIN_HELP, EXPORT_HELP, HOLIDAYS_HELP, IMPORT_HELP, MIGRATE_HELP, PROGRAM_HELP, RULES_HELP,
+    RUN_HELP, SERVE_HELP,
 };
 use clap::{Arg, ArgAction, Command};
 use std::alloc::{AllocError, Global};
@@ -200,6 +201,32 @@ fn calendar_command<'a>(alloc: Global) -> Result<Command<'a>, AllocError>
     .arg(to)
 }
 
+fn export_command<'a>(alloc: Global) -> Result<Command<'a>, AllocError>
+    ensures { IfOk result (HasLine export_line) }
+{
+    let file = needed_option(alloc, "db", "FILE", FILE_TEXT);
+    let form = needed_option(alloc, "as", "FORM", "The format: ics, html, csv or json");
+    let case = option(
+        alloc,
+        "case",
+        "NUMBER",
+        "Instead of days, the docket sheet of the case with this number",
+    );
+    let from = optional_place(alloc, "from", "FROM", "The first day, as 2027-01-01");
+    let to = optional_place(alloc, "to", "TO", "The last day");
+    subcommand(
+        alloc,
+        "export",
+        "Tell what falls due, or a docket sheet, in a format of other programs",
+        EXPORT_HELP,
+    )
+    .arg(file)?
+    .arg(form)?
+    .arg(case)?
+    .arg(from)?
+    .arg(to)
+}
+
 fn explain_command<'a>(alloc: Global) -> Result<Command<'a>, AllocError>
     ensures { IfOk result (HasLine explain_line) }
 {
@@ -228,6 +255,26 @@ fn check_command<'a>(alloc: Global) -> Result<Command<'a>, AllocError>
         CHECK_HELP,
     )
     .arg(file)
+}
+
+fn backup_command<'a>(alloc: Global) -> Result<Command<'a>, AllocError>
+    ensures { IfOk result (HasLine backup_line) }
+{
+    let file = needed_option(alloc, "db", "FILE", FILE_TEXT);
+    let to = needed_option(
+        alloc,
+        "to",
+        "COPY",
+        "The file of the copy, which must not be there yet",
+    );
+    subcommand(
+        alloc,
+        "backup",
+        "Copy a docket to another file",
+        BACKUP_HELP,
+    )
+    .arg(file)?
+    .arg(to)
 }
 
 fn migrate_command<'a>(alloc: Global) -> Result<Command<'a>, AllocError>
@@ -326,8 +373,10 @@ pub(crate) fn command<'a>(alloc: Global) -> Result<Command<'a>, AllocError>
         .subcommand(case_command(alloc)?)?
         .subcommand(cases_command(alloc)?)?
         .subcommand(calendar_command(alloc)?)?
+        .subcommand(export_command(alloc)?)?
         .subcommand(explain_command(alloc)?)?
         .subcommand(check_command(alloc)?)?
+        .subcommand(backup_command(alloc)?)?
         .subcommand(migrate_command(alloc)?)?
         .subcommand(serve_command(alloc)?)?
         .subcommand(rules_command(alloc)?)?

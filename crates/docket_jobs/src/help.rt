@@ -36,10 +36,12 @@ With no command, docketctl counts. A docket in a file is made, kept and read lik
   docketctl case --db court.db 1
   docketctl cases --db court.db
   docketctl calendar --db court.db 2027-01-01 2027-12-31
+  docketctl export --db court.db 2027-01-01 2027-12-31 --as ics
   docketctl holidays --db court.db 2027-01-01 2027-12-31
   docketctl explain --db court.db 1 1
   docketctl rules --db court.db
   docketctl check --db court.db
+  docketctl backup --db court.db --to copy.db
 One of an older program is taken further, once:
   docketctl migrate --db court.db
 It is served to programs of this machine by HTTP:
@@ -129,6 +131,24 @@ FROM and TO are days from 1980-01-01 to 3999-12-31, and TO is not before FROM.
 
 Exit status: 0 the calendar was told, 2 bad command line, 3 writing, memory or the database failed.";
 
+pub(crate) const EXPORT_HELP: &str = "\
+The deadlines of `docketctl calendar`, those that run and fall due from FROM to TO, both included, are
+told in the format that FORM names:
+  ics   iCalendar (RFC 5545): an event a deadline, a last day as a date and a moment as UTC, with why
+        the deadline is what it is in the description
+  html  a page that prints well
+  csv   comma-separated values (RFC 4180): a header record, and a record a deadline
+  json  an array of objects, one a deadline
+  docketctl export --db court.db 2025-07-01 2025-07-31 --as ics > july.ics
+FROM and TO are days from 1980-01-01 to 3999-12-31, and TO is not before FROM.
+
+With --case, and without FROM and TO, the docket sheet of a case is told, as a page alone:
+  docketctl export --db court.db --case 1 --as html > case-1.html
+NUMBER is from 1 to 4294967295, without a leading zero.
+
+Exit status: 0 the deadlines or the sheet were told, 1 there is no such case, 2 bad command line,
+3 writing, memory or the database failed.";
+
 pub(crate) const EXPLAIN_HELP: &str = "\
 Each step by which the end of a deadline was found has a line, with the rule of the Federal Rules of
 Civil Procedure that it follows: what began the time, the day that it was counted to, each day passed
@@ -172,6 +192,18 @@ limits, or store an end of a deadline other than the rules give:
 
 Exit status: 0 the tables are sound, 2 bad command line, 3 they are not, or there is no docket, or
 writing, memory or the database failed.";
+
+pub(crate) const BACKUP_HELP: &str = "\
+The docket in FILE is copied whole to COPY, a file that must not be there yet:
+  docketctl backup --db court.db --to copy.db
+  copied
+The docket is held while it is copied, so that no command comes between, and the copy is synced to the
+disk before it is told. It is never put over a file that is there. A docket that another program serves
+is told as in use, and then there is no copy. `docketctl check` tells whether the tables of a copy are
+sound.
+
+Exit status: 0 the docket was copied, 2 bad command line, 3 it was not, which standard error says in
+one line.";
 
 pub(crate) const MIGRATE_HELP: &str = "\
 A docket that an older program made is in version 1 of the tables, which no other command takes. Back

@@ -1,21 +1,22 @@
 //! What a command line asks for.
-ghost use Rattle.std.specs.Prelude.{◌≡◌, ℕ, IfOk, MatchResult, None, Some, map, option_map, string_bytes};
+ghost use Rattle.std.specs.Prelude.{◌≡◌, IfOk, MatchResult, None, Some, map, string_bytes};
 ghost use Rattle.clap.specs.Kinds.{FailsBy};
 ghost use Rattle.clap.specs.Matches.{found_of};
 ghost use Rattle.clap.specs.Simple.{subcommand_rows_of};
 ghost use Rattle.clap.specs.Values.{kind_of};
 ghost use Rattle.clap.specs.Walk.{rows_of};
-ghost use Rattle.civil_time.specs.DayText.{day_of_text};
-ghost use Rattle.docket_jobs.specs.Jobs.{Asked, IsLimited, asked, asked_by, asked_in, asked_of, calendar_asked, case_asked, cases_asked, check_asked, court_asked, create_asked, days_asked, explain_asked, explain_numbers, holidays_asked, import_asked, line_faults, migrate_asked, number_of, rules_asked, run_asked, serve_asked, to_tell_court_calendar, to_tell_holidays, value_of, year_of};
+ghost use Rattle.docket_jobs.specs.Jobs.{IsLimited, asked, asked_by, asked_in, asked_of, backup_asked, case_asked, cases_asked, check_asked, court_asked, create_asked, explain_asked, explain_numbers, import_asked, line_faults, migrate_asked, number_of, rules_asked, run_asked, serve_asked};
 
 use crate::command_line::command;
-use crate::number::{read_count, read_number, read_port, read_year};
-use civil_time::{Day, read_day};
+use crate::day_jobs::{calendar_job, export_job, holidays_job};
+use crate::number::{read_count, read_number, read_port};
+use crate::value::{BadValue, value};
+use civil_time::Day;
 use clap::error::ErrorKind;
 use clap::{ArgMatches, Command, Error};
 use court_days::{Court, CourtFault};
+use due_exports::Form;
 use std::alloc::{AllocError, Global};
-use std::fmt;
 
 /// What the program is to do.
 #[derive(Debug, Drop)]
@@ -59,6 +60,19 @@ pub enum Job<'a> {
         from: Day,
         to: Day,
     },
+    /// `export`: tell the deadlines that fall due from one day to another, which is not before it, of the
+    /// docket in a file, in a format.
+    Export {
+        file: &'a str,
+        from: Day,
+        to: Day,
+        form: Form,
+    },
+    /// `export` of a case: tell its docket sheet as a page, of a number from 1 on, of the docket in a file.
+    Sheet {
+        file: &'a str,
+        number: u32,
+    },
     /// `explain` with a file: tell the steps by which the end of a deadline of a case was found, of numbers
     /// from 1 on, of the docket in a file.
     Explain {
@@ -72,6 +86,11 @@ pub enum Job<'a> {
     /// `check`: tell whether the tables of the docket in a file are sound.
     Check {
         file: &'a str,
+    },
+    /// `backup`: copy the docket in a file to another, which must not be there.
+    Backup {
+        file: &'a str,
+        to: &'a str,
     },
     /// `migrate`: take the docket in a file from the first version of its tables to the second.
     Migrate {
@@ -100,63 +119,6 @@ pub enum Job<'a> {
         from: Day,
         to: Day,
     },
-}
-
-/// A value of the command line that lies outside its limits.
-#[derive(Drop)]
-enum BadValue<'a> {
-    Zone(&'a str),
-    Close(&'a str),
-    Number,
-    Numbers,
-    Places,
-    Day,
-    Range,
-    Port,
-    Count,
-    Year,
-    Days,
-}
-
-impl fmt::Display for BadValue<'_> {
-    fn fmt<W: fmt::Write>(&self, f: &mut fmt::Formatter<W>) -> fmt::Result {
-        match self {
-            BadValue::Zone(zone) => {
-                write!(
-                    f,
-                    "--zone {zone:?} is no zone, as EST5EDT,M3.2.0,M11.1.0 is"
-                )
-            }
-            BadValue::Close(close) => {
-                write!(f, "--close {close:?} is no time from 00:00 to 23:59")
-            }
-            BadValue::Number => f.write_str(
-                "NUMBER is a number from 1 to 4294967295, without a leading zero",
-            ),
-            BadValue::Numbers => f.write_str(
-                "CASE and DEADLINE are numbers from 1 to 4294967295, without a leading zero",
-            ),
-            BadValue::Places => f.write_str("CASE and DEADLINE go with --db, and --db with both"),
-            BadValue::Day => f.write_str(
-                "FROM and TO are days from 1980-01-01 to 3999-12-31, as 2027-04-19",
-            ),
-            BadValue::Range => f.write_str("FROM is after TO"),
-            BadValue::Port => f.write_str("P is a port from 0 to 65535, without a leading zero"),
-            BadValue::Count => f.write_str(
-                "N is a number from 1 to 1000000, without a leading zero",
-            ),
-            BadValue::Year => f.write_str("YEAR is a year from 2000 to 2099"),
-            BadValue::Days => f.write_str("YEAR goes alone, and --db with FROM and TO"),
-        }
-    }
-}
-
-/// The value of an option or a place. There is one, since clap asks for it or has a default.
-#[tactic(auto, using(crate::proofs::MatchLemmas::first_value_or))]
-fn value<'a>(found: &ArgMatches<'a>, id: &str) -> &'a str
-    ensures { result.now ≡ value_of id.now (rows_of (found_of found.now)) }
-{
-    found.get_str(id).unwrap_or("")
 }
 
 /// The court that the zone and the closing time spell, unless memory runs out.
@@ -241,31 +203,6 @@ fn cases_job<'a>(found: &ArgMatches<'a>) -> Job<'a>
     }
 }
 
-/// The days that the texts name, the second not before the first.
-fn days<'a>(from: &str, to: &str) -> Result<(Day, Day), BadValue<'a>>
-    ensures { (ask : ℕ → ℕ → Asked) → MatchResult result (λ days. days_asked ask from.now to.now ≡ Some (ask days.0 days.1))
-        (λ _. days_asked ask from.now to.now ≡ None) }
-{
-    let from = read_day(from.as_bytes()).ok_or(BadValue::Day)?;
-    let to = read_day(to.as_bytes()).ok_or(BadValue::Day)?;
-    if to < from {
-        return Err(BadValue::Range);
-    }
-    Ok((from, to))
-}
-
-fn calendar_job<'a>(found: &ArgMatches<'a>) -> Result<Job<'a>, BadValue<'a>>
-    ensures { MatchResult result (λ job. calendar_asked (rows_of (found_of found.now)) ≡ Some (asked job))
-        (λ _. calendar_asked (rows_of (found_of found.now)) ≡ None) }
-{
-    let (from, to) = days(value(found, "from"), value(found, "to"))?;
-    Ok(Job::Calendar {
-        file: value(found, "db"),
-        from,
-        to,
-    })
-}
-
 fn stored_job<'a>(file: &'a str, case: &str, deadline: &str) -> Result<Job<'a>, BadValue<'a>>
     ensures { MatchResult result (λ job. explain_numbers file.now (number_of case.now) (number_of deadline.now) ≡ Some (asked job))
         (λ _. explain_numbers file.now (number_of case.now) (number_of deadline.now) ≡ None) }
@@ -301,6 +238,14 @@ fn check_job<'a>(found: &ArgMatches<'a>) -> Job<'a>
     }
 }
 
+fn backup_job<'a>(found: &ArgMatches<'a>) -> Job<'a>
+    ensures { asked result ≡ backup_asked (rows_of (found_of found.now)) }
+{
+    let file = value(found, "db");
+    let to = value(found, "to");
+    Job::Backup { file, to }
+}
+
 fn migrate_job<'a>(found: &ArgMatches<'a>) -> Job<'a>
     ensures { asked result ≡ migrate_asked (rows_of (found_of found.now)) }
 {
@@ -331,39 +276,6 @@ fn rules_job<'a>(found: &ArgMatches<'a>) -> Job<'a>
     }
 }
 
-fn year_job<'a>(year: &str) -> Result<Job<'a>, BadValue<'a>>
-    ensures limited { IfOk result IsLimited }
-    ensures job { MatchResult result (λ job. option_map to_tell_holidays (year_of year.now) ≡ Some (asked job))
-        (λ _. option_map to_tell_holidays (year_of year.now) ≡ None) }
-{
-    let year = read_year(year).ok_or(BadValue::Year)?;
-    Ok(Job::Holidays { year })
-}
-
-fn court_calendar_job<'a>(file: &'a str, from: &str, to: &str) -> Result<Job<'a>, BadValue<'a>>
-    ensures limited { IfOk result IsLimited }
-    ensures job { MatchResult result (λ job. days_asked (to_tell_court_calendar file.now) from.now to.now ≡ Some (asked job))
-        (λ _. days_asked (to_tell_court_calendar file.now) from.now to.now ≡ None) }
-{
-    let (from, to) = days(from, to)?;
-    Ok(Job::CourtCalendar { file, from, to })
-}
-
-/// A year goes alone, and a file with two days.
-#[tactic(auto, using(crate::proofs::MatchLemmas::first_value_is))]
-fn holidays_job<'a>(found: &ArgMatches<'a>) -> Result<Job<'a>, BadValue<'a>>
-    ensures limited { IfOk result IsLimited }
-    ensures job { MatchResult result (λ job. holidays_asked (rows_of (found_of found.now)) ≡ Some (asked job))
-        (λ _. holidays_asked (rows_of (found_of found.now)) ≡ None) }
-{
-    let first = value(found, "year");
-    match (found.get_str("db"), found.get_str("to")) {
-        (None, None) => year_job(first),
-        (Some(file), Some(to)) => court_calendar_job(file, first, to),
-        _ => Err(BadValue::Days),
-    }
-}
-
 /// The job of a subcommand, with what was found for it, unless memory runs out.
 fn job_by<'a>(
     alloc: Global,
@@ -381,8 +293,10 @@ fn job_by<'a>(
         "case" => Ok(case_job(found)),
         "cases" => Ok(Ok(cases_job(found))),
         "calendar" => Ok(calendar_job(found)),
+        "export" => Ok(export_job(found)),
         "explain" => Ok(explain_job(found)),
         "check" => Ok(Ok(check_job(found))),
+        "backup" => Ok(Ok(backup_job(found))),
         "migrate" => Ok(Ok(migrate_job(found))),
         "serve" => Ok(serve_job(found)),
         "rules" => Ok(Ok(rules_job(found))),

@@ -2,8 +2,10 @@
 #![tactic(auto)]
 
 mod command_line;
+mod day_jobs;
 mod help;
 mod job;
 mod number;
+mod value;
 
 pub use job::{Job, read_job};

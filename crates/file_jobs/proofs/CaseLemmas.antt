@@ -17,7 +17,7 @@ use Rattle.docket_core.specs.Records.{case_at, case_labelled}
 use Rattle.docket_core.specs.declared.row.CaseRow.{CaseRow}
 use Rattle.docket_store.specs.declared.listing.CalendarEnd.{CalendarEnd}
 use Rattle.docket_text.specs.CaseLists.{case_list_line}
-use Rattle.line_io.specs.Output.{AppendsFront}
+use Rattle.line_io.specs.Output.{AppendsFront, HasFront}
 use Rattle.file_jobs.specs.CaseLists.{GoesOut, case_lines, cases_told, has_party}
 
 -- those of the cases that have such a party
@@ -148,11 +148,15 @@ told_of_all court h history part n enough =
     let few = (within_limits court h history).cases in
     ap (with_party h part) (sym (take_all n (case_rows h) (omega (arith, few, enough))))
 
--- a front of the line of a case
-pub front_of_line : (before after : Option (List ℕ)) (row : CaseRow) (bytes : List ℕ) (end : CalendarEnd) → bytes ≡ case_list_line row → AppendsFront before after bytes → GoesOut (row ∷ []) before after (Err end)
-front_of_line before after row bytes end is front = record {
+-- what is not all of some bytes is a front of them
+pub front_of : (before after : Option (List ℕ)) (bytes wanted : List ℕ) → bytes ≡ wanted → AppendsFront before after bytes → HasFront before after wanted
+front_of before after bytes wanted is front = record {
   out = take front.count bytes;
   lost = drop front.count bytes;
-  whole = append-nil (case_list_line row) ∙ sym is ∙ sym (take-append-drop front.count bytes);
+  whole = sym is ∙ sym (take-append-drop front.count bytes);
   appends = front.front;
 }
+
+-- a front of the line of a case
+pub front_of_line : (before after : Option (List ℕ)) (row : CaseRow) (bytes : List ℕ) (end : CalendarEnd) → bytes ≡ case_list_line row → AppendsFront before after bytes → GoesOut (row ∷ []) before after (Err end)
+front_of_line before after row bytes end is front = front_of before after bytes (case_lines (row ∷ [])) (is ∙ sym (append-nil (case_list_line row))) front

@@ -39,7 +39,7 @@ module _ {S : Type 0} (g : Ghosts S) (d : Docket S) (h : History) where
   written (Err (Store Damaged)) stands end = absurd end
   written (Err WriteFailed) stands end = stands
 
-  early : (result : Result ℕ CalendarEnd) → IsAsked g d h result → HasCleanDisk (state g d.conn) → IfErr result IsEarlyEnd
+  pub early : (result : Result ℕ CalendarEnd) → IsAsked g d h result → HasCleanDisk (state g d.conn) → IfErr result IsEarlyEnd
   early (Ok lines) asked clean = tt
   early (Err (Store (Refused r))) asked clean = asked
   early (Err (Store NoMemory)) asked clean = tt

@@ -1,6 +1,7 @@
 pub mod CaseLists
 pub mod Checks
 pub mod Commands
+pub mod Exports
 pub mod Keeping
 pub mod Migrates
 pub mod Runs

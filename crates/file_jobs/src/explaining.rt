@@ -41,12 +41,13 @@ fn text_of_grounds(alloc: Global, court: &Court, grounds: &Grounds) -> Result<St
 }
 
 /// The text of the steps of the deadline of a number, from 1, of a case, if there is one.
-fn text_of_reasons<S: Alter>(
+pub(crate) fn text_of_reasons<S: Alter>(
     alloc: Global,
     docket: &mut Docket<S>,
     case: u32,
     deadline: u32,
 ) -> Result<Option<String>, Fault>
+    ensures court { docket.new.court ≡ docket.old.court }
     ensures answer { (h : History) → Stands S.Store docket.old h
         → Asks S.Store docket.new h (λ text. option_map string_bytes text ≡ text_of_reasons docket.old.court h case deadline) result }
     ensures stays { (rows : Rows) → HoldsRows S.Store docket.old.conn rows → Preserves S.Store docket.new.conn rows result }

@@ -21,6 +21,7 @@ ghost use Rattle.command_lines.specs.Lines.{Docket as Told};
 ghost use Rattle.file_jobs.specs.CaseLists.{ListsCases, cases_told};
 ghost use Rattle.file_jobs.specs.Checks.{IsSoundDocket};
 ghost use Rattle.file_jobs.specs.Commands.{AppliesTo};
+ghost use Rattle.file_jobs.specs.Exports.{ExportsTo, page_of_sheet};
 ghost use Rattle.file_jobs.specs.Keeping.{rows_told};
 ghost use Rattle.file_jobs.specs.Migrates.{IsFirst, MigratesTo};
 ghost use Rattle.file_jobs.specs.Runs.{Answers, LeavesPrefix};
@@ -32,12 +33,14 @@ use crate::checking::{Sound, check_over};
 use crate::creating::create_over;
 use crate::ended::Ended;
 use crate::explaining::explain_over;
+use crate::exporting::{Export, export_over};
 use crate::importing::apply_over;
 use crate::leaving::leave;
 use crate::listing::{Wanted, cases_over};
 use crate::migrating::migrate_over;
 use crate::running::run_over;
 use crate::serving::{ServeEnd, serve_over};
+use crate::sheet::sheet_over;
 use command_lines::{CountEnd, RunFault};
 use court_days::{Court, Day};
 use docket_command::{Command, Reply};
@@ -210,6 +213,51 @@ pub fn calendar_on_file<S: Start, V: Watch + Drop, W: Write>(
 {
     let conn = reopen_from(rt, path, start)?;
     Ok(leave(calendar_over(rt.alloc(), conn, watch, from, to, writer)))
+}
+
+/// Writes the deadlines that fall due by the docket in the files at a path, in a format of another program,
+/// and counts them. The list of them is read first; each entry is written before more is asked about the
+/// next. Nothing is changed.
+pub fn export_on_file<S: Start, V: Watch + Drop, W: Write>(
+    rt: &HostRuntime,
+    path: &str,
+    start: S,
+    watch: V,
+    export: &Export,
+    writer: &mut W,
+) -> OnFile<S, Result<usize, CalendarEnd>>
+    ensures told { (told : Told) → IsDocket told.court told.history → HoldDocket (image_at S.Start) told.court told.history
+        → IfOk result (λ done. IsCleanLeft done.left
+        → WorksTo (ExportsTo export.now told.court told.history (W.contents writer.old) (W.contents writer.new)) done.outcome) }
+    ensures stays { (told : Told) → HoldDocket (image_at S.Start) told.court told.history
+        → IfOk result (λ done. IsCleanLeft done.left → LeavesRows done.left (rows_told told) (rows_told told)) }
+    ensures unopened { (told : Told) → HoldDocket (image_at S.Start) told.court told.history
+        → IfErr result (IsUnharmed (image_at S.Start) (IsImage (rows_told told))) }
+    ensures unwritten { MatchResult result (λ done. IfErr done.outcome (λ _. writer.new ≡ writer.old)) (λ _. writer.new ≡ writer.old) }
+{
+    let conn = reopen_from(rt, path, start)?;
+    Ok(leave(export_over(rt.alloc(), conn, watch, export, writer)))
+}
+
+/// Tells the docket sheet of the case of a number of the docket in the files at a path, as a page. Nothing is
+/// changed.
+pub fn sheet_on_file<S: Start, V: Watch + Drop>(
+    rt: &HostRuntime,
+    path: &str,
+    start: S,
+    watch: V,
+    number: u32,
+) -> OnFile<S, Result<Option<String>, Fault>>
+    ensures told { (told : Told) → IsDocket told.court told.history → HoldDocket (image_at S.Start) told.court told.history
+        → IfOk result (λ done. IsCleanLeft done.left
+        → WorksTo (AnswersTo (λ text. option_map string_bytes text ≡ page_of_sheet told.court told.history number)) done.outcome) }
+    ensures stays { (told : Told) → HoldDocket (image_at S.Start) told.court told.history
+        → IfOk result (λ done. IsCleanLeft done.left → LeavesRows done.left (rows_told told) (rows_told told)) }
+    ensures unopened { (told : Told) → HoldDocket (image_at S.Start) told.court told.history
+        → IfErr result (IsUnharmed (image_at S.Start) (IsImage (rows_told told))) }
+{
+    let conn = reopen_from(rt, path, start)?;
+    Ok(leave(sheet_over(rt.alloc(), conn, watch, number)))
 }
 
 /// Judges the tables of the docket in the files at a path, and tells what they hold. Nothing is changed.

@@ -8,6 +8,7 @@ mod checking;
 mod creating;
 mod ended;
 mod explaining;
+mod exporting;
 mod file;
 mod importing;
 mod leaving;
@@ -15,13 +16,15 @@ mod listing;
 mod migrating;
 mod running;
 mod serving;
+mod sheet;
 
 pub use checking::Sound;
 pub use ended::Ended;
+pub use exporting::Export;
 pub use file::{
     OnFile, apply_on_file, calendar_on_file, case_on_file, cases_on_file, check_on_file,
-    court_calendar_on_file, create_on_file, explain_on_file, migrate_on_file, rules_on_file,
-    run_on_file, serve_on_file,
+    court_calendar_on_file, create_on_file, explain_on_file, export_on_file, migrate_on_file,
+    rules_on_file, run_on_file, serve_on_file, sheet_on_file,
 };
 pub use listing::Wanted;
 pub use serving::ServeEnd;

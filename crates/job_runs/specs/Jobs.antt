@@ -1,5 +1,5 @@
 -- What each job does, by what the files of its docket held, by what its input was, and by what went out on its writer.
-use Rattle.std.specs.Prelude.{◌≡◌, ◌≢◌, ℕ, List, [], Option, Some, None, Result, Ok, Err, IfSome, MatchOption, codes, option_copied}
+use Rattle.std.specs.Prelude.{◌≡◌, ◌≢◌, ℕ, ℤ, List, [], Option, Some, None, Result, Ok, Err, IfSome, MatchOption, codes, option_copied}
 use Rattle.std.specs.Cow.{cow_str_bytes}
 use Rattle.std.specs.Io.KnownBytes.{Appends}
 use Rattle.sqlite_disk.specs.declared.Disk.{Ghosts}
@@ -36,6 +36,7 @@ use Rattle.command_lines.specs.Lines.{Docket, bad_answers, docket_after, run_tex
 use Rattle.command_lines.specs.declared.fault.RunFault.{RunFault}
 use Rattle.file_jobs.specs.CaseLists.{cases_told}
 use Rattle.file_jobs.specs.Commands.{AppliesTo}
+use Rattle.file_jobs.specs.Exports.{page_of_sheet, text_of_export}
 use Rattle.file_jobs.specs.Keeping.{Keeps, rows_told}
 use Rattle.docket_store.specs.Left.{LeavesRows}
 use Rattle.file_jobs.specs.Migrates.{MigratesTo}
@@ -107,6 +108,7 @@ abbrev pub IfMissing : Job → Status → Option (List ℕ) → Option (List ℕ
 IfMissing (job.Case file number) = SaysMissing no_such_case
 IfMissing (job.Cases file label party) = SaysMissing no_such_case
 IfMissing (job.Explain file case deadline) = SaysMissing no_such_deadline
+IfMissing (job.Sheet file number) = SaysMissing no_such_case
 IfMissing _ = λ status before after. Unit {0}
 
 module _ {D : Type 0} {g : Ghosts D} where
@@ -159,8 +161,14 @@ module _ {D : Type 0} {g : Ghosts D} where
       OfDocket files (λ docket. TellsOf docket (HasTold (text_of_calendar docket.court docket.history from to) before after) end)
   Does (job.Explain file case deadline) files input before after end =
       OfDocket files (λ docket. TellsOf docket (TellsIfAny (text_of_reasons docket.court docket.history case deadline)) end) × (after ≡ before)
+  Does (job.Export file from to form) files input before after end =
+      (stamp : ℤ) × OfDocket files (λ docket. TellsOf docket (HasTold (text_of_export (record { from = from; to = to; form = form; stamp = stamp }) docket.court docket.history) before after) end)
+  Does (job.Sheet file number) files input before after end =
+      OfDocket files (λ docket. TellsOf docket (TellsIfAny (page_of_sheet docket.court docket.history number)) end) × (after ≡ before)
   Does job.ExplainLines files input before after end = IfSome input (λ bytes. Explains bytes before after end.status) × (cow_str_bytes end.text ≡ []) × (end.left ≡ None)
   Does (job.Check file) files input before after end = OfDocket files (λ docket. TellsOf docket (TellsText (check_text docket.court (holdings_in docket.court docket.history))) end) × (after ≡ before)
+  -- no clause speaks of the bytes of another file: that they are copied is tested
+  Does (job.Backup file to) files input before after end = OfDocket files (λ docket. TellsOf docket (TellsText (codes "copied\n")) end) × (after ≡ before)
   Does (job.Migrate file) files input before after end =
       ((docket : Docket) → IsDocket docket.court docket.history → MayHold First docket.history → HoldFirst files docket.court docket.history
       → FailsOr end (λ left. Migrates docket left (cow_str_bytes end.text) end.status)) × (after ≡ before)

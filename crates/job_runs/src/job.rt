@@ -4,6 +4,7 @@ ghost use Rattle.sqlite_wal.specs.Files.{image_at};
 ghost use Rattle.docket_jobs.specs.Jobs.{IsLimited};
 ghost use Rattle.job_runs.specs.Jobs.{Counts, Does, IfMissing};
 
+use crate::backup::back_up;
 use crate::calendar::tell_calendar;
 use crate::case::tell_case;
 use crate::cases::tell_cases;
@@ -13,12 +14,14 @@ use crate::court_calendar::tell_court_calendar;
 use crate::create::create_docket;
 use crate::end::JobEnd;
 use crate::explain::{explain_all, explain_deadline};
+use crate::export::tell_export;
 use crate::holiday::tell_holidays;
 use crate::import::import_days;
 use crate::migrate::migrate_docket;
 use crate::progress::Progress;
 use crate::rules::{tell_rules, tell_table};
 use crate::serving::serve_docket;
+use crate::sheet::tell_sheet;
 use crate::status::Status;
 use crate::telling::failed;
 use count_lines::count_run;
@@ -96,8 +99,19 @@ pub fn run_job<S: Start, P: Write + Drop, R: Read, W: Write + Drop, E: Write>(
             let end = explain_deadline(rt, start, screen, file, case, deadline, e);
             (end, w)
         }
+        Job::Export {
+            file,
+            from,
+            to,
+            form,
+        } => {
+            let end = tell_export(rt, start, screen, file, from, to, form, &mut w, e);
+            (end, w)
+        }
+        Job::Sheet { file, number } => (tell_sheet(rt, start, screen, file, number, e), w),
         Job::ExplainLines => (JobEnd::of(explain_all(rt.alloc(), r, &mut w, e)), w),
         Job::Check { file } => (tell_check(rt, start, screen, file, e), w),
+        Job::Backup { file, to } => (back_up(rt, start, screen, file, to, e), w),
         Job::Migrate { file } => (migrate_docket(rt, start, screen, file, e), w),
         Job::Serve { file, port, count } => {
             let end = serve_docket(rt, start, screen, file, port, count, &mut w, e);

@@ -1,6 +1,7 @@
 //! The jobs of `docketctl`, each over any reader and writers in the place of the standard streams.
 #![tactic(auto)]
 
+mod backup;
 mod calendar;
 mod case;
 mod cases;
@@ -10,6 +11,7 @@ mod court_calendar;
 mod create;
 mod end;
 mod explain;
+mod export;
 mod file;
 mod holdings;
 mod holiday;
@@ -20,6 +22,7 @@ mod opening;
 mod progress;
 mod rules;
 mod serving;
+mod sheet;
 mod status;
 mod telling;
 

@@ -1,6 +1,6 @@
-//! Tests of the parts that need no database: dates, zones, courts, rules, acts, commands, texts, lines,
-//! `count`, the checks of tables, and the words of the command line. They stand in a crate of their own, since a crate with tests
-//! is proved twice.
+//! Tests of the parts that need no database: dates, zones, courts, rules, acts, commands, texts, exports,
+//! lines, `count`, the checks of tables, the words of the command line, and copies of files. They stand in a
+//! crate of their own, since a crate with tests is proved twice.
 #![tactic(auto)]
 
 #[cfg(test)]
@@ -8,11 +8,15 @@ mod acts;
 #[cfg(test)]
 mod commands;
 #[cfg(test)]
+mod copies;
+#[cfg(test)]
 mod count;
 #[cfg(test)]
 mod courts;
 #[cfg(test)]
 mod dates;
+#[cfg(test)]
+mod exports;
 #[cfg(test)]
 mod lines;
 #[cfg(test)]
@@ -25,6 +29,8 @@ mod tables;
 mod texts;
 #[cfg(test)]
 mod wire;
+#[cfg(test)]
+mod word_answers;
 #[cfg(test)]
 mod words;
 #[cfg(test)]

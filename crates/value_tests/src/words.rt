@@ -1,10 +1,11 @@
-//! The words of the command line.
+//! The words of the command line, and what they ask for.
 
 use court_days::Court;
 use docket_jobs::{Job, read_job};
 use std::alloc::{AllocError, Global};
 
-fn words_of(alloc: Global, line: &str) -> Result<Vec<String>, AllocError> {
+/// The words of a line.
+pub(crate) fn words_of(alloc: Global, line: &str) -> Result<Vec<String>, AllocError> {
     let mut words = Vec::new(alloc);
     for word in line.split(' ') {
         words.push(word.to_string(alloc)?)?;
@@ -13,7 +14,7 @@ fn words_of(alloc: Global, line: &str) -> Result<Vec<String>, AllocError> {
 }
 
 /// What the words ask for, as `told` tells it.
-const JOBS: [(&str, &str); 30] = [
+const JOBS: [(&str, &str); 37] = [
     ("docketctl check --db court.db", "check court.db"),
     ("docketctl migrate --db court.db", "migrate court.db"),
     ("docketctl", "count"),
@@ -69,6 +70,34 @@ const JOBS: [(&str, &str); 30] = [
         "calendar court.db 3652 3652",
     ),
     (
+        "docketctl export --db court.db 2025-07-01 2025-07-31 --as ics",
+        "export court.db 20270 20300 Calendar",
+    ),
+    (
+        "docketctl export 1980-01-01 1980-01-01 --as=html --db=court.db",
+        "export court.db 3652 3652 Html",
+    ),
+    (
+        "docketctl export --as csv 2025-07-01 --db court.db 2025-07-01",
+        "export court.db 20270 20270 Csv",
+    ),
+    (
+        "docketctl export --db court.db --as json 2025-07-01 2025-07-31",
+        "export court.db 20270 20300 Json",
+    ),
+    (
+        "docketctl export --db court.db --case 1 --as html",
+        "sheet court.db 1",
+    ),
+    (
+        "docketctl export --as=html --case=4294967295 --db court.db",
+        "sheet court.db 4294967295",
+    ),
+    (
+        "docketctl backup --to copy.db --db court.db",
+        "backup court.db copy.db",
+    ),
+    (
         "docketctl serve --db court.db --port 0 --count 1",
         "serve court.db 0 1",
     ),
@@ -112,6 +141,13 @@ fn told(alloc: Global, job: &Job<'_>) -> Result<String, AllocError> {
         Job::Calendar { file, from, to } => {
             format!(in alloc; "calendar {file} {} {}", from.number(), to.number())
         }
+        Job::Export {
+            file,
+            from,
+            to,
+            form,
+        } => { format!(in alloc; "export {file} {} {} {form:?}", from.number(), to.number()) }
+        Job::Sheet { file, number } => format!(in alloc; "sheet {file} {number}"),
         Job::Explain {
             file,
             case,
@@ -119,6 +155,7 @@ fn told(alloc: Global, job: &Job<'_>) -> Result<String, AllocError> {
         } => format!(in alloc; "explain {file} {case} {deadline}"),
         Job::ExplainLines => String::from_str(alloc, "explain lines"),
         Job::Check { file } => format!(in alloc; "check {file}"),
+        Job::Backup { file, to } => format!(in alloc; "backup {file} {to}"),
         Job::Migrate { file } => format!(in alloc; "migrate {file}"),
         Job::Serve { file, port, count } => format!(in alloc; "serve {file} {port} {count}"),
         Job::Rules { file } => format!(in alloc; "rules {}", file.unwrap_or("-")),
@@ -169,248 +206,5 @@ fn asks_for(alloc: Global, line: &str, wanted: &str) -> bool {
 fn jobs(rt: HostRuntime) {
     for (line, wanted) in JOBS {
         assert!(rt; asks_for(rt.alloc(), line, wanted), "{line}");
-    }
-}
-
-/// What is printed where the words ask for no job, and whether that is a mistake.
-const TEXTS: [(&str, &str, bool); 46] = [
-    ("docketctl --help", "Usage: docketctl [COMMAND]", false),
-    ("docketctl --version", "docketctl 0.1.0", false),
-    ("docketctl count --help", "forward DAY N", false),
-    (
-        "docketctl run --help",
-        "Answer commands of a docket, one a line",
-        false,
-    ),
-    (
-        "docketctl rules --help",
-        "LR7.1-opp          14 days   forward  three days -          extendable",
-        false,
-    ),
-    (
-        "docketctl holidays --help",
-        "2027-06-18 Fri Juneteenth (observed)",
-        false,
-    ),
-    (
-        "docketctl holidays 1999",
-        "error: YEAR is a year from 2000 to 2099",
-        true,
-    ),
-    (
-        "docketctl holidays 2100",
-        "error: YEAR is a year from 2000 to 2099",
-        true,
-    ),
-    (
-        "docketctl holidays next",
-        "error: YEAR is a year from 2000 to 2099",
-        true,
-    ),
-    (
-        "docketctl holidays",
-        "the following required arguments were not provided",
-        true,
-    ),
-    (
-        "docketctl holidays --db court.db 2027",
-        "error: YEAR goes alone, and --db with FROM and TO",
-        true,
-    ),
-    (
-        "docketctl holidays 2027 2027-12-31",
-        "error: YEAR goes alone, and --db with FROM and TO",
-        true,
-    ),
-    (
-        "docketctl holidays --db court.db 2027-12-31 2027-01-01",
-        "error: FROM is after TO",
-        true,
-    ),
-    (
-        "docketctl holidays --db court.db 2027 2027-12-31",
-        "error: FROM and TO are days from 1980-01-01 to 3999-12-31",
-        true,
-    ),
-    (
-        "docketctl case --db court.db 0",
-        "error: NUMBER is a number from 1 to 4294967295, without a leading zero",
-        true,
-    ),
-    (
-        "docketctl case --db court.db 01",
-        "error: NUMBER is a number from 1 to 4294967295, without a leading zero",
-        true,
-    ),
-    (
-        "docketctl case --db court.db 4294967296",
-        "error: NUMBER is a number from 1 to 4294967295, without a leading zero",
-        true,
-    ),
-    (
-        "docketctl case --db court.db +1",
-        "error: NUMBER is a number from 1 to 4294967295, without a leading zero",
-        true,
-    ),
-    (
-        "docketctl cases --help",
-        "case 1 1:25-cv-00001 filed 2025-06-02 Roe v. Doe",
-        false,
-    ),
-    (
-        "docketctl cases --party Roe",
-        "the following required arguments were not provided",
-        true,
-    ),
-    (
-        "docketctl cases --db court.db Roe",
-        "error: unexpected argument 'Roe' found",
-        true,
-    ),
-    (
-        "docketctl cases --db court.db --label",
-        "a value is required for '--label <",
-        true,
-    ),
-    (
-        "docketctl explain --help",
-        "2025-07-04 Fri  passed over: Independence Day, 6(a)(6)(A)",
-        false,
-    ),
-    (
-        "docketctl explain --db court.db 1 0",
-        "error: CASE and DEADLINE are numbers from 1 to 4294967295, without a leading zero",
-        true,
-    ),
-    (
-        "docketctl explain --db court.db 1",
-        "error: CASE and DEADLINE go with --db, and --db with both",
-        true,
-    ),
-    (
-        "docketctl explain 1 2",
-        "error: CASE and DEADLINE go with --db, and --db with both",
-        true,
-    ),
-    (
-        "docketctl calendar --db court.db 2025-07-31 2025-07-01",
-        "error: FROM is after TO",
-        true,
-    ),
-    (
-        "docketctl calendar --db court.db 2025-02-28 2025-02-30",
-        "error: FROM and TO are days from 1980-01-01 to 3999-12-31",
-        true,
-    ),
-    (
-        "docketctl calendar --help",
-        "2025-07-07 24:00 17:00       1    4 12(a)(1)(A)(i)      1",
-        false,
-    ),
-    (
-        "docketctl create --db court.db --zone UTC0",
-        "the following required arguments were not provided",
-        true,
-    ),
-    (
-        "docketctl create --db court.db --zone EST --close 17:00",
-        "error: --zone \"EST\" is no zone, as EST5EDT,M3.2.0,M11.1.0 is\n",
-        true,
-    ),
-    (
-        "docketctl create --db court.db --zone UTC0 --close 24:00",
-        "error: --close \"24:00\" is no time from 00:00 to 23:59\n",
-        true,
-    ),
-    // The zone is looked at first.
-    (
-        "docketctl run --close 5pm --zone UTC",
-        "error: --zone \"UTC\" is no zone, as EST5EDT,M3.2.0,M11.1.0 is\n",
-        true,
-    ),
-    (
-        "docketctl run --close 5pm",
-        "error: --close \"5pm\" is no time from 00:00 to 23:59\n",
-        true,
-    ),
-    (
-        "docketctl run --zone=",
-        "error: --zone \"\" is no zone, as EST5EDT,M3.2.0,M11.1.0 is\n",
-        true,
-    ),
-    ("docketctl import --help", "kind,day,name", false),
-    (
-        "docketctl serve --help",
-        "listening on 127.0.0.1:8080",
-        false,
-    ),
-    (
-        "docketctl serve --db court.db --port 65536 --count 1",
-        "error: P is a port from 0 to 65535, without a leading zero",
-        true,
-    ),
-    (
-        "docketctl serve --db court.db --port 080 --count 1",
-        "error: P is a port from 0 to 65535, without a leading zero",
-        true,
-    ),
-    (
-        "docketctl serve --db court.db --port 80 --count 0",
-        "error: N is a number from 1 to 1000000, without a leading zero",
-        true,
-    ),
-    (
-        "docketctl serve --db court.db --port 80 --count 1000001",
-        "error: N is a number from 1 to 1000000, without a leading zero",
-        true,
-    ),
-    (
-        "docketctl serve --db court.db --port 80",
-        "the following required arguments were not provided",
-        true,
-    ),
-    (
-        "docketctl dance",
-        "error: unrecognized subcommand 'dance'",
-        true,
-    ),
-    (
-        "docketctl count 3",
-        "error: unexpected argument '3' found",
-        true,
-    ),
-    (
-        "docketctl run --zone",
-        "a value is required for '--zone <ZONE>'",
-        true,
-    ),
-    (
-        "docketctl --db",
-        "error: unexpected argument '--db' found",
-        true,
-    ),
-];
-
-/// The text that the words of the line are answered by, and whether they are a mistake.
-fn answer(alloc: Global, line: &str) -> Result<Option<(String, bool)>, AllocError> {
-    let words = words_of(alloc, line)?;
-    match read_job(alloc, words.as_slice()) {
-        Ok(_) => Ok(None),
-        Err(error) => Ok(Some((format!(in alloc; "{error}")?, error.use_stderr()))),
-    }
-}
-
-/// Whether the words are answered by a text with that part.
-fn is_answered(alloc: Global, line: &str, part: &str, is_mistake: bool) -> bool {
-    match answer(alloc, line) {
-        Ok(Some((text, mistake))) => text.contains(part) && mistake == is_mistake,
-        _ => false,
-    }
-}
-
-#[test]
-fn texts(rt: HostRuntime) {
-    for (line, part, is_mistake) in TEXTS {
-        assert!(rt; is_answered(rt.alloc(), line, part, is_mistake), "{line}");
     }
 }

@@ -1,0 +1,13 @@
+use Rattle.std.proofs.lemmas.Result.{IfOk-weaker}
+use Rattle.docket_jobs.specs.CommandLine.{export_line}
+use Rattle.docket_jobs.proofs.LineLemmas.{arg_added}
+use Rattle.docket_jobs.proofs.command_line.export_command.Goals as goal
+
+pub returns : goal.returns
+unfolding export_line
+returns c =
+    let one = arg_added _ _ _ _ _ c.subcommand.ensures c.needed_option-file.ensures.rule c.needed_option-file.ensures.local c.in_ok-arg.ensures in
+    let two = arg_added _ _ _ _ _ one c.needed_option-form.ensures.rule c.needed_option-form.ensures.local c.in_ok-arg-2.ensures in
+    let three = arg_added _ _ _ _ _ two c.option-case.ensures.rule c.option-case.ensures.local c.in_ok-arg-3.ensures in
+    let four = arg_added _ _ _ _ _ three c.optional_place-from.ensures.rule c.optional_place-from.ensures.local c.in_ok-arg-4.ensures in
+    IfOk-weaker c.arg-5.result _ _ (λ _ adds. arg_added _ _ _ _ _ four c.optional_place-to.ensures.rule c.optional_place-to.ensures.local adds) c.arg-5.ensures

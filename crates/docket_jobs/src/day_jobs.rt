@@ -1,0 +1,128 @@
+//! What the command lines ask for that name days: the deadlines of a range of days, in lines or in a
+//! format of other programs, and the holidays of a year or of a range of days.
+ghost use Rattle.std.specs.Prelude.{◌≡◌, ℕ, IfOk, MatchResult, None, Some, option_map};
+ghost use Rattle.clap.specs.Matches.{found_of};
+ghost use Rattle.clap.specs.Walk.{rows_of};
+ghost use Rattle.civil_time.specs.DayText.{day_of_text};
+ghost use Rattle.docket_jobs.specs.Jobs.{Asked, IsLimited, asked, calendar_asked, days_asked, export_asked, form_of, holidays_asked, sheet_if, to_export, to_tell_court_calendar, to_tell_holidays, year_of};
+
+use crate::job::Job;
+use crate::number::{read_number, read_year};
+use crate::value::{BadValue, value};
+use civil_time::{Day, read_day};
+use clap::ArgMatches;
+use due_exports::Form;
+
+/// The days that the texts name, the second not before the first.
+fn days<'a>(from: &str, to: &str) -> Result<(Day, Day), BadValue<'a>>
+    ensures { (ask : ℕ → ℕ → Asked) → MatchResult result (λ days. days_asked ask from.now to.now ≡ Some (ask days.0 days.1))
+        (λ _. days_asked ask from.now to.now ≡ None) }
+{
+    let from = read_day(from.as_bytes()).ok_or(BadValue::Day)?;
+    let to = read_day(to.as_bytes()).ok_or(BadValue::Day)?;
+    if to < from {
+        return Err(BadValue::Range);
+    }
+    Ok((from, to))
+}
+
+pub(crate) fn calendar_job<'a>(found: &ArgMatches<'a>) -> Result<Job<'a>, BadValue<'a>>
+    ensures { MatchResult result (λ job. calendar_asked (rows_of (found_of found.now)) ≡ Some (asked job))
+        (λ _. calendar_asked (rows_of (found_of found.now)) ≡ None) }
+{
+    let (from, to) = days(value(found, "from"), value(found, "to"))?;
+    Ok(Job::Calendar {
+        file: value(found, "db"),
+        from,
+        to,
+    })
+}
+
+/// The format that the word names.
+fn read_form(name: &str) -> Option<Form>
+    ensures { result ≡ form_of name.now }
+{
+    match name {
+        "ics" => Some(Form::Calendar),
+        "html" => Some(Form::Html),
+        "csv" => Some(Form::Csv),
+        "json" => Some(Form::Json),
+        _ => None,
+    }
+}
+
+/// A docket sheet is a page.
+fn sheet_job<'a>(file: &'a str, case: &str, form: Form) -> Result<Job<'a>, BadValue<'a>>
+    ensures { MatchResult result (λ job. sheet_if file.now case.now form ≡ Some (asked job))
+        (λ _. sheet_if file.now case.now form ≡ None) }
+{
+    match form {
+        Form::Html => {
+            let number = read_number(case).ok_or(BadValue::Number)?;
+            Ok(Job::Sheet { file, number })
+        }
+        _ => Err(BadValue::Sheet),
+    }
+}
+
+fn range_job<'a>(file: &'a str, from: &str, to: &str, form: Form) -> Result<Job<'a>, BadValue<'a>>
+    ensures { MatchResult result (λ job. days_asked (λ from to. to_export file.now from to form) from.now to.now ≡ Some (asked job))
+        (λ _. days_asked (λ from to. to_export file.now from to form) from.now to.now ≡ None) }
+{
+    let (from, to) = days(from, to)?;
+    Ok(Job::Export {
+        file,
+        from,
+        to,
+        form,
+    })
+}
+
+/// A case goes alone, and otherwise two days.
+#[tactic(auto, using(crate::proofs::MatchLemmas::first_value_is))]
+pub(crate) fn export_job<'a>(found: &ArgMatches<'a>) -> Result<Job<'a>, BadValue<'a>>
+    ensures { MatchResult result (λ job. export_asked (rows_of (found_of found.now)) ≡ Some (asked job))
+        (λ _. export_asked (rows_of (found_of found.now)) ≡ None) }
+{
+    let file = value(found, "db");
+    let form = read_form(value(found, "as")).ok_or(BadValue::Form)?;
+    let places = (found.get_str("from"), found.get_str("to"));
+    match (found.get_str("case"), places.0, places.1) {
+        (Some(case), None, None) => sheet_job(file, case, form),
+        (None, Some(from), Some(to)) => range_job(file, from, to, form),
+        _ => Err(BadValue::Sheet),
+    }
+}
+
+fn year_job<'a>(year: &str) -> Result<Job<'a>, BadValue<'a>>
+    ensures limited { IfOk result IsLimited }
+    ensures job { MatchResult result (λ job. option_map to_tell_holidays (year_of year.now) ≡ Some (asked job))
+        (λ _. option_map to_tell_holidays (year_of year.now) ≡ None) }
+{
+    let year = read_year(year).ok_or(BadValue::Year)?;
+    Ok(Job::Holidays { year })
+}
+
+fn court_calendar_job<'a>(file: &'a str, from: &str, to: &str) -> Result<Job<'a>, BadValue<'a>>
+    ensures limited { IfOk result IsLimited }
+    ensures job { MatchResult result (λ job. days_asked (to_tell_court_calendar file.now) from.now to.now ≡ Some (asked job))
+        (λ _. days_asked (to_tell_court_calendar file.now) from.now to.now ≡ None) }
+{
+    let (from, to) = days(from, to)?;
+    Ok(Job::CourtCalendar { file, from, to })
+}
+
+/// A year goes alone, and a file with two days.
+#[tactic(auto, using(crate::proofs::MatchLemmas::first_value_is))]
+pub(crate) fn holidays_job<'a>(found: &ArgMatches<'a>) -> Result<Job<'a>, BadValue<'a>>
+    ensures limited { IfOk result IsLimited }
+    ensures job { MatchResult result (λ job. holidays_asked (rows_of (found_of found.now)) ≡ Some (asked job))
+        (λ _. holidays_asked (rows_of (found_of found.now)) ≡ None) }
+{
+    let first = value(found, "year");
+    match (found.get_str("db"), found.get_str("to")) {
+        (None, None) => year_job(first),
+        (Some(file), Some(to)) => court_calendar_job(file, first, to),
+        _ => Err(BadValue::Days),
+    }
+}

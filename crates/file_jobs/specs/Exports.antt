@@ -1,0 +1,75 @@
+-- What is exported of the docket of a history, and what of it goes out.
+use Rattle.std.specs.Prelude.{◌≡◌, ℕ, suc, List, [], ◌∷◌, ◌++◌, length, Option, Some, None, Result, Ok, Err, IfErr, if◌then◌else◌, unwrap_or}
+use Rattle.std.specs.Io.KnownBytes.{Appends}
+use Rattle.sqlite.specs.Held.{state}
+use Rattle.sqlite.specs.State.{HasCleanDisk}
+use Rattle.sqlite.specs.Store.{Ghosts}
+use Rattle.court_days.specs.Court.{CourtSettings}
+use Rattle.docket_calendar.specs.Calendar.{calendar_rows}
+use Rattle.docket_core.specs.Histories.{History, case_rows}
+use Rattle.docket_core.specs.Records.{case_at, case_record, deadline_lines}
+use Rattle.docket_core.specs.declared.record.CaseRecord.{CaseRecord}
+use Rattle.docket_core.specs.declared.record.DeadlineLine.{DeadlineLine}
+use Rattle.docket_core.specs.declared.record.DueRow.{DueRow}
+use Rattle.docket_core.specs.declared.row.CaseRow.{CaseRow}
+use Rattle.docket_store.specs.Dockets.{Docket}
+use Rattle.docket_store.specs.declared.listing.CalendarEnd.{CalendarEnd}
+use Rattle.due_exports.specs.Exports.{export_entry, export_foot, export_head, tells_reasons}
+use Rattle.file_jobs.specs.CaseLists.{IsAsked, IsEarlyEnd}
+use Rattle.file_jobs.specs.Tells.{text_of_reasons}
+use Rattle.file_jobs.specs.declared.exporting.Export.{Export}
+use Rattle.html_sheets.specs.Pages.{page_foot, page_head}
+use Rattle.html_sheets.specs.Sheets.{case_sheet}
+use Rattle.line_io.specs.Output.{HasFront}
+
+module _ (export : Export) (court : CourtSettings) (h : History) where
+  -- why a deadline is what it is, where the form tells that
+  abbrev pub reasons_in : DueRow → List ℕ
+  reasons_in due = if tells_reasons export.form then unwrap_or (text_of_reasons court h due.case due.number) [] else []
+
+  -- what a deadline at a place, from 0, comes to with its case
+  abbrev pub entry_with : ℕ → DueRow → Option CaseRow → List ℕ
+  entry_with place due (Some case) = export_entry export.form court export.stamp place due case (reasons_in due)
+  entry_with place due None = []
+
+  abbrev pub entry_of : ℕ → DueRow → List ℕ
+  entry_of place due = entry_with place due (case_at (case_rows h) due.case)
+
+  -- an entry for each deadline, the first of them at that place
+  abbrev pub entries_from : ℕ → List DueRow → List ℕ
+  entries_from place [] = []
+  entries_from place (due ∷ dues) = entry_of place due ++ entries_from (suc place) dues
+
+  -- the deadlines of the days, in the order of the calendar
+  abbrev pub rows_of_export : List DueRow
+  rows_of_export = calendar_rows court h export.from export.to
+
+  abbrev pub text_of_export : List ℕ
+  text_of_export = export_head export.form export.from export.to ++ (entries_from 0 rows_of_export ++ export_foot export.form)
+
+-- the text went out, with so many entries; or a front of it did
+abbrev pub TextOut : List ℕ → ℕ → Option (List ℕ) → Option (List ℕ) → Result ℕ CalendarEnd → Type 0
+TextOut text entries before after (Ok n) = Appends before after text × (n ≡ entries)
+TextOut text entries before after (Err end) = HasFront before after text
+
+-- the export went out, or a front of it, which ends early only for want of memory, or where the database or the writer failed
+abbrev pub ExportsTo : Export → CourtSettings → History → Option (List ℕ) → Option (List ℕ) → Result ℕ CalendarEnd → Type 0
+ExportsTo export court h before after result =
+    TextOut (text_of_export export court h) (length (rows_of_export export court h)) before after result × IfErr result IsEarlyEnd
+
+module _ {S : Type 0} (g : Ghosts S) (d : Docket S) (h : History) where
+  -- the docket is as after any question, and the text went out, or a front of it
+  abbrev pub PutsOut : List ℕ → ℕ → Option (List ℕ) → Option (List ℕ) → Result ℕ CalendarEnd → Type 0
+  PutsOut text entries before after result = IsAsked g d h result × (HasCleanDisk (state g d.conn) → TextOut text entries before after result)
+
+-- the docket sheet of a case, as a page
+abbrev pub sheet_page : CourtSettings → CaseRecord → List DeadlineLine → List ℕ
+sheet_page court case lines = page_head case.label ++ (case_sheet court case lines ++ page_foot)
+
+abbrev pub page_of_found : CourtSettings → Option CaseRecord → Option (List DeadlineLine) → Option (List ℕ)
+page_of_found court (Some case) (Some lines) = Some (sheet_page court case lines)
+page_of_found court _ _ = None
+
+-- that of the case of a number, if there is such a case
+abbrev pub page_of_sheet : CourtSettings → History → ℕ → Option (List ℕ)
+page_of_sheet court h number = page_of_found court (case_record h number) (deadline_lines court h number)
