@@ -1,5 +1,6 @@
 mod ActLemmas
 pub mod AnySchema
+mod CauseLemmas
 mod CountLemmas
 mod DeadlineLemmas
 pub mod DocketCells

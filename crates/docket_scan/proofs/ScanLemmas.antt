@@ -47,10 +47,10 @@ module _ (t : Table) where
   pub writes_nothing : (old new : State) → Survives old new (CommitsShowing (scan_text t) [] old) → Survives old new (λ _. ⊥)
   writes_nothing old new = survives_weaker old new _ _ (λ _ db. never_commits old db)
 
-  source_is : (s : State) (c : Compiled) (db : Database) → IsUnderstood t s c → IsSourceOf (reads_listing s.now.schema (scan_text t)) s.now db → db ≡ s.now
+  pub source_is : (s : State) (c : Compiled) (db : Database) → IsUnderstood t s c → IsSourceOf (reads_listing s.now.schema (scan_text t)) s.now db → db ≡ s.now
   source_is s c db known from = subst (λ b. IsSourceOf b s.now db) (understood_plain t s.now.schema c known).1 from
 
-  no_times : (s : State) (c : Compiled) (now : ℕ) → IsUnderstood t s c → timed [] c.formats now ≡ []
+  pub no_times : (s : State) (c : Compiled) (now : ℕ) → IsUnderstood t s c → timed [] c.formats now ≡ []
   no_times s c now known = ap (λ fs. timed [] fs now) (understood_plain t s.now.schema c known).0.formats
 
   pub rows_shown : (old new : State) (rows : List Row) → Shown (scan_text t) [] old new rows → AreRowsOf t old rows × IsUnchanged old new

@@ -1,3 +1,4 @@
+pub mod Causes
 pub mod Courts
 pub mod Dockets
 pub mod Finding

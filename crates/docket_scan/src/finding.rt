@@ -14,6 +14,7 @@ ghost use Rattle.docket_tables.specs.Contents.{rows_by};
 ghost use Rattle.docket_orderly.specs.Orderly.{IsCourtSettings};
 ghost use Rattle.docket_tables.specs.Stands.{HoldsRowsIn};
 ghost use Rattle.docket_tables.specs.declared.table.Table.TheVariants as table;
+ghost use Rattle.docket_scan.specs.Causes.{IsCausedFault};
 ghost use Rattle.docket_scan.specs.Dockets.{IsFoundOfDocket, MayHold};
 ghost use Rattle.docket_scan.specs.Finding.{IsTaken, ReadsCourt, court_fault};
 ghost use Rattle.docket_scan.specs.Shapes.{has_named};
@@ -63,6 +64,7 @@ fn read_court<S: Alter, W: Watch>(
 ) -> Result<CourtRecord, AdoptFault>
     ensures writes_nothing { Survives (state S.Store conn.old) (state S.Store conn.new) (λ _. ⊥) }
     ensures mode { conn.old.in_transaction ≡ false → conn.new.in_transaction ≡ false }
+    ensures cause { HasCleanDisk (state S.Store conn.new) → IfErr result (IsCausedFault (state S.Store conn.old) (state S.Store conn.new)) }
     ensures told { HasCleanDisk (state S.Store conn.new) → ReadsCourt version (state S.Store conn.old) (state S.Store conn.new) result }
     ensures unread { has_named conn.old.schema table.Court ≡ false → IsErrAnd result (λ fault. fault ≡ Empty) × (conn.new ≡ conn.old) }
 {
@@ -94,7 +96,8 @@ fn court_in(alloc: Global, row: &CourtRecord) -> Result<Court, AdoptFault>
 /// The docket that a database holds in the tables of `version`, whatever database it is. The table of the
 /// court is judged first, and then the others of that version in their order; an error tells the first
 /// cause for which the database is not taken for a docket's: `OtherVersion`, where its court is marked with
-/// another. Want of memory and a failure of the database may come at any point. The docket of a history in
+/// another. Want of memory may come at any point. So may a failure of the database, but only for a cause: its
+/// disk failed or refused, a limit on steps was set, or the connection was shut. The docket of a history in
 /// that version is found as it is, and no other error comes; the first version holds no command of the last
 /// three kinds. Nothing is written. `watch` is told of each row that is read.
 pub fn find_docket<S: Alter, W: Watch>(
@@ -105,6 +108,7 @@ pub fn find_docket<S: Alter, W: Watch>(
 ) -> Result<FoundDocket, AdoptFault>
     ensures writes_nothing { Survives (state S.Store conn.old) (state S.Store conn.new) (λ _. ⊥) }
     ensures mode { conn.old.in_transaction ≡ false → conn.new.in_transaction ≡ false }
+    ensures cause { HasCleanDisk (state S.Store conn.new) → IfErr result (IsCausedFault (state S.Store conn.old) (state S.Store conn.new)) }
     ensures told { HasCleanDisk (state S.Store conn.new) → IsTaken version (state S.Store conn.old) (state S.Store conn.new) result }
     ensures docket { HasCleanDisk (state S.Store conn.new)
         → (court : CourtSettings) (h : History) → IsCourtSettings court → IsSome (zone_at court.zone_text) → IsHistory court h → AllByRecursion IsCommand h

@@ -10,6 +10,7 @@ ghost use Rattle.docket_sound.specs.Acts.{AreSoundActs, HasTakenActs};
 ghost use Rattle.docket_sound.specs.Counted.{cases_of, counts_of};
 ghost use Rattle.docket_sound.specs.Dues.{dues_of};
 ghost use Rattle.docket_sound.specs.Standings.{counts_of_standings, standings_of};
+ghost use Rattle.docket_scan.specs.Causes.{IsCausedFault};
 ghost use Rattle.docket_scan.specs.Holdings.{holdings_of};
 ghost use Rattle.docket_scan.specs.Judging.{IsSoundIn, Judged, JudgedAll, knows_later_kinds};
 ghost use Rattle.docket_scan.specs.Reading.{ActsBefore, EndsBefore, FailsOver, HeldBefore, LastBefore, NamesBefore, ReadBefore};
@@ -48,6 +49,7 @@ fn judge_rows<S: Alter, T: Taker, W: Watch>(
 ) -> Result<u64, AdoptFault>
     ensures writes_nothing { Survives (state S.Store conn.old) (state S.Store conn.new) (λ _. ⊥) }
     ensures mode { conn.old.in_transaction ≡ false → conn.new.in_transaction ≡ false }
+    ensures cause { HasCleanDisk (state S.Store conn.new) → IfErr result (IsCausedFault (state S.Store conn.old) (state S.Store conn.new)) }
     ensures context { T.context taker.new ≡ T.context taker.old }
     ensures limit { IfOk result (λ count. count < 2 ^ 64) }
     ensures told { HasCleanDisk (state S.Store conn.new) → T.HasTaken taker.old []
@@ -76,6 +78,7 @@ fn judge<S: Alter, C: RecordCheck, W: Watch>(
 ) -> Result<(C, u64), AdoptFault>
     ensures writes_nothing { Survives (state S.Store conn.old) (state S.Store conn.new) (λ _. ⊥) }
     ensures mode { conn.old.in_transaction ≡ false → conn.new.in_transaction ≡ false }
+    ensures cause { HasCleanDisk (state S.Store conn.new) → IfErr result (IsCausedFault (state S.Store conn.old) (state S.Store conn.new)) }
     ensures context { IfOk result (λ taken. C.context taken.0 ≡ C.context check) }
     ensures limit { IfOk result (λ taken. taken.1 < 2 ^ 64) }
     ensures told { HasCleanDisk (state S.Store conn.new) → C.HasTaken check []
@@ -109,6 +112,7 @@ fn judge_calendar<S: Alter, W: Watch>(
 ) -> Result<TablesRead, AdoptFault>
     ensures writes_nothing { Survives (state S.Store conn.old) (state S.Store conn.new) (λ _. ⊥) }
     ensures mode { conn.old.in_transaction ≡ false → conn.new.in_transaction ≡ false }
+    ensures cause { HasCleanDisk (state S.Store conn.new) → IfErr result (IsCausedFault (state S.Store conn.old) (state S.Store conn.new)) }
     ensures ok { (version : Version) (first : Held S) → NamesBefore S.Store version first conn.old names
         → IfOk result (ReadBefore version table.Cases (state S.Store first) court next_row (state S.Store conn.new)) }
     ensures err { (version : Version) (first : Held S) → NamesBefore S.Store version first conn.old names
@@ -130,6 +134,7 @@ fn judge_cases<S: Alter, W: Watch>(
 ) -> Result<TablesRead, AdoptFault>
     ensures writes_nothing { Survives (state S.Store conn.old) (state S.Store conn.new) (λ _. ⊥) }
     ensures mode { conn.old.in_transaction ≡ false → conn.new.in_transaction ≡ false }
+    ensures cause { HasCleanDisk (state S.Store conn.new) → IfErr result (IsCausedFault (state S.Store conn.old) (state S.Store conn.new)) }
     ensures ok { (version : Version) (first : Held S) (court : CourtSettings) (next : ℕ) → ReadBefore version table.Cases (state S.Store first) court next (state S.Store conn.old) read
         → IfOk result (λ now. ReadBefore version table.Parties (state S.Store first) court next (state S.Store conn.new) now) }
     ensures err { (version : Version) (first : Held S) (court : CourtSettings) (next : ℕ) → ReadBefore version table.Cases (state S.Store first) court next (state S.Store conn.old) read
@@ -157,6 +162,7 @@ fn judge_parties<S: Alter, W: Watch>(
 ) -> Result<TablesRead, AdoptFault>
     ensures writes_nothing { Survives (state S.Store conn.old) (state S.Store conn.new) (λ _. ⊥) }
     ensures mode { conn.old.in_transaction ≡ false → conn.new.in_transaction ≡ false }
+    ensures cause { HasCleanDisk (state S.Store conn.new) → IfErr result (IsCausedFault (state S.Store conn.old) (state S.Store conn.new)) }
     ensures ok { (version : Version) (first : Held S) (court : CourtSettings) (next : ℕ) → ReadBefore version table.Parties (state S.Store first) court next (state S.Store conn.old) read
         → IfOk result (λ now. ReadBefore version table.Entries (state S.Store first) court next (state S.Store conn.new) now) }
     ensures err { (version : Version) (first : Held S) (court : CourtSettings) (next : ℕ) → ReadBefore version table.Parties (state S.Store first) court next (state S.Store conn.old) read
@@ -184,6 +190,7 @@ fn judge_entries<S: Alter, W: Watch>(
 ) -> Result<TablesRead, AdoptFault>
     ensures writes_nothing { Survives (state S.Store conn.old) (state S.Store conn.new) (λ _. ⊥) }
     ensures mode { conn.old.in_transaction ≡ false → conn.new.in_transaction ≡ false }
+    ensures cause { HasCleanDisk (state S.Store conn.new) → IfErr result (IsCausedFault (state S.Store conn.old) (state S.Store conn.new)) }
     ensures ok { (version : Version) (first : Held S) (court : CourtSettings) (next : ℕ) → ReadBefore version table.Entries (state S.Store first) court next (state S.Store conn.old) read
         → IfOk result (λ now. ReadBefore version table.Deadlines (state S.Store first) court next (state S.Store conn.new) now) }
     ensures err { (version : Version) (first : Held S) (court : CourtSettings) (next : ℕ) → ReadBefore version table.Entries (state S.Store first) court next (state S.Store conn.old) read
@@ -207,6 +214,7 @@ fn judge_deadlines<S: Alter, W: Watch>(
 ) -> Result<ActsRead, AdoptFault>
     ensures writes_nothing { Survives (state S.Store conn.old) (state S.Store conn.new) (λ _. ⊥) }
     ensures mode { conn.old.in_transaction ≡ false → conn.new.in_transaction ≡ false }
+    ensures cause { HasCleanDisk (state S.Store conn.new) → IfErr result (IsCausedFault (state S.Store conn.old) (state S.Store conn.new)) }
     ensures ok { (version : Version) (first : Held S) (court : CourtSettings) (next : ℕ) → ReadBefore version table.Deadlines (state S.Store first) court next (state S.Store conn.old) read
         → IfOk result (λ now. ActsBefore version (state S.Store first) court next (state S.Store conn.new) now) }
     ensures err { (version : Version) (first : Held S) (court : CourtSettings) (next : ℕ) → ReadBefore version table.Deadlines (state S.Store first) court next (state S.Store conn.old) read
@@ -265,6 +273,7 @@ fn judge_acts<S: Alter, W: Watch>(
 ) -> Result<EndsRead, AdoptFault>
     ensures writes_nothing { Survives (state S.Store conn.old) (state S.Store conn.new) (λ _. ⊥) }
     ensures mode { conn.old.in_transaction ≡ false → conn.new.in_transaction ≡ false }
+    ensures cause { HasCleanDisk (state S.Store conn.new) → IfErr result (IsCausedFault (state S.Store conn.old) (state S.Store conn.new)) }
     ensures ok { (version : Version) (first : Held S) (court : CourtSettings) (next : ℕ) → ActsBefore version (state S.Store first) court next (state S.Store conn.old) read
         → IfOk result (λ now. EndsBefore version table.Receipts (state S.Store first) court next (state S.Store conn.new) now) }
     ensures err { (version : Version) (first : Held S) (court : CourtSettings) (next : ℕ) → ActsBefore version (state S.Store first) court next (state S.Store conn.old) read
@@ -299,6 +308,7 @@ fn judge_receipts<S: Alter, W: Watch>(
 ) -> Result<EndsRead, AdoptFault>
     ensures writes_nothing { Survives (state S.Store conn.old) (state S.Store conn.new) (λ _. ⊥) }
     ensures mode { conn.old.in_transaction ≡ false → conn.new.in_transaction ≡ false }
+    ensures cause { HasCleanDisk (state S.Store conn.new) → IfErr result (IsCausedFault (state S.Store conn.old) (state S.Store conn.new)) }
     ensures ok { (first : Held S) (court : CourtSettings) (next : ℕ) → EndsBefore version table.Receipts (state S.Store first) court next (state S.Store conn.old) read
         → IfOk result (λ now. EndsBefore version table.Ends (state S.Store first) court next (state S.Store conn.new) now) }
     ensures err { (first : Held S) (court : CourtSettings) (next : ℕ) → EndsBefore version table.Receipts (state S.Store first) court next (state S.Store conn.old) read
@@ -322,6 +332,7 @@ fn judge_ends<S: Alter, W: Watch>(
 ) -> Result<LastRead, AdoptFault>
     ensures writes_nothing { Survives (state S.Store conn.old) (state S.Store conn.new) (λ _. ⊥) }
     ensures mode { conn.old.in_transaction ≡ false → conn.new.in_transaction ≡ false }
+    ensures cause { HasCleanDisk (state S.Store conn.new) → IfErr result (IsCausedFault (state S.Store conn.old) (state S.Store conn.new)) }
     ensures ok { (version : Version) (first : Held S) (court : CourtSettings) (next : ℕ) → EndsBefore version table.Ends (state S.Store first) court next (state S.Store conn.old) read
         → IfOk result (λ now. LastBefore version (state S.Store first) court next (state S.Store conn.new) now) }
     ensures err { (version : Version) (first : Held S) (court : CourtSettings) (next : ℕ) → EndsBefore version table.Ends (state S.Store first) court next (state S.Store conn.old) read
@@ -356,6 +367,7 @@ fn judge_short_days<S: Alter, W: Watch>(
 ) -> Result<Holdings, AdoptFault>
     ensures writes_nothing { Survives (state S.Store conn.old) (state S.Store conn.new) (λ _. ⊥) }
     ensures mode { conn.old.in_transaction ≡ false → conn.new.in_transaction ≡ false }
+    ensures cause { HasCleanDisk (state S.Store conn.new) → IfErr result (IsCausedFault (state S.Store conn.old) (state S.Store conn.new)) }
     ensures ok { (first : Held S) (court : CourtSettings) (next : ℕ) → LastBefore Second (state S.Store first) court next (state S.Store conn.old) read
         → IfOk result (λ now. HeldBefore (state S.Store first) court next (state S.Store conn.new) now) }
     ensures err { (first : Held S) (court : CourtSettings) (next : ℕ) → LastBefore Second (state S.Store first) court next (state S.Store conn.old) read
@@ -378,6 +390,7 @@ fn judge_local_rules<S: Alter, W: Watch>(
 ) -> Result<Holdings, AdoptFault>
     ensures writes_nothing { Survives (state S.Store conn.old) (state S.Store conn.new) (λ _. ⊥) }
     ensures mode { conn.old.in_transaction ≡ false → conn.new.in_transaction ≡ false }
+    ensures cause { HasCleanDisk (state S.Store conn.new) → IfErr result (IsCausedFault (state S.Store conn.old) (state S.Store conn.new)) }
     ensures told { (first : Held S) (court : CourtSettings) (next : ℕ) → HeldBefore (state S.Store first) court next (state S.Store conn.old) held
         → HasCleanDisk (state S.Store conn.new) → JudgedAll Second court next (state S.Store first) (state S.Store conn.new) (λ r held. held ≡ holdings_of court r) result }
 {
@@ -400,6 +413,7 @@ fn judge_more<S: Alter, W: Watch>(
 ) -> Result<Holdings, AdoptFault>
     ensures writes_nothing { Survives (state S.Store conn.old) (state S.Store conn.new) (λ _. ⊥) }
     ensures mode { conn.old.in_transaction ≡ false → conn.new.in_transaction ≡ false }
+    ensures cause { HasCleanDisk (state S.Store conn.new) → IfErr result (IsCausedFault (state S.Store conn.old) (state S.Store conn.new)) }
     ensures told { (first : Held S) (court : CourtSettings) (next : ℕ) → LastBefore version (state S.Store first) court next (state S.Store conn.old) read
         → HasCleanDisk (state S.Store conn.new) → JudgedAll version court next (state S.Store first) (state S.Store conn.new) (λ r held. held ≡ holdings_of court r) result }
 {
@@ -427,6 +441,7 @@ pub(crate) fn judge_tables<S: Alter, W: Watch>(
 ) -> Result<Holdings, AdoptFault>
     ensures writes_nothing { Survives (state S.Store conn.old) (state S.Store conn.new) (λ _. ⊥) }
     ensures mode { conn.old.in_transaction ≡ false → conn.new.in_transaction ≡ false }
+    ensures cause { HasCleanDisk (state S.Store conn.new) → IfErr result (IsCausedFault (state S.Store conn.old) (state S.Store conn.new)) }
     ensures told { HasCleanDisk (state S.Store conn.new)
         → JudgedAll version court next_row (state S.Store conn.old) (state S.Store conn.new) (λ r held. held ≡ holdings_of court r) result }
 {

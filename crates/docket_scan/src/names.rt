@@ -5,10 +5,13 @@ ghost use Rattle.sqlite.specs.State.{HasCleanDisk, Survives};
 ghost use Rattle.court_days.specs.Court.{CourtSettings};
 ghost use Rattle.docket_columns.specs.declared.version.Version.TheVariants.{Second};
 ghost use Rattle.docket_sound.specs.KnownTexts.{is_known};
+ghost use Rattle.docket_scan.specs.Causes.{IsCausedFault};
+ghost use Rattle.docket_scan.specs.Judging.{fault_in};
 ghost use Rattle.docket_scan.specs.Names.{NamesRead};
 ghost use Rattle.docket_scan.specs.Reading.{FailsOver, NamesBefore};
 ghost use Rattle.docket_scan.specs.Scans.{is_refusal};
 ghost use Rattle.docket_scan.specs.declared.fault.AdoptFault.TheVariants.{NoMemory, StoreFailed};
+ghost use Rattle.docket_tables.specs.declared.table.Table.TheVariants as table;
 
 use crate::fault::{AdoptFault, fault_in};
 use crate::scan::scan;
@@ -49,6 +52,7 @@ impl Taker for NameTaker {
 fn names_unread(alloc: Global, error: Error) -> Result<KnownTexts, AdoptFault>
     ensures ok { IfOk result (λ names. IsTrue (is_refusal error) × ((text : List ℕ) → is_known names text ≡ false)) }
     ensures err { IfErr result (λ fault. (fault ≡ NoMemory) ⊎ (fault ≡ StoreFailed)) }
+    ensures which { IfErr result (λ fault. fault ≡ fault_in table.LocalRules error) }
 {
     match fault_in(Table::LocalRules, error) {
         AdoptFault::Damaged(_) => Ok(KnownTexts::new(alloc)),
@@ -65,6 +69,7 @@ fn names_in<S: Alter, W: Watch>(
 ) -> Result<KnownTexts, AdoptFault>
     ensures writes_nothing { Survives (state S.Store conn.old) (state S.Store conn.new) (λ _. ⊥) }
     ensures mode { conn.old.in_transaction ≡ false → conn.new.in_transaction ≡ false }
+    ensures cause { HasCleanDisk (state S.Store conn.new) → IfErr result (IsCausedFault (state S.Store conn.old) (state S.Store conn.new)) }
     ensures told { HasCleanDisk (state S.Store conn.new) → NamesRead (state S.Store conn.old) (state S.Store conn.new) result }
 {
     let mut taker = NameTaker {
@@ -85,6 +90,7 @@ pub(crate) fn read_names<S: Alter, W: Watch>(
 ) -> Result<KnownTexts, AdoptFault>
     ensures writes_nothing { Survives (state S.Store conn.old) (state S.Store conn.new) (λ _. ⊥) }
     ensures mode { conn.old.in_transaction ≡ false → conn.new.in_transaction ≡ false }
+    ensures cause { HasCleanDisk (state S.Store conn.new) → IfErr result (IsCausedFault (state S.Store conn.old) (state S.Store conn.new)) }
     ensures ok { IfOk result (NamesBefore S.Store version conn.old conn.new) }
     ensures err { (court : CourtSettings) (next : ℕ) → IfErr result (FailsOver version (state S.Store conn.old) court next (state S.Store conn.new)) }
 {

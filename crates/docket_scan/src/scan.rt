@@ -1,7 +1,8 @@
 //! Reading a table row by row.
-ghost use Rattle.std.specs.Prelude.{◌≡◌, [], false};
+ghost use Rattle.std.specs.Prelude.{◌≡◌, [], false, IfErr};
 ghost use Rattle.sqlite.specs.Held.{state};
 ghost use Rattle.sqlite.specs.State.{HasCleanDisk, Survives};
+ghost use Rattle.docket_scan.specs.Causes.{IsCausedError};
 ghost use Rattle.docket_scan.specs.Scans.{Scanned};
 
 use crate::taker::Taker;
@@ -11,7 +12,7 @@ use sqlite::{Alter, Connection, Error, ErrorCode};
 use std::alloc::Global;
 
 /// Reads the table row by row, and tells of each. How many rows it has, where the check took them all;
-/// `None`: it refused one.
+/// `None`: it refused one. More rows than a number counts are a want of memory.
 pub(crate) fn scan<S: Alter, C: Taker, W: Watch>(
     conn: &mut Connection<S>,
     alloc: Global,
@@ -23,6 +24,7 @@ pub(crate) fn scan<S: Alter, C: Taker, W: Watch>(
     ensures mode { conn.old.in_transaction ≡ false → conn.new.in_transaction ≡ false }
     ensures told { HasCleanDisk (state S.Store conn.new) → C.HasTaken check.old []
         → Scanned table (state S.Store conn.old) (state S.Store conn.new) (C.HasTaken check.new) (C.IsSound (C.context check.old)) result }
+    ensures cause { HasCleanDisk (state S.Store conn.new) → IfErr result (IsCausedError (state S.Store conn.old) (state S.Store conn.new)) }
     ensures context { C.context check.new ≡ C.context check.old }
 {
     let mut rows = conn.query(scan_text(table), &[])?;
@@ -35,5 +37,6 @@ pub(crate) fn scan<S: Alter, C: Taker, W: Watch>(
         }
         watch.on_row();
     }
-    Err(Error::SqliteFailure(ErrorCode::OperationInterrupted))
+    // There is no number left to count them.
+    Err(Error::SqliteFailure(ErrorCode::OutOfMemory))
 }

@@ -1,14 +1,16 @@
 -- What is found in a database holds of the connection that comes back.
-use Rattle.std.proofs.Common.{◌≡◌, ◌∙◌, false, true, Ok, Err, sym, ap, subst, refl, arith}
+use Rattle.std.proofs.Common.{◌≡◌, ◌∙◌, inl, inr, false, true, Option, Ok, Err, sym, ap, subst, refl, arith}
 use Rattle.std.proofs.lemmas.Bool.{false≢true}
 use Rattle.sqlite_schema.specs.Names.{same_name}
 use Rattle.sqlite.specs.Schema.{Schema}
 use Rattle.sqlite.specs.Store.{Ghosts}
-use Rattle.sqlite.specs.State.{HasCleanDisk, Survives}
+use Rattle.sqlite.specs.State.{State, HasCleanDisk, Survives}
+use Rattle.sqlite.specs.declared.error.Error.{Error}
 use Rattle.sqlite.specs.Held.{Held, state}
 use Rattle.court_days.specs.Court.{CourtSettings}
 use Rattle.docket_core.specs.Histories.{History}
 use Rattle.docket_columns.specs.declared.version.Version.TheVariants.{Second}
+use Rattle.docket_scan.specs.Causes.{IsCausedFault}
 use Rattle.docket_scan.specs.Dockets.{IsFoundOfDocket}
 use Rattle.docket_scan.specs.Finding.{IsNotTaken, IsTaken}
 use Rattle.docket_scan.specs.Scans.{StaysOrRollsBack}
@@ -21,6 +23,7 @@ use Rattle.docket_tables.specs.Stands.{IsSettled, Lasts}
 use Rattle.docket_tables.specs.declared.table.Table.TheVariants as table
 use Rattle.docket_tables.proofs.StandsLemmas.{unchanged_settled, undone_lasting}
 use Rattle.docket_store.specs.Applying.{StandsFor, docket_rows}
+use Rattle.docket_store.specs.Causes.{IsCausedOpening, IsShort}
 use Rattle.docket_store.specs.Opening.{Finds}
 
 module _ {S : Type 0} (g : Ghosts S) (old new : Held S) (court : CourtSettings) (h : History) (crash : Survives (state g old) (state g new) (λ _. ⊥)) (idle : new.in_transaction ≡ false) (stands : StandsFor g old court h) where
@@ -57,3 +60,13 @@ court_there = refl
 pub not_unnamed : {S : Type 0} (g : Ghosts S) (conn : Held S) (court : CourtSettings) (h : History) → StandsFor g conn court h → HasCleanDisk (state g conn) → has_named conn.schema table.Court ≡ false → ⊥
 not_unnamed g conn court h stands clean none =
     false≢true (sym none ∙ ap (λ (schema : Schema). has_named schema table.Court) (stands.1 clean).shows.schema ∙ court_there)
+
+-- why a database failed as it was to be opened
+
+pub failed_opening : (old new : State) (failure : Option Error) (fault : AdoptFault) → IsCausedFault old new fault → IsCausedOpening old new failure fault
+failed_opening old new failure StoreFailed failed = inl failed
+failed_opening old new failure _ failed = tt
+
+pub short_opening : (old new : State) (failure : Option Error) (fault : AdoptFault) → IsShort failure → IsCausedOpening old new failure fault
+short_opening old new failure StoreFailed short = inr (inr short)
+short_opening old new failure _ short = tt

@@ -1,5 +1,5 @@
 -- Why a docket's database failed.
-use Rattle.std.specs.Prelude.{◌≡◌, ℕ, Option, Some, IsSome, Result, Err}
+use Rattle.std.specs.Prelude.{◌≡◌, ◌⊎◌, ℕ, IsTrue, Option, Some, IsSome, Result, Err}
 use Rattle.sqlite.specs.Held.{state}
 use Rattle.sqlite.specs.State.{State}
 use Rattle.sqlite.specs.Store.{Ghosts}
@@ -9,7 +9,10 @@ use Rattle.docket_command.specs.declared.command.Command.{Command}
 use Rattle.docket_command.specs.declared.refusal.Reply.{Reply}
 use Rattle.docket_core.specs.Histories.{History}
 use Rattle.docket_core.specs.Outcomes.{accepted, outcome}
-use Rattle.docket_tables.specs.Causes.{IsCaused}
+use Rattle.docket_scan.specs.Causes.{HasFailed}
+use Rattle.docket_scan.specs.declared.fault.AdoptFault.{AdoptFault}
+use Rattle.docket_scan.specs.declared.fault.AdoptFault.TheVariants as adopt
+use Rattle.docket_tables.specs.Causes.{IsCaused, IsOfMemory}
 use Rattle.docket_store.specs.Dockets.{Docket}
 use Rattle.docket_store.specs.declared.fault.Fault.{Fault}
 use Rattle.docket_store.specs.declared.fault.Fault.TheVariants.{StoreFailed}
@@ -44,3 +47,12 @@ IsClosedForCause g old new = (e : Error) × (new.closed_by ≡ Some e) × IsCaus
 -- the command is refused or a repeat, so that nothing is written for it
 abbrev pub IsNotAccepted : CourtSettings → History → Command → Type 0
 IsNotAccepted court h c = (reply : Reply) → outcome court h c ≡ accepted reply → ⊥
+
+-- memory was refused, and this is told
+abbrev pub IsShort : Option Error → Type 0
+IsShort failure = (e : Error) × (failure ≡ Some e) × IsOfMemory e
+
+-- a database failed as it was to be opened for a docket: it failed for a cause, a transaction was open on it, or memory was refused
+abbrev pub IsCausedOpening : State → State → Option Error → AdoptFault → Type 0
+IsCausedOpening old new failure adopt.StoreFailed = HasFailed old new ⊎ (IsTrue old.in_transaction ⊎ IsShort failure)
+IsCausedOpening old new failure _ = Unit {0}

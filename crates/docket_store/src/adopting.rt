@@ -1,7 +1,7 @@
 //! The docket that a database holds.
-ghost use Rattle.std.specs.Prelude.{◌≡◌, ◌⊎◌, ◌≤◌, Err, OnOk, IsErrAnd, false};
+ghost use Rattle.std.specs.Prelude.{◌≡◌, ◌⊎◌, ◌≤◌, Err, OnOk, IfErr, IsErrAnd, false};
 ghost use Rattle.sqlite.specs.Held.{state};
-ghost use Rattle.sqlite.specs.State.{Survives};
+ghost use Rattle.sqlite.specs.State.{HasCleanDisk, Survives};
 ghost use Rattle.sqlite.specs.View.{doubt};
 ghost use Rattle.court_days.specs.Court.{CourtSettings};
 ghost use Rattle.docket_core.specs.Histories.{History};
@@ -12,6 +12,7 @@ ghost use Rattle.docket_tables.specs.Stands.{HoldsRows, Lasts};
 ghost use Rattle.docket_tables.specs.declared.table.Table.TheVariants as table;
 ghost use Rattle.docket_store.specs.AnyRows.{PreservesJudged};
 ghost use Rattle.docket_store.specs.Applying.{IsDocket, StandsFor};
+ghost use Rattle.docket_store.specs.Causes.{IsCausedOpening, IsShort};
 ghost use Rattle.docket_store.specs.Opening.{Finds, IsNotAdopted, IsToldOf};
 
 use docket_columns::Version;
@@ -20,15 +21,18 @@ use docket_tables::{StoreFault, Table, fault_of};
 use sqlite::{Alter, Connection, Error, ErrorCode};
 use std::alloc::Global;
 
-/// What want of memory comes to: the database may have failed by it.
-fn want_of_memory<S: Alter>(conn: &mut Connection<S>) -> AdoptFault
+/// What want of memory comes to: the database may have failed by it. It is kept as the last failure.
+fn want_of_memory<S: Alter>(conn: &mut Connection<S>, failure: &mut Option<Error>) -> AdoptFault
     requires { conn.old.in_transaction ≡ false }
     ensures clean { doubt (state S.Store conn.old).is_clean ≤ doubt (state S.Store conn.new).is_clean }
     ensures writes_nothing { Survives (state S.Store conn.old) (state S.Store conn.new) (λ _. ⊥) }
     ensures left { (rows : Rows) → Lasts S.Store conn.old rows → IsNotAdopted S.Store conn.new rows result }
     ensures fault { (result ≡ NoMemory) ⊎ (result ≡ StoreFailed) }
+    ensures short { IsShort failure.new }
 {
-    match fault_of(conn, Error::SqliteFailure(ErrorCode::OutOfMemory)) {
+    let error = Error::SqliteFailure(ErrorCode::OutOfMemory);
+    *failure = Some(error);
+    match fault_of(conn, error) {
         StoreFault::NoMemory => AdoptFault::NoMemory,
         StoreFault::StoreFailed => AdoptFault::StoreFailed,
     }
@@ -39,6 +43,7 @@ fn judged_docket<S: Alter, W: Watch>(
     conn: &mut Connection<S>,
     alloc: Global,
     watch: &mut W,
+    failure: &mut Option<Error>,
 ) -> Result<FoundDocket, AdoptFault>
     requires { conn.old.in_transaction ≡ false }
     ensures idle { OnOk result (conn.new.in_transaction ≡ false) }
@@ -48,20 +53,22 @@ fn judged_docket<S: Alter, W: Watch>(
     ensures found { (court : CourtSettings) (h : History) → IsDocket court h → StandsFor S.Store conn.old court h
         → Finds S.Store conn.new court h result }
     ensures told { IsToldOf S.Store conn.old conn.new result }
+    ensures cause { HasCleanDisk (state S.Store conn.new) → IfErr result (IsCausedOpening (state S.Store conn.old) (state S.Store conn.new) failure.new) }
 {
     match find_docket(conn, alloc, Version::KEPT, watch) {
         Ok(found) => Ok(found),
-        Err(fault) if fault == AdoptFault::NoMemory => Err(want_of_memory(conn)),
+        Err(fault) if fault == AdoptFault::NoMemory => Err(want_of_memory(conn, failure)),
         Err(fault) => Err(fault),
     }
 }
 
 /// The docket that a database holds, whatever database it is. The faults are looked for in their order.
-/// Nothing is written.
+/// Nothing is written. Where memory was refused, that is kept as the last failure.
 pub(crate) fn adopt_from<S: Alter, W: Watch>(
     conn: &mut Connection<S>,
     alloc: Global,
     watch: &mut W,
+    failure: &mut Option<Error>,
 ) -> Result<FoundDocket, AdoptFault>
     ensures idle { OnOk result (conn.new.in_transaction ≡ false) }
     ensures clean { doubt (state S.Store conn.old).is_clean ≤ doubt (state S.Store conn.new).is_clean }
@@ -70,6 +77,7 @@ pub(crate) fn adopt_from<S: Alter, W: Watch>(
     ensures found { (court : CourtSettings) (h : History) → IsDocket court h → StandsFor S.Store conn.old court h
         → Finds S.Store conn.new court h result }
     ensures told { IsToldOf S.Store conn.old conn.new result }
+    ensures cause { HasCleanDisk (state S.Store conn.new) → IfErr result (IsCausedOpening (state S.Store conn.old) (state S.Store conn.new) failure.new) }
     ensures unread { has_named conn.old.schema table.Court ≡ false → IsErrAnd result (λ fault. fault ≡ Empty) × (conn.new ≡ conn.old) }
 {
     if !has_named(conn.schema(), Table::Court) {
@@ -78,5 +86,5 @@ pub(crate) fn adopt_from<S: Alter, W: Watch>(
     if !conn.is_autocommit() {
         return Err(AdoptFault::StoreFailed);
     }
-    judged_docket(conn, alloc, watch)
+    judged_docket(conn, alloc, watch, failure)
 }

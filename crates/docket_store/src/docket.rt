@@ -23,7 +23,7 @@ ghost use Rattle.docket_tables.specs.Stands.{HoldsRows, HoldsRowsIn};
 ghost use Rattle.docket_tables.specs.declared.table.Table.TheVariants as table;
 ghost use Rattle.docket_store.specs.AnyRows.{Preserves, PreservesCalendar, PreservesListing, PreservesRejected, WritesWhole};
 ghost use Rattle.docket_store.specs.Applying.{IsDocket, StandsFor, Stands, Applies, Asks, docket_rows};
-ghost use Rattle.docket_store.specs.Causes.{IsClosedForCause, IsNamed, IsNotAccepted};
+ghost use Rattle.docket_store.specs.Causes.{IsCausedOpening, IsClosedForCause, IsNamed, IsNotAccepted};
 ghost use Rattle.docket_store.specs.Grounds.{AreGrounds};
 ghost use Rattle.docket_store.specs.Listing.{Lists, ListsCalendar};
 ghost use Rattle.docket_store.specs.Migrating.{cause_of};
@@ -96,14 +96,20 @@ impl<S: Alter> Docket<S> {
                 closed_by: None,
                 calendar: None,
             }),
-            Err(fault) => Err(Returned { fault, connection }),
+            Err(fault) => Err(Returned {
+                fault,
+                failure: None,
+                connection,
+            }),
         }
     }
 
     /// Adopts the docket that a database holds, whatever database it is. Its tables are judged in their
     /// order, each by those before it, in time linear in the rows and in memory that does not grow with
-    /// the entries. Nothing is written. The faults are looked for in their order, and want of memory or a
-    /// failure of the database may come before any of them.
+    /// the entries. Nothing is written. The faults are looked for in their order. Want of memory may come
+    /// before any of them, and so may a failure of the database, but only for a cause: its disk failed or
+    /// refused, a limit on steps was set, the connection was shut, a transaction is open on it, or memory was
+    /// refused, which is then told as the `failure`.
     pub fn adopt(alloc: Global, conn: Connection<S>) -> Result<Docket<S>, Returned<S, AdoptFault>>
         // The docket of a history is adopted as it is, and no other fault comes.
         ensures adopted { (court : CourtSettings) (h : History) → IsDocket court h → StandsFor S.Store conn court h
@@ -115,6 +121,9 @@ impl<S: Alter> Docket<S> {
         // Without a court there is no docket, and the connection comes back as it was.
         ensures empty { has_named conn.schema table.Court ≡ false
             → IsErrAnd result (λ returned. (returned.fault ≡ Empty) × (returned.connection ≡ conn)) }
+        // The database failed only for a cause.
+        ensures cause { IfErr result (λ returned. HasCleanDisk (state S.Store returned.connection)
+            → IsCausedOpening (state S.Store conn) (state S.Store returned.connection) returned.failure returned.fault) }
         // Nothing is written, whatever the answer.
         ensures writes_nothing { MatchResult result
             (λ docket. Survives (state S.Store conn) (state S.Store docket.conn) (λ _. ⊥))
@@ -146,6 +155,9 @@ impl<S: Alter> Docket<S> {
             (λ returned. IsRejected S.Store conn returned.connection returned.fault) }
         ensures empty { has_named conn.schema table.Court ≡ false
             → IsErrAnd result (λ returned. (returned.fault ≡ Empty) × (returned.connection ≡ conn)) }
+        // The database failed only for a cause.
+        ensures cause { IfErr result (λ returned. HasCleanDisk (state S.Store returned.connection)
+            → IsCausedOpening (state S.Store conn) (state S.Store returned.connection) returned.failure returned.fault) }
         // Nothing is written, whatever the answer.
         ensures writes_nothing { MatchResult result
             (λ found. Survives (state S.Store conn) (state S.Store found.0.conn) (λ _. ⊥))
@@ -157,7 +169,8 @@ impl<S: Alter> Docket<S> {
             (λ returned. doubt (state S.Store conn).is_clean ≤ doubt (state S.Store returned.connection).is_clean) }
     {
         let mut connection = conn;
-        match adopt_from(&mut connection, alloc, watch) {
+        let mut failure = None;
+        match adopt_from(&mut connection, alloc, watch, &mut failure) {
             Ok(FoundDocket { court, held }) => {
                 let docket = Docket {
                     alloc,
@@ -168,7 +181,11 @@ impl<S: Alter> Docket<S> {
                 };
                 Ok((docket, held))
             }
-            Err(fault) => Err(Returned { fault, connection }),
+            Err(fault) => Err(Returned {
+                fault,
+                failure,
+                connection,
+            }),
         }
     }
 
@@ -225,6 +242,7 @@ impl<S: Alter> Docket<S> {
             Ok(()) => Ok(connection),
             Err(fault) => Err(Returned {
                 fault: MigrateFault::from(fault),
+                failure: None,
                 connection,
             }),
         }
@@ -266,7 +284,8 @@ impl<S: Alter> Docket<S> {
         &self.court
     }
 
-    /// Whether the database failed: each call but `court`, `is_closed` and `close` answers Closed then.
+    /// Whether the database failed: each call but `court`, `is_closed`, `closed_by` and `close` answers
+    /// Closed then.
     pub fn is_closed(&self) -> bool
         ensures { result ≡ self.now.closed }
     {

@@ -2,6 +2,7 @@
 ghost use Rattle.std.specs.Prelude.{◌≡◌, ◌≤◌, [], length, false, IfErr, IfOk, IsErrAnd, MatchResult, vec_capacity, vec_len};
 ghost use Rattle.line_io.specs.Steps.{Reaches};
 ghost use Rattle.sqlite.specs.Held.{state};
+ghost use Rattle.sqlite.specs.State.{HasCleanDisk};
 ghost use Rattle.sqlite.specs.View.{doubt};
 ghost use Rattle.court_days.specs.Court.{CourtSettings};
 ghost use Rattle.docket_core.specs.Histories.{History};
@@ -12,6 +13,7 @@ ghost use Rattle.docket_tables.specs.Layouts.{Rows};
 ghost use Rattle.docket_tables.specs.Stands.{HoldsRows};
 ghost use Rattle.docket_store.specs.AnyRows.{PreservesRejected, WritesAtMostOne};
 ghost use Rattle.docket_store.specs.Applying.{IsDocket, StandsFor, Stands, docket_rows};
+ghost use Rattle.docket_store.specs.Causes.{IsCausedOpening};
 ghost use Rattle.docket_store.specs.Dockets.{Docket as Kept};
 ghost use Rattle.docket_store.specs.Opening.{IsNotAdopted, IsRejected, WasSound};
 ghost use Rattle.docket_store.specs.Sessions.{EndsSession};
@@ -81,6 +83,9 @@ pub fn session<S: Alter>(
     // Of any database, its tables were sound, or a fault tells why it is no docket's.
     ensures told { MatchResult result (λ end. WasSound S.Store connection end.connection)
         (λ returned. IsRejected S.Store connection returned.connection returned.fault) }
+    // The database failed only for a cause.
+    ensures cause { IfErr result (λ returned. HasCleanDisk (state S.Store returned.connection)
+        → IsCausedOpening (state S.Store connection) (state S.Store returned.connection) returned.failure returned.fault) }
     ensures clean { MatchResult result
         (λ end. doubt (state S.Store connection).is_clean ≤ doubt (state S.Store end.connection).is_clean)
         (λ returned. doubt (state S.Store connection).is_clean ≤ doubt (state S.Store returned.connection).is_clean) }
@@ -97,6 +102,7 @@ pub fn session<S: Alter>(
         }
         Err(_) => Err(Returned {
             fault: AdoptFault::NoMemory,
+            failure: None,
             connection: docket.close(),
         }),
     }

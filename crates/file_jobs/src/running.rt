@@ -58,7 +58,13 @@ pub(crate) fn run_over<S: Alter, V: Watch + Drop, R: Read, W: Write>(
 {
     match adopt(alloc, conn, watch) {
         Ok((docket, _)) => answer_lines(alloc, docket, reader, writer),
-        Err(Returned { fault, connection }) => Worked {
+        Err(
+            Returned {
+                fault,
+                connection,
+                ..
+            },
+        ) => Worked {
             outcome: Err(fault),
             connection,
         },

@@ -126,12 +126,7 @@ fn created<S: Alter + Drop>(
 {
     match Docket::create(alloc, conn, court) {
         Ok(docket) => Ok(docket),
-        Err(
-            Returned {
-                fault,
-                connection: _,
-            },
-        ) => Err(fault),
+        Err(Returned { fault, .. }) => Err(fault),
     }
 }
 

@@ -12,12 +12,7 @@ pub(crate) fn docket(alloc: Global, zone: &str) -> Result<Docket<MemStore>, Erro
     let connection = Connection::open_in_memory(alloc)?;
     match Docket::create(alloc, connection, court) {
         Ok(docket) => Ok(docket),
-        Err(
-            Returned {
-                fault,
-                connection: _,
-            },
-        ) => Err(anyhow!("{fault}")),
+        Err(Returned { fault, .. }) => Err(anyhow!("{fault}")),
     }
 }
 

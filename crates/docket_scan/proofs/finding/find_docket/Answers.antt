@@ -1,6 +1,8 @@
-use Rattle.std.proofs.Common.{◌∙◌, Ok, sym, arith}
+use Rattle.std.proofs.Common.{◌∙◌, inl, inr, Ok, sym, subst, arith}
 use Rattle.sqlite.specs.Held.{state}
 use Rattle.sqlite.specs.State.{HasCleanDisk}
+use Rattle.docket_scan.specs.Causes.{IsCausedFault}
+use Rattle.docket_scan.proofs.CauseLemmas.{err_caused, fault_after}
 use Rattle.docket_scan.proofs.DocketCourt.{docket_found}
 use Rattle.docket_scan.proofs.FindingLemmas.{court_had, court_refused, judged_fault, judged_sound, not_taken}
 use Rattle.docket_scan.proofs.finding.find_docket.Goals as goal
@@ -63,3 +65,22 @@ returns-clause-docket g c clean =
     let early : HasCleanDisk old = omega (arith, clean, c.judge_tables.ensures.writes_nothing.clean, c.read_court.ensures.writes_nothing.clean) in
     docket_found g.S.Store c.args.version c.args.conn.now (state g.S.Store c.judge_tables.new.conn) (Ok (record { court = c.in_ok-court.court; held = c.in_ok-held.held })) early
     (returns-clause-told g c clean)
+
+pub returns-in_err-row-clause-cause : goal.returns-in_err-row-clause-cause
+returns-in_err-row-clause-cause g c clean =
+    err_caused (state g.S.Store c.args.conn.now) (state g.S.Store c.read_court.new.conn) c.in_err-row.field-0.0 c.from_residual.result c.from_residual.ensures.1 (c.in_err-row.ensures.cause clean)
+
+pub returns-in_err-judged-clause-cause : goal.returns-in_err-judged-clause-cause
+returns-in_err-judged-clause-cause g c clean =
+    let old = state g.S.Store c.args.conn.now in
+    let new = state g.S.Store c.read_court.new.conn in
+    err_caused old new c.in_err-judged.field-0.0 c.from_residual-in_err-judged.result c.from_residual-in_err-judged.ensures.1 (elim c.in_err-judged.ensures.err [
+      | inl short ↦ subst (IsCausedFault old new) (sym short) tt
+      | inr unsound ↦ subst (IsCausedFault old new) (sym unsound.0) tt
+    ])
+
+pub returns-in_err-held-clause-cause : goal.returns-in_err-held-clause-cause
+returns-in_err-held-clause-cause g c clean =
+    let fault = c.in_err-held.field-0.0 in
+    err_caused (state g.S.Store c.args.conn.now) (state g.S.Store c.judge_tables.new.conn) fault c.from_residual-in_err-held.result c.from_residual-in_err-held.ensures.1
+    (fault_after c.read_court.ensures.writes_nothing c.judge_tables.ensures.writes_nothing clean fault (c.in_err-held.ensures.cause clean))

@@ -15,6 +15,7 @@ use Rattle.docket_scan.specs.Scans.{OfSoMany}
 use Rattle.docket_scan.specs.Taken.{ActContext, IsRead}
 use Rattle.docket_scan.specs.declared.fault.AdoptFault.TheVariants.{NoMemory}
 use Rattle.docket_scan.proofs.ActLemmas.{acts_refused, acts_told, begun}
+use Rattle.docket_scan.proofs.CauseLemmas.{err_caused}
 use Rattle.docket_scan.proofs.JudgingLemmas.{each_has, failed, handed, sound_before}
 use Rattle.docket_scan.proofs.judging.judge_acts.Goals as goal
 
@@ -81,3 +82,9 @@ returns-in-None-clause-err g c v first court next prior clean =
     let read = held.3.1 in
     acts_refused v court next start old new c.args.read was c.in_ok-check-2.check c.in_ok-check-2.field-0-1 context told.0 held
     (λ sound. false≢true ((rw c.in-None.is at (c.in_ok-ends.ensures.sound read.records read.taken)).1 sound))
+
+pub returns-in_err-check-2-clause-cause : goal.returns-in_err-check-2-clause-cause
+returns-in_err-check-2-clause-cause g c clean =
+    let old = state g.S.Store c.args.conn.now in
+    let new = state g.S.Store c.judge.new.conn in
+    err_caused old new c.in_err-check-2.field-0.0 c.from_residual-in_err-check-2.result c.from_residual-in_err-check-2.ensures.1 (c.in_err-check-2.ensures.cause clean)

@@ -12,6 +12,7 @@ use Rattle.docket_scan.specs.Reading.{FailsOver, IsReady, Says}
 use Rattle.docket_scan.specs.Records.{AreCalendarRows}
 use Rattle.docket_scan.specs.Taken.{CalendarContext, calendar_context}
 use Rattle.docket_scan.specs.declared.fault.AdoptFault.TheVariants.{NoMemory}
+use Rattle.docket_scan.proofs.CauseLemmas.{err_caused}
 use Rattle.docket_scan.proofs.JudgingLemmas.{failed_first, failed_since, handed, read_rows, read_since, so_many}
 use Rattle.docket_scan.proofs.judging.judge_calendar.Goals as goal
 
@@ -77,3 +78,9 @@ returns-clause-ok g c v first prior clean =
       sound = (read_rows table.Calendar old IsCalendarRow calendar_cells taken c.in_ok-check.count told.1 (AreSoundCalendarRows c.args.court next) sound, tt);
       said = subst (λ k. Says k next rows c.in_ok-read.read) court said;
     })
+
+pub returns-in_err-check-clause-cause : goal.returns-in_err-check-clause-cause
+returns-in_err-check-clause-cause g c clean =
+    let old = state g.S.Store c.args.conn.now in
+    let new = state g.S.Store c.judge.new.conn in
+    err_caused old new c.in_err-check.field-0.0 c.from_residual.result c.from_residual.ensures.1 (c.in_err-check.ensures.cause clean)

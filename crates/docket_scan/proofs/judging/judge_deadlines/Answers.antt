@@ -14,6 +14,7 @@ use Rattle.docket_scan.specs.Reading.{FailsOver}
 use Rattle.docket_scan.specs.Records.{count_in}
 use Rattle.docket_scan.specs.Scans.{OfSoMany}
 use Rattle.docket_scan.specs.Taken.{DeadlineContext, IsRead, deadline_context}
+use Rattle.docket_scan.proofs.CauseLemmas.{err_caused}
 use Rattle.docket_scan.proofs.DeadlineLemmas.{AreRowsOfContext, begun}
 use Rattle.docket_scan.proofs.JudgingLemmas.{all_more, each_has, failed, handed, read_rows, so_many, sound_before}
 use Rattle.docket_scan.proofs.judging.judge_deadlines.Goals as goal
@@ -62,3 +63,9 @@ returns-clause-ok g c v first court next prior clean =
         held = λ i. record (was.said.held i) { deadlines = count i };
       };
     }
+
+pub returns-in_err-check-2-clause-cause : goal.returns-in_err-check-2-clause-cause
+returns-in_err-check-2-clause-cause g c clean =
+    let old = state g.S.Store c.args.conn.now in
+    let new = state g.S.Store c.judge.new.conn in
+    err_caused old new c.in_err-check-2.field-0.0 c.from_residual-in_err-check-2.result c.from_residual-in_err-check-2.ensures.1 (c.in_err-check-2.ensures.cause clean)

@@ -12,6 +12,7 @@ use Rattle.docket_scan.specs.Reading.{FailsOver}
 use Rattle.docket_scan.specs.Records.{AreEndRows}
 use Rattle.docket_scan.specs.Scans.{OfSoMany}
 use Rattle.docket_scan.specs.Taken.{IsRead, ends_expected}
+use Rattle.docket_scan.proofs.CauseLemmas.{err_caused}
 use Rattle.docket_scan.proofs.JudgingLemmas.{all_more, each_has, failed, handed, read_rows, sound_before}
 use Rattle.docket_scan.proofs.RecordLemmas.{all_read}
 use Rattle.docket_scan.proofs.judging.judge_ends.Goals as goal
@@ -82,3 +83,9 @@ returns-else-is_sound-clause-err g c v first court next prior clean =
         λ whole. false≢true (sym c.if-is_sound.false ∙ exact.1 (all_read IsEndRow end_cells taken (λ records. records ≡ _) held.1 read whole ∙ sym given)),
       ))),
     )
+
+pub returns-in_err-check-clause-cause : goal.returns-in_err-check-clause-cause
+returns-in_err-check-clause-cause g c clean =
+    let old = state g.S.Store c.args.conn.now in
+    let new = state g.S.Store c.judge.new.conn in
+    err_caused old new c.in_err-check.field-0.0 c.from_residual.result c.from_residual.ensures.1 (c.in_err-check.ensures.cause clean)

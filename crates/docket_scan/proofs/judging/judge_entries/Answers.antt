@@ -11,6 +11,7 @@ use Rattle.docket_scan.specs.Reading.{FailsOver}
 use Rattle.docket_scan.specs.Records.{AreEntryRows}
 use Rattle.docket_scan.specs.Scans.{OfSoMany}
 use Rattle.docket_scan.specs.Taken.{IsRead}
+use Rattle.docket_scan.proofs.CauseLemmas.{err_caused}
 use Rattle.docket_scan.proofs.JudgingLemmas.{all_more, each_has, failed, handed, read_rows, so_many, sound_before}
 use Rattle.docket_scan.proofs.judging.judge_entries.Goals as goal
 
@@ -57,3 +58,9 @@ returns-clause-ok g c v first court next prior clean =
         held = λ i. record (was.said.held i) { entries = count i };
       };
     }
+
+pub returns-in_err-count-clause-cause : goal.returns-in_err-count-clause-cause
+returns-in_err-count-clause-cause g c clean =
+    let old = state g.S.Store c.args.conn.now in
+    let new = state g.S.Store c.judge.new.conn in
+    err_caused old new c.in_err-count.field-0.0 c.from_residual-in_err-count.result c.from_residual-in_err-count.ensures.1 (c.in_err-count.ensures.cause clean)

@@ -12,6 +12,7 @@ use Rattle.docket_scan.specs.Judging.{Holds, before}
 use Rattle.docket_scan.specs.Records.{AreLocalRuleRows}
 use Rattle.docket_scan.specs.Scans.{OfSoMany}
 use Rattle.docket_scan.specs.Taken.{IsRead}
+use Rattle.docket_scan.proofs.CauseLemmas.{err_caused}
 use Rattle.docket_scan.proofs.JudgingLemmas.{all_more, failed, read_rows, so_many, sound_before, told_of}
 use Rattle.docket_scan.proofs.judging.judge_local_rules.Goals as goal
 
@@ -48,3 +49,9 @@ returns-clause-told g c first court next prior clean =
           (read_rows table.LocalRules start IsLocalRuleRow local_rule_cells taken c.in_ok-count.count held AreSoundLocalRules read.taken.sound),
       λ i. record (was.said i) { local_rules = count i },
     )
+
+pub returns-in_err-count-clause-cause : goal.returns-in_err-count-clause-cause
+returns-in_err-count-clause-cause g c clean =
+    let old = state g.S.Store c.args.conn.now in
+    let new = state g.S.Store c.judge.new.conn in
+    err_caused old new c.in_err-count.field-0.0 c.from_residual.result c.from_residual.ensures.1 (c.in_err-count.ensures.cause clean)

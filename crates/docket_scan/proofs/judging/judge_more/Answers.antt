@@ -4,6 +4,7 @@ use Rattle.docket_columns.specs.declared.version.Version.TheVariants.{Second}
 use Rattle.docket_scan.specs.Holdings.{holdings_of}
 use Rattle.docket_scan.specs.Judging.{JudgedAll}
 use Rattle.docket_scan.specs.Reading.{LastBefore}
+use Rattle.docket_scan.proofs.CauseLemmas.{err_caused, result_after}
 use Rattle.docket_scan.proofs.JudgingLemmas.{first_judged, told_of}
 use Rattle.docket_scan.proofs.judging.judge_more.Goals as goal
 
@@ -31,3 +32,13 @@ returns-in_ok-held-in-Second-clause-told g c first court next prior clean =
     let held = c.in_ok-held-in-Second.ensures.ok first court next last in
     subst (λ v. JudgedAll v court next start new (λ r held. held ≡ holdings_of court r) c.judge_local_rules.result) (sym c.in-Second.is)
     (c.judge_local_rules.ensures.told first court next held clean)
+
+pub returns-in_err-held-in-Second-clause-cause : goal.returns-in_err-held-in-Second-clause-cause
+returns-in_err-held-in-Second-clause-cause g c clean =
+    let old = state g.S.Store c.args.conn.now in
+    let new = state g.S.Store c.judge_short_days.new.conn in
+    err_caused old new c.in_err-held-in-Second.field-0.0 c.from_residual.result c.from_residual.ensures.1 (c.in_err-held-in-Second.ensures.cause clean)
+
+pub returns-in_ok-held-in-Second-clause-cause : goal.returns-in_ok-held-in-Second-clause-cause
+returns-in_ok-held-in-Second-clause-cause g c clean =
+    result_after c.judge_short_days.ensures.writes_nothing c.judge_local_rules.ensures.writes_nothing clean c.judge_local_rules.result (c.judge_local_rules.ensures.cause clean)

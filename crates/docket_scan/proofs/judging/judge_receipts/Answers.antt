@@ -8,6 +8,7 @@ use Rattle.docket_scan.specs.Reading.{FailsOver}
 use Rattle.docket_scan.specs.Records.{AreReceiptRows, AreSoundStored, IsStoredReceipt, receipt_cells}
 use Rattle.docket_scan.specs.Scans.{OfSoMany}
 use Rattle.docket_scan.specs.Taken.{HasTakenStored, IsRead}
+use Rattle.docket_scan.proofs.CauseLemmas.{err_caused}
 use Rattle.docket_scan.proofs.JudgingLemmas.{all_more, each_has, failed, handed, read_rows, so_many, sound_before}
 use Rattle.docket_scan.proofs.judging.judge_receipts.Goals as goal
 
@@ -52,3 +53,9 @@ returns-clause-ok g c first court next prior clean =
         held = λ i. record (was.said.held i) { receipts = count i };
       };
     }
+
+pub returns-in_err-count-clause-cause : goal.returns-in_err-count-clause-cause
+returns-in_err-count-clause-cause g c clean =
+    let old = state g.S.Store c.args.conn.now in
+    let new = state g.S.Store c.judge.new.conn in
+    err_caused old new c.in_err-count.field-0.0 c.from_residual.result c.from_residual.ensures.1 (c.in_err-count.ensures.cause clean)

@@ -12,6 +12,7 @@ use Rattle.docket_scan.specs.Judging.{Holds, before}
 use Rattle.docket_scan.specs.Reading.{FailsOver}
 use Rattle.docket_scan.specs.Scans.{OfSoMany}
 use Rattle.docket_scan.specs.Taken.{IsRead, ShortDayContext, short_day_context}
+use Rattle.docket_scan.proofs.CauseLemmas.{err_caused}
 use Rattle.docket_scan.proofs.JudgingLemmas.{all_more, failed, handed, read_rows, so_many, sound_before}
 use Rattle.docket_scan.proofs.ShortDayLemmas.{AreSoundRows, readied, few, now_held}
 use Rattle.docket_scan.proofs.judging.judge_short_days.Goals as goal
@@ -57,3 +58,9 @@ returns-clause-ok g c first court next prior clean =
           (read_rows table.ShortDays start IsShortDayRow short_day_cells taken c.in_ok-count.count held (AreSoundShortDays court.close_minute next numbers) sound);
       said = now_held court next was.rows was.said.short_days.unread c.args.read.held was.said.held read.records sound c.in_ok-count.count count _ total;
     }
+
+pub returns-in_err-count-clause-cause : goal.returns-in_err-count-clause-cause
+returns-in_err-count-clause-cause g c clean =
+    let old = state g.S.Store c.args.conn.now in
+    let new = state g.S.Store c.judge.new.conn in
+    err_caused old new c.in_err-count.field-0.0 c.from_residual.result c.from_residual.ensures.1 (c.in_err-count.ensures.cause clean)

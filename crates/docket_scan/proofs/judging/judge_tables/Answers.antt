@@ -1,6 +1,7 @@
 use Rattle.std.proofs.Common.{◌≡◌}
 use Rattle.sqlite.specs.Held.{state}
 use Rattle.docket_scan.specs.Holdings.{holdings_of}
+use Rattle.docket_scan.proofs.CauseLemmas.{err_caused, fault_after, result_after}
 use Rattle.docket_scan.proofs.JudgingLemmas.{nothing_then, told_of}
 use Rattle.docket_scan.proofs.judging.judge_tables.Goals as goal
 
@@ -182,3 +183,60 @@ returns-clause-told g c clean =
     let ends = c.in_ok-ends-2.ensures.ok first court next ends in
     let last = c.in_ok-last.ensures.ok version first court next ends in
     c.judge_more.ensures.told first court next last clean
+
+pub returns-in_err-names-clause-cause : goal.returns-in_err-names-clause-cause
+returns-in_err-names-clause-cause g c clean =
+    let fault = c.in_err-names.field-0.0 in
+    err_caused (state g.S.Store c.args.conn.now) (state g.S.Store c.read_names.new.conn) fault c.from_residual.result c.from_residual.ensures.1 (c.in_err-names.ensures.cause clean)
+
+pub returns-in_err-read-clause-cause : goal.returns-in_err-read-clause-cause
+returns-in_err-read-clause-cause g c clean =
+    let fault = c.in_err-read.field-0.0 in
+    err_caused (state g.S.Store c.args.conn.now) (state g.S.Store c.judge_calendar.new.conn) fault c.from_residual-in_err-read.result c.from_residual-in_err-read.ensures.1
+    (fault_after c.read_names.ensures.writes_nothing c.judge_calendar.ensures.writes_nothing clean fault (c.in_err-read.ensures.cause clean))
+
+pub returns-in_err-read-2-clause-cause : goal.returns-in_err-read-2-clause-cause
+returns-in_err-read-2-clause-cause g c clean =
+    let fault = c.in_err-read-2.field-0.0 in
+    err_caused (state g.S.Store c.args.conn.now) (state g.S.Store c.judge_cases.new.conn) fault c.from_residual-in_err-read-2.result c.from_residual-in_err-read-2.ensures.1
+    (fault_after (nothing_then c.read_names.ensures.writes_nothing c.judge_calendar.ensures.writes_nothing) c.judge_cases.ensures.writes_nothing clean fault (c.in_err-read-2.ensures.cause clean))
+
+pub returns-in_err-read-3-clause-cause : goal.returns-in_err-read-3-clause-cause
+returns-in_err-read-3-clause-cause g c clean =
+    let fault = c.in_err-read-3.field-0.0 in
+    err_caused (state g.S.Store c.args.conn.now) (state g.S.Store c.judge_parties.new.conn) fault c.from_residual-in_err-read-3.result c.from_residual-in_err-read-3.ensures.1
+    (fault_after (nothing_then (nothing_then c.read_names.ensures.writes_nothing c.judge_calendar.ensures.writes_nothing) c.judge_cases.ensures.writes_nothing) c.judge_parties.ensures.writes_nothing clean fault (c.in_err-read-3.ensures.cause clean))
+
+pub returns-in_err-read-4-clause-cause : goal.returns-in_err-read-4-clause-cause
+returns-in_err-read-4-clause-cause g c clean =
+    let fault = c.in_err-read-4.field-0.0 in
+    err_caused (state g.S.Store c.args.conn.now) (state g.S.Store c.judge_entries.new.conn) fault c.from_residual-in_err-read-4.result c.from_residual-in_err-read-4.ensures.1
+    (fault_after (nothing_then (nothing_then (nothing_then c.read_names.ensures.writes_nothing c.judge_calendar.ensures.writes_nothing) c.judge_cases.ensures.writes_nothing) c.judge_parties.ensures.writes_nothing) c.judge_entries.ensures.writes_nothing clean fault (c.in_err-read-4.ensures.cause clean))
+
+pub returns-in_err-acts-clause-cause : goal.returns-in_err-acts-clause-cause
+returns-in_err-acts-clause-cause g c clean =
+    let fault = c.in_err-acts.field-0.0 in
+    err_caused (state g.S.Store c.args.conn.now) (state g.S.Store c.judge_deadlines.new.conn) fault c.from_residual-in_err-acts.result c.from_residual-in_err-acts.ensures.1
+    (fault_after (nothing_then (nothing_then (nothing_then (nothing_then c.read_names.ensures.writes_nothing c.judge_calendar.ensures.writes_nothing) c.judge_cases.ensures.writes_nothing) c.judge_parties.ensures.writes_nothing) c.judge_entries.ensures.writes_nothing) c.judge_deadlines.ensures.writes_nothing clean fault (c.in_err-acts.ensures.cause clean))
+
+pub returns-in_err-ends-clause-cause : goal.returns-in_err-ends-clause-cause
+returns-in_err-ends-clause-cause g c clean =
+    let fault = c.in_err-ends.field-0.0 in
+    err_caused (state g.S.Store c.args.conn.now) (state g.S.Store c.judge_acts.new.conn) fault c.from_residual-in_err-ends.result c.from_residual-in_err-ends.ensures.1
+    (fault_after (nothing_then (nothing_then (nothing_then (nothing_then (nothing_then c.read_names.ensures.writes_nothing c.judge_calendar.ensures.writes_nothing) c.judge_cases.ensures.writes_nothing) c.judge_parties.ensures.writes_nothing) c.judge_entries.ensures.writes_nothing) c.judge_deadlines.ensures.writes_nothing) c.judge_acts.ensures.writes_nothing clean fault (c.in_err-ends.ensures.cause clean))
+
+pub returns-in_err-ends-2-clause-cause : goal.returns-in_err-ends-2-clause-cause
+returns-in_err-ends-2-clause-cause g c clean =
+    let fault = c.in_err-ends-2.field-0.0 in
+    err_caused (state g.S.Store c.args.conn.now) (state g.S.Store c.judge_receipts.new.conn) fault c.from_residual-in_err-ends-2.result c.from_residual-in_err-ends-2.ensures.1
+    (fault_after (nothing_then (nothing_then (nothing_then (nothing_then (nothing_then (nothing_then c.read_names.ensures.writes_nothing c.judge_calendar.ensures.writes_nothing) c.judge_cases.ensures.writes_nothing) c.judge_parties.ensures.writes_nothing) c.judge_entries.ensures.writes_nothing) c.judge_deadlines.ensures.writes_nothing) c.judge_acts.ensures.writes_nothing) c.judge_receipts.ensures.writes_nothing clean fault (c.in_err-ends-2.ensures.cause clean))
+
+pub returns-in_err-last-clause-cause : goal.returns-in_err-last-clause-cause
+returns-in_err-last-clause-cause g c clean =
+    let fault = c.in_err-last.field-0.0 in
+    err_caused (state g.S.Store c.args.conn.now) (state g.S.Store c.judge_ends.new.conn) fault c.from_residual-in_err-last.result c.from_residual-in_err-last.ensures.1
+    (fault_after (nothing_then (nothing_then (nothing_then (nothing_then (nothing_then (nothing_then (nothing_then c.read_names.ensures.writes_nothing c.judge_calendar.ensures.writes_nothing) c.judge_cases.ensures.writes_nothing) c.judge_parties.ensures.writes_nothing) c.judge_entries.ensures.writes_nothing) c.judge_deadlines.ensures.writes_nothing) c.judge_acts.ensures.writes_nothing) c.judge_receipts.ensures.writes_nothing) c.judge_ends.ensures.writes_nothing clean fault (c.in_err-last.ensures.cause clean))
+
+pub returns-clause-cause : goal.returns-clause-cause
+returns-clause-cause g c clean =
+    result_after (nothing_then (nothing_then (nothing_then (nothing_then (nothing_then (nothing_then (nothing_then (nothing_then c.read_names.ensures.writes_nothing c.judge_calendar.ensures.writes_nothing) c.judge_cases.ensures.writes_nothing) c.judge_parties.ensures.writes_nothing) c.judge_entries.ensures.writes_nothing) c.judge_deadlines.ensures.writes_nothing) c.judge_acts.ensures.writes_nothing) c.judge_receipts.ensures.writes_nothing) c.judge_ends.ensures.writes_nothing) c.judge_more.ensures.writes_nothing clean c.judge_more.result (c.judge_more.ensures.cause clean)

@@ -1,7 +1,8 @@
 use Rattle.std.proofs.Common.{◌≡◌, rules}
+use Rattle.sqlite.specs.Held.{state}
 use Rattle.docket_scan.specs.declared.fault.AdoptFault.TheVariants.{NoMemory}
 use Rattle.docket_store.specs.Applying.{docket_rows}
-use Rattle.docket_store.proofs.OpeningLemmas.{found_docket, lacks_memory, not_found}
+use Rattle.docket_store.proofs.OpeningLemmas.{failed_opening, found_docket, lacks_memory, not_found, short_opening}
 use Rattle.docket_store.proofs.AnyLemmas.{rejected_preserves, short_lasts, short_rejected, taken_preserves}
 use Rattle.docket_store.proofs.adopting.judged_docket.Goals as goal
 
@@ -41,3 +42,11 @@ returns-in-Err-2-clause-stays g c rows holds =
     let told = c.in-Err.ensures in
     let other : c.in-Err.fault ≡ NoMemory → ⊥ = search rules in
     rejected_preserves g.S.Store c.args.conn.now c.find_docket.new.conn rows told.writes_nothing (told.mode c.requires) holds c.in-Err.fault other told.told
+
+pub returns-in-Err-clause-cause : goal.returns-in-Err-clause-cause
+returns-in-Err-clause-cause g c clean =
+    short_opening (state g.S.Store c.args.conn.now) (state g.S.Store c.want_of_memory.new.conn) c.want_of_memory.new.failure c.want_of_memory.result c.want_of_memory.ensures.short
+
+pub returns-in-Err-2-clause-cause : goal.returns-in-Err-2-clause-cause
+returns-in-Err-2-clause-cause g c clean =
+    failed_opening (state g.S.Store c.args.conn.now) (state g.S.Store c.find_docket.new.conn) c.args.failure.now c.in-Err.fault (c.in-Err.ensures.cause clean)

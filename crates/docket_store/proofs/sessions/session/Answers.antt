@@ -5,6 +5,7 @@ use Rattle.docket_store.proofs.SessionLemmas.{ended, not_begun}
 use Rattle.std.proofs.Common.{sym}
 use Rattle.docket_tables.specs.Stands.{HoldsRows}
 use Rattle.docket_store.specs.AnyRows.{PreservesRejected}
+use Rattle.docket_store.specs.Causes.{IsCausedOpening}
 use Rattle.docket_store.proofs.AnyLemmas.{err_if}
 use Rattle.docket_store.proofs.sessions.session.Goals as goal
 
@@ -39,3 +40,8 @@ returns-in-Ok-clause-steps g c =
 
 pub returns-in-Err-clause-stays : goal.returns-in-Err-clause-stays
 returns-in-Err-clause-stays g c rows holds = subst (λ (conn : Held g.row.S.Denot). HoldsRows g.S.Store conn rows) (sym c.close-in-Err.ensures.conn) (c.in_ok-docket.ensures.stays rows holds)
+
+pub returns-in_err-docket-clause-cause : goal.returns-in_err-docket-clause-cause
+returns-in_err-docket-clause-cause g c =
+    err_if c.from_residual.result (λ returned. HasCleanDisk (state g.S.Store returned.connection) → IsCausedOpening (state g.S.Store c.args.connection) (state g.S.Store returned.connection) returned.failure returned.fault)
+    c.in_err-docket.field-0.0 c.from_residual.ensures.1 c.in_err-docket.ensures.cause
