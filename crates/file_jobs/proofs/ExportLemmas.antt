@@ -74,9 +74,9 @@ module _ (export : Export) (court : CourtSettings) (h : History) where
   entries_append : (place : ℕ) (xs ys : List DueRow) → entries_from export court h place (xs ++ ys) ≡ entries_from export court h place xs ++ entries_from export court h (place + length xs) ys
   entries_append place [] ys = let same : place ≡ place + 0 = omega arith in ap (λ k. entries_from export court h k ys) same
   entries_append place (x ∷ xs) ys =
-      let next : suc place + length xs ≡ place + suc (length xs) = omega arith in
-      ap (λ l. entry_of export court h place x ++ l) (entries_append (suc place) xs ys ∙ ap (λ k. entries_from export court h (suc place) xs ++ entries_from export court h k ys) next)
-      ∙ sym (append_assoc (entry_of export court h place x) (entries_from export court h (suc place) xs) (entries_from export court h (place + suc (length xs)) ys))
+      let next : place + 1 + length xs ≡ place + suc (length xs) = omega arith in
+      ap (λ l. entry_of export court h place x ++ l) (entries_append (place + 1) xs ys ∙ ap (λ k. entries_from export court h (place + 1) xs ++ entries_from export court h k ys) next)
+      ∙ sym (append_assoc (entry_of export court h place x) (entries_from export court h (place + 1) xs) (entries_from export court h (place + suc (length xs)) ys))
 
   -- the entries before a place
   abbrev pub entries_to : List DueRow → ℕ → List ℕ

@@ -1,5 +1,6 @@
 mod ApplyLemmas
 mod CaseLemmas
+mod CasedLemmas
 mod ExportLemmas
 mod KeepLemmas
 mod ListLemmas

@@ -1,5 +1,5 @@
 -- What is exported of the docket of a history, and what of it goes out.
-use Rattle.std.specs.Prelude.{◌≡◌, ℕ, suc, List, [], ◌∷◌, ◌++◌, length, Option, Some, None, Result, Ok, Err, IfErr, if◌then◌else◌, unwrap_or}
+use Rattle.std.specs.Prelude.{◌≡◌, ◌≤◌, ℕ, List, [], ◌++◌, length, map, All, Option, Some, None, Result, Ok, Err, IfErr, if◌then◌else◌, unwrap_or}
 use Rattle.std.specs.Io.KnownBytes.{Appends}
 use Rattle.sqlite.specs.Held.{state}
 use Rattle.sqlite.specs.State.{HasCleanDisk}
@@ -14,7 +14,8 @@ use Rattle.docket_core.specs.declared.record.DueRow.{DueRow}
 use Rattle.docket_core.specs.declared.row.CaseRow.{CaseRow}
 use Rattle.docket_store.specs.Dockets.{Docket}
 use Rattle.docket_store.specs.declared.listing.CalendarEnd.{CalendarEnd}
-use Rattle.due_exports.specs.Exports.{export_entry, export_foot, export_head, tells_reasons}
+use Rattle.due_exports.specs.Exports.{export_entry, tells_reasons}
+use Rattle.due_exports.specs.Texts.{Told, entries_text, export_text}
 use Rattle.file_jobs.specs.CaseLists.{IsAsked, IsEarlyEnd}
 use Rattle.file_jobs.specs.Tells.{text_of_reasons}
 use Rattle.file_jobs.specs.declared.exporting.Export.{Export}
@@ -22,30 +23,44 @@ use Rattle.html_sheets.specs.Pages.{page_foot, page_head}
 use Rattle.html_sheets.specs.Sheets.{case_sheet}
 use Rattle.line_io.specs.Output.{HasFront}
 
+-- there is a case of the number
+abbrev pub IsCase : List CaseRow → ℕ → Type 0
+IsCase rows number = (1 ≤ number) × (number ≤ length rows)
+
+-- each of these deadlines has its case
+abbrev pub HaveCases : History → List DueRow → Type 0
+HaveCases h dues = All (λ due. IsCase (case_rows h) due.case) dues
+
+-- the case of a number; what stands here for one that is not there is never told, since each deadline that falls due has its case
+abbrev pub no_case : CaseRow
+no_case = record { number = 0; label = []; caption = []; filed = 0 }
+
+abbrev pub case_of : List CaseRow → ℕ → CaseRow
+case_of rows number = unwrap_or (case_at rows number) no_case
+
 module _ (export : Export) (court : CourtSettings) (h : History) where
   -- why a deadline is what it is, where the form tells that
   abbrev pub reasons_in : DueRow → List ℕ
   reasons_in due = if tells_reasons export.form then unwrap_or (text_of_reasons court h due.case due.number) [] else []
 
-  -- what a deadline at a place, from 0, comes to with its case
-  abbrev pub entry_with : ℕ → DueRow → Option CaseRow → List ℕ
-  entry_with place due (Some case) = export_entry export.form court export.stamp place due case (reasons_in due)
-  entry_with place due None = []
+  -- a deadline with its case, and why it is what it is
+  abbrev pub told_of : DueRow → Told
+  told_of due = (due, case_of (case_rows h) due.case, reasons_in due)
 
+  -- what a deadline at a place, from 0, comes to
   abbrev pub entry_of : ℕ → DueRow → List ℕ
-  entry_of place due = entry_with place due (case_at (case_rows h) due.case)
+  entry_of place due = export_entry export.form court export.stamp place due (case_of (case_rows h) due.case) (reasons_in due)
 
   -- an entry for each deadline, the first of them at that place
   abbrev pub entries_from : ℕ → List DueRow → List ℕ
-  entries_from place [] = []
-  entries_from place (due ∷ dues) = entry_of place due ++ entries_from (suc place) dues
+  entries_from place dues = entries_text export.form court export.stamp place (map told_of dues)
 
   -- the deadlines of the days, in the order of the calendar
   abbrev pub rows_of_export : List DueRow
   rows_of_export = calendar_rows court h export.from export.to
 
   abbrev pub text_of_export : List ℕ
-  text_of_export = export_head export.form export.from export.to ++ (entries_from 0 rows_of_export ++ export_foot export.form)
+  text_of_export = export_text export.form court export.stamp export.from export.to (map told_of rows_of_export)
 
 -- the text went out, with so many entries; or a front of it did
 abbrev pub TextOut : List ℕ → ℕ → Option (List ℕ) → Option (List ℕ) → Result ℕ CalendarEnd → Type 0

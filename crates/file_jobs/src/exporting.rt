@@ -4,7 +4,7 @@ ghost use Rattle.std.specs.Prelude.{◌≡◌, ◌≤◌, ◌++◌, IfErr, lengt
 ghost use Rattle.sqlite.specs.Held.{state};
 ghost use Rattle.sqlite.specs.State.{HasCleanDisk};
 ghost use Rattle.sqlite.specs.View.{doubt};
-ghost use Rattle.docket_core.specs.Histories.{History};
+ghost use Rattle.docket_core.specs.Histories.{History, case_rows};
 ghost use Rattle.docket_tables.specs.Layouts.{Rows};
 ghost use Rattle.docket_tables.specs.Stands.{HoldsRows};
 ghost use Rattle.docket_store.specs.AnyRows.{Preserves, PreservesCalendar};
@@ -12,7 +12,7 @@ ghost use Rattle.docket_store.specs.Applying.{Asks, IsDocket, Stands, StandsFor}
 ghost use Rattle.due_exports.specs.Exports.{export_foot, export_head};
 ghost use Rattle.command_lines.specs.Lines.{Docket as Told};
 ghost use Rattle.file_jobs.specs.CaseLists.{IsEarlyWrite};
-ghost use Rattle.file_jobs.specs.Exports.{ExportsTo, PutsOut, TextOut, entries_from, entry_of, reasons_in, rows_of_export, text_of_export};
+ghost use Rattle.file_jobs.specs.Exports.{ExportsTo, HaveCases, IsCase, PutsOut, TextOut, entries_from, entry_of, reasons_in, rows_of_export, text_of_export};
 ghost use Rattle.file_jobs.specs.Keeping.{HoldsBetween};
 ghost use Rattle.file_jobs.specs.Tells.{WorksTo};
 
@@ -72,12 +72,14 @@ fn entry_of<S: Alter>(
 ) -> Result<String, Fault>
     ensures court { docket.new.court ≡ docket.old.court }
     ensures answer { (h : History) → Stands S.Store docket.old h
+        → (HasCleanDisk (state S.Store docket.old.conn) → IsCase (case_rows h) due.now.case)
         → Asks S.Store docket.new h (λ text. string_bytes text ≡ entry_of export.now docket.old.court h place due.now) result }
     ensures stays { (rows : Rows) → HoldsRows S.Store docket.old.conn rows → Preserves S.Store docket.new.conn rows result }
     ensures clean { doubt (state S.Store docket.old.conn).is_clean ≤ doubt (state S.Store docket.new.conn).is_clean }
 {
+    // A deadline without its case is none of a sound docket.
     let Some(case) = docket.case_row(due.case)? else {
-        return Ok(String::new(alloc));
+        return Err(Fault::Damaged);
     };
     let reasons = reasons_in(alloc, docket, export, due)?;
     let entry = Entry {
@@ -112,6 +114,7 @@ fn write_entry<S: Alter, W: Write>(
 ) -> Result<usize, CalendarEnd>
     ensures court { docket.new.court ≡ docket.old.court }
     ensures puts { (h : History) → Stands S.Store docket.old h
+        → (HasCleanDisk (state S.Store docket.old.conn) → IsCase (case_rows h) due.now.case)
         → PutsOut S.Store docket.new h (entry_of export.now docket.old.court h place due.now) 1 (W.contents writer.old) (W.contents writer.new) result }
     ensures stays { (rows : Rows) → HoldsRows S.Store docket.old.conn rows → PreservesCalendar S.Store docket.new.conn rows result }
     ensures clean { doubt (state S.Store docket.old.conn).is_clean ≤ doubt (state S.Store docket.new.conn).is_clean }
@@ -132,6 +135,7 @@ fn write_entries<S: Alter, W: Write>(
 ) -> Result<usize, CalendarEnd>
     ensures court { docket.new.court ≡ docket.old.court }
     ensures puts { (h : History) → Stands S.Store docket.old h
+        → (HasCleanDisk (state S.Store docket.old.conn) → HaveCases h dues.now)
         → PutsOut S.Store docket.new h (entries_from export.now docket.old.court h 0 dues.now) (length dues.now) (W.contents writer.old) (W.contents writer.new) result }
     ensures stays { (rows : Rows) → HoldsRows S.Store docket.old.conn rows → PreservesCalendar S.Store docket.new.conn rows result }
     ensures clean { doubt (state S.Store docket.old.conn).is_clean ≤ doubt (state S.Store docket.new.conn).is_clean }
@@ -154,6 +158,7 @@ fn write_rest<S: Alter, W: Write>(
     writer: &mut W,
 ) -> Result<usize, CalendarEnd>
     ensures puts { (h : History) → Stands S.Store docket.old h
+        → (HasCleanDisk (state S.Store docket.old.conn) → HaveCases h dues.now)
         → PutsOut S.Store docket.new h (entries_from export.now docket.old.court h 0 dues.now ++ export_foot export.now.form) (length dues.now) (W.contents writer.old) (W.contents writer.new) result }
     ensures stays { (rows : Rows) → HoldsRows S.Store docket.old.conn rows → PreservesCalendar S.Store docket.new.conn rows result }
     ensures clean { doubt (state S.Store docket.old.conn).is_clean ≤ doubt (state S.Store docket.new.conn).is_clean }

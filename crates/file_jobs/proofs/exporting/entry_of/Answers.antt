@@ -1,4 +1,7 @@
+use Rattle.std.proofs.Common.{◌∙◌, sym, arith}
+use Rattle.docket_core.specs.Histories.{case_rows}
 use Rattle.docket_store.proofs.AnyLemmas.{err_preserves, short_preserves}
+use Rattle.file_jobs.proofs.CasedLemmas.{case_missed}
 use Rattle.file_jobs.proofs.exporting.entry_of.Goals as goal
 
 pub returns-in_err-case-clause-stays : goal.returns-in_err-case-clause-stays
@@ -17,3 +20,8 @@ returns-in_err-text-clause-stays g c rows holds =
 
 pub returns-clause-stays : goal.returns-clause-stays
 returns-clause-stays g c rows holds = c.in_ok-reasons.ensures.stays rows (c.in_ok-case.ensures.stays rows holds)
+
+pub returns-in_default-clause-answer : goal.returns-in_default-clause-answer
+returns-in_default-clause-answer g c h stands has clean =
+    let asked = c.in_ok-case.ensures.answer h stands in
+    case_missed (case_rows h) c.args.due.now.case (has (omega (arith, clean, c.case_row.ensures.clean))) (sym c.in_default.is ∙ asked.1 clean)

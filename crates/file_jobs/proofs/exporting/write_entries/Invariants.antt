@@ -1,11 +1,12 @@
 use Rattle.std.proofs.Common.{◌≡◌, ◌≤◌, Ok, length}
 use Rattle.sqlite.specs.Held.{state}
+use Rattle.sqlite.specs.State.{HasCleanDisk}
 use Rattle.sqlite.specs.View.{doubt}
 use Rattle.docket_core.specs.Histories.{History}
 use Rattle.docket_tables.specs.Layouts.{Rows}
 use Rattle.docket_tables.specs.Stands.{HoldsRows}
 use Rattle.docket_store.specs.Applying.{Stands}
-use Rattle.file_jobs.specs.Exports.{PutsOut}
+use Rattle.file_jobs.specs.Exports.{HaveCases, PutsOut}
 use Rattle.file_jobs.proofs.ExportLemmas.{entries_to}
 use Rattle.file_jobs.proofs.exporting.write_entries.Given as goal
 
@@ -16,6 +17,6 @@ invariant-entries g l = record {
   court : l.docket.court ≡ l.fn.docket.court;
   clean : doubt (state g.S.Store l.fn.docket.conn).is_clean ≤ doubt (state g.S.Store l.docket.conn).is_clean;
   stays : (rows : Rows) → HoldsRows g.S.Store l.fn.docket.conn rows → HoldsRows g.S.Store l.docket.conn rows;
-  put : (h : History) → Stands g.S.Store l.fn.docket h
+  put : (h : History) → Stands g.S.Store l.fn.docket h → (HasCleanDisk (state g.S.Store l.fn.docket.conn) → HaveCases h l.dues)
       → PutsOut g.S.Store l.docket h (entries_to l.export l.fn.docket.court h l.dues l.place) l.place (g.W.Write.contents l.fn.writer) (g.W.Write.contents l.writer) (Ok l.place);
 }

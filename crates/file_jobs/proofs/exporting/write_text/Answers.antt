@@ -1,9 +1,10 @@
-use Rattle.std.proofs.Common.{◌∙◌, ◌++◌, ℕ, List, Ok, Err, length, subst, arith}
+use Rattle.std.proofs.Common.{◌∙◌, ◌++◌, ℕ, List, Ok, Err, length, sym, subst, arith}
 use Rattle.sqlite.specs.Held.{state}
 use Rattle.sqlite.specs.State.{HasCleanDisk}
 use Rattle.docket_core.specs.declared.record.DueRow.{DueRow}
 use Rattle.due_exports.specs.Exports.{export_foot, export_head}
-use Rattle.file_jobs.specs.Exports.{TextOut, entries_from, rows_of_export}
+use Rattle.file_jobs.specs.Exports.{HaveCases, TextOut, entries_from, rows_of_export}
+use Rattle.file_jobs.proofs.CasedLemmas.{cased}
 use Rattle.file_jobs.proofs.ExportLemmas.{front_longer, joined, piece_put}
 use Rattle.file_jobs.proofs.exporting.write_text.Goals as goal
 
@@ -16,7 +17,7 @@ returns-in-Ok-write_piece-clause-puts g c h stands are =
     let before = g.W.Write.contents c.args.writer.now in
     let mid = g.W.Write.contents c.write_piece.new.writer in
     let after = g.W.Write.contents c.write_rest.new.writer in
-    let rest = c.write_rest.ensures.puts h stands in (
+    let rest = c.write_rest.ensures.puts h stands (λ clean. subst (HaveCases h) (sym (are clean)) (cased court h stands.docket.history export.from export.to)) in (
       rest.0,
       λ clean.
           let early : HasCleanDisk (state g.S.Store c.args.docket.now.conn) = omega (arith, clean, c.write_rest.ensures.clean) in
