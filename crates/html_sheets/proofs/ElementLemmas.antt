@@ -1,8 +1,9 @@
 -- Rows of tables and other pieces, as they are written: what they hold, parted by the tags between.
-use Rattle.std.proofs.Common.{◌≡◌, ℕ, List, [], ◌∷◌, ◌++◌, append_assoc, refl, sym, ap, ◌∙◌}
+use Rattle.std.proofs.Common.{◌≡◌, ℕ, List, [], ◌∷◌, ◌++◌, append_assoc, refl, sym, ap, ap₂, ◌∙◌}
 use Rattle.std.specs.Prelude.{codes}
-use Rattle.html_sheets.specs.Elements.{element, weekday_told, cell, number_cell, head_cell, row}
+use Rattle.html_sheets.specs.Elements.{element, nav, weekday_told, cell, number_cell, head_cell, row}
 use Rattle.html_sheets.specs.Sheets.{said}
+use Rattle.html_sheets.specs.Sites.{more_nav}
 use Rattle.html_sheets.specs.Weeks.{end_cells}
 
 -- an element and what follows
@@ -76,6 +77,25 @@ pub days_parts : (from to head : List ℕ)
 days_parts from to head = simp (append_assoc, element-then) refl
 
 pub week_parts : (from to before after head : List ℕ)
-    → codes "<p>" ++ (from ++ (codes " to " ++ (to ++ (codes "</p>\n<nav>" ++ (before ++ (codes " " ++ (after ++ (codes "</nav>\n" ++ head))))))))
-    ≡ element (codes "p") [] (from ++ (codes " to " ++ to)) ++ (codes "\n" ++ (element (codes "nav") [] (before ++ (codes " " ++ after)) ++ (codes "\n" ++ head)))
+    → codes "<p>" ++ (from ++ (codes " to " ++ (to ++ (codes "</p>\n<nav aria-label=\"Other weeks\">" ++ (before ++ (codes " " ++ (after ++ (codes "</nav>\n" ++ head))))))))
+    ≡ element (codes "p") [] (from ++ (codes " to " ++ to)) ++ (codes "\n" ++ (nav (codes "Other weeks") (before ++ (codes " " ++ after)) ++ (codes "\n" ++ head)))
 week_parts from to before after head = simp (append_assoc, element-then) refl
+
+-- the links of a list of cases: one of them, and both
+pub one_more_part : (link : List ℕ)
+    → codes "<nav aria-label=\"More cases\">" ++ (link ++ codes "</nav>\n") ≡ more_nav link
+one_more_part link = simp element-then refl
+
+pub two_more_parts : (earlier later : List ℕ)
+    → codes "<nav aria-label=\"More cases\">" ++ (earlier ++ (codes " " ++ (later ++ codes "</nav>\n"))) ≡ more_nav (earlier ++ (codes " " ++ later))
+two_more_parts earlier later = simp (append_assoc, element-then) refl
+
+-- a text to which another is added
+pub added : {old new text more last : List ℕ} → new ≡ old ++ more → old ≡ text → more ≡ last → new ≡ text ++ last
+added is before behind = is ∙ ap₂ (λ (a b : List ℕ). a ++ b) before behind
+
+pub four_joined : (a b c d : List ℕ) → ((a ++ b) ++ c) ++ d ≡ a ++ (b ++ (c ++ d))
+four_joined a b c d = simp append_assoc refl
+
+pub seven_joined : (a b c d e f g : List ℕ) → (((((a ++ b) ++ c) ++ d) ++ e) ++ f) ++ g ≡ a ++ (b ++ (c ++ (d ++ (e ++ (f ++ g)))))
+seven_joined a b c d e f g = simp append_assoc refl

@@ -1,6 +1,6 @@
 -- Pieces whose marks are the same, whatever texts they hold.
-use Rattle.std.proofs.Common.{◌≡◌, ℕ, List, [], ◌∷◌, ◌++◌, length, refl, sym, ◌∙◌, arith}
-use Rattle.std.specs.Prelude.{codes, decimal}
+use Rattle.std.proofs.Common.{◌≡◌, ℕ, List, [], ◌∷◌, ◌++◌, length, true≢false, refl, sym, ◌∙◌, arith}
+use Rattle.std.specs.Prelude.{codes, decimal, Option, Some, None as none, is_some}
 use Rattle.std.specs.List.{flat_map}
 use Rattle.std.proofs.lemmas.List.Elements.{filter-append}
 use Rattle.civil_time.specs.Civil.{weekday}
@@ -14,11 +14,12 @@ use Rattle.docket_core.specs.declared.record.DueRow.{DueRow}
 use Rattle.docket_core.specs.declared.row.CaseRow.{CaseRow}
 use Rattle.docket_core.specs.declared.row.EntryRow.{EntryRow}
 use Rattle.docket_core.specs.declared.row.PartyRow.{PartyRow}
-use Rattle.html_sheets.specs.Elements.{element, told, day_told, weekday_told, link, case_link, case_number, cell, number_cell, head_cell, row}
+use Rattle.html_sheets.specs.Elements.{element, told, day_told, weekday_told, link, nav, case_link, case_number, cell, number_cell, head_cell, row}
 use Rattle.html_sheets.specs.Escapes.{escaped}
 use Rattle.html_sheets.specs.Marks.{is_mark, marks}
-use Rattle.html_sheets.specs.Pages.{style_text, page_head, case_row}
+use Rattle.html_sheets.specs.Pages.{style_text, page_head, page_foot, cases_head, case_row, cases_foot}
 use Rattle.html_sheets.specs.Sheets.{said, case_head, parties_head, party_row, parties_table, entries_head, entry_row, entries_table, deadlines_head, deadline_row, deadlines_table, case_sheet}
+use Rattle.html_sheets.specs.Sites.{site_nav, cases_link, more_nav, more_cases, cases_page, case_page, days_page_head}
 use Rattle.html_sheets.specs.Weeks.{week_before, week_after, days_link, due_columns, days_told, days_head, week_head, end_cells, end_of_row, due_row}
 use Rattle.html_sheets.specs.declared.links.Links.{Links}
 use Rattle.html_sheets.specs.declared.links.Links.TheVariants.{Pages, None}
@@ -65,6 +66,9 @@ weekdays a b = both (day_told a) (day_told b) _ _ (days a b) (behind (32 ∷ [])
 links : (a b xs ys : List ℕ) → Same a b → Same xs ys → Same (link a xs) (link b ys)
 links a b xs ys s t = within (codes "a") _ _ xs ys (behind (codes " href=\"") _ _ (before a b (codes "\"") s)) t
 
+navs : (label a b : List ℕ) → Same a b → Same (nav label a) (nav label b)
+navs label a b = within (codes "nav") _ _ a b same
+
 case_links : (a b : ℕ) → Same (case_link a) (case_link b)
 case_links a b =
     let numbers = bare (decimal_bare a) (decimal_bare b) in
@@ -87,6 +91,7 @@ rows : (a b : List ℕ) → Same a b → Same (row a) (row b)
 rows a b s = before (element (codes "tr") [] a) (element (codes "tr") [] b) (codes "\n") (within (codes "tr") [] [] a b same s)
 
 pub case_rows : (a b : CaseRow) → Same (case_row a) (case_row b)
+unfolding case_row
 case_rows a b = rows _ _ (
     both _ _ _ _ (head_cells _ _ (case_links a.number b.number))
     (both _ _ _ _ (cells _ _ (tolds a.label b.label))
@@ -178,7 +183,7 @@ pub week_heads : (a b c d : ℕ) → Same (week_head a b) (week_head c d)
 week_heads a b c d =
     both _ _ _ _ (days_said a b c d)
     (behind (codes "\n") _ _
-    (before _ _ (codes "\n" ++ due_columns) (within (codes "nav") [] [] _ _ same (
+    (before _ _ (codes "\n" ++ due_columns) (navs (codes "Other weeks") _ _ (
     both _ _ _ _ (days_links (week_before a) (week_before b) (week_before c) (week_before d) (codes "Week before"))
     (behind (codes " ") _ _ (days_links (week_after a) (week_after b) (week_after c) (week_after d) (codes "Week after")))))))
 
@@ -208,3 +213,44 @@ due_rows lead court place a b caption name = rows _ _ (
     (both _ _ _ _ (number_cells _ _ (bare (decimal_bare a.number) (decimal_bare b.number)))
     (both _ _ _ _ (cells _ _ (tolds a.rule b.rule))
     (both _ _ _ _ (number_cells _ _ (bare (party_bare a.party) (party_bare b.party))) (cells _ _ (tolds caption name)))))))
+
+cases_links : (a b : ℕ) (words : List ℕ) → Same (cases_link a words) (cases_link b words)
+cases_links a b words = links _ _ words words (behind (codes "/pages/cases?from=") _ _ (bare (decimal_bare a) (decimal_bare b))) same
+
+more_navs : (a b : List ℕ) → Same a b → Same (more_nav a) (more_nav b)
+more_navs a b s = before _ _ (codes "\n") (navs (codes "More cases") a b s)
+
+-- as many links on both sides
+more_same : (earlier sooner later after : Option ℕ) → is_some earlier ≡ is_some sooner → is_some later ≡ is_some after
+    → Same (more_cases earlier later) (more_cases sooner after)
+more_same none none none none e l = same
+more_same (Some a) (Some b) none none e l = more_navs _ _ (cases_links a b (codes "Earlier cases"))
+more_same none none (Some a) (Some b) e l = more_navs _ _ (cases_links a b (codes "Later cases"))
+more_same (Some a) (Some b) (Some c) (Some d) e l =
+    more_navs _ _ (both _ _ _ _ (cases_links a b (codes "Earlier cases")) (behind (codes " ") _ _ (cases_links c d (codes "Later cases"))))
+more_same none (Some b) later after e l = absurd (true≢false (sym e))
+more_same (Some a) none later after e l = absurd (true≢false e)
+more_same none none none (Some d) e l = absurd (true≢false (sym l))
+more_same none none (Some c) none e l = absurd (true≢false l)
+more_same (Some a) (Some b) none (Some d) e l = absurd (true≢false (sym l))
+more_same (Some a) (Some b) (Some c) none e l = absurd (true≢false l)
+
+pub cases_pages : (cases others : List CaseRow) (earlier sooner later after : Option ℕ) → length cases ≡ length others
+    → is_some earlier ≡ is_some sooner → is_some later ≡ is_some after
+    → Same (cases_page cases earlier later) (cases_page others sooner after)
+cases_pages cases others earlier sooner later after count e l =
+    behind (page_head (codes "Cases")) _ _
+    (behind site_nav _ _
+    (behind cases_head _ _
+    (both _ _ _ _ (all_rows case_row case_row case_rows cases others count)
+    (behind cases_foot _ _ (before _ _ page_foot (more_same earlier sooner later after e l))))))
+
+pub case_pages : (court place : CourtSettings) (case other : CaseRecord) (deadlines lines : List DeadlineLine)
+    → length case.parties ≡ length other.parties → length case.entries ≡ length other.entries → length deadlines ≡ length lines
+    → Same (case_page court case deadlines) (case_page place other lines)
+case_pages court place case other deadlines lines parties entries count =
+    both _ _ _ _ (page_heads case.label other.label)
+    (behind site_nav _ _ (before _ _ page_foot (case_sheets court place case other deadlines lines parties entries count)))
+
+pub days_pages : (a b c d : ℕ) → Same (days_page_head a b) (days_page_head c d)
+days_pages a b c d = behind (page_head (codes "Deadlines")) _ _ (behind site_nav _ _ (week_heads a b c d))

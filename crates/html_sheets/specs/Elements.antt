@@ -28,6 +28,10 @@ weekday_told day = day_told day ++ 32 ∷ weekday_word (weekday day)
 abbrev pub link : List ℕ → List ℕ → List ℕ
 link path content = element (codes "a") (codes " href=\"" ++ (path ++ codes "\"")) content
 
+-- links that belong together, with what a program that reads the page aloud calls them
+abbrev pub nav : List ℕ → List ℕ → List ℕ
+nav label links = element (codes "nav") (codes " aria-label=\"" ++ (label ++ codes "\"")) links
+
 -- a link to the page of a case, by its number
 abbrev pub case_link : ℕ → List ℕ
 case_link number = link (codes "/pages/cases/" ++ decimal number) (decimal number)

@@ -4,4 +4,5 @@ pub mod Marks
 pub mod Pages
 pub mod Reading
 pub mod Sheets
+pub mod Sites
 pub mod Weeks

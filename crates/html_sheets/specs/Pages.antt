@@ -34,7 +34,7 @@ abbrev pub cases_head : List ℕ
 cases_head = table_head (codes "Case" ∷ codes "Label" ∷ codes "Filed" ∷ codes "Caption" ∷ [])
 
 -- the row of a case: its number, which leads to its page, its label, the day on which it was filed, and its caption
-abbrev pub case_row : CaseRow → List ℕ
+unfoldable pub case_row : CaseRow → List ℕ
 case_row case =
     row (head_cell (case_link case.number)
     ++ (cell (told case.label)

@@ -9,7 +9,7 @@ use Rattle.court_days.specs.declared.filing.End.TheVariants.{LastDay, Moment}
 use Rattle.docket_core.specs.declared.record.DueRow.{DueRow}
 use Rattle.docket_text.specs.Parties.{party_text}
 use Rattle.docket_text.specs.Times.{shown, shown_minute}
-use Rattle.html_sheets.specs.Elements.{element, told, weekday_told, link, case_number, cell, number_cell, head_cell, row, table_head, table_foot}
+use Rattle.html_sheets.specs.Elements.{element, told, weekday_told, link, nav, case_number, cell, number_cell, head_cell, row, table_head, table_foot}
 use Rattle.html_sheets.specs.declared.links.Links.{Links}
 
 -- seven days earlier and later, within the days that have a date here: 1980-01-01 to 3999-12-31
@@ -41,7 +41,7 @@ abbrev pub week_head : ℕ → ℕ → List ℕ
 week_head from to =
     days_told from to
     ++ (codes "\n"
-    ++ (element (codes "nav") [] (
+    ++ (nav (codes "Other weeks") (
     days_link (week_before from) (week_before to) (codes "Week before")
     ++ (codes " " ++ days_link (week_after from) (week_after to) (codes "Week after")))
     ++ (codes "\n" ++ due_columns)))

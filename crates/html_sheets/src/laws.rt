@@ -1,5 +1,5 @@
 //! What the functions of specs/ say, with nothing to run.
-ghost use Rattle.std.specs.Prelude.{◌≡◌, ℕ, List, [], length, filter, map, drop, slice_index, IsTrue};
+ghost use Rattle.std.specs.Prelude.{◌≡◌, ℕ, List, [], length, filter, map, drop, slice_index, Option, is_some, IsTrue};
 ghost use Rattle.court_days.specs.Court.{CourtSettings};
 ghost use Rattle.docket_core.specs.declared.record.CaseRecord.{CaseRecord};
 ghost use Rattle.docket_core.specs.declared.record.DeadlineLine.{DeadlineLine};
@@ -9,6 +9,7 @@ ghost use Rattle.html_sheets.specs.Escapes.{is_control, blanked_byte, escaped};
 ghost use Rattle.html_sheets.specs.Marks.{marks};
 ghost use Rattle.html_sheets.specs.Pages.{page_head, case_row};
 ghost use Rattle.html_sheets.specs.Sheets.{case_sheet};
+ghost use Rattle.html_sheets.specs.Sites.{cases_page, case_page, days_page_head};
 ghost use Rattle.html_sheets.specs.Weeks.{days_head, week_head, due_row};
 ghost use Rattle.html_sheets.specs.Reading.{begins_reference, read_text};
 ghost use Rattle.html_sheets.specs.declared.links.Links.{Links};
@@ -28,8 +29,9 @@ pub fn texts_are_read_back()
 {}
 
 /// The marks of a piece are those of its own tags, whatever the docket says: two heads, two rows whose
-/// numbers lead to the same, and two sheets of as many parties, entries and deadlines have the same ones
-/// in the same order.
+/// numbers lead to the same, two sheets of as many parties, entries and deadlines, and their pages, have
+/// the same ones in the same order. So have two pages of as many cases, if both or none lead to earlier
+/// cases, and both or none to later ones.
 pub fn tags_are_the_pages_own()
     ensures heads { (title other : List ℕ) → marks (page_head title) ≡ marks (page_head other) }
     ensures cases { (case other : CaseRow) → marks (case_row case) ≡ marks (case_row other) }
@@ -41,4 +43,12 @@ pub fn tags_are_the_pages_own()
         → length case.parties ≡ length other.parties → length case.entries ≡ length other.entries
         → length deadlines ≡ length lines
         → marks (case_sheet court case deadlines) ≡ marks (case_sheet place other lines) }
+    ensures lists { (cases others : List CaseRow) (earlier sooner later after : Option ℕ) → length cases ≡ length others
+        → is_some earlier ≡ is_some sooner → is_some later ≡ is_some after
+        → marks (cases_page cases earlier later) ≡ marks (cases_page others sooner after) }
+    ensures pages { (court place : CourtSettings) (case other : CaseRecord) (deadlines lines : List DeadlineLine)
+        → length case.parties ≡ length other.parties → length case.entries ≡ length other.entries
+        → length deadlines ≡ length lines
+        → marks (case_page court case deadlines) ≡ marks (case_page place other lines) }
+    ensures calendars { (from to day later : ℕ) → marks (days_page_head from to) ≡ marks (days_page_head day later) }
 {}

@@ -3,7 +3,8 @@
 //! stands within them by its characters alone, whatever it is.
 //!
 //! A page is its head, then the pieces of its content, and its foot. A caller writes them one after
-//! another, so that a long list is never held as one.
+//! another, so that a long list is never held as one. The pages of a docket that is served lead to one
+//! another; those of a list of cases and of a case are made whole, and that of some days up to its rows.
 #![tactic(auto)]
 
 mod cases;
@@ -13,6 +14,7 @@ mod links;
 mod page;
 mod piece;
 mod sheet;
+mod site;
 mod week;
 
 pub use cases::{case_row, cases_foot, cases_head};
@@ -20,4 +22,5 @@ pub use laws::{tags_are_the_pages_own, texts_are_no_markup, texts_are_read_back}
 pub use links::Links;
 pub use page::{page_foot, page_head};
 pub use sheet::case_sheet;
+pub use site::{case_page, cases_page, days_page_foot, days_page_head, site_nav};
 pub use week::{due_head, due_row, week_foot, week_head};

@@ -96,7 +96,9 @@ pub fn week_head(alloc: Global, from: Day, to: Day) -> Result<String, AllocError
     let from = WeekdayTold(from);
     let to = WeekdayTold(to);
     let columns = due_columns();
-    format!(in alloc; "<p>{from} to {to}</p>\n<nav>{before} {after}</nav>\n{columns}")
+    format!(in alloc;
+        "<p>{from} to {to}</p>\n<nav aria-label=\"Other weeks\">{before} {after}</nav>\n{columns}"
+    )
 }
 
 /// The cells of an end: its day, its time, and when the clerk's office closes on it.

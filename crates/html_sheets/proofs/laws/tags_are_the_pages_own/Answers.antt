@@ -1,4 +1,4 @@
-use Rattle.html_sheets.proofs.TagLemmas.{page_heads, case_rows, days_heads, week_heads, due_rows, case_sheets}
+use Rattle.html_sheets.proofs.TagLemmas.{page_heads, case_rows, days_heads, week_heads, due_rows, case_sheets, cases_pages, case_pages, days_pages}
 use Rattle.html_sheets.proofs.laws.tags_are_the_pages_own.Goals as goal
 
 pub returns-clause-heads : goal.returns-clause-heads
@@ -18,3 +18,12 @@ returns-clause-dues c = λ links court place due other caption name. (due_rows l
 
 pub returns-clause-sheets : goal.returns-clause-sheets
 returns-clause-sheets c = λ court place case other deadlines lines parties entries count. (case_sheets court place case other deadlines lines parties entries count).is
+
+pub returns-clause-lists : goal.returns-clause-lists
+returns-clause-lists c = λ cases others earlier sooner later after count e l. (cases_pages cases others earlier sooner later after count e l).is
+
+pub returns-clause-pages : goal.returns-clause-pages
+returns-clause-pages c = λ court place case other deadlines lines parties entries count. (case_pages court place case other deadlines lines parties entries count).is
+
+pub returns-clause-calendars : goal.returns-clause-calendars
+returns-clause-calendars c = λ from to day later. (days_pages from to day later).is
