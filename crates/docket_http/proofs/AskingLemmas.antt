@@ -18,15 +18,20 @@ use Rattle.docket_store.specs.Sequence.{Answers, Halts, IsSaid}
 use Rattle.docket_store.specs.declared.fault.Fault.{Fault}
 use Rattle.docket_store.specs.declared.fault.Fault.TheVariants as fault
 use Rattle.docket_tables.specs.Stands.{Lasts, LastsAsEither}
-use Rattle.docket_text.specs.CaseTexts.{case_text, deadlines_text}
+use Rattle.docket_text.specs.CaseTexts.{deadlines_text}
 use Rattle.docket_wire.specs.Reading.{command_in}
 use Rattle.docket_wire.specs.Texts.{reply_text, fault_text}
 use Rattle.docket_wire.specs.declared.fault.WireFault.{WireFault}
+use Rattle.http_request.specs.declared.page.Page.{Page}
 use Rattle.http_request.specs.declared.wish.Wish.{Wish}
-use Rattle.http_request.specs.declared.wish.Wish.TheVariants.{Command as CommandWish, Case, Deadlines}
+use Rattle.http_request.specs.declared.wish.Wish.TheVariants.{Command as CommandWish, Deadlines, Page as PageWish}
 use Rattle.docket_http.specs.Answer.{Response, json, text, problem_response}
-use Rattle.docket_http.specs.Asking.{said_status, outcome_response, command_response, case_response, deadlines_response, after_reading, history_after, asks_docket, takes_memory, Replies, IsAnswered, problem_of_fault}
+use Rattle.docket_http.specs.Asking.{said_status, outcome_response, command_response, deadlines_response, response_to, after_reading, history_after, asks_docket, takes_memory, Replies, IsAnswered, problem_of_fault}
+use Rattle.docket_http.specs.Cases.{case_response, case_told, case_wish, response_of_case}
+use Rattle.docket_http.specs.Pages.{page_response}
 use Rattle.docket_http.specs.Reply.{IsReply}
+use Rattle.docket_http.specs.declared.asking.Telling.{Telling}
+use Rattle.docket_http.specs.declared.asking.Telling.TheVariants as telling
 use Rattle.docket_http.specs.declared.problem.Problem.{Problem}
 use Rattle.docket_http.specs.declared.problem.Problem.TheVariants.{NoSuchCase, NoMemory, Store}
 use Rattle.docket_http.specs.declared.reply.Reply.{Reply}
@@ -44,9 +49,27 @@ said_response (Err r) a e = ap outcome_response (sym e)
 reply_as : (reply : Reply) (a b : Response) → a ≡ b → IsReply reply a → IsReply reply b
 reply_as reply a b same is = subst (λ (r : Response). IsReply reply r) same is
 
-no_record : (court : CourtSettings) (row : Option CaseRecord) → problem_response NoSuchCase ≡ case_response court row None
-no_record court None = refl
-no_record court (Some row) = refl
+no_record : (telling : Telling) (court : CourtSettings) (row : Option CaseRecord) → problem_response NoSuchCase ≡ case_response telling court row None
+no_record telling court None = refl
+no_record telling court (Some row) = refl
+
+-- what is answered to the question for a case
+case_answer : (telling : Telling) (court : CourtSettings) (h : History) (number : ℕ) (body : List ℕ) → response_of_case telling court h number ≡ response_to court h (case_wish telling number) body
+case_answer telling.Text court h number body = refl
+case_answer telling.Page court h number body = refl
+
+-- a question for a case changes nothing, asks the docket and takes memory
+pub case_after : (telling : Telling) (court : CourtSettings) (h : History) (number : ℕ) (body : List ℕ) → history_after court h (case_wish telling number) body ≡ h
+case_after telling.Text court h number body = refl
+case_after telling.Page court h number body = refl
+
+pub case_asks : (telling : Telling) (number : ℕ) → IsTrue (asks_docket (case_wish telling number))
+case_asks telling.Text number = refl
+case_asks telling.Page number = refl
+
+pub case_takes : (telling : Telling) (number : ℕ) → IsTrue (takes_memory (case_wish telling number))
+case_takes telling.Text number = refl
+case_takes telling.Page number = refl
 
 module _ {S : Type 0} (g : Ghosts S) where
   pub said_replied : (d : Docket S) (h : History) (c : Command) (said : Result Number Refusal) (len : ℕ) (body : List ℕ) (reply : Reply) (k : ℕ) (bytes : List ℕ)
@@ -86,11 +109,20 @@ module _ {S : Type 0} (g : Ghosts S) where
   asked_replied d h wish body fault.Closed answer asks takes same closes left = absurd left
   asked_replied d h wish body (fault.Refused r) answer asks takes same closes left = absurd left
 
+  -- a reply to the question for a case
+  case_told_as : (d : Docket S) (h : History) (telling : Telling) (number : ℕ) (body : List ℕ) (reply : Reply) (response : Response) → Stands g d h
+      → (HasCleanDisk (state g d.conn) → response ≡ response_of_case telling d.court h number) → IsReply reply response → Replies g d h (case_wish telling number) body (Ok reply)
+  case_told_as d h telling number body reply response stands same is clean = (
+    reply_as reply _ _ (same clean ∙ case_answer telling d.court h number body) is,
+    subst (λ (k : History). Stands g d k) (sym (case_after telling d.court h number body)) stands,
+  )
+
   -- a case that is not there
-  pub unknown_case : (d : Docket S) (h : History) (number : ℕ) (body : List ℕ) → Stands g d h → (HasCleanDisk (state g d.conn) → None ≡ case_record h number)
-      → Replies g d h (Case number) body (Ok (Fixed NoSuchCase))
-  unknown_case d h number body stands unknown clean =
-      (reply_as (Fixed NoSuchCase) _ _ (ap (λ o. case_response d.court o (deadline_lines d.court h number)) (unknown clean)) (refl, refl), stands)
+  pub unknown_case : (d : Docket S) (h : History) (telling : Telling) (number : ℕ) (body : List ℕ) → Stands g d h → (HasCleanDisk (state g d.conn) → None ≡ case_record h number)
+      → Replies g d h (case_wish telling number) body (Ok (Fixed NoSuchCase))
+  unknown_case d h telling number body stands unknown =
+      case_told_as d h telling number body (Fixed NoSuchCase) (problem_response NoSuchCase) stands
+      (λ clean. ap (λ o. case_response telling d.court o (deadline_lines d.court h number)) (unknown clean)) (refl, refl)
 
   pub unknown_deadlines : (d : Docket S) (h : History) (number : ℕ) (body : List ℕ) (old : CourtSettings) → Stands g d h → d.court ≡ old
       → (HasCleanDisk (state g d.conn) → None ≡ deadline_lines old h number) → Replies g d h (Deadlines number) body (Ok (Fixed NoSuchCase))
@@ -104,24 +136,22 @@ module _ {S : Type 0} (g : Ghosts S) where
     subst (λ (r : Result Command WireFault). Stands g d (after_reading d.court h r)) (sym spells) stands,
   )
 
-  pub case_replied : (d : Docket S) (h : History) (number : ℕ) (body : List ℕ) (row : CaseRecord) (lines : List DeadlineLine) (court old : CourtSettings) (reply : Reply)
+  pub case_replied : (d : Docket S) (h : History) (telling : Telling) (number : ℕ) (body : List ℕ) (row : CaseRecord) (lines : List DeadlineLine) (court old : CourtSettings) (reply : Reply)
       → Stands g d h → court ≡ d.court → d.court ≡ old → (HasCleanDisk (state g d.conn) → Some lines ≡ deadline_lines old h number)
       → (HasCleanDisk (state g d.conn) → Some row ≡ case_record h number)
-      → IsReply reply (text (case_text court row lines)) → Replies g d h (Case number) body (Ok reply)
-  case_replied d h number body row lines court old reply stands same kept lined recorded is clean = (
-    reply_as reply _ _ (ap (λ x. text (case_text x row lines)) same
-        ∙ ap (λ o. case_response d.court (Some row) o) (lined clean ∙ ap (λ x. deadline_lines x h number) (sym kept))
-        ∙ ap (λ o. case_response d.court o (deadline_lines d.court h number)) (recorded clean)) is,
-    stands,
-  )
+      → IsReply reply (case_told telling court row lines) → Replies g d h (case_wish telling number) body (Ok reply)
+  case_replied d h telling number body row lines court old reply stands same kept lined recorded is =
+      case_told_as d h telling number body reply (case_told telling court row lines) stands
+      (λ clean. ap (λ x. case_told telling x row lines) same
+      ∙ ap (λ o. case_response telling d.court (Some row) o) (lined clean ∙ ap (λ x. deadline_lines x h number) (sym kept))
+      ∙ ap (λ o. case_response telling d.court o (deadline_lines d.court h number)) (recorded clean)) is
 
-  pub case_missing : (d : Docket S) (h : History) (number : ℕ) (body : List ℕ) (old : CourtSettings)
-      → Stands g d h → d.court ≡ old → (HasCleanDisk (state g d.conn) → None ≡ deadline_lines old h number) → Replies g d h (Case number) body (Ok (Fixed NoSuchCase))
-  case_missing d h number body old stands kept lined clean = (
-    reply_as (Fixed NoSuchCase) _ _ (no_record d.court (case_record h number)
-        ∙ ap (λ o. case_response d.court (case_record h number) o) (lined clean ∙ ap (λ x. deadline_lines x h number) (sym kept))) (refl, refl),
-    stands,
-  )
+  pub case_missing : (d : Docket S) (h : History) (telling : Telling) (number : ℕ) (body : List ℕ) (old : CourtSettings)
+      → Stands g d h → d.court ≡ old → (HasCleanDisk (state g d.conn) → None ≡ deadline_lines old h number) → Replies g d h (case_wish telling number) body (Ok (Fixed NoSuchCase))
+  case_missing d h telling number body old stands kept lined =
+      case_told_as d h telling number body (Fixed NoSuchCase) (problem_response NoSuchCase) stands
+      (λ clean. no_record telling d.court (case_record h number)
+      ∙ ap (λ o. case_response telling d.court (case_record h number) o) (lined clean ∙ ap (λ x. deadline_lines x h number) (sym kept))) (refl, refl)
 
   pub deadlines_replied : (d : Docket S) (h : History) (number : ℕ) (body : List ℕ) (lines : List DeadlineLine) (court old : CourtSettings) (reply : Reply)
       → Stands g d h → court ≡ d.court → d.court ≡ old → (HasCleanDisk (state g d.conn) → Some lines ≡ deadline_lines old h number)
@@ -131,6 +161,11 @@ module _ {S : Type 0} (g : Ghosts S) where
         ∙ ap (λ o. deadlines_response d.court o) (lined clean ∙ ap (λ x. deadline_lines x h number) (sym kept))) is,
     stands,
   )
+
+  -- a page that is replied
+  pub page_replied : (d : Docket S) (h : History) (page : Page) (body : List ℕ) (reply : Reply) (response : Response) → Stands g d h
+      → (HasCleanDisk (state g d.conn) → response ≡ page_response d.court h page) → IsReply reply response → Replies g d h (PageWish page) body (Ok reply)
+  page_replied d h page body reply response stands same is clean = (reply_as reply _ _ (same clean) is, stands)
 
   pub replies_as : (d : Docket S) (h : History) (a b : Wish) (x y : List ℕ) (result : Result Reply Fault) → a ≡ b → x ≡ y → Replies g d h a x result → Replies g d h b y result
   replies_as d h a b x y result same_wish same_body replies =

@@ -9,6 +9,7 @@ use Rattle.docket_wire.specs.Reading.{command_in}
 use Rattle.docket_wire.specs.Texts.{fault_text}
 use Rattle.docket_wire.specs.declared.fault.WireFault.{WireFault}
 use Rattle.line_io.specs.Output.{AppendsFront}
+use Rattle.http_request.specs.declared.page.Routes.{Routes}
 use Rattle.http_request.specs.declared.wish.Wish.{Wish}
 use Rattle.http_request.specs.declared.wish.Wish.TheVariants.{Command as CommandWish, Calendar}
 use Rattle.docket_http.specs.Answer.{Response, response_bytes, json, problem_response, problem_status}
@@ -59,11 +60,11 @@ closed_calendar from to wish body o n r same sent =
     subst (λ (w : Wish). SendsClosed w body o n r) (sym same) (record { response = problem_response Closed; closed = refl; sent = sent })
 
 -- a request that was read
-pub read_closed : (input : Option (List ℕ)) (wish : Wish) (body : List ℕ) (o n : Option (List ℕ)) (r : Result Served ServeFault) → IsAsked input wish body
-    → SendsClosed wish body o n r → ServesClosed input o n r
-read_closed input wish body o n (Ok s) asked closed = inl (wish, body, asked, closed)
-read_closed input wish body o n (Err serve.WriteFailed) asked closed = inl (wish, body, asked, closed)
-read_closed input wish body o n (Err serve.NoMemory) asked closed = inl (wish, body, asked, closed)
-read_closed input wish body o n (Err serve.StoreFailed) asked closed = inl (wish, body, asked, closed)
-read_closed input wish body o n (Err serve.ReadFailed) asked closed = absurd closed.sent
-read_closed input wish body o n (Err serve.EndedEarly) asked closed = absurd closed.sent
+pub read_closed : (routes : Routes) (input : Option (List ℕ)) (wish : Wish) (body : List ℕ) (o n : Option (List ℕ)) (r : Result Served ServeFault) → IsAsked routes input wish body
+    → SendsClosed wish body o n r → ServesClosed routes input o n r
+read_closed routes input wish body o n (Ok s) asked closed = inl (wish, body, asked, closed)
+read_closed routes input wish body o n (Err serve.WriteFailed) asked closed = inl (wish, body, asked, closed)
+read_closed routes input wish body o n (Err serve.NoMemory) asked closed = inl (wish, body, asked, closed)
+read_closed routes input wish body o n (Err serve.StoreFailed) asked closed = inl (wish, body, asked, closed)
+read_closed routes input wish body o n (Err serve.ReadFailed) asked closed = absurd closed.sent
+read_closed routes input wish body o n (Err serve.EndedEarly) asked closed = absurd closed.sent

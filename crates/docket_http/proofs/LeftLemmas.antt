@@ -15,10 +15,16 @@ use Rattle.docket_wire.specs.Reading.{command_in}
 use Rattle.docket_wire.specs.declared.fault.WireFault.{WireFault}
 use Rattle.http_request.specs.declared.fields.Rejection.{Rejection}
 use Rattle.http_request.specs.declared.fields.Rejection.TheVariants as rejection
+use Rattle.http_request.specs.declared.page.Page.{Page}
+use Rattle.http_request.specs.declared.page.Page.TheVariants as page
 use Rattle.http_request.specs.declared.wish.Wish.{Wish}
-use Rattle.http_request.specs.declared.wish.Wish.TheVariants.{Reject, Command as CommandWish, Case, Deadlines, Calendar, Holidays}
+use Rattle.http_request.specs.declared.wish.Wish.TheVariants.{Reject, Command as CommandWish, Case, Deadlines, Calendar, Holidays, Page as PageWish}
 use Rattle.docket_http.specs.Answer.{Response, rejection_status}
-use Rattle.docket_http.specs.Asking.{IsAnswered, LeftBy, case_response, command_response, deadlines_response, history_after, outcome_response, response_to, told}
+use Rattle.docket_http.specs.Asking.{IsAnswered, LeftBy, command_response, deadlines_response, history_after, outcome_response, response_to, told}
+use Rattle.docket_http.specs.Cases.{case_response, case_told}
+use Rattle.docket_http.specs.Pages.{page_response}
+use Rattle.docket_http.specs.declared.asking.Telling.{Telling}
+use Rattle.docket_http.specs.declared.asking.Telling.TheVariants as telling
 use Rattle.docket_http.specs.declared.problem.Problem.{Problem}
 use Rattle.docket_http.specs.declared.problem.Problem.TheVariants.{Rejected, NoSuchCase, NoMemory, Store, Closed, Damaged}
 
@@ -42,10 +48,19 @@ command_fine : (court : CourtSettings) (h : History) (r : Result Command WireFau
 command_fine court h (Ok c) = outcome_fine (outcome court h c)
 command_fine court h (Err fault) = refl
 
-case_fine : (court : CourtSettings) (row : Option CaseRecord) (lines : Option (List DeadlineLine)) → ((case_response court row lines).status == 503) ≡ false
-case_fine court None lines = refl
-case_fine court (Some row) None = refl
-case_fine court (Some row) (Some lines) = refl
+told_fine : (telling : Telling) (court : CourtSettings) (row : CaseRecord) (lines : List DeadlineLine) → ((case_told telling court row lines).status == 503) ≡ false
+told_fine telling.Text court row lines = refl
+told_fine telling.Page court row lines = refl
+
+case_fine : (telling : Telling) (court : CourtSettings) (row : Option CaseRecord) (lines : Option (List DeadlineLine)) → ((case_response telling court row lines).status == 503) ≡ false
+case_fine telling court None lines = refl
+case_fine telling court (Some row) None = refl
+case_fine telling court (Some row) (Some lines) = told_fine telling court row lines
+
+page_fine : (court : CourtSettings) (h : History) (page : Page) → ((page_response court h page).status == 503) ≡ false
+page_fine court h (page.Cases from) = refl
+page_fine court h (page.Case number) = case_fine telling.Page court (case_record h number) (deadline_lines court h number)
+page_fine court h (page.Days from to) = refl
 
 deadlines_fine : (court : CourtSettings) (lines : Option (List DeadlineLine)) → ((deadlines_response court lines).status == 503) ≡ false
 deadlines_fine court None = refl
@@ -54,10 +69,11 @@ deadlines_fine court (Some lines) = refl
 response_fine : (court : CourtSettings) (h : History) (wish : Wish) (body : List ℕ) → ((response_to court h wish body).status == 503) ≡ false
 response_fine court h (Reject r) body = rejected_fine r
 response_fine court h (CommandWish len) body = command_fine court h (command_in body)
-response_fine court h (Case number) body = case_fine court (case_record h number) (deadline_lines court h number)
+response_fine court h (Case number) body = case_fine telling.Text court (case_record h number) (deadline_lines court h number)
 response_fine court h (Deadlines number) body = deadlines_fine court (deadline_lines court h number)
 response_fine court h (Calendar from to) body = refl
 response_fine court h (Holidays year) body = refl
+response_fine court h (PageWish page) body = page_fine court h page
 
 module _ {S : Type 0} (g : Ghosts S) (d : Docket S) (h : History) (wish : Wish) (body : List ℕ) (response : Response) where
   says : {b : _} (other : Response) → response ≡ other → (other.status == 503) ≡ b → (response.status == 503) ≡ b

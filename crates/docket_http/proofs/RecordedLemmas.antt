@@ -1,5 +1,5 @@
 -- What is told of a command is recorded.
-use Rattle.std.proofs.Common.{◌≡◌, IfOk, IfErr, inl, inr, ℕ, List, Option, Result, Ok, Err, refl, sym, ap, subst, arith}
+use Rattle.std.proofs.Common.{◌≡◌, IfOk, IfErr, inl, inr, ℕ, List, Option, Result, Ok, Err, refl, sym, subst, arith}
 use Rattle.std.specs.Io.KnownBytes.{Appends}
 use Rattle.sqlite.specs.Store.{Ghosts}
 use Rattle.court_days.specs.Court.{CourtSettings}
@@ -17,9 +17,10 @@ use Rattle.docket_wire.specs.declared.fault.WireFault.{WireFault}
 use Rattle.line_io.specs.Output.{AppendsFront}
 use Rattle.http_request.specs.declared.fields.Rejection.{Rejection}
 use Rattle.http_request.specs.declared.fields.Rejection.TheVariants as rejection
+use Rattle.http_request.specs.declared.page.Routes.{Routes}
 use Rattle.http_request.specs.declared.wish.Wish.{Wish}
-use Rattle.http_request.specs.declared.wish.Wish.TheVariants.{Reject, Command as CommandWish, Case, Deadlines, Calendar, Holidays}
-use Rattle.docket_http.specs.Answer.{Response, json, problem_response, problem_status, rejection_status}
+use Rattle.http_request.specs.declared.wish.Wish.TheVariants.{Reject, Command as CommandWish, Case, Deadlines, Calendar, Holidays, Page as PageWish}
+use Rattle.docket_http.specs.Answer.{json, problem_response, problem_status, rejection_status}
 use Rattle.docket_http.specs.Asking.{said_status}
 use Rattle.docket_http.specs.Recorded.{IsBacked, RepliesBacked, SentBacked, ServesBacked}
 use Rattle.docket_http.specs.Reply.{IsReply, reply_bytes, reply_status}
@@ -84,6 +85,7 @@ module _ {S : Type 0} (g : Ghosts S) (d : Docket S) where
   problem_backed (Deadlines number) body p = tt
   problem_backed (Calendar from to) body p = tt
   problem_backed (Holidays year) body p = tt
+  problem_backed (PageWish page) body p = tt
 
   pub backed_as : (a b : Wish) (x y : List ℕ) (r : Result Reply Fault) → a ≡ b → x ≡ y → IfOk r (RepliesBacked g d a x) → IfOk r (RepliesBacked g d b y)
   backed_as a b x y r same_wish same_body backed =
@@ -101,30 +103,31 @@ module _ {S : Type 0} (g : Ghosts S) (d : Docket S) where
   sent_backed (Deadlines number) body reply o n r backed whole front = tt
   sent_backed (Calendar from to) body reply o n r backed whole front = tt
   sent_backed (Holidays year) body reply o n r backed whole front = tt
+  sent_backed (PageWish page) body reply o n r backed whole front = tt
 
   pub calendar_backed : (from to : ℕ) (wish : Wish) (body : List ℕ) (o n : Option (List ℕ)) (r : Result Served ServeFault) → wish ≡ Calendar from to → SentBacked g d wish body o n r
   calendar_backed from to wish body o n r same = subst (λ (w : Wish). SentBacked g d w body o n r) (sym same) tt
 
-  pub read_backed : (input : Option (List ℕ)) (wish : Wish) (body : List ℕ) (o n : Option (List ℕ)) (r : Result Served ServeFault) → IsAsked input wish body
-      → SentBacked g d wish body o n r → ServesBacked g input d o n r
-  read_backed input wish body o n (Ok s) asked sent = inl (wish, body, asked, sent)
-  read_backed input wish body o n (Err serve.WriteFailed) asked sent = inl (wish, body, asked, sent)
-  read_backed input wish body o n (Err serve.NoMemory) asked sent = inl (wish, body, asked, sent)
-  read_backed input wish body o n (Err serve.StoreFailed) asked sent = inl (wish, body, asked, sent)
-  read_backed input wish body o n (Err serve.ReadFailed) asked sent = tt
-  read_backed input wish body o n (Err serve.EndedEarly) asked sent = tt
+  pub read_backed : (routes : Routes) (input : Option (List ℕ)) (wish : Wish) (body : List ℕ) (o n : Option (List ℕ)) (r : Result Served ServeFault) → IsAsked routes input wish body
+      → SentBacked g d wish body o n r → ServesBacked g routes input d o n r
+  read_backed routes input wish body o n (Ok s) asked sent = inl (wish, body, asked, sent)
+  read_backed routes input wish body o n (Err serve.WriteFailed) asked sent = inl (wish, body, asked, sent)
+  read_backed routes input wish body o n (Err serve.NoMemory) asked sent = inl (wish, body, asked, sent)
+  read_backed routes input wish body o n (Err serve.StoreFailed) asked sent = inl (wish, body, asked, sent)
+  read_backed routes input wish body o n (Err serve.ReadFailed) asked sent = tt
+  read_backed routes input wish body o n (Err serve.EndedEarly) asked sent = tt
 
-  unread : (input o n : Option (List ℕ)) (r : Result Served ServeFault) → Sends (problem_response problem.NoMemory) o n r → ServesBacked g input d o n r
-  unread input o n (Ok s) sent = inr sent
-  unread input o n (Err serve.WriteFailed) sent = inr sent
-  unread input o n (Err serve.NoMemory) sent = absurd sent
-  unread input o n (Err serve.StoreFailed) sent = absurd sent
-  unread input o n (Err serve.ReadFailed) sent = tt
-  unread input o n (Err serve.EndedEarly) sent = tt
+  unread : (routes : Routes) (input o n : Option (List ℕ)) (r : Result Served ServeFault) → Sends (problem_response problem.NoMemory) o n r → ServesBacked g routes input d o n r
+  unread routes input o n (Ok s) sent = inr sent
+  unread routes input o n (Err serve.WriteFailed) sent = inr sent
+  unread routes input o n (Err serve.NoMemory) sent = absurd sent
+  unread routes input o n (Err serve.StoreFailed) sent = absurd sent
+  unread routes input o n (Err serve.ReadFailed) sent = tt
+  unread routes input o n (Err serve.EndedEarly) sent = tt
 
   -- memory was short before the request was read
-  pub unread_backed : (input o n : Option (List ℕ)) (r : Result Served ServeFault)
+  pub unread_backed : (routes : Routes) (input o n : Option (List ℕ)) (r : Result Served ServeFault)
       → IfOk r (λ s. Appends o n (reply_bytes (Fixed problem.NoMemory)) × (s.status ≡ 500))
       → IfErr r (λ e. (e ≡ serve.WriteFailed) × AppendsFront o n (reply_bytes (Fixed problem.NoMemory)))
-      → ServesBacked g input d o n r
-  unread_backed input o n r whole front = unread input o n r (sends_reply r (Fixed problem.NoMemory) (problem_response problem.NoMemory) o n (refl, refl) whole front)
+      → ServesBacked g routes input d o n r
+  unread_backed routes input o n r whole front = unread routes input o n r (sends_reply r (Fixed problem.NoMemory) (problem_response problem.NoMemory) o n (refl, refl) whole front)

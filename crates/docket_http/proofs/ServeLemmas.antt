@@ -15,6 +15,7 @@ use Rattle.docket_store.specs.declared.fault.Fault.{Fault}
 use Rattle.docket_store.specs.declared.fault.Fault.TheVariants as fault
 use Rattle.docket_store.specs.declared.listing.ListingEnd.TheVariants as listing
 use Rattle.line_io.specs.Output.{AppendsFront, HasFront}
+use Rattle.http_request.specs.declared.page.Routes.{Routes}
 use Rattle.http_request.specs.declared.wish.Wish.{Wish}
 use Rattle.http_request.specs.declared.wish.Wish.TheVariants.{Calendar}
 use Rattle.docket_http.specs.Answer.{response_bytes, problem_response, head_bytes, open_text}
@@ -122,38 +123,38 @@ module _ {S : Type 0} (g : Ghosts S) where
   calendar_fails d old (Err e) a b body o n same fails = λ h stands clean. subst (λ (w : Wish). IsBroken g d h w body o n e) (sym same) (fails h body stands clean)
 
   -- a request that was read
-  pub read_whole : (d old : Docket S) (r : Result Served ServeFault) (input : Option (List ℕ)) (wish : Wish) (body : List ℕ) (o n : Option (List ℕ)) → IsAsked input wish body
+  pub read_whole : (d old : Docket S) (r : Result Served ServeFault) (routes : Routes) (input : Option (List ℕ)) (wish : Wish) (body : List ℕ) (o n : Option (List ℕ)) → IsAsked routes input wish body
       → IfOk r (λ s. (h : History) → Stands g old h → HasCleanDisk (state g d.conn) → IsServed g d h wish body o n s.status)
-      → IfOk r (λ s. (h : History) → Stands g old h → HasCleanDisk (state g d.conn) → Serves g input old d h o n s.status)
-  read_whole d old (Err e) input wish body o n asked whole = tt
-  read_whole d old (Ok s) input wish body o n asked whole = λ h stands clean. inl (wish, body, asked, whole h stands clean)
+      → IfOk r (λ s. (h : History) → Stands g old h → HasCleanDisk (state g d.conn) → Serves g routes input old d h o n s.status)
+  read_whole d old (Err e) routes input wish body o n asked whole = tt
+  read_whole d old (Ok s) routes input wish body o n asked whole = λ h stands clean. inl (wish, body, asked, whole h stands clean)
 
-  read_broken : (d old : Docket S) (e : ServeFault) (h : History) (input : Option (List ℕ)) (wish : Wish) (body : List ℕ) (o n : Option (List ℕ)) → IsAsked input wish body
-      → IsBroken g d h wish body o n e → Fails g input old d h o n e
-  read_broken d old serve.ReadFailed h input wish body o n asked is = absurd is
-  read_broken d old serve.EndedEarly h input wish body o n asked is = absurd is
-  read_broken d old serve.WriteFailed h input wish body o n asked is = inl (wish, body, asked, is)
-  read_broken d old serve.NoMemory h input wish body o n asked is = (wish, body, asked, is)
-  read_broken d old serve.StoreFailed h input wish body o n asked is = (wish, body, asked, is)
+  read_broken : (d old : Docket S) (e : ServeFault) (h : History) (routes : Routes) (input : Option (List ℕ)) (wish : Wish) (body : List ℕ) (o n : Option (List ℕ)) → IsAsked routes input wish body
+      → IsBroken g d h wish body o n e → Fails g routes input old d h o n e
+  read_broken d old serve.ReadFailed h routes input wish body o n asked is = absurd is
+  read_broken d old serve.EndedEarly h routes input wish body o n asked is = absurd is
+  read_broken d old serve.WriteFailed h routes input wish body o n asked is = inl (wish, body, asked, is)
+  read_broken d old serve.NoMemory h routes input wish body o n asked is = (wish, body, asked, is)
+  read_broken d old serve.StoreFailed h routes input wish body o n asked is = (wish, body, asked, is)
 
-  pub read_fails : (d old : Docket S) (r : Result Served ServeFault) (input : Option (List ℕ)) (wish : Wish) (body : List ℕ) (o n : Option (List ℕ)) → IsAsked input wish body
+  pub read_fails : (d old : Docket S) (r : Result Served ServeFault) (routes : Routes) (input : Option (List ℕ)) (wish : Wish) (body : List ℕ) (o n : Option (List ℕ)) → IsAsked routes input wish body
       → IfErr r (λ e. (h : History) → Stands g old h → HasCleanDisk (state g d.conn) → IsBroken g d h wish body o n e)
-      → IfErr r (λ e. (h : History) → Stands g old h → HasCleanDisk (state g d.conn) → Fails g input old d h o n e)
-  read_fails d old (Ok s) input wish body o n asked fails = tt
-  read_fails d old (Err e) input wish body o n asked fails = λ h stands clean. read_broken d old e h input wish body o n asked (fails h stands clean)
+      → IfErr r (λ e. (h : History) → Stands g old h → HasCleanDisk (state g d.conn) → Fails g routes input old d h o n e)
+  read_fails d old (Ok s) routes input wish body o n asked fails = tt
+  read_fails d old (Err e) routes input wish body o n asked fails = λ h stands clean. read_broken d old e h routes input wish body o n asked (fails h stands clean)
 
   -- memory was short before the request was read
-  pub unread_whole : (old : Docket S) (r : Result Served ServeFault) (input : Option (List ℕ)) (o n : Option (List ℕ))
+  pub unread_whole : (old : Docket S) (r : Result Served ServeFault) (routes : Routes) (input : Option (List ℕ)) (o n : Option (List ℕ))
       → IfOk r (λ s. Appends o n (response_bytes (problem_response NoMemory)) × (s.status ≡ 500))
-      → IfOk r (λ s. (h : History) → Stands g old h → HasCleanDisk (state g old.conn) → Serves g input old old h o n s.status)
-  unread_whole old (Err e) input o n whole = tt
-  unread_whole old (Ok s) input o n whole = λ h stands clean. inr (record { same = refl; written = whole.0; status_told = whole.1 })
+      → IfOk r (λ s. (h : History) → Stands g old h → HasCleanDisk (state g old.conn) → Serves g routes input old old h o n s.status)
+  unread_whole old (Err e) routes input o n whole = tt
+  unread_whole old (Ok s) routes input o n whole = λ h stands clean. inr (record { same = refl; written = whole.0; status_told = whole.1 })
 
-  pub unread_fails : (old : Docket S) (r : Result Served ServeFault) (input : Option (List ℕ)) (o n : Option (List ℕ))
+  pub unread_fails : (old : Docket S) (r : Result Served ServeFault) (routes : Routes) (input : Option (List ℕ)) (o n : Option (List ℕ))
       → IfErr r (λ e. (e ≡ serve.WriteFailed) × AppendsFront o n (response_bytes (problem_response NoMemory)))
-      → IfErr r (λ e. (h : History) → Stands g old h → HasCleanDisk (state g old.conn) → Fails g input old old h o n e)
-  unread_fails old (Ok s) input o n front = tt
-  unread_fails old (Err e) input o n front = λ h stands clean. subst (λ (x : ServeFault). Fails g input old old h o n x) (sym front.0) (inr (refl, front.1))
+      → IfErr r (λ e. (h : History) → Stands g old h → HasCleanDisk (state g old.conn) → Fails g routes input old old h o n e)
+  unread_fails old (Ok s) routes input o n front = tt
+  unread_fails old (Err e) routes input o n front = λ h stands clean. subst (λ (x : ServeFault). Fails g routes input old old h o n x) (sym front.0) (inr (refl, front.1))
 
   pub calendar_told : (d : Docket S) (h : History) (from to : ℕ) (body front : List ℕ) (o m : Option (List ℕ)) (f : Fault) (p : Problem) → p ≡ problem_of_fault f → (f ≡ fault.StoreFailed → d.closed ≡ true)
       → Lists g d h from to front o m (Err (listing.NotBegun f)) → HasCleanDisk (state g d.conn) → Tells g d h (Calendar from to) body (Fixed p) × Appends o m []

@@ -1,10 +1,10 @@
--- The bytes of an answer: a status line and two or three fields, each ended by CR LF, an empty line, and the body.
+-- The bytes of an answer: a status line and two to five fields, each ended by CR LF, an empty line, and the body.
 use Rattle.std.specs.Prelude.{ℕ, List, [], ◌∷◌, ◌++◌, length, codes, decimal}
 use Rattle.http.specs.StatusCode.{status_text}
 use Rattle.http_request.specs.declared.fields.Rejection.{Rejection}
 use Rattle.http_request.specs.declared.fields.Rejection.TheVariants.{HeadTooLong, BadHead, NotFound, Method, BadPathValue, LengthRequired, TooLong}
 use Rattle.docket_http.specs.declared.head.Form.{Form}
-use Rattle.docket_http.specs.declared.head.Form.TheVariants.{Json, Text, OpenText}
+use Rattle.docket_http.specs.declared.head.Form.TheVariants.{Json, Text, OpenText, Html}
 use Rattle.docket_http.specs.declared.problem.Problem.{Problem}
 use Rattle.docket_http.specs.declared.problem.Problem.TheVariants.{Rejected, NoSuchCase, NoMemory, Store, Closed, Damaged}
 
@@ -12,19 +12,31 @@ abbrev pub type_of : Form → List ℕ
 type_of Json = codes "application/json"
 type_of Text = codes "text/plain; charset=utf-8"
 type_of OpenText = codes "text/plain; charset=utf-8"
+type_of Html = codes "text/html; charset=utf-8"
 
 -- the line of the length; an answer that ends with the connection has none
 abbrev pub length_line : Form → ℕ → List ℕ
 length_line Json len = codes "content-length: " ++ (decimal len ++ codes "\r\n")
 length_line Text len = codes "content-length: " ++ (decimal len ++ codes "\r\n")
+length_line Html len = codes "content-length: " ++ (decimal len ++ codes "\r\n")
 length_line OpenText len = []
+
+-- what a page may do in a browser (Content Security Policy): it is styled by what stands in it, and its forms ask this server. It runs no
+-- script, takes nothing from elsewhere and is shown in no other page. And no browser keeps it (RFC 9111, 5.2.2.5): what is due changes
+abbrev pub policy_line : Form → List ℕ
+policy_line Html =
+    codes "content-security-policy: default-src 'none'; style-src 'unsafe-inline'; form-action 'self'; base-uri 'none'; frame-ancestors 'none'\r\n"
+    ++ codes "cache-control: no-store\r\n"
+policy_line Json = []
+policy_line Text = []
+policy_line OpenText = []
 
 abbrev pub head_bytes : ℕ → Form → ℕ → List ℕ
 head_bytes status form len =
     codes "HTTP/1.1 " ++ (status_text status
     ++ (codes "\r\ncontent-type: " ++ (type_of form
-    ++ (codes "\r\n" ++ (length_line form len
-    ++ codes "connection: close\r\n\r\n")))))
+    ++ (codes "\r\n" ++ (policy_line form ++ (length_line form len
+    ++ codes "connection: close\r\n\r\n"))))))
 
 -- an answer
 pub record Response : Type 0 where
@@ -41,6 +53,9 @@ json status text = record { status = status; form = Json; body = text ++ 10 ∷ 
 
 abbrev pub text : List ℕ → Response
 text body = record { status = 200; form = Text; body = body }
+
+abbrev pub html : List ℕ → Response
+html body = record { status = 200; form = Html; body = body }
 
 -- its end is told by the end of the connection
 abbrev pub open_text : List ℕ → Response

@@ -9,8 +9,7 @@ use Rattle.docket_command.specs.declared.refusal.Refusal.{Refusal}
 use Rattle.docket_command.specs.declared.refusal.Reply.{Reply as Number}
 use Rattle.docket_core.specs.Histories.{History}
 use Rattle.docket_core.specs.Outcomes.{Answer, accepted, repeated, refused, outcome, after}
-use Rattle.docket_core.specs.Records.{case_record, deadline_lines}
-use Rattle.docket_core.specs.declared.record.CaseRecord.{CaseRecord}
+use Rattle.docket_core.specs.Records.{deadline_lines}
 use Rattle.docket_core.specs.declared.record.DeadlineLine.{DeadlineLine}
 use Rattle.docket_tables.specs.Stands.{LastsAsEither}
 use Rattle.docket_store.specs.Applying.{Stands, docket_rows}
@@ -18,15 +17,18 @@ use Rattle.docket_store.specs.Dockets.{Docket}
 use Rattle.docket_store.specs.declared.fault.Fault.{Fault}
 use Rattle.docket_store.specs.declared.fault.Fault.TheVariants as fault
 use Rattle.docket_calendar.specs.Calendar.{text_of_calendar}
-use Rattle.docket_text.specs.CaseTexts.{case_text, deadlines_text}
+use Rattle.docket_text.specs.CaseTexts.{deadlines_text}
 use Rattle.docket_text.specs.HolidayTexts.{holiday_text}
 use Rattle.docket_wire.specs.Reading.{command_in}
 use Rattle.docket_wire.specs.Texts.{reply_text, fault_text}
 use Rattle.docket_wire.specs.declared.fault.WireFault.{WireFault}
 use Rattle.http_request.specs.declared.wish.Wish.{Wish}
-use Rattle.http_request.specs.declared.wish.Wish.TheVariants.{Reject, Command as CommandWish, Case, Deadlines, Calendar, Holidays}
+use Rattle.http_request.specs.declared.wish.Wish.TheVariants.{Reject, Command as CommandWish, Case, Deadlines, Calendar, Holidays, Page as PageWish}
 use Rattle.docket_http.specs.Answer.{Response, json, text, open_text, problem_response}
+use Rattle.docket_http.specs.Cases.{response_of_case}
+use Rattle.docket_http.specs.Pages.{page_response}
 use Rattle.docket_http.specs.Reply.{IsReply}
+use Rattle.docket_http.specs.declared.asking.Telling.TheVariants as telling
 use Rattle.docket_http.specs.declared.problem.Problem.{Problem}
 use Rattle.docket_http.specs.declared.problem.Problem.TheVariants.{Rejected, NoSuchCase, NoMemory, Store, Closed, Damaged}
 use Rattle.docket_http.specs.declared.reply.Reply.{Reply}
@@ -47,11 +49,6 @@ abbrev pub command_response : CourtSettings → History → Result Command WireF
 command_response court h (Ok c) = outcome_response (outcome court h c)
 command_response court h (Err fault) = json 400 (fault_text fault)
 
-abbrev pub case_response : CourtSettings → Option CaseRecord → Option (List DeadlineLine) → Response
-case_response court None lines = problem_response NoSuchCase
-case_response court (Some row) None = problem_response NoSuchCase
-case_response court (Some row) (Some lines) = text (case_text court row lines)
-
 abbrev pub deadlines_response : CourtSettings → Option (List DeadlineLine) → Response
 deadlines_response court None = problem_response NoSuchCase
 deadlines_response court (Some lines) = text (deadlines_text court lines)
@@ -60,10 +57,11 @@ deadlines_response court (Some lines) = text (deadlines_text court lines)
 abbrev pub response_to : CourtSettings → History → Wish → List ℕ → Response
 response_to court h (Reject rejection) body = problem_response (Rejected rejection)
 response_to court h (CommandWish len) body = command_response court h (command_in body)
-response_to court h (Case number) body = case_response court (case_record h number) (deadline_lines court h number)
+response_to court h (Case number) body = response_of_case telling.Text court h number
 response_to court h (Deadlines number) body = deadlines_response court (deadline_lines court h number)
 response_to court h (Calendar from to) body = open_text (text_of_calendar court h from to)
 response_to court h (Holidays year) body = text (holiday_text year)
+response_to court h (PageWish page) body = page_response court h page
 
 abbrev pub after_reading : CourtSettings → History → Result Command WireFault → History
 after_reading court h (Ok c) = after court h c
@@ -101,6 +99,7 @@ IsBuilt (CommandWish len) = Unit {0}
 IsBuilt (Case number) = Unit {0}
 IsBuilt (Deadlines number) = Unit {0}
 IsBuilt (Holidays year) = Unit {0}
+IsBuilt (PageWish page) = Unit {0}
 
 -- the answer, or the problem that is told in its place
 abbrev pub told : Option Problem → Response → Response
@@ -146,6 +145,7 @@ IsClosedAnswer (CommandWish len) body response = (response ≡ closed_command (c
 IsClosedAnswer (Case number) body response = response ≡ problem_response Closed
 IsClosedAnswer (Deadlines number) body response = response ≡ problem_response Closed
 IsClosedAnswer (Calendar from to) body response = response ≡ problem_response Closed
+IsClosedAnswer (PageWish page) body response = response ≡ problem_response Closed
 IsClosedAnswer (Holidays year) body response = (response ≡ text (holiday_text year)) ⊎ (response ≡ problem_response NoMemory)
 
 -- the reply of a closed docket, and what it replies before a fault is told as a problem

@@ -7,6 +7,7 @@ use Rattle.docket_store.specs.AnyRows.{IsRecorded}
 use Rattle.docket_store.specs.Dockets.{Docket}
 use Rattle.docket_wire.specs.Reading.{command_in}
 use Rattle.docket_wire.specs.Texts.{reply_text}
+use Rattle.http_request.specs.declared.page.Routes.{Routes}
 use Rattle.http_request.specs.declared.wish.Wish.{Wish}
 use Rattle.http_request.specs.declared.wish.Wish.TheVariants.{Command as CommandWish}
 use Rattle.docket_http.specs.Answer.{Response, json, problem_response}
@@ -47,9 +48,9 @@ module _ {S : Type 0} (g : Ghosts S) where
   SentBacked d _ body before after result = Unit {0}
 
   -- what a connection comes to: its answer to what was read, or what tells that memory was short before it was read whole
-  abbrev pub ServesBacked : Option (List ℕ) → Docket S → Option (List ℕ) → Option (List ℕ) → Result Served ServeFault → Type 0
-  ServesBacked input d before after (Err serve.ReadFailed) = Unit {0}
-  ServesBacked input d before after (Err serve.EndedEarly) = Unit {0}
-  ServesBacked input d before after result =
-      ((wish : Wish) × (body : List ℕ) × IsAsked input wish body × SentBacked d wish body before after result)
+  abbrev pub ServesBacked : Routes → Option (List ℕ) → Docket S → Option (List ℕ) → Option (List ℕ) → Result Served ServeFault → Type 0
+  ServesBacked routes input d before after (Err serve.ReadFailed) = Unit {0}
+  ServesBacked routes input d before after (Err serve.EndedEarly) = Unit {0}
+  ServesBacked routes input d before after result =
+      ((wish : Wish) × (body : List ℕ) × IsAsked routes input wish body × SentBacked d wish body before after result)
       ⊎ Sends (problem_response NoMemory) before after result

@@ -8,6 +8,7 @@ use Rattle.docket_store.specs.declared.fault.Fault.{Fault}
 use Rattle.docket_store.specs.declared.fault.Fault.TheVariants as fault
 use Rattle.line_io.specs.Output.{AppendsFront}
 use Rattle.http_request.specs.Request.{IsRequest, EndsEarly}
+use Rattle.http_request.specs.declared.page.Routes.{Routes}
 use Rattle.http_request.specs.declared.wish.Wish.{Wish}
 use Rattle.docket_http.specs.Answer.{Response, response_bytes, problem_response}
 use Rattle.docket_http.specs.Asking.{IsAnswered, IsBuilt, IsClosedAnswer, LeftBy, response_to}
@@ -30,8 +31,8 @@ pub record Begins (before after : Option (List ℕ)) (bytes : List ℕ) : Type 0
   pub begun : 1 ≤ front.count
 
 -- the input asks for this, where it is known
-abbrev pub IsAsked : Option (List ℕ) → Wish → List ℕ → Type 0
-IsAsked input wish body = IfSome input (λ bytes. IsRequest bytes wish body)
+abbrev pub IsAsked : Routes → Option (List ℕ) → Wish → List ℕ → Type 0
+IsAsked routes input wish body = IfSome input (λ bytes. IsRequest routes bytes wish body)
 
 -- the answer went out, or a front of it where the writer failed
 abbrev pub Sends : Response → Option (List ℕ) → Option (List ℕ) → Result Served ServeFault → Type 0
@@ -46,11 +47,11 @@ pub record SendsClosed (wish : Wish) (body : List ℕ) (before after : Option (L
   pub sent : Sends response before after result
 
 -- what a connection comes to on a closed docket: its answer to what was read, or what tells that memory was short before it was read whole
-abbrev pub ServesClosed : Option (List ℕ) → Option (List ℕ) → Option (List ℕ) → Result Served ServeFault → Type 0
-ServesClosed input before after (Err serve.ReadFailed) = Keeps before after
-ServesClosed input before after (Err serve.EndedEarly) = Keeps before after × IfSome input EndsEarly
-ServesClosed input before after result =
-    ((wish : Wish) × (body : List ℕ) × IsAsked input wish body × SendsClosed wish body before after result)
+abbrev pub ServesClosed : Routes → Option (List ℕ) → Option (List ℕ) → Option (List ℕ) → Result Served ServeFault → Type 0
+ServesClosed routes input before after (Err serve.ReadFailed) = Keeps before after
+ServesClosed routes input before after (Err serve.EndedEarly) = Keeps before after × IfSome input (EndsEarly routes)
+ServesClosed routes input before after result =
+    ((wish : Wish) × (body : List ℕ) × IsAsked routes input wish body × SendsClosed wish body before after result)
     ⊎ Sends (problem_response NoMemory) before after result
 
 module _ {S : Type 0} (g : Ghosts S) where
@@ -84,21 +85,21 @@ module _ {S : Type 0} (g : Ghosts S) where
     pub status_told : status ≡ 500
 
   -- a connection was served: by the answer to what was read, or by what tells that memory was short before it was read whole
-  abbrev pub Serves : Option (List ℕ) → Docket S → Docket S → History → Option (List ℕ) → Option (List ℕ) → ℕ → Type 0
-  Serves input old new h before after status =
-      ((wish : Wish) × (body : List ℕ) × IsAsked input wish body × IsServed new h wish body before after status)
+  abbrev pub Serves : Routes → Option (List ℕ) → Docket S → Docket S → History → Option (List ℕ) → Option (List ℕ) → ℕ → Type 0
+  Serves routes input old new h before after status =
+      ((wish : Wish) × (body : List ℕ) × IsAsked routes input wish body × IsServed new h wish body before after status)
       ⊎ GivesUp old new before after status
 
-  abbrev pub Unserved : Option (List ℕ) → Docket S → Docket S → History → Option (List ℕ) → Option (List ℕ) → ServeFault → Type 0
-  Unserved input old new h before after e =
-      (wish : Wish) × (body : List ℕ) × IsAsked input wish body × IsBroken new h wish body before after e
+  abbrev pub Unserved : Routes → Option (List ℕ) → Docket S → Docket S → History → Option (List ℕ) → Option (List ℕ) → ServeFault → Type 0
+  Unserved routes input old new h before after e =
+      (wish : Wish) × (body : List ℕ) × IsAsked routes input wish body × IsBroken new h wish body before after e
 
   -- a connection was not served whole: before the request was read whole nothing was written and the docket is as it was
-  abbrev pub Fails : Option (List ℕ) → Docket S → Docket S → History → Option (List ℕ) → Option (List ℕ) → ServeFault → Type 0
-  Fails input old new h before after serve.ReadFailed = (new ≡ old) × Keeps before after
-  Fails input old new h before after serve.EndedEarly = (new ≡ old) × Keeps before after × IfSome input EndsEarly
-  Fails input old new h before after serve.WriteFailed =
-      Unserved input old new h before after serve.WriteFailed
+  abbrev pub Fails : Routes → Option (List ℕ) → Docket S → Docket S → History → Option (List ℕ) → Option (List ℕ) → ServeFault → Type 0
+  Fails routes input old new h before after serve.ReadFailed = (new ≡ old) × Keeps before after
+  Fails routes input old new h before after serve.EndedEarly = (new ≡ old) × Keeps before after × IfSome input (EndsEarly routes)
+  Fails routes input old new h before after serve.WriteFailed =
+      Unserved routes input old new h before after serve.WriteFailed
       ⊎ ((new ≡ old) × AppendsFront before after (response_bytes (problem_response NoMemory)))
-  Fails input old new h before after serve.NoMemory = Unserved input old new h before after serve.NoMemory
-  Fails input old new h before after serve.StoreFailed = Unserved input old new h before after serve.StoreFailed
+  Fails routes input old new h before after serve.NoMemory = Unserved routes input old new h before after serve.NoMemory
+  Fails routes input old new h before after serve.StoreFailed = Unserved routes input old new h before after serve.StoreFailed

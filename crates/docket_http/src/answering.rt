@@ -13,8 +13,9 @@ ghost use Rattle.docket_http.specs.Asking.{IsBuilt, Replies, RepliesClosed, IsAn
 ghost use Rattle.docket_http.specs.Recorded.{RepliesBacked};
 ghost use Rattle.docket_http.specs.Reply.{IsReply};
 
-use crate::asking::{case_reply, deadlines_reply, holidays_reply};
+use crate::asking::{Telling, case_reply, deadlines_reply, holidays_reply};
 use crate::commands::command_reply;
+use crate::pages::page_reply;
 use crate::problem::{Problem, problem_of};
 use crate::reply::Reply;
 use docket_store::{Docket, Fault};
@@ -45,11 +46,12 @@ fn reply_to<S: Alter>(
         Wish::Command(_) => {
             command_reply(alloc, docket, &request.came[request.start..request.end])
         }
-        Wish::Case(number) => case_reply(alloc, docket, number),
+        Wish::Case(number) => case_reply(alloc, docket, Telling::Text, number),
         Wish::Deadlines(number) => deadlines_reply(alloc, docket, number),
         // Never comes here: a calendar is not built before it is written.
         Wish::Calendar(..) => Ok(Reply::Fixed(Problem::Damaged)),
         Wish::Holidays(year) => Ok(holidays_reply(alloc, year)?),
+        Wish::Page(page) => page_reply(alloc, docket, page),
     }
 }
 

@@ -13,6 +13,8 @@ pub(crate) enum Form {
     Text,
     /// A text that ends with the connection, so that its length need not be known when it begins.
     OpenText,
+    /// A page, which a browser shows.
+    Html,
 }
 
 /// Writes the value of the field `content-type`.
@@ -26,7 +28,30 @@ impl fmt::Display for Form {
         f.write_str(match self {
             Form::Json => "application/json",
             Form::Text | Form::OpenText => "text/plain; charset=utf-8",
+            Form::Html => "text/html; charset=utf-8",
         })
+    }
+}
+
+/// The lines of the fields `content-security-policy` and `cache-control`, which a page has: a browser runs
+/// no script for it, takes nothing from elsewhere, shows it in no other page, and keeps no copy of it.
+#[derive(Clone, Copy)]
+struct PolicyLine(Form);
+
+impl fmt::Display for PolicyLine {
+    ghost use Rattle.std.specs.Prelude.{Some};
+    ghost use Rattle.docket_http.specs.Answer.{policy_line};
+
+    ghost output = { λ line. Some (policy_line line.0) };
+
+    fn fmt<W: fmt::Write>(&self, f: &mut fmt::Formatter<W>) -> fmt::Result {
+        match self.0 {
+            Form::Html => f.write_str(
+                "content-security-policy: default-src 'none'; style-src 'unsafe-inline'; form-action 'self'; base-uri 'none'; frame-ancestors 'none'\r\n\
+                 cache-control: no-store\r\n",
+            ),
+            Form::Json | Form::Text | Form::OpenText => Ok(()),
+        }
     }
 }
 
@@ -47,7 +72,7 @@ impl fmt::Display for LengthLine {
         let len = self.len;
         match self.form {
             Form::OpenText => Ok(()),
-            Form::Json | Form::Text => write!(f, "content-length: {len}\r\n"),
+            Form::Json | Form::Text | Form::Html => write!(f, "content-length: {len}\r\n"),
         }
     }
 }
@@ -70,10 +95,11 @@ impl fmt::Display for Head {
         let status = self.status;
         let form = self.form;
         let len = self.len;
+        let policy = PolicyLine(form);
         let length = LengthLine { form, len };
         write!(
             f,
-            "HTTP/1.1 {status}\r\ncontent-type: {form}\r\n{length}connection: close\r\n\r\n"
+            "HTTP/1.1 {status}\r\ncontent-type: {form}\r\n{policy}{length}connection: close\r\n\r\n"
         )
     }
 }

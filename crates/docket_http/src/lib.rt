@@ -11,11 +11,13 @@ mod calendar;
 mod commands;
 mod fault;
 mod head;
+mod pages;
 mod problem;
 mod reply;
 mod sending;
 mod serve;
 
 pub use fault::ServeFault;
+pub use http_request::Routes;
 pub use sending::Served;
 pub use serve::serve_one;

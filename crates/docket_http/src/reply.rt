@@ -1,6 +1,6 @@
 //! Answers, whole.
 ghost use Rattle.std.specs.Prelude.{◌≡◌, IfOk, string_bytes};
-ghost use Rattle.docket_http.specs.Answer.{json, text};
+ghost use Rattle.docket_http.specs.Answer.{html, json, text};
 ghost use Rattle.docket_http.specs.Reply.{IsReply, reply_status};
 
 use crate::head::{Form, Head};
@@ -58,4 +58,11 @@ pub(crate) fn text_reply(alloc: Global, body: String) -> Result<Reply, AllocErro
     ensures { IfOk result (λ reply. IsReply reply (text (string_bytes body))) }
 {
     built(alloc, StatusCode::OK, Form::Text, body)
+}
+
+/// An answer that is a page.
+pub(crate) fn html_reply(alloc: Global, body: String) -> Result<Reply, AllocError>
+    ensures { IfOk result (λ reply. IsReply reply (html (string_bytes body))) }
+{
+    built(alloc, StatusCode::OK, Form::Html, body)
 }

@@ -22,7 +22,7 @@ use crate::reply::Reply;
 use crate::sending::{Served, send};
 use court_days::Day;
 use docket_store::Docket;
-use http_request::{InputFault, Request, Wish, read_request};
+use http_request::{InputFault, Request, Routes, Wish, read_request};
 use sqlite::Alter;
 use std::alloc::Global;
 use std::io::{Read, Write};
@@ -72,34 +72,35 @@ fn serve_request<W: Write, S: Alter>(
 
 /// Serves one request of a connection: what is written is the answer to what was read, and the docket
 /// then stands for the history that this answer reports. A closed docket stays as it is, and a request
-/// that asks it is told that it is closed.
+/// that asks it is told that it is closed. Pages are shown where they are among the routes.
 pub fn serve_one<R: Read, W: Write, S: Alter>(
     alloc: Global,
     reader: &mut R,
     writer: &mut W,
     docket: &mut Docket<S>,
+    routes: Routes,
 ) -> Result<Served, ServeFault>
     ensures court { docket.new.court ≡ docket.old.court }
     ensures clean { doubt (state S.Store docket.old.conn).is_clean ≤ doubt (state S.Store docket.new.conn).is_clean }
     ensures any { WritesAtMostOne S.Store docket.old docket.new }
     ensures closed { docket.old.closed ≡ true → (docket.new ≡ docket.old)
-        × ServesClosed (R.remaining reader.old) (W.contents writer.old) (W.contents writer.new) result }
+        × ServesClosed routes (R.remaining reader.old) (W.contents writer.old) (W.contents writer.new) result }
     ensures served { IfOk result (λ served. (h : History) → Stands S.Store docket.old h
         → HasCleanDisk (state S.Store docket.new.conn)
-        → Serves S.Store (R.remaining reader.old) docket.old docket.new h
+        → Serves S.Store routes (R.remaining reader.old) docket.old docket.new h
         (W.contents writer.old) (W.contents writer.new) served.status) }
     ensures fails { IfErr result (λ e. (h : History) → Stands S.Store docket.old h
         → HasCleanDisk (state S.Store docket.new.conn)
-        → Fails S.Store (R.remaining reader.old) docket.old docket.new h
+        → Fails S.Store routes (R.remaining reader.old) docket.old docket.new h
         (W.contents writer.old) (W.contents writer.new) e) }
     // Of any docket, a command that is told its reply has its receipt.
     ensures recorded { HoldsDocketRows S.Store docket.old
-        → ServesBacked S.Store (R.remaining reader.old) docket.new (W.contents writer.old) (W.contents writer.new) result }
+        → ServesBacked S.Store routes (R.remaining reader.old) docket.new (W.contents writer.old) (W.contents writer.new) result }
     // Where no request was read, nothing was written and the docket is as it was.
     ensures untouched { IfErr result (λ e. (e ≡ ServeFault.ReadFailed) ⊎ (e ≡ ServeFault.EndedEarly)
         → (docket.new ≡ docket.old) × Keeps (W.contents writer.old) (W.contents writer.new)) }
 {
-    match read_request(alloc, reader) {
+    match read_request(alloc, reader, routes) {
         Ok(request) => serve_request(alloc, docket, &request, writer),
         Err(InputFault::NoMemory) => send(writer, &Reply::Fixed(Problem::NoMemory)),
         Err(InputFault::ReadFailed) => Err(ServeFault::ReadFailed),

@@ -1,15 +1,19 @@
--- The command line of docketctl as clap reads it: each subcommand with its options, which take one value each, and its
--- places.
+-- The command line of docketctl as clap reads it: each subcommand with its options, which take one value each, its flags, which
+-- take none, and its places.
 use Rattle.std.specs.Prelude.{◌≡◌, [], ◌∷◌, Some, true, false, codes}
 use Rattle.clap.specs.Walk.{Rule, Text}
 use Rattle.clap.specs.Simple.{App, app_of, new_app, new_rule, on_top, with_rule, with_subcommand}
-use Rattle.clap.specs.declared.builder.action.ArgAction.TheVariants.{Set}
+use Rattle.clap.specs.declared.builder.action.ArgAction.TheVariants.{Set, SetTrue}
 use Rattle.clap.specs.declared.builder.command.Command.{Command}
 use Rattle.clap.specs.declared.builder.command.Command.TheViews.{out-Command as fields_of}
 
 -- --NAME VALUE
 abbrev pub option_rule : Text → Rule
 option_rule name = record (new_rule name) { long = Some name; action = Some Set; value_names = 1 }
+
+-- --NAME
+abbrev pub flag_rule : Text → Rule
+flag_rule name = record (new_rule name) { long = Some name; action = Some SetTrue }
 
 -- it has to be there
 abbrev pub required : Rule → Rule
@@ -74,7 +78,8 @@ unfoldable pub migrate_line : App
 migrate_line = with_rule (new_app (codes "migrate")) (required file_rule)
 
 unfoldable pub serve_line : App
-serve_line = with_rule (with_rule (with_rule (new_app (codes "serve")) (required file_rule)) (required (option_rule (codes "port")))) (required (option_rule (codes "count")))
+serve_line =
+    with_rule (with_rule (with_rule (with_rule (new_app (codes "serve")) (required file_rule)) (required (option_rule (codes "port")))) (required (option_rule (codes "count")))) (flag_rule (codes "pages"))
 
 unfoldable pub rules_line : App
 rules_line = with_rule (new_app (codes "rules")) file_rule

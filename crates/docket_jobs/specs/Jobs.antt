@@ -38,7 +38,7 @@ pub data Asked : Type 0 where
   to_check : Text → Asked
   to_back_up : Text → Text → Asked
   to_migrate : Text → Asked
-  to_serve : Text → ℕ → ℕ → Asked
+  to_serve : Text → ℕ → ℕ → Bool → Asked
   to_tell_rules : Option Text → Asked
   to_tell_holidays : ℕ → Asked
   to_tell_court_calendar : Text → ℕ → ℕ → Asked
@@ -59,7 +59,7 @@ asked job.ExplainLines = to_explain_lines
 asked (job.Check file) = to_check file.now
 asked (job.Backup file to) = to_back_up file.now to.now
 asked (job.Migrate file) = to_migrate file.now
-asked (job.Serve file port count) = to_serve file.now port count
+asked (job.Serve file port count pages) = to_serve file.now port count pages
 asked (job.Rules file) = to_tell_rules (option_copied file)
 asked (job.Holidays year) = to_tell_holidays year
 asked (job.CourtCalendar file from to) = to_tell_court_calendar file.now from to
@@ -96,6 +96,10 @@ count_of text = option_and_then count_if (number_of text)
 -- the value of an option or a place; clap asks for one, or has a default
 abbrev pub value_of : Text → List Row → Text
 value_of name found = unwrap_or (first_of name found) []
+
+-- whether a flag is given: clap has the text `true` for one that is, and `false` for one that is not
+abbrev pub flag_of : Text → List Row → Bool
+flag_of name found = bytes_eq (value_of name found) (codes "true")
 
 -- a court that has that zone and closes at that minute of the day
 abbrev pub court_if : Text → Option ZoneRules → Option ℕ → Option CourtSettings
@@ -189,14 +193,15 @@ backup_asked found = to_back_up (value_of (codes "db") found) (value_of (codes "
 abbrev pub migrate_asked : List Row → Asked
 migrate_asked found = to_migrate (value_of (codes "db") found)
 
-abbrev pub serve_if : Text → Option ℕ → Option ℕ → Option Asked
-serve_if file (Some port) (Some count) = Some (to_serve file port count)
-serve_if file _ _ = None
+abbrev pub serve_if : Text → Option ℕ → Option ℕ → Bool → Option Asked
+serve_if file (Some port) (Some count) pages = Some (to_serve file port count pages)
+serve_if file _ _ pages = None
 
--- so many connections at a port
+-- so many connections at a port, with pages where they are asked for
 abbrev pub serve_asked : List Row → Option Asked
 serve_asked found =
     serve_if (value_of (codes "db") found) (port_of (value_of (codes "port") found)) (count_of (value_of (codes "count") found))
+    (flag_of (codes "pages") found)
 
 -- the table of the rules, and those of the docket in a file where one is given
 abbrev pub rules_asked : List Row → Asked

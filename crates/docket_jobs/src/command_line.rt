@@ -2,7 +2,7 @@
 ghost use Rattle.std.specs.Prelude.{◌≡◌, false, IfOk};
 ghost use Rattle.clap.specs.Walk.{rule_of};
 ghost use Rattle.clap.specs.Simple.{new_app};
-ghost use Rattle.docket_jobs.specs.CommandLine.{option_rule, required, optional, with_default, place_rule, HasLine, count_line, create_line, run_line, import_line, case_line, cases_line, calendar_line, export_line, explain_line, check_line, backup_line, migrate_line, serve_line, rules_line, holidays_line, bare_line, docketctl};
+ghost use Rattle.docket_jobs.specs.CommandLine.{option_rule, flag_rule, required, optional, with_default, place_rule, HasLine, count_line, create_line, run_line, import_line, case_line, cases_line, calendar_line, export_line, explain_line, check_line, backup_line, migrate_line, serve_line, rules_line, holidays_line, bare_line, docketctl};
 
 use crate::help::{
     BACKUP_HELP, CALENDAR_HELP, CASE_HELP, CASES_HELP, CHECK_HELP, COUNT_HELP, CREATE_HELP,
@@ -42,6 +42,17 @@ fn needed_option<'a>(alloc: Global, id: &'a str, value: &'a str, help: &'a str) 
     ensures local { result.global ≡ false }
 {
     option(alloc, id, value, help).required(true)
+}
+
+/// An option `--id` with no value.
+fn flag<'a>(alloc: Global, id: &'a str, help: &'a str) -> Arg<'a>
+    ensures rule { rule_of result ≡ flag_rule id.now }
+    ensures local { result.global ≡ false }
+{
+    Arg::new(alloc, id)
+        .long(id)
+        .action(ArgAction::SetTrue)
+        .help(help)
 }
 
 /// A value that stands alone, and has to be there.
@@ -301,6 +312,11 @@ fn serve_command<'a>(alloc: Global) -> Result<Command<'a>, AllocError>
         "The port at 127.0.0.1, or 0 for one that is free",
     );
     let count = needed_option(alloc, "count", "N", "How many connections are served");
+    let pages = flag(
+        alloc,
+        "pages",
+        "Show pages of the docket to a browser as well, under /pages",
+    );
     subcommand(
         alloc,
         "serve",
@@ -309,7 +325,8 @@ fn serve_command<'a>(alloc: Global) -> Result<Command<'a>, AllocError>
     )
     .arg(file)?
     .arg(port)?
-    .arg(count)
+    .arg(count)?
+    .arg(pages)
 }
 
 fn rules_command<'a>(alloc: Global) -> Result<Command<'a>, AllocError>

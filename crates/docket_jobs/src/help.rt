@@ -44,8 +44,8 @@ With no command, docketctl counts. A docket in a file is made, kept and read lik
   docketctl backup --db court.db --to copy.db
 One of an older program is taken further, once:
   docketctl migrate --db court.db
-It is served to programs of this machine by HTTP:
-  docketctl serve --db court.db --port 8080 --count 1000";
+It is served to programs of this machine by HTTP, and with --pages to a browser as well:
+  docketctl serve --db court.db --port 8080 --count 1000 --pages";
 
 pub(crate) const CREATE_HELP: &str = "\
 The file must not hold a docket yet; where there is none it is made. ZONE is as
@@ -226,10 +226,17 @@ The docket is served at 127.0.0.1 alone, one connection after the other and one 
   GET /cases/NUMBER/deadlines its deadlines
   GET /calendar/FROM/TO       a calendar, as of `docketctl calendar`
   GET /holidays/YEAR          the holidays of a year, as of `docketctl holidays`
+With --pages a browser is shown pages as well, which change nothing:
+  GET /pages                  the list of cases, and a form for the seven days from a day
+  GET /pages/cases/NUMBER     the docket sheet of a case
+  GET /pages/calendar/FROM/TO what falls due, with links to the weeks before and after
 A reply to a command goes out when it stands in the file. The first line of the output is written
 when connections are taken; port 0 is one that is free:
   docketctl serve --db court.db --port 8080 --count 1000
   listening on 127.0.0.1:8080
+  docketctl serve --db court.db --port 8080 --count 1000 --pages
+  listening on 127.0.0.1:8080
+A browser on this machine then shows the docket at http://127.0.0.1:8080/pages.
 A client is waited for ten seconds in all for its request, and ten for its answer. What goes wrong
 with a connection is told in a line of standard error, and the next is served.
 

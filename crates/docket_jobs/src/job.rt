@@ -10,7 +10,7 @@ ghost use Rattle.docket_jobs.specs.Jobs.{IsLimited, asked, asked_by, asked_in, a
 use crate::command_line::command;
 use crate::day_jobs::{calendar_job, export_job, holidays_job};
 use crate::number::{read_count, read_number, read_port};
-use crate::value::{BadValue, value};
+use crate::value::{BadValue, flag, value};
 use civil_time::Day;
 use clap::error::ErrorKind;
 use clap::{ArgMatches, Command, Error};
@@ -97,11 +97,13 @@ pub enum Job<'a> {
         file: &'a str,
     },
     /// `serve`: answer the requests of 1 to 1,000,000 connections, at a port of this machine alone, of the
-    /// docket in a file. Port 0 is one that the system chooses.
+    /// docket in a file, and show its pages as well where they are asked for. Port 0 is one that the system
+    /// chooses.
     Serve {
         file: &'a str,
         port: u16,
         count: u32,
+        pages: bool,
     },
     /// `rules`: tell the rules by which deadlines run, with the local rules of the docket in a file, where
     /// one is given.
@@ -264,6 +266,7 @@ fn serve_job<'a>(found: &ArgMatches<'a>) -> Result<Job<'a>, BadValue<'a>>
         file: value(found, "db"),
         port,
         count,
+        pages: flag(found, "pages"),
     })
 }
 

@@ -2,7 +2,7 @@
 ghost use Rattle.std.specs.Prelude.{◌≡◌};
 ghost use Rattle.clap.specs.Matches.{found_of};
 ghost use Rattle.clap.specs.Walk.{rows_of};
-ghost use Rattle.docket_jobs.specs.Jobs.{value_of};
+ghost use Rattle.docket_jobs.specs.Jobs.{flag_of, value_of};
 
 use clap::ArgMatches;
 use std::fmt;
@@ -68,4 +68,11 @@ pub(crate) fn value<'a>(found: &ArgMatches<'a>, id: &str) -> &'a str
     ensures { result.now ≡ value_of id.now (rows_of (found_of found.now)) }
 {
     found.get_str(id).unwrap_or("")
+}
+
+/// Whether a flag is given: its text is `true` then, and `false` where it is not.
+pub(crate) fn flag(found: &ArgMatches<'_>, id: &str) -> bool
+    ensures { result ≡ flag_of id.now (rows_of (found_of found.now)) }
+{
+    value(found, id) == "true"
 }

@@ -1,5 +1,5 @@
 -- From each connection to all of them.
-use Rattle.std.proofs.Common.{inl, inr, ◌≡◌, ◌+◌, ◌++◌, ◌∷◌, ◌≤◌, ◌⊎◌, [], ℕ, true, false, List, Option, Some, None, Result, Ok, Err, IfOk, IfErr, IsErrAnd, length-append, append-nil, append_assoc, refl, sym, ap, subst, ◌∙◌, arith}
+use Rattle.std.proofs.Common.{inl, inr, ◌≡◌, ◌+◌, ◌++◌, ◌∷◌, ◌≤◌, ◌⊎◌, [], ℕ, true, false, List, Option, Some, None, Result, Ok, Err, IfOk, IfErr, IsErrAnd, length-append, append-nil, append_assoc, refl, sym, ap, ap₂, subst, ◌∙◌, arith}
 use Rattle.std.specs.Io.KnownBytes.{Keeps}
 use Rattle.std.specs.List.{AllByRecursion}
 use Rattle.sqlite.specs.Store.{Ghosts}
@@ -10,11 +10,13 @@ use Rattle.docket_core.specs.Histories.{History}
 use Rattle.docket_store.specs.AnyRows.{HoldsDocketRows, WritesAtMostOne}
 use Rattle.docket_store.specs.Applying.{Stands}
 use Rattle.docket_store.specs.Dockets.{Docket}
+use Rattle.http_request.specs.declared.page.Routes.{Routes}
 use Rattle.docket_http.specs.Recorded.{ServesBacked}
 use Rattle.docket_http.specs.Serve.{Fails, Serves, ServesClosed}
 use Rattle.docket_http.specs.declared.fault.ServeFault.{ServeFault}
 use Rattle.docket_http.specs.declared.fault.ServeFault.TheVariants.{EndedEarly, ReadFailed}
 use Rattle.docket_http.specs.declared.sending.Served.{Served}
+use Rattle.docket_serving.specs.Desks.{Desk}
 use Rattle.docket_serving.specs.Exchanges.{Ends, Exchange, Logs, exchange, tells_failure}
 use Rattle.docket_serving.specs.Serving.{Answers, IsAttended, IsToldClosed, Leads, ServesEach, ServesRun}
 use Rattle.docket_serving.specs.declared.serving.ServingFault.{ServingFault}
@@ -57,11 +59,18 @@ ends_below : (n count : ℕ) (all : List Exchange) (fault : ServingFault) → n 
 ends_below n count all AcceptFailed below is = (omega (arith, below, is.0), is.1)
 ends_below n count all DocketFailed below is = (omega (arith, below, is.0), is.1)
 
-module _ {S : Type 0} (g : Ghosts S) where
+abbrev desk_of : {S : Type 0} → Docket S → Routes → Desk S
+desk_of docket routes = record { docket = docket; routes = routes }
+
+-- desks of one docket that serve the same routes
+pub same_desk : {S : Type 0} (a b : Desk S) → a.docket ≡ b.docket → a.routes ≡ b.routes → a ≡ b
+same_desk a b dockets routes = ap₂ desk_of dockets routes
+
+module _ {S : Type 0} (g : Ghosts S) (routes : Routes) where
   answers_by : (old new : Docket S) (input before after : Option (List ℕ)) (end : Result Served ServeFault)
-      → IfOk end (λ served. (h : History) → Stands g old h → HasCleanDisk (state g new.conn) → Serves g input old new h before after served.status)
-      → IfErr end (λ fault. (h : History) → Stands g old h → HasCleanDisk (state g new.conn) → Fails g input old new h before after fault)
-      → (h : History) → Stands g old h → HasCleanDisk (state g new.conn) → Answers g old new h (exchange input before after end) end
+      → IfOk end (λ served. (h : History) → Stands g old h → HasCleanDisk (state g new.conn) → Serves g routes input old new h before after served.status)
+      → IfErr end (λ fault. (h : History) → Stands g old h → HasCleanDisk (state g new.conn) → Fails g routes input old new h before after fault)
+      → (h : History) → Stands g old h → HasCleanDisk (state g new.conn) → Answers g routes old new h (exchange input before after end) end
   answers_by old new input before after (Ok served) whole fails = whole
   answers_by old new input before after (Err fault) whole fails = fails
 
@@ -70,12 +79,12 @@ module _ {S : Type 0} (g : Ghosts S) where
       → new.court ≡ old.court
       → doubt (state g old.conn).is_clean ≤ doubt (state g new.conn).is_clean
       → WritesAtMostOne g old new
-      → (old.closed ≡ true → (new ≡ old) × ServesClosed input before after end)
-      → IfOk end (λ served. (h : History) → Stands g old h → HasCleanDisk (state g new.conn) → Serves g input old new h before after served.status)
-      → IfErr end (λ fault. (h : History) → Stands g old h → HasCleanDisk (state g new.conn) → Fails g input old new h before after fault)
-      → (HoldsDocketRows g old → ServesBacked g input new before after end)
+      → (old.closed ≡ true → (new ≡ old) × ServesClosed routes input before after end)
+      → IfOk end (λ served. (h : History) → Stands g old h → HasCleanDisk (state g new.conn) → Serves g routes input old new h before after served.status)
+      → IfErr end (λ fault. (h : History) → Stands g old h → HasCleanDisk (state g new.conn) → Fails g routes input old new h before after fault)
+      → (HoldsDocketRows g old → ServesBacked g routes input new before after end)
       → IfErr end (λ fault. (fault ≡ ReadFailed) ⊎ (fault ≡ EndedEarly) → (new ≡ old) × Keeps before after)
-      → IsAttended g old (exchange input before after end) new
+      → IsAttended g routes old (exchange input before after end) new
   attended_by old new input before after end court clean any closed served fails recorded untouched = record {
     court = court;
     clean = clean;
@@ -86,44 +95,44 @@ module _ {S : Type 0} (g : Ghosts S) where
     untouched = untouched;
   }
 
-  each_court : (all : List Exchange) (old new : Docket S) → ServesEach g old all new → new.court ≡ old.court
+  each_court : (all : List Exchange) (old new : Docket S) → ServesEach g routes old all new → new.court ≡ old.court
   each_court [] old new each = ap (λ (d : Docket S). d.court) each
   each_court (e ∷ rest) old new each = each_court rest each.0 new each.2 ∙ each.1.court
 
-  each_clean : (all : List Exchange) (old new : Docket S) → ServesEach g old all new → doubt (state g old.conn).is_clean ≤ doubt (state g new.conn).is_clean
+  each_clean : (all : List Exchange) (old new : Docket S) → ServesEach g routes old all new → doubt (state g old.conn).is_clean ≤ doubt (state g new.conn).is_clean
   each_clean [] old new each = subst (λ (d : Docket S). doubt (state g old.conn).is_clean ≤ doubt (state g d.conn).is_clean) (sym each) (omega arith)
   each_clean (e ∷ rest) old new each = omega (arith, each.1.clean, each_clean rest each.0 new each.2)
 
-  each_closed : (all : List Exchange) (old new : Docket S) → ServesEach g old all new → old.closed ≡ true → (new ≡ old) × AllByRecursion IsToldClosed all
+  each_closed : (all : List Exchange) (old new : Docket S) → ServesEach g routes old all new → old.closed ≡ true → (new ≡ old) × AllByRecursion (IsToldClosed routes) all
   each_closed [] old new each shut = (each, tt)
   each_closed (e ∷ rest) old new each shut =
       let told = each.1.closed shut in
       let more = each_closed rest each.0 new each.2 (ap (λ (d : Docket S). d.closed) told.0 ∙ shut) in
       (more.0 ∙ told.0, (told.1, more.1))
 
-  each_then : (first more : List Exchange) (old left new : Docket S) → ServesEach g old first left → ServesEach g left more new → ServesEach g old (first ++ more) new
-  each_then [] more old left new p q = subst (λ (d : Docket S). ServesEach g d more new) p q
+  each_then : (first more : List Exchange) (old left new : Docket S) → ServesEach g routes old first left → ServesEach g routes left more new → ServesEach g routes old (first ++ more) new
+  each_then [] more old left new p q = subst (λ (d : Docket S). ServesEach g routes d more new) p q
   each_then (e ∷ first) more old left new p q = (p.0, p.1, each_then first more p.0 left new p.2 q)
 
   was_clean : (before now : ℕ) → before ≤ now → now ≡ 0 → before ≡ 0
   was_clean before now less clean = omega (arith, less, clean)
 
   -- the next connections by what this one leaves
-  leads_on : (old left new : Docket S) (h : History) (e : Exchange) (rest : List Exchange) → Answers g old left h e e.end → ServesEach g left rest new
-      → ((next : History) → Stands g left next → Leads g left next rest new) → Leaves g h e left → Leads g old h (e ∷ rest) new
+  leads_on : (old left new : Docket S) (h : History) (e : Exchange) (rest : List Exchange) → Answers g routes old left h e e.end → ServesEach g routes left rest new
+      → ((next : History) → Stands g left next → Leads g routes left next rest new) → Leaves g routes h e left → Leads g routes old h (e ∷ rest) new
   leads_on old left new h e rest answers each more (inl stays) = (left, answers, inl (stays.0, stays.1, more stays.0 stays.1.stands))
   leads_on old left new h e rest answers each more (inr fell) = (left, answers, inr (fell, each))
 
-  each_leads : (all : List Exchange) (old new : Docket S) (h : History) → ServesEach g old all new → Stands g old h → HasCleanDisk (state g new.conn) → Leads g old h all new
+  each_leads : (all : List Exchange) (old new : Docket S) (h : History) → ServesEach g routes old all new → Stands g old h → HasCleanDisk (state g new.conn) → Leads g routes old h all new
   each_leads [] old new h each stands clean = (each, subst (λ (d : Docket S). Stands g d h) (sym each) stands)
   each_leads (e ∷ rest) old new h each stands clean =
       let left = each.0 in
       let now : HasCleanDisk (state g left.conn) = was_clean _ _ (each_clean rest left new each.2) clean in
       let answers = each.1.answers h stands now in
-      leads_on old left new h e rest answers each.2 (λ next here. each_leads rest left new next each.2 here clean) (leaves g old left h e e.end refl stands answers)
+      leads_on old left new h e rest answers each.2 (λ next here. each_leads rest left new next each.2 here clean) (leaves g routes old left h e e.end refl stands answers)
 
   module _ (old new : Docket S) (count : ℕ) (before after : Option (List Exchange)) (result : Result (Unit {0}) ServingFault) (all : List Exchange) where
-    served_by : Logs before after all → Ends count all result → ServesEach g old all new → ServesRun g old new count before after result
+    served_by : Logs before after all → Ends count all result → ServesEach g routes old all new → ServesRun g routes old new count before after result
     served_by logged ends each = record {
       exchanges = all;
       logged = logged;
@@ -134,47 +143,53 @@ module _ {S : Type 0} (g : Ghosts S) where
     }
 
   -- no connection so far
-  pub served_none : (d : Docket S) (log : Option (List Exchange)) → ServesRun g d d 0 log log (Ok tt)
+  pub served_none : (d : Docket S) (log : Option (List Exchange)) → ServesRun g routes d d 0 log log (Ok tt)
   served_none d log = served_by d d 0 log log (Ok tt) [] (logs_none log) (refl, tt) refl
 
   pub served_then : (old left new : Docket S) (i n : ℕ) (a b c : Option (List Exchange)) (result : Result (Unit {0}) ServingFault)
-      → ServesRun g old left i a b (Ok tt) → ServesRun g left new n b c result → ServesRun g old new (i + n) a c result
+      → ServesRun g routes old left i a b (Ok tt) → ServesRun g routes left new n b c result → ServesRun g routes old new (i + n) a c result
   served_then old left new i n a b c result p q =
       served_by old new (i + n) a c result (p.exchanges ++ q.exchanges) (logs_then a b c p.exchanges q.exchanges p.logged q.logged)
       (ends_then i n p.exchanges q.exchanges result p.ends q.ends) (each_then p.exchanges q.exchanges old left new p.each q.each)
 
   -- one connection that was taken
-  pub served_one : (old new : Docket S) (e : Exchange) (a b : Option (List Exchange)) → Logs a b (e ∷ []) → IsAttended g old e new → tells_failure e.end ≡ false
-      → ServesRun g old new 1 a b (Ok tt)
+  pub served_one : (old new : Docket S) (e : Exchange) (a b : Option (List Exchange)) → Logs a b (e ∷ []) → IsAttended g routes old e new → tells_failure e.end ≡ false
+      → ServesRun g routes old new 1 a b (Ok tt)
   served_one old new e a b logged attended fine = served_by old new 1 a b (Ok tt) (e ∷ []) logged (refl, (fine, tt)) (new, attended, refl)
 
-  pub served_failed : (old new : Docket S) (e : Exchange) (a b : Option (List Exchange)) → Logs a b (e ∷ []) → IsAttended g old e new → tells_failure e.end ≡ true
-      → ServesRun g old new 1 a b (Err DocketFailed)
+  pub served_failed : (old new : Docket S) (e : Exchange) (a b : Option (List Exchange)) → Logs a b (e ∷ []) → IsAttended g routes old e new → tells_failure e.end ≡ true
+      → ServesRun g routes old new 1 a b (Err DocketFailed)
   served_failed old new e a b logged attended failed =
       served_by old new 1 a b (Err DocketFailed) (e ∷ []) logged
       (omega arith, record { first = []; last = e; is = refl; none_before = tt; failed = failed }) (new, attended, refl)
 
   -- none could be taken
-  pub served_missed : (old new : Docket S) (a b : Option (List Exchange)) → Logs a b [] → new ≡ old → ServesRun g old new 1 a b (Err AcceptFailed)
+  pub served_missed : (old new : Docket S) (a b : Option (List Exchange)) → Logs a b [] → new ≡ old → ServesRun g routes old new 1 a b (Err AcceptFailed)
   served_missed old new a b logged same = served_by old new 1 a b (Err AcceptFailed) [] logged (omega arith, tt) same
 
   -- all were taken
   pub served_all : (old new : Docket S) (i count : ℕ) (a b : Option (List Exchange)) (result : Result (Unit {0}) ServingFault) → i ≡ count
-      → ServesRun g old new i a b result → ServesRun g old new count a b result
-  served_all old new i count a b result same p = subst (λ n. ServesRun g old new n a b result) same p
+      → ServesRun g routes old new i a b result → ServesRun g routes old new count a b result
+  served_all old new i count a b result same p = subst (λ n. ServesRun g routes old new n a b result) same p
 
   -- the last one ends the run
   pub served_stop : (old left new : Docket S) (i count : ℕ) (a b c : Option (List Exchange)) (fault : ServingFault) (result : Result (Unit {0}) ServingFault)
-      → i + 1 ≤ count → IsErrAnd result (λ e. e ≡ fault) → ServesRun g old left i a b (Ok tt) → ServesRun g left new 1 b c (Err fault) → ServesRun g old new count a c result
+      → i + 1 ≤ count → IsErrAnd result (λ e. e ≡ fault) → ServesRun g routes old left i a b (Ok tt) → ServesRun g routes left new 1 b c (Err fault) → ServesRun g routes old new count a c result
   served_stop old left new i count a b c fault (Ok done) below told p q = absurd told
   served_stop old left new i count a b c fault (Err e) below told p q =
       let both = served_then old left new i 1 a b c (Err fault) p q in
-      subst (λ x. ServesRun g old new count a c (Err x)) (sym told)
+      subst (λ x. ServesRun g routes old new count a c (Err x)) (sym told)
       (served_by old new count a c (Err fault) both.exchanges both.logged (ends_below (i + 1) count both.exchanges fault below both.ends) both.each)
 
-  module _ (old new : Docket S) (count : ℕ) (a b : Option (List Exchange)) (result : Result (Unit {0}) ServingFault) (run : ServesRun g old new count a b result) where
+  module _ (old new : Docket S) (count : ℕ) (a b : Option (List Exchange)) (result : Result (Unit {0}) ServingFault) (run : ServesRun g routes old new count a b result) where
     pub served_court : new.court ≡ old.court
     served_court = each_court run.exchanges old new run.each
 
     pub served_clean : doubt (state g old.conn).is_clean ≤ doubt (state g new.conn).is_clean
     served_clean = each_clean run.exchanges old new run.each
+
+-- the same routes
+pub by_routes : {S : Type 0} (g : Ghosts S) (a b : Routes) → a ≡ b
+    → {old new : Docket S} {count : ℕ} {before after : Option (List Exchange)} {result : Result (Unit {0}) ServingFault}
+    → ServesRun g a old new count before after result → ServesRun g b old new count before after result
+by_routes g a b same {old} {new} {count} {before} {after} {result} run = subst (λ (r : Routes). ServesRun g r old new count before after result) same run

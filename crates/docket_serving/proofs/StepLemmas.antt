@@ -5,6 +5,7 @@ use Rattle.docket_core.specs.Histories.{History}
 use Rattle.docket_tables.specs.Stands.{LastsAsEither}
 use Rattle.docket_store.specs.Applying.{Stands, docket_rows}
 use Rattle.docket_store.specs.Dockets.{Docket}
+use Rattle.http_request.specs.declared.page.Routes.{Routes}
 use Rattle.http_request.specs.declared.wish.Wish.{Wish}
 use Rattle.docket_http.specs.Answer.{Response}
 use Rattle.docket_http.specs.Asking.{IsAnswered, history_after}
@@ -16,17 +17,17 @@ use Rattle.docket_http.proofs.LeftLemmas.{Left, left as split}
 use Rattle.docket_serving.specs.Exchanges.{Exchange, tells_failure}
 use Rattle.docket_serving.specs.Serving.{Answers, Fell, IsNext, Stays}
 
-module _ {S : Type 0} (g : Ghosts S) where
+module _ {S : Type 0} (g : Ghosts S) (routes : Routes) where
   -- the docket of a history, or one that fell
   abbrev pub Leaves : History → Exchange → Docket S → Type 0
-  Leaves h e left = ((next : History) × Stays g h e left next) ⊎ Fell g h e left
+  Leaves h e left = ((next : History) × Stays g routes h e left next) ⊎ Fell g routes h e left
 
   left_same : (old left : Docket S) (h : History) (e : Exchange) → left ≡ old → Stands g old h → tells_failure e.end ≡ false → Leaves h e left
   left_same old left h e same stands told =
       inl (h, record { is = inl refl; stands = subst (λ (d : Docket S). Stands g d h) (sym same) stands; told = told })
 
-  module _ (left : Docket S) (h : History) (e : Exchange) (wish : Wish) (body : List ℕ) (asked : IsAsked e.input wish body) where
-    after : IsNext left.court h e (history_after left.court h wish body)
+  module _ (left : Docket S) (h : History) (e : Exchange) (wish : Wish) (body : List ℕ) (asked : IsAsked routes e.input wish body) where
+    after : IsNext routes left.court h e (history_after left.court h wish body)
     after = inr (wish, body, asked, refl)
 
     left_after : Stands g left (history_after left.court h wish body) → tells_failure e.end ≡ false → Leaves h e left
@@ -50,7 +51,7 @@ module _ {S : Type 0} (g : Ghosts S) where
         → ((response.status == 503) ≡ true → (tells_failure e.end ≡ true) ⊎ (e.end ≡ Err serve.WriteFailed)) → Leaves h e left
     left_told response answered fine failed = left_as response (split g left h wish body response answered) fine failed
 
-  pub leaves : (old left : Docket S) (h : History) (e : Exchange) (end : Result Served ServeFault) → e.end ≡ end → Stands g old h → Answers g old left h e end → Leaves h e left
+  pub leaves : (old left : Docket S) (h : History) (e : Exchange) (end : Result Served ServeFault) → e.end ≡ end → Stands g old h → Answers g routes old left h e end → Leaves h e left
   leaves old left h e (Ok served) ended stands (inl is) =
       let now : tells_failure e.end ≡ (is.3.response.status == 503) = ap tells_failure ended ∙ ap (λ n. n == 503) is.3.status_told in
       left_told left h e is.0 is.1 is.2 is.3.response is.3.answered (λ fine. now ∙ fine) (λ failed. inl (now ∙ failed))

@@ -1,2 +1,3 @@
 pub mod Exchanges
 pub mod Serving
+pub mod Desks

@@ -12,6 +12,7 @@ use Rattle.docket_tables.specs.Stands.{LastsAsEither}
 use Rattle.docket_store.specs.AnyRows.{HoldsDocketRows, WritesAtMostOne}
 use Rattle.docket_store.specs.Applying.{Stands, docket_rows}
 use Rattle.docket_store.specs.Dockets.{Docket}
+use Rattle.http_request.specs.declared.page.Routes.{Routes}
 use Rattle.http_request.specs.declared.wish.Wish.{Wish}
 use Rattle.docket_http.specs.Asking.{history_after}
 use Rattle.docket_http.specs.Recorded.{ServesBacked}
@@ -23,27 +24,27 @@ use Rattle.docket_serving.specs.Exchanges.{Ends, Exchange, Logs, tells_failure}
 use Rattle.docket_serving.specs.declared.serving.ServingFault.{ServingFault}
 
 -- the history is that before a connection, or that after the command which it gave
-abbrev pub IsNext : CourtSettings → History → Exchange → History → Type 0
-IsNext court h e next = (next ≡ h) ⊎ ((wish : Wish) × (body : List ℕ) × IsAsked e.input wish body × (next ≡ history_after court h wish body))
+abbrev pub IsNext : Routes → CourtSettings → History → Exchange → History → Type 0
+IsNext routes court h e next = (next ≡ h) ⊎ ((wish : Wish) × (body : List ℕ) × IsAsked routes e.input wish body × (next ≡ history_after court h wish body))
 
 -- a closed docket's answer went out, or a front of it
-abbrev pub IsToldClosed : Exchange → Type 0
-IsToldClosed e = ServesClosed e.input e.before e.after e.end
+abbrev pub IsToldClosed : Routes → Exchange → Type 0
+IsToldClosed routes e = ServesClosed routes e.input e.before e.after e.end
 
-module _ {S : Type 0} (g : Ghosts S) where
+module _ {S : Type 0} (g : Ghosts S) (routes : Routes) where
   -- what a connection is served where the docket stood for a history
   abbrev pub Answers : Docket S → Docket S → History → Exchange → Result Served ServeFault → Type 0
-  Answers old new h e (Ok served) = Serves g e.input old new h e.before e.after served.status
-  Answers old new h e (Err fault) = Fails g e.input old new h e.before e.after fault
+  Answers old new h e (Ok served) = Serves g routes e.input old new h e.before e.after served.status
+  Answers old new h e (Err fault) = Fails g routes e.input old new h e.before e.after fault
 
   -- all that is promised of one connection, whatever the docket
   pub record IsAttended (old : Docket S) (e : Exchange) (new : Docket S) : Type 0 where
     pub court : new.court ≡ old.court
     pub clean : doubt (state g old.conn).is_clean ≤ doubt (state g new.conn).is_clean
     pub any : WritesAtMostOne g old new
-    pub closed : old.closed ≡ true → (new ≡ old) × IsToldClosed e
+    pub closed : old.closed ≡ true → (new ≡ old) × IsToldClosed routes e
     pub answers : (h : History) → Stands g old h → HasCleanDisk (state g new.conn) → Answers old new h e e.end
-    pub recorded : HoldsDocketRows g old → ServesBacked g e.input new e.before e.after e.end
+    pub recorded : HoldsDocketRows g old → ServesBacked g routes e.input new e.before e.after e.end
     pub untouched : IfErr e.end (λ fault. (fault ≡ ReadFailed) ⊎ (fault ≡ EndedEarly) → (new ≡ old) × Keeps e.before e.after)
 
   -- the connections were served one after the other, each by the docket that the one before it left
@@ -53,7 +54,7 @@ module _ {S : Type 0} (g : Ghosts S) where
 
   -- the docket stands for the next history, and the connection was not told that it failed
   pub record Stays (h : History) (e : Exchange) (left : Docket S) (next : History) : Type 0 where
-    pub is : IsNext left.court h e next
+    pub is : IsNext routes left.court h e next
     pub stands : Stands g left next
     pub told : tells_failure e.end ≡ false
 
@@ -61,7 +62,7 @@ module _ {S : Type 0} (g : Ghosts S) where
   -- so, but where its answer could not be written whole
   pub record Fell (h : History) (e : Exchange) (left : Docket S) : Type 0 where
     pub next : History
-    pub is : IsNext left.court h e next
+    pub is : IsNext routes left.court h e next
     pub lasts : LastsAsEither g left.conn (docket_rows left.court h) (docket_rows left.court next)
     pub closed : left.closed ≡ true
     pub told : (tells_failure e.end ≡ true) ⊎ (e.end ≡ Err WriteFailed)
@@ -80,5 +81,5 @@ module _ {S : Type 0} (g : Ghosts S) where
     pub logged : Logs before after exchanges
     pub ends : Ends count exchanges result
     pub each : ServesEach old exchanges new
-    pub closed : old.closed ≡ true → (new ≡ old) × AllByRecursion IsToldClosed exchanges
+    pub closed : old.closed ≡ true → (new ≡ old) × AllByRecursion (IsToldClosed routes) exchanges
     pub leads : (h : History) → Stands g old h → HasCleanDisk (state g new.conn) → Leads old h exchanges new

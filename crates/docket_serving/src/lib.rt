@@ -12,5 +12,6 @@ mod serving;
 
 pub use connections::{Attendant, Connections};
 pub use desk::Desk;
+pub use docket_http::Routes;
 pub use listening::Listening;
 pub use serving::{ServingFault, serve_run};

@@ -39,7 +39,7 @@ use crate::leaving::leave;
 use crate::listing::{Wanted, cases_over};
 use crate::migrating::migrate_over;
 use crate::running::run_over;
-use crate::serving::{ServeEnd, serve_over};
+use crate::serving::{ServeEnd, Service, serve_over};
 use crate::sheet::sheet_over;
 use command_lines::{CountEnd, RunFault};
 use court_days::{Court, Day};
@@ -330,15 +330,14 @@ pub fn migrate_on_file<S: Start, V: Watch + Drop>(
     Ok(leave(migrate_over(rt.alloc(), conn, watch)))
 }
 
-/// Serves so many connections that come to a port of this machine alone, by the docket in the files at a
+/// Serves the connections that come to a port of this machine alone, by the docket in the files at a
 /// path. It is told on `w` where they are taken, and on `e` what goes wrong with one.
 pub fn serve_on_file<S: Start, V: Watch + Drop, W: Write, E: Write>(
     rt: &HostRuntime,
     path: &str,
     start: S,
     watch: V,
-    port: u16,
-    count: u32,
+    service: &Service,
     w: &mut W,
     e: &mut E,
 ) -> OnFile<S, Result<(), ServeEnd>>
@@ -350,5 +349,5 @@ pub fn serve_on_file<S: Start, V: Watch + Drop, W: Write, E: Write>(
     ensures unserved { MatchResult result (λ done. IfErr done.outcome (λ _. (w.new ≡ w.old) × (e.new ≡ e.old))) (λ _. (w.new ≡ w.old) × (e.new ≡ e.old)) }
 {
     let conn = reopen_from(rt, path, start)?;
-    Ok(leave(serve_over(rt, conn, watch, port, count, w, e)))
+    Ok(leave(serve_over(rt, conn, watch, service, w, e)))
 }

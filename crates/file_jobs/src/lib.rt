@@ -19,6 +19,7 @@ mod serving;
 mod sheet;
 
 pub use checking::Sound;
+pub use docket_serving::Routes;
 pub use ended::Ended;
 pub use exporting::Export;
 pub use file::{
@@ -27,4 +28,4 @@ pub use file::{
     rules_on_file, run_on_file, serve_on_file, sheet_on_file,
 };
 pub use listing::Wanted;
-pub use serving::ServeEnd;
+pub use serving::{ServeEnd, Service};

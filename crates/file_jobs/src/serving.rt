@@ -13,7 +13,7 @@ ghost use Rattle.file_jobs.specs.Tells.{WorksTo};
 
 use crate::adopting::adopt;
 use crate::ended::Worked;
-use docket_serving::{Desk, Listening, ServingFault, serve_run};
+use docket_serving::{Desk, Listening, Routes, ServingFault, serve_run};
 use docket_store::{AdoptFault, Watch};
 use sqlite::{Alter, Connection};
 use std::alloc::Global;
@@ -21,6 +21,14 @@ use std::io;
 use std::io::{ErrorKind, Write};
 use std::net::TcpListener;
 use std::rt::HostRuntime;
+
+/// At which port of this machine a docket is served, to how many connections, and by which routes.
+#[derive(Clone, Copy, Debug, PartialEq, Eq)]
+pub struct Service {
+    pub port: u16,
+    pub count: u32,
+    pub routes: Routes,
+}
 
 /// Why a docket was not served to the end.
 #[derive(Clone, Copy, Debug, PartialEq, Eq)]
@@ -50,7 +58,7 @@ fn listen<S: Alter, W: Write, E: Write>(
     e: &mut E,
 ) -> Result<(), ServeEnd>
     ensures served { ServesPort S.Store desk.old desk.new count result }
-    ensures clean { doubt (state S.Store desk.old.conn).is_clean ≤ doubt (state S.Store desk.new.conn).is_clean }
+    ensures clean { doubt (state S.Store desk.old.docket.conn).is_clean ≤ doubt (state S.Store desk.new.docket.conn).is_clean }
 {
     let listener = match TcpListener::bind(rt, ("127.0.0.1", port)) {
         Ok(listener) => listener,
@@ -72,14 +80,13 @@ pub(crate) fn serve_over<S: Alter, V: Watch + Drop, W: Write, E: Write>(
     rt: &HostRuntime,
     conn: Connection<S>,
     watch: V,
-    port: u16,
-    count: u32,
+    service: &Service,
     w: &mut W,
     e: &mut E,
 ) -> Worked<S, Result<(), ServeEnd>, AdoptFault>
     ensures served { (told : Told) → IsDocket told.court told.history → StandsFor S.Store conn told.court told.history
         → HasCleanDisk (state S.Store result.connection)
-        → WorksTo (Serves S.Store result.connection told count) result.outcome }
+        → WorksTo (Serves S.Store result.connection told service.now) result.outcome }
     ensures stays { (rows : Rows) → HoldsRows S.Store conn rows
         → IfUnserved result.outcome (HoldsBetween S.Store result.connection rows rows) }
     ensures unserved { IfErr result.outcome (λ _. (w.new ≡ w.old) × (e.new ≡ e.old)) }
@@ -88,8 +95,8 @@ pub(crate) fn serve_over<S: Alter, V: Watch + Drop, W: Write, E: Write>(
         Ok(found) => found,
         Err(returned) => return Worked::from(returned),
     };
-    let mut desk = Desk::new(rt.alloc(), docket);
-    let end = listen(rt, port, count, &mut desk, w, e);
+    let mut desk = Desk::new(rt.alloc(), docket, service.routes);
+    let end = listen(rt, service.port, service.count, &mut desk, w, e);
     Worked {
         outcome: Ok(end),
         connection: desk.into_docket().close(),

@@ -28,7 +28,7 @@ behind-is_cond : (x b : ℕ) (word text rest : List ℕ) (v : Bool) → (x == b)
 behind-is_cond x b word text rest true e ih h = ap (λ y. y ∷ text) (sym (eqb-true x b e)) ∙ ap (λ t. x ∷ t) (ih h)
 behind-is_cond x b word text rest false e ih h = absurd (cc)
 
-behind-is : (word text rest : List ℕ) → behind word text ≡ Some rest → text ≡ word ++ rest
+pub behind-is : (word text rest : List ℕ) → behind word text ≡ Some rest → text ≡ word ++ rest
 behind-is [] text rest h = cc
 behind-is (x ∷ word) [] rest h = absurd (cc)
 behind-is (x ∷ word) (b ∷ text) rest h = behind-is_cond x b word text rest (x == b) refl (behind-is word text rest) h

@@ -1,17 +1,20 @@
 //! What a head asks for.
-ghost use Rattle.std.specs.Prelude.{◌≡◌, ◌==◌, ◌≤◌, length, map, All, IfOk, IfErr, IfSome, IsUtf8};
-ghost use Rattle.std.specs.List.{before_first};
+ghost use Rattle.std.specs.Prelude.{◌≡◌, length, map, All, IfOk, IfErr, IsUtf8, bytes_eq, codes, option_copied};
 ghost use Rattle.httparse.specs.Spans.{IsHeaderWithin, header_bytes};
 ghost use Rattle.http_request.specs.Rows.{route_rows};
-ghost use Rattle.civil_time.specs.DayText.{day_of_text};
-ghost use Rattle.http_request.specs.Wish.{number_of, year_of, body_wish, number_wish, holidays_wish, calendar_wish, route_wish, wish_of, route_method, is_method, IsHeadWish, IsWithinLimits};
+ghost use Rattle.http_request.specs.Path.{place_of};
+ghost use Rattle.http_request.specs.Pages.{page_of};
+ghost use Rattle.http_request.specs.Wish.{route_wish, place_wish, page_wish as wish_by_page, wish_of, route_method, is_method, IsHeadWish, IsWithinLimits};
 
+use crate::days::read_range;
 use crate::fields::{Rejection, body_length};
 use crate::input::InputFault;
-use crate::number::read_digits;
+use crate::number::{read_number, read_year};
+use crate::page::{Page, Routes, behind_pages, find_page};
 use crate::place::{Found, find};
 use crate::route::{Route, router};
-use civil_time::{Day, read_day};
+use crate::target::{path_of, query_of};
+use civil_time::Day;
 use http::Method;
 use httparse::Status;
 use httparse::spans::{EMPTY_HEADER_SPAN, HeaderSpan, parse_request};
@@ -34,41 +37,8 @@ pub enum Wish {
     Calendar(Day, Day),
     /// A year from 2000 to 2099.
     Holidays(u32),
-}
-
-// A number in a path: 1 to 10 digits without a leading zero, 1 to 4294967295.
-fn read_number(text: &str) -> Option<u32>
-    ensures { result ≡ number_of text.now }
-{
-    let value = read_digits(text.as_bytes())?;
-    if text.as_bytes()[0] != b'0' && value <= 4_294_967_295 {
-        Some(value as u32)
-    } else {
-        None
-    }
-}
-
-// A year in a path: four digits, 2000 to 2099.
-fn read_year(text: &str) -> Option<u32>
-    ensures year { result ≡ year_of text.now }
-    ensures within { IfSome result (λ year. 2000 ≤ year × year ≤ 2099) }
-{
-    let value = read_digits(text.as_bytes())?;
-    if text.len() == 4 && 2000 <= value && value <= 2099 {
-        Some(value as u32)
-    } else {
-        None
-    }
-}
-
-// The target up to its first question mark.
-fn path_of(target: &str) -> &str
-    ensures { result.now ≡ before_first (λ b. b == 63) target.now }
-{
-    match target.split_once('?') {
-        Some((path, _)) => path,
-        None => target,
-    }
+    /// A page, where pages are served.
+    Page(Page),
 }
 
 fn method_of(route: Route) -> Method
@@ -85,20 +55,6 @@ fn is_method_of(route: Route, method: &[u8]) -> bool
     ensures { result ≡ is_method route method.now }
 {
     method == method_of(route).as_str().as_bytes()
-}
-
-// The days of a calendar, the first of them not after the last.
-fn read_range(from: &str, to: &str) -> Wish
-    ensures { result ≡ calendar_wish (day_of_text from.now) (day_of_text to.now) }
-{
-    let (Some(from), Some(to)) = (read_day(from.as_bytes()), read_day(to.as_bytes())) else {
-        return Wish::Reject(Rejection::BadPathValue);
-    };
-    if from.epoch_day() <= to.epoch_day() {
-        Wish::Calendar(from, to)
-    } else {
-        Wish::Reject(Rejection::BadPathValue)
-    }
 }
 
 fn found_wish(found: Found<'_>, head: &[u8], headers: &[HeaderSpan]) -> Wish
@@ -119,7 +75,10 @@ fn found_wish(found: Found<'_>, head: &[u8], headers: &[HeaderSpan]) -> Wish
             Some(number) => Wish::Deadlines(number),
             None => Wish::Reject(Rejection::BadPathValue),
         },
-        Route::Calendar => read_range(found.first, found.second),
+        Route::Calendar => match read_range(found.first, found.second) {
+            Some((first, last)) => Wish::Calendar(first, last),
+            None => Wish::Reject(Rejection::BadPathValue),
+        },
         Route::Holidays => match read_year(found.first) {
             Some(year) => Wish::Holidays(year),
             None => Wish::Reject(Rejection::BadPathValue),
@@ -127,8 +86,49 @@ fn found_wish(found: Found<'_>, head: &[u8], headers: &[HeaderSpan]) -> Wish
     }
 }
 
+// What a path of the docket asks for.
+fn docket_wish(
+    router: &Router<Route>,
+    method: &[u8],
+    path: &str,
+    head: &[u8],
+    headers: &[HeaderSpan],
+) -> Wish
+    requires routes { router.now ≡ route_rows }
+    requires within { All (IsHeaderWithin (length head.now)) headers.now }
+    ensures asks { result ≡ place_wish method.now (map (header_bytes head.now) headers.now) (place_of path.now) }
+    ensures within { IsWithinLimits result }
+{
+    match find(router, path) {
+        None => Wish::Reject(Rejection::NotFound),
+        Some(found) if is_method_of(found.route, method) => found_wish(found, head, headers),
+        Some(_) => Wish::Reject(Rejection::Method),
+    }
+}
+
+fn is_get(method: &[u8]) -> bool
+    ensures { result ≡ bytes_eq method.now (codes "GET") }
+{
+    method == Method::GET.as_str().as_bytes()
+}
+
+// What the rest of a path behind "/pages" asks for. A page is got.
+fn page_wish(router: &Router<Route>, method: &[u8], rest: &str, query: Option<&str>) -> Wish
+    requires { router.now ≡ route_rows }
+    ensures asks { result ≡ wish_by_page method.now (page_of rest.now (option_copied query.entry)) }
+    ensures within { IsWithinLimits result }
+{
+    match find_page(router, rest, query) {
+        None => Wish::Reject(Rejection::NotFound),
+        Some(_) if !is_get(method) => Wish::Reject(Rejection::Method),
+        Some(None) => Wish::Reject(Rejection::BadPathValue),
+        Some(Some(page)) => Wish::Page(page),
+    }
+}
+
 // What a head of this method, target and fields asks for.
 fn parts_wish(
+    routes: Routes,
     router: &Router<Route>,
     method: &[u8],
     target: &[u8],
@@ -138,22 +138,22 @@ fn parts_wish(
     requires routes { router.now ≡ route_rows }
     requires text { IsUtf8 target.now }
     requires within { All (IsHeaderWithin (length head.now)) headers.now }
-    ensures asks { result ≡ wish_of method.now target.now (map (header_bytes head.now) headers.now) }
+    ensures asks { result ≡ wish_of routes method.now target.now (map (header_bytes head.now) headers.now) }
     ensures within { IsWithinLimits result }
 {
     let Ok(target) = from_utf8(target) else {
         return Wish::Reject(Rejection::NotFound);
     };
-    match find(router, path_of(target)) {
-        None => Wish::Reject(Rejection::NotFound),
-        Some(found) if is_method_of(found.route, method) => found_wish(found, head, headers),
-        Some(_) => Wish::Reject(Rejection::Method),
+    let path = path_of(target);
+    match behind_pages(routes, path) {
+        None => docket_wish(router, method, path, head, headers),
+        Some(rest) => page_wish(router, method, rest, query_of(target)),
     }
 }
 
 /// What the bytes of a whole head ask for.
-pub fn head_wish(alloc: Global, head: &[u8]) -> Result<Wish, InputFault>
-    ensures asks { IfOk result (IsHeadWish head.now) }
+pub fn head_wish(alloc: Global, head: &[u8], routes: Routes) -> Result<Wish, InputFault>
+    ensures asks { IfOk result (IsHeadWish routes head.now) }
     ensures within { IfOk result IsWithinLimits }
     ensures fault { IfErr result (λ e. e ≡ InputFault.NoMemory) }
 {
@@ -165,7 +165,8 @@ pub fn head_wish(alloc: Global, head: &[u8]) -> Result<Wish, InputFault>
             };
             let method = spans.method.of(head);
             let target = spans.path.of(head);
-            Ok(parts_wish(&router, method, target, head, &headers[..spans.headers]))
+            let headers = &headers[..spans.headers];
+            Ok(parts_wish(routes, &router, method, target, head, headers))
         }
         _ => Ok(Wish::Reject(Rejection::BadHead)),
     }

@@ -20,7 +20,7 @@ use crate::import::import_days;
 use crate::migrate::migrate_docket;
 use crate::progress::Progress;
 use crate::rules::{tell_rules, tell_table};
-use crate::serving::serve_docket;
+use crate::serving::{serve_docket, service_of};
 use crate::sheet::tell_sheet;
 use crate::status::Status;
 use crate::telling::failed;
@@ -113,8 +113,14 @@ pub fn run_job<S: Start, P: Write + Drop, R: Read, W: Write + Drop, E: Write>(
         Job::Check { file } => (tell_check(rt, start, screen, file, e), w),
         Job::Backup { file, to } => (back_up(rt, start, screen, file, to, e), w),
         Job::Migrate { file } => (migrate_docket(rt, start, screen, file, e), w),
-        Job::Serve { file, port, count } => {
-            let end = serve_docket(rt, start, screen, file, port, count, &mut w, e);
+        Job::Serve {
+            file,
+            port,
+            count,
+            pages,
+        } => {
+            let service = service_of(port, count, pages);
+            let end = serve_docket(rt, start, screen, file, &service, &mut w, e);
             (end, w)
         }
     }

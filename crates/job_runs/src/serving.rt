@@ -1,16 +1,33 @@
 //! The docket in a file, served by HTTP.
-ghost use Rattle.std.specs.Prelude.{◌≡◌, []};
+ghost use Rattle.std.specs.Prelude.{◌≡◌, [], if◌then◌else◌};
 ghost use Rattle.std.specs.Cow.{cow_str_bytes};
+ghost use Rattle.http_request.specs.declared.page.Routes.TheVariants.{Docket, WithPages};
 
 use crate::end::JobEnd;
 use crate::opening::{done_on_docket, ready};
 use crate::status::Status;
 use crate::telling::{failed, failed_by};
-use file_jobs::{ServeEnd, serve_on_file};
+use file_jobs::{Routes, ServeEnd, Service, serve_on_file};
 use sqlite::{FileFrom, Start};
 use std::alloc::Global;
 use std::fmt;
 use std::io::{ErrorKind, Write};
+
+/// What is asked for: a port, so many connections, and whether pages are shown.
+pub(crate) fn service_of(port: u16, count: u32, pages: bool) -> Service
+    ensures { result ≡ record { port = port; count = count; routes = if pages then WithPages else Docket } }
+{
+    let routes = if pages {
+        Routes::WithPages
+    } else {
+        Routes::Docket
+    };
+    Service {
+        port,
+        count,
+        routes,
+    }
+}
 
 /// Why nobody listens at a port.
 #[derive(Drop)]
@@ -48,14 +65,13 @@ fn serving_told<E: Write>(
     }
 }
 
-/// Serves so many connections at a port of this machine alone, by the docket in a file.
+/// Serves the docket in a file to the connections that come to a port of this machine alone.
 pub(crate) fn serve_docket<S: Start, P: Write + Drop, W: Write, E: Write>(
     rt: &HostRuntime,
     start: S,
     screen: Option<P>,
     path: &str,
-    port: u16,
-    count: u32,
+    service: &Service,
     w: &mut W,
     e: &mut E,
 ) -> JobEnd<FileFrom<S>>
@@ -65,9 +81,11 @@ pub(crate) fn serve_docket<S: Start, P: Write + Drop, W: Write, E: Write>(
         Ok(rows) => rows,
         Err(status) => return JobEnd::of(status),
     };
-    let ended = serve_on_file(rt, path, start, rows, port, count, w, e);
+    let ended = serve_on_file(rt, path, start, rows, service, w, e);
     match done_on_docket(rt.alloc(), path, ended, e) {
-        Ok((end, left)) => JobEnd::of(serving_told(rt.alloc(), port, end, e)).with(Some(left)),
+        Ok((end, left)) => JobEnd::of(serving_told(rt.alloc(), service.port, end, e)).with(Some(
+            left,
+        )),
         Err(end) => end,
     }
 }

@@ -1,6 +1,6 @@
 //! A docket served over a socket of this machine, by one thread: the client's request waits in the socket.
 use crate::asking::court;
-use docket_serving::{Desk, Listening, serve_run};
+use docket_serving::{Desk, Listening, Routes, serve_run};
 use docket_store::Docket;
 use failing_ends::Taker;
 use sqlite::{Connection, MemStore};
@@ -58,7 +58,7 @@ fn visited(
 #[test]
 fn clients_of_a_socket(rt: HostRuntime) -> Result<(), Fail> {
     let docket = docket(rt.alloc()).ok_or("no docket")?;
-    let mut desk = Desk::new(rt.alloc(), docket);
+    let mut desk = Desk::new(rt.alloc(), docket, Routes::Docket);
     let listener = TcpListener::bind(&rt, "127.0.0.1:0")?;
     for (request, wanted, fault) in VISITS {
         let (answer, told) = visited(&rt, &listener, &mut desk, request)?;

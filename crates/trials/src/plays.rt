@@ -18,6 +18,7 @@ use anyhow::Error;
 pub(crate) use comparing::input;
 use comparing::is_as_stored;
 use counting::counted;
+use docket_http::Routes;
 use explaining::{explained, reasoned};
 use running::ran;
 use std::alloc::Global;
@@ -43,6 +44,8 @@ enum Play {
     Reasons,
     /// By serving each request, which comes in pieces of so many bytes.
     Served(usize),
+    /// The same, where pages are shown.
+    Shown(usize),
     /// By cutting each request after each of its bytes, and then serving all of them.
     Cut,
     /// By stopping each command behind the line `?` on the docket of the lines before it.
@@ -54,7 +57,7 @@ enum Play {
 }
 
 /// The input is data/NAME.in, and what is to be written is data/NAME.out.
-const INPUTS: [(Play, &str); 46] = [
+const INPUTS: [(Play, &str); 48] = [
     (Play::Count, "count-days"),
     (Play::Count, "count-1"),
     (Play::Count, "count-2"),
@@ -97,6 +100,8 @@ const INPUTS: [(Play, &str); 46] = [
     (Play::Served(1), "requests"),
     (Play::Served(7), "requests"),
     (Play::Served(usize::MAX), "requests"),
+    (Play::Shown(1), "pages"),
+    (Play::Shown(usize::MAX), "pages"),
     (Play::Cut, "requests-cut"),
     (Play::Stopped, "stops"),
     (Play::Session, "session"),
@@ -112,7 +117,8 @@ fn played(alloc: Global, play: Play, input: &[u8]) -> Result<Vec<u8>, Error> {
         Play::Run => ran(alloc, input),
         Play::Worked => worked_out(alloc, input),
         Play::Reasons => reasoned(alloc, input),
-        Play::Served(size) => requests::served(alloc, size, input),
+        Play::Served(size) => requests::served(alloc, Routes::Docket, size, input),
+        Play::Shown(size) => requests::served(alloc, Routes::WithPages, size, input),
         Play::Cut => requests::cut(alloc, input),
         Play::Stopped => stopped(alloc, input),
         Play::Session => Ok(sessions(alloc, input)?.0),
@@ -128,6 +134,7 @@ fn played_in_vectors(alloc: Global, play: Play, input: &[u8]) -> Option<Result<V
         | Play::Texts
         | Play::Reasons
         | Play::Served(_)
+        | Play::Shown(_)
         | Play::Cut
         | Play::Stopped
         | Play::Session
@@ -140,7 +147,7 @@ fn played_in_vectors(alloc: Global, play: Play, input: &[u8]) -> Option<Result<V
 /// What is told beside the name of the input.
 fn told(play: Play) -> &'static str {
     match play {
-        Play::Served(1) => ", byte by byte",
+        Play::Served(1) | Play::Shown(1) => ", byte by byte",
         Play::Served(7) => ", in pieces of 7",
         _ => "",
     }

@@ -14,7 +14,7 @@ pub(crate) fn words_of(alloc: Global, line: &str) -> Result<Vec<String>, AllocEr
 }
 
 /// What the words ask for, as `told` tells it.
-const JOBS: [(&str, &str); 37] = [
+const JOBS: [(&str, &str); 38] = [
     ("docketctl check --db court.db", "check court.db"),
     ("docketctl migrate --db court.db", "migrate court.db"),
     ("docketctl", "count"),
@@ -105,6 +105,10 @@ const JOBS: [(&str, &str); 37] = [
         "docketctl serve --count=1000000 --db court.db --port=65535",
         "serve court.db 65535 1000000",
     ),
+    (
+        "docketctl serve --db court.db --pages --port 8080 --count 2",
+        "serve court.db 8080 2 with pages",
+    ),
     ("docketctl explain", "explain lines"),
     (
         "docketctl explain --db court.db 1 2",
@@ -157,7 +161,15 @@ fn told(alloc: Global, job: &Job<'_>) -> Result<String, AllocError> {
         Job::Check { file } => format!(in alloc; "check {file}"),
         Job::Backup { file, to } => format!(in alloc; "backup {file} {to}"),
         Job::Migrate { file } => format!(in alloc; "migrate {file}"),
-        Job::Serve { file, port, count } => format!(in alloc; "serve {file} {port} {count}"),
+        Job::Serve {
+            file,
+            port,
+            count,
+            pages,
+        } => {
+            let pages = if *pages { " with pages" } else { "" };
+            format!(in alloc; "serve {file} {port} {count}{pages}")
+        }
         Job::Rules { file } => format!(in alloc; "rules {}", file.unwrap_or("-")),
         Job::Holidays { year } => format!(in alloc; "holidays {year}"),
         Job::CourtCalendar { file, from, to } => {

@@ -2,7 +2,7 @@
 use crate::plays::running::docket;
 use crate::plays::worked::ZONE;
 use anyhow::{Error, anyhow};
-use docket_http::{ServeFault, serve_one};
+use docket_http::{Routes, ServeFault, serve_one};
 use docket_store::Docket;
 use failing_ends::{Pieces, Taker};
 use serde_json::Value;
@@ -26,13 +26,14 @@ fn request_of(alloc: Global, line: &[u8]) -> Result<Vec<u8>, Error> {
 fn push_answer(
     alloc: Global,
     docket: &mut Docket<MemStore>,
+    routes: Routes,
     size: usize,
     request: &[u8],
     out: &mut Vec<u8>,
 ) -> Result<(), Error> {
     let mut reader = Pieces::new(request, size, u32::MAX);
     let mut answer = Vec::new(alloc);
-    let line = match serve_one(alloc, &mut reader, &mut answer, docket) {
+    let line = match serve_one(alloc, &mut reader, &mut answer, docket, routes) {
         Ok(_) => format!(in alloc; "{}\n", answer.escape_ascii())?,
         Err(fault) => format!(in alloc; "{fault}\n")?,
     };
@@ -43,22 +44,28 @@ fn push_answer(
 fn push_answers(
     alloc: Global,
     docket: &mut Docket<MemStore>,
+    routes: Routes,
     size: usize,
     requests: &[u8],
     out: &mut Vec<u8>,
 ) -> Result<(), Error> {
     for line in requests.split_inclusive(|byte| *byte == b'\n') {
         let request = request_of(alloc, line)?;
-        push_answer(alloc, docket, size, &request, out)?;
+        push_answer(alloc, docket, routes, size, &request, out)?;
     }
     Ok(())
 }
 
-/// What is answered to the requests, which come in pieces of a size.
-pub(crate) fn served(alloc: Global, size: usize, requests: &[u8]) -> Result<Vec<u8>, Error> {
+/// What is answered to the requests, which come in pieces of a size, where these routes are served.
+pub(crate) fn served(
+    alloc: Global,
+    routes: Routes,
+    size: usize,
+    requests: &[u8],
+) -> Result<Vec<u8>, Error> {
     let mut docket = docket(alloc, ZONE)?;
     let mut written = Vec::new(alloc);
-    let pushed = push_answers(alloc, &mut docket, size, requests, &mut written);
+    let pushed = push_answers(alloc, &mut docket, routes, size, requests, &mut written);
     let _ = docket.close();
     pushed?;
     Ok(written)
@@ -69,7 +76,7 @@ fn ends_early(alloc: Global, docket: &mut Docket<MemStore>, request: &[u8]) -> b
     for len in 0..request.len() {
         let mut reader = &request[..len];
         let mut answer = Vec::new(alloc);
-        let served = serve_one(alloc, &mut reader, &mut answer, docket);
+        let served = serve_one(alloc, &mut reader, &mut answer, docket, Routes::Docket);
         if served != Err(ServeFault::EndedEarly) || !answer.is_empty() {
             return false;
         }
@@ -87,7 +94,7 @@ fn tells_reads(alloc: Global, docket: &mut Docket<MemStore>, request: &[u8]) -> 
     for good_reads in 0..length(request) {
         let mut reader = Pieces::new(request, 1, good_reads);
         let mut answer = Vec::new(alloc);
-        let served = serve_one(alloc, &mut reader, &mut answer, docket);
+        let served = serve_one(alloc, &mut reader, &mut answer, docket, Routes::Docket);
         if served != Err(ServeFault::ReadFailed) || !answer.is_empty() {
             return false;
         }
@@ -100,13 +107,13 @@ fn tells_reads(alloc: Global, docket: &mut Docket<MemStore>, request: &[u8]) -> 
 fn tells_writes(alloc: Global, docket: &mut Docket<MemStore>, request: &[u8]) -> bool {
     let mut reader = request;
     let mut answer = Vec::new(alloc);
-    if serve_one(alloc, &mut reader, &mut answer, docket).is_err() {
+    if serve_one(alloc, &mut reader, &mut answer, docket, Routes::Docket).is_err() {
         return false;
     }
     for good_writes in 0..length(&answer) {
         let mut reader = request;
         let mut writer = Taker::new(alloc, 1, good_writes, good_writes % 2 == 0);
-        let served = serve_one(alloc, &mut reader, &mut writer, docket);
+        let served = serve_one(alloc, &mut reader, &mut writer, docket, Routes::Docket);
         let front = answer.iter().take(good_writes as usize);
         if served != Err(ServeFault::WriteFailed) || !writer.taken.iter().eq(front) {
             return false;
@@ -146,7 +153,7 @@ fn push_cuts(
             "each read that fails is told",
         )?;
     }
-    push_answers(alloc, docket, usize::MAX, requests, out)
+    push_answers(alloc, docket, Routes::Docket, usize::MAX, requests, out)
 }
 
 /// Appends for each request whether a write that fails is told.

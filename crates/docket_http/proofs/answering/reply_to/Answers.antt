@@ -1,7 +1,7 @@
 use Rattle.std.proofs.Common.{sym, ap, refl, subst, inl, Ok}
 use Rattle.std.specs.List.{slice_range}
 use Rattle.http_request.specs.Request.{body_of}
-use Rattle.http_request.specs.declared.wish.Wish.TheVariants.{Reject, Command, Case, Deadlines, Holidays}
+use Rattle.http_request.specs.declared.wish.Wish.TheVariants.{Reject, Command, Case, Deadlines, Holidays, Page}
 use Rattle.docket_text.specs.HolidayTexts.{holiday_text}
 use Rattle.docket_http.specs.Answer.{text, problem_response}
 use Rattle.docket_http.specs.Asking.{IsBuilt}
@@ -30,6 +30,11 @@ pub returns-in-Deadlines-clause-replies : goal.returns-in-Deadlines-clause-repli
 returns-in-Deadlines-clause-replies g c h stands =
     replies_as g.S.Store c.deadlines_reply.new.docket h (Deadlines c.in-Deadlines.number) c.args.request.now.wish (body_of c.args.request.now) (body_of c.args.request.now)
     c.deadlines_reply.result (sym c.in-Deadlines.is) refl (c.deadlines_reply.ensures.replies h (body_of c.args.request.now) stands)
+
+pub returns-in-Page-clause-replies : goal.returns-in-Page-clause-replies
+returns-in-Page-clause-replies g c h stands =
+    replies_as g.S.Store c.page_reply.new.docket h (Page c.in-Page.page) c.args.request.now.wish (body_of c.args.request.now) (body_of c.args.request.now)
+    c.page_reply.result (sym c.in-Page.is) refl (c.page_reply.ensures.replies h (body_of c.args.request.now) stands)
 
 pub returns-in-Calendar-clause-replies : goal.returns-in-Calendar-clause-replies
 returns-in-Calendar-clause-replies g c h stands = absurd (subst IsBuilt c.in-Calendar.is c.requires.whole)
@@ -64,6 +69,10 @@ pub returns-in-Deadlines-clause-any : goal.returns-in-Deadlines-clause-any
 returns-in-Deadlines-clause-any g c = λ rows n stored are small holds.
     left (lasts_after g.S.Store c.deadlines_reply.new.docket.conn rows c.deadlines_reply.result (c.deadlines_reply.ensures.stays rows holds))
 
+pub returns-in-Page-clause-any : goal.returns-in-Page-clause-any
+returns-in-Page-clause-any g c = λ rows n stored are small holds.
+    left (lasts_after g.S.Store c.page_reply.new.docket.conn rows c.page_reply.result (c.page_reply.ensures.stays rows holds))
+
 pub returns-in-Command-clause-recorded : goal.returns-in-Command-clause-recorded
 returns-in-Command-clause-recorded g c docket =
     backed_as g.S.Store c.command_reply.new.docket (Command c.in-Command.field-0) c.args.request.now.wish
@@ -83,6 +92,11 @@ pub returns-in-Deadlines-clause-recorded : goal.returns-in-Deadlines-clause-reco
 returns-in-Deadlines-clause-recorded g c docket =
     let body = body_of c.args.request.now in
     backed_as g.S.Store c.deadlines_reply.new.docket (Deadlines c.in-Deadlines.number) c.args.request.now.wish body body c.deadlines_reply.result (sym c.in-Deadlines.is) refl (any_ok c.deadlines_reply.result)
+
+pub returns-in-Page-clause-recorded : goal.returns-in-Page-clause-recorded
+returns-in-Page-clause-recorded g c docket =
+    let body = body_of c.args.request.now in
+    backed_as g.S.Store c.page_reply.new.docket (Page c.in-Page.page) c.args.request.now.wish body body c.page_reply.result (sym c.in-Page.is) refl (any_ok c.page_reply.result)
 
 pub returns-in-Calendar-clause-recorded : goal.returns-in-Calendar-clause-recorded
 returns-in-Calendar-clause-recorded g c docket = absurd (subst IsBuilt c.in-Calendar.is c.requires.whole)

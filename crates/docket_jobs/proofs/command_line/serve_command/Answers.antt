@@ -8,4 +8,5 @@ unfolding serve_line
 returns c =
     let one = arg_added _ _ _ _ _ c.subcommand.ensures c.needed_option-file.ensures.rule c.needed_option-file.ensures.local c.in_ok-arg.ensures in
     let two = arg_added _ _ _ _ _ one c.needed_option-port.ensures.rule c.needed_option-port.ensures.local c.in_ok-arg-2.ensures in
-    IfOk-weaker c.arg-3.result _ _ (λ _ adds. arg_added _ _ _ _ _ two c.needed_option-count.ensures.rule c.needed_option-count.ensures.local adds) c.arg-3.ensures
+    let three = arg_added _ _ _ _ _ two c.needed_option-count.ensures.rule c.needed_option-count.ensures.local c.in_ok-arg-3.ensures in
+    IfOk-weaker c.arg-4.result _ _ (λ _ adds. arg_added _ _ _ _ _ three c.flag-pages.ensures.rule c.flag-pages.ensures.local adds) c.arg-4.ensures

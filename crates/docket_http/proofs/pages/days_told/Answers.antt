@@ -1,0 +1,27 @@
+use Rattle.std.proofs.Common.{Err, ap}
+use Rattle.docket_store.specs.declared.fault.Fault.TheVariants as fault
+use Rattle.docket_store.proofs.AnyLemmas.{err_preserves, short_preserves}
+use Rattle.docket_http.proofs.PageLemmas.{same_fault}
+use Rattle.docket_http.proofs.pages.days_told.Goals as goal
+
+pub returns-in_err-push_dues-clause-stays : goal.returns-in_err-push_dues-clause-stays
+returns-in_err-push_dues-clause-stays g c rows holds =
+    err_preserves g.S.Store c.push_dues.new.docket.conn rows c.in_err-push_dues.field-0.0 c.from_residual-in_err-push_dues.result c.from_residual-in_err-push_dues.ensures.1
+    (c.in_err-push_dues.ensures.stays rows holds)
+
+pub returns-in_err-push_str-clause-stays : goal.returns-in_err-push_str-clause-stays
+returns-in_err-push_str-clause-stays g c rows holds =
+    short_preserves g.S.Store c.push_dues.new.docket.conn rows c.from_residual-in_err-push_str.result c.from_residual-in_err-push_str.ensures.1 (c.in_ok-push_dues.ensures.stays rows holds)
+
+pub returns-in_err-page-clause-closes : goal.returns-in_err-page-clause-closes
+returns-in_err-page-clause-closes g c h stands is =
+    let short = same_fault c.from_residual.result fault.NoMemory fault.StoreFailed c.from_residual.ensures.1 is in absurd (cc)
+
+pub returns-in_err-push_dues-clause-closes : goal.returns-in_err-push_dues-clause-closes
+returns-in_err-push_dues-clause-closes g c h stands is =
+    let fault_is = same_fault c.from_residual-in_err-push_dues.result c.in_err-push_dues.field-0.0 fault.StoreFailed c.from_residual-in_err-push_dues.ensures.1 is in
+    c.in_err-push_dues.ensures.closes h stands (ap Err fault_is)
+
+pub returns-in_err-push_str-clause-closes : goal.returns-in_err-push_str-clause-closes
+returns-in_err-push_str-clause-closes g c h stands is =
+    let short = same_fault c.from_residual-in_err-push_str.result fault.NoMemory fault.StoreFailed c.from_residual-in_err-push_str.ensures.1 is in absurd (cc)

@@ -1,0 +1,23 @@
+-- A desk at which a docket is served, as contracts see it.
+use Rattle.std.specs.Prelude.{◌≡◌, refl}
+use Rattle.std.specs.Coded.{Coded, code_by, coded×}
+use Rattle.sqlite.specs.Store.{Ghosts}
+use Rattle.docket_store.specs.Dockets.{Docket, docket_code}
+use Rattle.http_request.specs.contracts.page.Routes as routes
+use Rattle.http_request.specs.declared.page.Routes.{Routes}
+use Rattle.docket_serving.specs.Exchanges.{Exchange}
+use Rattle.docket_serving.specs.Serving.{IsAttended}
+
+-- its docket, and which routes are served
+pub record Desk (S : Type 0) : Type 0 where
+  pub docket : Docket S
+  pub routes : Routes
+
+abbrev pub desk_code : {S : Type 0} → Coded S → Coded (Desk S)
+desk_code {S} store =
+    code_by (Docket S × Routes) (coded× (docket_code store) routes.the_row.coded)
+    (λ d. (d.docket, d.routes)) (λ p. record { docket = p.0; routes = p.1 }) (λ _. refl)
+
+-- a connection at a desk is served by its docket, and the routes stay
+abbrev pub DeskAttends : {S : Type 0} → Ghosts S → Desk S → Exchange → Desk S → Type 0
+DeskAttends g old e new = (new.routes ≡ old.routes) × IsAttended g old.routes old.docket e new.docket

@@ -1,0 +1,108 @@
+//! The pages, which are served beside the routes of the docket.
+ghost use Rattle.std.specs.Prelude.{◌≡◌, IfSome, option_copied};
+ghost use Rattle.http_request.specs.Rows.{route_rows};
+ghost use Rattle.http_request.specs.Pages.{pages_rest, from_of, list_page as list_by_query, week_page as week_by_query, days_page as page_of_days, page_at, page_of, IsPageWithinLimits};
+
+use crate::days::{read_range, read_week};
+use crate::number::read_number;
+use crate::place::{Found, find};
+use crate::route::Route;
+use crate::target::behind;
+use civil_time::Day;
+use matchit::Router;
+
+/// Which routes are served.
+#[derive(Clone, Copy, Debug, PartialEq, Eq)]
+pub enum Routes {
+    /// The five of the docket.
+    Docket,
+    /// Those, and the pages.
+    WithPages,
+}
+
+/// A page of a docket.
+#[derive(Clone, Copy, Debug, PartialEq, Eq)]
+pub enum Page {
+    /// The list of cases from that number on, 1 to 100,000, the most cases that a docket has.
+    Cases(u32),
+    /// The docket sheet of the case of a number.
+    Case(u32),
+    /// What is due on the days from the first to the last.
+    Days(Day, Day),
+}
+
+/// The most cases that a docket has.
+const MAX_CASES: u32 = 100_000;
+
+/// What a path has behind "/pages", where pages are served.
+pub fn behind_pages(routes: Routes, path: &str) -> Option<&str>
+    ensures { option_copied result ≡ pages_rest routes path.now }
+{
+    match routes {
+        Routes::Docket => None,
+        Routes::WithPages => behind(path, "/pages"),
+    }
+}
+
+// What a query has behind "from=".
+fn from_value<'q>(query: Option<&'q str>) -> Option<&'q str>
+    ensures { option_copied result ≡ from_of (option_copied query.entry) }
+{
+    behind(query?, "from=")
+}
+
+// The list of cases: without a query from the first, and else from the one that the query names.
+fn list_page(query: Option<&str>) -> Option<Page>
+    ensures page { result ≡ list_by_query (option_copied query.entry) }
+    ensures within { IfSome result IsPageWithinLimits }
+{
+    if query.is_none() {
+        return Some(Page::Cases(1));
+    }
+    let from = read_number(from_value(query)?)?;
+    if from <= MAX_CASES {
+        Some(Page::Cases(from))
+    } else {
+        None
+    }
+}
+
+fn days_page(days: Option<(Day, Day)>) -> Option<Page>
+    ensures { result ≡ page_of_days days }
+{
+    let (first, last) = days?;
+    Some(Page::Days(first, last))
+}
+
+// The week from the day that the query names.
+fn week_page(query: Option<&str>) -> Option<Page>
+    ensures page { result ≡ week_by_query (option_copied query.entry) }
+    ensures within { IfSome result IsPageWithinLimits }
+{
+    days_page(read_week(from_value(query)?))
+}
+
+// The page beside a route, where it has one. Its values may be bad.
+fn found_page(found: Found<'_>) -> Option<Option<Page>>
+    ensures page { result ≡ page_at found.entry.route found.entry.first.now found.entry.second.now }
+    ensures within { IfSome result (λ page. IfSome page IsPageWithinLimits) }
+{
+    match found.route {
+        Route::Case => Some(read_number(found.first).map(Page::Case)),
+        Route::Calendar => Some(days_page(read_range(found.first, found.second))),
+        Route::Commands | Route::Deadlines | Route::Holidays => None,
+    }
+}
+
+/// The page that the rest of a path asks for, with the query. A value in them may be bad.
+pub fn find_page(router: &Router<Route>, rest: &str, query: Option<&str>) -> Option<Option<Page>>
+    requires { router.now ≡ route_rows }
+    ensures page { result ≡ page_of rest.now (option_copied query.entry) }
+    ensures within { IfSome result (λ page. IfSome page IsPageWithinLimits) }
+{
+    match rest {
+        "" | "/" | "/cases" => Some(list_page(query)),
+        "/calendar" => Some(week_page(query)),
+        _ => found_page(find(router, rest)?),
+    }
+}
