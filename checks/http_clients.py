@@ -103,9 +103,9 @@ class Server:
 
     begun_so_far = []
 
-    def __init__(self, program, file, count, port=0, most=None, surroundings=None):
+    def __init__(self, program, file, count, port=0, most=None, surroundings=None, words=()):
         self.left, self.seen, self.errors = count, 0, tempfile.TemporaryFile()
-        words = [program, "serve", "--db", file, "--port", str(port), "--count", str(count)]
+        words = [program, "serve", "--db", file, "--port", str(port), "--count", str(count), *words]
         self.process = subprocess.Popen(words, stdin=subprocess.DEVNULL, stdout=subprocess.PIPE, stderr=self.errors,
                                         preexec_fn=limited(most) if most else None, env=surroundings)
         self.begun_so_far.append(self)
