@@ -6,7 +6,7 @@ use Rattle.sqlite.specs.State.{HasCleanDisk}
 use Rattle.docket_command.specs.declared.command.Command.{Command}
 use Rattle.docket_command.specs.declared.refusal.Refusal.{Refusal}
 use Rattle.docket_command.specs.declared.refusal.Reply.{Reply}
-use Rattle.docket_core.specs.Outcomes.{Answer, accepted, after, after_answer, outcome, refused, repeated}
+use Rattle.docket_decisions.specs.Outcomes.{Answer, accepted, after, after_answer, outcome, refused, repeated}
 use Rattle.docket_tables.specs.Stands.{LastsAsEither}
 use Rattle.docket_store.specs.AnyRows.{WritesAtMostOne}
 use Rattle.docket_store.specs.Applying.{Applies, Faults, Stands, docket_rows}

@@ -2,7 +2,7 @@
 ghost use Rattle.std.specs.Prelude.{◌≡◌, ◌++◌, ◌∷◌, [], IfOk, IfErr, OnErr, OnOk, string_bytes, true};
 ghost use Rattle.sqlite.specs.Held.{state};
 ghost use Rattle.sqlite.specs.State.{HasCleanDisk};
-ghost use Rattle.docket_core.specs.Outcomes.{outcome};
+ghost use Rattle.docket_decisions.specs.Outcomes.{outcome};
 ghost use Rattle.docket_wire.specs.Texts.{fault_text};
 ghost use Rattle.docket_store.specs.AnyRows.{WritesAtMostOne};
 ghost use Rattle.command_lines.specs.Ending.{StandsAs, FailsAt};

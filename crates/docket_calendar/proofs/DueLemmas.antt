@@ -32,14 +32,14 @@ use Rattle.court_rules.specs.LocalRules.{deadline_rule_name}
 use Rattle.court_rules.specs.Standings.{standing}
 use Rattle.court_rules.specs.declared.act.Standing.{Standing}
 use Rattle.court_rules.specs.declared.act.Standing.TheVariants.{Running, Suspended, Awaiting, Done, Vacated}
-use Rattle.docket_core.specs.EndRows.{calendar_in, end_row, end_rows, end_running, row_of_deadline, time_of}
-use Rattle.docket_core.specs.Histories.{acts_of_deadline}
-use Rattle.docket_core.specs.Records.{close_of_end}
-use Rattle.docket_core.specs.Tables.{Tables}
-use Rattle.docket_core.specs.declared.end_row.EndRow.{EndRow}
-use Rattle.docket_core.specs.declared.record.DueRow.{DueRow}
-use Rattle.docket_core.specs.declared.row.ActRow.{ActRow}
-use Rattle.docket_core.specs.declared.row.DeadlineRow.{DeadlineRow}
+use Rattle.docket_decisions.specs.EndRows.{calendar_in, end_row, end_rows, end_running, row_of_deadline, time_of}
+use Rattle.docket_history.specs.Histories.{acts_of_deadline}
+use Rattle.docket_history.specs.Records.{close_of_end}
+use Rattle.docket_decisions.specs.Tables.{Tables}
+use Rattle.docket_decisions.specs.declared.end_row.EndRow.{EndRow}
+use Rattle.docket_history.specs.declared.record.DueRow.{DueRow}
+use Rattle.docket_history.specs.declared.row.ActRow.{ActRow}
+use Rattle.docket_history.specs.declared.row.DeadlineRow.{DeadlineRow}
 use Rattle.docket_columns.specs.Cells.{deadline_cells, end_cells}
 use Rattle.docket_text.specs.CalendarOrder.{day_of_end, end_cmp, calendar_cmp, IsCalendar}
 use Rattle.docket_text.specs.Times.{shown}

@@ -30,9 +30,9 @@ use Rattle.court_rules.specs.declared.act.Start.{Start}
 use Rattle.court_rules.specs.declared.act.Start.TheVariants as start
 use Rattle.court_rules.specs.declared.table.Period.{Period}
 use Rattle.court_rules.specs.declared.table.Period.TheVariants as period
-use Rattle.docket_core.specs.CalendarItems.{IsEnteredItem, entered_with, calendar_of}
-use Rattle.docket_core.specs.declared.item.CalendarItem.{CalendarItem}
-use Rattle.docket_core.specs.declared.item.CalendarItem.TheVariants.{Day, Span, Short}
+use Rattle.docket_history.specs.CalendarItems.{IsEnteredItem, entered_with, calendar_of}
+use Rattle.docket_history.specs.declared.item.CalendarItem.{CalendarItem}
+use Rattle.docket_history.specs.declared.item.CalendarItem.TheVariants.{Day, Span, Short}
 use Rattle.docket_calendar.specs.DueCells.{IsDueEnd}
 
 -- a last day is at most so late after that many acts, each of which moves it by at most ten years and some days

@@ -12,14 +12,14 @@ use Rattle.court_days.proofs.CourtLemmas.{zone_of-is_zone}
 use Rattle.court_rules.specs.Standings.{standing}
 use Rattle.court_rules.specs.declared.act.Standing.{Standing}
 use Rattle.court_rules.specs.declared.act.Standing.TheVariants.{Running, Suspended, Awaiting, Done, Vacated}
-use Rattle.docket_core.specs.CalendarItems.{IsEnteredItem}
-use Rattle.docket_core.specs.EndRows.{calendar_in}
-use Rattle.docket_core.specs.Histories.{History, items_of, standing_rows, case_rows, deadlines_of_case, acts_of_deadline}
-use Rattle.docket_core.specs.Outcomes.{IsHistory}
-use Rattle.docket_core.specs.Tables.{Tables, rows_of}
-use Rattle.docket_core.specs.declared.record.DueRow.{DueRow}
-use Rattle.docket_core.specs.declared.row.DeadlineRow.{DeadlineRow}
-use Rattle.docket_core.proofs.LimitsKept.{within_limits}
+use Rattle.docket_history.specs.CalendarItems.{IsEnteredItem}
+use Rattle.docket_decisions.specs.EndRows.{calendar_in}
+use Rattle.docket_history.specs.Histories.{History, items_of, standing_rows, case_rows, deadlines_of_case, acts_of_deadline}
+use Rattle.docket_decisions.specs.Outcomes.{IsHistory}
+use Rattle.docket_decisions.specs.Tables.{Tables, rows_of}
+use Rattle.docket_history.specs.declared.record.DueRow.{DueRow}
+use Rattle.docket_history.specs.declared.row.DeadlineRow.{DeadlineRow}
+use Rattle.docket_decisions.proofs.LimitsKept.{within_limits}
 use Rattle.docket_columns.specs.Fits.{IsDeadlineRow}
 use Rattle.docket_columns.proofs.RuleLemmas.{name_utf8}
 use Rattle.docket_text.specs.CalendarOrder.{calendar_cmp, IsCalendar}

@@ -4,8 +4,8 @@ use Rattle.std.specs.List.{AllByRecursion, flat_map}
 use Rattle.std.proofs.lemmas.Bool.Decides.{nat_tests}
 use Rattle.std.proofs.lemmas.List.Filters.{length-filter_both}
 use Rattle.sqlite_keyed.proofs.ListLemmas.{all_weaker}
-use Rattle.docket_core.specs.Histories.{deadlines_of_case}
-use Rattle.docket_core.specs.declared.row.DeadlineRow.{DeadlineRow}
+use Rattle.docket_history.specs.Histories.{deadlines_of_case}
+use Rattle.docket_history.specs.declared.row.DeadlineRow.{DeadlineRow}
 use Rattle.docket_orderly.specs.Orderly.{RunsFrom}
 
 -- it has the case and the number of that deadline

@@ -15,9 +15,9 @@ use Rattle.sqlite.specs.Program.{overlay}
 use Rattle.sqlite.specs.Query.{IsAnswerAs}
 use Rattle.sqlite.specs.Schema.{Schema}
 use Rattle.court_days.specs.Court.{CourtSettings}
-use Rattle.docket_core.specs.EndRows.{calendar_in}
-use Rattle.docket_core.specs.Tables.{Tables}
-use Rattle.docket_core.specs.declared.record.DueRow.{DueRow}
+use Rattle.docket_decisions.specs.EndRows.{calendar_in}
+use Rattle.docket_decisions.specs.Tables.{Tables}
+use Rattle.docket_history.specs.declared.record.DueRow.{DueRow}
 use Rattle.docket_text.specs.CalendarOrder.{IsCalendar}
 use Rattle.docket_tables.specs.Contents.{rows_in}
 use Rattle.docket_tables.specs.Layouts.{AreRows}

@@ -11,9 +11,9 @@ use Rattle.sqlite.specs.View.{doubt}
 use Rattle.sqlite.proofs.Callers.{never_commits}
 use Rattle.sqlite.proofs.StateLemmas.{survives_weaker}
 use Rattle.court_days.specs.Court.{CourtSettings}
-use Rattle.docket_core.specs.EndRows.{calendar_in}
-use Rattle.docket_core.specs.Histories.{History}
-use Rattle.docket_core.specs.Tables.{rows_of}
+use Rattle.docket_decisions.specs.EndRows.{calendar_in}
+use Rattle.docket_history.specs.Histories.{History}
+use Rattle.docket_decisions.specs.Tables.{rows_of}
 use Rattle.docket_tables.specs.Layouts.{Rows}
 use Rattle.docket_tables.specs.Readings.{Fails, Gives, StaysAt, Stays as FoundStays}
 use Rattle.docket_tables.specs.Stands.{HoldsRows, IsSettled, IsLasting}

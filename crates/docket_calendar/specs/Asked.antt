@@ -14,7 +14,7 @@ use Rattle.sqlite.specs.State.{IsUnchanged, IsRolledBack, Fails}
 use Rattle.sqlite.specs.Held.{Held, state}
 use Rattle.court_days.specs.Calendar.{Entered}
 use Rattle.court_days.specs.Court.{CourtSettings}
-use Rattle.docket_core.specs.declared.record.DueRow.{DueRow}
+use Rattle.docket_history.specs.declared.record.DueRow.{DueRow}
 use Rattle.docket_tables.specs.declared.fault.ReadFault.{ReadFault}
 use Rattle.docket_tables.specs.declared.fault.ReadFault.TheVariants.{Store, NoMemory, Damaged}
 use Rattle.docket_calendar.specs.DueCells.{due_cells, IsDue}

@@ -7,13 +7,13 @@ use Rattle.court_rules.specs.LocalRules.{deadline_rule_name}
 use Rattle.court_rules.specs.Standings.{standing}
 use Rattle.court_rules.specs.declared.act.Standing.{Standing}
 use Rattle.court_rules.specs.declared.act.Standing.TheVariants.{Running}
-use Rattle.docket_core.specs.EndRows.{calendar_in}
-use Rattle.docket_core.specs.Histories.{History, acts_of_deadline}
-use Rattle.docket_core.specs.Records.{close_of_end}
-use Rattle.docket_core.specs.Tables.{Tables, rows_of}
-use Rattle.docket_core.specs.declared.record.DueRow.{DueRow}
-use Rattle.docket_core.specs.declared.row.ActRow.{ActRow}
-use Rattle.docket_core.specs.declared.row.DeadlineRow.{DeadlineRow}
+use Rattle.docket_decisions.specs.EndRows.{calendar_in}
+use Rattle.docket_history.specs.Histories.{History, acts_of_deadline}
+use Rattle.docket_history.specs.Records.{close_of_end}
+use Rattle.docket_decisions.specs.Tables.{Tables, rows_of}
+use Rattle.docket_history.specs.declared.record.DueRow.{DueRow}
+use Rattle.docket_history.specs.declared.row.ActRow.{ActRow}
+use Rattle.docket_history.specs.declared.row.DeadlineRow.{DeadlineRow}
 use Rattle.docket_text.specs.CalendarOrder.{day_of_end, calendar_cmp}
 use Rattle.docket_text.specs.CalendarTexts.{calendar_text}
 use Rattle.sqlite_keyed.specs.Lists.{sort_by}

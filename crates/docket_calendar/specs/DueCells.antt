@@ -11,9 +11,9 @@ use Rattle.court_days.specs.Hours.{IsNearEntered}
 use Rattle.court_days.specs.declared.filing.End.{End}
 use Rattle.court_days.specs.declared.filing.End.TheVariants.{LastDay, Moment}
 use Rattle.docket_columns.specs.Fits.{IsCount}
-use Rattle.docket_core.specs.EndRows.{time_of}
-use Rattle.docket_core.specs.Records.{close_of_end}
-use Rattle.docket_core.specs.declared.record.DueRow.{DueRow}
+use Rattle.docket_decisions.specs.EndRows.{time_of}
+use Rattle.docket_history.specs.Records.{close_of_end}
+use Rattle.docket_history.specs.declared.record.DueRow.{DueRow}
 
 abbrev pub due_cells : CourtSettings → DueRow → Row
 due_cells court d =

@@ -6,9 +6,9 @@ use Rattle.sqlite.specs.Store.{Ghosts}
 use Rattle.sqlite.specs.State.{HasCleanDisk}
 use Rattle.sqlite.specs.Held.{Held, state}
 use Rattle.court_days.specs.Court.{CourtSettings}
-use Rattle.docket_core.specs.Histories.{History}
-use Rattle.docket_core.specs.Outcomes.{IsHistory}
-use Rattle.docket_core.specs.Tables.{rows_of}
+use Rattle.docket_history.specs.Histories.{History}
+use Rattle.docket_decisions.specs.Outcomes.{IsHistory}
+use Rattle.docket_decisions.specs.Tables.{rows_of}
 use Rattle.docket_wire.specs.Valid.{IsCommand}
 use Rattle.docket_tables.specs.Contents.{rows_in}
 use Rattle.docket_tables.specs.Layouts.{Rows}

@@ -1,8 +1,8 @@
 //! What the calendar of a history is, with nothing to run.
 ghost use Rattle.std.specs.Prelude.{ℕ};
 ghost use Rattle.court_days.specs.Court.{CourtSettings};
-ghost use Rattle.docket_core.specs.Histories.{History};
-ghost use Rattle.docket_core.specs.Tables.{rows_of};
+ghost use Rattle.docket_history.specs.Histories.{History};
+ghost use Rattle.docket_decisions.specs.Tables.{rows_of};
 ghost use Rattle.docket_text.specs.CalendarOrder.{IsCalendar};
 ghost use Rattle.docket_calendar.specs.Calendar.{due_within, calendar_rows};
 

@@ -3,14 +3,14 @@ ghost use Rattle.std.specs.Prelude.{◌≡◌, false, ℕ, List, IfSome, MatchRe
 ghost use Rattle.sqlite.specs.Order.{Row as Cells};
 ghost use Rattle.sqlite.specs.Held.{state};
 ghost use Rattle.sqlite.specs.State.{HasCleanDisk, Survives};
-ghost use Rattle.docket_core.specs.declared.record.DueRow.{DueRow as Due};
+ghost use Rattle.docket_history.specs.declared.record.DueRow.{DueRow as Due};
 ghost use Rattle.docket_tables.specs.Causes.{IsCausedFault};
 ghost use Rattle.docket_calendar.specs.Asked.{Lists, Gave, Next, RemainsAfter};
 ghost use Rattle.docket_calendar.specs.Stops.{IsUnderWay};
 
 use crate::row::due_of;
 use court_days::{Calendar, Court};
-use docket_core::DueRow;
+use docket_history::DueRow;
 use docket_tables::ReadFault;
 use sqlite::{Alter, Rows};
 use std::alloc::Global;

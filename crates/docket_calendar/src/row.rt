@@ -6,14 +6,14 @@ ghost use Rattle.sqlite_value.specs.declared.value.Value.TheVariants.{Int, Text 
 ghost use Rattle.civil_time.specs.Civil.{IsDayNumber};
 ghost use Rattle.court_days.specs.Court.{CourtSettings, zone_of};
 ghost use Rattle.court_days.specs.declared.filing.End.{End as Limit};
-ghost use Rattle.docket_core.specs.EndRows.{time_of};
-ghost use Rattle.docket_core.specs.declared.record.DueRow.{DueRow as Due};
+ghost use Rattle.docket_decisions.specs.EndRows.{time_of};
+ghost use Rattle.docket_history.specs.declared.record.DueRow.{DueRow as Due};
 ghost use Rattle.docket_calendar.specs.DueCells.{due_cells, IsDueEnd, IsDue};
 
 use court_days::{Calendar, Court, Day, End};
 use docket_columns::count_at;
 use docket_command::Text;
-use docket_core::{DueRow, close_of_end};
+use docket_history::{DueRow, close_of_end};
 use sqlite::Row;
 use sqlite::types::ValueRef;
 use std::alloc::{AllocError, Global};

@@ -5,7 +5,7 @@ ghost use Rattle.std.specs.Io.KnownBytes.{Appends};
 ghost use Rattle.sqlite.specs.Order.{Row as Cells};
 ghost use Rattle.sqlite.specs.Held.{state};
 ghost use Rattle.sqlite.specs.State.{HasCleanDisk, Survives};
-ghost use Rattle.docket_core.specs.declared.record.DueRow.{DueRow as Due};
+ghost use Rattle.docket_history.specs.declared.record.DueRow.{DueRow as Due};
 ghost use Rattle.line_io.specs.Output.{HasFront};
 ghost use Rattle.docket_calendar.specs.Asked.{Lists, Gave};
 ghost use Rattle.docket_calendar.specs.Sending.{opening, text_at, Remains, SendsNext, SendsAll};
@@ -14,7 +14,7 @@ ghost use Rattle.docket_calendar.specs.Stops.{IsCausedStop, IsStopAt, IsUnderWay
 use crate::next::next_due;
 use crate::stop::Stop;
 use court_days::{Calendar, Court};
-use docket_core::DueRow;
+use docket_history::DueRow;
 use docket_tables::ReadFault;
 use docket_text::{calendar_line, end_line};
 use line_io::write_bytes;

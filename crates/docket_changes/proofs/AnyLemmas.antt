@@ -1,7 +1,7 @@
 -- Stored ends of rows that may stand for no history.
 use Rattle.std.proofs.Common.{List, refl}
-use Rattle.docket_core.specs.EndRows.{all_changed_ends}
-use Rattle.docket_core.specs.declared.end_row.EndRow.{EndRow}
+use Rattle.docket_decisions.specs.EndRows.{all_changed_ends}
+use Rattle.docket_decisions.specs.declared.end_row.EndRow.{EndRow}
 use Rattle.docket_changes.specs.Settling.{MayLeave}
 use Rattle.docket_changes.specs.declared.moving.EndUpdate.{EndUpdate}
 use Rattle.docket_changes.specs.declared.moving.EndUpdate.TheVariants.{Moves, Calendar}

@@ -4,10 +4,10 @@ use Rattle.std.specs.List.Sorted.{IsNonDecreasingBy, IsPartitionPoint}
 use Rattle.std.proofs.lemmas.Bool.Decides.{nat_tests}
 use Rattle.std.proofs.lemmas.List.Sorted.{IsNonDecreasingBy-drop}
 use Rattle.court_rules.specs.declared.act.Act.{Act}
-use Rattle.docket_core.specs.Histories.{deadlines_from}
-use Rattle.docket_core.specs.declared.row.ActRow.{ActRow}
-use Rattle.docket_core.specs.declared.row.DeadlineRow.{DeadlineRow}
-use Rattle.docket_core.specs.declared.view.DeadlineView.{DeadlineView}
+use Rattle.docket_history.specs.Histories.{deadlines_from}
+use Rattle.docket_history.specs.declared.row.ActRow.{ActRow}
+use Rattle.docket_history.specs.declared.row.DeadlineRow.{DeadlineRow}
+use Rattle.docket_history.specs.declared.view.DeadlineView.{DeadlineView}
 use Rattle.docket_orderly.specs.Orderly.{RunsFrom, acts_on}
 use Rattle.docket_tables.proofs.CaseActs.{of_deadline}
 use Rattle.docket_changes.proofs.ViewLemmas.{shown_with, shown_more, number_at}

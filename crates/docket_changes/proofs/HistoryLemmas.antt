@@ -10,18 +10,18 @@ use Rattle.court_rules.specs.declared.act.Act.{Act}
 use Rattle.docket_command.specs.declared.command.Command.{Command}
 use Rattle.docket_command.specs.declared.command.Action.{Action}
 use Rattle.docket_command.specs.declared.command.Action.TheVariants.{DeclareDay, CloseDay, CloseSpan, ShortDay, WithdrawCalendar, ImportCalendar, ServeSummons, FileWaiver, ServePleading, OrderReply, RuleMotion, Dispose, StatementServed, NoticeHearing, OrderPeriod, EnterJudgment, Extend, Satisfy, Vacate, LocalPeriod}
-use Rattle.docket_core.specs.Actions.{row_withdrawn, rows_asked}
-use Rattle.docket_core.specs.CalendarItems.{fresh, stands_among, calendar_of}
-use Rattle.docket_core.specs.EndRows.{calendar_in, end_row, end_rows, end_running, ends_running, end_rows_from, row_of_deadline}
-use Rattle.docket_core.specs.Histories.{History, standing_rows, next_row, items_of, numbered, without_row, case_number, case_rows, deadline_rows, deadlines_of_case, deadline_rows_from, act_rows, acts_of_deadline, first_acts_from, act_rows_on, deadlines_from, deadline_number, rule_found}
-use Rattle.docket_core.specs.Outcomes.{IsHistory}
-use Rattle.docket_core.specs.Tables.{Tables, rows_of, all_changed, with_receipt}
-use Rattle.docket_core.specs.EndMoves.{Follows}
-use Rattle.docket_core.specs.Records.{calendar}
-use Rattle.docket_core.specs.declared.item.CalendarItem.TheVariants.{Short}
-use Rattle.docket_core.specs.declared.row.CalendarRow.{CalendarRow}
-use Rattle.docket_core.specs.declared.row.Change.{Change}
-use Rattle.docket_core.proofs.ShortDays.{standing-short}
+use Rattle.docket_history.specs.Actions.{row_withdrawn, rows_asked}
+use Rattle.docket_history.specs.CalendarItems.{fresh, stands_among, calendar_of}
+use Rattle.docket_decisions.specs.EndRows.{calendar_in, end_row, end_rows, end_running, ends_running, end_rows_from, row_of_deadline}
+use Rattle.docket_history.specs.Histories.{History, standing_rows, next_row, items_of, numbered, without_row, case_number, case_rows, deadline_rows, deadlines_of_case, deadline_rows_from, act_rows, acts_of_deadline, first_acts_from, act_rows_on, deadlines_from, deadline_number, rule_found}
+use Rattle.docket_decisions.specs.Outcomes.{IsHistory}
+use Rattle.docket_decisions.specs.Tables.{Tables, rows_of, all_changed, with_receipt}
+use Rattle.docket_decisions.specs.EndMoves.{Follows}
+use Rattle.docket_history.specs.Records.{calendar}
+use Rattle.docket_history.specs.declared.item.CalendarItem.TheVariants.{Short}
+use Rattle.docket_history.specs.declared.row.CalendarRow.{CalendarRow}
+use Rattle.docket_history.specs.declared.row.Change.{Change}
+use Rattle.docket_history.proofs.ShortDays.{standing-short}
 use Rattle.docket_command.specs.declared.refusal.Reply.{Reply}
 use Rattle.docket_wire.specs.Valid.{IsCommand}
 use Rattle.docket_orderly.specs.Orderly.{IsCourtSettings, IsOrderly}

@@ -3,10 +3,10 @@ use Rattle.std.proofs.Common.{◌≡◌, ◌∙◌, ◌+◌, ℕ, List, [], ◌�
 use Rattle.civil_time.specs.Zone.{ZoneRules}
 use Rattle.court_days.specs.Calendar.{Entered}
 use Rattle.court_rules.specs.Standings.{standing}
-use Rattle.docket_core.specs.EndRows.{end_running, end_row, end_rows_from, ends_running}
-use Rattle.docket_core.specs.declared.end_row.EndTime.{EndTime}
-use Rattle.docket_core.specs.declared.view.DeadlineView.{DeadlineView}
-use Rattle.docket_core.proofs.AlikeStandings.{same_standing}
+use Rattle.docket_decisions.specs.EndRows.{end_running, end_row, end_rows_from, ends_running}
+use Rattle.docket_decisions.specs.declared.end_row.EndTime.{EndTime}
+use Rattle.docket_history.specs.declared.view.DeadlineView.{DeadlineView}
+use Rattle.docket_decisions.proofs.AlikeStandings.{same_standing}
 
 -- deadlines of which none runs by one calendar have none that runs by another
 pub none_by_another : (zone : ZoneRules) (before after : Entered) (k n : ℕ) (deadlines : List DeadlineView)

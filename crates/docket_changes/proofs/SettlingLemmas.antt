@@ -6,10 +6,10 @@ use Rattle.std.proofs.lemmas.List.Elements.{filter-append}
 use Rattle.std.proofs.lemmas.List.Sorted.{IsPermutation-filter_both}
 use Rattle.court_days.specs.Calendar.{Entered}
 use Rattle.court_days.specs.Court.{CourtSettings, zone_of}
-use Rattle.docket_core.specs.EndRows.{IsElsewhere, end_rows_from, ends_running, all_changed_ends}
-use Rattle.docket_core.specs.Histories.{deadlines_of_case, deadlines_from}
-use Rattle.docket_core.specs.declared.end_row.EndChange.{EndChange}
-use Rattle.docket_core.specs.declared.view.DeadlineView.{DeadlineView}
+use Rattle.docket_decisions.specs.EndRows.{IsElsewhere, end_rows_from, ends_running, all_changed_ends}
+use Rattle.docket_history.specs.Histories.{deadlines_of_case, deadlines_from}
+use Rattle.docket_decisions.specs.declared.end_row.EndChange.{EndChange}
+use Rattle.docket_history.specs.declared.view.DeadlineView.{DeadlineView}
 use Rattle.sqlite.specs.State.{State, HasCleanDisk}
 use Rattle.docket_tables.specs.Contents.{rows_with}
 use Rattle.docket_tables.specs.Stands.{Sees, Inside}
@@ -17,9 +17,9 @@ use Rattle.docket_tables.specs.declared.fault.ReadFault.{ReadFault}
 use Rattle.docket_tables.proofs.EndLemmas.{sees_permuted}
 use Rattle.std.proofs.lemmas.Result.{IfOk-weaker}
 use Rattle.std.proofs.Common.{Result, IfOk}
-use Rattle.docket_core.specs.Tables.{Tables}
-use Rattle.docket_core.specs.declared.end_row.EndRow.{EndRow}
-use Rattle.docket_core.specs.declared.end_row.EndTime.{EndTime}
+use Rattle.docket_decisions.specs.Tables.{Tables}
+use Rattle.docket_decisions.specs.declared.end_row.EndRow.{EndRow}
+use Rattle.docket_decisions.specs.declared.end_row.EndTime.{EndTime}
 use Rattle.docket_tables.specs.Contents.{AreStored, ends_in_case, ends_of}
 use Rattle.docket_changes.specs.Settling.{settled_case, settled_cases, RunsOnlyWhereStored}
 use Rattle.docket_tables.proofs.CaseActs.{passing_both}
@@ -84,7 +84,7 @@ module _ (court : CourtSettings) (entered : Entered) (t : Tables) where
       let same = settled_before (n + 1) n ends (omega arith) in
       record {
         fit = subst (λ rows. AllByRecursion Rattle.docket_columns.specs.Fits.IsEndRow rows) (sym same) (are (n + 1)).fit;
-        rows = subst (λ rows. Rattle.docket_core.specs.EndRows.AreRowsFrom (n + 1) 1 rows) (sym same) (are (n + 1)).rows;
+        rows = subst (λ rows. Rattle.docket_decisions.specs.EndRows.AreRowsFrom (n + 1) 1 rows) (sym same) (are (n + 1)).rows;
       }
 
   pub still_runs_only : (n : ℕ) (ends : List EndRow) → ((k : ℕ) → RunsOnlyWhereStored court t ends k) → RunsOnlyWhereStored court t (settled_cases court entered t n ends) (n + 1)

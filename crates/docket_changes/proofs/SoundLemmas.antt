@@ -12,17 +12,17 @@ use Rattle.court_rules.specs.Standings.{AreActs, begins_on_entered_day}
 use Rattle.court_rules.specs.declared.act.Act.{Act}
 use Rattle.court_rules.specs.declared.act.Act.TheVariants as act
 use Rattle.court_rules.specs.declared.act.Start.TheVariants as start
-use Rattle.docket_core.specs.CalendarItems.{IsEnteredItem}
-use Rattle.docket_core.specs.Decisions.{IsSoundView}
-use Rattle.docket_core.specs.Views.{deadline_shown}
-use Rattle.docket_core.specs.declared.item.CalendarItem.{CalendarItem}
-use Rattle.docket_core.specs.declared.item.CalendarItem.TheVariants.{Day, Span, Short}
-use Rattle.docket_core.specs.EndMoves.{acts_with, MayCome, AreLawful}
-use Rattle.docket_core.specs.declared.row.Change.{Change}
-use Rattle.docket_core.specs.declared.row.Change.TheVariants.{AddAct}
-use Rattle.docket_core.specs.declared.view.DeadlineView.{DeadlineView}
-use Rattle.docket_core.specs.declared.view.View.{View}
-use Rattle.docket_core.proofs.Passed.{left_true, right_true}
+use Rattle.docket_history.specs.CalendarItems.{IsEnteredItem}
+use Rattle.docket_decisions.specs.Decisions.{IsSoundView}
+use Rattle.docket_history.specs.Views.{deadline_shown}
+use Rattle.docket_history.specs.declared.item.CalendarItem.{CalendarItem}
+use Rattle.docket_history.specs.declared.item.CalendarItem.TheVariants.{Day, Span, Short}
+use Rattle.docket_decisions.specs.EndMoves.{acts_with, MayCome, AreLawful}
+use Rattle.docket_history.specs.declared.row.Change.{Change}
+use Rattle.docket_history.specs.declared.row.Change.TheVariants.{AddAct}
+use Rattle.docket_history.specs.declared.view.DeadlineView.{DeadlineView}
+use Rattle.docket_history.specs.declared.view.View.{View}
+use Rattle.docket_decisions.proofs.Passed.{left_true, right_true}
 use Rattle.docket_changes.specs.Sound.{is_entered_item, begins_in_time, are_acts, are_lawful, is_lawful, may_come, IsSoundCase}
 
 both_true : (a b : Bool) → a ≡ true → b ≡ true → (a && b) ≡ true

@@ -3,21 +3,21 @@ use Rattle.std.proofs.Common.{◌≡◌, ◌∙◌, ◌+◌, ◌<◌, ℕ, zero,
 use Rattle.std.proofs.lemmas.List.{take_more, length-take}
 use Rattle.court_rules.specs.declared.act.Act.{Act}
 use Rattle.court_rules.specs.declared.local_rule.LocalRule.{LocalRule}
-use Rattle.docket_core.specs.Histories.{deadlines_from, acts_of_deadline, parties_of_case, entries_of_case, deadlines_of_case, local_rule_in}
+use Rattle.docket_history.specs.Histories.{deadlines_from, acts_of_deadline, parties_of_case, entries_of_case, deadlines_of_case, local_rule_in}
 use Rattle.std.specs.Option.{option_and_then, option_map}
 use Rattle.docket_command.specs.declared.command.Command.{Command}
-use Rattle.docket_core.specs.Actions.{case_named, asks_cases, asks_parties, asks_entries, asks_deadlines, asks_next_row, asks_local_rules, if_asked}
-use Rattle.docket_core.specs.Outcomes.{kept, is_label_taken, is_row_standing}
-use Rattle.docket_core.specs.declared.item.CalendarItem.{CalendarItem}
-use Rattle.docket_core.specs.declared.view.Kept.{Kept}
-use Rattle.docket_core.specs.Tables.{Tables, case_in, case_named_in, case_deadlines, deadlines_in, is_case_in, view_in}
-use Rattle.docket_core.specs.Views.{case_shown, deadline_at, deadline_of, is_served_among, named_in, rule_name_asked}
+use Rattle.docket_history.specs.Actions.{case_named, asks_cases, asks_parties, asks_entries, asks_deadlines, asks_next_row, asks_local_rules, if_asked}
+use Rattle.docket_decisions.specs.Outcomes.{kept, is_label_taken, is_row_standing}
+use Rattle.docket_history.specs.declared.item.CalendarItem.{CalendarItem}
+use Rattle.docket_history.specs.declared.view.Kept.{Kept}
+use Rattle.docket_decisions.specs.Tables.{Tables, case_in, case_named_in, case_deadlines, deadlines_in, is_case_in, view_in}
+use Rattle.docket_history.specs.Views.{case_shown, deadline_at, deadline_of, is_served_among, named_in, rule_name_asked}
 use Rattle.docket_command.specs.declared.command.Action.{Action}
-use Rattle.docket_core.specs.declared.view.CaseView.{CaseView}
-use Rattle.docket_core.specs.declared.row.ActRow.{ActRow}
-use Rattle.docket_core.specs.declared.row.DeadlineRow.{DeadlineRow}
-use Rattle.docket_core.specs.declared.view.DeadlineView.{DeadlineView}
-use Rattle.docket_core.proofs.Leading.{length-deadlines_from}
+use Rattle.docket_history.specs.declared.view.CaseView.{CaseView}
+use Rattle.docket_history.specs.declared.row.ActRow.{ActRow}
+use Rattle.docket_history.specs.declared.row.DeadlineRow.{DeadlineRow}
+use Rattle.docket_history.specs.declared.view.DeadlineView.{DeadlineView}
+use Rattle.docket_decisions.proofs.Leading.{length-deadlines_from}
 use Rattle.docket_orderly.specs.Orderly.{RunsFrom}
 use Rattle.docket_tables.specs.Readings.{row_at}
 

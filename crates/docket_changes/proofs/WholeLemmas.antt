@@ -5,11 +5,11 @@ use Rattle.std.proofs.lemmas.List.Elements.{filter-append}
 use Rattle.std.proofs.lemmas.List.Sorted.{IsPermutation-refl, IsPermutation-trans, IsPermutation-sym, IsPermutation-cons, IsPermutation-middle}
 use Rattle.court_days.specs.Calendar.{Entered}
 use Rattle.court_days.specs.Court.{CourtSettings, zone_of}
-use Rattle.docket_core.specs.EndRows.{calendar_in, end_rows, ends_running, end_rows_from}
-use Rattle.docket_core.specs.Histories.{deadlines_of_case, deadlines_from}
-use Rattle.docket_core.specs.Tables.{Tables}
-use Rattle.docket_core.specs.declared.end_row.EndRow.{EndRow}
-use Rattle.docket_core.specs.declared.end_row.EndTime.{EndTime}
+use Rattle.docket_decisions.specs.EndRows.{calendar_in, end_rows, ends_running, end_rows_from}
+use Rattle.docket_history.specs.Histories.{deadlines_of_case, deadlines_from}
+use Rattle.docket_decisions.specs.Tables.{Tables}
+use Rattle.docket_decisions.specs.declared.end_row.EndRow.{EndRow}
+use Rattle.docket_decisions.specs.declared.end_row.EndTime.{EndTime}
 use Rattle.docket_tables.specs.Contents.{ends_in_case, ends_of}
 use Rattle.docket_orderly.specs.Orderly.{IsOrderly}
 use Rattle.docket_tables.proofs.StoredLemmas.{all_stored, ends_of_all}

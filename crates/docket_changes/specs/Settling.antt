@@ -4,10 +4,10 @@ use Rattle.court_days.specs.Calendar.{Entered}
 use Rattle.court_days.specs.Court.{CourtSettings}
 use Rattle.docket_command.specs.declared.command.Action.{Action}
 use Rattle.docket_command.specs.declared.command.Action.TheVariants.{DeclareDay, CloseDay, CloseSpan, ShortDay, WithdrawCalendar, ImportCalendar, AddParty, FileEntry}
-use Rattle.docket_core.specs.Actions.{case_named}
-use Rattle.docket_core.specs.EndRows.{all_changed_ends, calendar_in, end_rows}
-use Rattle.docket_core.specs.Tables.{Tables}
-use Rattle.docket_core.specs.declared.end_row.EndRow.{EndRow}
+use Rattle.docket_history.specs.Actions.{case_named}
+use Rattle.docket_decisions.specs.EndRows.{all_changed_ends, calendar_in, end_rows}
+use Rattle.docket_decisions.specs.Tables.{Tables}
+use Rattle.docket_decisions.specs.declared.end_row.EndRow.{EndRow}
 use Rattle.docket_changes.specs.declared.moving.EndUpdate.{EndUpdate}
 use Rattle.docket_changes.specs.declared.moving.EndUpdate.TheVariants.{Moves, Calendar}
 use Rattle.docket_tables.specs.Contents.{AreStored, ends_in_case, ends_of}

@@ -9,13 +9,13 @@ use Rattle.court_rules.specs.Standings.{AreActs}
 use Rattle.court_rules.specs.declared.act.Act.{Act}
 use Rattle.court_rules.specs.declared.act.Act.TheVariants as act
 use Rattle.court_rules.specs.declared.act.Start.TheVariants as start
-use Rattle.docket_core.specs.CalendarItems.{IsEnteredItem}
-use Rattle.docket_core.specs.EndMoves.{acts_with}
-use Rattle.docket_core.specs.declared.item.CalendarItem.{CalendarItem}
-use Rattle.docket_core.specs.declared.item.CalendarItem.TheVariants.{Day, Span, Short}
-use Rattle.docket_core.specs.declared.row.Change.{Change}
-use Rattle.docket_core.specs.declared.row.Change.TheVariants.{AddAct}
-use Rattle.docket_core.specs.declared.view.DeadlineView.{DeadlineView}
+use Rattle.docket_history.specs.CalendarItems.{IsEnteredItem}
+use Rattle.docket_decisions.specs.EndMoves.{acts_with}
+use Rattle.docket_history.specs.declared.item.CalendarItem.{CalendarItem}
+use Rattle.docket_history.specs.declared.item.CalendarItem.TheVariants.{Day, Span, Short}
+use Rattle.docket_history.specs.declared.row.Change.{Change}
+use Rattle.docket_history.specs.declared.row.Change.TheVariants.{AddAct}
+use Rattle.docket_history.specs.declared.view.DeadlineView.{DeadlineView}
 
 -- a court may enter the item
 abbrev pub is_entered_item : CalendarItem → Bool

@@ -1,13 +1,13 @@
 //! Rows that were read, put together.
 ghost use Rattle.std.specs.Prelude.{◌≡◌, ◌==◌, ◌<◌, ◌≤◌, ℕ, List, map, length, filter, IfOk};
 ghost use Rattle.std.specs.List.Sorted.{IsNonDecreasingBy, IsPartitionPoint};
-ghost use Rattle.docket_core.specs.Histories.{deadlines_from, items_of};
-ghost use Rattle.docket_core.specs.declared.row.ActRow.{ActRow as OnDeadline};
+ghost use Rattle.docket_history.specs.Histories.{deadlines_from, items_of};
+ghost use Rattle.docket_history.specs.declared.row.ActRow.{ActRow as OnDeadline};
 ghost use Rattle.docket_orderly.specs.Orderly.{RunsFrom};
 ghost use Rattle.docket_tables.specs.Readings.{AreActsOf};
 
 use court_rules::Act;
-use docket_core::{ActRow, Acts, CalendarItem, CalendarRow, DeadlineRow, DeadlineView};
+use docket_history::{ActRow, Acts, CalendarItem, CalendarRow, DeadlineRow, DeadlineView};
 use std::alloc::{AllocError, Global};
 
 /// The items of the rows, in their order.

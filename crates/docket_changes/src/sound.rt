@@ -3,13 +3,13 @@ ghost use Rattle.std.specs.Prelude.{◌≡◌, ◌↔◌, IsTrue};
 ghost use Rattle.std.specs.List.{list_all};
 ghost use Rattle.court_days.specs.Court.{zone_of};
 ghost use Rattle.court_rules.specs.Acts.{is_instant, is_entered_day};
-ghost use Rattle.docket_core.specs.Decisions.{IsSoundView};
-ghost use Rattle.docket_core.specs.Views.{deadline_shown};
+ghost use Rattle.docket_decisions.specs.Decisions.{IsSoundView};
+ghost use Rattle.docket_history.specs.Views.{deadline_shown};
 ghost use Rattle.docket_changes.specs.Sound.{is_entered_item, begins_in_time, are_acts, are_lawful, is_lawful, IsSoundCase};
 
 use court_days::{Court, Day, is_entered};
 use court_rules::{Act, Start, acts_ok};
-use docket_core::{CalendarItem, DeadlineView, View};
+use docket_history::{CalendarItem, DeadlineView, View};
 
 /// How many rows a calendar holds at most.
 const MOST_ROWS: usize = 4000;

@@ -3,13 +3,13 @@ ghost use Rattle.std.specs.Prelude.{◌≡◌, ◌≤◌, false, Some};
 ghost use Rattle.sqlite.specs.Held.{state};
 ghost use Rattle.sqlite.specs.State.{HasCleanDisk};
 ghost use Rattle.sqlite.specs.View.{doubt};
-ghost use Rattle.docket_core.specs.Records.{case_at, record_of};
+ghost use Rattle.docket_history.specs.Records.{case_at, record_of};
 ghost use Rattle.docket_tables.specs.Causes.{FailsForCause};
 ghost use Rattle.docket_tables.specs.Layouts.{Rows};
 ghost use Rattle.docket_tables.specs.Readings.{Reads, Stays};
 ghost use Rattle.docket_tables.specs.Stands.{HoldsRows};
 
-use docket_core::{CaseRecord, CaseRow, EntryRows, PartyRows};
+use docket_history::{CaseRecord, CaseRow, EntryRows, PartyRows};
 use docket_tables::{ReadFault, case, entries, parties};
 use sqlite::{Alter, Connection};
 use std::alloc::Global;

@@ -5,12 +5,12 @@ ghost use Rattle.sqlite.specs.Held.{state};
 ghost use Rattle.sqlite.specs.State.{HasCleanDisk};
 ghost use Rattle.sqlite.specs.View.{doubt};
 ghost use Rattle.docket_command.specs.declared.refusal.Reply.{Reply};
-ghost use Rattle.docket_core.specs.Actions.{case_named, asks_cases, asks_parties, asks_entries, asks_deadlines, asks_next_row, asks_local_rules, if_asked};
-ghost use Rattle.docket_core.specs.Histories.{parties_of_case, entries_of_case, deadlines_of_case, deadlines_from, items_of, local_rule_in};
-ghost use Rattle.docket_core.specs.Outcomes.{is_label_taken, is_row_standing};
-ghost use Rattle.docket_core.specs.Tables.{case_in, case_deadlines, deadlines_in, view_in};
-ghost use Rattle.docket_core.specs.Views.{deadline_at, deadline_of, is_served_among, named_in, rule_name_asked};
-ghost use Rattle.docket_core.specs.declared.view.Kept.TheVariants.{Same};
+ghost use Rattle.docket_history.specs.Actions.{case_named, asks_cases, asks_parties, asks_entries, asks_deadlines, asks_next_row, asks_local_rules, if_asked};
+ghost use Rattle.docket_history.specs.Histories.{parties_of_case, entries_of_case, deadlines_of_case, deadlines_from, items_of, local_rule_in};
+ghost use Rattle.docket_decisions.specs.Outcomes.{is_label_taken, is_row_standing};
+ghost use Rattle.docket_decisions.specs.Tables.{case_in, case_deadlines, deadlines_in, view_in};
+ghost use Rattle.docket_history.specs.Views.{deadline_at, deadline_of, is_served_among, named_in, rule_name_asked};
+ghost use Rattle.docket_history.specs.declared.view.Kept.TheVariants.{Same};
 ghost use Rattle.docket_wire.specs.Valid.{IsCommand};
 ghost use Rattle.docket_wire.specs.Writing.{canonical};
 ghost use Rattle.docket_tables.specs.AnyRows.{HasReceipt};
@@ -21,7 +21,7 @@ ghost use Rattle.docket_tables.specs.Stands.{HoldsRows};
 
 use crate::gathering::{items_of, with_acts};
 use docket_command::{Action, Command, LocalRule};
-use docket_core::{
+use docket_history::{
     Acts, CalendarItems, CaseView, DeadlineView, View, asks_cases, asks_deadlines, asks_entries,
     asks_local_rules, asks_next_row, asks_parties, case_named, deadline_named, is_served_among,
     rule_name_asked,

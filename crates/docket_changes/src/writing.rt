@@ -1,11 +1,11 @@
 //! All that a command changes, in one transaction.
 ghost use Rattle.std.specs.Prelude.{◌≡◌, ◌<◌, ◌≤◌, ◌+◌, ◌^◌, ℕ, List, length, false, MatchResult};
-ghost use Rattle.docket_core.specs.Tables.{Tables, all_changed, with_receipt};
+ghost use Rattle.docket_decisions.specs.Tables.{Tables, all_changed, with_receipt};
 ghost use Rattle.docket_wire.specs.Writing.{canonical};
 ghost use Rattle.sqlite.specs.Held.{state};
 ghost use Rattle.sqlite.specs.State.{HasCleanDisk};
 ghost use Rattle.sqlite.specs.View.{doubt};
-ghost use Rattle.docket_core.specs.declared.end_row.EndRow.{EndRow as Ended};
+ghost use Rattle.docket_decisions.specs.declared.end_row.EndRow.{EndRow as Ended};
 ghost use Rattle.docket_tables.specs.AnyRows.{AreDocketRows, recorded, with_stored};
 ghost use Rattle.docket_tables.specs.Contents.{rows_in, rows_with};
 ghost use Rattle.docket_tables.specs.Layouts.{Rows};
@@ -16,7 +16,7 @@ use crate::moving::EndUpdate;
 use crate::settling::update_ends;
 use court_days::Court;
 use docket_command::Command;
-use docket_core::Changes;
+use docket_decisions::Changes;
 use docket_tables::{ReadFault, record};
 use sqlite::{Alter, Connection, Error, ErrorCode, Transaction};
 use std::alloc::Global;

@@ -1,14 +1,14 @@
 -- What is kept under a key: a stored text is that of the same command.
 use Rattle.std.proofs.Common.{◌≡◌, ℕ, List, Bool, true, false, Some, refl, ap, sym, ◌∙◌}
 use Rattle.std.specs.Prelude.{if◌then◌else◌}
-use Rattle.docket_core.specs.declared.view.Kept.TheVariants.{Same, Other}
+use Rattle.docket_history.specs.declared.view.Kept.TheVariants.{Same, Other}
 use Rattle.std.specs.Str.{bytes_eq}
 use Rattle.std.proofs.lemmas.Slice.Eq.{bytes_eq-Decides}
 use Rattle.docket_command.specs.declared.command.Command.{Command}
 use Rattle.docket_command.specs.Sameness.{is_same_command}
 use Rattle.docket_command.proofs.SamenessLemmas.{same_command}
-use Rattle.docket_core.specs.declared.row.Receipt.{Receipt}
-use Rattle.docket_core.specs.Outcomes.{kept_by, replied}
+use Rattle.docket_history.specs.declared.row.Receipt.{Receipt}
+use Rattle.docket_decisions.specs.Outcomes.{kept_by, replied}
 use Rattle.docket_wire.specs.Valid.{IsCommand}
 use Rattle.docket_wire.specs.Writing.{canonical}
 use Rattle.docket_wire.proofs.CanonicalLemmas.{unique}

@@ -6,19 +6,19 @@ use Rattle.sqlite_value.specs.declared.value.Value.TheVariants.{Int, Text}
 use Rattle.sqlite_value.specs.Order.{Row, column}
 use Rattle.court_days.specs.Court.{CourtSettings}
 use Rattle.court_rules.specs.LocalRules.{deadline_rule_name, is_local_name}
-use Rattle.docket_core.specs.declared.end_row.EndRow.{EndRow}
-use Rattle.docket_core.specs.declared.row.CalendarRow.{CalendarRow}
-use Rattle.docket_core.specs.declared.row.CaseRow.{CaseRow}
-use Rattle.docket_core.specs.declared.row.ShortDayRow.{ShortDayRow}
-use Rattle.docket_core.specs.declared.row.PartyRow.{PartyRow}
-use Rattle.docket_core.specs.declared.row.EntryRow.{EntryRow}
-use Rattle.docket_core.specs.declared.row.DeadlineRow.{DeadlineRow}
-use Rattle.docket_core.specs.declared.row.ActRow.{ActRow}
-use Rattle.docket_core.specs.declared.row.LocalRuleRow.{LocalRuleRow}
-use Rattle.docket_core.specs.declared.row.Receipt.{Receipt}
-use Rattle.docket_core.specs.declared.view.Kept.{Kept}
-use Rattle.docket_core.specs.declared.view.Kept.TheVariants.{Same, Other}
-use Rattle.docket_core.specs.Outcomes.{replied}
+use Rattle.docket_decisions.specs.declared.end_row.EndRow.{EndRow}
+use Rattle.docket_history.specs.declared.row.CalendarRow.{CalendarRow}
+use Rattle.docket_history.specs.declared.row.CaseRow.{CaseRow}
+use Rattle.docket_history.specs.declared.row.ShortDayRow.{ShortDayRow}
+use Rattle.docket_history.specs.declared.row.PartyRow.{PartyRow}
+use Rattle.docket_history.specs.declared.row.EntryRow.{EntryRow}
+use Rattle.docket_history.specs.declared.row.DeadlineRow.{DeadlineRow}
+use Rattle.docket_history.specs.declared.row.ActRow.{ActRow}
+use Rattle.docket_history.specs.declared.row.LocalRuleRow.{LocalRuleRow}
+use Rattle.docket_history.specs.declared.row.Receipt.{Receipt}
+use Rattle.docket_history.specs.declared.view.Kept.{Kept}
+use Rattle.docket_history.specs.declared.view.Kept.TheVariants.{Same, Other}
+use Rattle.docket_decisions.specs.Outcomes.{replied}
 use Rattle.docket_columns.specs.declared.court.CourtRow.{CourtRow}
 use Rattle.docket_columns.specs.declared.version.Version.{Version}
 use Rattle.docket_columns.specs.declared.version.Version.TheVariants.{First, Second}

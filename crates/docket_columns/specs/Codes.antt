@@ -15,8 +15,8 @@ use Rattle.court_rules.specs.declared.table.Period.{Period}
 use Rattle.court_rules.specs.declared.table.Period.TheVariants.{Days, Months}
 use Rattle.docket_command.specs.declared.choice.Role.{Role}
 use Rattle.docket_command.specs.declared.choice.Role.TheVariants.{Plaintiff, Defendant, Other}
-use Rattle.docket_core.specs.declared.item.CalendarItem.{CalendarItem}
-use Rattle.docket_core.specs.declared.item.CalendarItem.TheVariants as item
+use Rattle.docket_history.specs.declared.item.CalendarItem.{CalendarItem}
+use Rattle.docket_history.specs.declared.item.CalendarItem.TheVariants as item
 use Rattle.docket_columns.specs.declared.act.ActCode.{ActCode}
 use Rattle.docket_columns.specs.declared.calendar.ItemCode.{ItemCode}
 

@@ -10,18 +10,18 @@ use Rattle.court_rules.specs.declared.act.Act.TheVariants as act
 use Rattle.court_rules.specs.declared.act.Start.{Start}
 use Rattle.court_rules.specs.declared.act.Start.TheVariants as start
 use Rattle.docket_command.specs.Moments.{IsWholeMinute}
-use Rattle.docket_core.specs.declared.item.CalendarItem.{CalendarItem}
-use Rattle.docket_core.specs.declared.item.CalendarItem.TheVariants as item
-use Rattle.docket_core.specs.declared.end_row.EndRow.{EndRow}
-use Rattle.docket_core.specs.declared.row.CalendarRow.{CalendarRow}
-use Rattle.docket_core.specs.declared.row.CaseRow.{CaseRow}
-use Rattle.docket_core.specs.declared.row.ShortDayRow.{ShortDayRow}
-use Rattle.docket_core.specs.declared.row.PartyRow.{PartyRow}
-use Rattle.docket_core.specs.declared.row.EntryRow.{EntryRow}
-use Rattle.docket_core.specs.declared.row.DeadlineRow.{DeadlineRow}
-use Rattle.docket_core.specs.declared.row.ActRow.{ActRow}
-use Rattle.docket_core.specs.declared.row.LocalRuleRow.{LocalRuleRow}
-use Rattle.docket_core.specs.declared.row.Receipt.{Receipt}
+use Rattle.docket_history.specs.declared.item.CalendarItem.{CalendarItem}
+use Rattle.docket_history.specs.declared.item.CalendarItem.TheVariants as item
+use Rattle.docket_decisions.specs.declared.end_row.EndRow.{EndRow}
+use Rattle.docket_history.specs.declared.row.CalendarRow.{CalendarRow}
+use Rattle.docket_history.specs.declared.row.CaseRow.{CaseRow}
+use Rattle.docket_history.specs.declared.row.ShortDayRow.{ShortDayRow}
+use Rattle.docket_history.specs.declared.row.PartyRow.{PartyRow}
+use Rattle.docket_history.specs.declared.row.EntryRow.{EntryRow}
+use Rattle.docket_history.specs.declared.row.DeadlineRow.{DeadlineRow}
+use Rattle.docket_history.specs.declared.row.ActRow.{ActRow}
+use Rattle.docket_history.specs.declared.row.LocalRuleRow.{LocalRuleRow}
+use Rattle.docket_history.specs.declared.row.Receipt.{Receipt}
 use Rattle.docket_wire.specs.Valid.{IsCommand, IsMinute}
 use Rattle.docket_columns.specs.Codes.{unit_count}
 

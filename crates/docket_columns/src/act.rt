@@ -5,7 +5,7 @@ ghost use Rattle.court_rules.specs.declared.act.Act.{Act as Done};
 ghost use Rattle.court_rules.specs.declared.act.Act.TheVariants as act;
 ghost use Rattle.court_rules.specs.declared.act.Start.{Start as Begun};
 ghost use Rattle.court_rules.specs.declared.table.Period.{Period as Span};
-ghost use Rattle.docket_core.specs.declared.row.ActRow.{ActRow as Line};
+ghost use Rattle.docket_history.specs.declared.row.ActRow.{ActRow as Line};
 ghost use Rattle.docket_columns.specs.Cells.{act_cells};
 ghost use Rattle.docket_columns.specs.Codes.{unit_number, unit_count, coded, act_code};
 ghost use Rattle.docket_columns.specs.Fits.{IsStart, IsAct, IsActRow};
@@ -18,7 +18,7 @@ use crate::codes::{
 use crate::stored::StoredRow;
 use court_days::Day;
 use court_rules::{Act, DayPeriod, HourPeriod, Period, Start};
-use docket_core::ActRow;
+use docket_history::ActRow;
 use sqlite::Row;
 use sqlite::types::{ToSql, ValueRef};
 use std::alloc::{AllocError, Global};

@@ -1,8 +1,8 @@
 //! Rows of the table of the calendar: days and spans.
 ghost use Rattle.std.specs.Prelude.{◌≡◌, ◌↔◌, Some, IsTrue, IfOk, IfSome};
 ghost use Rattle.sqlite.specs.Values.{bound};
-ghost use Rattle.docket_core.specs.declared.item.CalendarItem.{CalendarItem as Item};
-ghost use Rattle.docket_core.specs.declared.row.CalendarRow.{CalendarRow as Line};
+ghost use Rattle.docket_history.specs.declared.item.CalendarItem.{CalendarItem as Item};
+ghost use Rattle.docket_history.specs.declared.row.CalendarRow.{CalendarRow as Line};
 ghost use Rattle.docket_columns.specs.Cells.{calendar_cells};
 ghost use Rattle.docket_columns.specs.Codes.{item_code};
 ghost use Rattle.docket_columns.specs.Fits.{IsItem, IsNameOf, IsCalendarRow};
@@ -11,7 +11,7 @@ use crate::cell::{count_at, day_numbered, has_values, number_at, text_at};
 use crate::codes::{day_kind_number, day_kind_of};
 use crate::stored::StoredRow;
 use docket_command::{Moment, Text};
-use docket_core::{CalendarItem, CalendarRow};
+use docket_history::{CalendarItem, CalendarRow};
 use sqlite::Row;
 use sqlite::types::{ToSql, ValueRef};
 use std::alloc::{AllocError, Global};

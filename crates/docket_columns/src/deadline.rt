@@ -5,7 +5,7 @@ ghost use Rattle.sqlite_value.specs.Order.{column};
 ghost use Rattle.sqlite_value.specs.declared.value.Value.TheVariants.{Text};
 ghost use Rattle.court_rules.specs.LocalRules.{IsDeadlineRule, deadline_rule_name};
 ghost use Rattle.court_rules.specs.declared.deadline_rule.DeadlineRule.{DeadlineRule as Named};
-ghost use Rattle.docket_core.specs.declared.row.DeadlineRow.{DeadlineRow as Deadline};
+ghost use Rattle.docket_history.specs.declared.row.DeadlineRow.{DeadlineRow as Deadline};
 ghost use Rattle.docket_columns.specs.Cells.{deadline_cells};
 ghost use Rattle.docket_columns.specs.Fits.{IsDeadlineRow};
 
@@ -13,7 +13,7 @@ use crate::cell::{count_at, flag_at, has_values, text_at};
 use crate::codes::flag_number;
 use crate::stored::StoredRow;
 use court_rules::DeadlineRule;
-use docket_core::DeadlineRow;
+use docket_history::DeadlineRow;
 use sqlite::Row;
 use sqlite::types::{ToSql, ValueRef};
 use std::alloc::{AllocError, Global};

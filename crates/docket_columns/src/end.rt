@@ -1,13 +1,13 @@
 //! Rows of the table of ends.
 ghost use Rattle.std.specs.Prelude.{◌≡◌, Some, IfSome};
 ghost use Rattle.sqlite.specs.Values.{bound};
-ghost use Rattle.docket_core.specs.declared.end_row.EndRow.{EndRow as Ended};
+ghost use Rattle.docket_decisions.specs.declared.end_row.EndRow.{EndRow as Ended};
 ghost use Rattle.docket_columns.specs.Cells.{end_cells};
 ghost use Rattle.docket_columns.specs.Fits.{IsEndRow};
 
 use crate::cell::{count_at, has_values, number_at};
 use crate::stored::StoredRow;
-use docket_core::{EndRow, EndTime};
+use docket_decisions::{EndRow, EndTime};
 use sqlite::Row;
 use sqlite::types::{ToSql, ValueRef};
 use std::alloc::{AllocError, Global};

@@ -1,14 +1,14 @@
 //! Rows of the table of entries.
 ghost use Rattle.std.specs.Prelude.{◌≡◌, Some, IfOk, IfSome};
 ghost use Rattle.sqlite.specs.Values.{bound};
-ghost use Rattle.docket_core.specs.declared.row.EntryRow.{EntryRow as Entry};
+ghost use Rattle.docket_history.specs.declared.row.EntryRow.{EntryRow as Entry};
 ghost use Rattle.docket_columns.specs.Cells.{entry_cells};
 ghost use Rattle.docket_columns.specs.Fits.{IsEntryRow};
 
 use crate::cell::{count_at, day_at, has_values, text_at};
 use crate::stored::StoredRow;
 use docket_command::Text;
-use docket_core::EntryRow;
+use docket_history::EntryRow;
 use sqlite::Row;
 use sqlite::types::{ToSql, ValueRef};
 use std::alloc::{AllocError, Global};

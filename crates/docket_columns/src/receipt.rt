@@ -4,8 +4,8 @@ ghost use Rattle.sqlite.specs.Values.{bound};
 ghost use Rattle.sqlite_value.specs.Order.{column};
 ghost use Rattle.sqlite_value.specs.declared.value.Value.TheVariants.{Text};
 ghost use Rattle.docket_command.specs.declared.command.Command.{Command as Asked};
-ghost use Rattle.docket_core.specs.declared.row.Receipt.{Receipt};
-ghost use Rattle.docket_core.specs.Outcomes.{kept_by as kept_by_receipt, replied};
+ghost use Rattle.docket_history.specs.declared.row.Receipt.{Receipt};
+ghost use Rattle.docket_decisions.specs.Outcomes.{kept_by as kept_by_receipt, replied};
 ghost use Rattle.docket_wire.specs.Valid.{IsCommand};
 ghost use Rattle.docket_wire.specs.Writing.{canonical};
 ghost use Rattle.docket_columns.specs.Cells.{stored_cells, receipt_cells, kept_as};
@@ -13,7 +13,7 @@ ghost use Rattle.docket_columns.specs.Fits.{IsCount, IsReceipt};
 
 use crate::cell::{bytes_at, count_at, has_values};
 use docket_command::{Command, Reply};
-use docket_core::Kept;
+use docket_history::Kept;
 use sqlite::Row;
 use sqlite::types::{ToSql, ValueRef};
 

@@ -3,7 +3,7 @@ ghost use Rattle.std.specs.Prelude.{◌≡◌, ◌<◌, ℕ, pos, Some, IfOk, If
 ghost use Rattle.sqlite.specs.Values.{bound};
 ghost use Rattle.sqlite_value.specs.Order.{column};
 ghost use Rattle.sqlite_value.specs.declared.value.Value.TheVariants.{Int};
-ghost use Rattle.docket_core.specs.declared.row.ShortDayRow.{ShortDayRow as Line};
+ghost use Rattle.docket_history.specs.declared.row.ShortDayRow.{ShortDayRow as Line};
 ghost use Rattle.docket_columns.specs.Cells.{short_day_cells};
 ghost use Rattle.docket_columns.specs.Fits.{IsShortDayRow};
 
@@ -11,7 +11,7 @@ use crate::cell::{count_at, day_at, has_values, text_at};
 use crate::stored::StoredRow;
 use court_days::Day;
 use docket_command::{Text, TimeOfDay};
-use docket_core::ShortDayRow;
+use docket_history::ShortDayRow;
 use sqlite::Row;
 use sqlite::types::{ToSql, ValueRef};
 use std::alloc::{AllocError, Global};

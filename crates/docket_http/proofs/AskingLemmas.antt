@@ -7,11 +7,11 @@ use Rattle.court_days.specs.Court.{CourtSettings}
 use Rattle.docket_command.specs.declared.command.Command.{Command}
 use Rattle.docket_command.specs.declared.refusal.Refusal.{Refusal}
 use Rattle.docket_command.specs.declared.refusal.Reply.{Reply as Number}
-use Rattle.docket_core.specs.Histories.{History}
-use Rattle.docket_core.specs.Outcomes.{Answer, outcome}
-use Rattle.docket_core.specs.Records.{case_record, deadline_lines}
-use Rattle.docket_core.specs.declared.record.CaseRecord.{CaseRecord}
-use Rattle.docket_core.specs.declared.record.DeadlineLine.{DeadlineLine}
+use Rattle.docket_history.specs.Histories.{History}
+use Rattle.docket_decisions.specs.Outcomes.{Answer, outcome}
+use Rattle.docket_history.specs.Records.{case_record, deadline_lines}
+use Rattle.docket_history.specs.declared.record.CaseRecord.{CaseRecord}
+use Rattle.docket_history.specs.declared.record.DeadlineLine.{DeadlineLine}
 use Rattle.docket_store.specs.Applying.{Stands, Asks, docket_rows}
 use Rattle.docket_store.specs.Dockets.{Docket}
 use Rattle.docket_store.specs.Sequence.{Answers, Halts, IsSaid}

@@ -3,11 +3,11 @@ use Rattle.std.proofs.Common.{◌≡◌, ◌==◌, ◌⊎◌, inl, inr, ℕ, tru
 use Rattle.sqlite.specs.Store.{Ghosts}
 use Rattle.court_days.specs.Court.{CourtSettings}
 use Rattle.docket_command.specs.declared.command.Command.{Command}
-use Rattle.docket_core.specs.Histories.{History}
-use Rattle.docket_core.specs.Outcomes.{Answer, accepted, outcome, refused, repeated}
-use Rattle.docket_core.specs.Records.{case_record, deadline_lines}
-use Rattle.docket_core.specs.declared.record.CaseRecord.{CaseRecord}
-use Rattle.docket_core.specs.declared.record.DeadlineLine.{DeadlineLine}
+use Rattle.docket_history.specs.Histories.{History}
+use Rattle.docket_decisions.specs.Outcomes.{Answer, accepted, outcome, refused, repeated}
+use Rattle.docket_history.specs.Records.{case_record, deadline_lines}
+use Rattle.docket_history.specs.declared.record.CaseRecord.{CaseRecord}
+use Rattle.docket_history.specs.declared.record.DeadlineLine.{DeadlineLine}
 use Rattle.docket_tables.specs.Stands.{LastsAsEither}
 use Rattle.docket_store.specs.Applying.{Stands, docket_rows}
 use Rattle.docket_store.specs.Dockets.{Docket}

@@ -7,7 +7,7 @@ use Rattle.sqlite.specs.Held.{state}
 use Rattle.court_days.specs.Court.{CourtSettings}
 use Rattle.docket_calendar.specs.Calendar.{text_of_calendar}
 use Rattle.docket_calendar.specs.Sending.{HasBegun}
-use Rattle.docket_core.specs.Histories.{History}
+use Rattle.docket_history.specs.Histories.{History}
 use Rattle.docket_store.specs.Applying.{Stands}
 use Rattle.docket_store.specs.Dockets.{Docket}
 use Rattle.docket_store.specs.Listing.{Lists}

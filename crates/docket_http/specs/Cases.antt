@@ -1,10 +1,10 @@
 -- What is told of a case, as a text or as a page.
 use Rattle.std.specs.Prelude.{ℕ, List, Option, Some, None}
 use Rattle.court_days.specs.Court.{CourtSettings}
-use Rattle.docket_core.specs.Histories.{History}
-use Rattle.docket_core.specs.Records.{case_record, deadline_lines}
-use Rattle.docket_core.specs.declared.record.CaseRecord.{CaseRecord}
-use Rattle.docket_core.specs.declared.record.DeadlineLine.{DeadlineLine}
+use Rattle.docket_history.specs.Histories.{History}
+use Rattle.docket_history.specs.Records.{case_record, deadline_lines}
+use Rattle.docket_history.specs.declared.record.CaseRecord.{CaseRecord}
+use Rattle.docket_history.specs.declared.record.DeadlineLine.{DeadlineLine}
 use Rattle.docket_text.specs.CaseTexts.{case_text}
 use Rattle.html_sheets.specs.Sites.{case_page}
 use Rattle.http_request.specs.declared.page.Page.TheVariants as page

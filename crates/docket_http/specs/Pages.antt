@@ -4,10 +4,10 @@ use Rattle.std.specs.List.{flat_map}
 use Rattle.std.specs.Option.{option_map}
 use Rattle.court_days.specs.Court.{CourtSettings}
 use Rattle.docket_calendar.specs.Calendar.{calendar_rows}
-use Rattle.docket_core.specs.Histories.{History, case_rows}
-use Rattle.docket_core.specs.Records.{case_at}
-use Rattle.docket_core.specs.declared.record.DueRow.{DueRow}
-use Rattle.docket_core.specs.declared.row.CaseRow.{CaseRow}
+use Rattle.docket_history.specs.Histories.{History, case_rows}
+use Rattle.docket_history.specs.Records.{case_at}
+use Rattle.docket_history.specs.declared.record.DueRow.{DueRow}
+use Rattle.docket_history.specs.declared.row.CaseRow.{CaseRow}
 use Rattle.html_sheets.specs.Sites.{cases_page, days_page_foot, days_page_head}
 use Rattle.html_sheets.specs.Weeks.{due_row}
 use Rattle.html_sheets.specs.declared.links.Links.TheVariants.{Pages}

@@ -2,7 +2,7 @@
 use Rattle.std.specs.Prelude.{◌≡◌, ◌≤◌, ◌⊎◌, ℕ, List, Option, Some, IfSome, Result, Ok, Err}
 use Rattle.std.specs.Io.KnownBytes.{Appends, Keeps}
 use Rattle.sqlite.specs.Store.{Ghosts}
-use Rattle.docket_core.specs.Histories.{History}
+use Rattle.docket_history.specs.Histories.{History}
 use Rattle.docket_store.specs.Dockets.{Docket}
 use Rattle.docket_store.specs.declared.fault.Fault.{Fault}
 use Rattle.docket_store.specs.declared.fault.Fault.TheVariants as fault

@@ -2,7 +2,7 @@
 ghost use Rattle.std.specs.Prelude.{◌≡◌, ◌≤◌, ℕ, List, IfOk, IfErr, Ok, Err, true};
 ghost use Rattle.sqlite.specs.Held.{state};
 ghost use Rattle.sqlite.specs.View.{doubt};
-ghost use Rattle.docket_core.specs.Histories.{History};
+ghost use Rattle.docket_history.specs.Histories.{History};
 ghost use Rattle.docket_store.specs.AnyRows.{HoldsDocketRows, WritesAtMostOne};
 ghost use Rattle.docket_store.specs.Applying.{Stands};
 ghost use Rattle.http_request.specs.declared.wish.Wish.TheVariants.{Command as CommandWish};

@@ -7,7 +7,7 @@ ghost use Rattle.sqlite.specs.Held.{state};
 ghost use Rattle.sqlite.specs.State.{HasCleanDisk};
 ghost use Rattle.sqlite.specs.View.{doubt};
 ghost use Rattle.docket_calendar.specs.Calendar.{calendar_rows};
-ghost use Rattle.docket_core.specs.Histories.{History};
+ghost use Rattle.docket_history.specs.Histories.{History};
 ghost use Rattle.docket_tables.specs.Layouts.{Rows};
 ghost use Rattle.docket_tables.specs.Stands.{HoldsRows};
 ghost use Rattle.docket_store.specs.AnyRows.{Preserves};
@@ -22,7 +22,7 @@ ghost use Rattle.docket_http.specs.Pages.{caption_of, cases_from, days_page, due
 use crate::asking::{Telling, case_reply};
 use crate::reply::{Reply, html_reply};
 use court_days::Day;
-use docket_core::{CaseRow, DueRow};
+use docket_history::{CaseRow, DueRow};
 use docket_store::{Docket, Fault};
 use html_sheets::{Links, cases_page, days_page_foot, days_page_head, due_row};
 use http_request::Page;

@@ -13,9 +13,9 @@ use Rattle.court_days.specs.Court.{CourtSettings}
 use Rattle.docket_columns.specs.Cells.{court_cells, court_cells_of, settings_of, local_rule_cells, short_day_cells}
 use Rattle.docket_columns.specs.declared.version.Version.{Version}
 use Rattle.docket_columns.specs.declared.version.Version.TheVariants.{First, Second}
-use Rattle.docket_core.specs.Histories.{History}
-use Rattle.docket_core.specs.ShortDays.{short_day_rows}
-use Rattle.docket_core.specs.Tables.{Tables, rows_of}
+use Rattle.docket_history.specs.Histories.{History}
+use Rattle.docket_history.specs.ShortDays.{short_day_rows}
+use Rattle.docket_decisions.specs.Tables.{Tables, rows_of}
 use Rattle.docket_tables.specs.Contents.{rows_by, rows_in}
 use Rattle.docket_tables.specs.Layouts.{Rows, AreRowsIn}
 use Rattle.docket_tables.specs.Schema.{schema_of}

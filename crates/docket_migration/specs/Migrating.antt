@@ -7,8 +7,8 @@ use Rattle.sqlite.specs.State.{State, HasCleanDisk}
 use Rattle.sqlite.specs.Held.{Held, state}
 use Rattle.court_days.specs.Court.{CourtSettings}
 use Rattle.docket_columns.specs.declared.version.Version.TheVariants.{First, Second}
-use Rattle.docket_core.specs.Histories.{History}
-use Rattle.docket_core.specs.Tables.{rows_of}
+use Rattle.docket_history.specs.Histories.{History}
+use Rattle.docket_decisions.specs.Tables.{rows_of}
 use Rattle.docket_tables.specs.Contents.{rows_by, rows_in}
 use Rattle.docket_tables.specs.Stands.{HoldsRows, MakesNothing}
 use Rattle.docket_scan.specs.Finding.{AreSound, HasCause}

@@ -9,14 +9,14 @@ use Rattle.court_days.specs.Court.{CourtSettings}
 use Rattle.court_rules.specs.Acts.{acts_ok, is_within}
 use Rattle.court_rules.specs.declared.act.Act.{Act}
 use Rattle.docket_command.specs.declared.command.Action.{Action}
-use Rattle.docket_core.specs.Actions.{deadline_named, deadlines_made, acts_made}
-use Rattle.docket_core.specs.Histories.{History, case_number, deadline_number, deadline_rows, deadlines_of_case, act_rows, acts_of_deadline, first_acts, first_acts_from, later_acts, act_rows_on, rule_found}
-use Rattle.docket_core.specs.Outcomes.{IsHistory}
-use Rattle.docket_core.specs.declared.row.ActRow.{ActRow}
-use Rattle.docket_core.proofs.InOrderLemmas.{same_number}
-use Rattle.docket_core.proofs.Leading.{seen, none_acted, none_acted_in}
-use Rattle.docket_core.proofs.LimitsKept.{IsPassed, passed, all_kept, there_is, named_there, within_limits}
-use Rattle.docket_core.proofs.Passed.{left_true, right_true}
+use Rattle.docket_history.specs.Actions.{deadline_named, deadlines_made, acts_made}
+use Rattle.docket_history.specs.Histories.{History, case_number, deadline_number, deadline_rows, deadlines_of_case, act_rows, acts_of_deadline, first_acts, first_acts_from, later_acts, act_rows_on, rule_found}
+use Rattle.docket_decisions.specs.Outcomes.{IsHistory}
+use Rattle.docket_history.specs.declared.row.ActRow.{ActRow}
+use Rattle.docket_decisions.proofs.InOrderLemmas.{same_number}
+use Rattle.docket_decisions.proofs.Leading.{seen, none_acted, none_acted_in}
+use Rattle.docket_decisions.proofs.LimitsKept.{IsPassed, passed, all_kept, there_is, named_there, within_limits}
+use Rattle.docket_decisions.proofs.Passed.{left_true, right_true}
 use Rattle.docket_wire.specs.Valid.{IsCommand}
 use Rattle.docket_columns.specs.Fits.{IsCount, IsAct, IsActRow}
 use Rattle.docket_orderly.specs.Orderly.{RunsFrom, acts_on}

@@ -31,11 +31,11 @@ use Rattle.docket_command.specs.declared.new_day.NewDay.{NewDay}
 use Rattle.docket_command.specs.declared.time_action.OrderPeriod as order_period
 use Rattle.docket_command.specs.Moments.{IsWholeMinute}
 use Rattle.docket_command.proofs.MomentLemmas.{moment_fits}
-use Rattle.docket_core.specs.Actions.{FoundRule, rows_asked, imported, begun_by, begun, timed, timed_or_set, answer_rule, answer_from, waiver_rule, pleading_rule, judgment_times, statement_ordered, day_ordered, hours_ordered, ordered, court_ordered, local_time, deadlines_made, ruled, extension, acts_made}
-use Rattle.docket_core.specs.Histories.{case_number, deadline_number}
-use Rattle.docket_core.specs.declared.item.CalendarItem.{CalendarItem}
-use Rattle.docket_core.specs.declared.item.CalendarItem.TheVariants.{Short}
-use Rattle.docket_core.proofs.Passed.{left_true, right_true}
+use Rattle.docket_history.specs.Actions.{FoundRule, rows_asked, imported, begun_by, begun, timed, timed_or_set, answer_rule, answer_from, waiver_rule, pleading_rule, judgment_times, statement_ordered, day_ordered, hours_ordered, ordered, court_ordered, local_time, deadlines_made, ruled, extension, acts_made}
+use Rattle.docket_history.specs.Histories.{case_number, deadline_number}
+use Rattle.docket_history.specs.declared.item.CalendarItem.{CalendarItem}
+use Rattle.docket_history.specs.declared.item.CalendarItem.TheVariants.{Short}
+use Rattle.docket_decisions.proofs.Passed.{left_true, right_true}
 use Rattle.docket_wire.specs.Valid.{IsAction, IsNewDay, IsMinute}
 use Rattle.docket_columns.specs.Codes.{unit_count}
 use Rattle.docket_columns.specs.Fits.{IsCount, IsItem, IsNameOf, IsAct}

@@ -3,14 +3,14 @@ use Rattle.std.proofs.Common.{◌≡◌, ℕ, suc, ◌+◌, ◌<◌, ◌≤◌, 
 use Rattle.std.specs.Prelude.{◌==◌, if◌then◌else◌}
 use Rattle.std.specs.List.{AllByRecursion}
 use Rattle.std.proofs.lemmas.List.{map-append, length-map}
-use Rattle.docket_core.specs.Actions.{rows_asked, row_withdrawn}
-use Rattle.docket_core.specs.CalendarItems.{stands_among, fresh}
-use Rattle.docket_core.specs.Histories.{History, items_of, numbered, without_row, standing_rows, next_row, rows_added}
-use Rattle.docket_core.specs.ShortDays.{day_and_span_rows, short_day_rows}
-use Rattle.docket_core.specs.declared.item.CalendarItem.{CalendarItem}
-use Rattle.docket_core.specs.declared.item.CalendarItem.TheVariants.{Day, Span, Short}
-use Rattle.docket_core.specs.declared.row.CalendarRow.{CalendarRow}
-use Rattle.docket_core.proofs.Leading.{length-numbered}
+use Rattle.docket_history.specs.Actions.{rows_asked, row_withdrawn}
+use Rattle.docket_history.specs.CalendarItems.{stands_among, fresh}
+use Rattle.docket_history.specs.Histories.{History, items_of, numbered, without_row, standing_rows, next_row, rows_added}
+use Rattle.docket_history.specs.ShortDays.{day_and_span_rows, short_day_rows}
+use Rattle.docket_history.specs.declared.item.CalendarItem.{CalendarItem}
+use Rattle.docket_history.specs.declared.item.CalendarItem.TheVariants.{Day, Span, Short}
+use Rattle.docket_history.specs.declared.row.CalendarRow.{CalendarRow}
+use Rattle.docket_decisions.proofs.Leading.{length-numbered}
 use Rattle.docket_wire.specs.Valid.{IsCommand}
 use Rattle.docket_columns.specs.Fits.{IsCount, IsNameOf, IsCalendarRow, IsShortDayRow}
 use Rattle.docket_orderly.specs.Orderly.{Rises, RunsFrom}

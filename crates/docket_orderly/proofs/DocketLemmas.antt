@@ -1,10 +1,10 @@
 -- The tables of a docket are orderly.
 use Rattle.std.specs.List.{AllByRecursion}
 use Rattle.court_days.specs.Court.{CourtSettings}
-use Rattle.docket_core.specs.Histories.{History}
-use Rattle.docket_core.specs.Outcomes.{IsHistory}
-use Rattle.docket_core.specs.Tables.{rows_of}
-use Rattle.docket_core.proofs.LimitsKept.{within_limits}
+use Rattle.docket_history.specs.Histories.{History}
+use Rattle.docket_decisions.specs.Outcomes.{IsHistory}
+use Rattle.docket_decisions.specs.Tables.{rows_of}
+use Rattle.docket_decisions.proofs.LimitsKept.{within_limits}
 use Rattle.docket_wire.specs.Valid.{IsCommand}
 use Rattle.docket_orderly.specs.Orderly.{IsCourtSettings, IsOrderly}
 use Rattle.docket_orderly.proofs.ActLemmas.{acts_held, acts_run}

@@ -7,12 +7,12 @@ use Rattle.std.proofs.lemmas.List.Elements.{filter-append}
 use Rattle.court_days.specs.Court.{CourtSettings}
 use Rattle.docket_command.specs.declared.command.Action.{Action}
 use Rattle.docket_command.specs.declared.command.Action.TheVariants as action
-use Rattle.docket_core.specs.Histories.{History, case_rows, new_case}
-use Rattle.docket_core.specs.Outcomes.{IsHistory, shown, shown_fresh}
-use Rattle.docket_core.specs.Refusals.{is_there}
-use Rattle.docket_core.specs.declared.row.CaseRow.{CaseRow}
-use Rattle.docket_core.proofs.Leading.{is_accepted}
-use Rattle.docket_core.proofs.Passed.{is_free}
+use Rattle.docket_history.specs.Histories.{History, case_rows, new_case}
+use Rattle.docket_decisions.specs.Outcomes.{IsHistory, shown, shown_fresh}
+use Rattle.docket_decisions.specs.Refusals.{is_there}
+use Rattle.docket_history.specs.declared.row.CaseRow.{CaseRow}
+use Rattle.docket_decisions.proofs.Leading.{is_accepted}
+use Rattle.docket_decisions.proofs.Passed.{is_free}
 use Rattle.docket_orderly.specs.Orderly.{cases_labelled}
 
 none_if : (b more : Bool) (row : CaseRow) (rest : List CaseRow) → (b || more) ≡ false → (more ≡ false → rest ≡ []) → cond b (row ∷ rest) rest ≡ []

@@ -2,7 +2,7 @@
 use Rattle.std.proofs.Common.{◌≡◌, ℕ, suc, ◌+◌, ◌<◌, Bool, true, false, cond, List, [], ◌∷◌, ◌++◌, map, length, subst, arith}
 use Rattle.std.specs.Prelude.{filter}
 use Rattle.std.specs.List.{AllByRecursion}
-use Rattle.docket_core.specs.InOrder.{numbered_by}
+use Rattle.docket_history.specs.InOrder.{numbered_by}
 use Rattle.docket_orderly.specs.Orderly.{Rises, RunsFrom}
 
 -- what holds of all

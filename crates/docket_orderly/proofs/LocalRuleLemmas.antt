@@ -9,15 +9,15 @@ use Rattle.court_days.specs.Court.{CourtSettings}
 use Rattle.court_rules.specs.LocalRules.{is_local_rule}
 use Rattle.docket_command.specs.declared.command.Action.{Action}
 use Rattle.docket_command.specs.declared.command.Action.TheVariants as action
-use Rattle.docket_core.specs.Histories.{History, local_rule_in, local_rule_rows, new_local_rule, rule_found}
-use Rattle.docket_core.specs.InOrder.{in_order, local_rule_row, rule_entered}
-use Rattle.docket_core.specs.Outcomes.{IsHistory, shown, shown_fresh}
-use Rattle.docket_core.specs.Refusals.{is_there}
-use Rattle.docket_core.specs.declared.row.LocalRuleRow.{LocalRuleRow}
-use Rattle.docket_core.proofs.InOrderLemmas.{rules_in_order}
-use Rattle.docket_core.proofs.Leading.{is_accepted}
-use Rattle.docket_core.proofs.LimitsKept.{rules_lawful, within_limits}
-use Rattle.docket_core.proofs.Passed.{is_free}
+use Rattle.docket_history.specs.Histories.{History, local_rule_in, local_rule_rows, new_local_rule, rule_found}
+use Rattle.docket_history.specs.InOrder.{in_order, local_rule_row, rule_entered}
+use Rattle.docket_decisions.specs.Outcomes.{IsHistory, shown, shown_fresh}
+use Rattle.docket_decisions.specs.Refusals.{is_there}
+use Rattle.docket_history.specs.declared.row.LocalRuleRow.{LocalRuleRow}
+use Rattle.docket_decisions.proofs.InOrderLemmas.{rules_in_order}
+use Rattle.docket_decisions.proofs.Leading.{is_accepted}
+use Rattle.docket_decisions.proofs.LimitsKept.{rules_lawful, within_limits}
+use Rattle.docket_decisions.proofs.Passed.{is_free}
 use Rattle.docket_wire.specs.Valid.{IsAction, IsCommand}
 use Rattle.docket_columns.specs.Fits.{IsLocalRuleRow}
 use Rattle.docket_orderly.specs.Orderly.{RunsFrom, local_rules_named}

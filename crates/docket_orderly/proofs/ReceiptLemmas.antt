@@ -15,24 +15,24 @@ use Rattle.docket_command.specs.declared.command.Command.{Command}
 use Rattle.docket_command.specs.declared.refusal.Refusal.{Refusal}
 use Rattle.docket_command.specs.declared.refusal.Refusal.TheVariants as refusal
 use Rattle.docket_command.specs.declared.refusal.Reply.{Reply}
-use Rattle.docket_core.specs.Actions.{case_named, asks_deadlines, if_asked, day_row}
-use Rattle.docket_core.specs.CalendarItems.{calendar_of}
-use Rattle.docket_core.specs.Histories.{History, case_rows, deadline_rows, act_rows, deadlines_of_case, deadlines}
-use Rattle.docket_core.specs.Limits.{IsWithinLimits}
-use Rattle.docket_core.specs.Outcomes.{IsHistory, accepted, answer_kept, answer_by, repeated, refused, case_of_number, kept, kept_by, receipts, reply_to, replied, shown, shown_fresh}
-use Rattle.docket_core.specs.Refusals.{on, on_value, first_some, is_reused, is_there, is_full, count_added, wants_statement, refusal_of, state_refusals}
-use Rattle.docket_core.specs.Times.{standing_shown, is_in_time}
-use Rattle.docket_core.specs.Views.{parties_in, entries_in, count_deadlines}
-use Rattle.docket_core.specs.Values.{is_word, first_bad, bad_values}
-use Rattle.docket_core.specs.declared.item.CalendarItem.TheVariants.{Span, Short}
-use Rattle.docket_core.specs.declared.row.Receipt.{Receipt}
-use Rattle.docket_core.specs.declared.view.Kept.{Kept}
-use Rattle.docket_core.specs.declared.view.Kept.TheVariants.{Fresh, Same, Other}
-use Rattle.docket_core.specs.declared.view.View.{View}
-use Rattle.docket_core.proofs.GoodValues.{or_off}
-use Rattle.docket_core.proofs.Leading.{is_accepted, case_numbered, length-deadlines_from}
-use Rattle.docket_core.proofs.LimitsKept.{within_limits}
-use Rattle.docket_core.proofs.Passed.{is_free, rows_fit, not_above, not_at}
+use Rattle.docket_history.specs.Actions.{case_named, asks_deadlines, if_asked, day_row}
+use Rattle.docket_history.specs.CalendarItems.{calendar_of}
+use Rattle.docket_history.specs.Histories.{History, case_rows, deadline_rows, act_rows, deadlines_of_case, deadlines}
+use Rattle.docket_history.specs.Limits.{IsWithinLimits}
+use Rattle.docket_decisions.specs.Outcomes.{IsHistory, accepted, answer_kept, answer_by, repeated, refused, case_of_number, kept, kept_by, receipts, reply_to, replied, shown, shown_fresh}
+use Rattle.docket_decisions.specs.Refusals.{on, on_value, first_some, is_reused, is_there, is_full, count_added, wants_statement, refusal_of, state_refusals}
+use Rattle.docket_history.specs.Times.{standing_shown, is_in_time}
+use Rattle.docket_history.specs.Views.{parties_in, entries_in, count_deadlines}
+use Rattle.docket_values.specs.Values.{is_word, first_bad, bad_values}
+use Rattle.docket_history.specs.declared.item.CalendarItem.TheVariants.{Span, Short}
+use Rattle.docket_history.specs.declared.row.Receipt.{Receipt}
+use Rattle.docket_history.specs.declared.view.Kept.{Kept}
+use Rattle.docket_history.specs.declared.view.Kept.TheVariants.{Fresh, Same, Other}
+use Rattle.docket_history.specs.declared.view.View.{View}
+use Rattle.docket_decisions.proofs.GoodValues.{or_off}
+use Rattle.docket_decisions.proofs.Leading.{is_accepted, case_numbered, length-deadlines_from}
+use Rattle.docket_decisions.proofs.LimitsKept.{within_limits}
+use Rattle.docket_decisions.proofs.Passed.{is_free, rows_fit, not_above, not_at}
 use Rattle.docket_wire.specs.Valid.{IsAction, IsCommand}
 use Rattle.docket_columns.specs.Fits.{IsCount, IsReceipt}
 use Rattle.docket_orderly.specs.Orderly.{receipts_under}

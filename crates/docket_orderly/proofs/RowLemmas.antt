@@ -4,16 +4,16 @@ use Rattle.std.specs.List.{AllByRecursion, filter_map}
 use Rattle.court_days.specs.Court.{CourtSettings}
 use Rattle.docket_command.specs.declared.command.Action.{Action}
 use Rattle.docket_command.specs.declared.command.Action.TheVariants as action
-use Rattle.docket_core.specs.Actions.{deadlines_made}
-use Rattle.docket_core.specs.Histories.{History, case_number, case_rows, party_rows, entry_rows, deadline_rows, parties_of_case, entries_of_case, deadlines_of_case, new_case, new_party, new_entry, new_deadlines, deadline_rows_from, rule_found}
-use Rattle.docket_core.specs.InOrder.{in_order, asked_in_order, gathered, opened, case_row, party_added, party_row, entry_filed, entry_row, made_in}
-use Rattle.docket_core.specs.Outcomes.{IsHistory}
-use Rattle.docket_core.specs.declared.row.CaseRow.{CaseRow}
-use Rattle.docket_core.specs.declared.row.PartyRow.{PartyRow}
-use Rattle.docket_core.specs.declared.row.EntryRow.{EntryRow}
-use Rattle.docket_core.specs.declared.row.DeadlineRow.{DeadlineRow}
-use Rattle.docket_core.proofs.InOrderLemmas.{cases_in_order, parties_in_order, entries_in_order, deadlines_in_order}
-use Rattle.docket_core.proofs.LimitsKept.{within_limits}
+use Rattle.docket_history.specs.Actions.{deadlines_made}
+use Rattle.docket_history.specs.Histories.{History, case_number, case_rows, party_rows, entry_rows, deadline_rows, parties_of_case, entries_of_case, deadlines_of_case, new_case, new_party, new_entry, new_deadlines, deadline_rows_from, rule_found}
+use Rattle.docket_history.specs.InOrder.{in_order, asked_in_order, gathered, opened, case_row, party_added, party_row, entry_filed, entry_row, made_in}
+use Rattle.docket_decisions.specs.Outcomes.{IsHistory}
+use Rattle.docket_history.specs.declared.row.CaseRow.{CaseRow}
+use Rattle.docket_history.specs.declared.row.PartyRow.{PartyRow}
+use Rattle.docket_history.specs.declared.row.EntryRow.{EntryRow}
+use Rattle.docket_history.specs.declared.row.DeadlineRow.{DeadlineRow}
+use Rattle.docket_decisions.proofs.InOrderLemmas.{cases_in_order, parties_in_order, entries_in_order, deadlines_in_order}
+use Rattle.docket_decisions.proofs.LimitsKept.{within_limits}
 use Rattle.docket_wire.specs.Valid.{IsAction, IsCommand}
 use Rattle.docket_columns.specs.Fits.{IsCount, IsCaseRow, IsPartyRow, IsEntryRow, IsDeadlineRow}
 use Rattle.docket_orderly.specs.Orderly.{RunsFrom}

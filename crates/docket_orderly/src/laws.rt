@@ -1,9 +1,9 @@
 //! What the definitions of specs/ say, with nothing to run.
 ghost use Rattle.std.specs.List.{AllByRecursion};
 ghost use Rattle.court_days.specs.Court.{CourtSettings};
-ghost use Rattle.docket_core.specs.Histories.{History};
-ghost use Rattle.docket_core.specs.Outcomes.{IsHistory};
-ghost use Rattle.docket_core.specs.Tables.{rows_of};
+ghost use Rattle.docket_history.specs.Histories.{History};
+ghost use Rattle.docket_decisions.specs.Outcomes.{IsHistory};
+ghost use Rattle.docket_decisions.specs.Tables.{rows_of};
 ghost use Rattle.docket_wire.specs.Valid.{IsCommand};
 ghost use Rattle.docket_orderly.specs.Orderly.{IsCourtSettings, IsOrderly};
 

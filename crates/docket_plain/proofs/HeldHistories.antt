@@ -2,11 +2,11 @@
 use Rattle.std.proofs.Common.{◌≡◌, List, [], ◌∷◌, ◌++◌, length, map, reverse, refl, sym, ap, subst, ◌∙◌, arith}
 use Rattle.std.proofs.lemmas.List.{map-append, reverse-append}
 use Rattle.court_days.specs.Court.{CourtSettings}
-use Rattle.docket_core.proofs.LimitsKept.{within_limits}
-use Rattle.docket_core.specs.Histories.{History, parties_of_case, entries_of_case, deadlines_of_case}
-use Rattle.docket_core.specs.Outcomes.{receipts, IsHistory}
-use Rattle.docket_core.specs.Tables.{rows_of}
-use Rattle.docket_core.specs.declared.row.Receipt.{Receipt}
+use Rattle.docket_decisions.proofs.LimitsKept.{within_limits}
+use Rattle.docket_history.specs.Histories.{History, parties_of_case, entries_of_case, deadlines_of_case}
+use Rattle.docket_decisions.specs.Outcomes.{receipts, IsHistory}
+use Rattle.docket_decisions.specs.Tables.{rows_of}
+use Rattle.docket_history.specs.declared.row.Receipt.{Receipt}
 use Rattle.docket_plain.specs.Dockets.{history_of, IsDocket}
 use Rattle.docket_plain.specs.Vectors.{lists_of, AreSmall}
 use Rattle.docket_plain.specs.declared.vectors.Vectors.{Vectors}

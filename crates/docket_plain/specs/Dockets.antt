@@ -3,12 +3,12 @@ use Rattle.std.specs.Prelude.{◌≡◌, List, [], ◌∷◌, map, reverse, Resu
 use Rattle.court_days.specs.Court.{CourtSettings}
 use Rattle.docket_command.specs.declared.command.Command.{Command}
 use Rattle.docket_command.specs.declared.refusal.Reply.{Reply}
-use Rattle.docket_core.specs.Histories.{History}
-use Rattle.docket_core.specs.Outcomes.{Answer, repeated, refused, accepted, after, IsHistory}
-use Rattle.docket_core.specs.Tables.{rows_of}
-use Rattle.docket_core.specs.declared.decision.DecideFault.{DecideFault}
-use Rattle.docket_core.specs.declared.decision.DecideFault.TheVariants.{Refused, NoMemory}
-use Rattle.docket_core.specs.declared.row.Receipt.{Receipt}
+use Rattle.docket_history.specs.Histories.{History}
+use Rattle.docket_decisions.specs.Outcomes.{Answer, repeated, refused, accepted, after, IsHistory}
+use Rattle.docket_decisions.specs.Tables.{rows_of}
+use Rattle.docket_decisions.specs.declared.decision.DecideFault.{DecideFault}
+use Rattle.docket_decisions.specs.declared.decision.DecideFault.TheVariants.{Refused, NoMemory}
+use Rattle.docket_history.specs.declared.row.Receipt.{Receipt}
 use Rattle.docket_plain.specs.Vectors.{lists_of}
 use Rattle.docket_plain.specs.declared.vectors.Vectors.{Vectors}
 

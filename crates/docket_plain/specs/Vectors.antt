@@ -1,7 +1,7 @@
 -- The tables as vectors hold them.
 use Rattle.std.specs.Prelude.{ℕ, ◌+◌, ◌<◌, ◌≤◌, ◌^◌, [], length, vec_len, vec_capacity}
-use Rattle.docket_core.specs.Histories.{parties_of_case, entries_of_case, deadlines_of_case}
-use Rattle.docket_core.specs.Tables.{Tables}
+use Rattle.docket_history.specs.Histories.{parties_of_case, entries_of_case, deadlines_of_case}
+use Rattle.docket_decisions.specs.Tables.{Tables}
 use Rattle.docket_plain.specs.declared.vectors.Vectors.{Vectors}
 
 -- the rows in the vectors

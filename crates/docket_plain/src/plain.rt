@@ -1,9 +1,9 @@
 //! The docket in vectors.
 ghost use Rattle.std.specs.Prelude.{◌≡◌, [], Err, OnOk, IfOk};
-ghost use Rattle.docket_core.specs.Outcomes.{outcome, run, answers};
+ghost use Rattle.docket_decisions.specs.Outcomes.{outcome, run, answers};
 ghost use Rattle.std.specs.Option.{option_map};
-ghost use Rattle.docket_core.specs.Records.{case_record, deadline_lines};
-ghost use Rattle.docket_core.specs.declared.decision.DecideFault.TheVariants as Fault;
+ghost use Rattle.docket_history.specs.Records.{case_record, deadline_lines};
+ghost use Rattle.docket_decisions.specs.declared.decision.DecideFault.TheVariants as Fault;
 ghost use Rattle.docket_plain.specs.Dockets.{history_of, IsDocket, IsReply, AreReplies, history_after, docket_after};
 
 use crate::reading::{case_record, lines_of_case};
@@ -11,7 +11,8 @@ use crate::vectors::{Vectors, enter};
 use crate::viewing::view_of;
 use court_days::Court;
 use docket_command::{Command, Reply};
-use docket_core::{CaseRecord, DeadlineLine, DecideFault, Decision, decide};
+use docket_decisions::{DecideFault, Decision, decide};
+use docket_history::{CaseRecord, DeadlineLine};
 use std::alloc::{AllocError, Global};
 use std::marker::Model;
 

@@ -1,14 +1,14 @@
 //! What the tables tell of a case and its deadlines.
 ghost use Rattle.std.specs.Prelude.{◌≡◌, ◌==◌, option_copied, IfOk};
 ghost use Rattle.std.specs.Option.{option_map};
-ghost use Rattle.docket_core.specs.Histories.{parties_of_case, entries_of_case};
-ghost use Rattle.docket_core.specs.Records.{case_at, record_of, deadline_lines};
+ghost use Rattle.docket_history.specs.Histories.{parties_of_case, entries_of_case};
+ghost use Rattle.docket_history.specs.Records.{case_at, record_of, deadline_lines};
 ghost use Rattle.docket_plain.specs.Dockets.{history_of, IsDocket};
 
 use crate::vectors::Vectors;
 use crate::viewing::{deadlines_of, items_of};
 use court_days::Court;
-use docket_core::{
+use docket_history::{
     CaseRecord, CaseRow, DeadlineLine, EntryRow, EntryRows, PartyRow, PartyRows, calendar_of,
     deadline_lines,
 };

@@ -1,12 +1,12 @@
 //! The tables in vectors.
 ghost use Rattle.std.specs.Prelude.{◌≡◌, ℕ, ◌==◌, not, ◌+◌, ◌<◌, ◌≤◌, ◌^◌, length, filter, OnOk, OnErr, IfOk, vec_len, vec_capacity};
-ghost use Rattle.docket_core.specs.Tables.{changed, all_changed, with_receipt};
+ghost use Rattle.docket_decisions.specs.Tables.{changed, all_changed, with_receipt};
 ghost use Rattle.docket_plain.specs.Vectors.{lists_of, AreSmall, HasRoom, no_rows};
 
 use docket_command::{Command, Reply};
-use docket_core::{
-    ActRow, CalendarRow, CaseRow, Change, Changes, DeadlineRow, EntryRow, LocalRuleRow, PartyRow,
-    Receipt,
+use docket_decisions::Changes;
+use docket_history::{
+    ActRow, CalendarRow, CaseRow, Change, DeadlineRow, EntryRow, LocalRuleRow, PartyRow, Receipt,
 };
 use std::alloc::{AllocError, Global};
 

@@ -3,17 +3,17 @@ ghost use Rattle.std.specs.Prelude.{◌≡◌, ◌==◌, ◌&&◌, ◌<◌, ◌^
 ghost use Rattle.std.specs.List.{find, list_any};
 ghost use Rattle.std.specs.Option.{option_and_then};
 ghost use Rattle.std.specs.Str.{bytes_eq};
-ghost use Rattle.docket_core.specs.Actions.{case_named, asks_calendar, asks_cases, asks_next_row, asks_local_rules, if_asked};
-ghost use Rattle.docket_core.specs.Histories.{local_rule_in, acts_of_deadline, deadlines_of_case, deadlines_from, parties_of_case, entries_of_case, items_of};
-ghost use Rattle.docket_core.specs.Outcomes.{kept, is_label_taken, is_row_standing};
-ghost use Rattle.docket_core.specs.Tables.{case_in, view_in};
-ghost use Rattle.docket_core.specs.Views.{named_in, rule_name_asked};
+ghost use Rattle.docket_history.specs.Actions.{case_named, asks_calendar, asks_cases, asks_next_row, asks_local_rules, if_asked};
+ghost use Rattle.docket_history.specs.Histories.{local_rule_in, acts_of_deadline, deadlines_of_case, deadlines_from, parties_of_case, entries_of_case, items_of};
+ghost use Rattle.docket_decisions.specs.Outcomes.{kept, is_label_taken, is_row_standing};
+ghost use Rattle.docket_decisions.specs.Tables.{case_in, view_in};
+ghost use Rattle.docket_history.specs.Views.{named_in, rule_name_asked};
 ghost use Rattle.docket_plain.specs.Vectors.{lists_of, AreSmall};
 
 use crate::vectors::Vectors;
 use court_rules::Act;
 use docket_command::{Action, Command, LocalRule, Text};
-use docket_core::{
+use docket_history::{
     ActRow, Acts, CalendarItem, CalendarItems, CalendarRow, CaseRow, CaseView, DeadlineView,
     EntryRow, Kept, LocalRuleRow, PartyRow, Receipt, View, asks_calendar, asks_cases,
     asks_local_rules, asks_next_row, case_named, rule_name_asked,

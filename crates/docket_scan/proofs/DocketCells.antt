@@ -18,13 +18,13 @@ use Rattle.court_rules.specs.declared.act.MotionKind.TheVariants.{B, E, F}
 use Rattle.court_rules.specs.declared.act.Start.TheVariants as start
 use Rattle.court_rules.specs.declared.table.Period.{Period}
 use Rattle.court_rules.specs.declared.table.Period.TheVariants.{Days, Months}
-use Rattle.docket_core.specs.Histories.{items_of}
-use Rattle.docket_core.specs.declared.item.CalendarItem.{CalendarItem}
-use Rattle.docket_core.specs.declared.item.CalendarItem.TheVariants as item
-use Rattle.docket_core.specs.declared.row.ActRow.{ActRow}
-use Rattle.docket_core.specs.declared.row.CalendarRow.{CalendarRow}
-use Rattle.docket_core.specs.declared.row.DeadlineRow.{DeadlineRow}
-use Rattle.docket_core.specs.declared.row.PartyRow.{PartyRow}
+use Rattle.docket_history.specs.Histories.{items_of}
+use Rattle.docket_history.specs.declared.item.CalendarItem.{CalendarItem}
+use Rattle.docket_history.specs.declared.item.CalendarItem.TheVariants as item
+use Rattle.docket_history.specs.declared.row.ActRow.{ActRow}
+use Rattle.docket_history.specs.declared.row.CalendarRow.{CalendarRow}
+use Rattle.docket_history.specs.declared.row.DeadlineRow.{DeadlineRow}
+use Rattle.docket_history.specs.declared.row.PartyRow.{PartyRow}
 use Rattle.docket_columns.specs.Cells.{calendar_cells, party_cells, deadline_cells, act_cells}
 use Rattle.docket_columns.specs.Codes.{item_code, act_code, unit_number, unit_count, direction_number, flag_number}
 use Rattle.docket_sound.specs.Deadlines.{deadline_key}

@@ -6,13 +6,13 @@ use Rattle.sqlite_trees.proofs.ListLemmas.{map-map}
 use Rattle.court_days.specs.Court.{CourtSettings, zone_of}
 use Rattle.court_rules.specs.Standings.{standing}
 use Rattle.court_rules.specs.declared.act.Standing.{Standing}
-use Rattle.docket_core.specs.CalendarItems.{calendar_of}
-use Rattle.docket_core.specs.Histories.{History, items_of, standing_rows, deadline_rows, act_rows, acts_of_deadline}
-use Rattle.docket_core.specs.Outcomes.{IsHistory, receipts}
-use Rattle.docket_core.specs.ShortDays.{day_and_span_rows}
-use Rattle.docket_core.specs.declared.row.ActRow.{ActRow}
-use Rattle.docket_core.specs.declared.row.CalendarRow.{CalendarRow}
-use Rattle.docket_core.specs.declared.row.DeadlineRow.{DeadlineRow}
+use Rattle.docket_history.specs.CalendarItems.{calendar_of}
+use Rattle.docket_history.specs.Histories.{History, items_of, standing_rows, deadline_rows, act_rows, acts_of_deadline}
+use Rattle.docket_decisions.specs.Outcomes.{IsHistory, receipts}
+use Rattle.docket_history.specs.ShortDays.{day_and_span_rows}
+use Rattle.docket_history.specs.declared.row.ActRow.{ActRow}
+use Rattle.docket_history.specs.declared.row.CalendarRow.{CalendarRow}
+use Rattle.docket_history.specs.declared.row.DeadlineRow.{DeadlineRow}
 use Rattle.docket_columns.specs.Cells.{calendar_cells, act_cells}
 use Rattle.docket_sound.specs.Orders.{AreInOrder, calendar_order, act_order}
 use Rattle.docket_sound.specs.Standings.{standing_of_run, standings_of}

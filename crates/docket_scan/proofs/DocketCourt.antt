@@ -15,10 +15,10 @@ use Rattle.sqlite_schema.specs.Names.{same_name}
 use Rattle.sqlite_trees.proofs.ListLemmas.{all-permutation}
 use Rattle.civil_time.specs.ZoneText.{zone_at}
 use Rattle.court_days.specs.Court.{CourtSettings}
-use Rattle.docket_core.specs.Histories.{History, next_row}
-use Rattle.docket_core.specs.Outcomes.{IsHistory}
-use Rattle.docket_core.specs.Tables.{rows_of}
-use Rattle.docket_core.proofs.LimitsKept.{within_limits}
+use Rattle.docket_history.specs.Histories.{History, next_row}
+use Rattle.docket_decisions.specs.Outcomes.{IsHistory}
+use Rattle.docket_decisions.specs.Tables.{rows_of}
+use Rattle.docket_decisions.proofs.LimitsKept.{within_limits}
 use Rattle.docket_columns.specs.Cells.{court_cells_of}
 use Rattle.docket_columns.specs.declared.version.Version.{Version}
 use Rattle.docket_columns.specs.declared.version.Version.TheVariants.{First, Second}

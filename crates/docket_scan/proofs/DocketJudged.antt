@@ -13,12 +13,12 @@ use Rattle.sqlite.specs.State.{State, HasCleanDisk}
 use Rattle.sqlite.specs.Store.{Ghosts}
 use Rattle.court_days.specs.Court.{CourtSettings, zone_of}
 use Rattle.court_rules.specs.declared.act.Standing.{Standing}
-use Rattle.docket_core.specs.CalendarItems.{calendar_of}
-use Rattle.docket_core.specs.Histories.{History, items_of, next_row, standing_rows, case_rows, party_rows, entry_rows, deadline_rows, local_rule_rows}
-use Rattle.docket_core.specs.Outcomes.{IsHistory, receipts}
-use Rattle.docket_core.specs.ShortDays.{day_and_span_rows, short_day_rows}
-use Rattle.docket_core.specs.Tables.{rows_of}
-use Rattle.docket_core.specs.declared.row.LocalRuleRow.{LocalRuleRow}
+use Rattle.docket_history.specs.CalendarItems.{calendar_of}
+use Rattle.docket_history.specs.Histories.{History, items_of, next_row, standing_rows, case_rows, party_rows, entry_rows, deadline_rows, local_rule_rows}
+use Rattle.docket_decisions.specs.Outcomes.{IsHistory, receipts}
+use Rattle.docket_history.specs.ShortDays.{day_and_span_rows, short_day_rows}
+use Rattle.docket_decisions.specs.Tables.{rows_of}
+use Rattle.docket_history.specs.declared.row.LocalRuleRow.{LocalRuleRow}
 use Rattle.docket_columns.specs.Cells.{court_cells_of, calendar_cells, short_day_cells, case_cells, party_cells, entry_cells, deadline_cells, act_cells, receipt_cells, local_rule_cells}
 use Rattle.docket_columns.specs.declared.version.Version.{Version}
 use Rattle.docket_columns.specs.declared.version.Version.TheVariants.{First, Second}

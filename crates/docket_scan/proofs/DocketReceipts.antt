@@ -3,7 +3,7 @@ use Rattle.std.proofs.Common.{◌≡◌, ℕ, Bool, true, false, if◌then◌els
 use Rattle.std.proofs.lemmas.Str.{IsUtf8-from_is_utf8}
 use Rattle.std.specs.Str.{IsUtf8, is_utf8}
 use Rattle.docket_command.specs.declared.command.Command.{Command}
-use Rattle.docket_core.specs.declared.row.Receipt.{Receipt}
+use Rattle.docket_history.specs.declared.row.Receipt.{Receipt}
 use Rattle.docket_columns.specs.Fits.{IsReceipt}
 use Rattle.docket_sound.specs.Receipts.{receipt_row}
 use Rattle.docket_wire.specs.Members.{◌>>=◌, or_fault}

@@ -7,14 +7,14 @@ use Rattle.court_days.specs.Court.{CourtSettings}
 use Rattle.docket_command.specs.declared.command.Action.{Action}
 use Rattle.docket_command.specs.declared.command.Action.TheVariants as action
 use Rattle.docket_command.specs.declared.new_day.NewDay.{NewDay}
-use Rattle.docket_core.specs.Actions.{imported, row_withdrawn, rows_asked}
-use Rattle.docket_core.specs.CalendarItems.{fresh, is_short_day, stands_among}
-use Rattle.docket_core.specs.Histories.{History, items_of, local_rule_rows, new_local_rule, next_row, numbered, rows_added, standing_rows, without_row}
-use Rattle.docket_core.specs.ShortDays.{short_day_row, short_day_rows}
-use Rattle.docket_core.specs.declared.item.CalendarItem.{CalendarItem}
-use Rattle.docket_core.specs.declared.item.CalendarItem.TheVariants.{Day, Span, Short}
-use Rattle.docket_sound.proofs.Made.{NewRow}
-use Rattle.docket_core.specs.declared.row.CalendarRow.{CalendarRow}
+use Rattle.docket_history.specs.Actions.{imported, row_withdrawn, rows_asked}
+use Rattle.docket_history.specs.CalendarItems.{fresh, is_short_day, stands_among}
+use Rattle.docket_history.specs.Histories.{History, items_of, local_rule_rows, new_local_rule, next_row, numbered, rows_added, standing_rows, without_row}
+use Rattle.docket_history.specs.ShortDays.{short_day_row, short_day_rows}
+use Rattle.docket_history.specs.declared.item.CalendarItem.{CalendarItem}
+use Rattle.docket_history.specs.declared.item.CalendarItem.TheVariants.{Day, Span, Short}
+use Rattle.docket_history.specs.declared.item.NewRow.{NewRow}
+use Rattle.docket_history.specs.declared.row.CalendarRow.{CalendarRow}
 use Rattle.docket_columns.specs.declared.version.Version.TheVariants.{First, Second}
 use Rattle.docket_sound.specs.Receipts.{AreOfKnownKinds, is_known_kind}
 use Rattle.docket_sound.proofs.NumberLemmas.{all_both}

@@ -6,7 +6,7 @@ use Rattle.sqlite.specs.State.{State}
 use Rattle.court_days.specs.Court.{CourtSettings}
 use Rattle.court_rules.specs.LocalRules.{is_local_name, is_local_rule}
 use Rattle.court_rules.specs.declared.local_rule.LocalRule.{LocalRule}
-use Rattle.docket_core.specs.declared.row.LocalRuleRow.{LocalRuleRow}
+use Rattle.docket_history.specs.declared.row.LocalRuleRow.{LocalRuleRow}
 use Rattle.docket_columns.specs.Cells.{local_name_at, local_rule_cells}
 use Rattle.docket_columns.specs.declared.version.Version.TheVariants.{Second}
 use Rattle.docket_sound.specs.LocalRules.{is_sound_local_rule, rule_names}

@@ -3,8 +3,8 @@ use Rattle.std.specs.Prelude.{◌≡◌, false, List, map, length, Result, Ok, E
 use Rattle.court_days.specs.Court.{CourtSettings, zone_of}
 use Rattle.court_rules.specs.Standings.{standing}
 use Rattle.court_rules.specs.declared.act.Standing.{Standing}
-use Rattle.docket_core.specs.CalendarItems.{calendar_of}
-use Rattle.docket_core.specs.Histories.{History, items_of, standing_rows, case_rows, party_rows, entry_rows, deadline_rows, act_rows, acts_of_deadline, local_rule_rows}
+use Rattle.docket_history.specs.CalendarItems.{calendar_of}
+use Rattle.docket_history.specs.Histories.{History, items_of, standing_rows, case_rows, party_rows, entry_rows, deadline_rows, act_rows, acts_of_deadline, local_rule_rows}
 use Rattle.docket_columns.specs.declared.version.Version.{Version}
 use Rattle.docket_columns.specs.declared.version.Version.TheVariants.{First, Second}
 use Rattle.docket_sound.specs.Receipts.{AreOfKnownKinds}

@@ -1,8 +1,8 @@
 -- What the tables of a court's docket hold, counted.
 use Rattle.std.specs.Prelude.{◌+◌, length}
 use Rattle.court_days.specs.Court.{CourtSettings, zone_of}
-use Rattle.docket_core.specs.CalendarItems.{calendar_of}
-use Rattle.docket_core.specs.Histories.{items_of}
+use Rattle.docket_history.specs.CalendarItems.{calendar_of}
+use Rattle.docket_history.specs.Histories.{items_of}
 use Rattle.docket_sound.specs.Standings.{counts_of_standings, standings_of}
 use Rattle.docket_scan.specs.Judging.{Rows}
 use Rattle.docket_scan.specs.declared.holdings.Holdings.{Holdings}

@@ -7,17 +7,17 @@ use Rattle.sqlite.specs.declared.error.Error.{Error}
 use Rattle.sqlite.specs.declared.error.Error.TheVariants.{SqliteFailure, SqlInputError}
 use Rattle.sqlite.specs.declared.error.ErrorCode.TheVariants.{TypeMismatch, IntegerOverflow, OutOfMemory}
 use Rattle.court_days.specs.Court.{CourtSettings, zone_of}
-use Rattle.docket_core.specs.CalendarItems.{calendar_of}
-use Rattle.docket_core.specs.Histories.{items_of}
-use Rattle.docket_core.specs.declared.end_row.EndRow.{EndRow}
-use Rattle.docket_core.specs.declared.row.ActRow.{ActRow}
-use Rattle.docket_core.specs.declared.row.CalendarRow.{CalendarRow}
-use Rattle.docket_core.specs.declared.row.CaseRow.{CaseRow}
-use Rattle.docket_core.specs.declared.row.DeadlineRow.{DeadlineRow}
-use Rattle.docket_core.specs.declared.row.EntryRow.{EntryRow}
-use Rattle.docket_core.specs.declared.row.LocalRuleRow.{LocalRuleRow}
-use Rattle.docket_core.specs.declared.row.PartyRow.{PartyRow}
-use Rattle.docket_core.specs.declared.row.ShortDayRow.{ShortDayRow}
+use Rattle.docket_history.specs.CalendarItems.{calendar_of}
+use Rattle.docket_history.specs.Histories.{items_of}
+use Rattle.docket_decisions.specs.declared.end_row.EndRow.{EndRow}
+use Rattle.docket_history.specs.declared.row.ActRow.{ActRow}
+use Rattle.docket_history.specs.declared.row.CalendarRow.{CalendarRow}
+use Rattle.docket_history.specs.declared.row.CaseRow.{CaseRow}
+use Rattle.docket_history.specs.declared.row.DeadlineRow.{DeadlineRow}
+use Rattle.docket_history.specs.declared.row.EntryRow.{EntryRow}
+use Rattle.docket_history.specs.declared.row.LocalRuleRow.{LocalRuleRow}
+use Rattle.docket_history.specs.declared.row.PartyRow.{PartyRow}
+use Rattle.docket_history.specs.declared.row.ShortDayRow.{ShortDayRow}
 use Rattle.docket_columns.specs.Cells.{calendar_cells, short_day_cells, case_cells, party_cells, entry_cells, deadline_cells, act_cells, end_cells, local_rule_cells}
 use Rattle.docket_columns.specs.declared.version.Version.{Version}
 use Rattle.docket_columns.specs.declared.version.Version.TheVariants.{First, Second}

@@ -4,7 +4,7 @@ use Rattle.std.specs.List.{AllByRecursion}
 use Rattle.std.specs.Str.{IsUtf8}
 use Rattle.sqlite.specs.Order.{Row}
 use Rattle.court_days.specs.Court.{CourtSettings}
-use Rattle.docket_core.specs.declared.end_row.EndRow.{EndRow}
+use Rattle.docket_decisions.specs.declared.end_row.EndRow.{EndRow}
 use Rattle.docket_columns.specs.Cells.{calendar_cells, short_day_cells, case_cells, party_cells, entry_cells, deadline_cells, act_cells, end_cells, local_rule_cells, stored_cells}
 use Rattle.docket_columns.specs.Fits.{IsCount, IsCalendarRow, IsShortDayRow, IsCaseRow, IsPartyRow, IsEntryRow, IsDeadlineRow, IsActRow, IsEndRow, IsLocalRuleRow}
 use Rattle.docket_sound.specs.Acts.{AreSoundActs}

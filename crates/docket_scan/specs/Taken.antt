@@ -3,7 +3,7 @@ use Rattle.std.specs.Prelude.{◌≡◌, ◌↔◌, ℕ, Bool, IsTrue, List, [],
 use Rattle.sqlite.specs.Order.{Row}
 use Rattle.court_days.specs.Calendar.{Entered}
 use Rattle.court_days.specs.Court.{CourtSettings}
-use Rattle.docket_core.specs.declared.end_row.EndRow.{EndRow}
+use Rattle.docket_decisions.specs.declared.end_row.EndRow.{EndRow}
 use Rattle.docket_columns.specs.Cells.{HasWord, IsOfVersion, court_cells_of}
 use Rattle.docket_columns.specs.Fits.{IsCourtRow}
 use Rattle.docket_columns.specs.declared.version.Version.{Version}

@@ -2,9 +2,9 @@
 
 use crate::check::RecordCheck;
 use crate::receipt::StoredReceipt;
-use docket_core::{
-    ActRow, CalendarRow, CaseRow, DeadlineRow, EndRow, EntryRow, LocalRuleRow, PartyRow,
-    ShortDayRow,
+use docket_decisions::EndRow;
+use docket_history::{
+    ActRow, CalendarRow, CaseRow, DeadlineRow, EntryRow, LocalRuleRow, PartyRow, ShortDayRow,
 };
 use docket_sound::{
     ActCheck, CalendarCheck, CaseCheck, DeadlineCheck, DueCheck, EntryCheck, LocalRuleCheck,
@@ -167,7 +167,7 @@ impl RecordCheck for ReceiptCheck {
 
 impl RecordCheck for DueCheck {
     ghost use Rattle.std.specs.Prelude.{◌≡◌, List};
-    ghost use Rattle.docket_core.specs.declared.end_row.EndRow.{EndRow as Stored};
+    ghost use Rattle.docket_decisions.specs.declared.end_row.EndRow.{EndRow as Stored};
     ghost use Rattle.docket_sound.specs.Dues.{HasTakenDues};
     ghost use Rattle.docket_scan.specs.Taken.{ends_expected};
 

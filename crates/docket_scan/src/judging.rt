@@ -5,7 +5,7 @@ ghost use Rattle.sqlite.specs.State.{HasCleanDisk, Survives};
 ghost use Rattle.court_days.specs.Court.{CourtSettings, zone_of};
 ghost use Rattle.docket_columns.specs.declared.version.Version.{Version};
 ghost use Rattle.docket_columns.specs.declared.version.Version.TheVariants.{Second};
-ghost use Rattle.docket_core.specs.declared.row.ActRow.{ActRow as OnDeadline};
+ghost use Rattle.docket_history.specs.declared.row.ActRow.{ActRow as OnDeadline};
 ghost use Rattle.docket_sound.specs.Acts.{AreSoundActs, HasTakenActs};
 ghost use Rattle.docket_sound.specs.Counted.{cases_of, counts_of};
 ghost use Rattle.docket_sound.specs.Dues.{dues_of};
@@ -30,7 +30,7 @@ use crate::taker::{Records, Taker};
 use crate::watch::Watch;
 use court_days::Court;
 use docket_columns::Version;
-use docket_core::EndRow;
+use docket_decisions::EndRow;
 use docket_sound::{
     ActCheck, CalendarCheck, CaseCheck, DeadlineCheck, DueCheck, EntryCheck, KnownTexts,
     LocalRuleCheck, PartyCheck, ReceiptCheck, Standings,

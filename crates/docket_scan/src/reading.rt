@@ -1,15 +1,15 @@
 //! What is kept of the tables that were judged, for those behind them.
 ghost use Rattle.std.specs.Prelude.{◌≡◌, ℕ, [], List, length, IfOk};
-ghost use Rattle.docket_core.specs.CalendarItems.{calendar_of};
-ghost use Rattle.docket_core.specs.Histories.{items_of};
-ghost use Rattle.docket_core.specs.declared.row.CalendarRow.{CalendarRow as Entered};
+ghost use Rattle.docket_history.specs.CalendarItems.{calendar_of};
+ghost use Rattle.docket_history.specs.Histories.{items_of};
+ghost use Rattle.docket_history.specs.declared.row.CalendarRow.{CalendarRow as Entered};
 ghost use Rattle.docket_scan.specs.Judging.{no_rows};
 ghost use Rattle.docket_scan.specs.Names.{AreKnown};
 ghost use Rattle.docket_scan.specs.Reading.{IsReady, Says};
 
 use crate::holdings::Holdings;
 use court_days::{Calendar, Court};
-use docket_core::EndRow;
+use docket_decisions::EndRow;
 use docket_sound::{KnownTexts, Numbering, ShortDayCheck};
 use std::alloc::{AllocError, Global};
 

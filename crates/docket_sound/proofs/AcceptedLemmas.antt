@@ -8,16 +8,16 @@ use Rattle.docket_command.specs.declared.field.Field.{Field}
 use Rattle.docket_command.specs.declared.refusal.Refusal.{Refusal}
 use Rattle.docket_command.specs.declared.refusal.Refusal.TheVariants as refusal
 use Rattle.docket_command.specs.declared.refusal.Reply.{Reply}
-use Rattle.docket_core.specs.Histories.{History}
-use Rattle.docket_core.specs.Outcomes.{outcome, answer_kept, accepted, repeated, kept_by, receipts, shown}
-use Rattle.docket_core.specs.Refusals.{on, on_value, first_some, refusal_of, is_reused, lacks_case, lacks_party}
-use Rattle.docket_core.specs.Values.{is_word, first_bad, bad_values}
-use Rattle.docket_core.specs.declared.row.Receipt.{Receipt}
-use Rattle.docket_core.specs.declared.view.Kept.TheVariants.{Same, Other}
-use Rattle.docket_core.specs.declared.view.View.{View}
-use Rattle.docket_core.proofs.GoodValues.{not_false}
-use Rattle.docket_core.proofs.Leading.{is_accepted}
-use Rattle.docket_core.proofs.Passed.{IsFree, is_free}
+use Rattle.docket_history.specs.Histories.{History}
+use Rattle.docket_decisions.specs.Outcomes.{outcome, answer_kept, accepted, repeated, kept_by, receipts, shown}
+use Rattle.docket_decisions.specs.Refusals.{on, on_value, first_some, refusal_of, is_reused, lacks_case, lacks_party}
+use Rattle.docket_values.specs.Values.{is_word, first_bad, bad_values}
+use Rattle.docket_history.specs.declared.row.Receipt.{Receipt}
+use Rattle.docket_history.specs.declared.view.Kept.TheVariants.{Same, Other}
+use Rattle.docket_history.specs.declared.view.View.{View}
+use Rattle.docket_decisions.proofs.GoodValues.{not_false}
+use Rattle.docket_decisions.proofs.Leading.{is_accepted}
+use Rattle.docket_decisions.proofs.Passed.{IsFree, is_free}
 
 pub freed : (court : CourtSettings) (h : History) (c : Command) (reply : Reply) → outcome court h c ≡ accepted reply → IsFree court (shown court h c) c
 freed court h c reply answer = is_free court (shown court h c) c (is_accepted court (shown court h c) c reply answer).free

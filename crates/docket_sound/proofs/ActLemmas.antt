@@ -8,8 +8,8 @@ use Rattle.civil_time.specs.Zone.{ZoneRules}
 use Rattle.court_days.specs.Court.{CourtSettings, zone_of}
 use Rattle.court_rules.specs.Acts.{acts_ok, is_within}
 use Rattle.court_rules.specs.declared.act.Act.{Act}
-use Rattle.docket_core.specs.declared.row.ActRow.{ActRow}
-use Rattle.docket_core.proofs.Passed.{left_true, right_true}
+use Rattle.docket_history.specs.declared.row.ActRow.{ActRow}
+use Rattle.docket_decisions.proofs.Passed.{left_true, right_true}
 use Rattle.docket_sound.specs.Acts.{are_lawful, is_on_entered_day, IsSoundRun, AreSoundActs, continues, may_go_on, may_close, begins, HasTakenActs}
 use Rattle.docket_sound.specs.Counted.{counts_of, HasNumbered, cases_of, most_of}
 use Rattle.docket_sound.specs.Dues.{last_dues, due_of_acts, dues_of_runs, dues_of}
@@ -21,7 +21,7 @@ use Rattle.court_rules.specs.declared.act.Standing.{Standing}
 use Rattle.court_days.specs.Calendar.{Entered}
 use Rattle.std.specs.Prelude.{Vec}
 use Rattle.std.specs.declared.alloc.Global.{Global}
-use Rattle.docket_core.specs.declared.end_row.EndRow.{EndRow}
+use Rattle.docket_decisions.specs.declared.end_row.EndRow.{EndRow}
 use Rattle.docket_sound.specs.Numbers.{RunsFrom, AreNumbered}
 use Rattle.docket_sound.specs.declared.act.ActCheck.{ActCheck}
 use Rattle.docket_sound.specs.declared.numbering.Key.{Key}

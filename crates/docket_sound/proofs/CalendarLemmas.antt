@@ -12,18 +12,18 @@ use Rattle.std.specs.declared.cmp.Ordering.{Ordering}
 use Rattle.std.specs.Cmp.{IsTotalOrder, nat_cmp_total}
 use Rattle.court_days.specs.Spans.{span_cmp}
 use Rattle.court_days.proofs.SpanSets.{span_cmp_total}
-use Rattle.docket_core.specs.Values.{is_entered_at}
+use Rattle.docket_values.specs.Values.{is_entered_at}
 use Rattle.court_days.specs.Calendar.{Entered, rows_of, no_days}
 use Rattle.court_days.specs.Court.{CourtSettings}
 use Rattle.court_days.specs.declared.calendar.CalendarFault.{CalendarFault}
 use Rattle.court_days.specs.declared.calendar.CalendarFault.TheVariants as fault
 use Rattle.court_days.specs.declared.calendar.DayKind.TheVariants.{Federal, State, Closed}
-use Rattle.docket_core.specs.CalendarItems.{is_same_item, stands_among, with_item, entered_with, calendar_of, IsEnteredItem}
-use Rattle.docket_core.specs.Histories.{items_of}
-use Rattle.docket_core.specs.declared.item.CalendarItem.{CalendarItem}
-use Rattle.docket_core.specs.declared.item.CalendarItem.TheVariants.{Day, Span, Short}
-use Rattle.docket_core.specs.declared.row.CalendarRow.{CalendarRow}
-use Rattle.docket_core.proofs.GoodValues.{entered_instant}
+use Rattle.docket_history.specs.CalendarItems.{is_same_item, stands_among, with_item, entered_with, calendar_of, IsEnteredItem}
+use Rattle.docket_history.specs.Histories.{items_of}
+use Rattle.docket_history.specs.declared.item.CalendarItem.{CalendarItem}
+use Rattle.docket_history.specs.declared.item.CalendarItem.TheVariants.{Day, Span, Short}
+use Rattle.docket_history.specs.declared.row.CalendarRow.{CalendarRow}
+use Rattle.docket_decisions.proofs.GoodValues.{entered_instant}
 use Rattle.docket_sound.specs.Calendars.{is_sound_item, is_sound_row, is_well_named, EachIsNew, IsGiven, AreSoundCalendarRows, stands, Enters, may_come, last_of, HasEntered}
 use Rattle.docket_sound.specs.Numbers.{Rises}
 use Rattle.docket_sound.proofs.NumberLemmas.{all_both, all_later}

@@ -11,11 +11,11 @@ use Rattle.court_rules.specs.Standings.{AreActs, begins_on_entered_day}
 use Rattle.court_rules.specs.declared.act.Act.{Act}
 use Rattle.court_rules.specs.declared.act.Act.TheVariants as act
 use Rattle.court_rules.specs.declared.act.Start.TheVariants as start
-use Rattle.docket_core.proofs.Passed.{left_true, right_true}
+use Rattle.docket_decisions.proofs.Passed.{left_true, right_true}
 use Rattle.docket_sound.specs.Acts.{are_lawful, is_on_entered_day}
 use Rattle.docket_sound.specs.Dues.{HasTakenDues}
 use Rattle.docket_sound.specs.declared.due.DueCheck.{DueCheck}
-use Rattle.docket_core.specs.declared.end_row.EndRow.{EndRow}
+use Rattle.docket_decisions.specs.declared.end_row.EndRow.{EndRow}
 
 begins_so : (zone : ZoneRules) (a : Act) → is_on_entered_day zone a ≡ true → begins_on_entered_day zone a ≡ true
 begins_so zone (act.Start (start.Hours hours)) on = right_true (is_instant hours.at) (is_entered_day (local_day zone (seconds hours.at))) on

@@ -22,22 +22,22 @@ use Rattle.docket_command.specs.declared.choice.Ruling.{Ruling}
 use Rattle.docket_command.specs.declared.choice.Ruling.TheVariants.{Denied, Postponed, Statement}
 use Rattle.docket_command.specs.declared.command.Action.{Action}
 use Rattle.docket_command.specs.declared.command.Action.TheVariants as action
-use Rattle.docket_core.specs.Actions.{deadlines_made, acts_made, statement_ordered, timed_or_set, ruled, extension}
-use Rattle.docket_core.specs.Histories.{History, act_rows, deadline_rows, deadlines_of_case, acts_of_deadline, case_number, deadline_number, new_deadlines, deadline_rows_from, first_acts, first_acts_from, later_acts, act_rows_on, rule_found}
-use Rattle.docket_core.specs.Outcomes.{IsHistory}
-use Rattle.docket_core.specs.Values.{first_bad, bad_values, is_entered_at}
-use Rattle.docket_core.specs.declared.row.ActRow.{ActRow}
-use Rattle.docket_core.specs.declared.row.DeadlineRow.{DeadlineRow}
-use Rattle.docket_core.proofs.ActsKept.{IsKept, count_more}
-use Rattle.docket_core.proofs.FirstActs.{AreFirst, made_first}
-use Rattle.docket_core.proofs.GoodValues.{all_good, not_false}
-use Rattle.docket_core.proofs.InOrderLemmas.{same_number}
-use Rattle.docket_core.proofs.LimitsKept.{all_kept, found_lawful}
-use Rattle.docket_core.proofs.Passed.{left_true, right_true}
+use Rattle.docket_history.specs.Actions.{deadlines_made, acts_made, statement_ordered, timed_or_set, ruled, extension}
+use Rattle.docket_history.specs.Histories.{History, act_rows, deadline_rows, deadlines_of_case, acts_of_deadline, case_number, deadline_number, new_deadlines, deadline_rows_from, first_acts, first_acts_from, later_acts, act_rows_on, rule_found}
+use Rattle.docket_decisions.specs.Outcomes.{IsHistory}
+use Rattle.docket_values.specs.Values.{first_bad, bad_values, is_entered_at}
+use Rattle.docket_history.specs.declared.row.ActRow.{ActRow}
+use Rattle.docket_history.specs.declared.row.DeadlineRow.{DeadlineRow}
+use Rattle.docket_decisions.proofs.ActsKept.{IsKept, count_more}
+use Rattle.docket_decisions.proofs.FirstActs.{AreFirst, made_first}
+use Rattle.docket_decisions.proofs.GoodValues.{all_good, not_false}
+use Rattle.docket_decisions.proofs.InOrderLemmas.{same_number}
+use Rattle.docket_decisions.proofs.LimitsKept.{all_kept, found_lawful}
+use Rattle.docket_decisions.proofs.Passed.{left_true, right_true}
 use Rattle.docket_sound.specs.Acts.{are_lawful, is_on_entered_day}
 use Rattle.docket_sound.specs.Numbers.{RunsFrom}
 use Rattle.docket_sound.proofs.AcceptedLemmas.{freed}
-use Rattle.docket_sound.proofs.Made.{NewDeadline}
+use Rattle.docket_history.specs.declared.row.NewDeadline.{NewDeadline}
 use Rattle.docket_sound.proofs.NumberLemmas.{runs_more}
 
 -- the acts on deadline n of case k

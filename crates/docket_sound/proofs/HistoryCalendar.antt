@@ -10,21 +10,21 @@ use Rattle.court_days.specs.Court.{CourtSettings}
 use Rattle.docket_command.specs.declared.command.Action.{Action}
 use Rattle.docket_command.specs.declared.command.Action.TheVariants as action
 use Rattle.docket_command.specs.declared.new_day.NewDay.{NewDay}
-use Rattle.docket_core.specs.Actions.{rows_asked, row_withdrawn, imported}
-use Rattle.docket_core.specs.CalendarItems.{is_same_item, stands_among, fresh}
-use Rattle.docket_core.specs.Histories.{History, items_of, numbered, without_row, standing_rows, next_row, rows_added}
-use Rattle.docket_core.specs.Outcomes.{IsHistory}
-use Rattle.docket_core.specs.Values.{first_bad, bad_values, is_entered, is_entered_at, is_text, is_new_day}
-use Rattle.docket_core.specs.declared.item.CalendarItem.{CalendarItem}
-use Rattle.docket_core.specs.declared.row.CalendarRow.{CalendarRow}
-use Rattle.docket_core.proofs.GoodValues.{all_good, not_false, or_off}
-use Rattle.docket_core.proofs.LimitsKept.{within_limits}
-use Rattle.docket_core.proofs.Passed.{left_true, right_true}
+use Rattle.docket_history.specs.Actions.{rows_asked, row_withdrawn, imported}
+use Rattle.docket_history.specs.CalendarItems.{is_same_item, stands_among, fresh}
+use Rattle.docket_history.specs.Histories.{History, items_of, numbered, without_row, standing_rows, next_row, rows_added}
+use Rattle.docket_decisions.specs.Outcomes.{IsHistory}
+use Rattle.docket_values.specs.Values.{first_bad, bad_values, is_entered, is_entered_at, is_text, is_new_day}
+use Rattle.docket_history.specs.declared.item.CalendarItem.{CalendarItem}
+use Rattle.docket_history.specs.declared.row.CalendarRow.{CalendarRow}
+use Rattle.docket_decisions.proofs.GoodValues.{all_good, not_false, or_off}
+use Rattle.docket_decisions.proofs.LimitsKept.{within_limits}
+use Rattle.docket_decisions.proofs.Passed.{left_true, right_true}
 use Rattle.docket_sound.specs.Calendars.{is_sound_row, EachIsNew, IsGiven, AreSoundCalendarRows}
 use Rattle.docket_sound.specs.Numbers.{Rises}
 use Rattle.docket_sound.proofs.AcceptedLemmas.{freed}
 use Rattle.docket_sound.proofs.CalendarLemmas.{rises_more, new_more}
-use Rattle.docket_sound.proofs.Made.{NewRow}
+use Rattle.docket_history.specs.declared.item.NewRow.{NewRow}
 use Rattle.docket_sound.proofs.NumberLemmas.{all_both}
 
 abbrev numbers : List CalendarRow → List ℕ

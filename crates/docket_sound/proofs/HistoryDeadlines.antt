@@ -25,20 +25,20 @@ use Rattle.docket_command.specs.declared.command.Action.{Action}
 use Rattle.docket_command.specs.declared.command.Action.TheVariants as action
 use Rattle.docket_command.specs.declared.command.Command.{Command}
 use Rattle.docket_command.specs.declared.local_action.LocalPeriod as local_period
-use Rattle.docket_core.specs.Actions.{FoundRule, case_named, local_rule_named, deadlines_made, asks_parties, if_asked, answer_rule, waiver_rule, pleading_rule, timed_or_set, statement_ordered, ordered, party_ordered, court_ordered, local_time}
-use Rattle.docket_core.specs.Histories.{History, case_number, case_rows, party_rows, deadline_rows, parties_of_case, deadlines_of_case, new_party, new_deadlines, deadline_rows_from, local_rule_rows, rule_found}
-use Rattle.docket_core.specs.InOrder.{asked_in_order, gathered, made_in}
-use Rattle.docket_core.specs.Outcomes.{IsHistory, shown, shown_fresh, case_of_number}
-use Rattle.docket_core.specs.Refusals.{is_no_party, lacks_party}
-use Rattle.docket_core.specs.Views.{parties_in}
-use Rattle.docket_core.specs.declared.row.DeadlineRow.{DeadlineRow}
-use Rattle.docket_core.specs.declared.row.PartyRow.{PartyRow}
-use Rattle.docket_core.specs.declared.view.View.{View}
-use Rattle.docket_core.proofs.GoodValues.{or_off}
-use Rattle.docket_core.proofs.InOrderLemmas.{deadlines_in_order}
-use Rattle.docket_core.proofs.Leading.{seen, none_made}
-use Rattle.docket_core.proofs.LimitsKept.{within_limits}
-use Rattle.docket_core.proofs.Passed.{IsFree}
+use Rattle.docket_history.specs.Actions.{FoundRule, case_named, local_rule_named, deadlines_made, asks_parties, if_asked, answer_rule, waiver_rule, pleading_rule, timed_or_set, statement_ordered, ordered, party_ordered, court_ordered, local_time}
+use Rattle.docket_history.specs.Histories.{History, case_number, case_rows, party_rows, deadline_rows, parties_of_case, deadlines_of_case, new_party, new_deadlines, deadline_rows_from, local_rule_rows, rule_found}
+use Rattle.docket_history.specs.InOrder.{asked_in_order, gathered, made_in}
+use Rattle.docket_decisions.specs.Outcomes.{IsHistory, shown, shown_fresh, case_of_number}
+use Rattle.docket_decisions.specs.Refusals.{is_no_party, lacks_party}
+use Rattle.docket_history.specs.Views.{parties_in}
+use Rattle.docket_history.specs.declared.row.DeadlineRow.{DeadlineRow}
+use Rattle.docket_history.specs.declared.row.PartyRow.{PartyRow}
+use Rattle.docket_history.specs.declared.view.View.{View}
+use Rattle.docket_decisions.proofs.GoodValues.{or_off}
+use Rattle.docket_decisions.proofs.InOrderLemmas.{deadlines_in_order}
+use Rattle.docket_decisions.proofs.Leading.{seen, none_made}
+use Rattle.docket_decisions.proofs.LimitsKept.{within_limits}
+use Rattle.docket_decisions.proofs.Passed.{IsFree}
 use Rattle.docket_sound.specs.Deadlines.{is_sound_deadline, has_party, deadline_key, AreSoundDeadlines}
 use Rattle.docket_sound.specs.KnownTexts.{is_one_of}
 use Rattle.docket_sound.specs.LocalRules.{rule_names}
@@ -46,7 +46,7 @@ use Rattle.docket_sound.specs.Numbers.{RunsFrom, IsOfCase}
 use Rattle.docket_sound.proofs.AcceptedLemmas.{IsLawful, freed, is_lawful}
 use Rattle.docket_sound.proofs.HistoryLemmas.{is_case, no_fewer_cases}
 use Rattle.docket_sound.proofs.HistoryLocalRules.{NamedStands, found_stands, still_stands}
-use Rattle.docket_sound.proofs.Made.{NewDeadline}
+use Rattle.docket_history.specs.declared.row.NewDeadline.{NewDeadline}
 use Rattle.docket_sound.proofs.NumberLemmas.{all_both, numbers_are}
 
 -- how many parties each case of a history has

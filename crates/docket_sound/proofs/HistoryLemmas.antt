@@ -9,17 +9,17 @@ use Rattle.court_days.specs.Court.{CourtSettings}
 use Rattle.docket_command.specs.declared.command.Action.{Action}
 use Rattle.docket_command.specs.declared.command.Action.TheVariants as action
 use Rattle.docket_command.specs.declared.command.Command.{Command}
-use Rattle.docket_core.specs.Histories.{History, case_rows, party_rows, entry_rows, new_case, new_party, new_entry, case_number, parties_of_case, entries_of_case}
-use Rattle.docket_core.specs.Outcomes.{IsHistory, shown, shown_fresh, case_of_number}
-use Rattle.docket_core.specs.Values.{bad_values, is_word, is_text, is_entered}
-use Rattle.docket_core.specs.Views.{parties_in, entries_in}
-use Rattle.docket_core.specs.declared.row.CaseRow.{CaseRow}
-use Rattle.docket_core.specs.declared.row.EntryRow.{EntryRow}
-use Rattle.docket_core.specs.declared.row.PartyRow.{PartyRow}
-use Rattle.docket_core.specs.declared.view.CaseView.{CaseView}
-use Rattle.docket_core.proofs.GoodValues.{all_good, not_false}
-use Rattle.docket_core.proofs.Leading.{seen, case_numbered}
-use Rattle.docket_core.proofs.Passed.{IsFree, not_at}
+use Rattle.docket_history.specs.Histories.{History, case_rows, party_rows, entry_rows, new_case, new_party, new_entry, case_number, parties_of_case, entries_of_case}
+use Rattle.docket_decisions.specs.Outcomes.{IsHistory, shown, shown_fresh, case_of_number}
+use Rattle.docket_values.specs.Values.{bad_values, is_word, is_text, is_entered}
+use Rattle.docket_history.specs.Views.{parties_in, entries_in}
+use Rattle.docket_history.specs.declared.row.CaseRow.{CaseRow}
+use Rattle.docket_history.specs.declared.row.EntryRow.{EntryRow}
+use Rattle.docket_history.specs.declared.row.PartyRow.{PartyRow}
+use Rattle.docket_history.specs.declared.view.CaseView.{CaseView}
+use Rattle.docket_decisions.proofs.GoodValues.{all_good, not_false}
+use Rattle.docket_decisions.proofs.Leading.{seen, case_numbered}
+use Rattle.docket_decisions.proofs.Passed.{IsFree, not_at}
 use Rattle.docket_sound.specs.Numbers.{RunsFrom, AreNumbered, IsOfCase, numbers_in}
 use Rattle.docket_sound.specs.Cases.{AreApart, is_sound_case, AreSoundCases}
 use Rattle.docket_sound.specs.Entries.{entry_key, is_sound_entry, AreSoundEntries}

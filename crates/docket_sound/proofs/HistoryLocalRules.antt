@@ -11,12 +11,12 @@ use Rattle.court_days.specs.Court.{CourtSettings}
 use Rattle.docket_command.specs.declared.command.Action.{Action}
 use Rattle.docket_command.specs.declared.command.Action.TheVariants as action
 use Rattle.docket_command.specs.declared.command.Command.{Command}
-use Rattle.docket_core.specs.Actions.{local_rule_named}
-use Rattle.docket_core.specs.Histories.{History, local_rule_rows, local_rule_in, new_local_rule, rule_found}
-use Rattle.docket_core.specs.Outcomes.{IsHistory, shown}
-use Rattle.docket_core.specs.declared.row.LocalRuleRow.{LocalRuleRow}
-use Rattle.docket_core.proofs.LimitsKept.{within_limits}
-use Rattle.docket_core.proofs.Passed.{IsFree}
+use Rattle.docket_history.specs.Actions.{local_rule_named}
+use Rattle.docket_history.specs.Histories.{History, local_rule_rows, local_rule_in, new_local_rule, rule_found}
+use Rattle.docket_decisions.specs.Outcomes.{IsHistory, shown}
+use Rattle.docket_history.specs.declared.row.LocalRuleRow.{LocalRuleRow}
+use Rattle.docket_decisions.proofs.LimitsKept.{within_limits}
+use Rattle.docket_decisions.proofs.Passed.{IsFree}
 use Rattle.docket_sound.specs.KnownTexts.{is_one_of}
 use Rattle.docket_sound.specs.LocalRules.{AreSoundLocalRules, rule_names}
 use Rattle.docket_sound.proofs.AcceptedLemmas.{freed}

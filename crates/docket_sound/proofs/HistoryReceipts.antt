@@ -9,9 +9,9 @@ use Rattle.court_days.specs.Court.{CourtSettings}
 use Rattle.docket_command.specs.declared.command.Action.{Action}
 use Rattle.docket_command.specs.declared.command.Action.TheVariants as action
 use Rattle.docket_command.specs.declared.command.Command.{Command}
-use Rattle.docket_core.specs.Histories.{History}
-use Rattle.docket_core.specs.Outcomes.{IsHistory, receipts, reply_to, replied, shown_fresh}
-use Rattle.docket_core.specs.declared.row.Receipt.{Receipt}
+use Rattle.docket_history.specs.Histories.{History}
+use Rattle.docket_decisions.specs.Outcomes.{IsHistory, receipts, reply_to, replied, shown_fresh}
+use Rattle.docket_history.specs.declared.row.Receipt.{Receipt}
 use Rattle.docket_wire.specs.Valid.{IsCommand}
 use Rattle.docket_sound.specs.Cases.{AreApart}
 use Rattle.docket_sound.specs.Receipts.{is_known_kind, AreOfKnownKinds, IsSoundReceipt, receipt_row, key_of}

@@ -8,15 +8,15 @@ use Rattle.sqlite_trees.proofs.ListLemmas.{all-map, all_from_map}
 use Rattle.civil_time.specs.Zone.{ZoneRules}
 use Rattle.court_days.specs.Calendar.{Entered}
 use Rattle.court_days.specs.Court.{CourtSettings}
-use Rattle.docket_core.specs.CalendarItems.{calendar_of, is_short_day}
-use Rattle.docket_core.specs.EndRows.{end_row, end_running}
-use Rattle.docket_core.specs.Histories.{items_of}
-use Rattle.docket_core.specs.ShortDays.{calendar_row, day_and_span_rows, short_day_row, short_day_rows}
-use Rattle.docket_core.specs.declared.item.CalendarItem.{CalendarItem}
-use Rattle.docket_core.specs.declared.item.CalendarItem.TheVariants.{Day, Span, Short}
-use Rattle.docket_core.specs.declared.row.ActRow.{ActRow}
-use Rattle.docket_core.specs.declared.row.CalendarRow.{CalendarRow}
-use Rattle.docket_core.proofs.ShortDays.{standing-rows}
+use Rattle.docket_history.specs.CalendarItems.{calendar_of, is_short_day}
+use Rattle.docket_decisions.specs.EndRows.{end_row, end_running}
+use Rattle.docket_history.specs.Histories.{items_of}
+use Rattle.docket_history.specs.ShortDays.{calendar_row, day_and_span_rows, short_day_row, short_day_rows}
+use Rattle.docket_history.specs.declared.item.CalendarItem.{CalendarItem}
+use Rattle.docket_history.specs.declared.item.CalendarItem.TheVariants.{Day, Span, Short}
+use Rattle.docket_history.specs.declared.row.ActRow.{ActRow}
+use Rattle.docket_history.specs.declared.row.CalendarRow.{CalendarRow}
+use Rattle.docket_history.proofs.ShortDays.{standing-rows}
 use Rattle.docket_sound.specs.Calendars.{is_sound_row, AreSoundCalendarRows}
 use Rattle.docket_sound.specs.Dues.{dues_of_runs, dues_of}
 use Rattle.docket_sound.specs.Numbers.{Rises}

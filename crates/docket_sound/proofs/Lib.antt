@@ -12,7 +12,6 @@ pub mod HistoryLocalRules
 pub mod HistoryReceipts
 pub mod HistoryShortDays
 pub mod LocalRuleLemmas
-pub mod Made
 pub mod NumberLemmas
 pub mod OrderLemmas
 pub mod ReceiptLemmas

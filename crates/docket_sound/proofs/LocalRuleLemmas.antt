@@ -7,7 +7,7 @@ use Rattle.std.proofs.lemmas.List.Folds.{list_any-append}
 use Rattle.std.proofs.lemmas.Slice.Eq.{bytes_eq-Decides}
 use Rattle.std.specs.List.{AllByRecursion}
 use Rattle.std.specs.Str.{bytes_eq}
-use Rattle.docket_core.specs.declared.row.LocalRuleRow.{LocalRuleRow}
+use Rattle.docket_history.specs.declared.row.LocalRuleRow.{LocalRuleRow}
 use Rattle.docket_sound.specs.Cases.{AreApart}
 use Rattle.docket_sound.specs.KnownTexts.{is_known, is_one_of}
 use Rattle.docket_sound.specs.LocalRules.{AreSoundLocalRules, HasTakenLocalRules, is_sound_local_rule, may_follow, rule_names}

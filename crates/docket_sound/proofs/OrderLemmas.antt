@@ -11,7 +11,7 @@ use Rattle.std.specs.declared.cmp.Ordering.TheVariants.{Less, Equal, Greater}
 use Rattle.sqlite_keyed.proofs.SortLemmas.{sorted_unique}
 use Rattle.sqlite_trees.proofs.ListLemmas.{all_of, all_both, all-append, ascending-append, filter-filter}
 use Rattle.sqlite_trees.specs.Tree.{IsAscending}
-use Rattle.docket_core.specs.declared.row.ActRow.{ActRow}
+use Rattle.docket_history.specs.declared.row.ActRow.{ActRow}
 use Rattle.docket_sound.specs.Orders.{AreInOrder, key_order, deadline_of, act_order, receipt_order}
 use Rattle.docket_sound.specs.Receipts.{key_of}
 use Rattle.docket_sound.specs.declared.numbering.Key.{Key}

@@ -9,11 +9,11 @@ use Rattle.court_days.specs.Calendar.{Entered, rows_of, no_days}
 use Rattle.court_days.specs.Court.{CourtSettings}
 use Rattle.court_days.specs.declared.calendar.CalendarFault.{CalendarFault}
 use Rattle.court_days.specs.declared.calendar.CalendarFault.TheVariants as fault
-use Rattle.docket_core.specs.CalendarItems.{with_item}
-use Rattle.docket_core.specs.ShortDays.{calendar_row}
-use Rattle.docket_core.specs.declared.item.CalendarItem.TheVariants.{Short}
-use Rattle.docket_core.specs.declared.row.CalendarRow.{CalendarRow}
-use Rattle.docket_core.specs.declared.row.ShortDayRow.{ShortDayRow}
+use Rattle.docket_history.specs.CalendarItems.{with_item}
+use Rattle.docket_history.specs.ShortDays.{calendar_row}
+use Rattle.docket_history.specs.declared.item.CalendarItem.TheVariants.{Short}
+use Rattle.docket_history.specs.declared.row.CalendarRow.{CalendarRow}
+use Rattle.docket_history.specs.declared.row.ShortDayRow.{ShortDayRow}
 use Rattle.docket_sound.specs.Calendars.{is_sound_row, IsGiven, AreSoundCalendarRows, stands, Enters, last_of, HasEntered}
 use Rattle.docket_sound.specs.Numbers.{Rises}
 use Rattle.docket_sound.specs.ShortDays.{numbers_of, is_among, AreSoundShortDays, has_place, may_be_next, HasTakenShortDays}

@@ -13,13 +13,13 @@ use Rattle.sqlite_trees.specs.Tree.{IsAscending}
 use Rattle.court_days.specs.Court.{CourtSettings, zone_of}
 use Rattle.court_rules.specs.Acts.{acts_ok, is_within}
 use Rattle.court_rules.specs.declared.act.Act.{Act}
-use Rattle.docket_core.specs.Histories.{History, case_rows, deadline_rows, deadlines_of_case, act_rows, acts_of_deadline}
-use Rattle.docket_core.specs.Outcomes.{IsHistory}
-use Rattle.docket_core.specs.declared.row.ActRow.{ActRow}
-use Rattle.docket_core.specs.declared.row.CaseRow.{CaseRow}
-use Rattle.docket_core.specs.declared.row.DeadlineRow.{DeadlineRow}
-use Rattle.docket_core.proofs.InOrderLemmas.{same_number}
-use Rattle.docket_core.proofs.Passed.{left_true, right_true}
+use Rattle.docket_history.specs.Histories.{History, case_rows, deadline_rows, deadlines_of_case, act_rows, acts_of_deadline}
+use Rattle.docket_decisions.specs.Outcomes.{IsHistory}
+use Rattle.docket_history.specs.declared.row.ActRow.{ActRow}
+use Rattle.docket_history.specs.declared.row.CaseRow.{CaseRow}
+use Rattle.docket_history.specs.declared.row.DeadlineRow.{DeadlineRow}
+use Rattle.docket_decisions.proofs.InOrderLemmas.{same_number}
+use Rattle.docket_decisions.proofs.Passed.{left_true, right_true}
 use Rattle.docket_sound.specs.Acts.{AreSoundActs, IsSoundRun, are_lawful, is_on_entered_day}
 use Rattle.docket_sound.specs.Deadlines.{deadline_key}
 use Rattle.docket_sound.specs.Numbers.{Rises, RunsFrom, AreNumbered, IsOfCase, numbers_in}

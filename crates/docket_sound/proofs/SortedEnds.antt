@@ -9,17 +9,17 @@ use Rattle.sqlite_trees.proofs.ListLemmas.{all_of, all_weaker, IsPermutation-fla
 use Rattle.civil_time.specs.Zone.{ZoneRules}
 use Rattle.court_days.specs.Calendar.{Entered}
 use Rattle.court_days.specs.Court.{CourtSettings, zone_of}
-use Rattle.docket_core.specs.CalendarItems.{calendar_of}
-use Rattle.docket_core.specs.EndRows.{end_row, row_of_deadline, end_rows}
-use Rattle.docket_core.specs.Histories.{History, items_of, standing_rows, deadline_rows, act_rows}
-use Rattle.docket_core.specs.Outcomes.{IsHistory}
-use Rattle.docket_core.specs.ShortDays.{day_and_span_rows}
-use Rattle.docket_core.specs.Tables.{rows_of}
-use Rattle.docket_core.specs.declared.end_row.EndRow.{EndRow}
-use Rattle.docket_core.specs.declared.end_row.EndTime.{EndTime}
-use Rattle.docket_core.specs.declared.row.ActRow.{ActRow}
-use Rattle.docket_core.specs.declared.row.CalendarRow.{CalendarRow}
-use Rattle.docket_core.specs.declared.row.DeadlineRow.{DeadlineRow}
+use Rattle.docket_history.specs.CalendarItems.{calendar_of}
+use Rattle.docket_decisions.specs.EndRows.{end_row, row_of_deadline, end_rows}
+use Rattle.docket_history.specs.Histories.{History, items_of, standing_rows, deadline_rows, act_rows}
+use Rattle.docket_decisions.specs.Outcomes.{IsHistory}
+use Rattle.docket_history.specs.ShortDays.{day_and_span_rows}
+use Rattle.docket_decisions.specs.Tables.{rows_of}
+use Rattle.docket_decisions.specs.declared.end_row.EndRow.{EndRow}
+use Rattle.docket_decisions.specs.declared.end_row.EndTime.{EndTime}
+use Rattle.docket_history.specs.declared.row.ActRow.{ActRow}
+use Rattle.docket_history.specs.declared.row.CalendarRow.{CalendarRow}
+use Rattle.docket_history.specs.declared.row.DeadlineRow.{DeadlineRow}
 use Rattle.docket_sound.specs.Deadlines.{deadline_key}
 use Rattle.docket_sound.specs.Dues.{dues_of_runs, dues_of}
 use Rattle.docket_sound.specs.Orders.{AreInOrder, key_order, calendar_order, act_order, deadline_order, end_key, end_order}

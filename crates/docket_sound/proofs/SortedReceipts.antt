@@ -12,9 +12,9 @@ use Rattle.std.specs.declared.cmp.Ordering.{Ordering}
 use Rattle.std.specs.declared.cmp.Ordering.TheVariants.{Less, Equal, Greater}
 use Rattle.sqlite_trees.proofs.ListLemmas.{all_weaker, all_from_map, all-permutation, filter_none, IsPermutation-filter, map-map}
 use Rattle.court_days.specs.Court.{CourtSettings}
-use Rattle.docket_core.specs.Histories.{History}
-use Rattle.docket_core.specs.Outcomes.{IsHistory, receipts}
-use Rattle.docket_core.specs.declared.row.Receipt.{Receipt}
+use Rattle.docket_history.specs.Histories.{History}
+use Rattle.docket_decisions.specs.Outcomes.{IsHistory, receipts}
+use Rattle.docket_history.specs.declared.row.Receipt.{Receipt}
 use Rattle.docket_wire.specs.Valid.{IsCommand}
 use Rattle.docket_sound.specs.Cases.{AreApart}
 use Rattle.docket_sound.specs.Orders.{AreInOrder, receipt_order}

@@ -8,7 +8,7 @@ use Rattle.court_rules.specs.Acts.{acts_ok, is_instant, is_entered_day}
 use Rattle.court_rules.specs.declared.act.Act.{Act}
 use Rattle.court_rules.specs.declared.act.Act.TheVariants as act
 use Rattle.court_rules.specs.declared.act.Start.TheVariants as start
-use Rattle.docket_core.specs.declared.row.ActRow.{ActRow}
+use Rattle.docket_history.specs.declared.row.ActRow.{ActRow}
 use Rattle.docket_sound.specs.Counted.{HasNumbered, cases_of, most_of}
 use Rattle.docket_sound.specs.Dues.{dues_of_runs}
 use Rattle.docket_sound.specs.Numbers.{RunsFrom, AreNumbered, numbers_in}

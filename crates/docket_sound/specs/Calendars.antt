@@ -7,12 +7,12 @@ use Rattle.court_days.specs.Calendar.{Entered, days_of, rows_of}
 use Rattle.court_days.specs.Court.{CourtSettings}
 use Rattle.court_days.specs.declared.calendar.CalendarFault.{CalendarFault}
 use Rattle.court_days.specs.declared.calendar.CalendarFault.TheVariants.{OutOfRange, Full, NoMemory}
-use Rattle.docket_core.specs.CalendarItems.{stands_among, with_item, calendar_of, IsEnteredItem}
-use Rattle.docket_core.specs.Histories.{items_of}
-use Rattle.docket_core.specs.Values.{is_entered, is_entered_at, is_text}
-use Rattle.docket_core.specs.declared.item.CalendarItem.{CalendarItem}
-use Rattle.docket_core.specs.declared.item.CalendarItem.TheVariants.{Day, Span, Short}
-use Rattle.docket_core.specs.declared.row.CalendarRow.{CalendarRow}
+use Rattle.docket_history.specs.CalendarItems.{stands_among, with_item, calendar_of, IsEnteredItem}
+use Rattle.docket_history.specs.Histories.{items_of}
+use Rattle.docket_values.specs.Values.{is_entered, is_entered_at, is_text}
+use Rattle.docket_history.specs.declared.item.CalendarItem.{CalendarItem}
+use Rattle.docket_history.specs.declared.item.CalendarItem.TheVariants.{Day, Span, Short}
+use Rattle.docket_history.specs.declared.row.CalendarRow.{CalendarRow}
 use Rattle.docket_sound.specs.Numbers.{Rises}
 use Rattle.docket_sound.specs.declared.calendar.CalendarCheck.{CalendarCheck}
 

@@ -1,8 +1,8 @@
 -- When the rows of cases are sound.
 use Rattle.std.specs.Prelude.{◌≡◌, ◌≢◌, ℕ, ◌≤◌, ◌+◌, ◌==◌, nat_lt, Bool, not, ◌&&◌, List, [], ◌∷◌, map, length, bytes_eq, IsTrue}
 use Rattle.std.specs.List.{AllByRecursion, list_any}
-use Rattle.docket_core.specs.Values.{is_entered, is_text, is_word}
-use Rattle.docket_core.specs.declared.row.CaseRow.{CaseRow}
+use Rattle.docket_values.specs.Values.{is_entered, is_text, is_word}
+use Rattle.docket_history.specs.declared.row.CaseRow.{CaseRow}
 use Rattle.docket_sound.specs.KnownTexts.{is_known}
 use Rattle.docket_sound.specs.Numbers.{RunsFrom}
 use Rattle.docket_sound.specs.declared.cases.CaseCheck.{CaseCheck}

@@ -5,7 +5,7 @@ use Rattle.court_rules.specs.declared.deadline_rule.DeadlineRule.{DeadlineRule}
 use Rattle.court_rules.specs.declared.deadline_rule.DeadlineRule.TheVariants.{Listed, Local}
 use Rattle.court_rules.specs.declared.rule.Rule.{Rule}
 use Rattle.court_rules.specs.declared.rule.Rule.TheVariants.{AnswerToSummons, AnswerAfterWaiver, AnswerAfterWaiverAbroad, AnswerByUnitedStates, AnswerByOfficer, AnswerAfterRuling, AnswerAfterStatement}
-use Rattle.docket_core.specs.declared.row.DeadlineRow.{DeadlineRow}
+use Rattle.docket_history.specs.declared.row.DeadlineRow.{DeadlineRow}
 use Rattle.docket_sound.specs.Counted.{HasNumbered, cases_of, most_of, count_of}
 use Rattle.docket_sound.specs.KnownTexts.{is_known}
 use Rattle.docket_sound.specs.Numbers.{AreNumbered}

@@ -5,9 +5,9 @@ use Rattle.court_days.specs.Calendar.{Entered}
 use Rattle.court_days.specs.Court.{zone_of}
 use Rattle.court_rules.specs.Standings.{standing}
 use Rattle.court_rules.specs.declared.act.Act.{Act}
-use Rattle.docket_core.specs.EndRows.{end_row, end_running}
-use Rattle.docket_core.specs.declared.end_row.EndRow.{EndRow}
-use Rattle.docket_core.specs.declared.row.ActRow.{ActRow}
+use Rattle.docket_decisions.specs.EndRows.{end_row, end_running}
+use Rattle.docket_decisions.specs.declared.end_row.EndRow.{EndRow}
+use Rattle.docket_history.specs.declared.row.ActRow.{ActRow}
 use Rattle.docket_sound.specs.Runs.{Run, runs_of}
 use Rattle.docket_sound.specs.declared.act.ActCheck.{ActCheck}
 use Rattle.docket_sound.specs.declared.due.DueCheck.{DueCheck}

@@ -1,8 +1,8 @@
 -- When the rows of entries are sound.
 use Rattle.std.specs.Prelude.{◌≡◌, ℕ, Bool, ◌&&◌, List, map, IsTrue}
 use Rattle.std.specs.List.{AllByRecursion}
-use Rattle.docket_core.specs.Values.{is_entered, is_text}
-use Rattle.docket_core.specs.declared.row.EntryRow.{EntryRow}
+use Rattle.docket_values.specs.Values.{is_entered, is_text}
+use Rattle.docket_history.specs.declared.row.EntryRow.{EntryRow}
 use Rattle.docket_sound.specs.Counted.{HasNumbered, cases_of, most_of}
 use Rattle.docket_sound.specs.Numbers.{AreNumbered}
 use Rattle.docket_sound.specs.declared.entry.EntryCheck.{EntryCheck}

@@ -2,7 +2,7 @@
 use Rattle.std.specs.Prelude.{◌≡◌, ℕ, ◌≤◌, ◌+◌, ◌==◌, nat_lt, Bool, not, ◌&&◌, List, map, length, IsTrue}
 use Rattle.std.specs.List.{AllByRecursion}
 use Rattle.court_rules.specs.LocalRules.{is_local_rule}
-use Rattle.docket_core.specs.declared.row.LocalRuleRow.{LocalRuleRow}
+use Rattle.docket_history.specs.declared.row.LocalRuleRow.{LocalRuleRow}
 use Rattle.docket_sound.specs.Cases.{AreApart}
 use Rattle.docket_sound.specs.KnownTexts.{is_known, is_one_of}
 use Rattle.docket_sound.specs.Numbers.{RunsFrom}

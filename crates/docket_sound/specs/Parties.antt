@@ -1,8 +1,8 @@
 -- When the rows of parties are sound.
 use Rattle.std.specs.Prelude.{◌≡◌, ℕ, Bool, List, map, IsTrue}
 use Rattle.std.specs.List.{AllByRecursion}
-use Rattle.docket_core.specs.Values.{is_text}
-use Rattle.docket_core.specs.declared.row.PartyRow.{PartyRow}
+use Rattle.docket_values.specs.Values.{is_text}
+use Rattle.docket_history.specs.declared.row.PartyRow.{PartyRow}
 use Rattle.docket_sound.specs.Counted.{HasNumbered, cases_of, most_of}
 use Rattle.docket_sound.specs.Numbers.{AreNumbered}
 use Rattle.docket_sound.specs.declared.numbering.Key.{Key}

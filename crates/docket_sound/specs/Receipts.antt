@@ -6,8 +6,8 @@ use Rattle.std.specs.Cmp.Lexicographic.{slice_cmp}
 use Rattle.docket_command.specs.declared.command.Action.{Action}
 use Rattle.docket_command.specs.declared.command.Action.TheVariants.{ShortDay, LocalRule, LocalPeriod}
 use Rattle.docket_command.specs.declared.command.Command.{Command}
-use Rattle.docket_core.specs.Values.{is_word}
-use Rattle.docket_core.specs.declared.row.Receipt.{Receipt}
+use Rattle.docket_values.specs.Values.{is_word}
+use Rattle.docket_history.specs.declared.row.Receipt.{Receipt}
 use Rattle.docket_wire.specs.Valid.{IsCommand}
 use Rattle.docket_wire.specs.Writing.{canonical}
 use Rattle.docket_sound.specs.declared.receipt.ReceiptRecord.{ReceiptRecord}

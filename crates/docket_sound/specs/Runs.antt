@@ -1,6 +1,6 @@
 -- The rows of acts, deadline by deadline.
 use Rattle.std.specs.Prelude.{ℕ, Bool, ◌==◌, ◌&&◌, if◌then◌else◌, List, [], ◌∷◌, ◌++◌}
-use Rattle.docket_core.specs.declared.row.ActRow.{ActRow}
+use Rattle.docket_history.specs.declared.row.ActRow.{ActRow}
 use Rattle.docket_sound.specs.declared.numbering.Key.{Key}
 
 -- rows on one deadline that follow one another

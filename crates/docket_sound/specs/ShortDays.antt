@@ -2,12 +2,12 @@
 use Rattle.std.specs.Prelude.{◌≡◌, ℕ, ◌+◌, ◌≤◌, ◌==◌, nat_lt, Bool, false, not, ◌&&◌, List, [], map, length, IsTrue}
 use Rattle.std.specs.List.{AllByRecursion, list_any}
 use Rattle.court_days.specs.Calendar.{rows_of}
-use Rattle.docket_core.specs.CalendarItems.{calendar_of, stands_among}
-use Rattle.docket_core.specs.Histories.{items_of}
-use Rattle.docket_core.specs.ShortDays.{calendar_row}
-use Rattle.docket_core.specs.Values.{is_entered, is_text}
-use Rattle.docket_core.specs.declared.item.CalendarItem.{CalendarItem}
-use Rattle.docket_core.specs.declared.row.ShortDayRow.{ShortDayRow}
+use Rattle.docket_history.specs.CalendarItems.{calendar_of, stands_among}
+use Rattle.docket_history.specs.Histories.{items_of}
+use Rattle.docket_history.specs.ShortDays.{calendar_row}
+use Rattle.docket_values.specs.Values.{is_entered, is_text}
+use Rattle.docket_history.specs.declared.item.CalendarItem.{CalendarItem}
+use Rattle.docket_history.specs.declared.row.ShortDayRow.{ShortDayRow}
 use Rattle.docket_sound.specs.Calendars.{EachIsNew, IsGiven, last_of, stands}
 use Rattle.docket_sound.specs.Numbers.{Rises}
 use Rattle.docket_sound.specs.declared.short_day.ShortDayCheck.{ShortDayCheck}

@@ -4,7 +4,7 @@ ghost use Rattle.std.specs.List.{list_all};
 ghost use Rattle.court_days.specs.Court.{zone_of};
 ghost use Rattle.court_rules.specs.Acts.{is_instant};
 ghost use Rattle.court_rules.specs.declared.act.Standing.{Standing as Stood};
-ghost use Rattle.docket_core.specs.declared.row.ActRow.{ActRow as OnDeadline};
+ghost use Rattle.docket_history.specs.declared.row.ActRow.{ActRow as OnDeadline};
 ghost use Rattle.docket_sound.specs.Acts.{is_entered_at, is_on_entered_day, are_lawful, continues, begins, may_close, may_go_on, AreSoundActs, HasTakenActs};
 ghost use Rattle.docket_sound.specs.Counted.{HasNumbered, cases_of, counts_of};
 ghost use Rattle.docket_sound.specs.Dues.{last_dues, dues_of};
@@ -18,7 +18,8 @@ use crate::standings::Standings;
 use crate::text::is_entered;
 use court_days::{Calendar, Court};
 use court_rules::{Act, Standing, Start, acts_ok};
-use docket_core::{ActRow, EndRow};
+use docket_decisions::EndRow;
+use docket_history::ActRow;
 use std::alloc::{AllocError, Global};
 
 /// How many acts a deadline has at most.

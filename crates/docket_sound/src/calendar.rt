@@ -1,10 +1,10 @@
 //! The table of the calendar.
 ghost use Rattle.std.specs.Prelude.{◌≡◌, ◌≢◌, ℕ, ◌++◌, ◌∷◌, [], List, map, Ok, true, false, not};
 ghost use Rattle.court_days.specs.declared.calendar.CalendarFault.TheVariants.{NoMemory};
-ghost use Rattle.docket_core.specs.CalendarItems.{with_item, calendar_of, IsEnteredItem};
-ghost use Rattle.docket_core.specs.Histories.{items_of};
-ghost use Rattle.docket_core.specs.Values.{is_entered_at};
-ghost use Rattle.docket_core.specs.declared.row.CalendarRow.{CalendarRow as Entered};
+ghost use Rattle.docket_history.specs.CalendarItems.{with_item, calendar_of, IsEnteredItem};
+ghost use Rattle.docket_history.specs.Histories.{items_of};
+ghost use Rattle.docket_values.specs.Values.{is_entered_at};
+ghost use Rattle.docket_history.specs.declared.row.CalendarRow.{CalendarRow as Entered};
 ghost use Rattle.docket_sound.specs.Calendars.{is_sound_item, is_well_named, is_sound_row, AreSoundCalendarRows, HasTakenCalendarRows, may_come, Enters};
 ghost use Rattle.docket_sound.specs.ShortDays.{GoesBy, HasTakenShortDays};
 
@@ -12,7 +12,7 @@ use crate::short_day::ShortDayCheck;
 use crate::text::{is_entered, is_text};
 use court_days::{Calendar, CalendarFault, Court};
 use docket_command::{Moment, Text};
-use docket_core::{CalendarItem, CalendarRow};
+use docket_history::{CalendarItem, CalendarRow};
 use std::alloc::{AllocError, Global};
 
 /// Whether a court may enter the local day of the moment.

@@ -1,12 +1,12 @@
 //! The table of cases.
 ghost use Rattle.std.specs.Prelude.{◌≡◌, ◌++◌, ◌∷◌, [], List, Ok, length};
-ghost use Rattle.docket_core.specs.declared.row.CaseRow.{CaseRow as Case};
+ghost use Rattle.docket_history.specs.declared.row.CaseRow.{CaseRow as Case};
 ghost use Rattle.docket_sound.specs.Cases.{is_sound_case, AreSoundCases, HasTakenCases, may_follow};
 ghost use Rattle.std.specs.Prelude.{true, false};
 
 use crate::known_texts::KnownTexts;
 use crate::text::{is_entered, is_text, is_word};
-use docket_core::CaseRow;
+use docket_history::CaseRow;
 use std::alloc::{AllocError, Global};
 
 /// How many cases there are at most.

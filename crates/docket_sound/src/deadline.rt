@@ -1,13 +1,13 @@
 //! The table of deadlines.
 ghost use Rattle.std.specs.Prelude.{◌≡◌, ◌++◌, ◌∷◌, [], List, true, false, ◌&&◌, IfOk};
-ghost use Rattle.docket_core.specs.declared.row.DeadlineRow.{DeadlineRow as Deadline};
+ghost use Rattle.docket_history.specs.declared.row.DeadlineRow.{DeadlineRow as Deadline};
 ghost use Rattle.docket_sound.specs.Deadlines.{is_made_by, is_deadline_rule, may_be_initial, is_always_initial, is_sound_deadline, has_party, deadline_key, AreSoundDeadlines, HasTakenDeadlines, deadlines_checked, parties_of, rules_standing};
 ghost use Rattle.docket_sound.specs.KnownTexts.{is_known};
 
 use crate::known_texts::KnownTexts;
 use crate::numbering::{Key, Numbering};
 use court_rules::{DeadlineRule, Rule};
-use docket_core::DeadlineRow;
+use docket_history::DeadlineRow;
 use std::alloc::{AllocError, Global};
 
 /// How many deadlines a case has at most.

@@ -4,14 +4,14 @@ ghost use Rattle.civil_time.specs.LocalTime.{local_day, seconds};
 ghost use Rattle.court_days.specs.Court.{zone_of};
 ghost use Rattle.court_days.specs.Hours.{IsNearEntered};
 ghost use Rattle.court_rules.specs.Standings.{IsEndAfter, StandsAfter, standing};
-ghost use Rattle.docket_core.specs.EndRows.{time_of, end_row, end_running};
-ghost use Rattle.docket_core.specs.declared.end_row.EndRow.{EndRow as Stored};
+ghost use Rattle.docket_decisions.specs.EndRows.{time_of, end_row, end_running};
+ghost use Rattle.docket_decisions.specs.declared.end_row.EndRow.{EndRow as Stored};
 ghost use Rattle.docket_sound.specs.Acts.{are_lawful};
 ghost use Rattle.docket_sound.specs.Dues.{HasTakenDues};
 
 use court_days::{Calendar, Court, End};
 use court_rules::{Act, Standing, due};
-use docket_core::{EndRow, EndTime};
+use docket_decisions::{EndRow, EndTime};
 use std::alloc::AllocError;
 
 /// What stands in place of an instant where the time runs to the end of its last day.

@@ -1,12 +1,12 @@
 //! The table of the court's own rules.
 ghost use Rattle.std.specs.Prelude.{◌≡◌, ◌++◌, ◌∷◌, [], List, Ok, true, false, length};
-ghost use Rattle.docket_core.specs.declared.row.LocalRuleRow.{LocalRuleRow as Entered};
+ghost use Rattle.docket_history.specs.declared.row.LocalRuleRow.{LocalRuleRow as Entered};
 ghost use Rattle.docket_sound.specs.LocalRules.{is_sound_local_rule, AreSoundLocalRules, HasTakenLocalRules, may_follow};
 
 use crate::known_texts::KnownTexts;
 use court_days::Direction;
 use court_rules::is_local_name;
-use docket_core::LocalRuleRow;
+use docket_history::LocalRuleRow;
 use std::alloc::{AllocError, Global};
 
 /// How many local rules there are at most.

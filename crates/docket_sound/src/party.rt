@@ -1,11 +1,11 @@
 //! The table of parties.
 ghost use Rattle.std.specs.Prelude.{◌≡◌, ◌++◌, ◌∷◌, [], List, true, false, IfOk};
-ghost use Rattle.docket_core.specs.declared.row.PartyRow.{PartyRow as Party};
+ghost use Rattle.docket_history.specs.declared.row.PartyRow.{PartyRow as Party};
 ghost use Rattle.docket_sound.specs.Parties.{is_sound_party, party_key, AreSoundParties, HasTakenParties, parties_checked};
 
 use crate::numbering::{Key, Numbering};
 use crate::text::is_text;
-use docket_core::PartyRow;
+use docket_history::PartyRow;
 use std::alloc::{AllocError, Global};
 
 /// How many parties a case has at most.

@@ -1,13 +1,13 @@
 //! The table of short days.
 ghost use Rattle.std.specs.Prelude.{◌≡◌, ◌≤◌, ◌++◌, ◌∷◌, [], List, Ok, true, false, length};
-ghost use Rattle.docket_core.specs.declared.row.ShortDayRow.{ShortDayRow as Entered};
+ghost use Rattle.docket_history.specs.declared.row.ShortDayRow.{ShortDayRow as Entered};
 ghost use Rattle.docket_sound.specs.Numbers.{Rises};
 ghost use Rattle.docket_sound.specs.ShortDays.{is_among, is_sound_short_day, may_be_next, has_place, AreSoundShortDays, HasTakenShortDays};
 
 use crate::calendar::{enter, told_by};
 use crate::text::{is_entered, is_text};
 use court_days::Calendar;
-use docket_core::{CalendarItem, ShortDayRow};
+use docket_history::{CalendarItem, ShortDayRow};
 use std::alloc::{AllocError, Global};
 
 /// How many rows the calendar has at most, short days and others.

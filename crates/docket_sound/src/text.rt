@@ -1,7 +1,7 @@
 //! Days and texts within their limits.
 ghost use Rattle.std.specs.Prelude.{◌≡◌};
 ghost use Rattle.std.specs.List.{list_all};
-ghost use Rattle.docket_core.specs.Values.{is_entered, is_plain, is_visible, is_short, is_text, is_word};
+ghost use Rattle.docket_values.specs.Values.{is_entered, is_plain, is_visible, is_short, is_text, is_word};
 
 use court_days::Day;
 use docket_command::Text;

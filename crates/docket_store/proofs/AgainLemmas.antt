@@ -12,13 +12,13 @@ use Rattle.docket_command.specs.declared.command.Action.TheVariants as action
 use Rattle.docket_command.specs.declared.command.Command.{Command}
 use Rattle.docket_command.specs.declared.refusal.Reply.{Reply}
 use Rattle.docket_command.proofs.SamenessLemmas.{same_command}
-use Rattle.docket_core.specs.Histories.{History}
-use Rattle.docket_core.specs.Outcomes.{Answer, accepted, repeated, refused, answer_kept, kept, kept_by, receipts, reply_to, replied, shown, shown_fresh, outcome, after, after_answer}
-use Rattle.docket_core.specs.declared.row.Receipt.{Receipt}
-use Rattle.docket_core.specs.declared.view.Kept.{Kept}
-use Rattle.docket_core.specs.declared.view.Kept.TheVariants.{Same, Other}
-use Rattle.docket_core.specs.declared.view.View.{View}
-use Rattle.docket_core.proofs.Leading.{is_accepted}
+use Rattle.docket_history.specs.Histories.{History}
+use Rattle.docket_decisions.specs.Outcomes.{Answer, accepted, repeated, refused, answer_kept, kept, kept_by, receipts, reply_to, replied, shown, shown_fresh, outcome, after, after_answer}
+use Rattle.docket_history.specs.declared.row.Receipt.{Receipt}
+use Rattle.docket_history.specs.declared.view.Kept.{Kept}
+use Rattle.docket_history.specs.declared.view.Kept.TheVariants.{Same, Other}
+use Rattle.docket_history.specs.declared.view.View.{View}
+use Rattle.docket_decisions.proofs.Leading.{is_accepted}
 use Rattle.docket_orderly.proofs.ReceiptLemmas.{fresh_by, none_found}
 use Rattle.docket_store.specs.Applying.{Applies, Stands}
 use Rattle.docket_store.specs.Dockets.{Docket}

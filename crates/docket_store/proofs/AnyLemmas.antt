@@ -11,11 +11,11 @@ use Rattle.docket_command.specs.declared.refusal.Refusal.{Refusal}
 use Rattle.docket_command.specs.declared.refusal.Reply.{Reply}
 use Rattle.docket_columns.specs.Cells.{receipt_cells}
 use Rattle.docket_columns.specs.declared.version.Version.TheVariants.{Second}
-use Rattle.docket_core.specs.Decisions.{IsKeptReply}
-use Rattle.docket_core.specs.declared.decision.Decision.{Decision}
-use Rattle.docket_core.specs.declared.decision.Decision.TheVariants.{Change as Changed, Repeat}
-use Rattle.docket_core.specs.declared.row.Receipt.{Receipt}
-use Rattle.docket_core.specs.declared.view.View.{View}
+use Rattle.docket_decisions.specs.Decisions.{IsKeptReply}
+use Rattle.docket_decisions.specs.declared.decision.Decision.{Decision}
+use Rattle.docket_decisions.specs.declared.decision.Decision.TheVariants.{Change as Changed, Repeat}
+use Rattle.docket_history.specs.declared.row.Receipt.{Receipt}
+use Rattle.docket_history.specs.declared.view.View.{View}
 use Rattle.docket_scan.specs.Finding.{IsNotTaken, IsTaken}
 use Rattle.docket_scan.specs.Scans.{StaysOrRollsBack}
 use Rattle.docket_scan.specs.declared.fault.AdoptFault.{AdoptFault}

@@ -10,15 +10,15 @@ use Rattle.court_days.specs.Court.{CourtSettings}
 use Rattle.docket_command.specs.declared.command.Command.{Command}
 use Rattle.docket_command.specs.declared.refusal.Reply.{Reply}
 use Rattle.court_rules.specs.declared.act.Act.{Act}
-use Rattle.docket_core.specs.Decisions.{IsSoundView}
-use Rattle.docket_core.specs.EndMoves.{Follows}
-use Rattle.docket_core.specs.Histories.{History, next_row, case_rows}
-use Rattle.docket_core.specs.Outcomes.{Answer, repeated, refused, accepted, shown, outcome, after, after_answer}
-use Rattle.docket_core.specs.Records.{calendar}
-use Rattle.docket_core.specs.Tables.{Tables, rows_of, with_receipt, all_changed}
-use Rattle.docket_core.specs.declared.decision.Changes.{Changes}
-use Rattle.docket_core.specs.declared.view.View.{View}
-use Rattle.docket_core.proofs.LimitsKept.{within_limits, sound_view}
+use Rattle.docket_decisions.specs.Decisions.{IsSoundView}
+use Rattle.docket_decisions.specs.EndMoves.{Follows}
+use Rattle.docket_history.specs.Histories.{History, next_row, case_rows}
+use Rattle.docket_decisions.specs.Outcomes.{Answer, repeated, refused, accepted, shown, outcome, after, after_answer}
+use Rattle.docket_history.specs.Records.{calendar}
+use Rattle.docket_decisions.specs.Tables.{Tables, rows_of, with_receipt, all_changed}
+use Rattle.docket_decisions.specs.declared.decision.Changes.{Changes}
+use Rattle.docket_history.specs.declared.view.View.{View}
+use Rattle.docket_decisions.proofs.LimitsKept.{within_limits, sound_view}
 use Rattle.docket_wire.specs.Valid.{IsCommand}
 use Rattle.docket_tables.specs.Contents.{rows_in}
 use Rattle.docket_tables.specs.Layouts.{Rows}
@@ -32,7 +32,7 @@ use Rattle.docket_changes.specs.declared.moving.EndUpdate.{EndUpdate}
 use Rattle.docket_changes.specs.declared.moving.EndUpdate.TheVariants.{Calendar}
 use Rattle.docket_changes.proofs.HistoryLemmas.{settling, follows}
 use Rattle.docket_orderly.proofs.DocketLemmas.{orderly}
-use Rattle.docket_core.specs.declared.item.CalendarItem.{CalendarItem}
+use Rattle.docket_history.specs.declared.item.CalendarItem.{CalendarItem}
 use Rattle.docket_store.specs.Applying.{IsDocket, IsAccepted, AreNamed, docket_rows, Keeps, FailsAs, Faults}
 use Rattle.docket_store.specs.Dockets.{serving}
 use Rattle.docket_store.specs.declared.fault.Fault.{Fault}

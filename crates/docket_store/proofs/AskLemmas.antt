@@ -11,20 +11,20 @@ use Rattle.sqlite.specs.declared.error.Error.{Error}
 use Rattle.court_days.specs.Court.{CourtSettings, zone_of}
 use Rattle.docket_command.specs.declared.command.Command.{Command}
 use Rattle.docket_command.specs.declared.refusal.Reply.{Reply}
-use Rattle.docket_core.specs.CalendarItems.{IsEnteredItem}
-use Rattle.docket_core.specs.EndRows.{end_rows, end_rows_of}
-use Rattle.docket_core.specs.Histories.{History, items_of, standing_rows, case_rows, act_rows, deadline_rows, deadlines, deadlines_of_case}
+use Rattle.docket_history.specs.CalendarItems.{IsEnteredItem}
+use Rattle.docket_decisions.specs.EndRows.{end_rows, end_rows_of}
+use Rattle.docket_history.specs.Histories.{History, items_of, standing_rows, case_rows, act_rows, deadline_rows, deadlines, deadlines_of_case}
 use Rattle.court_rules.specs.Standings.{AreActs}
-use Rattle.docket_core.specs.Records.{calendar, deadline_lines, lines_from}
-use Rattle.docket_core.specs.Views.{deadline_at}
-use Rattle.docket_core.specs.Tables.{case_deadlines, rows_of}
-use Rattle.docket_core.specs.declared.end_row.EndRow.{EndRow}
-use Rattle.docket_core.specs.declared.item.CalendarItem.{CalendarItem}
-use Rattle.docket_core.specs.declared.row.CalendarRow.{CalendarRow}
-use Rattle.docket_core.specs.declared.view.DeadlineView.{DeadlineView}
-use Rattle.docket_core.proofs.Leading.{length-deadlines_from}
-use Rattle.docket_core.proofs.LimitsKept.{within_limits, lawful_deadlines}
-use Rattle.docket_core.proofs.Passed.{one_of_all}
+use Rattle.docket_history.specs.Records.{calendar, deadline_lines, lines_from}
+use Rattle.docket_history.specs.Views.{deadline_at}
+use Rattle.docket_decisions.specs.Tables.{case_deadlines, rows_of}
+use Rattle.docket_decisions.specs.declared.end_row.EndRow.{EndRow}
+use Rattle.docket_history.specs.declared.item.CalendarItem.{CalendarItem}
+use Rattle.docket_history.specs.declared.row.CalendarRow.{CalendarRow}
+use Rattle.docket_history.specs.declared.view.DeadlineView.{DeadlineView}
+use Rattle.docket_decisions.proofs.Leading.{length-deadlines_from}
+use Rattle.docket_decisions.proofs.LimitsKept.{within_limits, lawful_deadlines}
+use Rattle.docket_decisions.proofs.Passed.{one_of_all}
 use Rattle.docket_store.specs.Applying.{IsDocket, Stands, Asks, Applies, Faults, FailsAs, Keeps, docket_rows}
 use Rattle.docket_store.specs.Dockets.{Docket, serving}
 use Rattle.docket_tables.specs.Contents.{ends_of}

@@ -11,12 +11,12 @@ use Rattle.court_rules.specs.Standings.{AreActs, standing}
 use Rattle.court_rules.specs.declared.act.Act.{Act}
 use Rattle.court_rules.specs.declared.act.Standing.{Standing}
 use Rattle.court_rules.specs.declared.act.Standing.TheVariants.{Running, Suspended, Awaiting, Done, Vacated}
-use Rattle.docket_core.specs.EndRows.{time_of, end_running, ends_running, end_rows_from, first_end, after_first}
-use Rattle.docket_core.specs.Records.{line_of, lines_from}
-use Rattle.docket_core.specs.declared.end_row.EndRow.{EndRow}
-use Rattle.docket_core.specs.declared.end_row.EndTime.{EndTime}
-use Rattle.docket_core.specs.declared.record.DeadlineLine.{DeadlineLine}
-use Rattle.docket_core.specs.declared.view.DeadlineView.{DeadlineView}
+use Rattle.docket_decisions.specs.EndRows.{time_of, end_running, ends_running, end_rows_from, first_end, after_first}
+use Rattle.docket_history.specs.Records.{line_of, lines_from}
+use Rattle.docket_decisions.specs.declared.end_row.EndRow.{EndRow}
+use Rattle.docket_decisions.specs.declared.end_row.EndTime.{EndTime}
+use Rattle.docket_history.specs.declared.record.DeadlineLine.{DeadlineLine}
+use Rattle.docket_history.specs.declared.view.DeadlineView.{DeadlineView}
 use Rattle.docket_calendar.specs.DueCells.{IsDueEnd}
 use Rattle.docket_calendar.proofs.EndBounds.{ends_are_due}
 

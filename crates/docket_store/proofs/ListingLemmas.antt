@@ -6,8 +6,8 @@ use Rattle.sqlite.specs.Store.{Ghosts}
 use Rattle.sqlite.specs.Held.{Held}
 use Rattle.sqlite.specs.declared.error.Error.{Error}
 use Rattle.court_days.specs.Court.{CourtSettings}
-use Rattle.docket_core.specs.Histories.{History}
-use Rattle.docket_core.specs.declared.item.CalendarItem.{CalendarItem}
+use Rattle.docket_history.specs.Histories.{History}
+use Rattle.docket_history.specs.declared.item.CalendarItem.{CalendarItem}
 use Rattle.line_io.specs.Output.{HasFront}
 use Rattle.docket_calendar.specs.Telling.{IsHistoryOf}
 use Rattle.docket_store.specs.Applying.{IsDocket}

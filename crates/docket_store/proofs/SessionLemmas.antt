@@ -8,8 +8,8 @@ use Rattle.court_days.specs.Court.{CourtSettings}
 use Rattle.docket_command.specs.declared.command.Command.{Command}
 use Rattle.docket_command.specs.declared.refusal.Refusal.{Refusal}
 use Rattle.docket_command.specs.declared.refusal.Reply.{Reply}
-use Rattle.docket_core.specs.Histories.{History}
-use Rattle.docket_core.specs.Outcomes.{Answer, outcome, after, run, answers}
+use Rattle.docket_history.specs.Histories.{History}
+use Rattle.docket_decisions.specs.Outcomes.{Answer, outcome, after, run, answers}
 use Rattle.docket_tables.specs.Stands.{IsSettled}
 use Rattle.docket_store.specs.Applying.{IsDocket, Stands, docket_rows}
 use Rattle.docket_store.specs.Dockets.{Docket}

@@ -8,12 +8,12 @@ use Rattle.court_days.specs.Court.{CourtSettings}
 use Rattle.docket_command.specs.declared.command.Command.{Command}
 use Rattle.docket_command.specs.declared.refusal.Refusal.{Refusal}
 use Rattle.docket_command.specs.declared.refusal.Reply.{Reply}
-use Rattle.docket_core.specs.declared.decision.Decision.{Decision}
-use Rattle.docket_core.specs.declared.decision.Decision.TheVariants.{Change as Changed, Repeat}
-use Rattle.docket_core.specs.declared.end_row.EndRow.{EndRow}
-use Rattle.docket_core.specs.declared.row.Change.{Change}
-use Rattle.docket_core.specs.declared.view.Kept.TheVariants.{Same}
-use Rattle.docket_core.specs.declared.view.View.{View}
+use Rattle.docket_decisions.specs.declared.decision.Decision.{Decision}
+use Rattle.docket_decisions.specs.declared.decision.Decision.TheVariants.{Change as Changed, Repeat}
+use Rattle.docket_decisions.specs.declared.end_row.EndRow.{EndRow}
+use Rattle.docket_history.specs.declared.row.Change.{Change}
+use Rattle.docket_history.specs.declared.view.Kept.TheVariants.{Same}
+use Rattle.docket_history.specs.declared.view.View.{View}
 use Rattle.docket_scan.specs.declared.fault.AdoptFault.{AdoptFault}
 use Rattle.docket_scan.specs.declared.fault.AdoptFault.TheVariants as adopt
 use Rattle.docket_tables.specs.AnyRows.{AreDocketRows, HasReceipt, recorded, with_stored}

@@ -8,15 +8,15 @@ use Rattle.civil_time.specs.ZoneText.{zone_at}
 use Rattle.court_days.specs.Court.{CourtSettings}
 use Rattle.docket_command.specs.declared.command.Command.{Command}
 use Rattle.docket_command.specs.declared.refusal.Reply.{Reply}
-use Rattle.docket_core.specs.Decisions.{IsAnswer, LeadsTo}
+use Rattle.docket_decisions.specs.Decisions.{IsAnswer, LeadsTo}
 use Rattle.court_rules.specs.declared.act.Act.{Act}
-use Rattle.docket_core.specs.Histories.{History, standing_rows, items_of, case_number, deadline_number, act_rows, acts_of_deadline}
-use Rattle.docket_core.specs.Outcomes.{IsHistory, shown, outcome, after, repeated, refused, accepted}
-use Rattle.docket_core.specs.Tables.{rows_of}
-use Rattle.docket_core.specs.declared.decision.Changes.{Changes}
-use Rattle.docket_core.specs.declared.decision.Decision.TheVariants.{Change}
-use Rattle.docket_core.specs.declared.item.CalendarItem.{CalendarItem}
-use Rattle.docket_core.specs.declared.view.View.{View}
+use Rattle.docket_history.specs.Histories.{History, standing_rows, items_of, case_number, deadline_number, act_rows, acts_of_deadline}
+use Rattle.docket_decisions.specs.Outcomes.{IsHistory, shown, outcome, after, repeated, refused, accepted}
+use Rattle.docket_decisions.specs.Tables.{rows_of}
+use Rattle.docket_decisions.specs.declared.decision.Changes.{Changes}
+use Rattle.docket_decisions.specs.declared.decision.Decision.TheVariants.{Change}
+use Rattle.docket_history.specs.declared.item.CalendarItem.{CalendarItem}
+use Rattle.docket_history.specs.declared.view.View.{View}
 use Rattle.docket_wire.specs.Valid.{IsCommand}
 use Rattle.docket_tables.specs.Contents.{rows_in}
 use Rattle.docket_tables.specs.Layouts.{Rows}

@@ -6,8 +6,8 @@ use Rattle.sqlite.specs.contracts.error.Error as error
 use Rattle.sqlite.specs.declared.error.Error.{Error}
 use Rattle.court_days.specs.Court.{CourtSettings}
 use Rattle.court_days.specs.contracts.court.Court as court
-use Rattle.docket_core.specs.contracts.view.CalendarItems as items
-use Rattle.docket_core.specs.declared.item.CalendarItem.{CalendarItem}
+use Rattle.docket_history.specs.contracts.view.CalendarItems as items
+use Rattle.docket_history.specs.declared.item.CalendarItem.{CalendarItem}
 
 -- its connection and its court; whether the database failed under it, and by which error; and the calendar, where it is kept beside the
 -- connection

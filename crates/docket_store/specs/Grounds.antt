@@ -1,8 +1,8 @@
 -- What decides where a deadline of a docket stands.
 use Rattle.std.specs.Prelude.{◌≡◌, ℕ, Option, Some, None}
-use Rattle.docket_core.specs.Histories.{History, deadlines}
-use Rattle.docket_core.specs.Records.{calendar}
-use Rattle.docket_core.specs.Views.{deadline_at}
+use Rattle.docket_history.specs.Histories.{History, deadlines}
+use Rattle.docket_history.specs.Records.{calendar}
+use Rattle.docket_history.specs.Views.{deadline_at}
 use Rattle.docket_store.specs.declared.explaining.Grounds.{Grounds}
 
 -- the deadline of that number of the case, if there is one, with its rule and its acts, and the calendar of the history

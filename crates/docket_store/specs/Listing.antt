@@ -4,7 +4,7 @@ use Rattle.std.specs.Io.KnownBytes.{Appends}
 use Rattle.sqlite.specs.Store.{Ghosts}
 use Rattle.sqlite.specs.State.{HasCleanDisk}
 use Rattle.sqlite.specs.Held.{state}
-use Rattle.docket_core.specs.Histories.{History}
+use Rattle.docket_history.specs.Histories.{History}
 use Rattle.docket_calendar.specs.Calendar.{calendar_rows, text_of_calendar}
 use Rattle.docket_calendar.specs.Sending.{HasBegun}
 use Rattle.docket_store.specs.Applying.{Stands, Asks}

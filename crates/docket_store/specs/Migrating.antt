@@ -2,8 +2,8 @@
 use Rattle.sqlite_wal.specs.Recovery.{Image}
 use Rattle.court_days.specs.Court.{CourtSettings}
 use Rattle.docket_columns.specs.declared.version.Version.TheVariants.{First}
-use Rattle.docket_core.specs.Histories.{History}
-use Rattle.docket_core.specs.Tables.{rows_of}
+use Rattle.docket_history.specs.Histories.{History}
+use Rattle.docket_decisions.specs.Tables.{rows_of}
 use Rattle.docket_scan.specs.declared.fault.AdoptFault.{AdoptFault}
 use Rattle.docket_scan.specs.declared.fault.AdoptFault.TheVariants as adopt
 use Rattle.docket_tables.specs.Contents.{rows_by}

@@ -5,7 +5,7 @@ use Rattle.sqlite.specs.Store.{Ghosts}
 use Rattle.sqlite.specs.State.{State, HasCleanDisk, IsUnchanged}
 use Rattle.sqlite.specs.Held.{Held, state}
 use Rattle.court_days.specs.Court.{CourtSettings}
-use Rattle.docket_core.specs.Histories.{History}
+use Rattle.docket_history.specs.Histories.{History}
 use Rattle.docket_columns.specs.declared.version.Version.TheVariants.{Second}
 use Rattle.docket_scan.specs.Dockets.{IsFoundOfDocket}
 use Rattle.docket_scan.specs.Finding.{AreSound, HasCause}

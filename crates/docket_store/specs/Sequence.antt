@@ -6,8 +6,8 @@ use Rattle.sqlite.specs.Held.{state}
 use Rattle.docket_command.specs.declared.command.Command.{Command}
 use Rattle.docket_command.specs.declared.refusal.Refusal.{Refusal}
 use Rattle.docket_command.specs.declared.refusal.Reply.{Reply}
-use Rattle.docket_core.specs.Histories.{History}
-use Rattle.docket_core.specs.Outcomes.{Answer, repeated, refused, accepted, outcome, after, run, answers}
+use Rattle.docket_history.specs.Histories.{History}
+use Rattle.docket_decisions.specs.Outcomes.{Answer, repeated, refused, accepted, outcome, after, run, answers}
 use Rattle.docket_tables.specs.Stands.{LastsAsEither}
 use Rattle.docket_store.specs.Applying.{Stands, docket_rows}
 use Rattle.docket_store.specs.Dockets.{Docket}

@@ -7,8 +7,8 @@ use Rattle.court_days.specs.Court.{CourtSettings}
 use Rattle.docket_command.specs.declared.command.Command.{Command}
 use Rattle.docket_command.specs.declared.refusal.Refusal.{Refusal}
 use Rattle.docket_command.specs.declared.refusal.Reply.{Reply}
-use Rattle.docket_core.specs.Histories.{History}
-use Rattle.docket_core.specs.Outcomes.{run, answers}
+use Rattle.docket_history.specs.Histories.{History}
+use Rattle.docket_decisions.specs.Outcomes.{run, answers}
 use Rattle.docket_tables.specs.Stands.{LastsAsEither}
 use Rattle.docket_store.specs.Applying.{IsDocket, StandsFor, docket_rows}
 use Rattle.docket_store.specs.Sequence.{AreReplies}

@@ -2,9 +2,9 @@
 use Rattle.std.specs.Prelude.{◌≡◌, ℕ, List, []}
 use Rattle.court_days.specs.Calendar.{Entered, IsWithinLimits}
 use Rattle.court_days.specs.Court.{CourtSettings, zone_of}
-use Rattle.docket_core.specs.EndRows.{end_rows_of}
-use Rattle.docket_core.specs.declared.end_row.EndRow.{EndRow}
-use Rattle.docket_core.specs.declared.view.DeadlineView.{DeadlineView}
+use Rattle.docket_decisions.specs.EndRows.{end_rows_of}
+use Rattle.docket_decisions.specs.declared.end_row.EndRow.{EndRow}
+use Rattle.docket_history.specs.declared.view.DeadlineView.{DeadlineView}
 use Rattle.docket_changes.specs.Sound.{IsSoundCase}
 use Rattle.docket_store.specs.declared.fault.Fault.{Fault}
 use Rattle.docket_store.specs.declared.fault.Fault.TheVariants.{NoMemory, Damaged}

@@ -5,12 +5,12 @@ ghost use Rattle.sqlite.specs.Held.{state};
 ghost use Rattle.sqlite.specs.State.{HasCleanDisk};
 ghost use Rattle.sqlite.specs.View.{doubt};
 ghost use Rattle.court_days.specs.Court.{CourtSettings, zone_of};
-ghost use Rattle.docket_core.specs.CalendarItems.{calendar_of};
-ghost use Rattle.docket_core.specs.EndRows.{end_rows_of};
-ghost use Rattle.docket_core.specs.Histories.{History, deadlines, items_of, local_rule_rows, standing_rows};
-ghost use Rattle.docket_core.specs.Records.{calendar, case_record, deadline_lines};
-ghost use Rattle.docket_core.specs.Tables.{case_deadlines, rows_of};
-ghost use Rattle.docket_core.specs.declared.item.CalendarItem.{CalendarItem as Item};
+ghost use Rattle.docket_history.specs.CalendarItems.{calendar_of};
+ghost use Rattle.docket_decisions.specs.EndRows.{end_rows_of};
+ghost use Rattle.docket_history.specs.Histories.{History, deadlines, items_of, local_rule_rows, standing_rows};
+ghost use Rattle.docket_history.specs.Records.{calendar, case_record, deadline_lines};
+ghost use Rattle.docket_decisions.specs.Tables.{case_deadlines, rows_of};
+ghost use Rattle.docket_history.specs.declared.item.CalendarItem.{CalendarItem as Item};
 ghost use Rattle.docket_changes.specs.Sound.{IsSoundCase};
 ghost use Rattle.docket_tables.specs.Layouts.{Rows};
 ghost use Rattle.docket_tables.specs.Stands.{HoldsRows};
@@ -25,9 +25,9 @@ use crate::judging::take_calendar;
 use crate::lines::lines_told;
 use court_days::{Calendar, Court};
 use docket_changes::{case_deadlines, case_record, is_sound_case};
-use docket_core::{
-    CalendarItem, CalendarItems, CaseRecord, DeadlineLine, DeadlineView, EndRow, LocalRuleRow,
-    calendar_of,
+use docket_decisions::EndRow;
+use docket_history::{
+    CalendarItem, CalendarItems, CaseRecord, DeadlineLine, DeadlineView, LocalRuleRow, calendar_of,
 };
 use docket_tables::{ends_of_case, local_rules};
 use sqlite::{Alter, Connection, Error};

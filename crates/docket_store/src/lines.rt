@@ -8,8 +8,8 @@ ghost use Rattle.court_days.specs.Calendar.{IsWithinLimits};
 ghost use Rattle.court_days.specs.Court.{zone_of};
 ghost use Rattle.court_days.specs.declared.filing.End.{End as Limit};
 ghost use Rattle.court_rules.specs.Standings.{AreActs, standing};
-ghost use Rattle.docket_core.specs.EndRows.{after_first, end_rows_of, end_running, first_end, time_of};
-ghost use Rattle.docket_core.specs.Records.{lines_from};
+ghost use Rattle.docket_decisions.specs.EndRows.{after_first, end_rows_of, end_running, first_end, time_of};
+ghost use Rattle.docket_history.specs.Records.{lines_from};
 ghost use Rattle.docket_calendar.specs.DueCells.{IsDueEnd};
 ghost use Rattle.docket_store.specs.Sound.{AreEndsBy, IsNotTold};
 
@@ -17,7 +17,8 @@ use crate::fault::Fault;
 use court_days::{Calendar, Court, Day, End};
 use court_rules::{Act, Standing, due};
 use docket_changes::is_sound_case;
-use docket_core::{DeadlineLine, DeadlineView, EndRow, EndTime, line_of};
+use docket_decisions::{EndRow, EndTime};
+use docket_history::{DeadlineLine, DeadlineView, line_of};
 use std::alloc::{AllocError, Global};
 
 /// What stands in place of an instant where the time runs to the end of its last day.

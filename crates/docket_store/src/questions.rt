@@ -9,8 +9,8 @@ ghost use Rattle.sqlite.specs.declared.error.Error.{Error as Failure};
 ghost use Rattle.court_days.specs.Court.{zone_of};
 ghost use Rattle.court_rules.specs.Standings.{AreActs};
 ghost use Rattle.docket_calendar.specs.Calendar.{calendar_rows as due_rows};
-ghost use Rattle.docket_core.specs.Histories.{History, case_rows, local_rule_rows, parties_of_case, party_rows, standing_rows};
-ghost use Rattle.docket_core.specs.Records.{case_at, case_labelled, case_record, deadline_lines};
+ghost use Rattle.docket_history.specs.Histories.{History, case_rows, local_rule_rows, parties_of_case, party_rows, standing_rows};
+ghost use Rattle.docket_history.specs.Records.{case_at, case_labelled, case_record, deadline_lines};
 ghost use Rattle.docket_tables.specs.Layouts.{Rows};
 ghost use Rattle.docket_tables.specs.Readings.{Fails, Stays};
 ghost use Rattle.docket_tables.specs.Stands.{HoldsRows};
@@ -33,7 +33,9 @@ use crate::fault::{Fault, closing_error, read_fault};
 use crate::listing::{CalendarEnd, ListingEnd, breaking_error, list_days};
 use court_days::Day;
 use docket_changes::case_record;
-use docket_core::{CalendarRow, CaseRecord, CaseRow, DeadlineLine, DueRow, LocalRuleRow, PartyRow};
+use docket_history::{
+    CalendarRow, CaseRecord, CaseRow, DeadlineLine, DueRow, LocalRuleRow, PartyRow,
+};
 use docket_tables::{ReadFault, calendar, case, case_labelled, local_rules, parties};
 use sqlite::{Alter, Connection, Error};
 use std::io::Write;

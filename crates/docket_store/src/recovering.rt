@@ -5,8 +5,8 @@ ghost use Rattle.sqlite.specs.Files.{over_files, image_of};
 ghost use Rattle.sqlite.specs.Held.{state};
 ghost use Rattle.sqlite.specs.State.{HasCleanDisk};
 ghost use Rattle.court_days.specs.Court.{CourtSettings};
-ghost use Rattle.docket_core.specs.Histories.{History};
-ghost use Rattle.docket_core.specs.Outcomes.{after};
+ghost use Rattle.docket_history.specs.Histories.{History};
+ghost use Rattle.docket_decisions.specs.Outcomes.{after};
 ghost use Rattle.docket_store.specs.Applying.{IsDocket};
 ghost use Rattle.docket_store.specs.Reopening.{AppliesOnce, IsEither, IsNotOpened, IsNotRecovered, LeavesEither, MayLeave};
 

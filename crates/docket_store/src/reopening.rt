@@ -14,7 +14,7 @@ ghost use Rattle.sqlite.specs.State.{HasCleanDisk};
 ghost use Rattle.sqlite.specs.Tree.{Trees};
 ghost use Rattle.court_days.specs.Court.{CourtSettings};
 ghost use Rattle.docket_columns.specs.declared.version.Version.{Version};
-ghost use Rattle.docket_core.specs.Histories.{History};
+ghost use Rattle.docket_history.specs.Histories.{History};
 ghost use Rattle.docket_tables.specs.Layouts.{Rows};
 ghost use Rattle.docket_tables.specs.Stands.{HoldsRowsIn, IsImage, IsImageIn, LastsAsEither};
 ghost use Rattle.docket_store.specs.Applying.{StandsFor, docket_rows};

@@ -2,8 +2,8 @@
 ghost use Rattle.std.specs.Prelude.{◌≡◌, ◌≤◌, ◌<◌, ◌^◌, ℕ, List, IfOk, IfErr, Err, true};
 ghost use Rattle.sqlite.specs.Held.{state};
 ghost use Rattle.sqlite.specs.View.{doubt};
-ghost use Rattle.docket_core.specs.Histories.{History};
-ghost use Rattle.docket_core.specs.declared.end_row.EndRow.{EndRow};
+ghost use Rattle.docket_history.specs.Histories.{History};
+ghost use Rattle.docket_decisions.specs.declared.end_row.EndRow.{EndRow};
 ghost use Rattle.docket_tables.specs.AnyRows.{AreDocketRows};
 ghost use Rattle.docket_tables.specs.Layouts.{Rows};
 ghost use Rattle.docket_tables.specs.Stands.{HoldsRows};

@@ -7,13 +7,13 @@ use Rattle.sqlite.specs.declared.types.Value.TheVariants.{Int}
 use Rattle.court_days.specs.Court.{CourtSettings}
 use Rattle.docket_command.specs.declared.command.Command.{Command}
 use Rattle.docket_command.specs.declared.refusal.Reply.{Reply}
-use Rattle.docket_core.specs.Tables.{Tables, changed, all_changed, with_receipt}
-use Rattle.docket_core.specs.declared.end_row.EndRow.{EndRow}
-use Rattle.docket_core.specs.declared.item.CalendarItem.{CalendarItem}
-use Rattle.docket_core.specs.declared.item.CalendarItem.TheVariants as item
-use Rattle.docket_core.specs.declared.row.Change.{Change}
-use Rattle.docket_core.specs.declared.row.Change.TheVariants.{AddCalendar, RemoveCalendar, AddCase, AddParty, AddEntry, AddDeadline, AddAct, AddLocalRule}
-use Rattle.docket_core.specs.declared.row.Receipt.{Receipt}
+use Rattle.docket_decisions.specs.Tables.{Tables, changed, all_changed, with_receipt}
+use Rattle.docket_decisions.specs.declared.end_row.EndRow.{EndRow}
+use Rattle.docket_history.specs.declared.item.CalendarItem.{CalendarItem}
+use Rattle.docket_history.specs.declared.item.CalendarItem.TheVariants as item
+use Rattle.docket_history.specs.declared.row.Change.{Change}
+use Rattle.docket_history.specs.declared.row.Change.TheVariants.{AddCalendar, RemoveCalendar, AddCase, AddParty, AddEntry, AddDeadline, AddAct, AddLocalRule}
+use Rattle.docket_history.specs.declared.row.Receipt.{Receipt}
 use Rattle.docket_columns.specs.Cells.{court_cells, end_cells, receipt_cells}
 use Rattle.docket_tables.specs.AnyRows.{AreDocketRows, all_rows_changed, next_after, next_after_all, recorded, row_changed, with_calendar_row, with_stored}
 use Rattle.docket_tables.specs.Contents.{rows_with}

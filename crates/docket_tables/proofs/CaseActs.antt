@@ -20,7 +20,7 @@ use Rattle.sqlite_trees.specs.Tree.{IsAscending}
 use Rattle.sqlite_trees.specs.Props.{rows_set}
 use Rattle.sqlite_value.proofs.OrderLemmas.{value_cmp-Int}
 use Rattle.std.proofs.Math.Logic.{∥∥₁_elim}
-use Rattle.docket_core.specs.declared.row.ActRow.{ActRow}
+use Rattle.docket_history.specs.declared.row.ActRow.{ActRow}
 use Rattle.docket_columns.specs.Cells.{act_cells}
 use Rattle.docket_orderly.specs.Orderly.{Rises, RunsFrom, acts_on}
 use Rattle.docket_tables.specs.Queries.{picks, IsAnswer}

@@ -1,9 +1,9 @@
 -- Changes, one after another.
 use Rattle.std.proofs.Common.{◌≡◌, ◌∙◌, ◌+◌, ◌<◌, ◌≤◌, ℕ, List, [], ◌∷◌, ◌++◌, length, take, get_or, refl, sym, ap, arith}
 use Rattle.std.proofs.lemmas.List.{take_more, length-take}
-use Rattle.docket_core.specs.Tables.{Tables, changed, all_changed}
-use Rattle.docket_core.specs.declared.row.Change.{Change}
-use Rattle.docket_core.specs.declared.row.Change.TheVariants.{AddCalendar, RemoveCalendar, AddCase, AddParty, AddEntry, AddDeadline, AddAct, AddLocalRule}
+use Rattle.docket_decisions.specs.Tables.{Tables, changed, all_changed}
+use Rattle.docket_history.specs.declared.row.Change.{Change}
+use Rattle.docket_history.specs.declared.row.Change.TheVariants.{AddCalendar, RemoveCalendar, AddCase, AddParty, AddEntry, AddDeadline, AddAct, AddLocalRule}
 
 all_changed-append : (xs : List Change) (x : Change) (t : Tables) → all_changed (xs ++ x ∷ []) t ≡ changed x (all_changed xs t)
 all_changed-append [] x t = refl

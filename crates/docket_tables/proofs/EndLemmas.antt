@@ -6,14 +6,14 @@ use Rattle.std.proofs.lemmas.List.Sorted.{IsPermutation-trans, IsPermutation-map
 use Rattle.sqlite_trees.proofs.ListLemmas.{filter-map, filter_same, all_of}
 use Rattle.sqlite_schema.specs.Rules.{equal}
 use Rattle.court_days.specs.Court.{CourtSettings}
-use Rattle.docket_core.specs.EndRows.{AreRowsFrom, is_of, moved_end, changed_ends, all_changed_ends}
-use Rattle.docket_core.specs.declared.end_row.EndChange.{EndChange}
-use Rattle.docket_core.proofs.EndChanges.{all_changed_ends-append}
+use Rattle.docket_decisions.specs.EndRows.{AreRowsFrom, is_of, moved_end, changed_ends, all_changed_ends}
+use Rattle.docket_decisions.specs.declared.end_row.EndChange.{EndChange}
+use Rattle.docket_decisions.proofs.EndChanges.{all_changed_ends-append}
 use Rattle.std.proofs.Common.{length, take, get_or}
 use Rattle.std.proofs.lemmas.List.{take_more}
-use Rattle.docket_core.specs.Tables.{Tables}
-use Rattle.docket_core.specs.declared.end_row.EndRow.{EndRow}
-use Rattle.docket_core.specs.declared.end_row.EndChange.TheVariants.{Remove, Move}
+use Rattle.docket_decisions.specs.Tables.{Tables}
+use Rattle.docket_decisions.specs.declared.end_row.EndRow.{EndRow}
+use Rattle.docket_decisions.specs.declared.end_row.EndChange.TheVariants.{Remove, Move}
 use Rattle.docket_columns.specs.Cells.{end_cells}
 use Rattle.docket_tables.specs.Contents.{rows_with, ends_of}
 use Rattle.docket_orderly.specs.Orderly.{Rises}

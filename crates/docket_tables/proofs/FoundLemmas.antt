@@ -10,15 +10,15 @@ use Rattle.sqlite_schema.specs.Rules.{equal}
 use Rattle.sqlite_trees.proofs.ListLemmas.{all-filter}
 use Rattle.court_rules.specs.declared.local_rule.LocalRule.{LocalRule}
 use Rattle.docket_command.specs.declared.command.Command.{Command}
-use Rattle.docket_core.specs.Outcomes.{kept, kept_by}
-use Rattle.docket_core.specs.Records.{case_at, case_labelled}
-use Rattle.docket_core.specs.Histories.{deadlines_of_case, local_rule_in}
-use Rattle.docket_core.specs.declared.row.CaseRow.{CaseRow}
-use Rattle.docket_core.specs.declared.row.DeadlineRow.{DeadlineRow}
-use Rattle.docket_core.specs.declared.row.LocalRuleRow.{LocalRuleRow}
-use Rattle.docket_core.specs.declared.row.Receipt.{Receipt}
-use Rattle.docket_core.specs.declared.view.Kept.{Kept}
-use Rattle.docket_core.specs.declared.view.Kept.TheVariants.{Fresh}
+use Rattle.docket_decisions.specs.Outcomes.{kept, kept_by}
+use Rattle.docket_history.specs.Records.{case_at, case_labelled}
+use Rattle.docket_history.specs.Histories.{deadlines_of_case, local_rule_in}
+use Rattle.docket_history.specs.declared.row.CaseRow.{CaseRow}
+use Rattle.docket_history.specs.declared.row.DeadlineRow.{DeadlineRow}
+use Rattle.docket_history.specs.declared.row.LocalRuleRow.{LocalRuleRow}
+use Rattle.docket_history.specs.declared.row.Receipt.{Receipt}
+use Rattle.docket_history.specs.declared.view.Kept.{Kept}
+use Rattle.docket_history.specs.declared.view.Kept.TheVariants.{Fresh}
 use Rattle.docket_columns.specs.Cells.{case_cells, deadline_cells, local_rule_cells, receipt_cells}
 use Rattle.docket_columns.specs.Fits.{IsCaseRow, IsDeadlineRow, IsLocalRuleRow, IsReceipt}
 use Rattle.docket_orderly.specs.Orderly.{RunsFrom, cases_labelled, local_rules_named, receipts_under}

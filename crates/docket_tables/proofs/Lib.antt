@@ -22,7 +22,6 @@ mod ProbeLemmas
 mod QueryLemmas
 pub mod ReadLemmas
 mod ReceiptLemmas
-pub mod ReopenLemmas
 mod RowLemmas
 mod RowidLemmas
 pub mod SelectLemmas

@@ -7,13 +7,13 @@ use Rattle.sqlite_trees.proofs.ListLemmas.{all-filter}
 use Rattle.court_days.specs.Calendar.{Entered}
 use Rattle.court_days.specs.Court.{CourtSettings, zone_of}
 use Rattle.court_rules.specs.Standings.{standing}
-use Rattle.docket_core.specs.EndRows.{AreRowsFrom, end_running, end_row, row_of_deadline, calendar_in, end_rows, ends_running, end_rows_from}
-use Rattle.docket_core.specs.Histories.{acts_of_deadline, deadlines_of_case, deadlines_from}
-use Rattle.docket_core.specs.Tables.{Tables}
-use Rattle.docket_core.specs.declared.end_row.EndRow.{EndRow}
-use Rattle.docket_core.specs.declared.end_row.EndTime.{EndTime}
-use Rattle.docket_core.specs.declared.row.ActRow.{ActRow}
-use Rattle.docket_core.specs.declared.row.DeadlineRow.{DeadlineRow}
+use Rattle.docket_decisions.specs.EndRows.{AreRowsFrom, end_running, end_row, row_of_deadline, calendar_in, end_rows, ends_running, end_rows_from}
+use Rattle.docket_history.specs.Histories.{acts_of_deadline, deadlines_of_case, deadlines_from}
+use Rattle.docket_decisions.specs.Tables.{Tables}
+use Rattle.docket_decisions.specs.declared.end_row.EndRow.{EndRow}
+use Rattle.docket_decisions.specs.declared.end_row.EndTime.{EndTime}
+use Rattle.docket_history.specs.declared.row.ActRow.{ActRow}
+use Rattle.docket_history.specs.declared.row.DeadlineRow.{DeadlineRow}
 use Rattle.docket_columns.specs.Fits.{IsEndRow, IsDeadlineRow}
 use Rattle.docket_tables.specs.Contents.{AreStored, ends_in_case, ends_of}
 use Rattle.docket_orderly.specs.Orderly.{IsOrderly, RunsFrom}

@@ -12,12 +12,12 @@ use Rattle.sqlite.specs.declared.types.Value.TheVariants.{Int}
 use Rattle.sqlite_keyed.proofs.SortLemmas.{sorted_unique}
 use Rattle.sqlite_trees.proofs.ListLemmas.{filter_same, all_of}
 use Rattle.sqlite_trees.specs.Tree.{IsAscending}
-use Rattle.docket_core.specs.ShortDays.{calendar_row, day_and_span_rows, short_day_row, short_day_rows}
-use Rattle.docket_core.specs.CalendarItems.{is_short_day}
-use Rattle.docket_core.specs.declared.item.CalendarItem.{CalendarItem}
-use Rattle.docket_core.specs.declared.item.CalendarItem.TheVariants as item
-use Rattle.docket_core.specs.declared.row.CalendarRow.{CalendarRow}
-use Rattle.docket_core.specs.declared.row.ShortDayRow.{ShortDayRow}
+use Rattle.docket_history.specs.ShortDays.{calendar_row, day_and_span_rows, short_day_row, short_day_rows}
+use Rattle.docket_history.specs.CalendarItems.{is_short_day}
+use Rattle.docket_history.specs.declared.item.CalendarItem.{CalendarItem}
+use Rattle.docket_history.specs.declared.item.CalendarItem.TheVariants as item
+use Rattle.docket_history.specs.declared.row.CalendarRow.{CalendarRow}
+use Rattle.docket_history.specs.declared.row.ShortDayRow.{ShortDayRow}
 use Rattle.docket_columns.specs.Cells.{calendar_cells, short_day_cells}
 use Rattle.docket_orderly.specs.Orderly.{Rises}
 use Rattle.docket_tables.specs.Queries.{IsAnswer}

@@ -5,8 +5,8 @@ use Rattle.sqlite.specs.Store.{Ghosts}
 use Rattle.sqlite.specs.State.{HasCleanDisk}
 use Rattle.sqlite.specs.Held.{Held, state}
 use Rattle.court_days.specs.Court.{CourtSettings}
-use Rattle.docket_core.specs.Tables.{Tables}
-use Rattle.docket_core.specs.declared.row.ActRow.{ActRow}
+use Rattle.docket_decisions.specs.Tables.{Tables}
+use Rattle.docket_history.specs.declared.row.ActRow.{ActRow}
 use Rattle.docket_tables.specs.Contents.{rows_in}
 use Rattle.docket_tables.specs.Layouts.{Rows}
 use Rattle.docket_orderly.specs.Orderly.{IsOrderly, acts_on}

@@ -1,14 +1,14 @@
 //! Changes of rows, inside a transaction.
 ghost use Rattle.std.specs.Prelude.{◌≡◌, ◌<◌, ◌≤◌, ◌+◌, ◌^◌, ℕ, List, length, OnOk};
 ghost use Rattle.court_days.specs.Court.{CourtSettings};
-ghost use Rattle.docket_core.specs.EndRows.{changed_ends, all_changed_ends};
-ghost use Rattle.docket_core.specs.Tables.{Tables, changed, all_changed, with_receipt};
-ghost use Rattle.docket_core.specs.declared.row.Change.TheVariants as change;
+ghost use Rattle.docket_decisions.specs.EndRows.{changed_ends, all_changed_ends};
+ghost use Rattle.docket_decisions.specs.Tables.{Tables, changed, all_changed, with_receipt};
+ghost use Rattle.docket_history.specs.declared.row.Change.TheVariants as change;
 ghost use Rattle.docket_wire.specs.Writing.{canonical};
 ghost use Rattle.sqlite.specs.Held.{state};
 ghost use Rattle.sqlite.specs.State.{HasCleanDisk};
 ghost use Rattle.sqlite.specs.View.{doubt};
-ghost use Rattle.docket_core.specs.declared.end_row.EndRow.{EndRow as Ended};
+ghost use Rattle.docket_decisions.specs.declared.end_row.EndRow.{EndRow as Ended};
 ghost use Rattle.docket_tables.specs.AnyRows.{AreDocketRows, all_rows_changed, recorded, row_changed, with_calendar_row, without_calendar_row, with_stored};
 ghost use Rattle.docket_tables.specs.Contents.{rows_with};
 ghost use Rattle.docket_tables.specs.Holds.{IsKeyed};
@@ -27,7 +27,8 @@ use docket_columns::{
     local_rule_values, party_values, receipt_values, short_day_values,
 };
 use docket_command::Command;
-use docket_core::{CalendarItem, CalendarRow, Change, Changes, EndChange};
+use docket_decisions::{Changes, EndChange};
+use docket_history::{CalendarItem, CalendarRow, Change};
 use sqlite::{Alter, Error, Transaction};
 
 /// Adds a row of the calendar, a short day in a table of its own.

@@ -1,6 +1,6 @@
 //! The making of the tables.
 ghost use Rattle.std.specs.Prelude.{◌≡◌, ◌≢◌, ◌<◌, ◌≤◌, suc, [], length, get_or, OnOk, false};
-ghost use Rattle.docket_core.specs.Tables.{rows_of};
+ghost use Rattle.docket_decisions.specs.Tables.{rows_of};
 ghost use Rattle.sqlite.specs.Held.{state};
 ghost use Rattle.sqlite.specs.State.{HasCleanDisk};
 ghost use Rattle.sqlite.specs.View.{doubt};

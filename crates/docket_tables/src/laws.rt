@@ -3,9 +3,9 @@ ghost use Rattle.std.specs.Prelude.{◌≡◌, ◌++◌, ◌∷◌, [], ℕ, Lis
 ghost use Rattle.court_days.specs.Court.{CourtSettings};
 ghost use Rattle.docket_command.specs.declared.command.Command.{Command};
 ghost use Rattle.docket_command.specs.declared.refusal.Reply.{Reply};
-ghost use Rattle.docket_core.specs.Tables.{Tables, all_changed, with_receipt};
-ghost use Rattle.docket_core.specs.declared.end_row.EndRow.{EndRow};
-ghost use Rattle.docket_core.specs.declared.row.Change.{Change};
+ghost use Rattle.docket_decisions.specs.Tables.{Tables, all_changed, with_receipt};
+ghost use Rattle.docket_decisions.specs.declared.end_row.EndRow.{EndRow};
+ghost use Rattle.docket_history.specs.declared.row.Change.{Change};
 ghost use Rattle.docket_columns.specs.Cells.{receipt_cells};
 ghost use Rattle.docket_tables.specs.AnyRows.{AreDocketRows, next_after_all, recorded, with_stored};
 ghost use Rattle.docket_tables.specs.Contents.{rows_with};

@@ -6,11 +6,11 @@ ghost use Rattle.sqlite.specs.Held.{state};
 ghost use Rattle.sqlite.specs.State.{HasCleanDisk};
 ghost use Rattle.sqlite.specs.View.{doubt};
 ghost use Rattle.docket_command.specs.declared.refusal.Reply.{Reply};
-ghost use Rattle.docket_core.specs.EndRows.{end_rows};
-ghost use Rattle.docket_core.specs.Histories.{parties_of_case, entries_of_case, deadlines_of_case, acts_of_deadline, local_rule_in};
-ghost use Rattle.docket_core.specs.Outcomes.{kept};
-ghost use Rattle.docket_core.specs.Records.{case_at, case_labelled};
-ghost use Rattle.docket_core.specs.declared.view.Kept.TheVariants.{Same};
+ghost use Rattle.docket_decisions.specs.EndRows.{end_rows};
+ghost use Rattle.docket_history.specs.Histories.{parties_of_case, entries_of_case, deadlines_of_case, acts_of_deadline, local_rule_in};
+ghost use Rattle.docket_decisions.specs.Outcomes.{kept};
+ghost use Rattle.docket_history.specs.Records.{case_at, case_labelled};
+ghost use Rattle.docket_history.specs.declared.view.Kept.TheVariants.{Same};
 ghost use Rattle.docket_wire.specs.Valid.{IsCommand};
 ghost use Rattle.docket_wire.specs.Writing.{canonical};
 ghost use Rattle.docket_tables.specs.AnyRows.{HasReceipt};
@@ -29,8 +29,9 @@ use crate::store::ask;
 use court_rules::Act;
 use docket_columns::CourtRow;
 use docket_command::{Command, LocalRule};
-use docket_core::{
-    ActRow, CalendarRow, CaseRow, DeadlineRow, EndRow, EntryRow, Kept, LocalRuleRow, PartyRow,
+use docket_decisions::EndRow;
+use docket_history::{
+    ActRow, CalendarRow, CaseRow, DeadlineRow, EntryRow, Kept, LocalRuleRow, PartyRow,
 };
 use sqlite::types::ToSql;
 use sqlite::{Alter, Connection};

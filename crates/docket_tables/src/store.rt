@@ -8,9 +8,9 @@ ghost use Rattle.sqlite.specs.Values.{bound};
 ghost use Rattle.sqlite.specs.View.{doubt};
 ghost use Rattle.court_days.specs.Court.{CourtSettings};
 ghost use Rattle.docket_columns.specs.Cells.{court_cells, end_cells};
-ghost use Rattle.docket_core.specs.EndRows.{changed_ends};
-ghost use Rattle.docket_core.specs.declared.end_row.EndChange.TheVariants as end_change;
-ghost use Rattle.docket_core.specs.declared.end_row.EndRow.{EndRow as Ended};
+ghost use Rattle.docket_decisions.specs.EndRows.{changed_ends};
+ghost use Rattle.docket_decisions.specs.declared.end_row.EndChange.TheVariants as end_change;
+ghost use Rattle.docket_decisions.specs.declared.end_row.EndRow.{EndRow as Ended};
 ghost use Rattle.docket_tables.specs.Causes.{IsCaused, Suits};
 ghost use Rattle.docket_tables.specs.Holds.{IsKeyed, without_number, without_key};
 ghost use Rattle.sqlite.specs.declared.types.Value.TheVariants.{Int};
@@ -27,7 +27,7 @@ use crate::statement::{
 };
 use crate::table::Table;
 use docket_columns::end_values;
-use docket_core::EndRow;
+use docket_decisions::EndRow;
 use sqlite::types::ValueRef;
 use sqlite::{Alter, Connection, Error, Row, Transaction, params};
 

@@ -16,7 +16,7 @@ use Rattle.court_rules.specs.declared.deadline_rule.DeadlineRule.{DeadlineRule}
 use Rattle.court_rules.specs.declared.deadline_rule.DeadlineRule.TheVariants.{Listed, Local}
 use Rattle.court_rules.specs.declared.rule.Rule.{Rule}
 use Rattle.court_rules.specs.declared.rule.Rule.TheVariants.{Ordered}
-use Rattle.docket_core.specs.declared.record.DueRow.{DueRow}
+use Rattle.docket_history.specs.declared.record.DueRow.{DueRow}
 use Rattle.docket_text.specs.CalendarTexts.{end_columns, calendar_line}
 use Rattle.docket_text.specs.Lines.{right_in, left_in}
 use Rattle.docket_text.specs.Parties.{party_text}

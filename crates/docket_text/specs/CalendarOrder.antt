@@ -11,8 +11,8 @@ use Rattle.court_days.specs.declared.filing.End.{End}
 use Rattle.court_days.specs.declared.filing.End.TheVariants.{LastDay, Moment}
 use Rattle.court_rules.specs.declared.act.Standing.{Standing}
 use Rattle.court_rules.specs.declared.act.Standing.TheVariants.{Running, Suspended, Awaiting, Done, Vacated}
-use Rattle.docket_core.specs.declared.record.DeadlineLine.{DeadlineLine}
-use Rattle.docket_core.specs.declared.record.DueRow.{DueRow}
+use Rattle.docket_history.specs.declared.record.DeadlineLine.{DeadlineLine}
+use Rattle.docket_history.specs.declared.record.DueRow.{DueRow}
 use Rattle.docket_text.specs.Times.{shown}
 
 -- the row of a deadline of the case that stands so, if its time runs

@@ -7,9 +7,9 @@ use Rattle.civil_time.specs.MomentText.{clock_text, moment_text}
 use Rattle.court_days.specs.Court.{CourtSettings, zone_of}
 use Rattle.court_days.specs.Holiday.{is_statutory}
 use Rattle.docket_command.specs.Words.{day_kind_word}
-use Rattle.docket_core.specs.declared.item.CalendarItem.{CalendarItem}
-use Rattle.docket_core.specs.declared.item.CalendarItem.TheVariants.{Day, Span, Short}
-use Rattle.docket_core.specs.declared.row.CalendarRow.{CalendarRow}
+use Rattle.docket_history.specs.declared.item.CalendarItem.{CalendarItem}
+use Rattle.docket_history.specs.declared.item.CalendarItem.TheVariants.{Day, Span, Short}
+use Rattle.docket_history.specs.declared.row.CalendarRow.{CalendarRow}
 use Rattle.docket_text.specs.HolidayTexts.{holiday_line}
 use Rattle.docket_text.specs.Lines.{line, spaced}
 use Rattle.docket_text.specs.Times.{shown}

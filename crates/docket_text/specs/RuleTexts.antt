@@ -7,7 +7,7 @@ use Rattle.court_rules.specs.declared.local_rule.LocalRule.{LocalRule}
 use Rattle.court_rules.specs.declared.table.Period.{Period}
 use Rattle.court_rules.specs.declared.table.Period.TheVariants.{Days, Months}
 use Rattle.docket_command.specs.Words as words
-use Rattle.docket_core.specs.declared.row.LocalRuleRow.{LocalRuleRow}
+use Rattle.docket_history.specs.declared.row.LocalRuleRow.{LocalRuleRow}
 use Rattle.docket_text.specs.Lines.{line, spaced, right_in, left_in}
 
 -- how long the time is; a time as entered has no period in the table

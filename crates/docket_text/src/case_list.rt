@@ -3,7 +3,7 @@ ghost use Rattle.std.specs.Prelude.{◌≡◌, IfOk, string_bytes};
 ghost use Rattle.docket_text.specs.CaseLists.{case_list_line};
 
 use crate::time::DayText;
-use docket_core::CaseRow;
+use docket_history::CaseRow;
 use std::alloc::{AllocError, Global};
 
 /// The line of a case: its number, its label, the day on which it was filed, and its caption.

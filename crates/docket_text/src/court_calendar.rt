@@ -7,7 +7,7 @@ use crate::holiday::push_holidays;
 use crate::time::{ClockText, DayText, MomentText, shown};
 use court_days::{Court, Day};
 use docket_command::Word;
-use docket_core::{CalendarItem, CalendarRow};
+use docket_history::{CalendarItem, CalendarRow};
 use std::alloc::{AllocError, Global};
 use std::fmt;
 

@@ -8,7 +8,7 @@ ghost use Rattle.court_days.specs.Court.{CourtSettings};
 ghost use Rattle.court_days.specs.Holiday.{is_fixed_date, is_monday_date, is_thursday_date, IsFixedHoliday, IsStatutory};
 ghost use Rattle.court_rules.specs.LocalRules.{IsDeadlineRule, deadline_rule_name};
 ghost use Rattle.court_rules.specs.declared.deadline_rule.DeadlineRule.{DeadlineRule};
-ghost use Rattle.docket_core.specs.declared.record.DueRow.{DueRow};
+ghost use Rattle.docket_history.specs.declared.record.DueRow.{DueRow};
 ghost use Rattle.docket_text.specs.CalendarOrder.{IsCalendar, calendar_cmp};
 ghost use Rattle.docket_text.specs.CalendarTexts.{calendar_line};
 ghost use Rattle.docket_text.specs.HolidayNames.{IsObserved, fixed_name, monday_name, holiday_name};

@@ -5,7 +5,7 @@ ghost use Rattle.docket_text.specs.CalendarOrder.{row_where, due_rows, day_of_en
 use crate::time::shown;
 use court_days::{Court, Day, End};
 use court_rules::Standing;
-use docket_core::{DeadlineLine, DueRow};
+use docket_history::{DeadlineLine, DueRow};
 use std::alloc::{AllocError, Global};
 use std::cmp::Ordering;
 

@@ -8,7 +8,7 @@ use crate::column::{Left, Number};
 use court_days::Direction;
 use court_rules::{Period, RuleRow, rule_rows};
 use docket_command::Word;
-use docket_core::LocalRuleRow;
+use docket_history::LocalRuleRow;
 use std::alloc::{AllocError, Global};
 use std::fmt;
 

@@ -1,5 +1,3 @@
-pub mod CalendarCsv
-pub mod CsvRecords
 pub mod Faults
 pub mod FirstFaults
 pub mod Members

@@ -1,11 +1,8 @@
-//! Commands of the docket as JSON texts, and the texts of what they are answered; tables of days as
-//! comma-separated values.
+//! Commands of the docket as JSON texts, and the texts of what they are answered.
 #![tactic(auto)]
 
-mod calendar_csv;
 mod calendar_fields;
 mod case_fields;
-mod csv_fault;
 mod fault;
 mod laws;
 mod local_fields;
@@ -20,8 +17,6 @@ mod time_fields;
 mod writing;
 mod written;
 
-pub use calendar_csv::read_calendar_csv;
-pub use csv_fault::CsvFault;
 pub use fault::WireFault;
 pub use laws::{
     canonical_texts_are_read_back, faults_are_told_in_order, texts_are_read_as_spelled,

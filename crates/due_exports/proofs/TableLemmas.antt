@@ -6,8 +6,8 @@ use Rattle.csv.specs.Machine.{next_record}
 use Rattle.csv.specs.Reading.{default_config, records, records_from, records_next}
 use Rattle.csv.specs.Writing.{is_blank, row_body}
 use Rattle.csv.specs.declared.parser.State.TheVariants as st
-use Rattle.docket_core.specs.declared.record.DueRow.{DueRow}
-use Rattle.docket_core.specs.declared.row.CaseRow.{CaseRow}
+use Rattle.docket_history.specs.declared.record.DueRow.{DueRow}
+use Rattle.docket_history.specs.declared.row.CaseRow.{CaseRow}
 use Rattle.docket_text.specs.Parties.{party_text}
 use Rattle.due_exports.specs.Ends.{day_of_end, time_of_end, closing_of_end}
 use Rattle.due_exports.specs.Records.{record_writer, field_names, due_fields, header_record, due_record}

@@ -1,8 +1,8 @@
 -- A deadline as an event of a calendar (RFC 5545, section 3.6.1).
 use Rattle.std.specs.Prelude.{ℕ, ℤ, List, ◌++◌, codes, decimal}
 use Rattle.std.specs.List.{flat_map}
-use Rattle.docket_core.specs.declared.record.DueRow.{DueRow}
-use Rattle.docket_core.specs.declared.row.CaseRow.{CaseRow}
+use Rattle.docket_history.specs.declared.record.DueRow.{DueRow}
+use Rattle.docket_history.specs.declared.row.CaseRow.{CaseRow}
 use Rattle.icalendar.specs.ContentLines.{content_line}
 use Rattle.icalendar.specs.Events.{event_lines}
 

@@ -1,8 +1,8 @@
 -- An export of the deadlines that fall due: its head, an entry a deadline, and its foot.
 use Rattle.std.specs.Prelude.{ℕ, ℤ, Bool, true, false, List, [], ◌++◌, codes}
 use Rattle.court_days.specs.Court.{CourtSettings}
-use Rattle.docket_core.specs.declared.record.DueRow.{DueRow}
-use Rattle.docket_core.specs.declared.row.CaseRow.{CaseRow}
+use Rattle.docket_history.specs.declared.record.DueRow.{DueRow}
+use Rattle.docket_history.specs.declared.row.CaseRow.{CaseRow}
 use Rattle.html_sheets.specs.Pages.{page_head, page_foot}
 use Rattle.html_sheets.specs.Weeks.{days_head, due_row, week_foot}
 use Rattle.html_sheets.specs.declared.links.Links.TheVariants.{None}

@@ -2,8 +2,8 @@
 use Rattle.std.specs.Prelude.{ℕ, List, [], ◌++◌, ◌==◌, if◌then◌else◌, codes, Option, Some, None}
 use Rattle.court_days.specs.Court.{CourtSettings}
 use Rattle.court_days.specs.declared.filing.End.{End}
-use Rattle.docket_core.specs.declared.record.DueRow.{DueRow}
-use Rattle.docket_core.specs.declared.row.CaseRow.{CaseRow}
+use Rattle.docket_history.specs.declared.record.DueRow.{DueRow}
+use Rattle.docket_history.specs.declared.row.CaseRow.{CaseRow}
 use Rattle.serde_json.specs.Data.{Data, null, number, unsigned, string, object, Members, no_members, member, put}
 use Rattle.serde_json.specs.Written.{compact_text}
 use Rattle.due_exports.specs.Ends.{day_of_end, time_of_end, closing_of_end}

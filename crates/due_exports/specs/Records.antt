@@ -5,8 +5,8 @@ use Rattle.court_days.specs.declared.filing.End.{End}
 use Rattle.csv.specs.Writing.{row_text, default_writer, with_terminator}
 use Rattle.csv.specs.declared.parser.Terminator.TheVariants.{CRLF}
 use Rattle.csv.specs.declared.writer.WriterBuilder.{WriterBuilder}
-use Rattle.docket_core.specs.declared.record.DueRow.{DueRow}
-use Rattle.docket_core.specs.declared.row.CaseRow.{CaseRow}
+use Rattle.docket_history.specs.declared.record.DueRow.{DueRow}
+use Rattle.docket_history.specs.declared.row.CaseRow.{CaseRow}
 use Rattle.docket_text.specs.Parties.{party_text}
 use Rattle.due_exports.specs.Ends.{day_of_end, time_of_end, closing_of_end}
 

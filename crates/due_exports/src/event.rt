@@ -3,7 +3,7 @@ ghost use Rattle.std.specs.Prelude.{◌≡◌, IfOk, string_bytes};
 ghost use Rattle.due_exports.specs.Events.{event_uid, event_summary, event_description, due_event};
 
 use crate::export::Entry;
-use docket_core::{CaseRow, DueRow};
+use docket_history::{CaseRow, DueRow};
 use icalendar::{Event, event_text};
 use std::alloc::{AllocError, Global};
 

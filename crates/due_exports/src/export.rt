@@ -9,7 +9,7 @@ use crate::form::Form;
 use crate::object::due_member;
 use crate::record::{due_record, header_record};
 use court_days::{Court, Day};
-use docket_core::{CaseRow, DueRow};
+use docket_history::{CaseRow, DueRow};
 use html_sheets::{Links, due_head, due_row, page_head};
 use icalendar::{calendar_foot, calendar_head};
 use std::alloc::{AllocError, Global};

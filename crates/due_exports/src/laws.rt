@@ -3,8 +3,8 @@ ghost use Rattle.std.specs.Prelude.{◌≡◌, ◌<◌, ◌≤◌, ◌^◌, ℕ,
 ghost use Rattle.std.specs.List.{flat_map};
 ghost use Rattle.court_days.specs.Court.{CourtSettings};
 ghost use Rattle.csv.specs.Reading.{default_config, records};
-ghost use Rattle.docket_core.specs.declared.record.DueRow.{DueRow};
-ghost use Rattle.docket_core.specs.declared.row.CaseRow.{CaseRow};
+ghost use Rattle.docket_history.specs.declared.record.DueRow.{DueRow};
+ghost use Rattle.docket_history.specs.declared.row.CaseRow.{CaseRow};
 ghost use Rattle.icalendar.specs.ContentLines.{ended, physical_lines, unfolded};
 ghost use Rattle.serde_json.specs.Data.{array};
 ghost use Rattle.serde_json.specs.Read.{read};

@@ -6,7 +6,7 @@ use Rattle.sqlite.specs.State.{HasCleanDisk}
 use Rattle.court_days.specs.Court.{CourtSettings}
 use Rattle.docket_command.specs.declared.command.Command.{Command}
 use Rattle.docket_command.specs.declared.refusal.Reply.{Reply}
-use Rattle.docket_core.specs.Outcomes.{accepted, after, outcome, refused, repeated}
+use Rattle.docket_decisions.specs.Outcomes.{accepted, after, outcome, refused, repeated}
 use Rattle.docket_tables.specs.Layouts.{Rows}
 use Rattle.docket_store.specs.Applying.{Applies, Stands}
 use Rattle.docket_store.specs.Dockets.{Docket as Stored}

@@ -9,12 +9,12 @@ use Rattle.std.proofs.lemmas.Option.{slice_get_within, get_or_from_slice_get}
 use Rattle.std.specs.Io.KnownBytes.{Appends}
 use Rattle.std.specs.Prelude.{bytes_eq, slice_get}
 use Rattle.court_days.specs.Court.{CourtSettings}
-use Rattle.docket_core.specs.Histories.{History, case_rows}
-use Rattle.docket_core.specs.Outcomes.{IsHistory}
-use Rattle.docket_core.proofs.LimitsKept.{within_limits}
+use Rattle.docket_history.specs.Histories.{History, case_rows}
+use Rattle.docket_decisions.specs.Outcomes.{IsHistory}
+use Rattle.docket_decisions.proofs.LimitsKept.{within_limits}
 use Rattle.docket_orderly.proofs.LabelLemmas.{one_case}
-use Rattle.docket_core.specs.Records.{case_at, case_labelled}
-use Rattle.docket_core.specs.declared.row.CaseRow.{CaseRow}
+use Rattle.docket_history.specs.Records.{case_at, case_labelled}
+use Rattle.docket_history.specs.declared.row.CaseRow.{CaseRow}
 use Rattle.docket_store.specs.declared.listing.CalendarEnd.{CalendarEnd}
 use Rattle.docket_text.specs.CaseLists.{case_list_line}
 use Rattle.line_io.specs.Output.{AppendsFront, HasFront}

@@ -9,14 +9,14 @@ use Rattle.sqlite_trees.proofs.ListLemmas.{all-filter, all-flat_map}
 use Rattle.court_days.specs.Court.{CourtSettings}
 use Rattle.court_rules.specs.declared.act.Standing.{Standing}
 use Rattle.court_rules.specs.declared.act.Standing.TheVariants.{Running, Suspended, Awaiting, Done, Vacated}
-use Rattle.docket_core.specs.Histories.{History, case_rows, deadlines_of_case}
-use Rattle.docket_core.specs.Outcomes.{IsHistory}
-use Rattle.docket_core.specs.Records.{case_at}
-use Rattle.docket_core.specs.Tables.{rows_of}
-use Rattle.docket_core.specs.declared.record.DueRow.{DueRow}
-use Rattle.docket_core.specs.declared.row.CaseRow.{CaseRow}
-use Rattle.docket_core.specs.declared.row.DeadlineRow.{DeadlineRow}
-use Rattle.docket_core.specs.EndRows.{calendar_in}
+use Rattle.docket_history.specs.Histories.{History, case_rows, deadlines_of_case}
+use Rattle.docket_decisions.specs.Outcomes.{IsHistory}
+use Rattle.docket_history.specs.Records.{case_at}
+use Rattle.docket_decisions.specs.Tables.{rows_of}
+use Rattle.docket_history.specs.declared.record.DueRow.{DueRow}
+use Rattle.docket_history.specs.declared.row.CaseRow.{CaseRow}
+use Rattle.docket_history.specs.declared.row.DeadlineRow.{DeadlineRow}
+use Rattle.docket_decisions.specs.EndRows.{calendar_in}
 use Rattle.docket_orderly.proofs.DeadlineLemmas.{no_deadlines}
 use Rattle.docket_calendar.specs.Calendar.{calendar_rows, due_of, due_within, row_where, running}
 use Rattle.docket_calendar.proofs.HistoryLemmas.{is_calendar}

@@ -9,8 +9,8 @@ use Rattle.sqlite.specs.Held.{state}
 use Rattle.sqlite.specs.State.{HasCleanDisk}
 use Rattle.sqlite.specs.Store.{Ghosts}
 use Rattle.court_days.specs.Court.{CourtSettings}
-use Rattle.docket_core.specs.Histories.{History}
-use Rattle.docket_core.specs.declared.record.DueRow.{DueRow}
+use Rattle.docket_history.specs.Histories.{History}
+use Rattle.docket_history.specs.declared.record.DueRow.{DueRow}
 use Rattle.docket_store.specs.Applying.{Asks, Stands}
 use Rattle.docket_store.specs.Dockets.{Docket}
 use Rattle.docket_store.specs.declared.fault.Fault.{Fault}

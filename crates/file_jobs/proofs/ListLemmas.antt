@@ -3,8 +3,8 @@ use Rattle.std.proofs.Common.{ℕ, Option, List, [], Result, Ok, Err, IfErr}
 use Rattle.sqlite.specs.Store.{Ghosts}
 use Rattle.sqlite.specs.Held.{Held, state}
 use Rattle.sqlite.specs.State.{HasCleanDisk}
-use Rattle.docket_core.specs.Histories.{History}
-use Rattle.docket_core.specs.declared.row.CaseRow.{CaseRow}
+use Rattle.docket_history.specs.Histories.{History}
+use Rattle.docket_history.specs.declared.row.CaseRow.{CaseRow}
 use Rattle.docket_tables.specs.Layouts.{Rows}
 use Rattle.docket_tables.specs.Stands.{HoldsRows}
 use Rattle.docket_store.specs.AnyRows.{PreservesCalendar}

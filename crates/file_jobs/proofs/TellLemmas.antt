@@ -4,7 +4,7 @@ use Rattle.sqlite.specs.Store.{Ghosts}
 use Rattle.sqlite.specs.Held.{Held, state}
 use Rattle.sqlite.specs.State.{HasCleanDisk}
 use Rattle.court_days.specs.Court.{CourtSettings}
-use Rattle.docket_core.specs.Histories.{History}
+use Rattle.docket_history.specs.Histories.{History}
 use Rattle.docket_scan.specs.declared.fault.AdoptFault.{AdoptFault}
 use Rattle.docket_scan.specs.declared.fault.AdoptFault.TheVariants as adopt
 use Rattle.docket_tables.specs.Layouts.{Rows}

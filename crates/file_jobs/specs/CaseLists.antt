@@ -5,8 +5,8 @@ use Rattle.std.specs.List.{flat_map, list_any}
 use Rattle.sqlite.specs.Held.{state}
 use Rattle.sqlite.specs.State.{HasCleanDisk}
 use Rattle.sqlite.specs.Store.{Ghosts}
-use Rattle.docket_core.specs.Histories.{History, case_rows, parties_of_case, party_rows}
-use Rattle.docket_core.specs.declared.row.CaseRow.{CaseRow}
+use Rattle.docket_history.specs.Histories.{History, case_rows, parties_of_case, party_rows}
+use Rattle.docket_history.specs.declared.row.CaseRow.{CaseRow}
 use Rattle.docket_store.specs.Applying.{Asks, Stands}
 use Rattle.docket_store.specs.Dockets.{Docket}
 use Rattle.docket_store.specs.declared.fault.Fault.TheVariants.{NoMemory, StoreFailed}

@@ -2,7 +2,7 @@
 use Rattle.std.specs.Prelude.{◌≡◌, ◌⊎◌, Result, Ok, Err}
 use Rattle.docket_command.specs.declared.command.Command.{Command}
 use Rattle.docket_command.specs.declared.refusal.Reply.{Reply}
-use Rattle.docket_core.specs.Outcomes.{accepted, outcome, refused, repeated}
+use Rattle.docket_decisions.specs.Outcomes.{accepted, outcome, refused, repeated}
 use Rattle.docket_tables.specs.Layouts.{Rows}
 use Rattle.docket_store.specs.declared.fault.Fault.{Fault}
 use Rattle.docket_store.specs.declared.fault.Fault.TheVariants.{NoMemory, Refused, StoreFailed}

@@ -6,12 +6,12 @@ use Rattle.sqlite.specs.State.{HasCleanDisk}
 use Rattle.sqlite.specs.Store.{Ghosts}
 use Rattle.court_days.specs.Court.{CourtSettings}
 use Rattle.docket_calendar.specs.Calendar.{calendar_rows}
-use Rattle.docket_core.specs.Histories.{History, case_rows}
-use Rattle.docket_core.specs.Records.{case_at, case_record, deadline_lines}
-use Rattle.docket_core.specs.declared.record.CaseRecord.{CaseRecord}
-use Rattle.docket_core.specs.declared.record.DeadlineLine.{DeadlineLine}
-use Rattle.docket_core.specs.declared.record.DueRow.{DueRow}
-use Rattle.docket_core.specs.declared.row.CaseRow.{CaseRow}
+use Rattle.docket_history.specs.Histories.{History, case_rows}
+use Rattle.docket_history.specs.Records.{case_at, case_record, deadline_lines}
+use Rattle.docket_history.specs.declared.record.CaseRecord.{CaseRecord}
+use Rattle.docket_history.specs.declared.record.DeadlineLine.{DeadlineLine}
+use Rattle.docket_history.specs.declared.record.DueRow.{DueRow}
+use Rattle.docket_history.specs.declared.row.CaseRow.{CaseRow}
 use Rattle.docket_store.specs.Dockets.{Docket}
 use Rattle.docket_store.specs.declared.listing.CalendarEnd.{CalendarEnd}
 use Rattle.due_exports.specs.Exports.{export_entry, tells_reasons}

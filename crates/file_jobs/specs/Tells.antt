@@ -5,12 +5,12 @@ use Rattle.std.specs.Option.{option_map}
 use Rattle.court_days.specs.Calendar.{Entered}
 use Rattle.court_days.specs.Court.{CourtSettings, zone_of}
 use Rattle.court_reasons.specs.Steps.{steps_of}
-use Rattle.docket_core.specs.Histories.{History, deadlines}
-use Rattle.docket_core.specs.Records.{calendar, case_record, deadline_lines}
-use Rattle.docket_core.specs.Views.{deadline_at}
-use Rattle.docket_core.specs.declared.view.DeadlineView.{DeadlineView}
-use Rattle.docket_core.specs.declared.record.CaseRecord.{CaseRecord}
-use Rattle.docket_core.specs.declared.record.DeadlineLine.{DeadlineLine}
+use Rattle.docket_history.specs.Histories.{History, deadlines}
+use Rattle.docket_history.specs.Records.{calendar, case_record, deadline_lines}
+use Rattle.docket_history.specs.Views.{deadline_at}
+use Rattle.docket_history.specs.declared.view.DeadlineView.{DeadlineView}
+use Rattle.docket_history.specs.declared.record.CaseRecord.{CaseRecord}
+use Rattle.docket_history.specs.declared.record.DeadlineLine.{DeadlineLine}
 use Rattle.docket_calendar.specs.Calendar.{calendar_rows, text_of_calendar}
 use Rattle.docket_scan.specs.declared.fault.AdoptFault.{AdoptFault}
 use Rattle.docket_scan.specs.declared.fault.AdoptFault.TheVariants as adopt

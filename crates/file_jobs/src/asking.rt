@@ -4,7 +4,7 @@ ghost use Rattle.std.specs.Option.{option_map};
 ghost use Rattle.sqlite.specs.Held.{state};
 ghost use Rattle.sqlite.specs.State.{HasCleanDisk};
 ghost use Rattle.sqlite.specs.View.{doubt};
-ghost use Rattle.docket_core.specs.Histories.{History, local_rule_rows, standing_rows};
+ghost use Rattle.docket_history.specs.Histories.{History, local_rule_rows, standing_rows};
 ghost use Rattle.docket_tables.specs.Layouts.{Rows};
 ghost use Rattle.docket_tables.specs.Stands.{HoldsRows};
 ghost use Rattle.docket_text.specs.CourtCalendar.{court_calendar_text};

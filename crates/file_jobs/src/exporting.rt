@@ -4,7 +4,7 @@ ghost use Rattle.std.specs.Prelude.{◌≡◌, ◌≤◌, ◌++◌, IfErr, lengt
 ghost use Rattle.sqlite.specs.Held.{state};
 ghost use Rattle.sqlite.specs.State.{HasCleanDisk};
 ghost use Rattle.sqlite.specs.View.{doubt};
-ghost use Rattle.docket_core.specs.Histories.{History, case_rows};
+ghost use Rattle.docket_history.specs.Histories.{History, case_rows};
 ghost use Rattle.docket_tables.specs.Layouts.{Rows};
 ghost use Rattle.docket_tables.specs.Stands.{HoldsRows};
 ghost use Rattle.docket_store.specs.AnyRows.{Preserves, PreservesCalendar};
@@ -20,7 +20,7 @@ use crate::adopting::adopt;
 use crate::ended::Worked;
 use crate::explaining::text_of_reasons;
 use court_days::Day;
-use docket_core::DueRow;
+use docket_history::DueRow;
 use docket_store::{AdoptFault, CalendarEnd, Docket, Fault, Watch};
 use due_exports::{Entry, Form, export_entry, export_foot, export_head, tells_reasons};
 use line_io::write_bytes;

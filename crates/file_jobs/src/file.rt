@@ -8,7 +8,7 @@ ghost use Rattle.std.specs.Option.{option_map};
 ghost use Rattle.sqlite_wal.specs.Files.{image_at};
 ghost use Rattle.sqlite.specs.Files.{IsCleanLeft};
 ghost use Rattle.docket_columns.specs.declared.version.Version.TheVariants.{First};
-ghost use Rattle.docket_core.specs.Histories.{local_rule_rows, standing_rows};
+ghost use Rattle.docket_history.specs.Histories.{local_rule_rows, standing_rows};
 ghost use Rattle.docket_scan.specs.Dockets.{MayHold, holdings_in};
 ghost use Rattle.docket_tables.specs.Stands.{IsImage};
 ghost use Rattle.docket_text.specs.CourtCalendar.{court_calendar_text};

@@ -5,7 +5,7 @@ ghost use Rattle.std.specs.Str.Iter.{HasSubslice};
 ghost use Rattle.sqlite.specs.Held.{state};
 ghost use Rattle.sqlite.specs.State.{HasCleanDisk};
 ghost use Rattle.sqlite.specs.View.{doubt};
-ghost use Rattle.docket_core.specs.Histories.{History};
+ghost use Rattle.docket_history.specs.Histories.{History};
 ghost use Rattle.docket_tables.specs.Layouts.{Rows};
 ghost use Rattle.docket_tables.specs.Stands.{HoldsRows};
 ghost use Rattle.docket_store.specs.AnyRows.{Preserves, PreservesCalendar};
@@ -17,7 +17,7 @@ ghost use Rattle.file_jobs.specs.Tells.{WorksTo};
 
 use crate::adopting::adopt;
 use crate::ended::Worked;
-use docket_core::{CaseRow, PartyRow};
+use docket_history::{CaseRow, PartyRow};
 use docket_store::{AdoptFault, CalendarEnd, Docket, Fault, Watch};
 use docket_text::case_list_line;
 use line_io::write_bytes;

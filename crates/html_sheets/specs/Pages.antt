@@ -1,6 +1,6 @@
 -- The head and the foot of a page, and the list of cases.
 use Rattle.std.specs.Prelude.{ℕ, List, [], ◌∷◌, ◌++◌, codes}
-use Rattle.docket_core.specs.declared.row.CaseRow.{CaseRow}
+use Rattle.docket_history.specs.declared.row.CaseRow.{CaseRow}
 use Rattle.html_sheets.specs.Elements.{element, told, day_told, case_link, cell, head_cell, row, table_head, table_foot}
 use Rattle.html_sheets.specs.Escapes.{escaped}
 

@@ -3,10 +3,10 @@ use Rattle.std.specs.Prelude.{ℕ, List, [], ◌∷◌, ◌++◌, codes, decimal
 use Rattle.std.specs.List.{flat_map}
 use Rattle.court_days.specs.Court.{CourtSettings}
 use Rattle.docket_command.specs.Words.{role_word}
-use Rattle.docket_core.specs.declared.record.CaseRecord.{CaseRecord}
-use Rattle.docket_core.specs.declared.record.DeadlineLine.{DeadlineLine}
-use Rattle.docket_core.specs.declared.row.EntryRow.{EntryRow}
-use Rattle.docket_core.specs.declared.row.PartyRow.{PartyRow}
+use Rattle.docket_history.specs.declared.record.CaseRecord.{CaseRecord}
+use Rattle.docket_history.specs.declared.record.DeadlineLine.{DeadlineLine}
+use Rattle.docket_history.specs.declared.row.EntryRow.{EntryRow}
+use Rattle.docket_history.specs.declared.row.PartyRow.{PartyRow}
 use Rattle.docket_text.specs.CaseTexts.{standing_text}
 use Rattle.docket_text.specs.Parties.{party_text}
 use Rattle.html_sheets.specs.Elements.{element, told, day_told, cell, number_cell, head_cell, row, table_head, table_foot}

@@ -6,7 +6,7 @@ use Rattle.civil_time.specs.MomentText.{clock_text}
 use Rattle.court_days.specs.Court.{CourtSettings, zone_of}
 use Rattle.court_days.specs.declared.filing.End.{End}
 use Rattle.court_days.specs.declared.filing.End.TheVariants.{LastDay, Moment}
-use Rattle.docket_core.specs.declared.record.DueRow.{DueRow}
+use Rattle.docket_history.specs.declared.record.DueRow.{DueRow}
 use Rattle.docket_text.specs.Parties.{party_text}
 use Rattle.docket_text.specs.Times.{shown, shown_minute}
 use Rattle.html_sheets.specs.Elements.{element, told, weekday_told, link, nav, case_number, cell, number_cell, head_cell, row, table_head, table_foot}

@@ -3,7 +3,7 @@ ghost use Rattle.std.specs.Prelude.{◌≡◌, IfOk, string_bytes};
 ghost use Rattle.html_sheets.specs.Pages.{cases_head, case_row, cases_foot};
 
 use crate::piece::{CaseLink, DayTold, Told, table_foot};
-use docket_core::CaseRow;
+use docket_history::CaseRow;
 use std::alloc::{AllocError, Global};
 
 /// The list of cases up to its rows.

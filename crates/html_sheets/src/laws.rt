@@ -1,10 +1,10 @@
 //! What the functions of specs/ say, with nothing to run.
 ghost use Rattle.std.specs.Prelude.{◌≡◌, ℕ, List, [], length, filter, map, drop, slice_index, Option, is_some, IsTrue};
 ghost use Rattle.court_days.specs.Court.{CourtSettings};
-ghost use Rattle.docket_core.specs.declared.record.CaseRecord.{CaseRecord};
-ghost use Rattle.docket_core.specs.declared.record.DeadlineLine.{DeadlineLine};
-ghost use Rattle.docket_core.specs.declared.record.DueRow.{DueRow};
-ghost use Rattle.docket_core.specs.declared.row.CaseRow.{CaseRow};
+ghost use Rattle.docket_history.specs.declared.record.CaseRecord.{CaseRecord};
+ghost use Rattle.docket_history.specs.declared.record.DeadlineLine.{DeadlineLine};
+ghost use Rattle.docket_history.specs.declared.record.DueRow.{DueRow};
+ghost use Rattle.docket_history.specs.declared.row.CaseRow.{CaseRow};
 ghost use Rattle.html_sheets.specs.Escapes.{is_control, blanked_byte, escaped};
 ghost use Rattle.html_sheets.specs.Marks.{marks};
 ghost use Rattle.html_sheets.specs.Pages.{page_head, case_row};

@@ -6,7 +6,7 @@ ghost use Rattle.html_sheets.specs.Sheets.{case_head, parties_head, party_row, p
 use crate::piece::{DayTold, Told, table_foot};
 use court_days::Court;
 use docket_command::Word;
-use docket_core::{CaseRecord, DeadlineLine, EntryRow, PartyRow};
+use docket_history::{CaseRecord, DeadlineLine, EntryRow, PartyRow};
 use docket_text::{PartyText, StandingText};
 use std::alloc::{AllocError, Global};
 

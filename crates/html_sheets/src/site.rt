@@ -9,7 +9,7 @@ use crate::page::{page_foot, page_head};
 use crate::sheet::case_sheet;
 use crate::week::week_head;
 use court_days::{Court, Day};
-use docket_core::{CaseRecord, CaseRow, DeadlineLine};
+use docket_history::{CaseRecord, CaseRow, DeadlineLine};
 use std::alloc::{AllocError, Global};
 use std::fmt;
 

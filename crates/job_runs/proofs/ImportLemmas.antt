@@ -2,7 +2,7 @@
 use Rattle.std.proofs.Common.{◌≡◌, ◌≢◌, ◌∙◌, List, [], ℕ, Option, Some, None, MatchOption, sym, subst}
 use Rattle.docket_command.specs.declared.command.Command.{Command}
 use Rattle.docket_command.specs.declared.new_day.NewDay.{NewDay}
-use Rattle.docket_wire.specs.CalendarCsv.{IsTable}
+use Rattle.day_tables.specs.CalendarCsv.{IsTable}
 use Rattle.job_runs.specs.Ends.{TellsNothing}
 use Rattle.job_runs.specs.Jobs.{import_command}
 use Rattle.job_runs.specs.declared.status.Status.{Status}

@@ -16,7 +16,7 @@ use Rattle.docket_command.specs.declared.command.Command.{Command}
 use Rattle.docket_command.specs.declared.command.Action.TheVariants.{ImportCalendar}
 use Rattle.docket_command.specs.declared.new_day.NewDay.{NewDay}
 use Rattle.docket_command.specs.declared.refusal.Reply.{Reply}
-use Rattle.docket_core.specs.Histories.{local_rule_rows, standing_rows}
+use Rattle.docket_history.specs.Histories.{local_rule_rows, standing_rows}
 use Rattle.docket_jobs.specs.declared.job.Job.{Job}
 use Rattle.docket_jobs.specs.declared.job.Job.TheVariants as job
 use Rattle.docket_columns.specs.declared.version.Version.TheVariants.{First}
@@ -30,7 +30,7 @@ use Rattle.docket_tables.specs.Layouts.{Rows}
 use Rattle.docket_text.specs.CourtCalendar.{court_calendar_text}
 use Rattle.docket_text.specs.HolidayTexts.{holiday_text}
 use Rattle.docket_text.specs.RuleTexts.{rules_text}
-use Rattle.docket_wire.specs.CalendarCsv.{IsTable}
+use Rattle.day_tables.specs.CalendarCsv.{IsTable}
 use Rattle.line_io.specs.Output.{AppendsFront, HasFront}
 use Rattle.command_lines.specs.Lines.{Docket, bad_answers, docket_after, run_text}
 use Rattle.command_lines.specs.declared.fault.RunFault.{RunFault}

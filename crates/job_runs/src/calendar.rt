@@ -3,7 +3,7 @@ ghost use Rattle.std.specs.Prelude.{[], ℕ, List, Option};
 ghost use Rattle.sqlite_wal.specs.Files.{image_at};
 ghost use Rattle.court_days.specs.Court.{CourtSettings};
 ghost use Rattle.docket_calendar.specs.Calendar.{text_of_calendar};
-ghost use Rattle.docket_core.specs.Histories.{History};
+ghost use Rattle.docket_history.specs.Histories.{History};
 ghost use Rattle.file_jobs.specs.Tells.{ListsTo};
 ghost use Rattle.job_runs.specs.Ends.{HasTold};
 ghost use Rattle.job_runs.specs.Jobs.{OfDocket, TellsOf};

@@ -1,7 +1,7 @@
 //! The cases of the docket in a file, a line for each.
 ghost use Rattle.std.specs.Prelude.{[], ℕ, List, Option, option_copied};
 ghost use Rattle.sqlite_wal.specs.Files.{image_at};
-ghost use Rattle.docket_core.specs.declared.row.CaseRow.{CaseRow};
+ghost use Rattle.docket_history.specs.declared.row.CaseRow.{CaseRow};
 ghost use Rattle.file_jobs.specs.CaseLists.{ListsCases, cases_told};
 ghost use Rattle.job_runs.specs.Ends.{HasListed, SaysMissing, no_such_case};
 ghost use Rattle.job_runs.specs.Jobs.{OfDocket, TellsOf};

@@ -1,6 +1,6 @@
 //! The court calendar of the docket in a file.
 ghost use Rattle.sqlite_wal.specs.Files.{image_at};
-ghost use Rattle.docket_core.specs.Histories.{standing_rows};
+ghost use Rattle.docket_history.specs.Histories.{standing_rows};
 ghost use Rattle.docket_text.specs.CourtCalendar.{court_calendar_text};
 ghost use Rattle.job_runs.specs.Ends.{TellsText};
 ghost use Rattle.job_runs.specs.Jobs.{OfDocket, TellsOf};

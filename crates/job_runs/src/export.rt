@@ -2,7 +2,7 @@
 ghost use Rattle.std.specs.Prelude.{[], ℕ, ℤ, List, Option};
 ghost use Rattle.sqlite_wal.specs.Files.{image_at};
 ghost use Rattle.court_days.specs.Court.{CourtSettings};
-ghost use Rattle.docket_core.specs.Histories.{History};
+ghost use Rattle.docket_history.specs.Histories.{History};
 ghost use Rattle.file_jobs.specs.Exports.{ExportsTo, text_of_export};
 ghost use Rattle.file_jobs.specs.declared.exporting.Export.{Export as Wanted};
 ghost use Rattle.job_runs.specs.Ends.{HasTold};

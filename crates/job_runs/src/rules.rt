@@ -2,7 +2,7 @@
 ghost use Rattle.std.specs.Prelude.{◌≡◌, ℕ, List, [], None, string_bytes};
 ghost use Rattle.std.specs.Cow.{cow_str_bytes};
 ghost use Rattle.sqlite_wal.specs.Files.{image_at};
-ghost use Rattle.docket_core.specs.Histories.{local_rule_rows};
+ghost use Rattle.docket_history.specs.Histories.{local_rule_rows};
 ghost use Rattle.docket_text.specs.RuleTexts.{rules_text};
 ghost use Rattle.file_jobs.specs.Tells.{AnswersTo};
 ghost use Rattle.job_runs.specs.Ends.{TellsText};

@@ -12,7 +12,7 @@ use Rattle.sqlite_wal.specs.Files.{outcomes, seen_image}
 use Rattle.sqlite_wal.specs.Reads.{AreClean}
 use Rattle.sqlite_wal.specs.Recovery.{Image}
 use Rattle.court_days.specs.Court.{CourtSettings}
-use Rattle.docket_core.specs.Histories.{History}
+use Rattle.docket_history.specs.Histories.{History}
 use Rattle.docket_store.specs.Reopening.{HoldDocket, HoldEither, MayLeave}
 use Rattle.power_failure.specs.PowerFailures.{IsLeftOf}
 

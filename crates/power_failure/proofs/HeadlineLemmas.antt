@@ -8,8 +8,8 @@ use Rattle.sqlite.specs.Store.{Ghosts}
 use Rattle.sqlite.specs.Held.{Held}
 use Rattle.court_days.specs.Court.{CourtSettings}
 use Rattle.docket_command.specs.declared.command.Command.{Command}
-use Rattle.docket_core.specs.Histories.{History}
-use Rattle.docket_core.specs.Outcomes.{Answer, repeated, refused, accepted, outcome, after, after_answer, run}
+use Rattle.docket_history.specs.Histories.{History}
+use Rattle.docket_decisions.specs.Outcomes.{Answer, repeated, refused, accepted, outcome, after, after_answer, run}
 use Rattle.docket_tables.specs.Stands.{LastsAsEither}
 use Rattle.docket_wire.specs.Valid.{IsCommand}
 use Rattle.docket_store.specs.Applying.{IsDocket, StandsFor, docket_rows}

@@ -19,9 +19,9 @@ use Rattle.court_days.specs.Court.{CourtSettings}
 use Rattle.docket_command.specs.declared.command.Command.{Command}
 use Rattle.docket_command.specs.declared.refusal.Refusal.{Refusal}
 use Rattle.docket_command.specs.declared.refusal.Reply.{Reply}
-use Rattle.docket_core.specs.Histories.{History}
-use Rattle.docket_core.specs.Outcomes.{run}
-use Rattle.docket_core.specs.Records.{case_record, deadline_lines}
+use Rattle.docket_history.specs.Histories.{History}
+use Rattle.docket_decisions.specs.Outcomes.{run}
+use Rattle.docket_history.specs.Records.{case_record, deadline_lines}
 use Rattle.docket_calendar.specs.Calendar.{calendar_rows, text_of_calendar}
 use Rattle.docket_store.specs.Applying.{Asks, IsDocket, Stands, docket_rows}
 use Rattle.docket_store.specs.Dockets.{Docket}

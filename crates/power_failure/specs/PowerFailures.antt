@@ -8,7 +8,7 @@ use Rattle.sqlite_wal.specs.Recovery.{Image}
 use Rattle.sqlite.specs.Files.{over_files}
 use Rattle.sqlite.specs.Held.{Held}
 use Rattle.court_days.specs.Court.{CourtSettings}
-use Rattle.docket_core.specs.Histories.{History}
+use Rattle.docket_history.specs.Histories.{History}
 use Rattle.docket_tables.specs.Stands.{LastsAsEither}
 use Rattle.docket_store.specs.Applying.{StandsFor, docket_rows}
 use Rattle.docket_store.specs.Reopening.{HoldDocket, HoldEither, MayLeave}

@@ -6,7 +6,7 @@ ghost use Rattle.sqlite.specs.Files.{over_files, image_of};
 ghost use Rattle.sqlite.specs.Held.{state};
 ghost use Rattle.sqlite.specs.State.{HasCleanDisk};
 ghost use Rattle.court_days.specs.Court.{CourtSettings};
-ghost use Rattle.docket_core.specs.Histories.{History};
+ghost use Rattle.docket_history.specs.Histories.{History};
 ghost use Rattle.docket_tables.specs.Stands.{LastsAsEither};
 ghost use Rattle.docket_store.specs.Applying.{StandsFor, docket_rows};
 ghost use Rattle.docket_store.specs.Reopening.{HoldDocket, HoldEither};

@@ -6,7 +6,7 @@ ghost use Rattle.sqlite.specs.Held.{state};
 ghost use Rattle.sqlite.specs.State.{HasCleanDisk};
 ghost use Rattle.sqlite.specs.View.{doubt};
 ghost use Rattle.court_days.specs.Court.{CourtSettings};
-ghost use Rattle.docket_core.specs.Histories.{History};
+ghost use Rattle.docket_history.specs.Histories.{History};
 ghost use Rattle.docket_wire.specs.Valid.{IsCommand};
 ghost use Rattle.docket_store.specs.Applying.{IsDocket, Stands};
 ghost use Rattle.docket_store.specs.Reopening.{HoldDocket};
@@ -15,7 +15,7 @@ ghost use Rattle.power_failure.specs.Headline.{IsPrefixTold, KeepsFilesUntold, K
 use crate::running::{NotReopened, Reopened, reopen_after_power_failure};
 use court_days::Day;
 use docket_command::Command;
-use docket_core::{CaseRecord, DeadlineLine};
+use docket_history::{CaseRecord, DeadlineLine};
 use docket_store::{CalendarEnd, Docket, Fault};
 use sqlite::{Alter, Files, Options};
 use sqlite_disk::{Crash, Disk};

@@ -2,7 +2,7 @@
 use anyhow::{Error, anyhow};
 use court_days::{Court, Day, End};
 use docket_command::Text;
-use docket_core::DueRow;
+use docket_history::DueRow;
 use docket_text::calendar_text;
 use std::alloc::Global;
 use std::time::Instant;

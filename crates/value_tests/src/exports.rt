@@ -1,7 +1,7 @@
 //! Entries of exports worked out by hand.
 use court_days::{Court, End, read_day};
 use docket_command::Text;
-use docket_core::{CaseRow, DueRow};
+use docket_history::{CaseRow, DueRow};
 use due_exports::*;
 use std::alloc::{AllocError, Global};
 use std::test::Fail;

@@ -2,7 +2,7 @@
 use court_days::Direction;
 use court_rules::LocalRule;
 use docket_command::Text;
-use docket_core::LocalRuleRow;
+use docket_history::LocalRuleRow;
 use docket_text::rules_text;
 use std::alloc::{AllocError, Global};
 use std::test::Fail;

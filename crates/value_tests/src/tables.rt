@@ -2,9 +2,10 @@
 use court_days::{Calendar, Court, Day, DayKind, Direction};
 use court_rules::{Act, DayPeriod, DeadlineRule, MotionKind, Period, Rule, Start};
 use docket_command::{LocalRule, Role, Text, TimeOfDay};
-use docket_core::{
-    ActRow, CalendarItem, CalendarRow, CaseRow, DeadlineRow, EndRow, EndTime, EntryRow,
-    LocalRuleRow, PartyRow, ShortDayRow,
+use docket_decisions::{EndRow, EndTime};
+use docket_history::{
+    ActRow, CalendarItem, CalendarRow, CaseRow, DeadlineRow, EntryRow, LocalRuleRow, PartyRow,
+    ShortDayRow,
 };
 use docket_sound::*;
 use std::alloc::{AllocError, Global};

@@ -2,8 +2,8 @@
 use Rattle.std.proofs.Common.{◌≡◌, List, [], ◌∷◌, refl}
 use Rattle.court_days.specs.Court.{CourtSettings}
 use Rattle.docket_command.specs.declared.command.Command.{Command}
-use Rattle.docket_core.specs.Histories.{History}
-use Rattle.docket_core.specs.Outcomes.{Answer, outcome, answers, after_answer}
+use Rattle.docket_history.specs.Histories.{History}
+use Rattle.docket_decisions.specs.Outcomes.{Answer, outcome, answers, after_answer}
 
 -- the goal follows once each command has its answer, in the history that the answers before it leave
 abbrev pub IfAnswered : CourtSettings → History → List Command → List Answer → Type 0 → Type 0

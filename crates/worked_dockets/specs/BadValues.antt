@@ -14,7 +14,7 @@ use Rattle.docket_command.specs.declared.command.Action.{Action}
 use Rattle.docket_command.specs.declared.command.Action.TheVariants.{DeclareDay, CloseSpan, ShortDay, WithdrawCalendar, OpenCase, AddParty, FileEntry, ServeSummons, FileWaiver, ServePleading, EnterJudgment, LocalPeriod}
 use Rattle.docket_command.specs.declared.field.Field.TheVariants as field
 use Rattle.docket_command.specs.declared.refusal.Refusal.TheVariants as refusal
-use Rattle.docket_core.specs.Outcomes.{Answer, refused, accepted, replied}
+use Rattle.docket_decisions.specs.Outcomes.{Answer, refused, accepted, replied}
 use Rattle.worked_dockets.specs.Commands.{june, july, december, moment, too_early, first_entered, last_entered, too_late, keyed, open_case, add_doe, serve, move, rule, state, order_reply, notice, extend, file, vacate}
 
 unfoldable pub labelled : List ℕ → List ℕ → ℕ → Action

@@ -11,7 +11,7 @@ use Rattle.docket_command.specs.declared.choice.ServiceMethod.{ServiceMethod}
 use Rattle.docket_command.specs.declared.command.Command.{Command}
 use Rattle.docket_command.specs.declared.command.Action.{Action}
 use Rattle.docket_command.specs.declared.command.Action.TheVariants.{OpenCase, AddParty, ServeSummons, OrderReply, RuleMotion, Dispose, StatementServed, NoticeHearing, Extend, Satisfy, Vacate}
-use Rattle.docket_core.specs.Outcomes.{Answer, accepted, replied}
+use Rattle.docket_decisions.specs.Outcomes.{Answer, accepted, replied}
 
 -- the court: its clocks are seven hours behind Greenwich all the year, as Arizona's, and its clerk's office closes at 17:00
 unfoldable pub arizona : CourtSettings

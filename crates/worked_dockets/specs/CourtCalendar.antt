@@ -13,7 +13,7 @@ use Rattle.docket_command.specs.declared.command.Action.TheVariants.{DeclareDay,
 use Rattle.docket_command.specs.declared.field.Field.TheVariants as field
 use Rattle.docket_command.specs.declared.new_day.NewDay.{NewDay}
 use Rattle.docket_command.specs.declared.refusal.Refusal.TheVariants as refusal
-use Rattle.docket_core.specs.Outcomes.{Answer, refused, accepted, replied}
+use Rattle.docket_decisions.specs.Outcomes.{Answer, refused, accepted, replied}
 use Rattle.worked_dockets.specs.Commands.{june, november, december, moment, too_early, too_late, keyed, open_case, add_doe, add_roe, move, order_reply, notice, extend, file, in_time, late}
 use Rattle.worked_dockets.specs.Orders.{ordered_at, ordered_until}
 

@@ -7,7 +7,7 @@ use Rattle.docket_command.specs.declared.choice.ServiceMethod.TheVariants.{A}
 use Rattle.docket_command.specs.declared.command.Command.{Command}
 use Rattle.docket_command.specs.declared.field.Field.TheVariants as field
 use Rattle.docket_command.specs.declared.refusal.Refusal.TheVariants as refusal
-use Rattle.docket_core.specs.Outcomes.{Answer, repeated, refused, accepted, replied}
+use Rattle.docket_decisions.specs.Outcomes.{Answer, repeated, refused, accepted, replied}
 use Rattle.worked_dockets.specs.Commands.{june, july, august, september, november, december, moment, too_late, keyed, party, open_case, add_doe, add_roe, serve, move, order_reply, extend, file, in_time, late}
 
 unfoldable pub filed : List Command

@@ -5,7 +5,7 @@ use Rattle.docket_command.specs.declared.command.Command.{Command}
 use Rattle.docket_command.specs.declared.command.Action.{Action}
 use Rattle.docket_command.specs.declared.command.Action.TheVariants.{EnterJudgment}
 use Rattle.docket_command.specs.declared.refusal.Refusal.TheVariants as refusal
-use Rattle.docket_core.specs.Outcomes.{Answer, refused, accepted, replied}
+use Rattle.docket_decisions.specs.Outcomes.{Answer, refused, accepted, replied}
 use Rattle.worked_dockets.specs.Commands.{june, july, june_of_2026, moment, keyed, open_case, extend, file, in_time, late}
 
 -- judgment is entered on Friday, 13 June 2025

@@ -4,7 +4,7 @@ use Rattle.docket_command.specs.declared.command.Command.{Command}
 use Rattle.docket_command.specs.declared.command.Action.{Action}
 use Rattle.docket_command.specs.declared.command.Action.TheVariants.{OpenCase}
 use Rattle.docket_command.specs.declared.refusal.Refusal.TheVariants as refusal
-use Rattle.docket_core.specs.Outcomes.{Answer, repeated, refused, accepted, replied}
+use Rattle.docket_decisions.specs.Outcomes.{Answer, repeated, refused, accepted, replied}
 use Rattle.worked_dockets.specs.Commands.{june, keyed, open_case, add_doe, roe_v_doe, serve, vacate}
 
 unfoldable pub doe_v_roe : Action

@@ -12,7 +12,7 @@ use Rattle.docket_command.specs.declared.command.Action.{Action}
 use Rattle.docket_command.specs.declared.command.Action.TheVariants.{LocalRule, LocalPeriod}
 use Rattle.docket_command.specs.declared.field.Field.TheVariants as field
 use Rattle.docket_command.specs.declared.refusal.Refusal.TheVariants as refusal
-use Rattle.docket_core.specs.Outcomes.{Answer, refused, accepted, replied}
+use Rattle.docket_decisions.specs.Outcomes.{Answer, refused, accepted, replied}
 use Rattle.worked_dockets.specs.Commands.{november, december, moment, too_late, keyed, party, open_case, move, extend, file, in_time, late}
 
 -- two local rules: fourteen days forward, to which service adds three, and twenty-eight days before an event

@@ -7,7 +7,7 @@ use Rattle.docket_command.specs.declared.choice.ServiceMethod.TheVariants.{A, C}
 use Rattle.docket_command.specs.declared.command.Command.{Command}
 use Rattle.docket_command.specs.declared.field.Field.TheVariants as field
 use Rattle.docket_command.specs.declared.refusal.Refusal.TheVariants as refusal
-use Rattle.docket_core.specs.Outcomes.{Answer, refused, accepted, replied}
+use Rattle.docket_decisions.specs.Outcomes.{Answer, refused, accepted, replied}
 use Rattle.worked_dockets.specs.Commands.{june, july, august, september, october, november, december, moment, keyed, open_case, add_doe, add_roe, serve, move, rule, state, extend, file, vacate, in_time, late}
 
 unfoldable pub moved : List Command

@@ -12,7 +12,7 @@ use Rattle.docket_command.specs.declared.command.Action.{Action}
 use Rattle.docket_command.specs.declared.command.Action.TheVariants.{OrderPeriod}
 use Rattle.docket_command.specs.declared.field.Field.TheVariants as field
 use Rattle.docket_command.specs.declared.refusal.Refusal.TheVariants as refusal
-use Rattle.docket_core.specs.Outcomes.{Answer, refused, accepted, replied}
+use Rattle.docket_decisions.specs.Outcomes.{Answer, refused, accepted, replied}
 use Rattle.worked_dockets.specs.Commands.{may, june, july, august, november, december, moment, too_early, too_late, keyed, open_case, add_doe, add_roe, notice, file, in_time, late, extend}
 
 -- a time of days or of months, for every party

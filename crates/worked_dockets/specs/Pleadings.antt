@@ -15,7 +15,7 @@ use Rattle.docket_command.specs.declared.command.Action.{Action}
 use Rattle.docket_command.specs.declared.command.Action.TheVariants.{ServePleading}
 use Rattle.docket_command.specs.declared.field.Field.TheVariants as field
 use Rattle.docket_command.specs.declared.refusal.Refusal.TheVariants as refusal
-use Rattle.docket_core.specs.Outcomes.{Answer, refused, accepted, replied}
+use Rattle.docket_decisions.specs.Outcomes.{Answer, refused, accepted, replied}
 use Rattle.worked_dockets.specs.Commands.{june, august, november, december, moment, keyed, party, open_case, add_doe, add_roe, move, order_reply, extend, file, vacate}
 
 -- a pleading is served on a party, and where the party is an officer also on the United States attorney

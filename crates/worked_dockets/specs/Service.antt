@@ -9,7 +9,7 @@ use Rattle.docket_command.specs.declared.command.Action.{Action}
 use Rattle.docket_command.specs.declared.command.Action.TheVariants.{FileEntry, ServeSummons, FileWaiver}
 use Rattle.docket_command.specs.declared.field.Field.TheVariants as field
 use Rattle.docket_command.specs.declared.refusal.Refusal.TheVariants as refusal
-use Rattle.docket_core.specs.Outcomes.{Answer, refused, accepted, replied}
+use Rattle.docket_decisions.specs.Outcomes.{Answer, refused, accepted, replied}
 use Rattle.worked_dockets.specs.Commands.{march, april, may, june, july, august, keyed, party, open_case, add_doe, add_roe, serve, move}
 
 unfoldable pub entry : ℕ → List ℕ → Action

@@ -1,7 +1,7 @@
 //! What is answered, by theme.
 ghost use Rattle.std.specs.Prelude.{◌≡◌, []};
 ghost use Rattle.court_days.specs.Court.{CourtSettings};
-ghost use Rattle.docket_core.specs.Outcomes.{answers};
+ghost use Rattle.docket_decisions.specs.Outcomes.{answers};
 ghost use Rattle.worked_dockets.specs.Commands.{arizona};
 ghost use Rattle.worked_dockets.specs.Keys.{asked_again, asked_again_answered};
 ghost use Rattle.worked_dockets.specs.BadValues.{valued, valued_answered, named, named_answered};

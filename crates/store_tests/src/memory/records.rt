@@ -2,7 +2,7 @@
 use super::created;
 use crate::asking::{OPENING, Step, answers, day};
 use docket_command::Role;
-use docket_core::{CaseRecord, EntryRow, PartyRow};
+use docket_history::{CaseRecord, EntryRow, PartyRow};
 use docket_store::{Docket, Fault};
 use sqlite::Alter;
 use std::test::Fail;

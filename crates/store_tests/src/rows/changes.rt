@@ -4,7 +4,7 @@ use court_rules::{
     Act, DayPeriod, DeadlineRule, HourPeriod, LocalRule, MotionKind, Period, Rule, Start,
 };
 use docket_command::{Moment, Role, Text, TimeOfDay};
-use docket_core::{
+use docket_history::{
     ActRow, CalendarItem, CalendarRow, CaseRow, Change, DeadlineRow, EntryRow, LocalRuleRow,
     PartyRow,
 };

@@ -5,7 +5,7 @@ use super::cells::{
 };
 use super::changes::storm;
 use super::{filled, is_written, made};
-use docket_core::Change;
+use docket_history::Change;
 use sqlite::types::ValueRef::{self, Int, Text};
 use sqlite::{Alter, Connection, Error};
 use std::alloc::{AllocError, Global};

@@ -7,7 +7,7 @@ use docket_columns::{
     calendar_values, case_values, deadline_values, entry_values, local_rule_values, party_values,
     short_day_values,
 };
-use docket_core::{CalendarItem, CalendarRow, Kept};
+use docket_history::{CalendarItem, CalendarRow, Kept};
 use docket_tables as tables;
 use docket_tables::ReadFault;
 use docket_wire::command_text;

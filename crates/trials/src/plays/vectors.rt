@@ -2,7 +2,7 @@
 use crate::plays::worked::{ASKED, CASE, ZONE, eastern_court, push_deadlines};
 use anyhow::{Error, anyhow};
 use court_days::Court;
-use docket_core::DecideFault;
+use docket_decisions::DecideFault;
 use docket_plain::Plain;
 use docket_wire::{read_command, reply_text, wire_fault_text};
 use std::alloc::Global;

@@ -4,7 +4,7 @@ use anyhow::{Error, anyhow};
 use command_lines::Clerk;
 use court_days::{Court, Day, End};
 use court_rules::Standing;
-use docket_core::DeadlineLine;
+use docket_history::DeadlineLine;
 use docket_store::Docket;
 use sqlite::MemStore;
 use std::alloc::{AllocError, Global};

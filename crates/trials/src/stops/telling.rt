@@ -2,7 +2,7 @@
 //! calendar of all days.
 use anyhow::{Error, anyhow};
 use court_days::{Court, Day, read_day};
-use docket_core::DueRow;
+use docket_history::DueRow;
 use docket_plain::Plain;
 use docket_store::Docket;
 use docket_text::{calendar_text, case_text, due_rows, sort_calendar};

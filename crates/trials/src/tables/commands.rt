@@ -2,7 +2,8 @@
 use anyhow::{Error, anyhow};
 use court_days::Day;
 use docket_command::{Action, AddParty, Command, OpenCase, Reply, Role, Text};
-use docket_core::{CaseRow, Change, Changes, PartyRow};
+use docket_decisions::Changes;
+use docket_history::{CaseRow, Change, PartyRow};
 use std::alloc::Global;
 
 /// 2025-06-02.

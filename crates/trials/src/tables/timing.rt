@@ -4,7 +4,7 @@ use anyhow::{Error, anyhow};
 use court_days::Court;
 use docket_changes::{EndUpdate, write};
 use docket_command::Command;
-use docket_core::Changes;
+use docket_decisions::Changes;
 use docket_wire::command_text;
 use sqlite::types::{ToSql, ValueRef};
 use sqlite::{Alter, Connection};

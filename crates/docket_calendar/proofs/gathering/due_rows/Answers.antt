@@ -2,7 +2,7 @@ use Rattle.std.proofs.Common.{◌≡◌, Vec, Global, sym, subst, arith}
 use Rattle.sqlite.specs.State.{HasCleanDisk}
 use Rattle.sqlite.specs.Held.{state}
 use Rattle.court_days.specs.Calendar.{Entered}
-use Rattle.docket_core.specs.declared.record.DueRow.{DueRow}
+use Rattle.docket_history.specs.declared.record.DueRow.{DueRow}
 use Rattle.docket_calendar.specs.Asked.{Lists}
 use Rattle.docket_calendar.specs.Calendar.{calendar_rows}
 use Rattle.docket_calendar.specs.Question.{question, days_asked}

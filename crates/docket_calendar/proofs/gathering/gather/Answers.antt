@@ -6,7 +6,7 @@ use Rattle.sqlite.specs.Values.{bound}
 use Rattle.sqlite.specs.View.{doubt}
 use Rattle.sqlite.proofs.StateLemmas.{survives_then}
 use Rattle.sqlite.proofs.Callers.{begun_plain}
-use Rattle.docket_core.specs.declared.record.DueRow.{DueRow}
+use Rattle.docket_history.specs.declared.record.DueRow.{DueRow}
 use Rattle.docket_tables.specs.Causes.{IsCausedFault}
 use Rattle.docket_tables.proofs.StandsLemmas.{failed_query}
 use Rattle.docket_calendar.specs.Asked.{RemainsAfter}

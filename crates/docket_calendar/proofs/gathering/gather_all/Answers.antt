@@ -3,7 +3,7 @@ use Rattle.sqlite.specs.State.{HasCleanDisk}
 use Rattle.sqlite.specs.Held.{state}
 use Rattle.sqlite.proofs.Callers.{unchanged_then}
 use Rattle.sqlite.proofs.StateLemmas.{survives_then}
-use Rattle.docket_core.specs.declared.record.DueRow.{DueRow}
+use Rattle.docket_history.specs.declared.record.DueRow.{DueRow}
 use Rattle.docket_tables.proofs.PassedCauses.{fault_after}
 use Rattle.docket_calendar.proofs.GatherLemmas.{caused_after, err_comes, goes_on, stops, whole}
 use Rattle.docket_calendar.proofs.TellLemmas.{lists_still}

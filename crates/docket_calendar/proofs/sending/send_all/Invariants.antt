@@ -3,7 +3,7 @@ use Rattle.std.specs.Prelude.{IsTrue}
 use Rattle.sqlite.specs.Order.{Row}
 use Rattle.sqlite.specs.State.{HasCleanDisk, IsUnchanged, Survives}
 use Rattle.sqlite.specs.Held.{state}
-use Rattle.docket_core.specs.declared.record.DueRow.{DueRow}
+use Rattle.docket_history.specs.declared.record.DueRow.{DueRow}
 use Rattle.docket_calendar.specs.Asked.{Lists, Gave}
 use Rattle.docket_calendar.specs.Stops.{IsUnderWay}
 use Rattle.docket_calendar.proofs.TellLemmas.{IsTold}

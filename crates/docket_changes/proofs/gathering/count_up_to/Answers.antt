@@ -1,6 +1,6 @@
 use Rattle.std.proofs.Common.{leb, leb-true, leb-false, rules}
 use Rattle.std.proofs.lemmas.List.Sorted.{IsPartitionPoint-from_clause, IsPartitionedBy-leb}
-use Rattle.docket_core.specs.declared.row.ActRow.{ActRow}
+use Rattle.docket_history.specs.declared.row.ActRow.{ActRow}
 use Rattle.docket_changes.proofs.gathering.count_up_to.Goals as goal
 
 pub returns-clause-cut : goal.returns-clause-cut

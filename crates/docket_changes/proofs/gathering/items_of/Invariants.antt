@@ -1,5 +1,5 @@
 use Rattle.std.proofs.Common.{◌≡◌, take}
-use Rattle.docket_core.specs.Histories.{items_of}
+use Rattle.docket_history.specs.Histories.{items_of}
 use Rattle.docket_changes.proofs.gathering.items_of.Given as goal
 
 abbrev pub invariant-loop-row : goal.invariant-loop-row

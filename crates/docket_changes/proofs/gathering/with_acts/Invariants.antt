@@ -1,7 +1,7 @@
 use Rattle.std.proofs.Common.{◌≡◌, ◌==◌, ◌<◌, ℕ, List, map, take, filter}
 use Rattle.std.specs.List.Sorted.{IsNonDecreasingBy}
-use Rattle.docket_core.specs.Histories.{deadlines_from}
-use Rattle.docket_core.specs.declared.row.ActRow.{ActRow}
+use Rattle.docket_history.specs.Histories.{deadlines_from}
+use Rattle.docket_history.specs.declared.row.ActRow.{ActRow}
 use Rattle.docket_orderly.specs.Orderly.{RunsFrom, acts_on}
 use Rattle.docket_tables.specs.Readings.{AreActsOf}
 use Rattle.docket_changes.proofs.gathering.with_acts.Given as goal

@@ -1,4 +1,4 @@
-use Rattle.docket_core.proofs.MovedEnds.{moves_lawful}
+use Rattle.docket_decisions.proofs.MovedEnds.{moves_lawful}
 use Rattle.docket_changes.proofs.moving.moves.Goals as goal
 
 pub returns-then-not-branch : goal.returns-then-not-branch

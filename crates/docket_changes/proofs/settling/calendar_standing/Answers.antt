@@ -1,8 +1,8 @@
 use Rattle.std.proofs.Common.{◌∙◌, ap}
 use Rattle.std.proofs.lemmas.Result.{IfOk-weaker}
 use Rattle.sqlite.specs.Held.{state}
-use Rattle.docket_core.specs.CalendarItems.{calendar_of}
-use Rattle.docket_core.specs.Histories.{items_of}
+use Rattle.docket_history.specs.CalendarItems.{calendar_of}
+use Rattle.docket_history.specs.Histories.{items_of}
 use Rattle.docket_tables.specs.Contents.{rows_with}
 use Rattle.docket_tables.proofs.AnyLemmas.{still_read}
 use Rattle.docket_tables.proofs.InsideLemmas.{failed_after}

@@ -1,7 +1,7 @@
 use Rattle.std.proofs.Common.{◌≡◌, subst}
 use Rattle.std.proofs.lemmas.Result.{IfOk-weaker}
 use Rattle.sqlite.specs.Held.{state}
-use Rattle.docket_core.specs.EndRows.{calendar_in}
+use Rattle.docket_decisions.specs.EndRows.{calendar_in}
 use Rattle.docket_tables.specs.AnyRows.{with_stored}
 use Rattle.docket_tables.specs.Contents.{rows_with}
 use Rattle.docket_changes.specs.Settling.{settled_cases}

@@ -2,8 +2,8 @@ use Rattle.std.proofs.Common.{◌≡◌, ◌∙◌, ◌++◌, length, sym, subst
 use Rattle.std.proofs.lemmas.Bool.Decides.{nat_tests}
 use Rattle.std.proofs.lemmas.List.{nil_from_length}
 use Rattle.sqlite.specs.Held.{state}
-use Rattle.docket_core.specs.EndRows.{AreRowsFrom, all_changed_ends}
-use Rattle.docket_core.specs.Histories.{deadlines_of_case, deadlines_from}
+use Rattle.docket_decisions.specs.EndRows.{AreRowsFrom, all_changed_ends}
+use Rattle.docket_history.specs.Histories.{deadlines_of_case, deadlines_from}
 use Rattle.docket_tables.specs.AnyRows.{with_stored}
 use Rattle.docket_tables.specs.Contents.{rows_with, ends_of}
 use Rattle.docket_changes.specs.Settling.{settled_case}

@@ -1,8 +1,8 @@
 use Rattle.std.proofs.Common.{◌≡◌, ◌≤◌, ℕ, List}
 use Rattle.sqlite.specs.Held.{state}
 use Rattle.sqlite.specs.View.{doubt}
-use Rattle.docket_core.specs.Tables.{Tables}
-use Rattle.docket_core.specs.declared.end_row.EndRow.{EndRow}
+use Rattle.docket_decisions.specs.Tables.{Tables}
+use Rattle.docket_decisions.specs.declared.end_row.EndRow.{EndRow}
 use Rattle.docket_tables.specs.AnyRows.{with_stored}
 use Rattle.docket_tables.specs.Contents.{rows_with}
 use Rattle.docket_tables.specs.Layouts.{Rows}

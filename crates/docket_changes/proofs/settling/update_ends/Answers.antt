@@ -1,7 +1,7 @@
 use Rattle.std.proofs.Common.{List, ap, sym, subst}
 use Rattle.sqlite.specs.Held.{state}
-use Rattle.docket_core.specs.EndRows.{all_changed_ends}
-use Rattle.docket_core.specs.declared.end_row.EndRow.{EndRow}
+use Rattle.docket_decisions.specs.EndRows.{all_changed_ends}
+use Rattle.docket_decisions.specs.declared.end_row.EndRow.{EndRow}
 use Rattle.docket_tables.specs.AnyRows.{with_stored}
 use Rattle.docket_tables.specs.Contents.{rows_with}
 use Rattle.docket_changes.specs.Settling.{MayLeave, MayUpdate, updated_ends}

@@ -1,6 +1,6 @@
 use Rattle.std.proofs.Common.{◌∙◌, ap, sym, subst, map}
 use Rattle.sqlite.specs.Held.{state}
-use Rattle.docket_core.specs.Histories.{deadlines_from}
+use Rattle.docket_history.specs.Histories.{deadlines_from}
 use Rattle.docket_tables.specs.Contents.{rows_with}
 use Rattle.docket_orderly.specs.Orderly.{RunsFrom}
 use Rattle.docket_tables.specs.Readings.{AreActsOf}

@@ -1,5 +1,5 @@
 use Rattle.std.proofs.Common.{◌∙◌, ap}
-use Rattle.docket_core.specs.Histories.{items_of}
+use Rattle.docket_history.specs.Histories.{items_of}
 use Rattle.docket_tables.specs.Contents.{rows_in}
 use Rattle.sqlite.specs.Held.{state}
 use Rattle.docket_tables.specs.declared.fault.ReadFault.TheVariants.{NoMemory}

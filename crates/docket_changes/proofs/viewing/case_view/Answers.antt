@@ -1,7 +1,7 @@
 use Rattle.std.proofs.Common.{◌≡◌, ◌∙◌, ◌&&◌, true, false, nat_le, ap, sym, arith}
 use Rattle.sqlite.specs.Held.{state}
 use Rattle.sqlite.specs.State.{HasCleanDisk}
-use Rattle.docket_core.specs.Tables.{is_case_in}
+use Rattle.docket_decisions.specs.Tables.{is_case_in}
 use Rattle.docket_tables.specs.Contents.{rows_in}
 use Rattle.docket_tables.proofs.PassedCauses.{err_fails, fault_after}
 use Rattle.docket_tables.proofs.ReadLemmas.{err_given, err_stays}

@@ -1,5 +1,5 @@
 use Rattle.std.proofs.Common.{◌≡◌, ◌∙◌, false, true, length, ap, sym}
-use Rattle.docket_core.specs.Actions.{asks_cases, if_asked}
+use Rattle.docket_history.specs.Actions.{asks_cases, if_asked}
 use Rattle.docket_tables.specs.Contents.{rows_in}
 use Rattle.docket_tables.proofs.ReadLemmas.{gives_weaker}
 use Rattle.docket_changes.proofs.viewing.cases_if_asked.Goals as goal

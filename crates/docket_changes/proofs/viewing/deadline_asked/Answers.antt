@@ -1,7 +1,7 @@
 use Rattle.std.proofs.Common.{◌∙◌, ap, sym}
 use Rattle.std.specs.Option.{option_and_then}
-use Rattle.docket_core.specs.Tables.{deadlines_in}
-use Rattle.docket_core.specs.Views.{deadline_at}
+use Rattle.docket_decisions.specs.Tables.{deadlines_in}
+use Rattle.docket_history.specs.Views.{deadline_at}
 use Rattle.docket_tables.specs.Contents.{rows_in}
 use Rattle.docket_tables.proofs.ReadLemmas.{gives_weaker}
 use Rattle.docket_changes.proofs.viewing.deadline_asked.Goals as goal

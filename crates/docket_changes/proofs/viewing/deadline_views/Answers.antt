@@ -1,5 +1,5 @@
 use Rattle.std.proofs.Common.{◌∙◌, ap, sym, subst, map, arith}
-use Rattle.docket_core.specs.Histories.{deadlines_from}
+use Rattle.docket_history.specs.Histories.{deadlines_from}
 use Rattle.docket_tables.specs.Contents.{rows_in}
 use Rattle.docket_orderly.specs.Orderly.{RunsFrom}
 use Rattle.docket_tables.specs.Readings.{AreActsOf}

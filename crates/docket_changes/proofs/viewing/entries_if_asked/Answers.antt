@@ -1,6 +1,6 @@
 use Rattle.std.proofs.Common.{◌≡◌, ◌∙◌, false, true, length, ap, sym}
-use Rattle.docket_core.specs.Actions.{asks_entries, if_asked}
-use Rattle.docket_core.specs.Histories.{entries_of_case}
+use Rattle.docket_history.specs.Actions.{asks_entries, if_asked}
+use Rattle.docket_history.specs.Histories.{entries_of_case}
 use Rattle.docket_tables.specs.Contents.{rows_in}
 use Rattle.docket_tables.proofs.ReadLemmas.{gives_weaker}
 use Rattle.docket_changes.proofs.viewing.entries_if_asked.Goals as goal

@@ -1,5 +1,5 @@
 use Rattle.std.proofs.Common.{◌∙◌, ap, sym}
-use Rattle.docket_core.specs.Outcomes.{is_label_taken}
+use Rattle.docket_decisions.specs.Outcomes.{is_label_taken}
 use Rattle.docket_tables.specs.Contents.{rows_in}
 use Rattle.docket_tables.proofs.ReadLemmas.{gives_weaker}
 use Rattle.docket_changes.proofs.viewing.is_asked_label_taken.Goals as goal

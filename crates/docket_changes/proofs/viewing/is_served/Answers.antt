@@ -1,5 +1,5 @@
 use Rattle.std.proofs.Common.{◌∙◌, ap}
-use Rattle.docket_core.specs.Views.{is_served_among}
+use Rattle.docket_history.specs.Views.{is_served_among}
 use Rattle.docket_tables.specs.Contents.{rows_in}
 use Rattle.sqlite.specs.Held.{state}
 use Rattle.docket_tables.proofs.PassedCauses.{err_fails}

@@ -1,6 +1,6 @@
 use Rattle.std.proofs.Common.{◌∙◌, ap, option_copied, sym}
 use Rattle.std.specs.Option.{option_and_then}
-use Rattle.docket_core.specs.Histories.{local_rule_in}
+use Rattle.docket_history.specs.Histories.{local_rule_in}
 use Rattle.docket_tables.specs.Contents.{rows_in}
 use Rattle.docket_tables.proofs.ReadLemmas.{gives_weaker}
 use Rattle.docket_changes.proofs.viewing.local_rule_asked.Goals as goal

@@ -1,5 +1,5 @@
 use Rattle.std.proofs.Common.{◌≡◌, ◌∙◌, false, true, ap, sym}
-use Rattle.docket_core.specs.Actions.{asks_next_row, if_asked}
+use Rattle.docket_history.specs.Actions.{asks_next_row, if_asked}
 use Rattle.docket_tables.specs.Contents.{rows_in}
 use Rattle.sqlite.specs.Held.{state}
 use Rattle.docket_tables.proofs.PassedCauses.{err_fails}

@@ -2,8 +2,8 @@ use Rattle.std.proofs.Common.{◌≡◌, [], IsTrue, false, Ok, Err, MatchResult
 use Rattle.sqlite.specs.State.{HasCleanDisk, KeepsCounts, Shows as Turns}
 use Rattle.sqlite.specs.Steps.{FailsToCommit}
 use Rattle.sqlite.specs.Held.{state}
-use Rattle.docket_core.specs.EndRows.{end_rows}
-use Rattle.docket_core.specs.Tables.{Tables, all_changed, with_receipt}
+use Rattle.docket_decisions.specs.EndRows.{end_rows}
+use Rattle.docket_decisions.specs.Tables.{Tables, all_changed, with_receipt}
 use Rattle.docket_tables.specs.AnyRows.{recorded, with_stored}
 use Rattle.docket_tables.specs.Contents.{rows_in}
 use Rattle.docket_tables.specs.Layouts.{Rows}

@@ -1,6 +1,6 @@
 use Rattle.std.proofs.Common.{◌≡◌, ◌∙◌, ap, arith, Some}
 use Rattle.sqlite_value.specs.Order.{column}
-use Rattle.docket_core.specs.Outcomes.{replied}
+use Rattle.docket_decisions.specs.Outcomes.{replied}
 use Rattle.docket_wire.specs.Writing.{canonical}
 use Rattle.docket_columns.specs.Cells.{kept_as}
 use Rattle.docket_columns.proofs.ReceiptLemmas.{kept_is}

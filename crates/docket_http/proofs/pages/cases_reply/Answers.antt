@@ -3,7 +3,7 @@ use Rattle.std.specs.Option.{option_map}
 use Rattle.std.specs.Prelude.{string_bytes}
 use Rattle.sqlite.specs.Held.{state}
 use Rattle.sqlite.specs.State.{HasCleanDisk}
-use Rattle.docket_core.specs.declared.row.CaseRow.{CaseRow}
+use Rattle.docket_history.specs.declared.row.CaseRow.{CaseRow}
 use Rattle.docket_store.proofs.AnyLemmas.{err_preserves, short_preserves}
 use Rattle.html_sheets.specs.Sites.{cases_page}
 use Rattle.http_request.specs.declared.page.Page.TheVariants.{Cases}

@@ -5,8 +5,8 @@ use Rattle.sqlite.specs.State.{HasCleanDisk}
 use Rattle.sqlite.specs.Store.{Ghosts}
 use Rattle.court_days.specs.Court.{CourtSettings}
 use Rattle.docket_calendar.specs.Calendar.{calendar_rows}
-use Rattle.docket_core.specs.Histories.{History}
-use Rattle.docket_core.specs.declared.record.DueRow.{DueRow}
+use Rattle.docket_history.specs.Histories.{History}
+use Rattle.docket_history.specs.declared.record.DueRow.{DueRow}
 use Rattle.docket_store.specs.Dockets.{Docket}
 use Rattle.docket_store.proofs.AnyLemmas.{err_preserves, short_preserves}
 use Rattle.http_request.specs.declared.page.Page.TheVariants.{Days}

@@ -1,6 +1,6 @@
 use Rattle.std.proofs.Common.{◌≡◌, false, rules}
 use Rattle.docket_columns.specs.declared.version.Version.TheVariants.{First}
-use Rattle.docket_core.specs.Tables.{rows_of}
+use Rattle.docket_decisions.specs.Tables.{rows_of}
 use Rattle.docket_tables.specs.Contents.{rows_by}
 use Rattle.docket_tables.specs.declared.table.Table.TheVariants as table
 use Rattle.docket_scan.specs.Shapes.{has_named}

@@ -1,6 +1,6 @@
 use Rattle.std.proofs.Common.{◌≡◌, true, rules, arith}
 use Rattle.docket_columns.specs.declared.version.Version.TheVariants.{First}
-use Rattle.docket_core.specs.Tables.{rows_of}
+use Rattle.docket_decisions.specs.Tables.{rows_of}
 use Rattle.docket_tables.specs.Contents.{rows_by}
 use Rattle.docket_migration.specs.Keeping.{is_court_apart}
 use Rattle.docket_migration.proofs.MigrateLemmas.{has_court, not_found, told_not_found, still_holds, then_migrates, then_told}

@@ -3,10 +3,10 @@ use Rattle.std.proofs.lemmas.List.{drop_more, drop_all}
 use Rattle.court_days.specs.Court.{CourtSettings}
 use Rattle.docket_command.specs.declared.command.Command.{Command}
 use Rattle.docket_command.specs.declared.refusal.Reply.{Reply}
-use Rattle.docket_core.specs.Histories.{History}
-use Rattle.docket_core.specs.Outcomes.{Answer, outcome, after, run, answers}
-use Rattle.docket_core.specs.declared.decision.DecideFault.{DecideFault}
-use Rattle.docket_core.specs.declared.decision.DecideFault.TheVariants.{Refused, NoMemory}
+use Rattle.docket_history.specs.Histories.{History}
+use Rattle.docket_decisions.specs.Outcomes.{Answer, outcome, after, run, answers}
+use Rattle.docket_decisions.specs.declared.decision.DecideFault.{DecideFault}
+use Rattle.docket_decisions.specs.declared.decision.DecideFault.TheVariants.{Refused, NoMemory}
 use Rattle.docket_plain.specs.Dockets.{Docket, IsSaid, IsReply, AreReplies, history_after}
 use Rattle.docket_plain.proofs.plain.apply_all.Goals as goal
 

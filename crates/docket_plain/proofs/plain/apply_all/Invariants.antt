@@ -1,7 +1,7 @@
 use Rattle.std.proofs.Common.{◌≡◌, ◌++◌, List, drop, Result}
 use Rattle.docket_command.specs.declared.refusal.Reply.{Reply}
-use Rattle.docket_core.specs.Outcomes.{run, answers}
-use Rattle.docket_core.specs.declared.decision.DecideFault.{DecideFault}
+use Rattle.docket_decisions.specs.Outcomes.{run, answers}
+use Rattle.docket_decisions.specs.declared.decision.DecideFault.{DecideFault}
 use Rattle.docket_plain.specs.Dockets.{AreReplies}
 use Rattle.docket_plain.proofs.plain.apply_all.Given as goal
 

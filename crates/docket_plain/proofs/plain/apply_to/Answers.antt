@@ -1,9 +1,9 @@
 use Rattle.std.proofs.Common.{◌≡◌, ◌∷◌, sym, ap, subst, ◌∙◌, inr}
-use Rattle.docket_core.proofs.LimitsKept.{within_limits, sound_view}
-use Rattle.docket_core.specs.Decisions.{IsSoundView}
-use Rattle.docket_core.specs.Outcomes.{shown, after_answer, accepted}
-use Rattle.docket_core.specs.Tables.{view_in, rows_of, with_receipt, all_changed}
-use Rattle.docket_core.specs.declared.view.View.{View}
+use Rattle.docket_decisions.proofs.LimitsKept.{within_limits, sound_view}
+use Rattle.docket_decisions.specs.Decisions.{IsSoundView}
+use Rattle.docket_decisions.specs.Outcomes.{shown, after_answer, accepted}
+use Rattle.docket_decisions.specs.Tables.{view_in, rows_of, with_receipt, all_changed}
+use Rattle.docket_history.specs.declared.view.View.{View}
 use Rattle.docket_plain.specs.Dockets.{history_of}
 use Rattle.docket_plain.specs.Vectors.{lists_of}
 use Rattle.docket_plain.proofs.HeldHistories.{small, is_docket, history_told}

@@ -3,12 +3,12 @@ use Rattle.std.specs.List.{All}
 use Rattle.std.proofs.lemmas.List.{length-map}
 use Rattle.court_days.specs.Court.{zone_of}
 use Rattle.court_rules.specs.Standings.{AreActs}
-use Rattle.docket_core.proofs.Leading.{length-deadlines_from}
-use Rattle.docket_core.proofs.LimitsKept.{within_limits, lawful_deadlines}
-use Rattle.docket_core.specs.CalendarItems.{IsEnteredItem}
-use Rattle.docket_core.specs.Histories.{History, items_of, standing_rows, act_rows, deadline_rows, deadlines, deadlines_from, deadlines_of_case}
-use Rattle.docket_core.specs.declared.row.CalendarRow.{CalendarRow}
-use Rattle.docket_core.specs.declared.view.DeadlineView.{DeadlineView}
+use Rattle.docket_decisions.proofs.Leading.{length-deadlines_from}
+use Rattle.docket_decisions.proofs.LimitsKept.{within_limits, lawful_deadlines}
+use Rattle.docket_history.specs.CalendarItems.{IsEnteredItem}
+use Rattle.docket_history.specs.Histories.{History, items_of, standing_rows, act_rows, deadline_rows, deadlines, deadlines_from, deadlines_of_case}
+use Rattle.docket_history.specs.declared.row.CalendarRow.{CalendarRow}
+use Rattle.docket_history.specs.declared.view.DeadlineView.{DeadlineView}
 use Rattle.docket_plain.specs.Dockets.{history_of}
 use Rattle.docket_plain.proofs.reading.lines_of_case.Goals as goal
 

@@ -1,5 +1,5 @@
 use Rattle.std.proofs.Common.{◌≡◌, take}
-use Rattle.docket_core.specs.Histories.{parties_of_case}
+use Rattle.docket_history.specs.Histories.{parties_of_case}
 use Rattle.docket_plain.proofs.reading.parties_of.Given as goal
 
 abbrev pub invariant-loop-row : goal.invariant-loop-row

@@ -1,6 +1,6 @@
 use Rattle.std.proofs.Common.{ℕ, length, sym, ap, subst, ◌∙◌, arith}
 use Rattle.std.specs.Vec.Iter.{into_iter_items, into_iter_len}
-use Rattle.docket_core.specs.Tables.{all_changed}
+use Rattle.docket_decisions.specs.Tables.{all_changed}
 use Rattle.docket_plain.specs.Vectors.{lists_of, HasRoom}
 use Rattle.docket_plain.proofs.vectors.change_all.Goals as goal
 

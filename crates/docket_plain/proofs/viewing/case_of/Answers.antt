@@ -1,6 +1,6 @@
 use Rattle.std.proofs.Common.{◌≡◌, ◌∙◌, length, ap, arith}
-use Rattle.docket_core.specs.Histories.{deadlines_of_case}
-use Rattle.docket_core.proofs.Leading.{length-deadlines_from}
+use Rattle.docket_history.specs.Histories.{deadlines_of_case}
+use Rattle.docket_decisions.proofs.Leading.{length-deadlines_from}
 use Rattle.docket_plain.proofs.viewing.case_of.Goals as goal
 
 pub new-requires : goal.new-requires

@@ -1,5 +1,5 @@
 use Rattle.std.proofs.Common.{◌≡◌, ◌+◌, ◌++◌, length, drop}
-use Rattle.docket_core.specs.Histories.{deadlines_from, deadlines_of_case}
+use Rattle.docket_history.specs.Histories.{deadlines_from, deadlines_of_case}
 use Rattle.docket_plain.proofs.viewing.deadlines_of.Given as goal
 
 abbrev pub invariant-loop-row : goal.invariant-loop-row

@@ -1,7 +1,7 @@
 use Rattle.std.proofs.Common.{◌≡◌, ◌∙◌, [], map, ap, arith, inl, refl, subst, sym}
 use Rattle.sqlite.specs.Held.{state}
 use Rattle.sqlite.specs.State.{HasCleanDisk}
-use Rattle.docket_core.specs.declared.row.CalendarRow.{CalendarRow}
+use Rattle.docket_history.specs.declared.row.CalendarRow.{CalendarRow}
 use Rattle.docket_columns.specs.Cells.{calendar_cells}
 use Rattle.docket_columns.specs.Fits.{IsCalendarRow}
 use Rattle.docket_sound.specs.Calendars.{AreSoundCalendarRows, HasTakenCalendarRows}

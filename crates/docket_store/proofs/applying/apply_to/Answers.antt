@@ -1,10 +1,10 @@
 use Rattle.std.proofs.Common.{◌≡◌, ◌∙◌, Ok, inr, sym, ap, subst, arith}
 use Rattle.sqlite.specs.Held.{state}
 use Rattle.sqlite.specs.State.{HasCleanDisk}
-use Rattle.docket_core.specs.Decisions.{IsAnswer, LeadsTo}
-use Rattle.docket_core.specs.Histories.{History}
-use Rattle.docket_core.specs.Outcomes.{outcome, repeated}
-use Rattle.docket_core.specs.declared.decision.Decision.{Decision}
+use Rattle.docket_decisions.specs.Decisions.{IsAnswer, LeadsTo}
+use Rattle.docket_history.specs.Histories.{History}
+use Rattle.docket_decisions.specs.Outcomes.{outcome, repeated}
+use Rattle.docket_decisions.specs.declared.decision.Decision.{Decision}
 use Rattle.docket_store.specs.AnyRows.{RepeatsReceipt}
 use Rattle.docket_store.specs.Applying.{IsAccepted, Keeps, docket_rows}
 use Rattle.docket_store.proofs.ApplyLemmas.{docket_after, after_repeated, holds_same}

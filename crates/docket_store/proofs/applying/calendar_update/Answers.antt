@@ -1,6 +1,6 @@
 use Rattle.std.proofs.Common.{◌≡◌, ap, arith, length}
-use Rattle.docket_core.specs.Histories.{case_rows}
-use Rattle.docket_core.specs.Tables.{rows_of}
+use Rattle.docket_history.specs.Histories.{case_rows}
+use Rattle.docket_decisions.specs.Tables.{rows_of}
 use Rattle.docket_changes.specs.declared.moving.EndUpdate.{EndUpdate}
 use Rattle.docket_changes.specs.declared.moving.EndUpdate.TheVariants.{Calendar}
 use Rattle.docket_store.specs.Applying.{docket_rows}

@@ -1,9 +1,9 @@
 use Rattle.std.proofs.Common.{◌∷◌, List, sym, subst, arith}
 use Rattle.sqlite.specs.Held.{state}
 use Rattle.sqlite.specs.State.{HasCleanDisk}
-use Rattle.docket_core.specs.EndMoves.{Follows}
-use Rattle.docket_core.specs.Tables.{rows_of}
-use Rattle.docket_core.specs.declared.row.Change.{Change}
+use Rattle.docket_decisions.specs.EndMoves.{Follows}
+use Rattle.docket_decisions.specs.Tables.{rows_of}
+use Rattle.docket_history.specs.declared.row.Change.{Change}
 use Rattle.docket_changes.specs.Settling.{IsUpdate}
 use Rattle.docket_changes.specs.declared.moving.EndUpdate.{EndUpdate}
 use Rattle.docket_store.specs.Applying.{docket_rows}

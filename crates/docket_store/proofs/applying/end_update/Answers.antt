@@ -1,8 +1,8 @@
 use Rattle.std.proofs.Common.{◌≡◌, ◌∙◌, ◌∷◌, false, true, None, IsPermutation, length, sym, subst, arith}
 use Rattle.std.proofs.lemmas.List.Sorted.{IsPermutation-refl}
-use Rattle.docket_core.specs.EndRows.{all_changed_ends, end_rows}
-use Rattle.docket_core.specs.Histories.{case_rows}
-use Rattle.docket_core.specs.Tables.{rows_of}
+use Rattle.docket_decisions.specs.EndRows.{all_changed_ends, end_rows}
+use Rattle.docket_history.specs.Histories.{case_rows}
+use Rattle.docket_decisions.specs.Tables.{rows_of}
 use Rattle.docket_changes.specs.Settling.{IsUpdate, case_moved, moves_all_cases}
 use Rattle.docket_changes.specs.declared.moving.EndUpdate.{EndUpdate}
 use Rattle.docket_changes.specs.declared.moving.EndUpdate.TheVariants.{Calendar}

@@ -1,8 +1,8 @@
 use Rattle.std.proofs.Common.{◌∷◌, inl, refl, sym, subst, arith}
 use Rattle.sqlite.specs.Held.{state}
 use Rattle.sqlite.specs.State.{HasCleanDisk}
-use Rattle.docket_core.specs.Histories.{History}
-use Rattle.docket_core.specs.Tables.{rows_of}
+use Rattle.docket_history.specs.Histories.{History}
+use Rattle.docket_decisions.specs.Tables.{rows_of}
 use Rattle.docket_changes.specs.Settling.{IsUpdate}
 use Rattle.docket_changes.specs.declared.moving.EndUpdate.{EndUpdate}
 use Rattle.docket_store.specs.Applying.{Keeps}

@@ -1,6 +1,6 @@
 use Rattle.std.proofs.Common.{◌≡◌, List, arith}
-use Rattle.docket_core.specs.Histories.{items_of, standing_rows}
-use Rattle.docket_core.specs.declared.item.CalendarItem.{CalendarItem}
+use Rattle.docket_history.specs.Histories.{items_of, standing_rows}
+use Rattle.docket_history.specs.declared.item.CalendarItem.{CalendarItem}
 use Rattle.docket_store.specs.Applying.{docket_rows}
 use Rattle.docket_store.proofs.AskLemmas.{asks_failed}
 use Rattle.sqlite.specs.Held.{state}

@@ -1,7 +1,7 @@
 use Rattle.std.proofs.Common.{◌≡◌, Option, Vec, Global, arith}
 use Rattle.std.specs.Option.{option_map}
-use Rattle.docket_core.specs.Tables.{case_deadlines, rows_of}
-use Rattle.docket_core.specs.declared.view.DeadlineView.{DeadlineView}
+use Rattle.docket_decisions.specs.Tables.{case_deadlines, rows_of}
+use Rattle.docket_history.specs.declared.view.DeadlineView.{DeadlineView}
 use Rattle.docket_store.specs.Applying.{docket_rows}
 use Rattle.docket_store.proofs.ApplyLemmas.{docket_orderly}
 use Rattle.docket_store.proofs.AskLemmas.{asks_failed}

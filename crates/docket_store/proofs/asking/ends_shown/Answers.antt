@@ -1,10 +1,10 @@
 use Rattle.std.proofs.Common.{◌≡◌, Vec, Global, arith}
 use Rattle.court_days.specs.Court.{zone_of}
-use Rattle.docket_core.specs.EndRows.{end_rows_of}
-use Rattle.docket_core.specs.Histories.{deadlines}
-use Rattle.docket_core.specs.Records.{calendar}
-use Rattle.docket_core.specs.Tables.{rows_of}
-use Rattle.docket_core.specs.declared.end_row.EndRow.{EndRow}
+use Rattle.docket_decisions.specs.EndRows.{end_rows_of}
+use Rattle.docket_history.specs.Histories.{deadlines}
+use Rattle.docket_history.specs.Records.{calendar}
+use Rattle.docket_decisions.specs.Tables.{rows_of}
+use Rattle.docket_decisions.specs.declared.end_row.EndRow.{EndRow}
 use Rattle.docket_store.specs.Applying.{docket_rows}
 use Rattle.docket_store.proofs.ApplyLemmas.{docket_orderly}
 use Rattle.docket_store.proofs.AskLemmas.{asks_failed, ends_are}

@@ -4,12 +4,12 @@ use Rattle.sqlite.specs.Held.{state}
 use Rattle.sqlite.specs.State.{HasCleanDisk}
 use Rattle.court_days.specs.Calendar.{Entered}
 use Rattle.court_days.specs.Court.{zone_of}
-use Rattle.docket_core.specs.EndRows.{end_rows_of}
-use Rattle.docket_core.specs.Histories.{deadlines}
-use Rattle.docket_core.specs.Records.{calendar, deadline_lines, lines_from}
-use Rattle.docket_core.specs.declared.end_row.EndRow.{EndRow}
-use Rattle.docket_core.specs.declared.record.DeadlineLine.{DeadlineLine}
-use Rattle.docket_core.specs.declared.view.DeadlineView.{DeadlineView}
+use Rattle.docket_decisions.specs.EndRows.{end_rows_of}
+use Rattle.docket_history.specs.Histories.{deadlines}
+use Rattle.docket_history.specs.Records.{calendar, deadline_lines, lines_from}
+use Rattle.docket_decisions.specs.declared.end_row.EndRow.{EndRow}
+use Rattle.docket_history.specs.declared.record.DeadlineLine.{DeadlineLine}
+use Rattle.docket_history.specs.declared.view.DeadlineView.{DeadlineView}
 use Rattle.docket_store.specs.Dockets.{serving}
 use Rattle.docket_store.specs.Sound.{AreEndsBy}
 use Rattle.docket_store.proofs.AskLemmas.{asks_told, sound_ends, lines_shown, deadlines_shown}

@@ -1,7 +1,7 @@
 use Rattle.std.proofs.Common.{◌≡◌, Vec, Global, arith}
 use Rattle.sqlite.specs.Held.{state}
 use Rattle.docket_calendar.specs.Calendar.{calendar_rows}
-use Rattle.docket_core.specs.declared.record.DueRow.{DueRow}
+use Rattle.docket_history.specs.declared.record.DueRow.{DueRow}
 use Rattle.docket_store.specs.Applying.{docket_rows}
 use Rattle.docket_store.proofs.AskLemmas.{asks_failed}
 use Rattle.docket_store.proofs.FailureLemmas.{blamed_caused}

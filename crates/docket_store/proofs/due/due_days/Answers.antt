@@ -2,8 +2,8 @@ use Rattle.std.proofs.Common.{◌≡◌, Vec, Global}
 use Rattle.sqlite.specs.Held.{state}
 use Rattle.court_days.specs.Calendar.{Entered}
 use Rattle.docket_calendar.specs.Calendar.{calendar_rows}
-use Rattle.docket_core.specs.Records.{calendar}
-use Rattle.docket_core.specs.declared.record.DueRow.{DueRow}
+use Rattle.docket_history.specs.Records.{calendar}
+use Rattle.docket_history.specs.declared.record.DueRow.{DueRow}
 use Rattle.docket_store.specs.Dockets.{serving}
 use Rattle.docket_store.proofs.AnyLemmas.{err_preserves}
 use Rattle.docket_store.proofs.AskLemmas.{asks_err}

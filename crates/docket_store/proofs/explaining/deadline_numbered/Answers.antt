@@ -1,8 +1,8 @@
 use Rattle.std.proofs.Common.{◌≡◌, Option, arith}
-use Rattle.docket_core.specs.Histories.{deadlines}
-use Rattle.docket_core.specs.Tables.{rows_of}
-use Rattle.docket_core.specs.Views.{deadline_at}
-use Rattle.docket_core.specs.declared.view.DeadlineView.{DeadlineView}
+use Rattle.docket_history.specs.Histories.{deadlines}
+use Rattle.docket_decisions.specs.Tables.{rows_of}
+use Rattle.docket_history.specs.Views.{deadline_at}
+use Rattle.docket_history.specs.declared.view.DeadlineView.{DeadlineView}
 use Rattle.docket_store.specs.Applying.{docket_rows}
 use Rattle.docket_store.proofs.ApplyLemmas.{docket_orderly}
 use Rattle.docket_store.proofs.AskLemmas.{asks_failed}

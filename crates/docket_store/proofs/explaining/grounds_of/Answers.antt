@@ -3,7 +3,7 @@ use Rattle.std.proofs.lemmas.Bool.{both_ways}
 use Rattle.std.proofs.lemmas.List.Elements.{All-head}
 use Rattle.court_days.specs.Court.{zone_of}
 use Rattle.court_rules.specs.Standings.{AreActs}
-use Rattle.docket_core.specs.declared.view.DeadlineView.{DeadlineView}
+use Rattle.docket_history.specs.declared.view.DeadlineView.{DeadlineView}
 use Rattle.docket_store.proofs.AskLemmas.{sound_deadline}
 use Rattle.docket_store.proofs.AnyLemmas.{err_preserves}
 use Rattle.sqlite.specs.Held.{state}

@@ -1,5 +1,5 @@
 use Rattle.std.proofs.Common.{◌∙◌, ap, sym, if◌then◌else◌, []}
-use Rattle.docket_core.specs.Histories.{items_of, standing_rows}
+use Rattle.docket_history.specs.Histories.{items_of, standing_rows}
 use Rattle.docket_store.specs.Applying.{docket_rows}
 use Rattle.docket_tables.proofs.ReadLemmas.{gives_weaker}
 use Rattle.docket_store.proofs.judging.calendar_asked.Goals as goal

@@ -1,5 +1,5 @@
 use Rattle.std.proofs.Common.{arith}
-use Rattle.docket_core.specs.Outcomes.{after}
+use Rattle.docket_decisions.specs.Outcomes.{after}
 use Rattle.docket_store.specs.Applying.{docket_rows}
 use Rattle.docket_store.proofs.ApplyLemmas.{faults_of}
 use Rattle.sqlite.specs.Held.{state}

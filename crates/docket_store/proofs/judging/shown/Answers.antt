@@ -1,5 +1,5 @@
 use Rattle.std.proofs.Common.{◌∙◌, ap, arith}
-use Rattle.docket_core.specs.Tables.{rows_of, view_in}
+use Rattle.docket_decisions.specs.Tables.{rows_of, view_in}
 use Rattle.docket_tables.proofs.ReadLemmas.{err_given, gives_clean}
 use Rattle.docket_store.specs.Applying.{docket_rows}
 use Rattle.docket_store.proofs.ApplyLemmas.{docket_orderly}

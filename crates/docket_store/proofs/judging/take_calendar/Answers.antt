@@ -1,4 +1,4 @@
-use Rattle.docket_core.specs.Tables.{rows_of}
+use Rattle.docket_decisions.specs.Tables.{rows_of}
 use Rattle.docket_store.proofs.ApplyLemmas.{docket_orderly}
 use Rattle.docket_store.proofs.judging.take_calendar.Goals as goal
 

@@ -1,10 +1,10 @@
 use Rattle.std.proofs.Common.{◌≡◌, ◌∙◌, ◌<◌, ◌++◌, [], ◌∷◌, length, get_or, unwrap_or, ap, sym, arith, rules}
 use Rattle.court_days.specs.Court.{zone_of}
 use Rattle.court_rules.specs.Standings.{standing}
-use Rattle.docket_core.specs.EndRows.{end_running}
-use Rattle.docket_core.specs.Records.{line_of}
-use Rattle.docket_core.specs.declared.record.DeadlineLine.{DeadlineLine}
-use Rattle.docket_core.specs.declared.view.DeadlineView.{DeadlineView}
+use Rattle.docket_decisions.specs.EndRows.{end_running}
+use Rattle.docket_history.specs.Records.{line_of}
+use Rattle.docket_history.specs.declared.record.DeadlineLine.{DeadlineLine}
+use Rattle.docket_history.specs.declared.view.DeadlineView.{DeadlineView}
 use Rattle.docket_store.proofs.LineLemmas.{next_taken, next_line}
 use Rattle.docket_store.proofs.lines.lines_by_ends.Goals as goal
 

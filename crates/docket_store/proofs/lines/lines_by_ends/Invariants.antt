@@ -1,8 +1,8 @@
 use Rattle.std.proofs.Common.{◌≡◌, ℕ, ◌+◌, ◌++◌, drop}
 use Rattle.court_days.specs.Calendar.{IsWithinLimits}
 use Rattle.court_days.specs.Court.{zone_of}
-use Rattle.docket_core.specs.EndRows.{end_rows_from, end_rows_of, ends_running}
-use Rattle.docket_core.specs.Records.{lines_from}
+use Rattle.docket_decisions.specs.EndRows.{end_rows_from, end_rows_of, ends_running}
+use Rattle.docket_history.specs.Records.{lines_from}
 use Rattle.docket_store.proofs.lines.lines_by_ends.Given as goal
 
 -- where the rows are those of the deadlines' ends, the rows that are left are those of the deadlines that are left

@@ -2,7 +2,7 @@ use Rattle.std.proofs.Common.{◌≡◌, ℕ}
 use Rattle.std.proofs.KnownBytes.{Appends-nil}
 use Rattle.court_days.specs.Calendar.{Entered}
 use Rattle.sqlite.specs.Held.{state}
-use Rattle.docket_core.specs.Records.{calendar}
+use Rattle.docket_history.specs.Records.{calendar}
 use Rattle.docket_store.specs.Dockets.{serving}
 use Rattle.docket_store.proofs.AskLemmas.{fault_of_other}
 use Rattle.docket_store.proofs.FailureLemmas.{end_caused_after}

@@ -3,7 +3,7 @@ use Rattle.std.proofs.Math.Logic.{∥∥₁_map}
 use Rattle.sqlite.specs.Files.{over_files}
 use Rattle.sqlite.specs.Held.{state}
 use Rattle.sqlite.specs.State.{HasCleanDisk}
-use Rattle.docket_core.specs.Outcomes.{after}
+use Rattle.docket_decisions.specs.Outcomes.{after}
 use Rattle.docket_store.specs.Reopening.{AppliesOnce, IsNotRecovered}
 use Rattle.docket_store.proofs.AgainLemmas.{once_given}
 use Rattle.docket_store.proofs.ReopeningLemmas.{match_told}

@@ -1,6 +1,6 @@
 use Rattle.std.proofs.Common.{refl, sym, ap, subst, ◌∙◌}
-use Rattle.docket_core.specs.Histories.{History}
-use Rattle.docket_core.specs.Outcomes.{after_answer}
+use Rattle.docket_history.specs.Histories.{History}
+use Rattle.docket_decisions.specs.Outcomes.{after_answer}
 use Rattle.docket_store.specs.Applying.{Faults, Stands}
 use Rattle.docket_store.specs.declared.fault.Fault.{Fault}
 use Rattle.std.proofs.Common.{Err}

@@ -1,7 +1,7 @@
 use Rattle.std.proofs.Common.{◌+◌, refl, ◌<◌, ◌∙◌, length, take, sym, subst, arith}
 use Rattle.court_days.specs.Court.{CourtSettings}
-use Rattle.docket_core.specs.Histories.{History}
-use Rattle.docket_core.specs.Outcomes.{run, answers}
+use Rattle.docket_history.specs.Histories.{History}
+use Rattle.docket_decisions.specs.Outcomes.{run, answers}
 use Rattle.docket_store.specs.Applying.{Stands}
 use Rattle.docket_store.specs.Sequence.{AreReplies, BreaksOff}
 use Rattle.docket_store.specs.declared.fault.Fault.TheVariants.{NoMemory}

@@ -1,8 +1,8 @@
 use Rattle.std.proofs.Common.{◌≡◌, ◌+◌, ◌<◌, ℕ, [], ◌∷◌, length, take, refl, sym, ap, subst, ◌∙◌, arith}
 use Rattle.std.proofs.lemmas.List.{length-append}
 use Rattle.court_days.specs.Court.{CourtSettings}
-use Rattle.docket_core.specs.Histories.{History}
-use Rattle.docket_core.specs.Outcomes.{run, answers}
+use Rattle.docket_history.specs.Histories.{History}
+use Rattle.docket_decisions.specs.Outcomes.{run, answers}
 use Rattle.docket_store.specs.Applying.{IsDocket, Stands}
 use Rattle.docket_store.specs.Sequence.{AreReplies}
 use Rattle.docket_store.proofs.RunLemmas.{run_more, replies_more, halts_more}

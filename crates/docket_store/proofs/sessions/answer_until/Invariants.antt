@@ -1,7 +1,7 @@
 use Rattle.std.proofs.Common.{◌≡◌, ◌≤◌, length, take, vec_len, vec_capacity}
 use Rattle.sqlite.specs.Held.{state}
 use Rattle.sqlite.specs.View.{doubt}
-use Rattle.docket_core.specs.Histories.{History}
+use Rattle.docket_history.specs.Histories.{History}
 use Rattle.line_io.specs.Steps.{Reaches}
 use Rattle.docket_store.specs.AnyRows.{WritesAtMostOne}
 use Rattle.docket_store.specs.Applying.{Stands}

@@ -1,7 +1,7 @@
 use Rattle.std.proofs.Common.{◌≡◌, ◌∙◌, ◌<◌, length, take, get_or, refl, subst, arith, rules}
 use Rattle.std.proofs.lemmas.List.{take_all}
 use Rattle.sqlite.specs.Held.{state}
-use Rattle.docket_core.specs.Tables.{all_changed}
+use Rattle.docket_decisions.specs.Tables.{all_changed}
 use Rattle.docket_tables.specs.AnyRows.{all_rows_changed, next_after_all}
 use Rattle.docket_tables.specs.Contents.{rows_with}
 use Rattle.docket_tables.specs.Stands.{Sees}

@@ -2,8 +2,8 @@ use Rattle.std.proofs.Common.{◌≡◌, ◌+◌, ◌<◌, ◌^◌, ℕ, List, l
 use Rattle.sqlite.specs.State.{HasCleanDisk}
 use Rattle.sqlite.specs.Held.{state}
 use Rattle.court_days.specs.Court.{CourtSettings}
-use Rattle.docket_core.specs.Tables.{Tables, all_changed}
-use Rattle.docket_core.specs.declared.end_row.EndRow.{EndRow}
+use Rattle.docket_decisions.specs.Tables.{Tables, all_changed}
+use Rattle.docket_decisions.specs.declared.end_row.EndRow.{EndRow}
 use Rattle.docket_tables.specs.AnyRows.{AreDocketRows, all_rows_changed}
 use Rattle.docket_tables.specs.Contents.{rows_with}
 use Rattle.docket_tables.specs.Layouts.{Rows}

@@ -1,9 +1,9 @@
 use Rattle.std.proofs.Common.{◌∙◌, Ok, refl, ap, sym, arith}
 use Rattle.sqlite.specs.Held.{state}
 use Rattle.sqlite.specs.State.{HasCleanDisk}
-use Rattle.docket_core.specs.EndRows.{changed_ends}
+use Rattle.docket_decisions.specs.EndRows.{changed_ends}
 use Rattle.docket_columns.specs.Cells.{end_cells}
-use Rattle.docket_core.specs.declared.end_row.EndChange.TheVariants.{Move}
+use Rattle.docket_decisions.specs.declared.end_row.EndChange.TheVariants.{Move}
 use Rattle.docket_tables.specs.AnyRows.{with_stored}
 use Rattle.docket_tables.specs.Contents.{rows_with}
 use Rattle.docket_tables.specs.declared.fault.ReadFault.{ReadFault}

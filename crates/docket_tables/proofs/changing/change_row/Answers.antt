@@ -1,8 +1,8 @@
 use Rattle.std.proofs.Common.{◌∙◌, ap, sym, subst, refl}
 use Rattle.std.proofs.lemmas.Result.{IfOk-weaker}
 use Rattle.sqlite.specs.Held.{state}
-use Rattle.docket_core.specs.ShortDays.{day_and_span_rows, short_day_rows}
-use Rattle.docket_core.specs.Tables.{changed}
+use Rattle.docket_history.specs.ShortDays.{day_and_span_rows, short_day_rows}
+use Rattle.docket_decisions.specs.Tables.{changed}
 use Rattle.docket_columns.specs.Cells.{calendar_cells, short_day_cells, case_cells, party_cells, entry_cells, deadline_cells, act_cells, local_rule_cells}
 use Rattle.docket_tables.specs.AnyRows.{row_changed}
 use Rattle.docket_tables.specs.Contents.{rows_with}

@@ -1,7 +1,7 @@
 use Rattle.std.proofs.Common.{arith, refl}
 use Rattle.sqlite.specs.Held.{state}
-use Rattle.docket_core.specs.Tables.{Tables, all_changed, with_receipt}
-use Rattle.docket_core.specs.declared.row.Receipt.{Receipt}
+use Rattle.docket_decisions.specs.Tables.{Tables, all_changed, with_receipt}
+use Rattle.docket_history.specs.declared.row.Receipt.{Receipt}
 use Rattle.docket_columns.specs.Cells.{receipt_cells}
 use Rattle.docket_tables.specs.AnyRows.{all_rows_changed, recorded}
 use Rattle.docket_tables.specs.Contents.{rows_with}

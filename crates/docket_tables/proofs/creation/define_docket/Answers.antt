@@ -1,7 +1,7 @@
 use Rattle.std.proofs.Common.{[], arith, refl}
 use Rattle.sqlite.specs.Held.{state}
 use Rattle.docket_columns.specs.Cells.{court_cells}
-use Rattle.docket_core.specs.Tables.{rows_of}
+use Rattle.docket_decisions.specs.Tables.{rows_of}
 use Rattle.docket_tables.specs.Contents.{rows_in}
 use Rattle.docket_tables.specs.Creation.{no_rows}
 use Rattle.docket_tables.specs.declared.table.Table.TheVariants.{Court}

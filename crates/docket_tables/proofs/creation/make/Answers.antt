@@ -1,6 +1,6 @@
 use Rattle.std.proofs.Common.{◌≡◌, [], ap, sym, subst, arith, rules}
 use Rattle.sqlite.specs.Held.{state}
-use Rattle.docket_core.specs.Tables.{rows_of}
+use Rattle.docket_decisions.specs.Tables.{rows_of}
 use Rattle.docket_tables.specs.Contents.{rows_in}
 use Rattle.docket_tables.specs.Layouts.{Rows}
 use Rattle.docket_tables.specs.Schema.{no_schema}

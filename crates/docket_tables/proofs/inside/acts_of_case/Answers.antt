@@ -6,7 +6,7 @@ use Rattle.docket_tables.proofs.AnyLemmas.{still_read}
 use Rattle.docket_tables.proofs.InsideLemmas.{failed_after, read_inside}
 use Rattle.std.proofs.Common.{ap, sym, subst, filter}
 use Rattle.std.specs.List.Sorted.{IsNonDecreasingBy}
-use Rattle.docket_core.specs.declared.row.ActRow.{ActRow}
+use Rattle.docket_history.specs.declared.row.ActRow.{ActRow}
 use Rattle.docket_columns.specs.Fits.{IsActRow}
 use Rattle.docket_tables.proofs.CaseActs.{in_turn, in_turn_of, in_turn_rises, in_turn_all, answered_in_turn}
 use Rattle.docket_tables.proofs.ReadLemmas.{read_as}

@@ -8,7 +8,7 @@ use Rattle.docket_tables.specs.declared.query.Query.TheVariants as ask
 use Rattle.docket_tables.proofs.AnyLemmas.{still_read}
 use Rattle.docket_tables.proofs.InsideLemmas.{failed_after, read_inside}
 use Rattle.docket_columns.specs.Cells.{deadline_cells}
-use Rattle.docket_core.specs.Histories.{deadlines_of_case}
+use Rattle.docket_history.specs.Histories.{deadlines_of_case}
 use Rattle.docket_tables.proofs.AnswerLemmas.{in_order, rises_running, equal_number}
 use Rattle.docket_tables.proofs.HoldsLemmas.{and_yes}
 use Rattle.docket_tables.proofs.inside.deadlines_of_case.Goals as goal

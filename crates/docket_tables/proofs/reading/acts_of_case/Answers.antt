@@ -1,6 +1,6 @@
 use Rattle.std.proofs.Common.{◌∙◌, ◌==◌, sym, ap, subst, filter}
 use Rattle.std.specs.List.Sorted.{IsNonDecreasingBy}
-use Rattle.docket_core.specs.declared.row.ActRow.{ActRow}
+use Rattle.docket_history.specs.declared.row.ActRow.{ActRow}
 use Rattle.docket_columns.specs.Fits.{IsActRow}
 use Rattle.docket_tables.specs.Contents.{rows_in}
 use Rattle.docket_tables.proofs.CaseActs.{in_turn, in_turn_of, in_turn_rises, in_turn_all, answered_in_turn}

@@ -1,5 +1,5 @@
 use Rattle.std.proofs.Common.{◌∙◌}
-use Rattle.docket_core.specs.EndRows.{end_rows}
+use Rattle.docket_decisions.specs.EndRows.{end_rows}
 use Rattle.docket_tables.specs.Contents.{rows_in, ends_of}
 use Rattle.docket_tables.proofs.EndLemmas.{ends_shown}
 use Rattle.sqlite.specs.Held.{state}

@@ -1,8 +1,8 @@
 use Rattle.std.proofs.Common.{◌≡◌, ◌∙◌, ◌==◌, ◌||◌, nat_lt, length, true, false, ap, sym, arith}
 use Rattle.std.proofs.lemmas.Bool.Decides.{nat_tests}
 use Rattle.std.specs.List.{list_any}
-use Rattle.docket_core.specs.ShortDays.{short_day_rows}
-use Rattle.docket_core.specs.declared.row.ShortDayRow.{ShortDayRow}
+use Rattle.docket_history.specs.ShortDays.{short_day_rows}
+use Rattle.docket_history.specs.declared.row.ShortDayRow.{ShortDayRow}
 use Rattle.docket_tables.specs.Contents.{rows_in}
 use Rattle.docket_tables.specs.declared.fault.ReadFault.TheVariants.{Store}
 use Rattle.sqlite.specs.Held.{state}

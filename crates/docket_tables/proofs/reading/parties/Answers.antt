@@ -9,7 +9,7 @@ use Rattle.docket_tables.proofs.HoldsLemmas.{and_yes}
 use Rattle.sqlite.specs.Held.{state}
 use Rattle.docket_tables.proofs.CauseLemmas.{err_caused, number_suits}
 use Rattle.docket_tables.proofs.ReadLemmas.{gives, stays}
-use Rattle.docket_core.specs.Histories.{parties_of_case}
+use Rattle.docket_history.specs.Histories.{parties_of_case}
 use Rattle.docket_tables.proofs.reading.parties.Goals as goal
 
 pub returns-clause-read : goal.returns-clause-read

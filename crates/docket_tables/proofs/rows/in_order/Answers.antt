@@ -2,9 +2,9 @@ use Rattle.std.proofs.Common.{◌∙◌, ◌++◌, List, map, IsPermutation, ap�
 use Rattle.std.proofs.lemmas.Iterator.{YieldsList-from_map}
 use Rattle.std.proofs.lemmas.Iterator.Adapters.{YieldsList-from_vec, items_from_extend}
 use Rattle.std.proofs.lemmas.List.Sorted.{answers_always}
-use Rattle.docket_core.specs.ShortDays.{calendar_row}
-use Rattle.docket_core.specs.declared.row.CalendarRow.{CalendarRow}
-use Rattle.docket_core.specs.declared.row.ShortDayRow.{ShortDayRow}
+use Rattle.docket_history.specs.ShortDays.{calendar_row}
+use Rattle.docket_history.specs.declared.row.CalendarRow.{CalendarRow}
+use Rattle.docket_history.specs.declared.row.ShortDayRow.{ShortDayRow}
 use Rattle.docket_tables.proofs.TwoTables.{together}
 use Rattle.docket_tables.proofs.rows.in_order.Goals as goal
 

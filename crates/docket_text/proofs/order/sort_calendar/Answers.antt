@@ -2,7 +2,7 @@ use Rattle.std.proofs.Common.{◌≡◌, ap, rules}
 use Rattle.std.specs.Ordering.{is_lt}
 use Rattle.std.proofs.lemmas.Fn.{always_returns_same}
 use Rattle.std.proofs.lemmas.List.Sorted.{ranks_by}
-use Rattle.docket_core.specs.declared.record.DueRow.{DueRow}
+use Rattle.docket_history.specs.declared.record.DueRow.{DueRow}
 use Rattle.docket_text.specs.CalendarOrder.{calendar_cmp}
 use Rattle.docket_text.proofs.OrderLemmas.{calendar_cmp_total}
 use Rattle.docket_text.proofs.order.sort_calendar.Goals as goal

@@ -3,7 +3,7 @@ use Rattle.std.specs.Prelude.{string_bytes}
 use Rattle.sqlite.specs.Held.{Held, state}
 use Rattle.sqlite.specs.State.{HasCleanDisk}
 use Rattle.court_days.specs.Court.{CourtSettings}
-use Rattle.docket_core.specs.Histories.{standing_rows}
+use Rattle.docket_history.specs.Histories.{standing_rows}
 use Rattle.docket_text.specs.CourtCalendar.{court_calendar_text}
 use Rattle.file_jobs.specs.Tells.{AnswersTo}
 use Rattle.file_jobs.proofs.TellLemmas.{asked, held_closed, kept, kept_rejected}

@@ -1,8 +1,8 @@
 use Rattle.std.proofs.Common.{◌≡◌, ◌∙◌, ℕ, List, Some, sym, ap, ap₂, subst}
 use Rattle.std.specs.Option.{option_map}
 use Rattle.court_days.specs.Court.{CourtSettings}
-use Rattle.docket_core.specs.Histories.{History}
-use Rattle.docket_core.specs.Records.{calendar}
+use Rattle.docket_history.specs.Histories.{History}
+use Rattle.docket_history.specs.Records.{calendar}
 use Rattle.docket_store.specs.Grounds.{AreGrounds}
 use Rattle.docket_store.specs.declared.explaining.Grounds.{Grounds}
 use Rattle.docket_store.proofs.AnyLemmas.{err_preserves, short_preserves}

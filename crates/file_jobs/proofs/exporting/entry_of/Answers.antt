@@ -1,5 +1,5 @@
 use Rattle.std.proofs.Common.{◌∙◌, sym, arith}
-use Rattle.docket_core.specs.Histories.{case_rows}
+use Rattle.docket_history.specs.Histories.{case_rows}
 use Rattle.docket_store.proofs.AnyLemmas.{err_preserves, short_preserves}
 use Rattle.file_jobs.proofs.CasedLemmas.{case_missed}
 use Rattle.file_jobs.proofs.exporting.entry_of.Goals as goal

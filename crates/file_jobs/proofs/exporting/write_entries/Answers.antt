@@ -4,7 +4,7 @@ use Rattle.std.specs.Io.KnownBytes.{Appends}
 use Rattle.sqlite.specs.Held.{state}
 use Rattle.sqlite.specs.State.{HasCleanDisk}
 use Rattle.court_days.specs.Court.{CourtSettings}
-use Rattle.docket_core.specs.Histories.{case_rows}
+use Rattle.docket_history.specs.Histories.{case_rows}
 use Rattle.file_jobs.specs.Exports.{IsCase, PutsOut, entries_from, entry_of}
 use Rattle.file_jobs.proofs.CasedLemmas.{case_at_place}
 use Rattle.file_jobs.proofs.ExportLemmas.{all_entries, entries_to, goes_on, stops_within}

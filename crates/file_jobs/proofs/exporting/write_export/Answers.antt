@@ -1,6 +1,6 @@
 use Rattle.std.proofs.Common.{◌≡◌, Vec, Global, length}
 use Rattle.docket_calendar.specs.Calendar.{calendar_rows}
-use Rattle.docket_core.specs.declared.record.DueRow.{DueRow}
+use Rattle.docket_history.specs.declared.record.DueRow.{DueRow}
 use Rattle.file_jobs.specs.Exports.{rows_of_export, text_of_export}
 use Rattle.file_jobs.proofs.ExportLemmas.{unput}
 use Rattle.file_jobs.proofs.exporting.write_export.Goals as goal

@@ -1,7 +1,7 @@
 use Rattle.std.proofs.Common.{◌∙◌, ◌++◌, ℕ, List, Ok, Err, length, sym, subst, arith}
 use Rattle.sqlite.specs.Held.{state}
 use Rattle.sqlite.specs.State.{HasCleanDisk}
-use Rattle.docket_core.specs.declared.record.DueRow.{DueRow}
+use Rattle.docket_history.specs.declared.record.DueRow.{DueRow}
 use Rattle.due_exports.specs.Exports.{export_foot, export_head}
 use Rattle.file_jobs.specs.Exports.{HaveCases, TextOut, entries_from, rows_of_export}
 use Rattle.file_jobs.proofs.CasedLemmas.{cased}

@@ -1,9 +1,9 @@
 use Rattle.std.proofs.Common.{◌≡◌, ◌∙◌, ◌+◌, List, Option, Some, None, Ok, Err, [], ◌∷◌, drop, take, option_copied, sym, ap, subst, arith}
 use Rattle.sqlite.specs.Held.{state}
 use Rattle.sqlite.specs.State.{HasCleanDisk}
-use Rattle.docket_core.specs.Histories.{case_rows}
-use Rattle.docket_core.specs.Records.{case_at}
-use Rattle.docket_core.specs.declared.row.CaseRow.{CaseRow}
+use Rattle.docket_history.specs.Histories.{case_rows}
+use Rattle.docket_history.specs.Records.{case_at}
+use Rattle.docket_history.specs.declared.row.CaseRow.{CaseRow}
 use Rattle.docket_store.specs.declared.listing.CalendarEnd.TheVariants.{Store}
 use Rattle.file_jobs.specs.CaseLists.{GoesOut}
 use Rattle.file_jobs.proofs.CaseLemmas.{front_out, less_out, more_out, no_case, one_more, one_of, parted, told_of_all, with_party}

@@ -1,7 +1,7 @@
 use Rattle.std.proofs.Common.{◌≤◌, Ok, option_copied, take}
 use Rattle.sqlite.specs.Held.{state}
 use Rattle.sqlite.specs.View.{doubt}
-use Rattle.docket_core.specs.Histories.{History, case_rows}
+use Rattle.docket_history.specs.Histories.{History, case_rows}
 use Rattle.docket_tables.specs.Layouts.{Rows}
 use Rattle.docket_tables.specs.Stands.{HoldsRows}
 use Rattle.docket_store.specs.Applying.{Stands}

@@ -1,9 +1,9 @@
 use Rattle.std.proofs.Common.{◌≡◌, ◌∙◌, List, Option, Some, None, Ok, option_copied, sym, subst, arith}
 use Rattle.sqlite.specs.Held.{state}
 use Rattle.sqlite.specs.State.{HasCleanDisk}
-use Rattle.docket_core.specs.Histories.{case_rows}
-use Rattle.docket_core.specs.Records.{case_labelled}
-use Rattle.docket_core.specs.declared.row.CaseRow.{CaseRow}
+use Rattle.docket_history.specs.Histories.{case_rows}
+use Rattle.docket_history.specs.Records.{case_labelled}
+use Rattle.docket_history.specs.declared.row.CaseRow.{CaseRow}
 use Rattle.file_jobs.specs.CaseLists.{GoesOut}
 use Rattle.file_jobs.proofs.CaseLemmas.{nothing_out, told_of_label}
 use Rattle.file_jobs.proofs.ListLemmas.{unlisted}

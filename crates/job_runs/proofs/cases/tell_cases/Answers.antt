@@ -2,7 +2,7 @@ use Rattle.std.proofs.Common.{◌≡◌, ◌∙◌, ℕ, List, [], Option, optio
 use Rattle.std.specs.Cow.{cow_str_bytes}
 use Rattle.std.specs.Io.KnownBytes.{Appends}
 use Rattle.sqlite.specs.Files.{IsCleanLeft}
-use Rattle.docket_core.specs.declared.row.CaseRow.{CaseRow}
+use Rattle.docket_history.specs.declared.row.CaseRow.{CaseRow}
 use Rattle.line_io.specs.Output.{HasFront}
 use Rattle.file_jobs.specs.Keeping.{rows_told}
 use Rattle.docket_store.specs.Left.{LeavesRows}

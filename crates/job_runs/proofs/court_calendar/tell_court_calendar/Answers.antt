@@ -1,7 +1,7 @@
 use Rattle.std.proofs.Common.{◌≡◌, string_bytes, sym, subst, subst₂}
 use Rattle.std.specs.Cow.{cow_str_bytes}
 use Rattle.sqlite.specs.Files.{IsCleanLeft}
-use Rattle.docket_core.specs.Histories.{standing_rows}
+use Rattle.docket_history.specs.Histories.{standing_rows}
 use Rattle.docket_text.specs.CourtCalendar.{court_calendar_text}
 use Rattle.file_jobs.specs.Tells.{AnswersTo}
 use Rattle.job_runs.specs.Ends.{TellsText}

@@ -1,6 +1,6 @@
 use Rattle.std.proofs.Common.{take, arith}
 use Rattle.std.proofs.Math.Logic.{∥∥₁_map}
-use Rattle.docket_core.specs.Outcomes.{run}
+use Rattle.docket_decisions.specs.Outcomes.{run}
 use Rattle.power_failure.proofs.running.reopen_after_power_failure.Goals as goal
 
 pub returns-in-Ok-adopt-clause-headline : goal.returns-in-Ok-adopt-clause-headline

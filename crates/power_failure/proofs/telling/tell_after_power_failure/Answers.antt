@@ -1,6 +1,6 @@
 use Rattle.std.proofs.Common.{◌≡◌, ◌∙◌, take, arith}
 use Rattle.std.proofs.Math.Logic.{∥∥₁_map}
-use Rattle.docket_core.specs.Outcomes.{run}
+use Rattle.docket_decisions.specs.Outcomes.{run}
 use Rattle.power_failure.proofs.HeadlineLemmas.{told_by_court}
 use Rattle.power_failure.proofs.telling.tell_after_power_failure.Goals as goal
 

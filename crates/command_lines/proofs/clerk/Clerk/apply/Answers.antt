@@ -11,7 +11,7 @@ use Rattle.command_lines.proofs.clerk.Clerk.apply.Goals.{in-Ok, in-Err-Refused, 
 use Rattle.std.proofs.Common.{IfOk, Result}
 use Rattle.docket_command.specs.declared.refusal.Refusal.{Refusal}
 use Rattle.docket_command.specs.declared.refusal.Reply.{Reply}
-use Rattle.docket_core.specs.Outcomes.{outcome}
+use Rattle.docket_decisions.specs.Outcomes.{outcome}
 use Rattle.docket_store.specs.Dockets.{Docket as Stored}
 use Rattle.docket_tables.specs.AnyRows.{AreDocketRows}
 use Rattle.docket_tables.specs.Stands.{HoldsRows}

@@ -1,5 +1,5 @@
 use Rattle.std.proofs.Common.{◌≡◌, ◌∙◌, ◌++◌, [], ◌∷◌, ℕ, List, Ok, sym, ap, subst, rules}
-use Rattle.docket_core.specs.Outcomes.{outcome}
+use Rattle.docket_decisions.specs.Outcomes.{outcome}
 use Rattle.docket_wire.specs.Reading.{command_in}
 use Rattle.line_io.specs.Report.{Judged}
 use Rattle.command_lines.specs.Ending.{StandsAs}

@@ -7,7 +7,7 @@ use Rattle.docket_sound.specs.declared.numbering.Numbering.{Numbering}
 use Rattle.std.specs.Prelude.{Vec}
 use Rattle.std.specs.declared.alloc.Global.{Global}
 use Rattle.docket_sound.specs.declared.act.ActCheck.{ActCheck}
-use Rattle.docket_core.specs.declared.end_row.EndRow.{EndRow}
+use Rattle.docket_decisions.specs.declared.end_row.EndRow.{EndRow}
 use Rattle.docket_sound.proofs.ActLemmas.{go_refused, begin_refused, key_refused, go_taken, new_taken}
 use Rattle.docket_sound.proofs.act.ActCheck.take.Goals as goal
 

@@ -1,7 +1,7 @@
 use Rattle.std.proofs.Common.{◌≡◌, Option, Some, sym, subst, arith}
-use Rattle.docket_core.specs.Records.{case_record}
-use Rattle.docket_core.specs.declared.record.CaseRecord.{CaseRecord}
-use Rattle.docket_core.specs.Tables.{rows_of}
+use Rattle.docket_history.specs.Records.{case_record}
+use Rattle.docket_history.specs.declared.record.CaseRecord.{CaseRecord}
+use Rattle.docket_decisions.specs.Tables.{rows_of}
 use Rattle.docket_store.specs.Applying.{Stands}
 use Rattle.docket_store.specs.Dockets.{Docket}
 use Rattle.docket_store.proofs.ApplyLemmas.{docket_orderly}

@@ -1,8 +1,8 @@
 use Rattle.std.proofs.Common.{◌≡◌, Option, Some, sym, subst, arith}
-use Rattle.docket_core.specs.Histories.{case_rows}
-use Rattle.docket_core.specs.Records.{case_at}
-use Rattle.docket_core.specs.declared.row.CaseRow.{CaseRow}
-use Rattle.docket_core.specs.Tables.{rows_of}
+use Rattle.docket_history.specs.Histories.{case_rows}
+use Rattle.docket_history.specs.Records.{case_at}
+use Rattle.docket_history.specs.declared.row.CaseRow.{CaseRow}
+use Rattle.docket_decisions.specs.Tables.{rows_of}
 use Rattle.docket_store.specs.Applying.{Stands}
 use Rattle.docket_store.specs.Dockets.{Docket}
 use Rattle.docket_store.proofs.ApplyLemmas.{docket_orderly}

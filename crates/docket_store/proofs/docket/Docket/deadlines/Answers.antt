@@ -1,6 +1,6 @@
 use Rattle.std.proofs.Common.{◌≡◌, is_some, refl, sym, subst, ◌∙◌, Some}
 use Rattle.std.specs.Option.{option_map}
-use Rattle.docket_core.specs.Records.{deadline_lines}
+use Rattle.docket_history.specs.Records.{deadline_lines}
 use Rattle.docket_store.specs.Applying.{Asks, Stands}
 use Rattle.docket_store.specs.Dockets.{Docket, serving}
 use Rattle.docket_store.proofs.AskLemmas.{asks_kept}

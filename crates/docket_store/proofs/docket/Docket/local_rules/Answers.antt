@@ -1,7 +1,7 @@
 use Rattle.std.proofs.Common.{◌≡◌, Vec, Global, Some, sym, subst, arith}
-use Rattle.docket_core.specs.Histories.{local_rule_rows}
-use Rattle.docket_core.specs.declared.row.LocalRuleRow.{LocalRuleRow}
-use Rattle.docket_core.specs.Tables.{rows_of}
+use Rattle.docket_history.specs.Histories.{local_rule_rows}
+use Rattle.docket_history.specs.declared.row.LocalRuleRow.{LocalRuleRow}
+use Rattle.docket_decisions.specs.Tables.{rows_of}
 use Rattle.docket_store.specs.Applying.{Stands}
 use Rattle.docket_store.specs.Dockets.{Docket}
 use Rattle.docket_store.proofs.ApplyLemmas.{docket_orderly}

@@ -1,0 +1,2 @@
+pub mod CalendarCsv
+pub mod CsvRecords

@@ -1,8 +1,0 @@
-use Rattle.docket_core.proofs.LimitsKept.{within_limits, sound_view}
-use Rattle.docket_core.proofs.laws.limits_are_kept.Goals as goal
-
-pub returns-clause-histories : goal.returns-clause-histories
-returns-clause-histories c court h is = within_limits court h is
-
-pub returns-clause-views : goal.returns-clause-views
-returns-clause-views c court h command is = sound_view court h (within_limits court h is) command

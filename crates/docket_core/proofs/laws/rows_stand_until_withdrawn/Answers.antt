@@ -1,5 +1,0 @@
-use Rattle.docket_core.proofs.InOrderLemmas.{stands, kept_stands}
-use Rattle.docket_core.proofs.laws.rows_stand_until_withdrawn.Goals as goal
-
-pub returns : goal.returns
-returns c h row = (stands h row, kept_stands h row)

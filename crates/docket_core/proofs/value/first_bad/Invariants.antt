@@ -1,7 +1,0 @@
-use Rattle.std.proofs.Common.{◌≡◌, drop}
-use Rattle.docket_core.specs.Values.{first_bad}
-use Rattle.docket_core.proofs.value.first_bad.Given as goal
-
--- the checks so far are passed
-abbrev pub invariant-loop-check : goal.invariant-loop-check
-invariant-loop-check l = first_bad (drop l.check-index l.checks) ≡ first_bad l.checks

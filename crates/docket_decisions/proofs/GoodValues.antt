@@ -1,0 +1,124 @@
+-- What follows where no value of a command is bad.
+use Rattle.std.proofs.Common.{◌≡◌, ℕ, ◌+◌, ◌≤◌, Bool, true, false, not, cond, ◌&&◌, ◌||◌, Option, Some, None, List, [], ◌∷◌, ◌++◌, if◌then◌else◌, length, map, ℤ, pos, negsuc, ◌+ℤ◌, ◌-ℤ◌, ◌*ℤ◌, ◌≤ℤ◌, unsigned_abs, refl, arith, nat_le}
+use Rattle.std.specs.List.{All, list_all}
+use Rattle.std.proofs.lemmas.Int.{ints}
+use Rattle.std.proofs.lemmas.List.Elements.{All-nil, All-cons, All-head, All-tail}
+use Rattle.std.proofs.lemmas.Bool.Decides.{nat_tests}
+use Rattle.civil_time.specs.LocalTime.{local_day, local_time, offset_in_force, is_summer, standard_time}
+use Rattle.civil_time.specs.Zone.{ZoneRules, IsZone}
+use Rattle.court_days.specs.Civil.{IsEnteredDay, IsEnteredSpan}
+use Rattle.court_days.specs.Court.{CourtSettings, zone_of}
+use Rattle.court_days.proofs.CourtLemmas.{zone_of-is_zone}
+use Rattle.docket_command.specs.declared.command.Action.{Action}
+use Rattle.docket_command.specs.declared.command.Action.TheVariants as action
+use Rattle.docket_command.specs.declared.field.Field.{Field}
+use Rattle.docket_command.specs.declared.new_day.NewDay.{NewDay}
+use Rattle.docket_history.specs.Actions.{rows_asked, imported}
+use Rattle.docket_history.specs.CalendarItems.{IsEnteredItem, stands_among, fresh}
+use Rattle.docket_history.specs.Histories.{numbered, items_of}
+use Rattle.docket_values.specs.Values.{first_bad, bad_values, is_entered, is_entered_at, is_text, is_new_day}
+use Rattle.docket_history.specs.declared.item.CalendarItem.{CalendarItem}
+use Rattle.docket_history.specs.declared.item.NewRow.{NewRow}
+use Rattle.docket_decisions.proofs.Passed.{left_true, right_true}
+
+-- no field is bad
+abbrev pub AreGood : List (Bool × Field) → Type 0
+AreGood [] = Unit {0}
+AreGood (check ∷ checks) = (check.0 ≡ false) × AreGood checks
+
+passes : (b : Bool) (f : Field) (rest : Option Field) → (if b then Some f else rest) ≡ None → (b ≡ false) × (rest ≡ None)
+passes true f rest e = absurd (cc)
+passes false f rest e = (refl, e)
+
+pub all_good : (checks : List (Bool × Field)) → first_bad checks ≡ None → AreGood checks
+all_good [] e = tt
+all_good (check ∷ checks) e = let both = passes check.0 check.1 (first_bad checks) e in (both.0, all_good checks both.1)
+
+pub not_false : (b : Bool) → not b ≡ false → b ≡ true
+not_false true e = refl
+not_false false e = absurd (cc)
+
+pub or_off : (a b : Bool) → (a || b) ≡ false → (a ≡ false) × (b ≡ false)
+or_off true b e = absurd (cc)
+or_off false b e = (refl, e)
+
+pub entered_day : (day : ℕ) → is_entered day ≡ true → IsEnteredDay day
+entered_day day e =
+    let low : nat_le 10_957 day ≡ true = left_true (nat_le 10_957 day) (nat_le day 47_481) e in
+    let high : nat_le day 47_481 ≡ true = right_true (nat_le 10_957 day) (nat_le day 47_481) e in
+    (grind (arith, nat_tests), grind (arith, nat_tests))
+
+-- a clock is at most 13 hours from Greenwich
+near_abs : (z : ℤ) (t : ℕ) → (pos t -ℤ pos 46_800) ≤ℤ z → z ≤ℤ (pos t +ℤ pos 46_800) → (t ≤ unsigned_abs z + 46_800) × (unsigned_abs z ≤ t + 46_800)
+near_abs (pos n) t low high = (omega (arith, ints), omega (arith, ints))
+near_abs (negsuc n) t low high = (omega (arith, ints), omega (arith, ints))
+
+summer_hour : (b : Bool) → cond b 1 0 ≤ 1
+summer_hour true = omega arith
+summer_hour false = omega arith
+
+local_near : (zone : ZoneRules) (t : ℕ) → IsZone zone → (t ≤ local_time zone t + 46_800) × (local_time zone t ≤ t + 46_800)
+unfolding local_time offset_in_force
+local_near zone t is =
+    let hour = summer_hour (is_summer zone.summer (standard_time zone t)) in
+    near_abs (pos t +ℤ pos 3600 *ℤ (pos (cond (is_summer zone.summer (standard_time zone t)) 1 0) -ℤ zone.hours_west)) t
+    (omega (arith, ints, hour, is.hours)) (omega (arith, ints, hour, is.hours))
+
+-- an instant whose local day may be entered lies near the days that may be entered
+pub entered_instant : (court : CourtSettings) (t : ℕ) → is_entered_at court t ≡ true → (946_598_400 ≤ t) × (t ≤ 4_102_531_200)
+entered_instant court t e =
+    let day = entered_day (local_day (zone_of court) t) e in
+    let near = local_near (zone_of court) t (zone_of-is_zone court) in
+    (omega (arith, day.0, day.1, near.0, near.1), omega (arith, day.0, day.1, near.0, near.1))
+
+abbrev AreEntered : List NewRow → Type 0
+AreEntered rows = All (λ (row : NewRow). IsEnteredItem row.item) rows
+
+-- each row that is asked for
+one_entered : (row : NewRow) → IsEnteredItem row.item → AreEntered (row ∷ [])
+one_entered row is = All-cons (λ (r : NewRow). IsEnteredItem r.item) row [] is (All-nil (λ (r : NewRow). IsEnteredItem r.item))
+
+days_entered : (days : List NewDay) → list_all is_new_day days ≡ true → AreEntered (map imported days)
+days_entered [] e = All-nil (λ (r : NewRow). IsEnteredItem r.item)
+days_entered (new ∷ others) e =
+    let here : is_new_day new ≡ true = left_true (is_new_day new) (list_all is_new_day others) e in
+    let rest : list_all is_new_day others ≡ true = right_true (is_new_day new) (list_all is_new_day others) e in
+    All-cons (λ (r : NewRow). IsEnteredItem r.item) (imported new) (map imported others)
+    (entered_day new.day (left_true (is_entered new.day) (is_text 100 new.name) here)) (days_entered others rest)
+
+span_entered : (court : CourtSettings) (start end : ℕ) → is_entered_at court start ≡ true → is_entered_at court end ≡ true → nat_le end start ≡ false → IsEnteredSpan start end
+span_entered court start end first last apart = ((entered_instant court start first).0, grind (arith, nat_tests), (entered_instant court end last).1)
+
+pub asked_entered : (court : CourtSettings) (a : Action) → first_bad (bad_values court a) ≡ None → AreEntered (rows_asked a)
+asked_entered court (action.DeclareDay a) good = one_entered _ (entered_day a.day (not_false (is_entered a.day) (all_good (bad_values court (action.DeclareDay a)) good).0))
+asked_entered court (action.CloseDay a) good = one_entered _ (entered_day a.day (not_false (is_entered a.day) (all_good (bad_values court (action.CloseDay a)) good).0))
+asked_entered court (action.CloseSpan a) good =
+    let fields = all_good (bad_values court (action.CloseSpan a)) good in
+    let end = or_off (not (is_entered_at court a.end)) (nat_le a.end a.start) fields.1.0 in
+    one_entered _ (span_entered court a.start a.end (not_false (is_entered_at court a.start) fields.0) (not_false (is_entered_at court a.end) end.0) end.1)
+asked_entered court (action.ShortDay a) good = one_entered _ (entered_day a.day (not_false (is_entered a.day) (all_good (bad_values court (action.ShortDay a)) good).0))
+asked_entered court (action.ImportCalendar a) good =
+    let rows = not_false (nat_le (length a.rows) 1000 && list_all is_new_day a.rows) (all_good (bad_values court (action.ImportCalendar a)) good).0 in
+    days_entered a.rows (right_true (nat_le (length a.rows) 1000) (list_all is_new_day a.rows) rows)
+asked_entered court _ good = All-nil (λ (r : NewRow). IsEnteredItem r.item)
+
+-- those that don't stand
+fresh_if : (b : Bool) (new : NewRow) (rows others : List NewRow) → IsEnteredItem new.item → AreEntered rows → AreEntered others → AreEntered (if b then rows else new ∷ others)
+fresh_if true new rows others here less more = less
+fresh_if false new rows others here less more = All-cons (λ (r : NewRow). IsEnteredItem r.item) new others here more
+
+pub fresh_entered : (standing : List CalendarItem) (asked : List NewRow) → AreEntered asked → AreEntered (fresh standing asked)
+fresh_entered standing [] all = all
+fresh_entered standing (new ∷ others) all =
+    let P : NewRow → Type 0 = λ r. IsEnteredItem r.item in
+    fresh_if (stands_among standing new.item) new _ _ (All-head P new others all)
+    (fresh_entered standing others (All-tail P new others all))
+    (fresh_entered (standing ++ new.item ∷ []) others (All-tail P new others all))
+
+-- and as numbered rows
+pub numbered_entered : (number : ℕ) (rows : List NewRow) → AreEntered rows → All IsEnteredItem (items_of (numbered number rows))
+numbered_entered number [] all = All-nil IsEnteredItem
+numbered_entered number (row ∷ rows) all =
+    let P : NewRow → Type 0 = λ r. IsEnteredItem r.item in
+    All-cons IsEnteredItem row.item (items_of (numbered (number + 1) rows)) (All-head P row rows all)
+    (numbered_entered (number + 1) rows (All-tail P row rows all))

@@ -1,0 +1,15 @@
+pub mod ActsInOrder
+pub mod ActsKept
+pub mod AddedActs
+pub mod AlikeStandings
+pub mod EndChanges
+pub mod FirstActs
+pub mod GoodValues
+pub mod InOrderLemmas
+pub mod LaterActs
+pub mod Leading
+pub mod LimitsKept
+pub mod MovedEnds
+pub mod OneDeadline
+pub mod Passed
+pub mod Runs

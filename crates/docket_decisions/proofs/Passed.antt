@@ -1,0 +1,131 @@
+-- Where no refusal applies, no refusal's sentence is true; and what follows from it.
+use Rattle.std.proofs.Common.{◌≡◌, ◌≢◌, ℕ, ◌+◌, ◌≤◌, ◌<◌, Bool, true, false, ◌||◌, Option, Some, None, List, [], ◌∷◌, length, refl, subst, arith}
+use Rattle.std.specs.Prelude.{nat_lt, nat_le, slice_get, ◌&&◌, IfSome}
+use Rattle.std.specs.List.{All, list_all}
+use Rattle.std.proofs.lemmas.Bool.Decides.{nat_tests}
+use Rattle.std.proofs.lemmas.List.Elements.{All-get_or}
+use Rattle.std.proofs.lemmas.Option.{get_or_from_slice_get, slice_get_within}
+use Rattle.court_days.specs.Court.{CourtSettings, zone_of}
+use Rattle.court_rules.specs.Acts.{acts_ok, is_within}
+use Rattle.court_rules.specs.Standings.{AreActs}
+use Rattle.court_rules.specs.declared.act.Act.{Act}
+use Rattle.docket_command.specs.declared.command.Action.{Action}
+use Rattle.docket_command.specs.declared.command.Action.TheVariants as action
+use Rattle.docket_command.specs.declared.command.Command.{Command}
+use Rattle.docket_command.specs.declared.field.Field.{Field}
+use Rattle.docket_command.specs.declared.refusal.Refusal.{Refusal}
+use Rattle.docket_history.specs.Actions.{deadlines_made}
+use Rattle.docket_decisions.specs.Decisions.{IsSoundView}
+use Rattle.docket_decisions.specs.Refusals.{on, on_value, first_some, refusals, refusal_of, lacks_case, lacks_deadline, lacks_local_rule, is_there, is_not_open, is_not_awaiting, is_full, has_too_many_acts, count_added}
+use Rattle.docket_values.specs.Values.{first_bad, bad_values}
+use Rattle.docket_history.specs.Views.{count_deadlines, deadline_shown, acts_in}
+use Rattle.docket_history.specs.declared.view.DeadlineView.{DeadlineView}
+use Rattle.docket_history.specs.declared.view.View.{View}
+
+abbrev AreNone : List (Option Refusal) → Type 0
+AreNone [] = Unit {0}
+AreNone (r ∷ rs) = (r ≡ None) × AreNone rs
+
+none_of : (rs : List (Option Refusal)) → first_some rs ≡ None → AreNone rs
+none_of [] e = tt
+none_of (Some r ∷ rs) e = absurd (cc)
+none_of (None ∷ rs) e = (refl, none_of rs e)
+
+off : (b : Bool) (r : Refusal) → on b r ≡ None → b ≡ false
+off true r e = absurd (cc)
+off false r e = refl
+
+good_values : (f : Option Field) → on_value f ≡ None → f ≡ None
+good_values None e = refl
+good_values (Some f) e = absurd (cc)
+
+-- what a command that no refusal meets may rest on
+pub record IsFree (court : CourtSettings) (v : View) (c : Command) : Type 0 where
+  pub values : first_bad (bad_values court c.action) ≡ None
+  pub case : lacks_case v c.action ≡ false
+  pub deadline : lacks_deadline v c.action ≡ false
+  pub rule : lacks_local_rule v c.action ≡ false
+  pub new : is_there v c.action ≡ false
+  pub opened : is_not_open court v c.action ≡ false
+  pub awaited : is_not_awaiting court v c.action ≡ false
+  pub room : is_full v c.action ≡ false
+
+pub is_free : (court : CourtSettings) (v : View) (c : Command) → refusal_of court v c ≡ None → IsFree court v c
+is_free court v c e =
+    let all = none_of (refusals court v c) e in
+    record {
+      values = good_values _ all.1.1.0;
+      case = off _ _ all.1.1.1.0;
+      deadline = off _ _ all.1.1.1.1.1.0;
+      rule = off _ _ all.1.1.1.1.1.1.1.0;
+      new = off _ _ all.1.1.1.1.1.1.1.1.0;
+      opened = off _ _ all.1.1.1.1.1.1.1.1.1.0;
+      awaited = off _ _ all.1.1.1.1.1.1.1.1.1.1.0;
+      room = off _ _ all.1.1.1.1.1.1.1.1.1.1.1.1.1.1.1.1.1.1.1.1.0;
+    }
+
+or_right_off : (a b : Bool) → (a || b) ≡ false → b ≡ false
+or_right_off true b e = absurd (cc)
+or_right_off false b e = e
+
+pub not_above : (m n : ℕ) → nat_lt m n ≡ false → n ≤ m
+not_above m n e = grind (arith, nat_tests)
+
+pub not_at : (m n : ℕ) → nat_le m n ≡ false → n < m
+not_at m n e = grind (arith, nat_tests)
+
+-- the numbers of new calendar rows fit
+pub rows_fit : (v : View) (a : Action) → is_full v a ≡ false → v.next_row ≤ 4_294_967_296 → v.next_row + count_added v a ≤ 4_294_967_296
+rows_fit v (action.DeclareDay a) e was = not_above _ _ (or_right_off _ _ e)
+rows_fit v (action.CloseDay a) e was = not_above _ _ (or_right_off _ _ e)
+rows_fit v (action.CloseSpan a) e was = not_above _ _ (or_right_off _ _ e)
+rows_fit v (action.ShortDay a) e was = not_above _ _ (or_right_off _ _ e)
+rows_fit v (action.ImportCalendar a) e was = not_above _ _ (or_right_off _ _ e)
+rows_fit v _ e was = omega arith
+
+-- so do those of new deadlines
+pub deadlines_fit : (v : View) (a : Action) → is_full v a ≡ false → deadlines_made v.local a ≢ [] → count_deadlines v.case + length (deadlines_made v.local a) ≤ 1000
+deadlines_fit v (action.DeclareDay a) e some = absurd (some refl)
+deadlines_fit v (action.CloseDay a) e some = absurd (some refl)
+deadlines_fit v (action.CloseSpan a) e some = absurd (some refl)
+deadlines_fit v (action.ShortDay a) e some = absurd (some refl)
+deadlines_fit v (action.WithdrawCalendar a) e some = absurd (some refl)
+deadlines_fit v (action.ImportCalendar a) e some = absurd (some refl)
+deadlines_fit v (action.OpenCase a) e some = absurd (some refl)
+deadlines_fit v (action.AddParty a) e some = absurd (some refl)
+deadlines_fit v (action.FileEntry a) e some = absurd (some refl)
+deadlines_fit v (action.RuleMotion a) e some = absurd (some refl)
+deadlines_fit v (action.StatementServed a) e some = absurd (some refl)
+deadlines_fit v (action.Extend a) e some = absurd (some refl)
+deadlines_fit v (action.Satisfy a) e some = absurd (some refl)
+deadlines_fit v (action.Vacate a) e some = absurd (some refl)
+deadlines_fit v (action.LocalRule a) e some = absurd (some refl)
+deadlines_fit v a e some = not_above _ _ (or_right_off (has_too_many_acts v a) _ e)
+
+-- what holds of all elements holds of one
+pub one_of_all : {X : Type 0} (P : X → Type 0) (xs : List X) (i : ℕ) (x : X) → All P xs → slice_get xs i ≡ Some x → P x
+one_of_all P xs i x all e = subst P (get_or_from_slice_get xs i x x e) (All-get_or P xs i x (slice_get_within xs i x e) all)
+
+pub left_true : (a b : Bool) → (a && b) ≡ true → a ≡ true
+left_true true b e = refl
+left_true false b e = absurd (cc)
+
+pub right_true : (a b : Bool) → (a && b) ≡ true → b ≡ true
+right_true true b e = e
+right_true false b e = absurd (cc)
+
+-- lawful acts are at most a hundred
+few_acts : (acts : List Act) → acts_ok acts ≡ true → length acts ≤ 100
+few_acts acts e =
+    let lengths = left_true (nat_le 1 (length acts) && nat_le (length acts) 100) (list_all is_within acts) (left_true ((nat_le 1 (length acts) && nat_le (length acts) 100) && list_all is_within acts) _ e) in
+    let most : nat_le (length acts) 100 ≡ true = right_true (nat_le 1 (length acts)) _ lengths in
+    grind (arith, nat_tests)
+
+-- the acts of a deadline that is shown
+module _ (court : CourtSettings) (v : View) (sound : IsSoundView court v) where
+  few_in : (o : Option DeadlineView) → IfSome o (λ d. AreActs (zone_of court) d.acts) → length (acts_in o) ≤ 100
+  few_in None lawful = omega arith
+  few_in (Some d) lawful = few_acts d.acts lawful.0
+
+  pub few_shown : length (acts_in (deadline_shown v)) ≤ 100
+  few_shown = few_in (deadline_shown v) sound.acts

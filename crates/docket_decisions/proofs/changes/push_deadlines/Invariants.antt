@@ -1,0 +1,10 @@
+use Rattle.std.proofs.Common.{◌≡◌, ◌+◌, ◌++◌, map, drop}
+use Rattle.docket_history.specs.Histories.{deadline_rows_from}
+use Rattle.docket_history.specs.declared.row.Change.TheVariants.{AddDeadline}
+use Rattle.docket_decisions.proofs.changes.push_deadlines.Given as goal
+
+abbrev pub invariant-loop-new : goal.invariant-loop-new
+invariant-loop-new l = record {
+  counted : l.number ≡ l.first + l.new-index;
+  rest : l.changes.items ++ map AddDeadline (deadline_rows_from l.case l.number (drop l.new-index l.made)) ≡ l.fn.changes.items ++ map AddDeadline (deadline_rows_from l.case l.first l.made);
+}

@@ -1,0 +1,67 @@
+-- What `decide` says.
+use Rattle.std.specs.Prelude.{◌≡◌, ◌≤◌, ◌^◌, List, ◌∷◌, length, IfSome, Result, Ok, Err}
+use Rattle.std.specs.List.{All}
+use Rattle.court_days.specs.Court.{CourtSettings, zone_of}
+use Rattle.court_rules.specs.Standings.{AreActs, StandsAfter}
+use Rattle.docket_command.specs.declared.command.Command.{Command}
+use Rattle.docket_history.specs.CalendarItems.{IsEnteredItem, calendar_of}
+use Rattle.docket_history.specs.Histories.{History}
+use Rattle.docket_decisions.specs.Tables.{rows_of, all_changed, with_receipt}
+use Rattle.docket_decisions.specs.Outcomes.{Answer, repeated, refused, accepted}
+use Rattle.docket_command.specs.declared.command.Action.{Action}
+use Rattle.docket_history.specs.Actions.{deadlines_made}
+use Rattle.docket_decisions.specs.Refusals.{count_added}
+use Rattle.docket_history.specs.Times.{standing_shown}
+use Rattle.docket_decisions.specs.declared.refusals.Matter.{Matter}
+use Rattle.docket_history.specs.Views.{deadline_shown}
+use Rattle.docket_history.specs.declared.row.Change.{Change}
+use Rattle.docket_decisions.specs.declared.decision.Decision.{Decision}
+use Rattle.docket_decisions.specs.declared.decision.Decision.TheVariants as decision
+use Rattle.docket_decisions.specs.declared.decision.DecideFault.{DecideFault}
+use Rattle.docket_decisions.specs.declared.decision.DecideFault.TheVariants.{Refused, NoMemory}
+use Rattle.docket_history.specs.declared.view.DeadlineView.{DeadlineView}
+use Rattle.docket_history.specs.declared.view.Kept.TheVariants.{Same}
+use Rattle.docket_history.specs.declared.view.View.{View}
+
+-- a view that a history can show: its calendar holds what a court may enter, at most 4,000 rows, rows have numbers up to
+-- 4,294,967,295, and the acts of the deadline that the command names are lawful
+pub record IsSoundView (court : CourtSettings) (v : View) : Type 0 where
+  pub items : All IsEnteredItem v.calendar
+  pub rows : length v.calendar ≤ 4000
+  pub next_row : v.next_row ≤ 2 ^ 32
+  pub acts : IfSome (deadline_shown v) (λ (d : DeadlineView). AreActs (zone_of court) d.acts)
+
+-- what an action is judged by beside its view
+pub record IsMatter (matter : Matter) (v : View) (a : Action) : Type 0 where
+  pub calendar : matter.calendar.now ≡ calendar_of v.calendar
+  pub standing : matter.standing ≡ standing_shown matter.court.now v
+  pub near : StandsAfter 100 matter.standing
+  pub added : matter.added ≡ count_added v a
+  pub made : matter.made ≡ length (deadlines_made v.local a)
+
+-- the decision is this answer, unless memory is short
+abbrev pub IsAnswer : Result Decision DecideFault → Answer → Type 0
+IsAnswer (Ok (decision.Repeat reply)) answer = answer ≡ repeated reply
+IsAnswer (Ok (decision.Change changes)) answer = answer ≡ accepted changes.reply
+IsAnswer (Err (Refused r)) answer = answer ≡ refused r
+IsAnswer (Err NoMemory) answer = Unit {0}
+
+-- a repeat has the reply that is kept under the command's key
+abbrev pub IsKeptReply : View → Decision → Type 0
+IsKeptReply v (decision.Repeat reply) = v.kept ≡ Same reply
+IsKeptReply v (decision.Change changes) = Unit {0}
+
+-- the changes are these, if there are any
+abbrev pub IsChange : List Change → Decision → Type 0
+IsChange all (decision.Repeat reply) = Unit {0}
+IsChange all (decision.Change changes) = changes.rows.items ≡ all
+
+abbrev pub IsNoMemory : DecideFault → Type 0
+IsNoMemory (Refused r) = ⊥
+IsNoMemory NoMemory = Unit {0}
+
+-- the changes and the receipt lead from the tables of a history to those with the command
+abbrev pub LeadsTo : CourtSettings → History → Command → Decision → Type 0
+LeadsTo court h c (decision.Repeat reply) = Unit {0}
+LeadsTo court h c (decision.Change changes) =
+    with_receipt c changes.reply (all_changed changes.rows.items (rows_of court h)) ≡ rows_of court (c ∷ h)

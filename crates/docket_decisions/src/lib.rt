@@ -1,0 +1,20 @@
+//! The decision on a command: the refusals in their order, the rows that an accepted command changes,
+//! its reply, and where the stored ends of deadlines move.
+#![tactic(auto)]
+
+mod changes;
+mod deadline;
+mod decision;
+mod end_row;
+mod lacking;
+mod laws;
+mod moving;
+mod refusals;
+
+pub use decision::{Changes, DecideFault, Decision, decide};
+pub use end_row::{EndChange, EndRow, EndTime, due_changes};
+pub use laws::{
+    acts_are_in_order, limits_are_kept, rows_are_numbered_in_order, rows_stand_until_withdrawn,
+    short_days_move_no_deadline,
+};
+pub use moving::{acts_named, acts_with, end_moves};

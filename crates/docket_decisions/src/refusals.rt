@@ -1,0 +1,392 @@
+//! When each refusal applies, and in which order they are looked for.
+ghost use Rattle.std.specs.Prelude.{◌≡◌, None, length, map};
+ghost use Rattle.court_days.specs.Court.{CourtSettings, zone_of};
+ghost use Rattle.court_rules.specs.Standings.{IsEndAfter, StandsAfter, last_day};
+ghost use Rattle.docket_history.specs.Actions.{deadlines_made};
+ghost use Rattle.docket_history.specs.CalendarItems.{calendar_of};
+ghost use Rattle.docket_decisions.specs.Decisions.{IsMatter};
+ghost use Rattle.docket_history.specs.Times.{standing_shown, is_in_time};
+ghost use Rattle.docket_values.specs.Values.{first_bad, bad_values};
+ghost use Rattle.docket_decisions.specs.Refusals.{on, first_some, is_reused, is_there, is_running, is_suspended, is_awaiting, is_over, is_not_open, is_not_awaiting, is_responsive_rule, is_responsive_in, is_extendable_by, is_extendable_in, is_not_responsive, is_by_e, wants_statement, is_wrong_motion, is_past, is_after, is_served, is_short_waiver, is_late_waiver, may_not_extend, is_expired, is_not_later, has_too_many_acts, count_added, is_calendar_full, is_full, state_refusals, refusal_of};
+ghost use Rattle.docket_history.specs.Views.{ViewOf, deadline_shown, last_act};
+
+use crate::lacking::{lacks_case, lacks_deadline, lacks_local_rule, lacks_party, lacks_row};
+use court_days::{Calendar, Court, Day, DayKind, Direction, End, Way, count_days, timely};
+use court_rules::{Act, DeadlineRule, MotionKind, Standing};
+use docket_command::{Action, Command, LocalRule, Moment, Refusal, Ruling};
+use docket_history::{CalendarItem, Kept, View, deadline_named, stands_among};
+use docket_values::{bad_field, is_word};
+
+fn is_reused(kept: Kept) -> bool
+    ensures { result ≡ is_reused kept }
+{
+    matches!(kept, Kept::Other)
+}
+
+fn is_there(view: &View, action: &Action) -> bool
+    ensures { result ≡ is_there view.now action.now }
+{
+    let standing = view.calendar.as_slice();
+    match action {
+        Action::DeclareDay(a) => stands_among(
+            standing,
+            CalendarItem::Day(DayKind::from(a.kind), a.day),
+        ),
+        Action::CloseDay(a) => stands_among(standing, CalendarItem::Day(DayKind::Closed, a.day)),
+        Action::CloseSpan(a) => stands_among(standing, CalendarItem::Span(a.start, a.end)),
+        Action::ShortDay(a) => stands_among(standing, CalendarItem::Short(a.day, a.close)),
+        Action::OpenCase(_) => view.label_taken,
+        Action::LocalRule(_) => view.local.is_some(),
+        _ => false,
+    }
+}
+
+/// Whether it is done or vacated.
+fn is_over(standing: Standing) -> bool
+    ensures { result ≡ is_over standing }
+{
+    matches!(standing, Standing::Done | Standing::Vacated)
+}
+
+fn is_running(standing: Standing) -> bool
+    ensures { result ≡ is_running standing }
+{
+    matches!(standing, Standing::Running(_))
+}
+
+fn is_suspended(standing: Standing) -> bool
+    ensures { result ≡ is_suspended standing }
+{
+    matches!(standing, Standing::Suspended)
+}
+
+fn is_awaiting(standing: Standing) -> bool
+    ensures { result ≡ is_awaiting standing }
+{
+    matches!(standing, Standing::Awaiting)
+}
+
+fn is_not_open(action: &Action, standing: Standing) -> bool
+    ensures { (court : CourtSettings) (v : ViewOf) → standing ≡ standing_shown court v
+        → result ≡ is_not_open court v action.now }
+{
+    match action {
+        Action::RuleMotion(_) | Action::Extend(_) => !is_running(standing),
+        Action::Satisfy(_) | Action::Vacate(_) => is_over(standing),
+        _ => false,
+    }
+}
+
+fn is_not_awaiting(action: &Action, standing: Standing) -> bool
+    ensures { (court : CourtSettings) (v : ViewOf) → standing ≡ standing_shown court v
+        → result ≡ is_not_awaiting court v action.now }
+{
+    match action {
+        Action::Dispose(_) => !is_suspended(standing),
+        Action::StatementServed(_) => !is_awaiting(standing),
+        _ => false,
+    }
+}
+
+/// Whether it sets the time of a responsive pleading.
+fn is_responsive(rule: &DeadlineRule) -> bool
+    ensures { result ≡ is_responsive_rule rule.now }
+{
+    match rule {
+        DeadlineRule::Listed(rule) => rule.responsive(),
+        DeadlineRule::Local(_) => false,
+    }
+}
+
+/// The same of the rule of the deadline that the command names.
+fn is_of_responsive(view: &View) -> bool
+    ensures { result ≡ is_responsive_in (deadline_shown view.now) }
+{
+    match view.deadline_named() {
+        Some(deadline) => is_responsive(&deadline.rule),
+        None => false,
+    }
+}
+
+/// Whether the court may extend a time by the rule, which is this one where it is a local rule.
+fn is_extendable(found: &Option<LocalRule>, rule: &DeadlineRule) -> bool
+    ensures { result ≡ is_extendable_by found.now rule.now }
+{
+    match rule {
+        DeadlineRule::Listed(rule) => rule.extendable(),
+        DeadlineRule::Local(_) => match found {
+            Some(rule) => rule.extendable,
+            None => false,
+        },
+    }
+}
+
+/// The same of the rule of the deadline that the command names.
+fn is_of_extendable(view: &View) -> bool
+    ensures { result ≡ is_extendable_in view.now.local (deadline_shown view.now) }
+{
+    match view.deadline_named() {
+        Some(deadline) => is_extendable(&view.local, &deadline.rule),
+        None => false,
+    }
+}
+
+fn is_not_responsive(view: &View, action: &Action) -> bool
+    ensures { result ≡ is_not_responsive view.now action.now }
+{
+    match action {
+        Action::RuleMotion(_) => !is_of_responsive(view),
+        _ => false,
+    }
+}
+
+/// Whether the last act is a motion for a more definite statement.
+fn is_by_e(acts: &[Act]) -> bool
+    ensures { result ≡ is_by_e (last_act acts.now) }
+{
+    match acts.last() {
+        Some(Act::Motion(_, MotionKind::E)) => true,
+        _ => false,
+    }
+}
+
+fn wants_statement(outcome: Ruling) -> bool
+    ensures { result ≡ wants_statement outcome }
+{
+    matches!(outcome, Ruling::Statement)
+}
+
+fn is_wrong_motion(view: &View, action: &Action) -> bool
+    ensures { result ≡ is_wrong_motion view.now action.now }
+{
+    match action {
+        Action::Dispose(a) => wants_statement(a.outcome) && !is_by_e(view.acts_named()),
+        _ => false,
+    }
+}
+
+/// The last day of a time: that of an instant is its local day.
+fn last_day(court: &Court, end: End) -> Day
+    requires { IsEndAfter 100 end }
+    ensures { result ≡ last_day (zone_of court.now) end }
+{
+    match end {
+        End::LastDay(day) => day,
+        End::Moment(at) => court.local(at).0,
+    }
+}
+
+/// Whether the day is after the last day of a time that runs.
+fn is_past(court: &Court, standing: Standing, day: Day) -> bool
+    requires { StandsAfter 100 standing }
+    ensures { result ≡ is_past court.now standing day }
+{
+    match standing {
+        Standing::Running(end) => last_day(court, end).epoch_day() < day.epoch_day(),
+        _ => false,
+    }
+}
+
+fn is_after(court: &Court, action: &Action, standing: Standing) -> bool
+    requires { StandsAfter 100 standing }
+    ensures { (v : ViewOf) → standing ≡ standing_shown court.now v → result ≡ is_after court.now v action.now }
+{
+    match action {
+        Action::RuleMotion(a) => is_past(court, standing, a.served),
+        _ => false,
+    }
+}
+
+fn is_short_waiver(action: &Action) -> bool
+    ensures { result ≡ is_short_waiver action.now }
+{
+    match action {
+        Action::FileWaiver(a) => a.allowed < if a.abroad { 60 } else { 30 },
+        _ => false,
+    }
+}
+
+/// Whether a waiver came back late. Its days and counts are good.
+fn is_late_waiver(calendar: &Calendar, action: &Action) -> bool
+    requires { (court : CourtSettings) × (first_bad (bad_values court action.now) ≡ None) }
+    ensures { (v : ViewOf) → calendar.now ≡ calendar_of v.calendar → result ≡ is_late_waiver v action.now }
+{
+    match action {
+        Action::FileWaiver(a) => {
+            let last = count_days(calendar, Direction::Forward, a.sent, a.allowed);
+            last.epoch_day() < a.returned.epoch_day()
+        }
+        _ => false,
+    }
+}
+
+fn may_not_extend(view: &View, action: &Action) -> bool
+    ensures { result ≡ may_not_extend view.now action.now }
+{
+    match action {
+        Action::Extend(_) => !is_of_extendable(view),
+        _ => false,
+    }
+}
+
+/// Whether a filing at the moment is in time, or no time was running.
+pub(crate) fn is_in_time(
+    court: &Court,
+    calendar: &Calendar,
+    standing: Standing,
+    at: Moment,
+    way: Way,
+) -> bool
+    ensures { result ≡ is_in_time court.now calendar.now standing at way }
+{
+    match standing {
+        Standing::Running(end) => timely(court, calendar, end, at.seconds(), way),
+        _ => true,
+    }
+}
+
+fn is_expired(court: &Court, calendar: &Calendar, action: &Action, standing: Standing) -> bool
+    ensures { (v : ViewOf) → calendar.now ≡ calendar_of v.calendar → standing ≡ standing_shown court.now v
+        → result ≡ is_expired court.now v action.now }
+{
+    match action {
+        Action::Extend(a) => {
+            let is_late = !is_in_time(court, calendar, standing, a.at, Way::Electronic);
+            !a.neglect && is_late
+        }
+        _ => false,
+    }
+}
+
+fn is_not_later(court: &Court, action: &Action, standing: Standing) -> bool
+    requires { StandsAfter 100 standing }
+    ensures { (v : ViewOf) → standing ≡ standing_shown court.now v → result ≡ is_not_later court.now v action.now }
+{
+    match action {
+        Action::Extend(a) => match a.until {
+            Some(day) => !is_past(court, standing, day),
+            None => false,
+        },
+        _ => false,
+    }
+}
+
+/// Whether more than 4,000 calendar rows would stand, or the number of one would pass 4,294,967,295.
+fn is_calendar_full(view: &View, added: usize) -> bool
+    ensures { result ≡ is_calendar_full view.now added }
+{
+    view.calendar.as_slice().len().saturating_add(added) > 4000
+        || view.next_row.saturating_add(added as u64) > 4_294_967_296
+}
+
+/// Whether a deadline has as many acts as it may have before the one that ends it.
+fn has_too_many_acts(view: &View, action: &Action) -> bool
+    ensures { result ≡ has_too_many_acts view.now action.now }
+{
+    deadline_named(action).is_some() && view.acts_named().len() >= 99
+}
+
+fn is_full(view: &View, added: usize, made: usize, action: &Action) -> bool
+    requires added { added ≡ count_added view.now action.now }
+    requires made { made ≡ length (deadlines_made view.now.local action.now) }
+    ensures { result ≡ is_full view.now action.now }
+{
+    match action {
+        Action::DeclareDay(_) | Action::CloseDay(_) => is_calendar_full(view, added),
+        Action::CloseSpan(_) | Action::ShortDay(_) => is_calendar_full(view, added),
+        Action::ImportCalendar(_) => is_calendar_full(view, added),
+        Action::OpenCase(_) => view.cases >= 100_000,
+        Action::AddParty(_) => view.parties() >= 1000,
+        Action::FileEntry(_) => view.entries() >= 10_000,
+        Action::WithdrawCalendar(_) | Action::Satisfy(_) | Action::Vacate(_) => false,
+        Action::LocalRule(_) => view.local_rules >= 1000,
+        _ => {
+            has_too_many_acts(view, action)
+                || (view.deadlines() as usize).saturating_add(made) > 1000
+        }
+    }
+}
+
+/// The refusal of the first check that is met.
+fn first_met(checks: &[(bool, Refusal)]) -> Option<Refusal>
+    ensures { result ≡ first_some (map (λ check. on check.0 check.1) checks.now) }
+{
+    for check in checks {
+        if check.0 {
+            return Some(check.1);
+        }
+    }
+    None
+}
+
+/// What a command is judged by beside its view: the court and the calendar that is shown, where the
+/// deadline that it names stands, and how many calendar rows and deadlines it would make.
+#[derive(Drop)]
+pub(crate) struct Matter<'a> {
+    pub(crate) court: &'a Court,
+    pub(crate) calendar: &'a Calendar,
+    pub(crate) standing: Standing,
+    pub(crate) added: usize,
+    pub(crate) made: usize,
+}
+
+/// The first refusal that applies of those that look at the docket, in their order.
+fn state_refusal(matter: &Matter<'_>, view: &View, action: &Action) -> Option<Refusal>
+    requires matter { IsMatter matter.now view.now action.now }
+    requires good { first_bad (bad_values matter.now.court.now action.now) ≡ None }
+    ensures { result ≡ first_some (state_refusals matter.now.court.now view.now action.now) }
+{
+    let court = matter.court;
+    first_met(&[
+        (lacks_case(view, action), Refusal::NoSuchCase),
+        (lacks_party(view, action), Refusal::NoSuchParty),
+        (lacks_deadline(view, action), Refusal::NoSuchDeadline),
+        (lacks_row(view, action), Refusal::NoSuchCalendarRow),
+        (lacks_local_rule(view, action), Refusal::NoSuchLocalRule),
+        (is_there(view, action), Refusal::Exists),
+        (is_not_open(action, matter.standing), Refusal::NotOpen),
+        (
+            is_not_awaiting(action, matter.standing),
+            Refusal::NotAwaiting,
+        ),
+        (is_not_responsive(view, action), Refusal::NotResponsive),
+        (is_wrong_motion(view, action), Refusal::WrongMotion),
+        (
+            is_after(court, action, matter.standing),
+            Refusal::AfterDeadline,
+        ),
+        (view.is_served(), Refusal::AlreadyServed),
+        (is_short_waiver(action), Refusal::ShortWaiver),
+        (is_late_waiver(matter.calendar, action), Refusal::LateWaiver),
+        (may_not_extend(view, action), Refusal::MayNotExtend),
+        (
+            is_expired(court, matter.calendar, action, matter.standing),
+            Refusal::Expired,
+        ),
+        (
+            is_not_later(court, action, matter.standing),
+            Refusal::NotLater,
+        ),
+        (
+            is_full(view, matter.added, matter.made, action),
+            Refusal::Full,
+        ),
+    ])
+}
+
+/// The first refusal that applies.
+pub(crate) fn refusal(matter: &Matter<'_>, view: &View, command: &Command) -> Option<Refusal>
+    requires { IsMatter matter.now view.now command.now.action }
+    ensures { result ≡ refusal_of matter.now.court.now view.now command.now }
+{
+    if !is_word(64, &command.key) {
+        return Some(Refusal::BadKey);
+    }
+    if is_reused(view.kept) {
+        return Some(Refusal::KeyReused);
+    }
+    match bad_field(matter.court, &command.action) {
+        Some(field) => Some(Refusal::BadValue(field)),
+        None => state_refusal(matter, view, &command.action),
+    }
+}

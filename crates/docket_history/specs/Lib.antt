@@ -1,0 +1,9 @@
+pub mod Actions
+pub mod CalendarItems
+pub mod Histories
+pub mod InOrder
+pub mod Limits
+pub mod Records
+pub mod ShortDays
+pub mod Times
+pub mod Views

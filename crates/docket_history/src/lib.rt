@@ -1,0 +1,31 @@
+//! The docket of a history of commands: its rows, its records and what it shows about a command.
+//!
+//! The history itself is ghost (specs/Histories): which cases, parties, entries, deadlines and acts it
+//! has, and which rows of the calendar stand. Here are the types of its rows and of what is told of
+//! them, what an action names and asks about, the calendar that the standing rows enter, and the lines
+//! of a case's deadlines.
+#![tactic(auto)]
+
+mod calendar;
+mod item;
+mod lines;
+mod named;
+mod record;
+mod row;
+mod view;
+
+pub use calendar::{calendar_of, rows_added};
+pub use item::{CalendarItem, NewRow, stands_among};
+pub use lines::{close_of_end, close_of_standing, deadline_lines, line_of};
+pub use named::{
+    asks_calendar, asks_cases, asks_deadlines, asks_entries, asks_local_rules, asks_next_row,
+    asks_parties, case_named, deadline_named, local_rule_named,
+};
+pub use record::{CaseRecord, DeadlineLine, DueRow, EntryRows, PartyRows};
+pub use row::{
+    ActRow, CalendarRow, CaseRow, Change, DeadlineRow, EntryRow, LocalRuleRow, NewDeadline,
+    PartyRow, Receipt, ShortDayRow,
+};
+pub use view::{
+    Acts, CalendarItems, CaseView, DeadlineView, Kept, View, is_served_among, rule_name_asked,
+};
