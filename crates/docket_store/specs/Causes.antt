@@ -1,5 +1,5 @@
 -- Why a docket's database failed.
-use Rattle.std.specs.Prelude.{◌≡◌, ◌⊎◌, ℕ, IsTrue, Option, Some, IsSome, Result, Err}
+use Rattle.std.specs.Prelude.{◌≡◌, ◌≢◌, ◌⊎◌, ℕ, IsTrue, Option, Some, IsSome, Result, Err, None}
 use Rattle.sqlite.specs.Held.{state}
 use Rattle.sqlite.specs.State.{State}
 use Rattle.sqlite.specs.Store.{Ghosts}
@@ -12,8 +12,12 @@ use Rattle.docket_decisions.specs.Outcomes.{accepted, outcome}
 use Rattle.docket_scan.specs.Causes.{HasFailed}
 use Rattle.docket_scan.specs.declared.fault.AdoptFault.{AdoptFault}
 use Rattle.docket_scan.specs.declared.fault.AdoptFault.TheVariants as adopt
-use Rattle.docket_tables.specs.Causes.{IsCaused, IsOfMemory}
+use Rattle.docket_tables.specs.Causes.{IsCaused, IsCausedMaking, IsOfMemory}
+use Rattle.docket_tables.specs.Schema.{no_schema}
+use Rattle.docket_tables.specs.declared.fault.StoreFault.TheVariants as making
 use Rattle.docket_store.specs.Dockets.{Docket}
+use Rattle.docket_store.specs.declared.creating.CreateFault.{CreateFault}
+use Rattle.docket_store.specs.declared.creating.CreateFault.TheVariants as create
 use Rattle.docket_store.specs.declared.fault.Fault.{Fault}
 use Rattle.docket_store.specs.declared.fault.Fault.TheVariants.{StoreFailed}
 use Rattle.docket_store.specs.declared.listing.ListingEnd.{ListingEnd}
@@ -56,3 +60,11 @@ IsShort failure = (e : Error) × (failure ≡ Some e) × IsOfMemory e
 abbrev pub IsCausedOpening : State → State → Option Error → AdoptFault → Type 0
 IsCausedOpening old new failure adopt.StoreFailed = HasFailed old new ⊎ (IsTrue old.in_transaction ⊎ IsShort failure)
 IsCausedOpening old new failure _ = Unit {0}
+
+-- no docket was made: the database failed for a cause, and its error is told, or nothing failed, but a transaction was open on it or
+-- it held something; want of memory is told too
+abbrev pub IsCausedCreating : State → State → Option Error → CreateFault → Type 0
+IsCausedCreating old new failure create.NotEmpty = failure ≡ None
+IsCausedCreating old new failure create.NoMemory = IsCausedMaking old new failure making.NoMemory
+IsCausedCreating old new failure create.StoreFailed =
+    IsCausedMaking old new failure making.StoreFailed ⊎ ((failure ≡ None) × (IsTrue old.in_transaction ⊎ (old.now.schema ≢ no_schema)))

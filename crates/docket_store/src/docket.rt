@@ -23,7 +23,7 @@ ghost use Rattle.docket_tables.specs.Stands.{HoldsRows, HoldsRowsIn};
 ghost use Rattle.docket_tables.specs.declared.table.Table.TheVariants as table;
 ghost use Rattle.docket_store.specs.AnyRows.{Preserves, PreservesCalendar, PreservesListing, PreservesRejected, WritesWhole};
 ghost use Rattle.docket_store.specs.Applying.{IsDocket, StandsFor, Stands, Applies, Asks, docket_rows};
-ghost use Rattle.docket_store.specs.Causes.{IsCausedOpening, IsClosedForCause, IsNamed, IsNotAccepted};
+ghost use Rattle.docket_store.specs.Causes.{IsCausedCreating, IsCausedOpening, IsClosedForCause, IsNamed, IsNotAccepted};
 ghost use Rattle.docket_store.specs.Grounds.{AreGrounds};
 ghost use Rattle.docket_store.specs.Listing.{Lists, ListsCalendar};
 ghost use Rattle.docket_store.specs.Migrating.{cause_of};
@@ -75,7 +75,10 @@ impl<S: Alter> Model for Docket<S> {
 }
 
 impl<S: Alter> Docket<S> {
-    /// Makes the docket of a court, without any record, in a database that holds nothing.
+    /// Makes the docket of a court, without any record, in a database that holds nothing. None is made where
+    /// the database holds a docket or something else, or a transaction is open on it. Beside that the
+    /// database fails only for a cause: its disk failed or refused, memory was refused, a limit on steps was
+    /// set, or the connection was shut. Its error is then told as the `failure`.
     pub fn create(
         alloc: Global,
         conn: Connection<S>,
@@ -85,10 +88,13 @@ impl<S: Alter> Docket<S> {
         ensures empty { OnOk result (has_docket_table conn.schema ≡ false) }
         ensures full { IsTrue (has_docket_table conn.schema) → IsErrAnd result (λ returned. returned.fault ≡ NotEmpty) }
         ensures fault { IfErr result (λ returned. IsNotMade S.Store conn returned.connection court returned.fault) }
+        ensures cause { IfErr result (λ returned. HasCleanDisk (state S.Store returned.connection)
+            → IsCausedCreating (state S.Store conn) (state S.Store returned.connection) returned.failure returned.fault) }
     {
         let mut connection = conn;
+        let mut failure = None;
         courts_begin_without_a_record(&court);
-        match make_docket(&mut connection, &court) {
+        match make_docket(&mut connection, &court, &mut failure) {
             Ok(()) => Ok(Docket {
                 alloc,
                 conn: connection,
@@ -98,7 +104,7 @@ impl<S: Alter> Docket<S> {
             }),
             Err(fault) => Err(Returned {
                 fault,
-                failure: None,
+                failure,
                 connection,
             }),
         }

@@ -6,8 +6,8 @@ use sqlite::{Alter, Connection, Error};
 #[derive(Drop)]
 pub struct Returned<S: Alter, F> {
     pub fault: F,
-    /// The error by which the database failed, where it is known: as a docket is adopted, that memory was
-    /// refused.
+    /// The error of the database, where it is told: as a docket is made, any by which it failed; as one is
+    /// made or adopted, that memory was refused; as one is migrated, none.
     pub failure: Option<Error>,
     pub connection: Connection<S>,
 }

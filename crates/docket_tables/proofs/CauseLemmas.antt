@@ -7,13 +7,10 @@ use Rattle.sqlite.specs.Command.{Command}
 use Rattle.sqlite.specs.Command.TheVariants.{Select}
 use Rattle.sqlite.specs.Effect.{RefusesToRead}
 use Rattle.sqlite.specs.Listing.{understood, reads_listing, IsSourceOf}
-use Rattle.sqlite.specs.State.{State, HasCause, IsNoStatement, IsNotRun, FailsToQuery, is_disk_error, store_error}
+use Rattle.sqlite.specs.State.{State, HasCause, IsNotRun, FailsToQuery, is_disk_error, store_error}
 use Rattle.sqlite.specs.declared.error.Error.{Error}
 use Rattle.sqlite.specs.Values.{bound_value}
 use Rattle.sqlite.specs.declared.types.Value.TheVariants as value
-use Rattle.sqlite.proofs.Callers.{IsPlain}
-use Rattle.sqlite_resolve.specs.declared.compiled.Compiled.{Compiled}
-use Rattle.sqlite_resolve.specs.declared.error.CompileError.{CompileError}
 use Rattle.sqlite_tied.specs.Compute.{everything}
 use Rattle.sqlite_trees.specs.declared.error.StoreError.{StoreError}
 use Rattle.sqlite_trees.specs.declared.error.StoreError.TheVariants as store
@@ -31,6 +28,7 @@ use Rattle.docket_tables.specs.declared.fault.ReadFault.{ReadFault}
 use Rattle.docket_tables.specs.declared.fault.ReadFault.TheVariants.{Store, NoMemory, Damaged}
 use Rattle.docket_tables.specs.declared.query.Query.{Query}
 use Rattle.docket_tables.specs.declared.query.Query.TheVariants as ask
+use Rattle.docket_tables.proofs.MakingCauses.{IsOne, never_misread}
 use Rattle.docket_tables.proofs.QueryLemmas.{keeps_from, shows_of, order_in, limit_in, select_means}
 use Rattle.sqlite.specs.Program.{ProgramOverflows}
 use Rattle.sqlite.specs.Query.{Query as Sql}
@@ -41,11 +39,6 @@ query_of q = plain_query (tree_of (table_of q)) (keeps_from (table_of q) 0 (keys
 
 abbrev command_for : Query → Command
 command_for q = Select (record { lets = []; body = query_of q }) (names_in (layout_of (table_of q)))
-
--- the text is one statement, which takes so many parameters
-abbrev IsOne : List ℕ → ℕ → Command → Result Compiled CompileError → Type 0
-IsOne sql n command (Ok c) = (c.tail ≡ length sql) × (length c.names ≡ n) × (c.command ≡ command) × IsPlain (Ok c)
-IsOne sql n command (Err e) = ⊥
 
 one_statement : (q : Query) → IsOne (select_text q) (length (kinds_asked q)) (command_for q) (understood docket_schema (select_text q))
 unfolding understood everything
@@ -110,13 +103,6 @@ so_many [] [] of = refl
 so_many (Integer ∷ kinds) (value.Int n ∷ row) of = ap (λ n. suc n) (so_many kinds row of)
 so_many (Text ∷ kinds) (value.Text t ∷ row) of = ap (λ n. suc n) (so_many kinds row of)
 so_many _ _ of = absurd (let no = of in cc)
-
--- a text that is one statement is understood
-never_misread : (sql : List ℕ) (command : Command) (params : Row) (s : State) (e : Error) → IsOne sql (length params) command (understood s.now.schema sql) → IsNoStatement s sql params e → ⊥
-never_misread sql command params s e one (inl (fault, known, is)) = subst (IsOne sql (length params) command) known one
-never_misread sql command params s e one (inr (c, known, inl (more, is))) = more (omega (arith, (subst (IsOne sql (length params) command) known one).0))
-never_misread sql command params s e one (inr (c, known, inr (inl (other, is)))) = other (sym (subst (IsOne sql (length params) command) known one).1)
-never_misread sql command params s e one (inr (c, known, inr (inr (timed, is)))) = timed (subst (IsOne sql (length params) command) known one).3.1
 
 -- with no aggregate nothing is summed up
 no_overflow : (q : Query) (params : Row) (db : Trees) → ProgramOverflows db params [] [] (query_of q) → ⊥

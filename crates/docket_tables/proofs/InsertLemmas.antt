@@ -54,7 +54,7 @@ chosen_for : (table : Table) (top : ℤ) → table.is_counted ≡ false → rowi
 chosen_for table top e = ap (λ b. if b then Above top else Chosen) e
 
 -- the work of the statement, before the foreign keys are tested
-puts : (task : Task) (terms : List Term) (width : ℕ) (db : Trees) (done : Written)
+pub puts : (task : Task) (terms : List Term) (width : ℕ) (db : Trees) (done : Written)
     → task.keys ≡ Enforced → length terms / width ≡ 1 → take width terms ≡ terms → task.table.is_counted ≡ false → task.table.stamps.terms ≡ []
     → ((row : Row) → works task.schema Enforced 0 task.table.tree [] (row ∷ []) ≡ [])
     → Inserts task (Values terms width) db (Ok done) → Puts task.schema task.table (eval_all terms (task.params ∷ [])) db done.trees

@@ -32,15 +32,15 @@ use Rattle.docket_tables.specs.Texts.{counted, insert_text}
 use Rattle.docket_tables.proofs.CellLemmas.{cast_int, cast_null, holds_more, holds_same}
 use Rattle.docket_tables.proofs.InsertLemmas.{InsertsInto, inserts}
 
-abbrev terms_by : Bool → List Field → List Term
+abbrev pub terms_by : Bool → List Field → List Term
 terms_by true [] = []
 terms_by true (field ∷ more) = col 0 0 ∷ lit Null ∷ map (col 0) (counted 1 more)
 terms_by false fields = lit Null ∷ map (col 0) (counted 0 fields)
 
-abbrev terms_of : Table → List Term
+abbrev pub terms_of : Table → List Term
 terms_of table = let l = layout_of table in terms_by l.is_rowid l.fields
 
-insert_means : (table : Table) → InsertsInto docket_schema (insert_text table) (shape_of table) (terms_of table)
+pub insert_means : (table : Table) → InsertsInto docket_schema (insert_text table) (shape_of table) (terms_of table)
 unfolding understood everything
 insert_means Court = record { at = 0; width = 7; is = refl; plain = (refl, refl); place = refl; one = refl; wide = refl; uncounted = refl; unstamped = refl; no_work = λ row. refl }
 insert_means table = record { at = (layout_of table).at; width = suc (length (layout_of table).fields); is = refl; plain = (refl, refl); place = refl; one = refl; wide = refl; uncounted = refl; unstamped = refl; no_work = λ row. refl }
@@ -83,7 +83,7 @@ first_value Integer (Int n) kinds row fits = (cast_int n, fits)
 first_value Text (value.Text t) kinds row fits = (refl, fits)
 first_value _ _ kinds row fits = absurd (false≢true fits)
 
-abbrev kinds : List Field → List Kind
+abbrev pub kinds : List Field → List Kind
 kinds fields = map (λ (field : Field). field.kind) fields
 
 each_cast : (fields : List Field) (row : Row) → are_of (kinds fields) row ≡ true → cast_all (map column_of fields) row ≡ row
@@ -108,7 +108,7 @@ each_term given n [] = refl
 each_term given n (field ∷ more) = ap (λ xs. column given n ∷ xs) (each_term given (suc n) more)
 
 -- the row that is written for these values
-abbrev written_by : Bool → List Field → Row → Row
+abbrev pub written_by : Bool → List Field → Row → Row
 written_by is_rowid fields given =
     let source = eval_all (terms_by is_rowid fields) (given ∷ []) in
     cast Integer (column source 0) ∷ cast_all (columns_by is_rowid fields) (drop 1 source)
@@ -117,7 +117,7 @@ written_hidden : (fields : List Field) (given : Row) → are_of (kinds fields) g
 written_hidden fields given fits =
     ap₂ (λ x xs. x ∷ xs) cast_null (ap (cast_all (map column_of fields)) (each_term given 0 fields ∙ each_column fields given fits) ∙ each_cast fields given fits)
 
-written_rowid : (field : Field) (more : List Field) (n : ℤ) (row : Row) → are_of (kinds more) row ≡ true → written_by true (field ∷ more) (Int n ∷ row) ≡ Int n ∷ cast Integer Null ∷ row
+pub written_rowid : (field : Field) (more : List Field) (n : ℤ) (row : Row) → are_of (kinds more) row ≡ true → written_by true (field ∷ more) (Int n ∷ row) ≡ Int n ∷ cast Integer Null ∷ row
 written_rowid field more n row fits =
     ap₂ (λ x xs. x ∷ cast Integer Null ∷ xs) (cast_int n)
     (ap (cast_all (map column_of more)) (each_term (Int n ∷ row) 1 more ∙ shifted (Int n) row 0 more ∙ each_column more row fits) ∙ each_cast more row fits)
@@ -153,7 +153,7 @@ numbered true (field ∷ more) rows [] fits = absurd (false≢true fits)
 numbered true (field ∷ more) rows (Int n ∷ row) fits = subst (λ r. IsTrue (is_int (rowid (with_rowid Chosen rows r)))) (sym (written_rowid field more n row fits)) refl
 numbered true (field ∷ more) rows (_ ∷ row) fits = absurd (false≢true fits)
 
-apart : (m n : ℕ) → (m == n) ≡ false → m ≢ n
+pub apart : (m n : ℕ) → (m == n) ≡ false → m ≢ n
 apart m n other e = grind (arith, nat_tests, other, e)
 
 together : (m n : ℕ) → (m == n) ≡ true → m ≡ n

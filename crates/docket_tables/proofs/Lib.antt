@@ -8,14 +8,17 @@ mod ChangesLemmas
 pub mod CommitLemmas
 pub mod ContentsLemmas
 pub mod CourtLemmas
+mod CreateCauses
 pub mod CreateLemmas
 mod DeleteLemmas
 pub mod EndLemmas
+mod EnterCauses
 mod FoundLemmas
 pub mod HoldsLemmas
 pub mod InsertLemmas
 pub mod InsideLemmas
 pub mod LayoutLemmas
+mod MakingCauses
 mod MoveLemmas
 pub mod PassedCauses
 mod ProbeLemmas
@@ -29,3 +32,4 @@ pub mod StandsLemmas
 pub mod StoredLemmas
 pub mod TwoTables
 pub mod UpdateLemmas
+mod ZoneLengths

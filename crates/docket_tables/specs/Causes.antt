@@ -1,5 +1,5 @@
 -- Why a call of the database fails.
-use Rattle.std.specs.Prelude.{◌≡◌, ◌⊎◌, IsTrue, IsSome, IfErr, Result, List, map, get_or, true}
+use Rattle.std.specs.Prelude.{◌≡◌, ◌⊎◌, IsTrue, IsSome, IfErr, Result, Option, Some, List, map, get_or, true, false}
 use Rattle.sqlite.specs.Disk.{MoreFaults}
 use Rattle.sqlite.specs.Kind.{Kind}
 use Rattle.sqlite.specs.Kind.TheVariants.{Integer}
@@ -13,6 +13,8 @@ use Rattle.docket_tables.specs.Queries.{keys_of, table_of}
 use Rattle.docket_tables.specs.Schema.{kinds_of}
 use Rattle.docket_tables.specs.declared.fault.ReadFault.{ReadFault}
 use Rattle.docket_tables.specs.declared.fault.ReadFault.TheVariants.{Store, NoMemory, Damaged}
+use Rattle.docket_tables.specs.declared.fault.StoreFault.{StoreFault}
+use Rattle.docket_tables.specs.declared.fault.StoreFault.TheVariants as making
 use Rattle.docket_tables.specs.declared.query.Query.{Query}
 
 -- the error is one of the disk, which failed or refused more often than before
@@ -54,3 +56,12 @@ kinds_asked query = map (λ key. get_or (kinds_of (table_of query)) key Integer)
 -- the values are of the kinds of those columns
 abbrev pub Suits : Query → Row → Type 0
 Suits query params = are_of (kinds_asked query) params ≡ true
+
+-- the error of a making of tables has a cause: one that a question may have, or the connection was shut before
+abbrev pub HasMakingCause : State → State → Error → Type 0
+HasMakingCause old new e = IsCaused old new e ⊎ (old.is_open ≡ false)
+
+-- and it is told: where the store failed it has a cause, and where memory ran short it is that of memory
+abbrev pub IsCausedMaking : State → State → Option Error → StoreFault → Type 0
+IsCausedMaking old new failure making.StoreFailed = (e : Error) × (failure ≡ Some e) × HasMakingCause old new e
+IsCausedMaking old new failure making.NoMemory = (e : Error) × (failure ≡ Some e) × IsOfMemory e

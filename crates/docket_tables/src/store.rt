@@ -1,9 +1,9 @@
 //! Calls of the database.
-ghost use Rattle.std.specs.Prelude.{◌≡◌, pos, ◌≤◌, ◌<◌, ◌^◌, ◌+◌, [], ◌∷◌, ℕ, List, map, Ok, OnOk, OnErr, IfOk, IfErr, false, true};
+ghost use Rattle.std.specs.Prelude.{◌≡◌, IsTrue, pos, ◌≤◌, ◌<◌, ◌^◌, ◌+◌, [], ◌∷◌, ℕ, List, map, Ok, Err, OnOk, OnErr, IfOk, IfErr, false, true};
 ghost use Rattle.sqlite.specs.Given.{IsPlain};
 ghost use Rattle.sqlite.specs.Held.{state};
 ghost use Rattle.sqlite.specs.Listing.{understood};
-ghost use Rattle.sqlite.specs.State.{FailsToQuery, HasCleanDisk, Shown, Executes, Shows as Turns};
+ghost use Rattle.sqlite.specs.State.{FailsToQuery, HasCleanDisk, Shown, Executes, ExecutesInside, Shows as Turns};
 ghost use Rattle.sqlite.specs.Values.{bound};
 ghost use Rattle.sqlite.specs.View.{doubt};
 ghost use Rattle.court_days.specs.Court.{CourtSettings};
@@ -20,6 +20,7 @@ ghost use Rattle.std.specs.List.{AllByRecursion};
 ghost use Rattle.docket_tables.specs.Queries.{IsAnswer, table_of};
 ghost use Rattle.docket_tables.specs.Schema.{docket_schema};
 ghost use Rattle.docket_tables.specs.Stands.{HoldsRows, Lasts, Sees, StaysInside};
+ghost use Rattle.docket_tables.specs.Texts.{insert_text};
 
 use crate::query::{Query, select_text};
 use crate::statement::{
@@ -78,6 +79,8 @@ pub(crate) fn change<S: Alter>(
     ensures inside { StaysInside (state S.Store tx.old.conn.now) (state S.Store tx.new.conn.now) }
     ensures runs { HasCleanDisk (state S.Store tx.new.conn.now) → OnOk result ((count : ℕ) × Executes sql.now (bound params.now) (state S.Store tx.old.conn.now) (state S.Store tx.new.conn.now) (Ok count)
         × Turns (state S.Store tx.old.conn.now) (state S.Store tx.new.conn.now) (state S.Store tx.new.conn.now).now (state S.Store tx.old.conn.now).committed true) }
+    ensures fails { HasCleanDisk (state S.Store tx.new.conn.now) → IsTrue (state S.Store tx.old.conn.now).in_transaction
+        → IfErr result (λ e. ExecutesInside 0 sql.now (bound params.now) (state S.Store tx.old.conn.now) (state S.Store tx.new.conn.now) (Err e)) }
 {
     tx.execute(sql, params)?;
     Ok(())
@@ -93,6 +96,8 @@ pub(crate) fn insert<S: Alter>(
     ensures inside { StaysInside (state S.Store tx.old.conn.now) (state S.Store tx.new.conn.now) }
     ensures ok { HasCleanDisk (state S.Store tx.new.conn.now) → Fits table (bound values.now) → (rows : Rows) → Sees (state S.Store tx.old.conn.now) rows
         → OnOk result (Sees (state S.Store tx.new.conn.now) (with_row table (bound values.now) rows)) }
+    ensures fails { HasCleanDisk (state S.Store tx.new.conn.now) → IsTrue (state S.Store tx.old.conn.now).in_transaction
+        → IfErr result (λ e. ExecutesInside 0 (insert_text table) (bound values.now) (state S.Store tx.old.conn.now) (state S.Store tx.new.conn.now) (Err e)) }
 {
     change(tx, insert_text(table), values)
 }

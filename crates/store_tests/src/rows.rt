@@ -28,7 +28,7 @@ fn make_tables<S: Alter>(alloc: Global, conn: &mut Connection<S>) -> bool {
     if !conn.is_autocommit() || !is_bare(conn.schema()) {
         return false;
     }
-    make(conn, &court).is_ok()
+    make(conn, &court, &mut None).is_ok()
 }
 
 /// The tables of a court in New York, without any record.

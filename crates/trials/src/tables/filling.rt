@@ -15,7 +15,7 @@ pub(crate) fn made<S: Alter>(alloc: Global, conn: &mut Connection<S>) -> Result<
     if !conn.is_autocommit() || !is_bare(conn.schema()) {
         return Err(anyhow!("not an empty database"));
     }
-    make(conn, &court).map_err(|_| anyhow!("no tables"))?;
+    make(conn, &court, &mut None).map_err(|_| anyhow!("no tables"))?;
     Ok(court)
 }
 
