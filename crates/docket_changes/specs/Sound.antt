@@ -1,5 +1,5 @@
 -- What is tested of a view that was read from a database.
-use Rattle.std.specs.Prelude.{nat_le, nat_lt, ◌≤◌, ◌&&◌, Bool, true, List, length, Option, Some, None}
+use Rattle.std.specs.Prelude.{nat_le, nat_lt, ◌≤◌, ◌&&◌, ℕ, Bool, true, List, [], length, Option, Some, None}
 use Rattle.std.specs.List.{All, list_all}
 use Rattle.civil_time.specs.LocalTime.{local_day, seconds}
 use Rattle.civil_time.specs.Zone.{ZoneRules}
@@ -9,7 +9,9 @@ use Rattle.court_rules.specs.Standings.{AreActs}
 use Rattle.court_rules.specs.declared.act.Act.{Act}
 use Rattle.court_rules.specs.declared.act.Act.TheVariants as act
 use Rattle.court_rules.specs.declared.act.Start.TheVariants as start
+use Rattle.docket_decisions.specs.Tables.{Tables, deadlines_in}
 use Rattle.docket_history.specs.CalendarItems.{IsEnteredItem}
+use Rattle.docket_history.specs.Histories.{items_of}
 use Rattle.docket_decisions.specs.EndMoves.{acts_with}
 use Rattle.docket_history.specs.declared.item.CalendarItem.{CalendarItem}
 use Rattle.docket_history.specs.declared.item.CalendarItem.TheVariants.{Day, Span, Short}
@@ -54,3 +56,8 @@ pub record IsSoundCase (court : CourtSettings) (items : List CalendarItem) (dead
   pub rows : length items ≤ 4000
   pub few : length deadlines ≤ 1000
   pub acts : All (λ d. AreActs (zone_of court) d.acts) deadlines
+
+-- so it is of the calendar of the tables, and of the deadlines of each case
+pub record AreSound (court : CourtSettings) (t : Tables) : Type 0 where
+  pub calendar : IsSoundCase court (items_of t.calendar) []
+  pub cases : (k : ℕ) → IsSoundCase court [] (deadlines_in t k)

@@ -4,11 +4,13 @@ ghost use Rattle.std.specs.List.{list_all};
 ghost use Rattle.court_days.specs.Court.{zone_of};
 ghost use Rattle.court_rules.specs.Standings.{AreActs};
 ghost use Rattle.docket_command.specs.declared.command.Command.{Command};
+ghost use Rattle.docket_decisions.specs.EndRows.{end_rows};
 ghost use Rattle.docket_decisions.specs.EndMoves.{AreLawful, Follows};
 ghost use Rattle.docket_history.specs.Histories.{History};
 ghost use Rattle.docket_decisions.specs.Tables.{rows_of};
 ghost use Rattle.docket_tables.specs.Readings.{IsReadAs};
 ghost use Rattle.docket_changes.specs.Settling.{moves_all_cases, changes_calendar, case_moved, IsUpdate};
+ghost use Rattle.docket_changes.specs.Writing.{MayAddEnds};
 ghost use Rattle.docket_changes.specs.Sound.{may_come};
 
 use crate::sound::are_acts;
@@ -126,8 +128,11 @@ pub fn moves(
     named: &[Act],
     changes: &[Change],
 ) -> Result<EndUpdate, ReadFault>
-    ensures { (h : History) (c : Command) → Follows court.now calendar.now named.now changes.now h c
+    ensures update { (h : History) (c : Command) → Follows court.now calendar.now named.now changes.now h c
         → IsReadAs (λ update. IsUpdate court.now update (rows_of court.now h) (rows_of court.now (c ∷ h))) result }
+    // No end is added beside one of its deadline, and each to a deadline that stands.
+    ensures once { (h : History) (c : Command) → Follows court.now calendar.now named.now changes.now h c
+        → IfOk result (λ update. MayAddEnds update (rows_of court.now (c ∷ h)) (end_rows court.now (rows_of court.now h))) }
 {
     if !are_lawful(alloc, court, named, changes)? {
         return Err(ReadFault::Damaged);

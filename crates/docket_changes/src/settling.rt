@@ -1,9 +1,11 @@
 //! The stored ends of deadlines, changed inside a transaction: by changes, or case by case.
-ghost use Rattle.std.specs.Prelude.{◌≡◌, ◌≤◌, ◌++◌, ℕ, List, IfOk, IsPermutation};
+ghost use Rattle.std.specs.Prelude.{◌≡◌, ◌≤◌, ◌++◌, ℕ, List, [], length, IfErr, IfOk, IsPermutation};
 ghost use Rattle.std.specs.List.{AllByRecursion};
 ghost use Rattle.sqlite.specs.Held.{state};
+ghost use Rattle.sqlite.specs.State.{HasCleanDisk};
 ghost use Rattle.sqlite.specs.View.{doubt};
 ghost use Rattle.court_days.specs.Court.{CourtSettings, zone_of};
+ghost use Rattle.docket_decisions.specs.Additions.{AddsOnce, AddsAmong};
 ghost use Rattle.docket_decisions.specs.EndRows.{AreRowsFrom, calendar_in, IsElsewhere, all_changed_ends, end_rows_from, ends_running};
 ghost use Rattle.docket_history.specs.CalendarItems.{calendar_of};
 ghost use Rattle.docket_history.specs.Histories.{deadlines_of_case, deadlines_from, items_of};
@@ -13,8 +15,12 @@ ghost use Rattle.docket_tables.specs.AnyRows.{with_stored};
 ghost use Rattle.docket_tables.specs.Contents.{AreStored, rows_with};
 ghost use Rattle.docket_tables.specs.Layouts.{Rows};
 ghost use Rattle.docket_orderly.specs.Orderly.{IsOrderly};
+ghost use Rattle.docket_tables.specs.Causes.{IsChangeFault};
+ghost use Rattle.docket_tables.specs.declared.fault.ReadFault.TheVariants.{NoMemory};
+ghost use Rattle.docket_changes.specs.Sound.{AreSound, IsSoundCase};
+ghost use Rattle.docket_changes.specs.Writing.{MayAddEnds};
 ghost use Rattle.docket_changes.specs.Settling.{RunsOnlyWhereStored, MayLeave, MayUpdate, settled_case, settled_cases, updated_ends};
-ghost use Rattle.docket_tables.specs.Stands.{Inside};
+ghost use Rattle.docket_tables.specs.Stands.{Inside, Sees};
 
 use crate::gathering::{items_of, with_acts};
 use crate::moving::EndUpdate;
@@ -38,6 +44,8 @@ fn views_of_case<S: Alter>(
         → Inside (state S.Store tx.old.conn.now) (state S.Store tx.new.conn.now) (rows_with court t ends) (rows_with court t ends) result
         (λ found. found.items ≡ deadlines_from case 1 t.acts (deadlines_of_case case t.deadlines)) }
     ensures still { (rows : Rows) → Inside (state S.Store tx.old.conn.now) (state S.Store tx.new.conn.now) rows rows result (λ _. Unit {0}) }
+    ensures cause { HasCleanDisk (state S.Store tx.new.conn.now) → (court : CourtSettings) (t : Tables) (ends : List Ended) → IsOrderly court t
+        → Sees (state S.Store tx.old.conn.now) (rows_with court t ends) → IfErr result (IsChangeFault (state S.Store tx.old.conn.now) (state S.Store tx.new.conn.now)) }
 {
     let rows = inside::deadlines_of_case(tx, alloc, case)?;
     let acts = inside::acts_of_case(tx, alloc, case)?;
@@ -53,8 +61,11 @@ fn changes_of_case(
     deadlines: &[DeadlineView],
     stored: &[EndRow],
 ) -> Result<Vec<EndChange>, ReadFault>
-    ensures { (others : List Ended) → AllByRecursion (IsElsewhere case 1) others → AreRowsFrom case 1 stored.now
+    ensures rows { (others : List Ended) → AllByRecursion (IsElsewhere case 1) others → AreRowsFrom case 1 stored.now
         → IfOk result (λ changes. IsPermutation (all_changed_ends changes.items (others ++ stored.now)) (others ++ end_rows_from case 1 (ends_running (zone_of court.now) calendar.now deadlines.now))) }
+    ensures once { (others : List Ended) → AllByRecursion (IsElsewhere case 1) others → AreRowsFrom case 1 stored.now
+        → IfOk result (λ changes. AddsOnce changes.items (others ++ stored.now) × AddsAmong (λ k n. (k ≡ case) × (1 ≤ n) × (n ≤ length deadlines.now)) changes.items) }
+    ensures short { IsSoundCase court.now [] deadlines.now → IfErr result (λ fault. fault ≡ NoMemory) }
 {
     if !is_sound_case(court, &[], deadlines) {
         return Err(ReadFault::Damaged);
@@ -77,6 +88,9 @@ fn settle_case<S: Alter>(
         → Inside (state S.Store tx.old.conn.now) (state S.Store tx.new.conn.now) (rows_with court.now t ends) (rows_with court.now t (settled_case court.now calendar.now t case ends)) result (λ _. Unit {0}) }
     ensures any { (stored : List Ended) (rows : Rows) → (next : List Ended)
         × Inside (state S.Store tx.old.conn.now) (state S.Store tx.new.conn.now) (with_stored stored rows) (with_stored next rows) result (λ _. Unit {0}) }
+    // Of a docket whose tables are sound it fails only for a cause.
+    ensures cause { HasCleanDisk (state S.Store tx.new.conn.now) → (t : Tables) (ends : List Ended) → IsOrderly court.now t → AreSound court.now t → AreStored case ends
+        → Sees (state S.Store tx.old.conn.now) (rows_with court.now t ends) → IfErr result (IsChangeFault (state S.Store tx.old.conn.now) (state S.Store tx.new.conn.now)) }
 {
     let stored = inside::ends_of_case(tx, alloc, case)?;
     if stored.is_empty() {
@@ -108,6 +122,8 @@ fn settle_cases<S: Alter>(
         → Inside (state S.Store tx.old.conn.now) (state S.Store tx.new.conn.now) (rows_with court.now t ends) (rows_with court.now t (settled_cases court.now calendar.now t cases ends)) result (λ _. Unit {0}) }
     ensures any { (stored : List Ended) (rows : Rows) → (next : List Ended)
         × Inside (state S.Store tx.old.conn.now) (state S.Store tx.new.conn.now) (with_stored stored rows) (with_stored next rows) result (λ _. Unit {0}) }
+    ensures cause { HasCleanDisk (state S.Store tx.new.conn.now) → (t : Tables) (ends : List Ended) → IsOrderly court.now t → AreSound court.now t → ((k : ℕ) → AreStored k ends) → ((k : ℕ) → RunsOnlyWhereStored court.now t ends k)
+        → Sees (state S.Store tx.old.conn.now) (rows_with court.now t ends) → IfErr result (IsChangeFault (state S.Store tx.old.conn.now) (state S.Store tx.new.conn.now)) }
 {
     'cases: for done in 0..cases {
         settle_case(tx, alloc, court, calendar, done + 1)?;
@@ -121,7 +137,8 @@ fn calendar_of_rows(
     court: &Court,
     rows: &[CalendarRow],
 ) -> Result<Calendar, ReadFault>
-    ensures { IfOk result (λ calendar. calendar ≡ calendar_of (items_of rows.now)) }
+    ensures calendar { IfOk result (λ calendar. calendar ≡ calendar_of (items_of rows.now)) }
+    ensures short { IsSoundCase court.now (items_of rows.now) [] → IfErr result (λ fault. fault ≡ NoMemory) }
 {
     let items = items_of(alloc, rows)?;
     if !is_sound_case(court, items.as_slice(), &[]) {
@@ -141,6 +158,8 @@ fn calendar_standing<S: Alter>(
     ensures inside { (t : Tables) (ends : List Ended) → IsOrderly court.now t
         → Inside (state S.Store tx.old.conn.now) (state S.Store tx.new.conn.now) (rows_with court.now t ends) (rows_with court.now t ends) result (λ calendar. calendar ≡ calendar_in t) }
     ensures still { (rows : Rows) → Inside (state S.Store tx.old.conn.now) (state S.Store tx.new.conn.now) rows rows result (λ _. Unit {0}) }
+    ensures cause { HasCleanDisk (state S.Store tx.new.conn.now) → (t : Tables) (ends : List Ended) → IsOrderly court.now t → AreSound court.now t
+        → Sees (state S.Store tx.old.conn.now) (rows_with court.now t ends) → IfErr result (IsChangeFault (state S.Store tx.old.conn.now) (state S.Store tx.new.conn.now)) }
 {
     let rows = inside::calendar(tx, alloc)?;
     calendar_of_rows(alloc, court, rows.as_slice())
@@ -159,6 +178,8 @@ fn settle_by_rows<S: Alter>(
         → Inside (state S.Store tx.old.conn.now) (state S.Store tx.new.conn.now) (rows_with court.now t ends) (rows_with court.now t (settled_cases court.now (calendar_in t) t cases ends)) result (λ _. Unit {0}) }
     ensures any { (stored : List Ended) (rows : Rows) → (next : List Ended)
         × Inside (state S.Store tx.old.conn.now) (state S.Store tx.new.conn.now) (with_stored stored rows) (with_stored next rows) result (λ _. Unit {0}) }
+    ensures cause { HasCleanDisk (state S.Store tx.new.conn.now) → (t : Tables) (ends : List Ended) → IsOrderly court.now t → AreSound court.now t → ((k : ℕ) → AreStored k ends) → ((k : ℕ) → RunsOnlyWhereStored court.now t ends k)
+        → Sees (state S.Store tx.old.conn.now) (rows_with court.now t ends) → IfErr result (IsChangeFault (state S.Store tx.old.conn.now) (state S.Store tx.new.conn.now)) }
 {
     let calendar = calendar_standing(tx, alloc, court)?;
     settle_cases(tx, alloc, court, &calendar, cases)
@@ -177,6 +198,8 @@ pub(crate) fn update_ends<S: Alter>(
         → Inside (state S.Store tx.old.conn.now) (state S.Store tx.new.conn.now) (rows_with court.now t ends) (rows_with court.now t (updated_ends court.now update.now t ends)) result (λ _. Unit {0}) }
     ensures any { (stored : List Ended) (rows : Rows) → (next : List Ended) × MayLeave update.now stored next
         × Inside (state S.Store tx.old.conn.now) (state S.Store tx.new.conn.now) (with_stored stored rows) (with_stored next rows) result (λ _. Unit {0}) }
+    ensures cause { HasCleanDisk (state S.Store tx.new.conn.now) → (t : Tables) (ends : List Ended) → MayUpdate court.now update.now t ends → MayAddEnds update.now t ends → AreSound court.now t
+        → Sees (state S.Store tx.old.conn.now) (rows_with court.now t ends) → IfErr result (IsChangeFault (state S.Store tx.old.conn.now) (state S.Store tx.new.conn.now)) }
 {
     match update {
         EndUpdate::Moves(moves) => change_ends(tx, moves.as_slice()),

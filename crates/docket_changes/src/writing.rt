@@ -1,5 +1,5 @@
 //! All that a command changes, in one transaction.
-ghost use Rattle.std.specs.Prelude.{◌≡◌, ◌<◌, ◌≤◌, ◌+◌, ◌^◌, ℕ, List, length, false, MatchResult};
+ghost use Rattle.std.specs.Prelude.{◌≡◌, ◌<◌, ◌≤◌, ◌+◌, ◌^◌, ℕ, List, length, false, IfErr, MatchResult};
 ghost use Rattle.docket_decisions.specs.Tables.{Tables, all_changed, with_receipt};
 ghost use Rattle.docket_wire.specs.Writing.{canonical};
 ghost use Rattle.sqlite.specs.Held.{state};
@@ -9,7 +9,14 @@ ghost use Rattle.docket_decisions.specs.declared.end_row.EndRow.{EndRow as Ended
 ghost use Rattle.docket_tables.specs.AnyRows.{AreDocketRows, recorded, with_stored};
 ghost use Rattle.docket_tables.specs.Contents.{rows_in, rows_with};
 ghost use Rattle.docket_tables.specs.Layouts.{Rows};
-ghost use Rattle.docket_tables.specs.Stands.{HoldsRows, Inside, LastsAsEither};
+ghost use Rattle.docket_tables.specs.Stands.{HoldsRows, Inside, LastsAsEither, Sees};
+ghost use Rattle.docket_decisions.specs.EndRows.{end_rows};
+ghost use Rattle.docket_tables.specs.Causes.{HasChangeCause};
+ghost use Rattle.docket_tables.specs.declared.fault.ReadFault.TheVariants.{Store, NoMemory};
+ghost use Rattle.sqlite.specs.declared.error.Error.{Error as Failed};
+ghost use Rattle.sqlite.specs.declared.error.Error.TheVariants.{SqliteFailure};
+ghost use Rattle.sqlite.specs.declared.error.ErrorCode.TheVariants.{OutOfMemory};
+ghost use Rattle.docket_changes.specs.Writing.{MayWrite};
 ghost use Rattle.docket_changes.specs.Settling.{IsUpdate, MayLeave, MayUpdate, updated_ends};
 
 use crate::moving::EndUpdate;
@@ -23,7 +30,10 @@ use std::alloc::Global;
 
 /// What a fault of a part of a transaction comes to. Where a row is none of a docket's, the
 /// transaction ends as where the database failed.
-fn store_error(fault: ReadFault) -> Error {
+fn store_error(fault: ReadFault) -> Error
+    ensures store { (e : Failed) → fault ≡ Store e → result ≡ e }
+    ensures short { fault ≡ NoMemory → result ≡ SqliteFailure OutOfMemory }
+{
     match fault {
         ReadFault::Store(error) => error,
         ReadFault::NoMemory => Error::SqliteFailure(ErrorCode::OutOfMemory),
@@ -51,7 +61,12 @@ fn fill<S: Alter>(
     ensures any { (n : ℕ) (stored : List Ended) (rows : Rows) → AreDocketRows court.now n stored rows → n + length changes.now.rows.items < 2 ^ 63
         → (next : List Ended) × MayLeave update.now stored next
         × Inside (state S.Store tx.old.conn.now) (state S.Store tx.new.conn.now) rows (with_stored next (recorded court.now n command.now changes.now.reply changes.now.rows.items rows)) result (λ _. Unit {0}) }
+    ensures cause { HasCleanDisk (state S.Store tx.new.conn.now) → (t : Tables) (ends : List Ended) → t.next_row + length changes.now.rows.items < 2 ^ 63
+        → MayUpdate court.now update.now (with_receipt command.now changes.now.reply (all_changed changes.now.rows.items t)) ends → MayWrite court.now update.now command.now changes.now.rows.items changes.now.reply t ends
+        → Sees (state S.Store tx.old.conn.now) (rows_with court.now t ends) → IfErr result (HasChangeCause (state S.Store tx.old.conn.now) (state S.Store tx.new.conn.now)) }
 {
+    // Its contract bounds the text of a zone, so that the store takes the court's row.
+    let _zone = court.zone_text();
     record(tx, command, body, changes)?;
     match update_ends(tx, alloc, court, update) {
         Ok(()) => Ok(()),
@@ -85,6 +100,10 @@ pub fn write<S: Alter>(
         → (next : List Ended) × MayLeave update.now stored next
         × MatchResult result (λ _. HoldsRows S.Store conn.new (with_stored next (recorded court.now n command.now changes.now.reply changes.now.rows.items rows)))
         (λ _. LastsAsEither S.Store conn.new rows (with_stored next (recorded court.now n command.now changes.now.reply changes.now.rows.items rows))) }
+    // What may be written fails only for a cause.
+    ensures cause { HasCleanDisk (state S.Store conn.new) → (t : Tables) → t.next_row + length changes.now.rows.items < 2 ^ 63 → HoldsRows S.Store conn.old (rows_in court.now t)
+        → IsUpdate court.now update.now t (with_receipt command.now changes.now.reply (all_changed changes.now.rows.items t)) → MayWrite court.now update.now command.now changes.now.rows.items changes.now.reply t (end_rows court.now t)
+        → IfErr result (HasChangeCause (state S.Store conn.old) (state S.Store conn.new)) }
 {
     let mut tx = conn.transaction();
     fill(&mut tx, alloc, court, update, command, body, changes)?;

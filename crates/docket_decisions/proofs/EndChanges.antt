@@ -52,7 +52,7 @@ module _ (k : ℕ) where
   spared n [] all = refl
   spared n (row ∷ rows) all = ap (λ b. cond (not b) (row ∷ removed n rows) (removed n rows)) all.0 ∙ ap (λ more. row ∷ more) (spared n rows all.1)
 
-  are_not : (n m : ℕ) (rows : List EndRow) → n ≤ m → Elsewhere n rows → AreNot m rows
+  pub are_not : (n m : ℕ) (rows : List EndRow) → n ≤ m → Elsewhere n rows → AreNot m rows
   are_not n m [] low all = tt
   are_not n m (row ∷ rows) low all = (all.0 m low, are_not n m rows low all.1)
 
@@ -70,7 +70,7 @@ module _ (k : ℕ) where
   past : (n : ℕ) (row : EndRow) → row.deadline < n → IsElsewhere k n row
   past n row low m high = not_at m row (grind (arith, nat_tests, low, high))
 
-  later : (n m : ℕ) (rows : List EndRow) → n < m → AreRowsFrom k m rows → AreNot n rows
+  pub later : (n m : ℕ) (rows : List EndRow) → n < m → AreRowsFrom k m rows → AreNot n rows
   later n m [] low are = tt
   later n m (row ∷ rows) low are =
       let high : m ≤ row.deadline = are.1 in
@@ -122,12 +122,12 @@ module _ (k : ℕ) where
       ∙ swept (m + 1) rows done late are.2 (still n (m + 1) done (omega (arith, are.1)) a) (still n (m + 1) late (omega (arith, are.1)) b)
 
   -- the row of a deadline comes first, or there is none
-  abbrev Splits : ℕ → List EndRow → Type 0
+  abbrev pub Splits : ℕ → List EndRow → Type 0
   Splits n stored =
       ((first_end n stored ≡ None) × (after_first n stored ≡ stored) × AreRowsFrom k (n + 1) stored)
       ⊎ ((row : EndRow) × (rest : List EndRow) × (stored ≡ row ∷ rest) × (first_end n stored ≡ Some row.end) × (after_first n stored ≡ rest) × (row.case ≡ k) × (row.deadline ≡ n) × AreRowsFrom k (n + 1) rest)
 
-  split : (n : ℕ) (stored : List EndRow) → AreRowsFrom k n stored → Splits n stored
+  pub split : (n : ℕ) (stored : List EndRow) → AreRowsFrom k n stored → Splits n stored
   split n [] are = inl (refl, refl, tt)
   split n (row ∷ rows) are = at (row.deadline == n) refl
     where
@@ -254,14 +254,14 @@ module _ (k : ℕ) where
   untouched_at n (Some stored) (Some end) row off =
       elim (is_same_end stored end) as (λ b. Untouched row (cond b [] (Move (new n end) ∷ []))) [ true ↦ tt | false ↦ (off, tt) ]
 
-  after_are : (n : ℕ) (stored : List EndRow) → AreRowsFrom k n stored → AreRowsFrom k (n + 1) (after_first n stored)
+  pub after_are : (n : ℕ) (stored : List EndRow) → AreRowsFrom k n stored → AreRowsFrom k (n + 1) (after_first n stored)
   after_are n stored are =
       elim (split n stored are) [
         | inl it ↦ subst (AreRowsFrom k (n + 1)) (sym it.1) it.2
         | inr it ↦ subst (AreRowsFrom k (n + 1)) (sym it.4) it.7
       ]
 
-  before : (n : ℕ) (row : EndRow) → row.deadline < n → is_of k n row ≡ false
+  pub before : (n : ℕ) (row : EndRow) → row.deadline < n → is_of k n row ≡ false
   before n row low = not_at n row (grind (arith, nat_tests, low))
 
   far_swept : (m : ℕ) (stored : List EndRow) (row : EndRow) → AreRowsFrom k m stored → row.deadline < m → Untouched row (map (λ r. Remove r.case r.deadline) stored)

@@ -1,6 +1,7 @@
 pub mod ActsInOrder
 pub mod ActsKept
 pub mod AddedActs
+pub mod AddedEnds
 pub mod AlikeStandings
 pub mod EndChanges
 pub mod FirstActs

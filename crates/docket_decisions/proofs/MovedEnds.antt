@@ -42,10 +42,10 @@ use Rattle.docket_decisions.proofs.LimitsKept.{IsPassed, passed, there_is, named
 -- the rows of deadlines
 
 module _ (zone : ZoneRules) (entered : Entered) where
-  abbrev end : List Act → Option EndTime
+  abbrev pub end : List Act → Option EndTime
   end acts = end_running zone (standing zone entered acts)
 
-  abbrev rows : List ActRow → List DeadlineRow → List EndRow
+  abbrev pub rows : List ActRow → List DeadlineRow → List EndRow
   rows acts ds = flat_map (row_of_deadline zone entered acts) ds
 
   abbrev KeepsActs : List ActRow → List ActRow → DeadlineRow → Type 0
@@ -55,7 +55,7 @@ module _ (zone : ZoneRules) (entered : Entered) where
   rows_kept acts more [] all = refl
   rows_kept acts more (d ∷ ds) all = ap₂ (λ xs ys. end_row d.case d.number (end xs) ++ ys) all.0 (rows_kept acts more ds all.1)
 
-  row_off : (k n c m : ℕ) (at : Option EndTime) → (c == k && m == n) ≡ false → AreOthers k n (end_row c m at)
+  pub row_off : (k n c m : ℕ) (at : Option EndTime) → (c == k && m == n) ≡ false → AreOthers k n (end_row c m at)
   row_off k n c m None off = tt
   row_off k n c m (Some e) off = (off, tt)
 
@@ -65,11 +65,11 @@ module _ (zone : ZoneRules) (entered : Entered) where
 
   -- new deadlines
 
-  abbrev first_ends : ℕ → ℕ → List NewDeadline → List EndRow
+  abbrev pub first_ends : ℕ → ℕ → List NewDeadline → List EndRow
   first_ends k m [] = []
   first_ends k m (d ∷ made) = end_row k m (end (d.first ∷ [])) ++ first_ends k (m + 1) made
 
-  first_off : (k n m : ℕ) (made : List NewDeadline) → n < m → AreOthers k n (first_ends k m made)
+  pub first_off : (k n m : ℕ) (made : List NewDeadline) → n < m → AreOthers k n (first_ends k m made)
   first_off k n m [] low = tt
   first_off k n m (d ∷ made) low =
       both_append (λ row. is_of k n row ≡ false) (end_row k m (end (d.first ∷ []))) (first_ends k (m + 1) made) (row_off k n k m (end (d.first ∷ [])) (is_earlier k n k m (inr low))) (first_off k n (m + 1) made (omega (arith, low)))
@@ -79,7 +79,7 @@ module _ (zone : ZoneRules) (entered : Entered) where
   added k m (Some e) ends = refl
 
   -- their first acts add their ends
-  firsts_added : (named : List Act) (k m : ℕ) (made : List NewDeadline) (ends : List EndRow)
+  pub firsts_added : (named : List Act) (k m : ℕ) (made : List NewDeadline) (ends : List EndRow)
       → all_changed_ends (flat_map (moves_by_act zone entered named) (first_acts_from k m made)) ends ≡ ends ++ first_ends k m made
   firsts_added named k m [] ends = sym (append-nil ends)
   firsts_added named k m (d ∷ made) ends =
@@ -219,7 +219,7 @@ module _ (zone : ZoneRules) (entered : Entered) where
 
 -- the acts that changes add
 
-moves_are : (zone : ZoneRules) (entered : Entered) (named : List Act) (changes : List Change) → end_moves zone entered named changes ≡ flat_map (moves_by_act zone entered named) (acts_added changes)
+pub moves_are : (zone : ZoneRules) (entered : Entered) (named : List Act) (changes : List Change) → end_moves zone entered named changes ≡ flat_map (moves_by_act zone entered named) (acts_added changes)
 moves_are zone entered named [] = refl
 moves_are zone entered named (AddAct row ∷ xs) = ap (λ more. moves_by_act zone entered named row ++ more) (moves_are zone entered named xs)
 moves_are zone entered named (AddCalendar row ∷ xs) = moves_are zone entered named xs
@@ -256,7 +256,7 @@ one_extension None (Some until) = inr (_, refl)
 one_extension (Some days) None = inr (_, refl)
 one_extension (Some days) (Some until) = inl refl
 
-one_made : (a : Action) → IsOneAtMost (acts_made a)
+pub one_made : (a : Action) → IsOneAtMost (acts_made a)
 one_made (RuleMotion a) = inr (_, refl)
 one_made (Dispose a) = inr (_, refl)
 one_made (StatementServed a) = inr (_, refl)
@@ -334,20 +334,20 @@ module _ (court : CourtSettings) (h : History) (c : Command) (is : IsHistory cou
 
   -- what it makes
 
-  there_where_acted : (act : Act) → acts_made a ≡ act ∷ [] → IsThere n
+  pub there_where_acted : (act : Act) → acts_made a ≡ act ∷ [] → IsThere n
   there_where_acted act made =
       elim seen_named [
         | inl none ↦ absurd (let no : [] ≡ act ∷ [] = sym (none_acted a none) ∙ made in cc)
         | inr it ↦ it.0
       ]
 
-  abbrev firsts_made : List ActRow
+  abbrev pub firsts_made : List ActRow
   firsts_made = first_acts_from k (many + 1) (deadlines_made (rule_found h a) a)
 
-  abbrev later_made : List Act → List ActRow
+  abbrev pub later_made : List Act → List ActRow
   later_made news = act_rows_on k n (length its_acts + 1) news
 
-  none_yet : (j : ℕ) → many + 1 ≤ j → acts_of_deadline k j acts ≡ []
+  pub none_yet : (j : ℕ) → many + 1 ≤ j → acts_of_deadline k j acts ≡ []
   none_yet j high = (all_kept court h is.1 k j).absent (inr (omega (arith, high)))
 
   module _ (entered : Entered) where
@@ -422,10 +422,10 @@ module _ (court : CourtSettings) (h : History) (c : Command) (is : IsHistory cou
       ]
 
 module _ (court : CourtSettings) (entered : Entered) (named : List Act) (changes : List Change) (h : History) (c : Command) (follows : Follows court entered named changes h c) where
-  abbrev made_rows : List ActRow
+  abbrev pub made_rows : List ActRow
   made_rows = firsts_made court h c follows.history ++ later_made court h c follows.history (acts_made c.action)
 
-  rows_made : acts_added changes ≡ made_rows
+  pub rows_made : acts_added changes ≡ made_rows
   rows_made = append_cancel_left (act_rows h) _ _ (sym (acts_are changes (rows_of court h)) ∙ ap (λ (t : Tables). t.acts) follows.leads)
 
   -- they lead from the ends before the command to those after it

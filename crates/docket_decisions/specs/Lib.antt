@@ -1,3 +1,4 @@
+pub mod Additions
 pub mod Decisions
 pub mod EndMoves
 pub mod EndRows

@@ -120,6 +120,8 @@ pub fn decide(
         → IsAnswer result (outcome court.now h command.now) }
     ensures tables { (h : History) → view.now ≡ shown court.now h command.now
         → IfOk result (LeadsTo court.now h command.now) }
+    // The changes are those of the action, in the order of their tables.
+    ensures changes { IfOk result (IsChange (action_changes view.now command.now.action)) }
     ensures repeats { IfOk result (IsKeptReply view.now) }
 {
     decide_by_view(alloc, view, court, command)

@@ -6,6 +6,7 @@ ghost use Rattle.court_days.specs.Court.{zone_of};
 ghost use Rattle.civil_time.specs.LocalTime.{local_day, seconds};
 ghost use Rattle.court_days.specs.Hours.{IsNearEntered};
 ghost use Rattle.court_rules.specs.Standings.{AreActs, IsEndAfter, StandsAfter};
+ghost use Rattle.docket_decisions.specs.Additions.{AddsOnce, AddsAmong};
 ghost use Rattle.docket_decisions.specs.EndRows.{time_of, end_running, end_rows_of, ends_running, all_changed_ends, IsElsewhere, AreRowsFrom, is_same_end, end_changes, first_end, after_first, changes_from, touches};
 ghost use Rattle.docket_decisions.specs.declared.end_row.EndRow.{EndRow as Stored};
 ghost use Rattle.docket_decisions.specs.declared.end_row.EndChange.TheVariants as change;
@@ -232,6 +233,9 @@ pub fn due_changes(
     // A row that is right is not touched.
     ensures kept { AreRowsFrom case 1 stored.now → IfOk result (λ changes. (row : Stored) → Contains stored.now row
         → Contains (end_rows_of (zone_of court.now) calendar.now case deadlines.now) row → AllByRecursion (λ change. touches change row ≡ false) changes.items) }
+    // No row is added beside one of its deadline, and each is of a deadline that is there.
+    ensures once { (others : List Stored) → AllByRecursion (IsElsewhere case 1) others → AreRowsFrom case 1 stored.now
+        → IfOk result (λ changes. AddsOnce changes.items (others ++ stored.now) × AddsAmong (λ k n. (k ≡ case) × (1 ≤ n) × (n ≤ length deadlines.now)) changes.items) }
 {
     changes_of_case(alloc, court, calendar, case, deadlines, stored)
 }

@@ -3,6 +3,7 @@ ghost use Rattle.std.specs.Prelude.{◌≡◌, ◌++◌, ◌∷◌, ◌⊎◌, [
 ghost use Rattle.court_days.specs.Court.{CourtSettings, zone_of};
 ghost use Rattle.court_rules.specs.Standings.{AreActs, standing};
 ghost use Rattle.docket_command.specs.declared.command.Command.{Command as Asked};
+ghost use Rattle.docket_decisions.specs.Additions.{AddsOnce, AddsAmong, GetsAct};
 ghost use Rattle.docket_decisions.specs.EndMoves.{acts_before, acts_with, moves_by_act, moves_by, end_moves, AreLawful, Follows};
 ghost use Rattle.docket_decisions.specs.EndRows.{end_running, end_rows, all_changed_ends};
 ghost use Rattle.docket_history.specs.Histories.{History, case_number, deadline_number, act_rows, acts_of_deadline};
@@ -110,6 +111,9 @@ pub fn end_moves(
     // They lead from the ends before the command to those after it.
     ensures ends { (h : History) (c : Asked) → Follows court.now calendar.now named.now changes.now h c
         → IfOk result (λ moves. IsPermutation (all_changed_ends moves.items (end_rows court.now (rows_of court.now h))) (end_rows court.now (rows_of court.now (c ∷ h)))) }
+    // No row is added beside one of its deadline, and each is of a deadline that gets an act.
+    ensures once { (h : History) (c : Asked) → Follows court.now calendar.now named.now changes.now h c
+        → IfOk result (λ moves. AddsOnce moves.items (end_rows court.now (rows_of court.now h)) × AddsAmong (GetsAct changes.now) moves.items) }
 {
     moves_by(alloc, court, calendar, named, changes)
 }

@@ -228,7 +228,9 @@ The docket is served at 127.0.0.1 alone, one connection after the other and one 
   GET /holidays/YEAR          the holidays of a year, as of `docketctl holidays`
 With --pages a browser is shown pages as well, which change nothing:
   GET /pages                  the list of cases, and a form for the seven days from a day
+  GET /pages/cases?from=N     the list from the case of that number on
   GET /pages/cases/NUMBER     the docket sheet of a case
+  GET /pages/calendar?from=DAY  what falls due in the seven days from that day
   GET /pages/calendar/FROM/TO what falls due, with links to the weeks before and after
 A reply to a command goes out when it stands in the file. The first line of the output is written
 when connections are taken; port 0 is one that is free:

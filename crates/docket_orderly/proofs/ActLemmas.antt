@@ -128,8 +128,8 @@ later_runs j d m [] = tt
 later_runs j d m (act ∷ acts) = let next : m + 1 ≡ suc m = omega arith in (refl, subst (λ i. RunsFrom i (numbers (act_rows_on j d (m + 1) acts))) next (later_runs j d (m + 1) acts))
 
 -- the deadline that gets an act is there
-named : (court : CourtSettings) (h : History) (a : Action) (new : Act) (more : List Act) → IsPassed court h a → acts_made a ≡ new ∷ more → (1 ≤ deadline_number a) × (deadline_number a ≤ length (deadlines_of_case (case_number a) (deadline_rows h)))
-named court h a new more p e = by_name (deadline_named a) refl
+pub deadline_there : (court : CourtSettings) (h : History) (a : Action) (new : Act) (more : List Act) → IsPassed court h a → acts_made a ≡ new ∷ more → (1 ≤ deadline_number a) × (deadline_number a ≤ length (deadlines_of_case (case_number a) (deadline_rows h)))
+deadline_there court h a new more p e = by_name (deadline_named a) refl
   where
     by_name : (o : Option ℕ) → deadline_named a ≡ o → (1 ≤ deadline_number a) × (deadline_number a ≤ length (deadlines_of_case (case_number a) (deadline_rows h)))
     by_name None is = absurd (let clash : [] ≡ new ∷ more = sym (none_acted a is) ∙ e in cc)
@@ -213,7 +213,7 @@ module _ (court : CourtSettings) (h : History) (is : IsHistory court h) (a : Act
       at true both =
           let here : j ≡ k = same_number j k (left_true (j == k) (d == n) both) in
           let there : d ≡ n = same_number d n (right_true (j == k) (d == n) both) in
-          let none = firsts_after k n j (count + 1) made (omega (arith, there, (named court h a new more p e).1)) in
+          let none = firsts_after k n j (count + 1) made (omega (arith, there, (deadline_there court h a new more p e).1)) in
           subst (λ (rows : List ActRow). AreRun ((old ++ firsts) ++ rows)) (sym (later_if k n j d (size + 1) (new ∷ more) true both))
           (some_later (new ∷ more) here there none)
 

@@ -58,6 +58,12 @@ both_true : (a b : Bool) → (a && b) ≡ true → (a ≡ true) × (b ≡ true)
 both_true true b e = (refl, e)
 both_true false b e = absurd (let no = e in cc)
 
+-- the number of the case that is shown is at most their count
+pub case_there : (h : History) (a : Action) (x : CaseView) → (shown_fresh h a).case ≡ Some x → (1 ≤ case_number a) × (case_number a ≤ length (case_rows h))
+case_there h a x is =
+    let range = both_true (nat_le 1 (case_number a)) (nat_le (case_number a) (length (case_rows h))) (range_of h a x is) in
+    (grind (arith, nat_tests, range.0), grind (arith, nat_tests, range.1))
+
 -- a number past the cases has no deadline
 pub no_deadlines : (court : CourtSettings) (h : History) → IsHistory court h → (j : ℕ) → (j < 1) ⊎ (length (case_rows h) < j) → deadlines_of_case j (deadline_rows h) ≡ []
 no_deadlines court [] is j out = refl
@@ -73,7 +79,5 @@ no_deadlines court (c ∷ h) is j out =
     elsewhere : {x : CaseView} → (case_named c.action ≡ None) ⊎ ((shown_fresh h c.action).case ≡ Some x) → IsElsewhere j c.action
     elsewhere (inl none) = inl (λ rule. none_made rule c.action none, none_acted_in c.action none)
     elsewhere {x} (inr found) =
-        let range = both_true (nat_le 1 (case_number c.action)) (nat_le (case_number c.action) (length (case_rows h))) (range_of h c.action x found) in
-        let low : 1 ≤ case_number c.action = grind (arith, nat_tests, range.0) in
-        let high : case_number c.action ≤ length (case_rows h) = grind (arith, nat_tests, range.1) in
-        inr (elim earlier [ inl under ↦ grind (arith, nat_tests, under, low) | inr over ↦ grind (arith, nat_tests, over, high) ])
+        let range = case_there h c.action x found in
+        inr (elim earlier [ inl under ↦ grind (arith, nat_tests, under, range.0) | inr over ↦ grind (arith, nat_tests, over, range.1) ])

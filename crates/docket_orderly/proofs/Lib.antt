@@ -1,10 +1,14 @@
 mod ActionLemmas
 pub mod ActLemmas
+pub mod AdditionLemmas
+mod ApartLemmas
 pub mod CalendarLemmas
 pub mod DeadlineLemmas
 pub mod DocketLemmas
 pub mod LabelLemmas
-mod ListLemmas
+pub mod ListLemmas
 pub mod LocalRuleLemmas
+mod PairLemmas
+pub mod ParentLemmas
 pub mod ReceiptLemmas
 pub mod RowLemmas

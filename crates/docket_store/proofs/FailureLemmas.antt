@@ -1,12 +1,19 @@
 -- The error for which a question was not answered, and its cause.
-use Rattle.std.proofs.Common.{◌≡◌, ◌∙◌, ◌≤◌, ◌↔◌, ℕ, Bool, true, false, inl, inr, Option, Some, IfErr, IsErrAnd, MatchResult, Result, Ok, Err, refl, sym, ap, subst, arith}
+use Rattle.std.proofs.Common.{subst₂, ◌≡◌, ◌∙◌, ◌≤◌, ◌↔◌, ℕ, Bool, true, false, inl, inr, Option, Some, None, IfSome, IfErr, IsErrAnd, MatchResult, Result, Ok, Err, refl, sym, ap, subst, arith}
+use Rattle.sqlite.specs.Held.{Held}
 use Rattle.sqlite.specs.State.{State}
+use Rattle.sqlite.specs.Store.{Ghosts}
 use Rattle.sqlite.specs.declared.error.Error.{Error}
 use Rattle.docket_tables.specs.Causes.{FailsForCause, IsCaused, IsCausedFault}
 use Rattle.docket_tables.specs.declared.fault.ReadFault.{ReadFault}
 use Rattle.docket_tables.specs.declared.fault.ReadFault.TheVariants.{Store}
+use Rattle.docket_tables.specs.declared.fault.ReadFault.TheVariants as read_fault
+use Rattle.docket_tables.specs.Readings.{IsReadAs}
+use Rattle.docket_tables.proofs.ChangeCauses.{change_after}
+use Rattle.docket_command.specs.declared.command.Command.{Command}
+use Rattle.docket_store.specs.declared.fault.Fault.TheVariants as fault
 use Rattle.docket_tables.proofs.PassedCauses.{fault_after}
-use Rattle.docket_store.specs.Causes.{IsNamed, IsCausedBy, IsCausedEnd}
+use Rattle.docket_store.specs.Causes.{IsNamed, IsCausedBy, IsCausedEnd, HasWriteCause, IsCausedStop, IsCausedWrite}
 use Rattle.docket_store.specs.Listing.{HasBroken}
 use Rattle.docket_store.specs.declared.listing.ListingEnd.{ListingEnd}
 use Rattle.docket_store.specs.declared.listing.ListingEnd.TheVariants.{NotBegun, Broken, WriteFailed}
@@ -107,3 +114,53 @@ broken_caused old new failure result (inr part) cause = subst (λ r. IfErr r (Is
 pub told_cause : {X : Type 0} (first old new : State) (answer : Result X ReadFault) (by : Option Error) → old.faults ≤ new.faults → (e : Error) × (answer ≡ Err (Store e)) × (by ≡ Some e) → FailsForCause first old answer
     → (e : Error) × (by ≡ Some e) × IsCaused first new e
 told_cause first old new answer by counts blamed cause = (blamed.0, blamed.2, caused_still first old new blamed.0 counts (subst (FailsForCause first old) blamed.1 cause))
+
+-- what is not read of a docket's rows is not for the database
+pub read_own : {X : Type 0} (old new : State) (answer : X → Type 0) (fault : ReadFault) → IsReadAs answer (Err fault) → IsCausedFault old new fault
+read_own old new answer (Store e) read = absurd read
+read_own old new answer read_fault.NoMemory read = tt
+read_own old new answer read_fault.Damaged read = tt
+
+-- where nothing was written yet, the cause is one that a write may have
+pub writes_caused : (c : Command) (old new : State) (failure : Option Error) (fault : Fault) → IsCausedBy old new failure fault → IsCausedWrite c old new failure fault
+writes_caused c old new failure (fault.Refused r) cause = tt
+writes_caused c old new failure fault.NoMemory cause = tt
+writes_caused c old new failure fault.StoreFailed cause = (cause.0, cause.1, inl (inl cause.2))
+writes_caused c old new failure fault.Closed cause = tt
+writes_caused c old new failure fault.Damaged cause = tt
+
+pub err_writes : {X : Type 0} (c : Command) (old new : State) (failure : Option Error) (fault : Fault) (result : Result X Fault) → IsErrAnd result (λ f. f ≡ fault) → IsCausedBy old new failure fault → IfErr result (IsCausedWrite c old new failure)
+err_writes c old new failure fault (Ok x) same cause = absurd same
+err_writes c old new failure fault (Err f) same cause = subst (IsCausedWrite c old new failure) (sym same) (writes_caused c old new failure fault cause)
+
+-- the part began later
+write_caused_after : (c : Command) (first old new : State) (e : Error) → first.faults ≤ old.faults → old.step_limit ≡ first.step_limit → HasWriteCause c old new e → HasWriteCause c first new e
+write_caused_after c first old new e counts limit (inl cause) = inl (change_after first old new new e counts (omega arith) limit cause)
+write_caused_after c first old new e counts limit (inr long) = inr long
+
+pub writes_later : {X : Type 0} (c : Command) (first old new : State) (failure : Option Error) (result : Result X Fault) → first.faults ≤ old.faults → old.step_limit ≡ first.step_limit
+    → IfErr result (IsCausedWrite c old new failure) → IfErr result (IsCausedWrite c first new failure)
+writes_later c first old new failure (Ok x) counts limit cause = tt
+writes_later c first old new failure (Err (fault.Refused r)) counts limit cause = tt
+writes_later c first old new failure (Err fault.NoMemory) counts limit cause = tt
+writes_later c first old new failure (Err fault.StoreFailed) counts limit cause = (cause.0, cause.1, write_caused_after c first old new cause.0 counts limit cause.2)
+writes_later c first old new failure (Err fault.Closed) counts limit cause = tt
+writes_later c first old new failure (Err fault.Damaged) counts limit cause = tt
+
+-- what an error that was kept comes to
+pub kept_caused : (c : Command) (old new : State) (failure : Option Error) (e : Error) (fault : Fault) → failure ≡ Some e → HasWriteCause c old new e → IsCausedWrite c old new failure fault
+kept_caused c old new failure e (fault.Refused r) kept cause = tt
+kept_caused c old new failure e fault.NoMemory kept cause = tt
+kept_caused c old new failure e fault.StoreFailed kept cause = (e, kept, cause)
+kept_caused c old new failure e fault.Closed kept cause = tt
+kept_caused c old new failure e fault.Damaged kept cause = tt
+
+-- the database failed as a command was applied
+pub failed_write : {X : Type 0} (c : Command) (old new : State) (failure : Option Error) (result : Result X Fault) → result ≡ Err StoreFailed → IfErr result (IsCausedWrite c old new failure) → IsCausedWrite c old new failure StoreFailed
+failed_write c old new failure result failed cause = subst (λ r. IfErr r (IsCausedWrite c old new failure)) failed cause
+
+-- the connection and the error are handed on
+pub stops_passed : {S : Type 0} (g : Ghosts S) (conn after : Held S) (failure told : Option Error) (stop : Option (ℕ × Fault)) → conn ≡ after → failure ≡ told
+    → IfSome stop (λ at. at.1 ≡ StoreFailed → IsCausedStop g conn failure) → IfSome stop (λ at. at.1 ≡ StoreFailed → IsCausedStop g after told)
+stops_passed g conn after failure told None same also_same cause = tt
+stops_passed g conn after failure told (Some at) same also_same cause = λ failed. subst₂ (λ c f. IsCausedStop g c f) same also_same (cause failed)

@@ -11,3 +11,4 @@ mod QuestionLemmas
 mod ReopeningLemmas
 mod RunLemmas
 mod SessionLemmas
+mod WriteLemmas

@@ -12,7 +12,7 @@ use Rattle.docket_decisions.specs.Decisions.{IsAnswer, LeadsTo}
 use Rattle.court_rules.specs.declared.act.Act.{Act}
 use Rattle.docket_history.specs.Histories.{History, standing_rows, items_of, case_number, deadline_number, act_rows, acts_of_deadline}
 use Rattle.docket_decisions.specs.Outcomes.{IsHistory, shown, outcome, after, repeated, refused, accepted}
-use Rattle.docket_decisions.specs.Tables.{rows_of}
+use Rattle.docket_decisions.specs.Tables.{action_changes, rows_of}
 use Rattle.docket_decisions.specs.declared.decision.Changes.{Changes}
 use Rattle.docket_decisions.specs.declared.decision.Decision.TheVariants.{Change}
 use Rattle.docket_history.specs.declared.item.CalendarItem.{CalendarItem}
@@ -43,10 +43,10 @@ abbrev pub Keeps : Option (List CalendarItem) → History → Type 0
 Keeps None h = Unit {0}
 Keeps (Some items) h = items ≡ items_of (standing_rows h)
 
--- the command is accepted, and its changes and its receipt lead to the tables with it
+-- the command is accepted; its changes are those of its action, and lead with its receipt to the tables with it
 abbrev pub IsAccepted : CourtSettings → History → Command → Changes → Type 0
 IsAccepted court h c changes =
-    (outcome court h c ≡ accepted changes.reply) × LeadsTo court h c (Change changes)
+    (outcome court h c ≡ accepted changes.reply) × LeadsTo court h c (Change changes) × (changes.rows.items ≡ action_changes (shown court h c) c.action)
 
 -- the acts of the deadline that the command names, before it
 abbrev pub AreNamed : History → Command → List Act → Type 0

@@ -1,6 +1,6 @@
 -- Why a docket's database failed.
-use Rattle.std.specs.Prelude.{◌≡◌, ◌≢◌, ◌⊎◌, ℕ, IsTrue, Option, Some, IsSome, Result, Err, None}
-use Rattle.sqlite.specs.Held.{state}
+use Rattle.std.specs.Prelude.{◌≡◌, ◌≢◌, ◌⊎◌, ℕ, IsTrue, Option, Some, IsSome, Result, Err, None, ◌<◌, ◌^◌, length}
+use Rattle.sqlite.specs.Held.{Held, state}
 use Rattle.sqlite.specs.State.{State}
 use Rattle.sqlite.specs.Store.{Ghosts}
 use Rattle.sqlite.specs.declared.error.Error.{Error}
@@ -12,9 +12,10 @@ use Rattle.docket_decisions.specs.Outcomes.{accepted, outcome}
 use Rattle.docket_scan.specs.Causes.{HasFailed}
 use Rattle.docket_scan.specs.declared.fault.AdoptFault.{AdoptFault}
 use Rattle.docket_scan.specs.declared.fault.AdoptFault.TheVariants as adopt
-use Rattle.docket_tables.specs.Causes.{IsCaused, IsCausedMaking, IsOfMemory}
+use Rattle.docket_tables.specs.Causes.{HasChangeCause, IsCaused, IsCausedMaking, IsOfMemory}
 use Rattle.docket_tables.specs.Schema.{no_schema}
 use Rattle.docket_tables.specs.declared.fault.StoreFault.TheVariants as making
+use Rattle.docket_wire.specs.Writing.{canonical}
 use Rattle.docket_store.specs.Dockets.{Docket}
 use Rattle.docket_store.specs.declared.creating.CreateFault.{CreateFault}
 use Rattle.docket_store.specs.declared.creating.CreateFault.TheVariants as create
@@ -68,3 +69,20 @@ IsCausedCreating old new failure create.NotEmpty = failure ≡ None
 IsCausedCreating old new failure create.NoMemory = IsCausedMaking old new failure making.NoMemory
 IsCausedCreating old new failure create.StoreFailed =
     IsCausedMaking old new failure making.StoreFailed ⊎ ((failure ≡ None) × (IsTrue old.in_transaction ⊎ (old.now.schema ≢ no_schema)))
+
+-- the error of a write has a cause, or the text of the command is over ten million bytes
+abbrev pub HasWriteCause : Command → State → State → Error → Type 0
+HasWriteCause c old new e = HasChangeCause old new e ⊎ (10 ^ 7 < length (canonical c))
+
+-- where the database failed as a command was applied, its error is known and has a cause
+abbrev pub IsCausedWrite : Command → State → State → Option Error → Fault → Type 0
+IsCausedWrite c old new failure StoreFailed = (e : Error) × (failure ≡ Some e) × HasWriteCause c old new e
+IsCausedWrite c old new failure _ = Unit {0}
+
+-- the docket keeps the error of the database that closed it, and this has a cause that a write may have
+abbrev pub IsClosedByWrite : {S : Type 0} → Ghosts S → Command → Docket S → Docket S → Type 0
+IsClosedByWrite g c old new = (e : Error) × (new.closed_by ≡ Some e) × HasWriteCause c (state g old.conn) (state g new.conn) e
+
+-- a command closed the docket on this connection, for a cause that is told
+abbrev pub IsCausedStop : {S : Type 0} → Ghosts S → Held S → Option Error → Type 0
+IsCausedStop {S} g conn failure = (c : Command) × (before : Held S) × (e : Error) × (failure ≡ Some e) × HasWriteCause c (state g before) (state g conn) e

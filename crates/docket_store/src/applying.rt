@@ -1,5 +1,5 @@
 //! One command, in one transaction.
-ghost use Rattle.std.specs.Prelude.{◌≡◌, ◌≤◌, ◌<◌, ◌^◌, ◌∷◌, ℕ, List, Option, length, false, IfErr};
+ghost use Rattle.std.specs.Prelude.{◌≡◌, ◌≤◌, ◌<◌, ◌^◌, ◌∷◌, ℕ, List, Option, length, false, IfErr, IfOk};
 ghost use Rattle.sqlite.specs.Held.{state};
 ghost use Rattle.sqlite.specs.State.{HasCleanDisk};
 ghost use Rattle.sqlite.specs.View.{doubt};
@@ -8,6 +8,8 @@ ghost use Rattle.docket_command.specs.declared.command.Command.{Command as Asked
 ghost use Rattle.docket_history.specs.Histories.{History, case_rows};
 ghost use Rattle.docket_decisions.specs.Tables.{rows_of};
 ghost use Rattle.docket_history.specs.declared.item.CalendarItem.{CalendarItem as Item};
+ghost use Rattle.docket_decisions.specs.EndRows.{end_rows};
+ghost use Rattle.docket_changes.specs.Writing.{MayAddEnds};
 ghost use Rattle.docket_changes.specs.Settling.{IsUpdate, changes_calendar};
 ghost use Rattle.docket_changes.specs.declared.moving.EndUpdate.TheVariants as update;
 ghost use Rattle.docket_wire.specs.Valid.{IsCommand};
@@ -18,7 +20,7 @@ ghost use Rattle.docket_tables.specs.Layouts.{Rows};
 ghost use Rattle.docket_tables.specs.Stands.{HoldsRows};
 ghost use Rattle.docket_store.specs.AnyRows.{Preserves, WritesWhole};
 ghost use Rattle.docket_store.specs.Applying.{IsDocket, StandsFor, Keeps, Stands, IsAccepted, AreNamed, Applies, Asks};
-ghost use Rattle.docket_store.specs.Causes.{IsCausedBy, IsNamed, IsNotAccepted};
+ghost use Rattle.docket_store.specs.Causes.{IsCausedBy, IsCausedWrite, IsNamed, IsNotAccepted};
 ghost use Rattle.docket_store.specs.Dockets.{serving};
 
 use crate::asking::calendar_told;
@@ -64,6 +66,10 @@ fn calendar_update<S: Alter>(
     ensures named { IfErr result (IsNamed failure.new) }
     ensures update { (court : CourtSettings) (kept : Option (List Item)) (h : History) → Stands S.Store (serving conn.old court kept) h
         → Asks S.Store (serving conn.new court kept) h (λ found. found ≡ update.Calendar (length (case_rows h))) result }
+    ensures counts { (state S.Store conn.old).faults ≤ (state S.Store conn.new).faults }
+    ensures limit { (state S.Store conn.new).step_limit ≡ (state S.Store conn.old).step_limit }
+    ensures cause { (rows : Rows) → HoldsRows S.Store conn.old rows → HasCleanDisk (state S.Store conn.new)
+        → IfErr result (IsCausedBy (state S.Store conn.old) (state S.Store conn.new) failure.new) }
 {
     match cases(conn) {
         Ok(cases) => Ok(EndUpdate::Calendar { cases }),
@@ -91,6 +97,15 @@ fn case_update<S: Alter>(
     ensures update { (h : History) → Stands S.Store (serving conn.old court.now kept.old) h
         → (HasCleanDisk (state S.Store conn.old) → IsAccepted court.now h command.now changes.now × AreNamed h command.now named.now)
         → Asks S.Store (serving conn.new court.now kept.new) h (λ found. IsUpdate court.now found (rows_of court.now h) (rows_of court.now (command.now ∷ h))) result }
+    ensures counts { (state S.Store conn.old).faults ≤ (state S.Store conn.new).faults }
+    ensures limit { (state S.Store conn.new).step_limit ≡ (state S.Store conn.old).step_limit }
+    ensures cause { (h : History) → Stands S.Store (serving conn.old court.now kept.old) h
+        → (HasCleanDisk (state S.Store conn.old) → IsAccepted court.now h command.now changes.now × AreNamed h command.now named.now) → HasCleanDisk (state S.Store conn.new)
+        → IfErr result (IsCausedBy (state S.Store conn.old) (state S.Store conn.new) failure.new) }
+    // No end is added beside one of its deadline, and each to a deadline that stands.
+    ensures adds { (h : History) → Stands S.Store (serving conn.old court.now kept.old) h
+        → (HasCleanDisk (state S.Store conn.old) → IsAccepted court.now h command.now changes.now × AreNamed h command.now named.now) → HasCleanDisk (state S.Store conn.new)
+        → IfOk result (λ found. MayAddEnds found (rows_of court.now (command.now ∷ h)) (end_rows court.now (rows_of court.now h))) }
 {
     let calendar = calendar_told(conn, alloc, court, kept, failure)?;
     match moves(alloc, court, &calendar, named, changes.rows.as_slice()) {
@@ -120,6 +135,15 @@ fn end_update<S: Alter>(
     ensures update { (h : History) → Stands S.Store (serving conn.old court.now kept.old) h
         → (HasCleanDisk (state S.Store conn.old) → IsAccepted court.now h command.now changes.now × AreNamed h command.now named.now)
         → Asks S.Store (serving conn.new court.now kept.new) h (λ found. IsUpdate court.now found (rows_of court.now h) (rows_of court.now (command.now ∷ h))) result }
+    ensures counts { (state S.Store conn.old).faults ≤ (state S.Store conn.new).faults }
+    ensures limit { (state S.Store conn.new).step_limit ≡ (state S.Store conn.old).step_limit }
+    ensures cause { (h : History) → Stands S.Store (serving conn.old court.now kept.old) h
+        → (HasCleanDisk (state S.Store conn.old) → IsAccepted court.now h command.now changes.now × AreNamed h command.now named.now) → HasCleanDisk (state S.Store conn.new)
+        → IfErr result (IsCausedBy (state S.Store conn.old) (state S.Store conn.new) failure.new) }
+    // No end is added beside one of its deadline, and each to a deadline that stands.
+    ensures adds { (h : History) → Stands S.Store (serving conn.old court.now kept.old) h
+        → (HasCleanDisk (state S.Store conn.old) → IsAccepted court.now h command.now changes.now × AreNamed h command.now named.now) → HasCleanDisk (state S.Store conn.new)
+        → IfOk result (λ found. MayAddEnds found (rows_of court.now (command.now ∷ h)) (end_rows court.now (rows_of court.now h))) }
 {
     if moves_all_cases(&command.action) {
         return calendar_update(conn, failure);
@@ -153,6 +177,9 @@ fn keep<S: Alter>(
     ensures kept { (h : History) → Stands S.Store (serving conn.old court.now kept.old) h
         → (HasCleanDisk (state S.Store conn.old) → IsAccepted court.now h command.now changes.now × AreNamed h command.now named.now)
         → Applies S.Store (serving conn.new court.now kept.new) h command.now result }
+    ensures cause { (h : History) → Stands S.Store (serving conn.old court.now kept.old) h
+        → (HasCleanDisk (state S.Store conn.old) → IsAccepted court.now h command.now changes.now × AreNamed h command.now named.now) → HasCleanDisk (state S.Store conn.new)
+        → IfErr result (IsCausedWrite command.now (state S.Store conn.old) (state S.Store conn.new) failure.new) }
 {
     changes_fit(changes);
     let update = end_update(conn, alloc, court, kept, command, named, changes, failure)?;
@@ -183,6 +210,9 @@ pub(crate) fn apply_to<S: Alter>(
     // What nothing is written for fails only for a cause.
     ensures spared { (h : History) → Stands S.Store (serving conn.old court.now kept.old) h → HasCleanDisk (state S.Store conn.new) → IsNotAccepted court.now h command.now
         → IfErr result (IsCausedBy (state S.Store conn.old) (state S.Store conn.new) failure.new) }
+    // And so does what is accepted, but where its text is very long.
+    ensures cause { (h : History) → Stands S.Store (serving conn.old court.now kept.old) h → HasCleanDisk (state S.Store conn.new)
+        → IfErr result (IsCausedWrite command.now (state S.Store conn.old) (state S.Store conn.new) failure.new) }
 {
     let body = command_text(alloc, command)?;
     let Judged { decision, named } = judge(

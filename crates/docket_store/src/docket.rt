@@ -23,7 +23,7 @@ ghost use Rattle.docket_tables.specs.Stands.{HoldsRows, HoldsRowsIn};
 ghost use Rattle.docket_tables.specs.declared.table.Table.TheVariants as table;
 ghost use Rattle.docket_store.specs.AnyRows.{Preserves, PreservesCalendar, PreservesListing, PreservesRejected, WritesWhole};
 ghost use Rattle.docket_store.specs.Applying.{IsDocket, StandsFor, Stands, Applies, Asks, docket_rows};
-ghost use Rattle.docket_store.specs.Causes.{IsCausedCreating, IsCausedOpening, IsClosedForCause, IsNamed, IsNotAccepted};
+ghost use Rattle.docket_store.specs.Causes.{IsCausedCreating, IsCausedOpening, IsClosedByWrite, IsClosedForCause, IsNamed, IsNotAccepted};
 ghost use Rattle.docket_store.specs.Grounds.{AreGrounds};
 ghost use Rattle.docket_store.specs.Listing.{Lists, ListsCalendar};
 ghost use Rattle.docket_store.specs.Migrating.{cause_of};
@@ -268,8 +268,10 @@ impl<S: Alter> Docket<S> {
             → WritesWhole S.Store self.new.conn self.new.court n rows command.now result }
         ensures clean { doubt (state S.Store self.old.conn).is_clean ≤ doubt (state S.Store self.new.conn).is_clean }
         ensures closes { self.old.closed ≡ false → (self.new.closed ≡ true) ↔ (result ≡ Err fault.StoreFailed) }
-        // A command that is refused, or a repeat, fails of the database only for a cause.
-        ensures cause { (h : History) → Stands S.Store self.old h → IsNotAccepted self.old.court h command.now → HasCleanDisk (state S.Store self.new.conn)
+        // It fails of the database only for a cause, which is that of a question where nothing is written.
+        ensures cause { (h : History) → Stands S.Store self.old h → HasCleanDisk (state S.Store self.new.conn)
+            → result ≡ Err fault.StoreFailed → IsClosedByWrite S.Store command.now self.old self.new }
+        ensures spared { (h : History) → Stands S.Store self.old h → IsNotAccepted self.old.court h command.now → HasCleanDisk (state S.Store self.new.conn)
             → result ≡ Err fault.StoreFailed → IsClosedForCause S.Store self.old self.new }
     {
         if self.closed_by.is_some() {

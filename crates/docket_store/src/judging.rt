@@ -6,7 +6,9 @@ ghost use Rattle.sqlite.specs.View.{doubt};
 ghost use Rattle.court_days.specs.Court.{CourtSettings};
 ghost use Rattle.docket_history.specs.Actions.{asks_calendar};
 ghost use Rattle.docket_history.specs.Histories.{History, items_of, standing_rows};
+ghost use Rattle.docket_decisions.specs.Decisions.{IsChange};
 ghost use Rattle.docket_decisions.specs.Outcomes.{shown};
+ghost use Rattle.docket_decisions.specs.Tables.{action_changes};
 ghost use Rattle.docket_wire.specs.Valid.{IsCommand};
 ghost use Rattle.docket_wire.specs.Writing.{canonical};
 ghost use Rattle.docket_tables.specs.Causes.{FailsForCause};
@@ -159,6 +161,9 @@ pub(crate) fn judge<S: Alter>(
     ensures named { IfErr result (IsNamed failure.new) }
     ensures judged { (h : History) → Stands S.Store (serving conn.old court.now kept.old) h
         → Judges S.Store (serving conn.new court.now kept.new) h command.now result }
+    // What is to be changed are the changes of the action.
+    ensures changes { (h : History) → Stands S.Store (serving conn.old court.now kept.old) h → HasCleanDisk (state S.Store conn.new)
+        → IfOk result (λ judged. IsChange (action_changes (shown court.now h command.now) command.now.action) judged.decision) }
     ensures repeats { (rows : Rows) → HoldsRows S.Store conn.old rows → HasCleanDisk (state S.Store conn.new)
         → IfOk result (λ judged. RepeatsReceipt rows command.now judged.decision) }
 {

@@ -1,6 +1,7 @@
 //! Commands in order, each in a transaction of its own.
 ghost use Rattle.std.specs.Prelude.{◌≡◌, ◌≤◌, ◌<◌, ◌^◌, ℕ, List, IfOk, IfErr, Err, true};
 ghost use Rattle.sqlite.specs.Held.{state};
+ghost use Rattle.sqlite.specs.State.{HasCleanDisk};
 ghost use Rattle.sqlite.specs.View.{doubt};
 ghost use Rattle.docket_history.specs.Histories.{History};
 ghost use Rattle.docket_decisions.specs.declared.end_row.EndRow.{EndRow};
@@ -9,6 +10,7 @@ ghost use Rattle.docket_tables.specs.Layouts.{Rows};
 ghost use Rattle.docket_tables.specs.Stands.{HoldsRows};
 ghost use Rattle.docket_store.specs.AnyRows.{AnswersWhole};
 ghost use Rattle.docket_store.specs.Applying.{Stands};
+ghost use Rattle.docket_store.specs.Causes.{IsClosedByWrite};
 ghost use Rattle.docket_store.specs.Sequence.{Answers, AnswersAll, Halts, BreaksOff};
 ghost use Rattle.docket_store.specs.declared.fault.Fault.TheVariants as fault;
 
@@ -31,6 +33,8 @@ pub fn answer<S: Alter>(
     ensures answer { (h : History) → Stands S.Store docket.old h → IfOk result (Answers S.Store docket.new h command.now) }
     ensures halts { (h : History) → Stands S.Store docket.old h → IfErr result (Halts S.Store docket.new h command.now) }
     ensures closes { result ≡ Err fault.StoreFailed → docket.new.closed ≡ true }
+    ensures cause { (h : History) → Stands S.Store docket.old h → HasCleanDisk (state S.Store docket.new.conn)
+        → result ≡ Err fault.StoreFailed → IsClosedByWrite S.Store command.now docket.old docket.new }
 {
     match docket.apply(command) {
         Ok(reply) => Ok(Ok(reply)),

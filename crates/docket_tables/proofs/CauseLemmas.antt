@@ -1,5 +1,5 @@
 -- Why a question fails.
-use Rattle.std.proofs.Common.{◌≡◌, inl, inr, ◌∙◌, ◌≤◌, ℕ, suc, ℤ, Bool, List, [], ◌∷◌, length, append-nil, true, false, IsTrue, IsSome, IfErr, IsErrAnd, Result, Ok, Err, refl, sym, ap, ap₂, subst, subst₂, arith}
+use Rattle.std.proofs.Common.{◌≡◌, inl, inr, ◌∙◌, ◌≤◌, ℕ, suc, ℤ, Bool, List, [], ◌∷◌, length, append-nil, true, false, IsSome, IfErr, IsErrAnd, Result, Ok, Err, refl, sym, ap, ap₂, subst, subst₂, arith}
 use Rattle.sqlite.specs.Order.{Row}
 use Rattle.sqlite.specs.Kind.{Kind}
 use Rattle.sqlite.specs.Kind.TheVariants.{Integer, Text}
@@ -7,13 +7,11 @@ use Rattle.sqlite.specs.Command.{Command}
 use Rattle.sqlite.specs.Command.TheVariants.{Select}
 use Rattle.sqlite.specs.Effect.{RefusesToRead}
 use Rattle.sqlite.specs.Listing.{understood, reads_listing, IsSourceOf}
-use Rattle.sqlite.specs.State.{State, HasCause, IsNotRun, FailsToQuery, is_disk_error, store_error}
+use Rattle.sqlite.specs.State.{State, IsNotRun, FailsToQuery}
 use Rattle.sqlite.specs.declared.error.Error.{Error}
 use Rattle.sqlite.specs.Values.{bound_value}
 use Rattle.sqlite.specs.declared.types.Value.TheVariants as value
 use Rattle.sqlite_tied.specs.Compute.{everything}
-use Rattle.sqlite_trees.specs.declared.error.StoreError.{StoreError}
-use Rattle.sqlite_trees.specs.declared.error.StoreError.TheVariants as store
 use Rattle.sqlite_value.specs.declared.value.Value.{Value}
 use Rattle.sqlite_typing.specs.Types.{accepts_program}
 use Rattle.docket_tables.specs.Causes.{IsCaused, IsCausedFault, FailsForCause, IsOwn, Suits, kinds_asked}
@@ -21,14 +19,14 @@ use Rattle.docket_tables.specs.Holds.{plain_query}
 use Rattle.docket_tables.specs.Layouts.{Rows, are_of}
 use Rattle.docket_tables.specs.Queries.{question_of, select_text, table_of, keys_of}
 use Rattle.docket_tables.specs.Schema.{docket_schema, tree_of}
-use Rattle.docket_tables.specs.Stands.{IsSettled}
+use Rattle.docket_tables.specs.Stands.{IsSettled, Sees, Shows}
 use Rattle.docket_tables.specs.Tables.{layout_of}
 use Rattle.docket_tables.specs.Texts.{names_in}
 use Rattle.docket_tables.specs.declared.fault.ReadFault.{ReadFault}
 use Rattle.docket_tables.specs.declared.fault.ReadFault.TheVariants.{Store, NoMemory, Damaged}
 use Rattle.docket_tables.specs.declared.query.Query.{Query}
 use Rattle.docket_tables.specs.declared.query.Query.TheVariants as ask
-use Rattle.docket_tables.proofs.MakingCauses.{IsOne, never_misread}
+use Rattle.docket_tables.proofs.MakingCauses.{IsOne, fails_caused, never_misread, open_caused}
 use Rattle.docket_tables.proofs.QueryLemmas.{keeps_from, shows_of, order_in, limit_in, select_means}
 use Rattle.sqlite.specs.Program.{ProgramOverflows}
 use Rattle.sqlite.specs.Query.{Query as Sql}
@@ -90,15 +88,7 @@ accepted ask.LastLocalRule = nothing (passes ask.LastLocalRule) refl
 accepted ask.LocalRuleNamed = one_text (passes ask.LocalRuleNamed) (λ t. refl)
 accepted ask.LocalRules = nothing (passes ask.LocalRules) refl
 
-store_cause : (e : Error) (cause : StoreError) (old new : State) → IsTrue old.is_open → e ≡ store_error cause → HasCause old new ⊥ cause → IsCaused old new e
-store_cause e store.OutOfMemory old new live is has = inr (inl is)
-store_cause e store.Io old new live is has = inl (subst (λ x. IsTrue (is_disk_error x)) (sym is) refl, has)
-store_cause e store.Corrupt old new live is has = inl (subst (λ x. IsTrue (is_disk_error x)) (sym is) refl, has)
-store_cause e store.Full old new live is has = inl (subst (λ x. IsTrue (is_disk_error x)) (sym is) refl, has)
-store_cause e store.Broken old new live is has = absurd (let no = sym live ∙ has in cc)
-store_cause e store.Unstorable old new live is has = absurd has
-
-so_many : (kinds : List Kind) (params : Row) → are_of kinds params ≡ true → length params ≡ length kinds
+pub so_many : (kinds : List Kind) (params : Row) → are_of kinds params ≡ true → length params ≡ length kinds
 so_many [] [] of = refl
 so_many (Integer ∷ kinds) (value.Int n ∷ row) of = ap (λ n. suc n) (so_many kinds row of)
 so_many (Text ∷ kinds) (value.Text t ∷ row) of = ap (λ n. suc n) (so_many kinds row of)
@@ -115,22 +105,29 @@ refused q params old new e has suits (inl mistyped) = absurd (let yes = accepted
 refused q params old new e has suits (inr (inl over)) = absurd (no_overflow q params old.now.trees over.1)
 refused q params old new e has suits (inr (inr stopped)) = inr (inr stopped)
 
--- what a question fails for
-pub question_caused : (q : Query) (params : Row) (rows : Rows) (old new : State) (e : Error) → IsSettled old rows → Suits q params → FailsToQuery (select_text q) params old new e → IsCaused old new e
+-- what a question fails for, where the connection sees the rows
+shown_caused : (q : Query) (params : Row) (rows : Rows) (old new : State) (e : Error) → Shows old rows → Suits q params → FailsToQuery (select_text q) params old new e → IsCaused old new e
 unfolding FailsToQuery IsNotRun
-question_caused q params rows old new e was suits = go
+shown_caused q params rows old new e was suits = go
   where
     one : IsOne (select_text q) (length params) (command_for q) (understood old.now.schema (select_text q))
-    one = subst₂ (λ s n. IsOne (select_text q) n (command_for q) (understood s (select_text q))) (sym was.shows.schema) (sym (so_many (kinds_asked q) params suits)) (one_statement q)
+    one = subst₂ (λ s n. IsOne (select_text q) n (command_for q) (understood s (select_text q))) (sym was.schema) (sym (so_many (kinds_asked q) params suits)) (one_statement q)
 
     go : FailsToQuery (select_text q) params old new e → IsCaused old new e
     go (inl (inl never)) = absurd (never_misread (select_text q) (command_for q) params old e one never.0)
-    go (inl (inr fails)) = store_cause e fails.0 old new was.shows.is_open fails.1 fails.2
+    go (inl (inr fails)) = open_caused old new e was.is_open (fails_caused old new ⊥ e (λ no. no) fails)
     go (inr run) =
         let is = subst (IsOne (select_text q) (length params) (command_for q)) run.1.is one in
         let it = rw (is.3.0, is.3.1, append-nil params) at run.2 in
-        let db : it.0 ≡ old.now = subst (λ b. IsSourceOf b old.now it.0) (ap (λ s. reads_listing s (select_text q)) was.shows.schema ∙ (select_means q).unlisted) it.1 in
-        refused q params old new e was.shows.schema suits (subst₂ (λ k d. RefusesToRead old.step_limit k d params e) is.2 db it.2)
+        let db : it.0 ≡ old.now = subst (λ b. IsSourceOf b old.now it.0) (ap (λ s. reads_listing s (select_text q)) was.schema ∙ (select_means q).unlisted) it.1 in
+        refused q params old new e was.schema suits (subst₂ (λ k d. RefusesToRead old.step_limit k d params e) is.2 db it.2)
+
+pub question_caused : (q : Query) (params : Row) (rows : Rows) (old new : State) (e : Error) → IsSettled old rows → Suits q params → FailsToQuery (select_text q) params old new e → IsCaused old new e
+question_caused q params rows old new e was = shown_caused q params rows old new e was.shows
+
+-- and inside a transaction
+pub inside_caused : (q : Query) (params : Row) (rows : Rows) (old new : State) (e : Error) → Sees old rows → Suits q params → FailsToQuery (select_text q) params old new e → IsCaused old new e
+inside_caused q params rows old new e sees = shown_caused q params rows old new e sees.shows
 
 -- where the store failed, its error has a cause
 pub err_caused : {X : Type 0} (old new : State) (e : Error) (result : Result X ReadFault) → IsErrAnd result (λ f. f ≡ Store e) → IsCaused old new e → FailsForCause old new result

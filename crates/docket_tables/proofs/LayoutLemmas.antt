@@ -74,11 +74,11 @@ others_same tree old new keeps other = of_each (λ t. t.tree ≢ tree → new t.
 
 -- values of their kinds, one after another
 
-no_value : (kind : Kind) (kinds : List Kind) → are_of (kind ∷ kinds) [] ≡ true → ⊥
+pub no_value : (kind : Kind) (kinds : List Kind) → are_of (kind ∷ kinds) [] ≡ true → ⊥
 no_value Integer kinds fits = false≢true fits
 no_value _ kinds fits = false≢true fits
 
-first_value : (kind : Kind) (v : Value) (kinds : List Kind) (row : Row) → are_of (kind ∷ kinds) (v ∷ row) ≡ true → (cast kind v ≡ v) × (are_of kinds row ≡ true)
+pub first_value : (kind : Kind) (v : Value) (kinds : List Kind) (row : Row) → are_of (kind ∷ kinds) (v ∷ row) ≡ true → (cast kind v ≡ v) × (are_of kinds row ≡ true)
 first_value Integer (Int n) kinds row fits = (cast_int n, fits)
 first_value Text (value.Text t) kinds row fits = (refl, fits)
 first_value _ _ kinds row fits = absurd (false≢true fits)
@@ -113,7 +113,7 @@ written_by is_rowid fields given =
     let source = eval_all (terms_by is_rowid fields) (given ∷ []) in
     cast Integer (column source 0) ∷ cast_all (columns_by is_rowid fields) (drop 1 source)
 
-written_hidden : (fields : List Field) (given : Row) → are_of (kinds fields) given ≡ true → written_by false fields given ≡ Null ∷ given
+pub written_hidden : (fields : List Field) (given : Row) → are_of (kinds fields) given ≡ true → written_by false fields given ≡ Null ∷ given
 written_hidden fields given fits =
     ap₂ (λ x xs. x ∷ xs) cast_null (ap (cast_all (map column_of fields)) (each_term given 0 fields ∙ each_column fields given fits) ∙ each_cast fields given fits)
 
@@ -128,7 +128,7 @@ kept_columns places rows row same =
     elim (is_chosen Chosen (rowid row)) as (λ b. cells places (cond b (Int (at_least Chosen (next_rowid rows)) ∷ drop 1 row) row) ≡ cells places row) [ true ↦ same _ | false ↦ refl ]
 
 -- the row that is stored shows the values that were given
-shown : (is_rowid : Bool) (fields : List Field) (rows : List Row) (given : Row) → are_of (kinds_by is_rowid fields) given ≡ true
+pub shown : (is_rowid : Bool) (fields : List Field) (rows : List Row) (given : Row) → are_of (kinds_by is_rowid fields) given ≡ true
     → cells (places_by is_rowid fields) (with_rowid Chosen rows (written_by is_rowid fields given)) ≡ given
 shown false fields rows given fits =
     ap (λ r. cells (counted 1 fields) (with_rowid Chosen rows r)) (written_hidden fields given fits)
@@ -146,7 +146,7 @@ shown true (field ∷ more) rows (_ ∷ row) fits = absurd (false≢true fits)
 chosen : (rows : List Row) (row : Row) → rowid row ≡ Null → IsTrue (is_int (rowid (with_rowid Chosen rows row)))
 chosen rows row none = ap (λ b. is_int (rowid (cond b (Int (at_least Chosen (next_rowid rows)) ∷ drop 1 row) row))) (ap (is_chosen Chosen) none)
 
-numbered : (is_rowid : Bool) (fields : List Field) (rows : List Row) (given : Row) → are_of (kinds_by is_rowid fields) given ≡ true → IsTrue (is_int (rowid (with_rowid Chosen rows (written_by is_rowid fields given))))
+pub numbered : (is_rowid : Bool) (fields : List Field) (rows : List Row) (given : Row) → are_of (kinds_by is_rowid fields) given ≡ true → IsTrue (is_int (rowid (with_rowid Chosen rows (written_by is_rowid fields given))))
 numbered false fields rows given fits = chosen rows (written_by false fields given) cast_null
 numbered true [] rows given fits = chosen rows (written_by true [] given) cast_null
 numbered true (field ∷ more) rows [] fits = absurd (false≢true fits)

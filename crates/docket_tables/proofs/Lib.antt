@@ -1,24 +1,30 @@
+pub mod AddingCauses
+pub mod AdditionLemmas
 pub mod AnswerLemmas
 pub mod AnyLemmas
 mod CalendarLemmas
 mod CauseLemmas
 pub mod CaseActs
 pub mod CellLemmas
+pub mod ChangeCauses
 mod ChangesLemmas
 pub mod CommitLemmas
 pub mod ContentsLemmas
+mod CountCauses
 pub mod CourtLemmas
 mod CreateCauses
 pub mod CreateLemmas
+mod DeleteCauses
 mod DeleteLemmas
 pub mod EndLemmas
-mod EnterCauses
 mod FoundLemmas
 pub mod HoldsLemmas
+mod InsertCauses
 pub mod InsertLemmas
 pub mod InsideLemmas
 pub mod LayoutLemmas
-mod MakingCauses
+pub mod MakingCauses
+mod MoveCauses
 mod MoveLemmas
 pub mod PassedCauses
 mod ProbeLemmas
@@ -26,10 +32,13 @@ mod QueryLemmas
 pub mod ReadLemmas
 mod ReceiptLemmas
 mod RowLemmas
+mod RowidCounts
 mod RowidLemmas
 pub mod SelectLemmas
 pub mod StandsLemmas
 pub mod StoredLemmas
+mod StoredRows
 pub mod TwoTables
+mod UpdateCauses
 pub mod UpdateLemmas
-mod ZoneLengths
+pub mod ZoneLengths

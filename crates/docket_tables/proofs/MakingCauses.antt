@@ -1,4 +1,4 @@
--- Why a statement of the making of tables fails.
+-- Why a statement inside a transaction fails, and its commit.
 use Rattle.std.proofs.Common.{◌≡◌, ◌≢◌, ◌≤◌, true≢false, IsSome, ◌⊎◌, inl, inr, ◌∙◌, ◌||◌, ℕ, Bool, List, length, append-nil, true, false, is_some, None, Some, Option, Result, Ok, Err, IsTrue, IfErr, IsErrAnd, refl, sym, ap, subst, arith}
 use Rattle.sqlite.specs.Order.{Row}
 use Rattle.sqlite.specs.Calls.{IsWrite}
@@ -18,7 +18,7 @@ use Rattle.sqlite_resolve.specs.declared.error.CompileError.{CompileError}
 use Rattle.sqlite_schema.specs.declared.command.Returning.{Returning}
 use Rattle.sqlite_trees.specs.declared.error.StoreError.{StoreError}
 use Rattle.sqlite_trees.specs.declared.error.StoreError.TheVariants as store
-use Rattle.docket_tables.specs.Causes.{HasMakingCause, IsCausedMaking}
+use Rattle.docket_tables.specs.Causes.{IsCaused, HasMakingCause, IsCausedMaking}
 use Rattle.docket_tables.specs.declared.fault.StoreFault.{StoreFault}
 use Rattle.docket_tables.specs.declared.fault.StoreFault.TheVariants as making
 
@@ -45,6 +45,11 @@ store_caused e store.Unstorable old new too_big small is has = absurd (small has
 
 pub fails_caused : (old new : State) (too_big : Type 0) (e : Error) → (too_big → ⊥) → Fails old new too_big e → HasMakingCause old new e
 fails_caused old new too_big e small fails = store_caused e fails.0 old new too_big small fails.1 fails.2
+
+-- the connection was open, so that only the other causes are left
+pub open_caused : (old new : State) (e : Error) → IsTrue old.is_open → HasMakingCause old new e → IsCaused old new e
+open_caused old new e opened (inl caused) = caused
+open_caused old new e opened (inr shut) = absurd (true≢false (sym opened ∙ shut))
 
 -- a write ends no transaction, begins none, and shows no rows
 
@@ -79,11 +84,12 @@ module _ (sql : List ℕ) (command : Command) (params : Row) (old new : State) (
   abbrev At : Compiled → Type 0
   At c = IsOne sql (length params) command (Ok c)
 
-  pub write_caused : (Stops (Some e) → HasMakingCause old new e) → (Stops None → ⊥) → ExecutesInside 0 sql params old new (Err e) → HasMakingCause old new e
+  -- it fails for a cause, or is refused
+  pub write_stops : (Stops None → ⊥) → ExecutesInside 0 sql params old new (Err e) → HasMakingCause old new e ⊎ Stops (Some e)
   unfolding ExecutesIn EndsScope IsNotRun
-  write_caused unrefused small (inl (inl (inl never), left)) = absurd (never_misread sql command params old e one never.0)
-  write_caused unrefused small (inl (inl (inr fails), left)) = fails_caused old new ⊥ e (λ no. no) fails
-  write_caused unrefused small (inl (inr (c, it, ran), left)) =
+  write_stops small (inl (inl (inl never), left)) = absurd (never_misread sql command params old e one never.0)
+  write_stops small (inl (inl (inr fails), left)) = inl (fails_caused old new ⊥ e (λ no. no) fails)
+  write_stops small (inl (inr (c, it, ran), left)) =
       let is : At c = subst (IsOne sql (length params) command) it.is one in
       let quiet : shows_rows false c ≡ false = shows_none c (subst IsWrite (sym is.2) writes) is.3.0 in
       let runs : RunsCommand old new sql c params (Err e) = rw (is.3.1, append-nil params, quiet) at ran in
@@ -91,11 +97,14 @@ module _ (sql : List ℕ) (command : Command) (params : Row) (old new : State) (
       let back : (stop : Option Error) → Given stop → Stops stop = λ stop h. rw (it.is, ← is.2, ← is.3.0) h in
       elim runs [
         | inl (inl misplaced, same) ↦ absurd (never_misplaced old c.command e (subst IsWrite (sym is.2) writes) misplaced)
-        | inl (inr refused, same) ↦ unrefused (back (Some e) refused.1)
-        | inr fails ↦ fails_caused old new (Given None) e (λ h. small (back None h)) fails
+        | inl (inr refused, same) ↦ inr (back (Some e) refused.1)
+        | inr fails ↦ inl (fails_caused old new (Given None) e (λ h. small (back None h)) fails)
       ]
-  write_caused unrefused small (inr (ends, is, same)) =
+  write_stops small (inr (ends, is, same)) =
       absurd (never_escapes 0 old ends.0.command (subst IsWrite (sym (subst (IsOne sql (length params) command) ends.1.is one).2) writes) ends.2)
+
+  pub write_caused : (Stops (Some e) → HasMakingCause old new e) → (Stops None → ⊥) → ExecutesInside 0 sql params old new (Err e) → HasMakingCause old new e
+  write_caused unrefused small ran = elim (write_stops small ran) [ inl caused ↦ caused | inr refused ↦ unrefused refused ]
 
 -- a connection that was open with a transaction begun still is
 abbrev pub StaysBegun : State → State → Type 0

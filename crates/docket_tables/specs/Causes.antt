@@ -1,5 +1,5 @@
 -- Why a call of the database fails.
-use Rattle.std.specs.Prelude.{◌≡◌, ◌⊎◌, IsTrue, IsSome, IfErr, Result, Option, Some, List, map, get_or, true, false}
+use Rattle.std.specs.Prelude.{◌≡◌, ◌⊎◌, false, IsTrue, IsSome, IfErr, Result, Option, Some, List, map, get_or, true}
 use Rattle.sqlite.specs.Disk.{MoreFaults}
 use Rattle.sqlite.specs.Kind.{Kind}
 use Rattle.sqlite.specs.Kind.TheVariants.{Integer}
@@ -7,15 +7,17 @@ use Rattle.sqlite.specs.Order.{Row}
 use Rattle.sqlite.specs.State.{State, is_disk_error}
 use Rattle.sqlite.specs.declared.error.Error.{Error}
 use Rattle.sqlite.specs.declared.error.Error.TheVariants.{SqliteFailure}
-use Rattle.sqlite.specs.declared.error.ErrorCode.TheVariants.{OutOfMemory, OperationInterrupted}
+use Rattle.sqlite.specs.declared.error.ErrorCode.TheVariants.{NoRowid, OutOfMemory, OperationInterrupted}
 use Rattle.docket_tables.specs.Layouts.{are_of}
 use Rattle.docket_tables.specs.Queries.{keys_of, table_of}
 use Rattle.docket_tables.specs.Schema.{kinds_of}
+use Rattle.docket_tables.specs.Tables.{layout_of}
 use Rattle.docket_tables.specs.declared.fault.ReadFault.{ReadFault}
 use Rattle.docket_tables.specs.declared.fault.ReadFault.TheVariants.{Store, NoMemory, Damaged}
 use Rattle.docket_tables.specs.declared.fault.StoreFault.{StoreFault}
 use Rattle.docket_tables.specs.declared.fault.StoreFault.TheVariants as making
 use Rattle.docket_tables.specs.declared.query.Query.{Query}
+use Rattle.docket_tables.specs.declared.table.Table.{Table}
 
 -- the error is one of the disk, which failed or refused more often than before
 abbrev pub IsOfDisk : State → State → Error → Type 0
@@ -65,3 +67,21 @@ HasMakingCause old new e = IsCaused old new e ⊎ (old.is_open ≡ false)
 abbrev pub IsCausedMaking : State → State → Option Error → StoreFault → Type 0
 IsCausedMaking old new failure making.StoreFailed = (e : Error) × (failure ≡ Some e) × HasMakingCause old new e
 IsCausedMaking old new failure making.NoMemory = (e : Error) × (failure ≡ Some e) × IsOfMemory e
+
+-- no hidden rowid was left in a table: where only this program wrote, none comes to the last of 2^63
+abbrev pub IsOfRowids : Error → Type 0
+IsOfRowids e = e ≡ SqliteFailure NoRowid
+
+-- the error of an INSERT of a row that may stand has a cause, or the table hides its rowids and none was left
+abbrev pub HasAddCause : Table → State → State → Error → Type 0
+HasAddCause table old new e = IsCaused old new e ⊎ (IsOfRowids e × ((layout_of table).is_rowid ≡ false))
+
+-- the error of a change, inside a transaction, has a cause
+abbrev pub HasChangeCause : State → State → Error → Type 0
+HasChangeCause old new e = IsCaused old new e ⊎ IsOfRowids e
+
+-- the fault of a part of a transaction has a cause where the store failed, and no row is told to be damaged
+abbrev pub IsChangeFault : State → State → ReadFault → Type 0
+IsChangeFault old new (Store e) = HasChangeCause old new e
+IsChangeFault old new NoMemory = Unit {0}
+IsChangeFault old new Damaged = ⊥

@@ -1,3 +1,4 @@
+pub mod Additions
 pub mod AnyRows
 pub mod Causes
 pub mod Contents

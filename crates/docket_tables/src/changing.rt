@@ -1,5 +1,5 @@
 //! Changes of rows, inside a transaction.
-ghost use Rattle.std.specs.Prelude.{◌≡◌, ◌<◌, ◌≤◌, ◌+◌, ◌^◌, ℕ, List, length, OnOk};
+ghost use Rattle.std.specs.Prelude.{◌≡◌, ◌<◌, ◌≤◌, ◌+◌, ◌^◌, ℕ, List, [], ◌∷◌, length, IfErr, OnOk};
 ghost use Rattle.court_days.specs.Court.{CourtSettings};
 ghost use Rattle.docket_decisions.specs.EndRows.{changed_ends, all_changed_ends};
 ghost use Rattle.docket_decisions.specs.Tables.{Tables, changed, all_changed, with_receipt};
@@ -9,6 +9,11 @@ ghost use Rattle.sqlite.specs.Held.{state};
 ghost use Rattle.sqlite.specs.State.{HasCleanDisk};
 ghost use Rattle.sqlite.specs.View.{doubt};
 ghost use Rattle.docket_decisions.specs.declared.end_row.EndRow.{EndRow as Ended};
+ghost use Rattle.docket_columns.specs.Cells.{end_cells, receipt_cells};
+ghost use Rattle.docket_decisions.specs.Additions.{AddsOnce, AddsAmong};
+ghost use Rattle.docket_orderly.specs.Additions.{HasDeadline, MayAdd, MayAddAll, MayReceive};
+ghost use Rattle.docket_tables.specs.Additions.{AreStorable, values_added};
+ghost use Rattle.docket_tables.specs.Causes.{HasChangeCause, IsChangeFault};
 ghost use Rattle.docket_tables.specs.AnyRows.{AreDocketRows, all_rows_changed, recorded, row_changed, with_calendar_row, without_calendar_row, with_stored};
 ghost use Rattle.docket_tables.specs.Contents.{rows_with};
 ghost use Rattle.docket_tables.specs.Holds.{IsKeyed};
@@ -27,7 +32,7 @@ use docket_columns::{
     local_rule_values, party_values, receipt_values, short_day_values,
 };
 use docket_command::Command;
-use docket_decisions::{Changes, EndChange};
+use docket_decisions::{Changes, EndChange, EndRow};
 use docket_history::{CalendarItem, CalendarRow, Change};
 use sqlite::{Alter, Error, Transaction};
 
@@ -40,6 +45,8 @@ fn insert_calendar_row<S: Alter>(
     ensures inside { StaysInside (state S.Store tx.old.conn.now) (state S.Store tx.new.conn.now) }
     ensures ok { HasCleanDisk (state S.Store tx.new.conn.now) → (rows : Rows) → Sees (state S.Store tx.old.conn.now) rows
         → OnOk result (Sees (state S.Store tx.new.conn.now) (with_calendar_row row.now.number row.now.name row.now.item rows)) }
+    ensures cause { HasCleanDisk (state S.Store tx.new.conn.now) → (court : CourtSettings) (t : Tables) (ends : List Ended)
+        → Sees (state S.Store tx.old.conn.now) (rows_with court t ends) → MayAdd (change.AddCalendar row.now) t → AreStorable (values_added (change.AddCalendar row.now)) → IfErr result (HasChangeCause (state S.Store tx.old.conn.now) (state S.Store tx.new.conn.now)) }
 {
     match row.item {
         CalendarItem::Short(day, close) => {
@@ -58,6 +65,8 @@ fn withdraw_row<S: Alter>(tx: &mut Transaction<'_, S>, number: u32) -> Result<()
     ensures inside { StaysInside (state S.Store tx.old.conn.now) (state S.Store tx.new.conn.now) }
     ensures ok { HasCleanDisk (state S.Store tx.new.conn.now) → (rows : Rows) → AllByRecursion IsKeyed (rows table.Calendar) → AllByRecursion IsKeyed (rows table.ShortDays)
         → Sees (state S.Store tx.old.conn.now) rows → OnOk result (Sees (state S.Store tx.new.conn.now) (without_calendar_row number rows)) }
+    ensures cause { HasCleanDisk (state S.Store tx.new.conn.now) → (court : CourtSettings) (t : Tables) (ends : List Ended)
+        → Sees (state S.Store tx.old.conn.now) (rows_with court t ends) → IfErr result (HasChangeCause (state S.Store tx.old.conn.now) (state S.Store tx.new.conn.now)) }
 {
     remove_calendar_row(tx, number)?;
     remove_short_day(tx, number)
@@ -71,6 +80,8 @@ fn add_calendar_row<S: Alter>(tx: &mut Transaction<'_, S>, row: &CalendarRow) ->
         → Sees (state S.Store tx.old.conn.now) (rows_with court t ends) → OnOk result (Sees (state S.Store tx.new.conn.now) (rows_with court (changed (change.AddCalendar row.now) t) ends)) }
     ensures any { HasCleanDisk (state S.Store tx.new.conn.now) → (court : CourtSettings) (n : ℕ) (stored : List Ended) (rows : Rows) → AreDocketRows court n stored rows → n + 1 < 2 ^ 63
         → Sees (state S.Store tx.old.conn.now) rows → OnOk result (Sees (state S.Store tx.new.conn.now) (row_changed court n (change.AddCalendar row.now) rows)) }
+    ensures cause { HasCleanDisk (state S.Store tx.new.conn.now) → (court : CourtSettings) (t : Tables) (ends : List Ended) → t.next_row + 1 < 2 ^ 63 → length court.zone_text ≤ 31
+        → Sees (state S.Store tx.old.conn.now) (rows_with court t ends) → MayAdd (change.AddCalendar row.now) t → AreStorable (values_added (change.AddCalendar row.now)) → IfErr result (HasChangeCause (state S.Store tx.old.conn.now) (state S.Store tx.new.conn.now)) }
 {
     insert_calendar_row(tx, row)?;
     count_calendar_row(tx)
@@ -84,6 +95,9 @@ fn change_row<S: Alter>(tx: &mut Transaction<'_, S>, change: &Change) -> Result<
         → Sees (state S.Store tx.old.conn.now) (rows_with court t ends) → OnOk result (Sees (state S.Store tx.new.conn.now) (rows_with court (changed change.now t) ends)) }
     ensures any { HasCleanDisk (state S.Store tx.new.conn.now) → (court : CourtSettings) (n : ℕ) (stored : List Ended) (rows : Rows) → AreDocketRows court n stored rows → n + 1 < 2 ^ 63
         → Sees (state S.Store tx.old.conn.now) rows → OnOk result (Sees (state S.Store tx.new.conn.now) (row_changed court n change.now rows)) }
+    // A change that may be made fails only for a cause.
+    ensures cause { HasCleanDisk (state S.Store tx.new.conn.now) → (court : CourtSettings) (t : Tables) (ends : List Ended) → t.next_row + 1 < 2 ^ 63 → length court.zone_text ≤ 31
+        → Sees (state S.Store tx.old.conn.now) (rows_with court t ends) → MayAdd change.now t → AreStorable (values_added change.now) → IfErr result (HasChangeCause (state S.Store tx.old.conn.now) (state S.Store tx.new.conn.now)) }
 {
     match change {
         Change::AddCalendar(row) => add_calendar_row(tx, row),
@@ -105,6 +119,8 @@ fn change_all<S: Alter>(tx: &mut Transaction<'_, S>, changes: &[Change]) -> Resu
         → Sees (state S.Store tx.old.conn.now) (rows_with court t ends) → OnOk result (Sees (state S.Store tx.new.conn.now) (rows_with court (all_changed changes.now t) ends)) }
     ensures any { HasCleanDisk (state S.Store tx.new.conn.now) → (court : CourtSettings) (n : ℕ) (stored : List Ended) (rows : Rows) → AreDocketRows court n stored rows → n + length changes.now < 2 ^ 63
         → Sees (state S.Store tx.old.conn.now) rows → OnOk result (Sees (state S.Store tx.new.conn.now) (all_rows_changed court n changes.now rows)) }
+    ensures cause { HasCleanDisk (state S.Store tx.new.conn.now) → (court : CourtSettings) (t : Tables) (ends : List Ended) → t.next_row + length changes.now < 2 ^ 63 → length court.zone_text ≤ 31
+        → Sees (state S.Store tx.old.conn.now) (rows_with court t ends) → MayAddAll changes.now t → AllByRecursion (λ x. AreStorable (values_added x)) changes.now → IfErr result (HasChangeCause (state S.Store tx.old.conn.now) (state S.Store tx.new.conn.now)) }
 {
     'changes: for change in changes {
         change_row(tx, change)?;
@@ -127,6 +143,10 @@ pub fn record<S: Alter>(
         → OnOk result (Sees (state S.Store tx.new.conn.now) (rows_with court (with_receipt command.now changes.now.reply (all_changed changes.now.rows.items t)) ends)) }
     ensures any { HasCleanDisk (state S.Store tx.new.conn.now) → (court : CourtSettings) (n : ℕ) (stored : List Ended) (rows : Rows) → AreDocketRows court n stored rows → n + length changes.now.rows.items < 2 ^ 63
         → Sees (state S.Store tx.old.conn.now) rows → OnOk result (Sees (state S.Store tx.new.conn.now) (recorded court n command.now changes.now.reply changes.now.rows.items rows)) }
+    // Changes that may be made, with a receipt under a key that is fresh, fail only for a cause.
+    ensures cause { HasCleanDisk (state S.Store tx.new.conn.now) → (court : CourtSettings) (t : Tables) (ends : List Ended) → t.next_row + length changes.now.rows.items < 2 ^ 63 → length court.zone_text ≤ 31
+        → Sees (state S.Store tx.old.conn.now) (rows_with court t ends) → MayAddAll changes.now.rows.items t → MayReceive command.now t
+        → AllByRecursion (λ x. AreStorable (values_added x)) changes.now.rows.items → AreStorable (receipt_cells (record { command = command.now; reply = changes.now.reply })) → IfErr result (HasChangeCause (state S.Store tx.old.conn.now) (state S.Store tx.new.conn.now)) }
 {
     change_all(tx, changes.rows.as_slice())?;
     insert(
@@ -136,6 +156,11 @@ pub fn record<S: Alter>(
     )
 }
 
+/// The numbers of an end lie in memory, so that the table takes them.
+fn end_fits(row: EndRow)
+    ensures { AreStorable (end_cells row) }
+{}
+
 /// Makes a change of an end.
 fn change_end<S: Alter>(tx: &mut Transaction<'_, S>, change: &EndChange) -> Result<(), ReadFault>
     ensures same_reference { tx.new.conn.ghost_name ≡ tx.old.conn.ghost_name }
@@ -144,9 +169,14 @@ fn change_end<S: Alter>(tx: &mut Transaction<'_, S>, change: &EndChange) -> Resu
         → Inside (state S.Store tx.old.conn.now) (state S.Store tx.new.conn.now) (rows_with court t ends) (rows_with court t (changed_ends change.now ends)) result (λ _. Unit {0}) }
     ensures any { (stored : List Ended) (rows : Rows)
         → Inside (state S.Store tx.old.conn.now) (state S.Store tx.new.conn.now) (with_stored stored rows) (with_stored (changed_ends change.now stored) rows) result (λ _. Unit {0}) }
+    ensures cause { HasCleanDisk (state S.Store tx.new.conn.now) → (court : CourtSettings) (t : Tables) (ends : List Ended)
+        → Sees (state S.Store tx.old.conn.now) (rows_with court t ends) → AddsOnce (change.now ∷ []) ends → AddsAmong (HasDeadline t) (change.now ∷ []) → IfErr result (IsChangeFault (state S.Store tx.old.conn.now) (state S.Store tx.new.conn.now)) }
 {
     match change {
-        EndChange::Add(row) => insert(tx, Table::Ends, &end_values(row))?,
+        EndChange::Add(row) => {
+            end_fits(*row);
+            insert(tx, Table::Ends, &end_values(row))?;
+        }
         EndChange::Remove(case, deadline) => remove_end(tx, *case, *deadline)?,
         EndChange::Move(row) => move_end(tx, row)?,
     }
@@ -164,6 +194,9 @@ pub fn change_ends<S: Alter>(
         → Inside (state S.Store tx.old.conn.now) (state S.Store tx.new.conn.now) (rows_with court t ends) (rows_with court t (all_changed_ends changes.now ends)) result (λ _. Unit {0}) }
     ensures any { (stored : List Ended) (rows : Rows)
         → Inside (state S.Store tx.old.conn.now) (state S.Store tx.new.conn.now) (with_stored stored rows) (with_stored (all_changed_ends changes.now stored) rows) result (λ _. Unit {0}) }
+    // Changes that add no end beside one of its deadline, and each to a deadline that stands, fail only for a cause.
+    ensures cause { HasCleanDisk (state S.Store tx.new.conn.now) → (court : CourtSettings) (t : Tables) (ends : List Ended)
+        → Sees (state S.Store tx.old.conn.now) (rows_with court t ends) → AddsOnce changes.now ends → AddsAmong (HasDeadline t) changes.now → IfErr result (IsChangeFault (state S.Store tx.old.conn.now) (state S.Store tx.new.conn.now)) }
 {
     'changes: for change in changes {
         change_end(tx, change)?;

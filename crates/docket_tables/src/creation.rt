@@ -48,7 +48,6 @@ fn define_all<S: Alter>(tx: &mut Transaction<'_, S>, all: &[Table]) -> Result<()
     ensures same_reference { tx.new.conn.ghost_name ≡ tx.old.conn.ghost_name }
     ensures inside { StaysInside (state S.Store tx.old.conn.now) (state S.Store tx.new.conn.now) }
     ensures ok { HasCleanDisk (state S.Store tx.new.conn.now) → (state S.Store tx.old.conn.now).now.schema ≡ no_schema → OnOk result (Sees (state S.Store tx.new.conn.now) no_rows) }
-    ensures made { HasCleanDisk (state S.Store tx.new.conn.now) → (state S.Store tx.old.conn.now).now.schema ≡ no_schema → OnOk result (IsMade (state S.Store tx.new.conn.now) (length tables)) }
     ensures cause { HasCleanDisk (state S.Store tx.new.conn.now) → (state S.Store tx.old.conn.now).now.schema ≡ no_schema → IsTrue (state S.Store tx.old.conn.now).in_transaction
         → IfErr result (HasMakingCause (state S.Store tx.old.conn.now) (state S.Store tx.new.conn.now)) }
 {
@@ -67,8 +66,9 @@ fn define_docket<S: Alter>(tx: &mut Transaction<'_, S>, court: &Court) -> Result
     ensures cause { HasCleanDisk (state S.Store tx.new.conn.now) → (state S.Store tx.old.conn.now).now.schema ≡ no_schema → IsTrue (state S.Store tx.old.conn.now).in_transaction
         → IfErr result (HasMakingCause (state S.Store tx.old.conn.now) (state S.Store tx.new.conn.now)) }
 {
-    // Its contract bounds the text of a zone, so that the store takes the court's row.
+    // Their contracts bound the text of a zone and the minute, so that the store takes the court's row.
     let _zone = court.zone_text();
+    let _close = court.close_minute();
     define_all(tx, &TABLES)?;
     insert(tx, Table::Court, &court_values(court, 1))
 }

@@ -8,7 +8,9 @@
 //! A contract sees a connection as the rows that it holds, and that each database holds which a power
 //! failure may leave (`HoldsRows`), and a step of a transaction as the rows that it saw and sees then
 //! (`Inside`). A question fails of the store only for a cause (`IsCaused`): the disk failed or refused more
-//! often than before, memory was refused, or a query came to a limit on steps that was set.
+//! often than before, memory was refused, or a query came to a limit on steps that was set. So does the
+//! making of the tables (`HasMakingCause`), and so do changes of rows that may stand (`HasChangeCause`):
+//! none has the key of another, or what stands once beside it, and its parents stand (`MayStand`).
 #![tactic(auto)]
 
 mod changing;

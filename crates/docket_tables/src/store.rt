@@ -1,5 +1,5 @@
 //! Calls of the database.
-ghost use Rattle.std.specs.Prelude.{◌≡◌, IsTrue, pos, ◌≤◌, ◌<◌, ◌^◌, ◌+◌, [], ◌∷◌, ℕ, List, map, Ok, Err, OnOk, OnErr, IfOk, IfErr, false, true};
+ghost use Rattle.std.specs.Prelude.{◌≡◌, IsTrue, pos, ◌≤◌, ◌<◌, ◌^◌, ◌+◌, [], ◌∷◌, ℕ, List, length, map, Ok, Err, OnOk, OnErr, IfOk, IfErr, false, true};
 ghost use Rattle.sqlite.specs.Given.{IsPlain};
 ghost use Rattle.sqlite.specs.Held.{state};
 ghost use Rattle.sqlite.specs.Listing.{understood};
@@ -11,7 +11,8 @@ ghost use Rattle.docket_columns.specs.Cells.{court_cells, end_cells};
 ghost use Rattle.docket_decisions.specs.EndRows.{changed_ends};
 ghost use Rattle.docket_decisions.specs.declared.end_row.EndChange.TheVariants as end_change;
 ghost use Rattle.docket_decisions.specs.declared.end_row.EndRow.{EndRow as Ended};
-ghost use Rattle.docket_tables.specs.Causes.{IsCaused, Suits};
+ghost use Rattle.docket_tables.specs.Additions.{MayStand};
+ghost use Rattle.docket_tables.specs.Causes.{HasAddCause, HasChangeCause, IsCaused, Suits};
 ghost use Rattle.docket_tables.specs.Holds.{IsKeyed, without_number, without_key};
 ghost use Rattle.sqlite.specs.declared.types.Value.TheVariants.{Int};
 ghost use Rattle.docket_tables.specs.Layouts.{Rows, Fits, with_row, with_rows};
@@ -20,7 +21,6 @@ ghost use Rattle.std.specs.List.{AllByRecursion};
 ghost use Rattle.docket_tables.specs.Queries.{IsAnswer, table_of};
 ghost use Rattle.docket_tables.specs.Schema.{docket_schema};
 ghost use Rattle.docket_tables.specs.Stands.{HoldsRows, Lasts, Sees, StaysInside};
-ghost use Rattle.docket_tables.specs.Texts.{insert_text};
 
 use crate::query::{Query, select_text};
 use crate::statement::{
@@ -96,8 +96,9 @@ pub(crate) fn insert<S: Alter>(
     ensures inside { StaysInside (state S.Store tx.old.conn.now) (state S.Store tx.new.conn.now) }
     ensures ok { HasCleanDisk (state S.Store tx.new.conn.now) → Fits table (bound values.now) → (rows : Rows) → Sees (state S.Store tx.old.conn.now) rows
         → OnOk result (Sees (state S.Store tx.new.conn.now) (with_row table (bound values.now) rows)) }
-    ensures fails { HasCleanDisk (state S.Store tx.new.conn.now) → IsTrue (state S.Store tx.old.conn.now).in_transaction
-        → IfErr result (λ e. ExecutesInside 0 (insert_text table) (bound values.now) (state S.Store tx.old.conn.now) (state S.Store tx.new.conn.now) (Err e)) }
+    // A row that may stand is refused only for a cause.
+    ensures cause { HasCleanDisk (state S.Store tx.new.conn.now) → Fits table (bound values.now) → (rows : Rows) → Sees (state S.Store tx.old.conn.now) rows → MayStand table (bound values.now) rows
+        → IfErr result (HasAddCause table (state S.Store tx.old.conn.now) (state S.Store tx.new.conn.now)) }
 {
     change(tx, insert_text(table), values)
 }
@@ -111,6 +112,8 @@ pub(crate) fn remove_calendar_row<S: Alter>(
     ensures inside { StaysInside (state S.Store tx.old.conn.now) (state S.Store tx.new.conn.now) }
     ensures ok { HasCleanDisk (state S.Store tx.new.conn.now) → (rows : Rows) → AllByRecursion IsKeyed (rows table.Calendar) → Sees (state S.Store tx.old.conn.now) rows
         → OnOk result (Sees (state S.Store tx.new.conn.now) (with_rows table.Calendar (without_number number (rows table.Calendar)) rows)) }
+    ensures cause { HasCleanDisk (state S.Store tx.new.conn.now) → (rows : Rows) → Sees (state S.Store tx.old.conn.now) rows
+        → IfErr result (HasChangeCause (state S.Store tx.old.conn.now) (state S.Store tx.new.conn.now)) }
 {
     change(tx, delete_text(), params![number])
 }
@@ -124,6 +127,8 @@ pub(crate) fn remove_short_day<S: Alter>(
     ensures inside { StaysInside (state S.Store tx.old.conn.now) (state S.Store tx.new.conn.now) }
     ensures ok { HasCleanDisk (state S.Store tx.new.conn.now) → (rows : Rows) → AllByRecursion IsKeyed (rows table.ShortDays) → Sees (state S.Store tx.old.conn.now) rows
         → OnOk result (Sees (state S.Store tx.new.conn.now) (with_rows table.ShortDays (without_number number (rows table.ShortDays)) rows)) }
+    ensures cause { HasCleanDisk (state S.Store tx.new.conn.now) → (rows : Rows) → Sees (state S.Store tx.old.conn.now) rows
+        → IfErr result (HasChangeCause (state S.Store tx.old.conn.now) (state S.Store tx.new.conn.now)) }
 {
     change(tx, delete_short_day_text(), params![number])
 }
@@ -138,6 +143,8 @@ pub(crate) fn remove_end<S: Alter>(
     ensures inside { StaysInside (state S.Store tx.old.conn.now) (state S.Store tx.new.conn.now) }
     ensures ok { HasCleanDisk (state S.Store tx.new.conn.now) → (rows : Rows) → Sees (state S.Store tx.old.conn.now) rows
         → OnOk result (Sees (state S.Store tx.new.conn.now) (with_rows table.Ends (without_key (0 ∷ 1 ∷ []) (Int (pos case) ∷ Int (pos deadline) ∷ []) (rows table.Ends)) rows)) }
+    ensures cause { HasCleanDisk (state S.Store tx.new.conn.now) → (rows : Rows) → Sees (state S.Store tx.old.conn.now) rows
+        → IfErr result (HasChangeCause (state S.Store tx.old.conn.now) (state S.Store tx.new.conn.now)) }
 {
     change(tx, delete_end_text(), params![case, deadline])
 }
@@ -148,6 +155,8 @@ pub(crate) fn move_end<S: Alter>(tx: &mut Transaction<'_, S>, row: &EndRow) -> R
     ensures inside { StaysInside (state S.Store tx.old.conn.now) (state S.Store tx.new.conn.now) }
     ensures ok { HasCleanDisk (state S.Store tx.new.conn.now) → (ends : List Ended) (rows : Rows) → rows table.Ends ≡ map end_cells ends → Sees (state S.Store tx.old.conn.now) rows
         → OnOk result (Sees (state S.Store tx.new.conn.now) (with_rows table.Ends (map end_cells (changed_ends (end_change.Move row.now) ends)) rows)) }
+    ensures cause { HasCleanDisk (state S.Store tx.new.conn.now) → (rows : Rows) → Sees (state S.Store tx.old.conn.now) rows
+        → IfErr result (HasChangeCause (state S.Store tx.old.conn.now) (state S.Store tx.new.conn.now)) }
 {
     change(tx, move_end_text(), &end_values(row))
 }
@@ -164,6 +173,8 @@ pub(crate) fn ask_inside<S: Alter>(
     ensures clean { doubt (state S.Store tx.old.conn.now).is_clean ≤ doubt (state S.Store tx.new.conn.now).is_clean }
     ensures ok { HasCleanDisk (state S.Store tx.new.conn.now) → (rows : Rows) → Sees (state S.Store tx.old.conn.now) rows
         → IfOk result (λ found. Sees (state S.Store tx.new.conn.now) rows × IsAnswer query (bound values.now) (rows (table_of query)) found.items) }
+    ensures cause { HasCleanDisk (state S.Store tx.new.conn.now) → (rows : Rows) → Sees (state S.Store tx.old.conn.now) rows → Suits query (bound values.now)
+        → IfErr result (HasChangeCause (state S.Store tx.old.conn.now) (state S.Store tx.new.conn.now)) }
 {
     tx.query_all(select_text(query), values)
 }
@@ -174,6 +185,8 @@ pub(crate) fn count_calendar_row<S: Alter>(tx: &mut Transaction<'_, S>) -> Resul
     ensures inside { StaysInside (state S.Store tx.old.conn.now) (state S.Store tx.new.conn.now) }
     ensures ok { HasCleanDisk (state S.Store tx.new.conn.now) → (court : CourtSettings) (n : ℕ) (rows : Rows) → n + 1 < 2 ^ 63 → rows table.Court ≡ court_cells court n ∷ [] → Sees (state S.Store tx.old.conn.now) rows
         → OnOk result (Sees (state S.Store tx.new.conn.now) (with_rows table.Court (court_cells court (n + 1) ∷ []) rows)) }
+    ensures cause { HasCleanDisk (state S.Store tx.new.conn.now) → (court : CourtSettings) (n : ℕ) (rows : Rows) → n + 1 < 2 ^ 63 → length court.zone_text ≤ 31 → rows table.Court ≡ court_cells court n ∷ []
+        → Sees (state S.Store tx.old.conn.now) rows → IfErr result (HasChangeCause (state S.Store tx.old.conn.now) (state S.Store tx.new.conn.now)) }
 {
     change(tx, count_text(), &[])
 }

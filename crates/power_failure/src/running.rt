@@ -79,6 +79,7 @@ pub fn run_until_power_fails<D: Crash + Drop>(
     let SessionEnd {
         replies,
         stopped_at,
+        failure: _,
         connection,
     } = session(alloc, conn, commands)?;
     Ok(Interrupted {

@@ -1,5 +1,7 @@
-use Rattle.std.proofs.Common.{◌≡◌, subst}
-use Rattle.std.proofs.lemmas.Result.{IfOk-weaker}
+use Rattle.docket_tables.proofs.ChangeCauses.{fault_after, fault_passed}
+use Rattle.sqlite.specs.State.{HasCleanDisk}
+use Rattle.std.proofs.Common.{◌≡◌, subst, arith}
+use Rattle.std.proofs.lemmas.Result.{IfOk-weaker, IfErr-weaker}
 use Rattle.sqlite.specs.Held.{state}
 use Rattle.docket_decisions.specs.EndRows.{calendar_in}
 use Rattle.docket_tables.specs.AnyRows.{with_stored}
@@ -45,3 +47,18 @@ returns-clause-any g c stored rows =
     let held = with_stored stored rows in
     let settled = c.settle_cases.ensures.any stored rows in
     (settled.0, inside_after start mid new held held (with_stored settled.0 rows) (Unit {0}) c.settle_cases.result (λ _. Unit {0}) (λ _. Unit {0}) (c.in_ok-calendar.ensures.still held) settled.1 (λ a y b. tt))
+
+pub returns-in_err-calendar-clause-cause : goal.returns-in_err-calendar-clause-cause
+returns-in_err-calendar-clause-cause g c clean t ends orderly sound stored only sees =
+    fault_passed (state g.S.Store c.args.tx.now.conn.now) (state g.S.Store c.calendar_standing.new.tx.conn.now) c.in_err-calendar.field-0.0 c.from_residual.result c.from_residual.ensures.1
+    (c.in_err-calendar.ensures.cause clean t ends orderly sound sees)
+
+pub returns-clause-cause : goal.returns-clause-cause
+returns-clause-cause g c clean t ends orderly sound stored only sees =
+    let start = state g.S.Store c.args.tx.now.conn.now in
+    let mid = state g.S.Store c.calendar_standing.new.tx.conn.now in
+    let new = state g.S.Store c.settle_cases.new.tx.conn.now in
+    let between : HasCleanDisk mid = omega (arith, clean, c.settle_cases.ensures.clean) in
+    let went = c.in_ok-calendar.ensures.inside t ends orderly (λ _. sees) in
+    IfErr-weaker c.settle_cases.result _ _ (λ fault h. fault_after start mid new new fault went.0.survives.counts (omega arith) went.0.survives.limit h)
+    (c.settle_cases.ensures.cause clean t ends orderly sound stored only (went.1 between).0)

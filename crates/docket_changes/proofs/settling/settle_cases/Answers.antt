@@ -1,3 +1,5 @@
+use Rattle.docket_tables.proofs.ChangeCauses.{fault_after, fault_passed}
+use Rattle.sqlite.specs.State.{HasCleanDisk}
 use Rattle.std.proofs.Common.{◌≡◌, ◌∙◌, ◌+◌, suc, refl, subst, arith}
 use Rattle.sqlite.specs.Held.{state}
 use Rattle.docket_tables.specs.AnyRows.{with_stored}
@@ -83,3 +85,18 @@ returns-in_err-settle_case-clause-any g c stored rows =
 
 pub returns-clause-any : goal.returns-clause-any
 returns-clause-any g c stored rows = c.cases.invariant.3 stored rows
+
+pub returns-in_err-settle_case-clause-cause : goal.returns-in_err-settle_case-clause-cause
+returns-in_err-settle_case-clause-cause g c clean t ends orderly sound are only sees =
+    let court = c.args.court.now in
+    let entered = c.args.calendar.now in
+    let n = c.cases.done in
+    let start = state g.S.Store c.args.tx.now.conn.now in
+    let mid = state g.S.Store c.cases.tx.conn.now in
+    let new = state g.S.Store c.settle_case.new.tx.conn.now in
+    let before : HasCleanDisk mid = omega (arith, clean, c.settle_case.ensures.clean) in
+    let went = c.cases.invariant.1 t ends orderly are only (λ _. sees) in
+    let fault = c.in_err-settle_case.field-0.0 in
+    fault_passed start new fault c.from_residual.result c.from_residual.ensures.1
+    (fault_after start mid new new fault went.0.survives.counts (omega arith) went.0.survives.limit
+    (c.in_err-settle_case.ensures.cause clean t (settled_cases court entered t n ends) orderly sound (still_stored court entered t n ends are) (went.1 before).0))

@@ -1,3 +1,6 @@
+use Rattle.docket_decisions.specs.Additions.{AddsOnce, AddsAmong}
+use Rattle.docket_orderly.specs.Additions.{HasDeadline}
+use Rattle.docket_changes.specs.Writing.{MayAddEnds}
 use Rattle.std.proofs.Common.{List, ap, sym, subst}
 use Rattle.sqlite.specs.Held.{state}
 use Rattle.docket_decisions.specs.EndRows.{all_changed_ends}
@@ -39,3 +42,14 @@ returns-in-Calendar-clause-any g c stored rows =
     let settled = c.settle_by_rows.ensures.any stored rows in
     subst (λ u. (next : List EndRow) × MayLeave u stored next × Inside old new (with_stored stored rows) (with_stored next rows) c.settle_by_rows.result (λ _. Unit {0})) (sym c.in-Calendar.is)
     (settled.0, tt, settled.1)
+
+pub returns-in-Moves-clause-cause : goal.returns-in-Moves-clause-cause
+returns-in-Moves-clause-cause g c clean t ends may adds sound sees =
+    let asked = subst (λ u. MayAddEnds u t ends) c.in-Moves.is adds in
+    let is = c.as_slice.ensures.value in
+    c.change_ends.ensures.cause clean c.args.court.now t ends sees (subst (λ xs. AddsOnce xs ends) (sym is) asked.0) (subst (AddsAmong (HasDeadline t)) (sym is) asked.1)
+
+pub returns-in-Calendar-clause-cause : goal.returns-in-Calendar-clause-cause
+returns-in-Calendar-clause-cause g c clean t ends may adds sound sees =
+    let asked = subst (λ u. MayUpdate c.args.court.now u t ends) c.in-Calendar.is may in
+    c.settle_by_rows.ensures.cause clean t ends asked.0 sound asked.1 asked.2 sees

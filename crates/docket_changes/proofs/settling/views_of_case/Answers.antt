@@ -1,4 +1,7 @@
-use Rattle.std.proofs.Common.{◌∙◌, ap, sym, subst, map}
+use Rattle.docket_tables.proofs.ChangeCauses.{fault_after, fault_passed}
+use Rattle.docket_tables.specs.declared.fault.ReadFault.TheVariants.{NoMemory}
+use Rattle.sqlite.specs.State.{HasCleanDisk}
+use Rattle.std.proofs.Common.{◌∙◌, ap, sym, subst, map, arith}
 use Rattle.sqlite.specs.Held.{state}
 use Rattle.docket_history.specs.Histories.{deadlines_from}
 use Rattle.docket_tables.specs.Contents.{rows_with}
@@ -70,3 +73,23 @@ returns-clause-still g c rows =
     let mid = state g.S.Store c.deadlines_of_case.new.tx.conn.now in
     let new = state g.S.Store c.acts_of_case.new.tx.conn.now in
     went_after start mid new rows rows rows (Unit {0}) (Unit {0}) (Unit {0}) (c.in_ok-rows.ensures.still rows) (c.in_ok-acts.ensures.still rows) (λ a b. tt)
+
+pub returns-in_err-rows-clause-cause : goal.returns-in_err-rows-clause-cause
+returns-in_err-rows-clause-cause g c clean court t ends orderly sees =
+    fault_passed (state g.S.Store c.args.tx.now.conn.now) (state g.S.Store c.deadlines_of_case.new.tx.conn.now) c.in_err-rows.field-0.0 c.from_residual.result c.from_residual.ensures.1
+    (c.in_err-rows.ensures.cause clean court t ends orderly sees)
+
+pub returns-in_err-acts-clause-cause : goal.returns-in_err-acts-clause-cause
+returns-in_err-acts-clause-cause g c clean court t ends orderly sees =
+    let old = state g.S.Store c.args.tx.now.conn.now in
+    let mid = state g.S.Store c.deadlines_of_case.new.tx.conn.now in
+    let new = state g.S.Store c.acts_of_case.new.tx.conn.now in
+    let between : HasCleanDisk mid = omega (arith, clean, c.acts_of_case.ensures.clean) in
+    let went = c.in_ok-rows.ensures.inside court t ends orderly (λ _. sees) in
+    let fault = c.in_err-acts.field-0.0 in
+    fault_passed old new fault c.from_residual-in_err-acts.result c.from_residual-in_err-acts.ensures.1
+    (fault_after old mid new new fault went.0.survives.counts (omega arith) went.0.survives.limit (c.in_err-acts.ensures.cause clean court t ends orderly (went.1 between).0))
+
+pub returns-in_err-with_acts-clause-cause : goal.returns-in_err-with_acts-clause-cause
+returns-in_err-with_acts-clause-cause g c clean court t ends orderly sees =
+    fault_passed (state g.S.Store c.args.tx.now.conn.now) (state g.S.Store c.acts_of_case.new.tx.conn.now) NoMemory c.from_residual-in_err-with_acts.result c.from_residual-in_err-with_acts.ensures.1 tt

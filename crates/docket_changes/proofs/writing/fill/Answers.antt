@@ -1,3 +1,6 @@
+use Rattle.docket_changes.proofs.WritingCauses.{error_caused}
+use Rattle.docket_tables.proofs.ZoneLengths.{zone_short}
+use Rattle.docket_tables.proofs.ChangeCauses.{change_after, change_passed}
 use Rattle.std.proofs.Common.{arith}
 use Rattle.sqlite.specs.Held.{state}
 use Rattle.sqlite.specs.State.{HasCleanDisk}
@@ -78,3 +81,26 @@ returns-in-Err-clause-any g c n stored rows are small =
     let left = c.update_ends.ensures.any stored then in
     let stays : Stays start new rows = stays_after start mid new rows (with_stored stored then) (Unit {0}) done (λ sees. (left.2 sees).0) in
     (left.0, left.1, λ sees. (stays sees, λ clean. tt))
+
+pub returns-in_err-record-clause-cause : goal.returns-in_err-record-clause-cause
+returns-in_err-record-clause-cause g c clean t ends small may written sees =
+    let court = c.args.court.now in
+    let start = state g.S.Store c.args.tx.now.conn.now in
+    let mid = state g.S.Store c.record.new.tx.conn.now in
+    let short = zone_short court.zone_text c.zone_text-zone.ensures.zone in
+    change_passed start mid c.in_err-record.field-0.0 c.from_residual.result c.from_residual.ensures.1
+    (c.in_err-record.ensures.cause clean court t ends small short sees written.added written.received written.storable written.kept)
+
+pub returns-in-Err-clause-cause : goal.returns-in-Err-clause-cause
+returns-in-Err-clause-cause g c clean t ends small may written sees =
+    let court = c.args.court.now in
+    let then : Tables = with_receipt c.args.command.now c.args.changes.now.reply (all_changed c.args.changes.now.rows.items t) in
+    let start = state g.S.Store c.args.tx.now.conn.now in
+    let mid = state g.S.Store c.record.new.tx.conn.now in
+    let new = state g.S.Store c.update_ends.new.tx.conn.now in
+    let between : HasCleanDisk mid = omega (arith, clean, c.update_ends.ensures.clean) in
+    let now = c.in_ok-record.ensures.ok between court t ends small sees in
+    let survives = c.record.ensures.inside.survives in
+    let cause = c.in-Err.ensures.cause clean then ends may written.ends written.sound now in
+    change_after start mid new new c.store_error.result survives.counts (omega arith) survives.limit
+    (error_caused mid new c.in-Err.fault c.store_error.result c.store_error.ensures.store c.store_error.ensures.short cause)

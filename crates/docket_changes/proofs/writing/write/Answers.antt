@@ -1,4 +1,10 @@
-use Rattle.std.proofs.Common.{◌≡◌, [], IsTrue, false, Ok, Err, MatchResult, IfErr, OnOk, ap, subst, arith, rules}
+use Rattle.sqlite.specs.declared.error.Error.{Error}
+use Rattle.std.proofs.lemmas.Result.{IfErr-weaker}
+use Rattle.docket_changes.proofs.WritingCauses.{change_since}
+use Rattle.docket_tables.proofs.MakingCauses.{commit_caused, open_caused}
+use Rattle.docket_tables.proofs.ChangeCauses.{change_after, change_passed}
+use Rattle.docket_tables.specs.Causes.{HasChangeCause}
+use Rattle.std.proofs.Common.{◌≡◌, [], IsTrue, false, Ok, Err, MatchResult, IfErr, OnOk, inl, ap, sym, subst, arith, rules}
 use Rattle.sqlite.specs.State.{HasCleanDisk, KeepsCounts, Shows as Turns}
 use Rattle.sqlite.specs.Steps.{FailsToCommit}
 use Rattle.sqlite.specs.Held.{state}
@@ -123,3 +129,47 @@ returns-clause-any g c n stored rows are small holds =
       )
     ] c.commit.ensures.ok c.commit.ensures.err in
     (left.0, left.1, subst (λ h. MatchResult c.commit.result (λ _. HoldsRows g.S.Store h next) (λ _. LastsAsEither g.S.Store h rows next)) same ended)
+
+pub returns-in_err-fill-clause-cause : goal.returns-in_err-fill-clause-cause
+returns-in_err-fill-clause-cause g c clean t small holds update written =
+    let court = c.args.court.now in
+    let start = state g.S.Store c.args.conn.now in
+    let begun = state g.S.Store c.transaction-tx.result.conn.now in
+    let last = state g.S.Store c.fill.new.tx.conn.now in
+    let end = c.drop-tx.new.self.0 in
+    let then : Tables = with_receipt c.args.command.now c.args.changes.now.reply (all_changed c.args.changes.now.rows.items t) in
+    let rows : Rows = rows_in court t in
+    let begins = ap (state g.S.Store) c.transaction-tx.ensures.begun in
+    let same : end ≡ c.conn-1.given.0 = search rules in
+    let ended : HasCleanDisk (state g.S.Store end) = subst (λ h. HasCleanDisk (state g.S.Store h)) (sym same) clean in
+    let before : HasCleanDisk last = omega (arith, ended, c.drop-tx.ensures.survives.clean) in
+    let at_begin : HasCleanDisk begun = omega (arith, before, c.fill.ensures.clean) in
+    let was = holds.1 (subst HasCleanDisk begins at_begin) in
+    let e = c.in_err-fill.field-0.0 in
+    let cause = c.in_err-fill.ensures.cause before t (end_rows court t) small (may_update court c.args.update.now t then update) written (begins_seeing start begun rows was begins) in
+    change_passed start (state g.S.Store c.conn-1.given.0) e c.from_residual.result c.from_residual.ensures.1
+    (subst (λ h. HasChangeCause start (state g.S.Store h) e) same (change_since start begun last (state g.S.Store end) e begins c.drop-tx.ensures.survives.counts cause))
+
+pub returns-clause-cause : goal.returns-clause-cause
+returns-clause-cause g c clean t small holds update written =
+    let court = c.args.court.now in
+    let start = state g.S.Store c.args.conn.now in
+    let begun = state g.S.Store c.transaction-tx.result.conn.now in
+    let last = state g.S.Store c.fill.new.tx.conn.now in
+    let end = c.commit.new.self.0 in
+    let then : Tables = with_receipt c.args.command.now c.args.changes.now.reply (all_changed c.args.changes.now.rows.items t) in
+    let rows : Rows = rows_in court t in
+    let begins = ap (state g.S.Store) c.transaction-tx.ensures.begun in
+    let same : end ≡ c.conn-2-1.given.0 = search rules in
+    let ended : HasCleanDisk (state g.S.Store end) = subst (λ h. HasCleanDisk (state g.S.Store h)) (sym same) clean in
+    let before : HasCleanDisk last = omega (arith, ended, c.commit.ensures.survives.clean) in
+    let at_begin : HasCleanDisk begun = omega (arith, before, c.fill.ensures.clean) in
+    let was = holds.1 (subst HasCleanDisk begins at_begin) in
+    let done = c.in_ok-fill.ensures.inside t (end_rows court t) small (may_update court c.args.update.now t then update) (λ _. begins_seeing start begun rows was begins) in
+    let sees = (done.1 before).0 in
+    let caused : (e : Error) → FailsToCommit last (state g.S.Store end) e → HasChangeCause start (state g.S.Store end) e =
+    λ e fails.
+    let cause : HasChangeCause last (state g.S.Store end) e = inl (open_caused last (state g.S.Store end) e sees.shows.is_open (commit_caused last (state g.S.Store end) e sees.begun fails)) in
+    change_since start begun (state g.S.Store end) (state g.S.Store end) e begins (omega arith)
+    (change_after begun last (state g.S.Store end) (state g.S.Store end) e done.0.survives.counts (omega arith) done.0.survives.limit cause) in
+    subst (λ h. IfErr c.commit.result (HasChangeCause start (state g.S.Store h))) same (IfErr-weaker c.commit.result _ _ caused (c.commit.ensures.err ended))

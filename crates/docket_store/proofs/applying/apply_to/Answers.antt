@@ -1,9 +1,10 @@
 use Rattle.std.proofs.Common.{◌≡◌, ◌∙◌, Ok, inr, sym, ap, subst, arith}
 use Rattle.sqlite.specs.Held.{state}
 use Rattle.sqlite.specs.State.{HasCleanDisk}
-use Rattle.docket_decisions.specs.Decisions.{IsAnswer, LeadsTo}
+use Rattle.docket_decisions.specs.Decisions.{IsAnswer, IsChange, LeadsTo}
 use Rattle.docket_history.specs.Histories.{History}
-use Rattle.docket_decisions.specs.Outcomes.{outcome, repeated}
+use Rattle.docket_decisions.specs.Outcomes.{outcome, repeated, shown}
+use Rattle.docket_decisions.specs.Tables.{action_changes}
 use Rattle.docket_decisions.specs.declared.decision.Decision.{Decision}
 use Rattle.docket_store.specs.AnyRows.{RepeatsReceipt}
 use Rattle.docket_store.specs.Applying.{IsAccepted, Keeps, docket_rows}
@@ -12,7 +13,7 @@ use Rattle.docket_store.proofs.AnyLemmas.{unwritten}
 use Rattle.std.proofs.Common.{IfErr, inl as left}
 use Rattle.docket_store.specs.declared.fault.Fault.TheVariants as fault
 use Rattle.docket_store.specs.Causes.{IsCausedBy}
-use Rattle.docket_store.proofs.FailureLemmas.{err_named, err_caused_by}
+use Rattle.docket_store.proofs.FailureLemmas.{err_named, err_caused_by, err_writes, writes_later}
 use Rattle.docket_store.proofs.applying.apply_to.Goals as goal
 
 pub returns-in-Repeat-clause-answer : goal.returns-in-Repeat-clause-answer
@@ -40,6 +41,7 @@ returns-clause-answer g c h stands =
     λ clean. (
       subst (λ (d : Decision). IsAnswer (Ok d) (outcome court h command)) c.in-Change.is (judged.1 clean).0,
       subst (λ (d : Decision). LeadsTo court h command d) c.in-Change.is (judged.1 clean).1,
+      subst (λ (d : Decision). IsChange (action_changes (shown court h command) command.action) d) c.in-Change.is (c.in_ok-decision.ensures.changes h stands clean),
     ) in
     c.keep.ensures.kept h judged.0 (λ clean. (accepts clean, c.as_slice.ensures.value ∙ (judged.1 clean).2 _ (accepts clean).0))
 
@@ -81,3 +83,22 @@ returns-clause-spared g c h stands clean spared =
     let judged = (c.in_ok-decision.ensures.judged h stands).1 early in
     absurd {A = IfErr c.keep.result (IsCausedBy (state g.S.Store c.args.conn.now) (state g.S.Store c.keep.new.conn) c.keep.new.failure)}
     (spared c.in-Change.changes.reply (subst (λ (d : Decision). IsAnswer (Ok d) (outcome court h command)) c.in-Change.is judged.0))
+
+pub returns-in_err-decision-clause-cause : goal.returns-in_err-decision-clause-cause
+returns-in_err-decision-clause-cause g c h stands clean =
+    err_writes c.args.command.now (state g.S.Store c.args.conn.now) (state g.S.Store c.judge.new.conn) c.judge.new.failure c.in_err-decision.field-0.0 c.from_residual-in_err-decision.result c.from_residual-in_err-decision.ensures.1
+    (c.in_err-decision.ensures.cause (docket_rows c.args.court.now h) stands.rows clean)
+
+pub returns-clause-cause : goal.returns-clause-cause
+returns-clause-cause g c h stands clean =
+    let court = c.args.court.now in
+    let command = c.args.command.now in
+    let judged = c.in_ok-decision.ensures.judged h stands in
+    let accepts : HasCleanDisk (state g.S.Store c.judge.new.conn) → IsAccepted court h command c.in-Change.changes =
+    λ clean. (
+      subst (λ (d : Decision). IsAnswer (Ok d) (outcome court h command)) c.in-Change.is (judged.1 clean).0,
+      subst (λ (d : Decision). LeadsTo court h command d) c.in-Change.is (judged.1 clean).1,
+      subst (λ (d : Decision). IsChange (action_changes (shown court h command) command.action) d) c.in-Change.is (c.in_ok-decision.ensures.changes h stands clean),
+    ) in
+    writes_later command (state g.S.Store c.args.conn.now) (state g.S.Store c.judge.new.conn) (state g.S.Store c.keep.new.conn) c.keep.new.failure c.keep.result c.judge.ensures.counts c.judge.ensures.limit
+    (c.keep.ensures.cause h judged.0 (λ clean. (accepts clean, c.as_slice.ensures.value ∙ (judged.1 clean).2 _ (accepts clean).0)) clean)

@@ -1,3 +1,5 @@
+use Rattle.sqlite.specs.Held.{state}
+use Rattle.docket_store.proofs.FailureLemmas.{blamed_caused}
 use Rattle.std.proofs.Common.{◌≡◌, ap, arith, length}
 use Rattle.docket_history.specs.Histories.{case_rows}
 use Rattle.docket_decisions.specs.Tables.{rows_of}
@@ -27,3 +29,8 @@ returns-in-Ok-clause-stays g c rows holds = c.in-Ok.ensures.stays rows holds
 
 pub returns-in-Err-clause-stays : goal.returns-in-Err-clause-stays
 returns-in-Err-clause-stays g c rows holds = c.read_fault.ensures.stays rows (c.in-Err.ensures.stays rows holds)
+
+pub returns-in-Err-clause-cause : goal.returns-in-Err-clause-cause
+returns-in-Err-clause-cause g c rows holds clean =
+    blamed_caused (state g.S.Store c.args.conn.now) (state g.S.Store c.cases.new.conn) (state g.S.Store c.read_fault.new.conn) c.in-Err.fault c.read_fault.new.failure c.read_fault.result c.read_fault.ensures.counts c.read_fault.ensures.blames
+    (c.in-Err.ensures.cause rows holds (omega (arith, c.read_fault.ensures.clean, clean)))

@@ -1,3 +1,4 @@
+use Rattle.docket_store.specs.Applying.{docket_rows}
 use Rattle.std.proofs.Common.{◌≡◌, ◌∙◌, ◌∷◌, false, true, None, IsPermutation, length, sym, subst, arith}
 use Rattle.std.proofs.lemmas.List.Sorted.{IsPermutation-refl}
 use Rattle.docket_decisions.specs.EndRows.{all_changed_ends, end_rows}
@@ -35,3 +36,6 @@ returns-in-None-clause-update g c h stands accepts =
           subst (λ xs. IsPermutation (all_changed_ends xs ends) (end_rows court (rows_of court (command ∷ h)))) (sym c.new.ensures.items)
           (subst (λ after. IsPermutation ends after) (ends_kept court h command none calm) (IsPermutation-refl ends)),
     )
+
+pub returns-then-moves_all_cases-clause-cause : goal.returns-then-moves_all_cases-clause-cause
+returns-then-moves_all_cases-clause-cause g c h stands accepts clean = c.calendar_update.ensures.cause (docket_rows c.args.court.now h) stands.rows clean

@@ -10,8 +10,12 @@ use Rattle.docket_store.specs.Dockets.{serving}
 use Rattle.docket_store.proofs.ApplyLemmas.{after_accepted, docket_after, numbers_fit, rows_after, update_written, holds_same, either_same, faults_of}
 use Rattle.docket_store.proofs.AskLemmas.{applies_err}
 use Rattle.docket_store.proofs.AnyLemmas.{unwritten, written_or_not}
-use Rattle.std.proofs.Common.{◌+◌, ◌<◌, ◌^◌, inr as right, length}
-use Rattle.docket_store.proofs.FailureLemmas.{err_named}
+use Rattle.std.proofs.Common.{◌+◌, ◌<◌, ◌^◌, inr, inr as right, length}
+use Rattle.docket_store.proofs.FailureLemmas.{err_named, err_writes, kept_caused}
+use Rattle.docket_wire.specs.Writing.{canonical}
+use Rattle.docket_tables.proofs.ChangeCauses.{change_after}
+use Rattle.docket_store.specs.Causes.{HasWriteCause}
+use Rattle.docket_store.proofs.WriteLemmas.{lengths, may_write}
 use Rattle.docket_store.proofs.applying.keep.Goals as goal
 
 pub returns-in_err-update-clause-kept : goal.returns-in_err-update-clause-kept
@@ -79,3 +83,32 @@ returns-clause-any g c rows n stored are small holds =
 
 pub returns-in_err-update-clause-named : goal.returns-in_err-update-clause-named
 returns-in_err-update-clause-named g c = err_named c.end_update.new.failure c.in_err-update.field-0.0 c.from_residual.result c.from_residual.ensures.1 c.in_err-update.ensures.named
+
+pub returns-in_err-update-clause-cause : goal.returns-in_err-update-clause-cause
+returns-in_err-update-clause-cause g c h stands accepts clean =
+    err_writes c.args.command.now (state g.S.Store c.args.conn.now) (state g.S.Store c.end_update.new.conn) c.end_update.new.failure c.in_err-update.field-0.0 c.from_residual.result c.from_residual.ensures.1
+    (c.in_err-update.ensures.cause h stands accepts clean)
+
+pub returns-clause-cause : goal.returns-clause-cause
+returns-clause-cause g c h stands accepts clean =
+    let court = c.args.court.now in
+    let command = c.args.command.now in
+    let changes = c.args.changes.now in
+    let start = state g.S.Store c.args.conn.now in
+    let asked_at = state g.S.Store c.end_update.new.conn in
+    let wrote = state g.S.Store c.write.new.conn in
+    let last = state g.S.Store c.store_fault.new.conn in
+    let written : HasCleanDisk wrote = omega (arith, clean, c.store_fault.ensures.clean) in
+    let early : HasCleanDisk asked_at = omega (arith, written, c.write.ensures.clean) in
+    let at_start : HasCleanDisk start = omega (arith, early, c.end_update.ensures.clean) in
+    let asked = c.in_ok-update.ensures.update h stands accepts in
+    let accepted = (accepts at_start).0 in
+    let adds = c.in_ok-update.ensures.adds h stands accepts early in
+    let e = c.in-Err.error in
+    let cause : HasWriteCause command start last e = elim (lengths (length (canonical command)) (10 ^ 7)) [
+      | inl short ↦ inl (change_after start asked_at wrote last e c.end_update.ensures.counts c.store_fault.ensures.counts c.end_update.ensures.limit
+          (c.in-Err.ensures.cause written (rows_of court h) (numbers_fit court h _ stands.docket c.changes_fit.ensures) asked.0.rows (update_written court h command changes c.in_ok-update.update accepted (asked.1 early))
+          (may_write court h command changes c.in_ok-update.update stands.docket c.requires.lawful accepted short adds)))
+      | inr long ↦ inr long
+    ] in
+    kept_caused command start last c.store_fault.new.failure e c.store_fault.result c.store_fault.ensures.kept cause

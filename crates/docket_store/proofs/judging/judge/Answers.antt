@@ -1,4 +1,7 @@
-use Rattle.std.proofs.Common.{IsTrue}
+use Rattle.std.proofs.Common.{IsTrue, subst}
+use Rattle.docket_decisions.specs.Decisions.{IsChange}
+use Rattle.docket_decisions.specs.Tables.{action_changes}
+use Rattle.docket_history.specs.declared.view.View.{View}
 use Rattle.docket_store.proofs.ApplyLemmas.{shown_sound}
 use Rattle.docket_store.proofs.AnyLemmas.{err_preserves, repeat_has, short_preserves}
 use Rattle.docket_store.proofs.FailureLemmas.{err_named, err_caused_by}
@@ -35,3 +38,8 @@ returns-in_err-view-clause-cause g c rows holds clean =
 pub returns-in_err-named-clause-cause : goal.returns-in_err-named-clause-cause
 returns-in_err-named-clause-cause g c rows holds clean =
     err_caused_by (state g.S.Store c.args.conn.now) (state g.S.Store c.look.new.conn) c.look.new.failure fault.NoMemory c.from_residual-in_err-named.result c.from_residual-in_err-named.ensures.1 tt
+
+pub returns-in-Ok-clause-changes : goal.returns-in-Ok-clause-changes
+returns-in-Ok-clause-changes g c h stands clean =
+    let seen = c.in_ok-view.ensures.shown c.args.court.now h stands in
+    subst (λ (v : View). IsChange (action_changes v c.args.command.now.action) c.in-Ok.decision) (seen.1 clean) c.in-Ok.ensures.changes

@@ -25,3 +25,6 @@ returns-in-Err-clause-any g c rows n stored are small holds = c.in-Err.ensures.a
 
 pub returns-in-Err-clause-closes : goal.returns-in-Err-clause-closes
 returns-in-Err-clause-closes g c failed = failed_closes c.args.docket.now.closed c.apply.new.self.closed c.apply.result (λ shut. (c.apply.ensures.closed shut).0) c.apply.ensures.closes (c.in-Err.is ∙ ap Err (same_fault _ c.in-Err.fault StoreFailed refl failed))
+
+pub returns-in-Err-clause-cause : goal.returns-in-Err-clause-cause
+returns-in-Err-clause-cause g c h stands clean failed = c.apply.ensures.cause h stands clean (c.in-Err.is ∙ ap Err (same_fault _ c.in-Err.fault StoreFailed refl failed))

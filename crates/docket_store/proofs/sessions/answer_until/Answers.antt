@@ -1,4 +1,4 @@
-use Rattle.std.proofs.Common.{◌≡◌, ◌+◌, ◌<◌, ℕ, [], ◌∷◌, length, take, refl, sym, ap, subst, ◌∙◌, arith}
+use Rattle.std.proofs.Common.{◌≡◌, ◌+◌, ◌<◌, ℕ, [], ◌∷◌, length, take, Err, refl, sym, ap, subst, ◌∙◌, arith}
 use Rattle.std.proofs.lemmas.List.{length-append}
 use Rattle.court_days.specs.Court.{CourtSettings}
 use Rattle.docket_history.specs.Histories.{History}
@@ -78,3 +78,12 @@ returns-in-Err-clause-steps g c =
 
 pub returns-clause-steps : goal.returns-clause-steps
 returns-clause-steps g c = c.commands.invariant.steps
+
+pub returns-in-Err-clause-cause : goal.returns-in-Err-clause-cause
+returns-in-Err-clause-cause g c h stands clean failed =
+    let i = c.commands.command-index in
+    let cs = c.args.commands.now in
+    let was = c.commands.invariant.answers h stands (omega (arith, clean, c.answer.ensures.clean)) in
+    let before = c.commands.docket in
+    let closed = c.in-Err.ensures.cause (run before.court h (take i cs)) was.0 clean (ap Err failed) in
+    (c.command-item.result, before.conn, closed.0, closed.1, closed.2)

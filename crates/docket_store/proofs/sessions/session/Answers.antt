@@ -7,6 +7,7 @@ use Rattle.docket_tables.specs.Stands.{HoldsRows}
 use Rattle.docket_store.specs.AnyRows.{PreservesRejected}
 use Rattle.docket_store.specs.Causes.{IsCausedOpening}
 use Rattle.docket_store.proofs.AnyLemmas.{err_if}
+use Rattle.docket_store.proofs.FailureLemmas.{stops_passed}
 use Rattle.docket_store.proofs.sessions.session.Goals as goal
 
 pub returns-in-Ok-clause-ends : goal.returns-in-Ok-clause-ends
@@ -45,3 +46,11 @@ pub returns-in_err-docket-clause-cause : goal.returns-in_err-docket-clause-cause
 returns-in_err-docket-clause-cause g c =
     err_if c.from_residual.result (λ returned. HasCleanDisk (state g.S.Store returned.connection) → IsCausedOpening (state g.S.Store c.args.connection) (state g.S.Store returned.connection) returned.failure returned.fault)
     c.in_err-docket.field-0.0 c.from_residual.ensures.1 c.in_err-docket.ensures.cause
+
+pub returns-in-Ok-clause-stops : goal.returns-in-Ok-clause-stops
+returns-in-Ok-clause-stops g c court h is stands clean =
+    let until = c.answer_until-stopped_at in
+    let d = until.new.docket in
+    let was : HasCleanDisk (state g.S.Store d.conn) = subst (λ (x : Held g.row.S.Denot). HasCleanDisk (state g.S.Store x)) c.close.ensures.conn clean in
+    let adopted = c.in_ok-docket.ensures.adopted court h is stands (omega (arith, was, until.ensures.clean)) in
+    stops_passed g.S.Store d.conn c.close.result d.closed_by c.closed_by.result until.result (sym c.close.ensures.conn) (sym c.closed_by.ensures) (until.ensures.cause h adopted.0 was)

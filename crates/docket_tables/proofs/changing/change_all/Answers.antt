@@ -1,3 +1,5 @@
+use Rattle.docket_tables.specs.Additions.{AreStorable, values_added}
+use Rattle.docket_tables.proofs.ChangeCauses.{change_after, change_passed, may_at, each_at}
 use Rattle.std.proofs.Common.{◌≡◌, ◌∙◌, ◌<◌, length, take, get_or, refl, subst, arith, rules}
 use Rattle.std.proofs.lemmas.List.{take_all}
 use Rattle.sqlite.specs.Held.{state}
@@ -56,3 +58,20 @@ returns-clause-any g c clean court n stored rows are small sees =
     let all = c.args.changes.now in
     let done : take c.changes.change-index all ≡ all = take_all _ all (omega (arith, c.changes-test.false)) in
     subst (λ xs. Sees (state g.S.Store c.changes.tx.conn.now) (all_rows_changed court n xs rows)) done (c.changes.invariant.3 clean court n stored rows are small sees)
+
+pub returns-in_err-change_row-clause-cause : goal.returns-in_err-change_row-clause-cause
+returns-in_err-change_row-clause-cause g c clean court t ends small short sees may storable =
+    let all = c.args.changes.now in
+    let i = c.changes.change-index in
+    let change = c.change-item.result in
+    let is : change ≡ get_or all i change = search rules in
+    let inside : i < length all = omega (arith, c.changes-test.true) in
+    let start = state g.S.Store c.args.tx.now.conn.now in
+    let mid = state g.S.Store c.changes.tx.conn.now in
+    let end = state g.S.Store c.change_row.new.tx.conn.now in
+    let survives = c.changes.invariant.1.survives in
+    let was = c.changes.invariant.2 (omega (arith, clean, c.change_row.ensures.inside.survives.clean)) court t ends small sees in
+    let cause = c.in_err-change_row.ensures.cause clean court (all_changed (take i all) t) ends (omega (arith, small, counted_within all t i inside)) short was (may_at all i change t inside is may)
+    (each_at (λ x. AreStorable (values_added x)) all i change inside is storable) in
+    let e = c.in_err-change_row.field-0.0 in
+    change_passed start end e c.from_residual.result c.from_residual.ensures.1 (change_after start mid end end e survives.counts (omega arith) survives.limit cause)

@@ -1,3 +1,8 @@
+use Rattle.std.proofs.Common.{subst, [], ◌∷◌, Err}
+use Rattle.docket_orderly.specs.Additions.{HasDeadline}
+use Rattle.docket_decisions.specs.Additions.{AddsOnce, AddsAmong}
+use Rattle.docket_tables.proofs.ChangeCauses.{fault_told, row_caused}
+use Rattle.docket_tables.proofs.AdditionLemmas.{end_may}
 use Rattle.std.proofs.Common.{◌∙◌, Ok, refl, ap, sym, arith}
 use Rattle.sqlite.specs.Held.{state}
 use Rattle.sqlite.specs.State.{HasCleanDisk}
@@ -98,3 +103,26 @@ returns-in_ok-move_end-in-Move-clause-any g c stored rows sees =
             tt,
           ),
     )
+
+pub returns-in_err-insert-in-Add-clause-cause : goal.returns-in_err-insert-in-Add-clause-cause
+returns-in_err-insert-in-Add-clause-cause g c clean court t ends sees once among =
+    let old = state g.S.Store c.args.tx.now.conn.now in
+    let new = state g.S.Store c.insert.new.tx.conn.now in
+    let row = c.in-Add.row in
+    let alone = subst (λ x. AddsOnce (x ∷ []) ends) c.in-Add.is once in
+    let stands = subst (λ x. AddsAmong (HasDeadline t) (x ∷ [])) c.in-Add.is among in
+    let e = c.in_err-insert-in-Add.field-0.0 in
+    fault_told old new e c.from_residual.result c.from_residual.ensures.1
+    (row_caused {X = Unit {0}} (Err e) old new Ends _ (end_cells row) (rows_with court t ends) c.end_values.ensures refl (end_may court t ends row alone.0 stands.0 c.end_fits.ensures) sees (c.in_err-insert-in-Add.ensures.cause clean))
+
+pub returns-in_err-remove_end-in-Remove-clause-cause : goal.returns-in_err-remove_end-in-Remove-clause-cause
+returns-in_err-remove_end-in-Remove-clause-cause g c clean court t ends sees once among =
+    let old = state g.S.Store c.args.tx.now.conn.now in
+    let new = state g.S.Store c.remove_end.new.tx.conn.now in
+    fault_told old new c.in_err-remove_end-in-Remove.field-0.0 c.from_residual-in_err-remove_end-in-Remove.result c.from_residual-in_err-remove_end-in-Remove.ensures.1 (c.in_err-remove_end-in-Remove.ensures.cause clean (rows_with court t ends) sees)
+
+pub returns-in_err-move_end-in-Move-clause-cause : goal.returns-in_err-move_end-in-Move-clause-cause
+returns-in_err-move_end-in-Move-clause-cause g c clean court t ends sees once among =
+    let old = state g.S.Store c.args.tx.now.conn.now in
+    let new = state g.S.Store c.move_end.new.tx.conn.now in
+    fault_told old new c.in_err-move_end-in-Move.field-0.0 c.from_residual-in_err-move_end-in-Move.result c.from_residual-in_err-move_end-in-Move.ensures.1 (c.in_err-move_end-in-Move.ensures.cause clean (rows_with court t ends) sees)

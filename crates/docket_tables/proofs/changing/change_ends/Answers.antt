@@ -1,3 +1,6 @@
+use Rattle.docket_tables.proofs.ChangeCauses.{fault_after, fault_passed, once_at, among_at}
+use Rattle.docket_orderly.specs.Additions.{HasDeadline}
+use Rattle.sqlite.specs.State.{HasCleanDisk}
 use Rattle.std.proofs.Common.{◌≡◌, ◌<◌, ◌∙◌, length, take, refl, subst, arith}
 use Rattle.std.proofs.lemmas.List.{take_all}
 use Rattle.sqlite.specs.Held.{state}
@@ -80,3 +83,18 @@ returns-clause-any g c stored rows =
     let new = state g.S.Store c.changes.tx.conn.now in
     let done : take c.changes.change-index all ≡ all = take_all _ all (omega (arith, c.changes-test.false)) in
     subst (λ xs. Went start new (with_stored stored rows) (with_stored (all_changed_ends xs stored) rows) (Unit {0})) done (c.changes.invariant.3 stored rows)
+
+pub returns-in_err-change_end-clause-cause : goal.returns-in_err-change_end-clause-cause
+returns-in_err-change_end-clause-cause g c clean court t ends sees once among =
+    let all = c.args.changes.now in
+    let i = c.changes.change-index in
+    let inside : i < length all = omega (arith, c.changes-test.true) in
+    let start = state g.S.Store c.args.tx.now.conn.now in
+    let mid = state g.S.Store c.changes.tx.conn.now in
+    let end = state g.S.Store c.change_end.new.tx.conn.now in
+    let before : HasCleanDisk mid = omega (arith, clean, c.change_end.ensures.clean) in
+    let went = c.changes.invariant.1 court t ends (λ _. sees) in
+    let fault = c.in_err-change_end.field-0.0 in
+    fault_passed start end fault c.from_residual.result c.from_residual.ensures.1
+    (fault_after start mid end end fault went.0.survives.counts (omega arith) went.0.survives.limit
+    (c.in_err-change_end.ensures.cause clean court t (all_changed_ends (take i all) ends) (went.1 before).0 (once_at all i _ ends inside once) (among_at (HasDeadline t) all i _ inside among)))

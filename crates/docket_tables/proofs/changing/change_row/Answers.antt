@@ -1,3 +1,7 @@
+use Rattle.docket_tables.specs.Additions.{AreStorable, values_added}
+use Rattle.docket_orderly.specs.Additions.{MayAdd}
+use Rattle.docket_tables.proofs.AdditionLemmas.{case_may, party_may, entry_may, deadline_may, act_may, local_rule_may}
+use Rattle.docket_tables.proofs.ChangeCauses.{row_caused}
 use Rattle.std.proofs.Common.{◌∙◌, ap, sym, subst, refl}
 use Rattle.std.proofs.lemmas.Result.{IfOk-weaker}
 use Rattle.sqlite.specs.Held.{state}
@@ -123,3 +127,58 @@ returns-in-AddLocalRule-clause-any g c clean court n stored rows are small sees 
     let new = state g.S.Store c.insert-in-AddLocalRule.new.tx.conn.now in
     row_inserted c.insert-in-AddLocalRule.result old new LocalRules _ (local_rule_cells c.in-AddLocalRule.row) rows (row_changed court n c.args.change.now rows) c.local_rule_values.ensures refl
     (λ other. ap (λ x. row_changed court n x rows other) (sym c.in-AddLocalRule.is)) (c.insert-in-AddLocalRule.ensures.ok clean) sees
+
+pub returns-in-AddCalendar-clause-cause : goal.returns-in-AddCalendar-clause-cause
+returns-in-AddCalendar-clause-cause g c clean court t ends small short sees may storable =
+    c.add_calendar_row.ensures.cause clean court t ends small short sees (subst (λ x. MayAdd x t) c.in-AddCalendar.is may) (subst (λ x. AreStorable (values_added x)) c.in-AddCalendar.is storable)
+
+pub returns-in-RemoveCalendar-clause-cause : goal.returns-in-RemoveCalendar-clause-cause
+returns-in-RemoveCalendar-clause-cause g c clean court t ends small short sees may storable = c.withdraw_row.ensures.cause clean court t ends sees
+
+pub returns-in-AddCase-clause-cause : goal.returns-in-AddCase-clause-cause
+returns-in-AddCase-clause-cause g c clean court t ends small short sees may storable =
+    let old = state g.S.Store c.args.tx.now.conn.now in
+    let new = state g.S.Store c.insert.new.tx.conn.now in
+    let row = c.in-AddCase.row in
+    row_caused c.insert.result old new Cases _ (case_cells row) (rows_with court t ends) c.case_values.ensures refl
+    (case_may court t ends row (subst (λ x. MayAdd x t) c.in-AddCase.is may) (subst (λ x. AreStorable (values_added x)) c.in-AddCase.is storable)) sees (c.insert.ensures.cause clean)
+
+pub returns-in-AddParty-clause-cause : goal.returns-in-AddParty-clause-cause
+returns-in-AddParty-clause-cause g c clean court t ends small short sees may storable =
+    let old = state g.S.Store c.args.tx.now.conn.now in
+    let new = state g.S.Store c.insert-in-AddParty.new.tx.conn.now in
+    let row = c.in-AddParty.row in
+    row_caused c.insert-in-AddParty.result old new Parties _ (party_cells row) (rows_with court t ends) c.party_values.ensures refl
+    (party_may court t ends row (subst (λ x. MayAdd x t) c.in-AddParty.is may) (subst (λ x. AreStorable (values_added x)) c.in-AddParty.is storable)) sees (c.insert-in-AddParty.ensures.cause clean)
+
+pub returns-in-AddEntry-clause-cause : goal.returns-in-AddEntry-clause-cause
+returns-in-AddEntry-clause-cause g c clean court t ends small short sees may storable =
+    let old = state g.S.Store c.args.tx.now.conn.now in
+    let new = state g.S.Store c.insert-in-AddEntry.new.tx.conn.now in
+    let row = c.in-AddEntry.row in
+    row_caused c.insert-in-AddEntry.result old new Entries _ (entry_cells row) (rows_with court t ends) c.entry_values.ensures refl
+    (entry_may court t ends row (subst (λ x. MayAdd x t) c.in-AddEntry.is may) (subst (λ x. AreStorable (values_added x)) c.in-AddEntry.is storable)) sees (c.insert-in-AddEntry.ensures.cause clean)
+
+pub returns-in-AddDeadline-clause-cause : goal.returns-in-AddDeadline-clause-cause
+returns-in-AddDeadline-clause-cause g c clean court t ends small short sees may storable =
+    let old = state g.S.Store c.args.tx.now.conn.now in
+    let new = state g.S.Store c.insert-in-AddDeadline.new.tx.conn.now in
+    let row = c.in-AddDeadline.row in
+    row_caused c.insert-in-AddDeadline.result old new Deadlines _ (deadline_cells row) (rows_with court t ends) c.deadline_values.ensures refl
+    (deadline_may court t ends row (subst (λ x. MayAdd x t) c.in-AddDeadline.is may) (subst (λ x. AreStorable (values_added x)) c.in-AddDeadline.is storable)) sees (c.insert-in-AddDeadline.ensures.cause clean)
+
+pub returns-in-AddAct-clause-cause : goal.returns-in-AddAct-clause-cause
+returns-in-AddAct-clause-cause g c clean court t ends small short sees may storable =
+    let old = state g.S.Store c.args.tx.now.conn.now in
+    let new = state g.S.Store c.insert-in-AddAct.new.tx.conn.now in
+    let row = c.in-AddAct.row in
+    row_caused c.insert-in-AddAct.result old new Acts _ (act_cells row) (rows_with court t ends) c.act_values.ensures refl
+    (act_may court t ends row (subst (λ x. MayAdd x t) c.in-AddAct.is may) (subst (λ x. AreStorable (values_added x)) c.in-AddAct.is storable)) sees (c.insert-in-AddAct.ensures.cause clean)
+
+pub returns-in-AddLocalRule-clause-cause : goal.returns-in-AddLocalRule-clause-cause
+returns-in-AddLocalRule-clause-cause g c clean court t ends small short sees may storable =
+    let old = state g.S.Store c.args.tx.now.conn.now in
+    let new = state g.S.Store c.insert-in-AddLocalRule.new.tx.conn.now in
+    let row = c.in-AddLocalRule.row in
+    row_caused c.insert-in-AddLocalRule.result old new LocalRules _ (local_rule_cells row) (rows_with court t ends) c.local_rule_values.ensures refl
+    (local_rule_may court t ends row (subst (λ x. MayAdd x t) c.in-AddLocalRule.is may) (subst (λ x. AreStorable (values_added x)) c.in-AddLocalRule.is storable)) sees (c.insert-in-AddLocalRule.ensures.cause clean)

@@ -1,3 +1,5 @@
+use Rattle.docket_tables.proofs.ChangeCauses.{fault_told, fault_read}
+use Rattle.docket_tables.proofs.CauseLemmas.{number_suits}
 use Rattle.std.proofs.Common.{◌∙◌, ◌==◌, arith}
 use Rattle.sqlite.specs.Held.{state}
 use Rattle.sqlite.specs.State.{HasCleanDisk}
@@ -47,3 +49,19 @@ pub returns-clause-still : goal.returns-clause-still
 returns-clause-still g c rows sees =
     let before : HasCleanDisk (state g.S.Store c.ask_inside.new.tx.conn.now) → HasCleanDisk (state g.S.Store c.args.tx.now.conn.now) = λ clean. omega (arith, c.ask_inside.ensures.clean) in
     (c.in_ok-rows.ensures.inside rows sees, λ clean. still_read c.all_in.result _ (c.in_ok-rows.ensures.ok clean rows (sees (before clean))).0)
+
+pub returns-in_err-rows-clause-cause : goal.returns-in_err-rows-clause-cause
+returns-in_err-rows-clause-cause g c clean court t ends orderly sees =
+    fault_told (state g.S.Store c.args.tx.now.conn.now) (state g.S.Store c.ask_inside.new.tx.conn.now) c.in_err-rows.field-0.0 c.from_residual.result c.from_residual.ensures.1
+    (c.in_err-rows.ensures.cause clean (rows_with court t ends) sees (number_suits c.to_sql.ensures))
+
+pub returns-clause-cause : goal.returns-clause-cause
+returns-clause-cause g c clean court t ends orderly sees =
+    let old = state g.S.Store c.args.tx.now.conn.now in
+    let new = state g.S.Store c.ask_inside.new.tx.conn.now in
+    let asked = c.in_ok-rows.ensures.ok clean (rows_with court t ends) sees in
+    let k = c.args.case in
+    let answer = rw c.to_sql.ensures at asked.1 in
+    let shown = c.in_ok-rows.rows.items in
+    let runs = orderly.acts_run k in
+    fault_read old new _ c.all_in.result (c.all_in.ensures.read (in_turn k t.acts runs) (in_turn_all k t.acts runs IsActRow orderly.acts) (c.as_slice.ensures.value ∙ answered_in_turn k t.acts runs shown answer))

@@ -1,4 +1,7 @@
-use Rattle.std.proofs.Common.{sym, subst}
+use Rattle.docket_tables.proofs.CauseLemmas.{inside_caused}
+use Rattle.docket_tables.specs.Causes.{HasChangeCause}
+use Rattle.sqlite.specs.State.{FailsToQuery, IsTooLate}
+use Rattle.std.proofs.Common.{◌∙◌, ◌⊎◌, inl, inr, sym, subst, IfErr, Ok, Err, true≢false}
 use Rattle.std.proofs.lemmas.Result.{IfOk-weaker}
 use Rattle.sqlite.specs.Given.{IsPlain}
 use Rattle.sqlite.specs.Held.{state}
@@ -25,3 +28,17 @@ returns-clause-ok g c clean rows sees =
       sees_still c.select_text.result.now (bound c.args.values.now) old new plain rows found.items sees shown,
       answered c.args.query (bound c.args.values.now) rows old new found.items sees.shows.schema sees.shows.holds (rw c.select_text.ensures at shown),
     )) (c.query_all.ensures.ok clean)
+
+pub returns-clause-cause : goal.returns-clause-cause
+returns-clause-cause g c clean rows sees suits =
+    let old = state g.S.Store c.args.tx.now.conn.now in
+    let new = state g.S.Store c.query_all.new.self.conn.now in
+    let sql = c.select_text.result.now in
+    let params = bound c.args.values.now in
+    elim c.query_all.result as (λ r. IfErr r (λ e. FailsToQuery sql params old new e ⊎ IsTooLate sql params old new e) → IfErr r (HasChangeCause old new)) [
+      | Ok found ↦ λ _. tt
+      | Err e ↦ λ failed. elim failed [
+        | inl fails ↦ inl (inside_caused c.args.query params rows old new e sees suits (rw c.select_text.ensures at fails))
+        | inr late ↦ absurd (true≢false (sym sees.begun ∙ late.3))
+      ]
+    ] (c.query_all.ensures.err clean)
