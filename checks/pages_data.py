@@ -10,6 +10,7 @@ TOP = os.path.dirname(os.path.dirname(os.path.realpath(__file__)))
 WEEKDAYS = ("Mon", "Tue", "Wed", "Thu", "Fri", "Sat", "Sun")
 STYLE = ("body{font-family:serif;margin:2em}table{border-collapse:collapse;margin:1em 0}"
          "th,td{border:thin solid #888;padding:0.2em 0.6em;text-align:left;vertical-align:top}.number,time{font-family:monospace}"
+         "bdi{overflow-wrap:anywhere}"
          "@media print{body{margin:0}nav{display:none}a{color:inherit;text-decoration:none}thead{display:table-header-group}"
          "tr{break-inside:avoid}}")
 NAV = ('<nav aria-label="Docket"><a href="/pages/cases">Cases</a>\n<form action="/pages/calendar"><label>Deadlines in the seven days from '

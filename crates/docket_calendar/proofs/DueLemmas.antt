@@ -32,7 +32,7 @@ use Rattle.court_rules.specs.LocalRules.{deadline_rule_name}
 use Rattle.court_rules.specs.Standings.{standing}
 use Rattle.court_rules.specs.declared.act.Standing.{Standing}
 use Rattle.court_rules.specs.declared.act.Standing.TheVariants.{Running, Suspended, Awaiting, Done, Vacated}
-use Rattle.docket_decisions.specs.EndRows.{calendar_in, end_row, end_rows, end_running, row_of_deadline, time_of}
+use Rattle.docket_decisions.specs.EndRows.{IsDueEnd, calendar_in, end_row, end_rows, end_running, row_of_deadline, time_of}
 use Rattle.docket_history.specs.Histories.{acts_of_deadline}
 use Rattle.docket_history.specs.Records.{close_of_end}
 use Rattle.docket_decisions.specs.Tables.{Tables}
@@ -40,11 +40,11 @@ use Rattle.docket_decisions.specs.declared.end_row.EndRow.{EndRow}
 use Rattle.docket_history.specs.declared.record.DueRow.{DueRow}
 use Rattle.docket_history.specs.declared.row.ActRow.{ActRow}
 use Rattle.docket_history.specs.declared.row.DeadlineRow.{DeadlineRow}
-use Rattle.docket_columns.specs.Cells.{deadline_cells, end_cells}
+use Rattle.docket_columns.specs.Cells.{deadline_cells, end_cells, moment_cell}
 use Rattle.docket_text.specs.CalendarOrder.{day_of_end, end_cmp, calendar_cmp, IsCalendar}
 use Rattle.docket_text.specs.Times.{shown}
 use Rattle.docket_calendar.specs.Calendar.{row_where, due_of, is_within, due_within}
-use Rattle.docket_calendar.specs.DueCells.{due_cells, IsDueEnd}
+use Rattle.docket_calendar.specs.DueCells.{due_cells}
 use Rattle.docket_calendar.specs.Joined.{joined, shown_cells, order_cells}
 use Rattle.docket_calendar.specs.Question.{days_asked}
 use Rattle.docket_calendar.proofs.JoinLemmas.{passes, keys}
@@ -92,15 +92,15 @@ as_numbers : (m n : ℕ) → int_cmp (pos m) (pos n) ≡ nat_cmp m n
 as_numbers m n = grind (arith, ints)
 
 -- the day that is stored of an end is the one by which it is listed
-day_is : (court : CourtSettings) (end : End) → IsDueEnd end → (time_of (zone_of court) end).day ≡ pos (day_of_end court end)
+day_is : (court : CourtSettings) (end : End) → IsDueEnd end → (time_of (zone_of court) end).day ≡ day_of_end court end
 unfolding shown
 day_is court (LastDay day) due = refl
 day_is court (Moment at) due =
     let same : shown at ≡ seconds at = omega (arith, due) in
-    ap (λ s. pos (local_day (zone_of court) s)) (sym same)
+    ap (local_day (zone_of court)) (sym same)
 
 -- the order of the stored moments is that of the ends
-moments_as : (court : CourtSettings) (a b : End) → IsDueEnd a → IsDueEnd b → int_cmp (time_of (zone_of court) a).moment (time_of (zone_of court) b).moment ≡ end_cmp a b
+moments_as : (court : CourtSettings) (a b : End) → IsDueEnd a → IsDueEnd b → int_cmp (moment_cell (time_of (zone_of court) a).moment) (moment_cell (time_of (zone_of court) b).moment) ≡ end_cmp a b
 moments_as court (LastDay day) (LastDay other) due last = grind (arith, ints)
 moments_as court (Moment at) (Moment other) due last = refl
 moments_as court (Moment (pos n)) (LastDay day) due last = grind (arith, ints, due)
@@ -167,8 +167,8 @@ module _ (court : CourtSettings) (from to : ℕ) where
       let is = day_is court end due in
       let all : (a b c d : Bool) → Bool = λ a b c d. a && (b && (c && (d && true))) in
       (λ i. all ((compared Eq (pos other.case) (pos d.case) ∙ same_number other.case d.case) i) ((compared Eq (pos other.number) (pos d.number) ∙ same_number other.number d.number) i)
-      ((compared Ge (time_of (zone_of court) end).day (pos from) ∙ ap (λ z. test Ge (int_cmp z (pos from))) is ∙ at_least day from) i)
-      ((compared Le (time_of (zone_of court) end).day (pos to) ∙ ap (λ z. test Le (int_cmp z (pos to))) is ∙ at_most day to) i))
+      ((compared Ge (pos (time_of (zone_of court) end).day) (pos from) ∙ ap (λ n. test Ge (int_cmp (pos n) (pos from))) is ∙ at_least day from) i)
+      ((compared Le (pos (time_of (zone_of court) end).day) (pos to) ∙ ap (λ n. test Le (int_cmp (pos n) (pos to))) is ∙ at_most day to) i))
       ∙ four (other.case == d.case) (other.number == d.number) (nat_le from day) (nat_le day to)
 
   abbrev show : DeadlineRow → End → DeadlineRow → Row
@@ -231,9 +231,9 @@ module _ (court : CourtSettings) (from to : ℕ) where
   -- the order of the columns is that of the calendar
   ordered_as : (a b : DueRow) → IsDueEnd a.end → IsDueEnd b.end → on order_cells (key_cmp 0 keys) (due_cells court a) (due_cells court b) ≡ calendar_cmp court a b
   ordered_as a b due last =
-      let day = λ (r : DueRow). (time_of (zone_of court) r.end).day in
-      let moment = λ (r : DueRow). (time_of (zone_of court) r.end).moment in
-      let days : value_cmp (Int (day a)) (Int (day b)) ≡ nat_cmp (day_of_end court a.end) (day_of_end court b.end) = value_cmp-Int (day a) (day b) ∙ ap₂ int_cmp (day_is court a.end due) (day_is court b.end last) ∙ as_numbers (day_of_end court a.end) (day_of_end court b.end) in
+      let day = λ (r : DueRow). pos (time_of (zone_of court) r.end).day in
+      let moment = λ (r : DueRow). moment_cell (time_of (zone_of court) r.end).moment in
+      let days : value_cmp (Int (day a)) (Int (day b)) ≡ nat_cmp (day_of_end court a.end) (day_of_end court b.end) = value_cmp-Int (day a) (day b) ∙ ap₂ (λ m n. int_cmp (pos m) (pos n)) (day_is court a.end due) (day_is court b.end last) ∙ as_numbers (day_of_end court a.end) (day_of_end court b.end) in
       let ends : value_cmp (Int (moment a)) (Int (moment b)) ≡ end_cmp a.end b.end = value_cmp-Int (moment a) (moment b) ∙ moments_as court a.end b.end due last in
       (λ i. first_of (days i) (ends i) ((value_cmp-Int (pos a.case) (pos b.case) ∙ as_numbers a.case b.case) i) ((value_cmp-Int (pos a.number) (pos b.number) ∙ as_numbers a.number b.number) i))
       ∙ ap (λ o. ordering_then (nat_cmp (day_of_end court a.end) (day_of_end court b.end)) (ordering_then (end_cmp a.end b.end) (ordering_then (nat_cmp a.case b.case) o))) (then_equal (nat_cmp a.number b.number))
@@ -248,7 +248,7 @@ module _ (court : CourtSettings) (from to : ℕ) where
   apart_cells : (a b : DueRow) → (a.case == b.case && a.number == b.number) ≡ false → is_eq (order (due_cells court a) (due_cells court b)) ≡ false
   apart_cells a b off =
       let keys_off : (is_eq (value_cmp (Int (pos a.case)) (Int (pos b.case))) && is_eq (value_cmp (Int (pos a.number)) (Int (pos b.number)))) ≡ false = ap₂ (λ x y. x && y) (equal_as a.case b.case) (equal_as a.number b.number) ∙ off in
-      not_equal (value_cmp (Int (time_of (zone_of court) a.end).day) (Int (time_of (zone_of court) b.end).day)) (value_cmp (Int (time_of (zone_of court) a.end).moment) (Int (time_of (zone_of court) b.end).moment)) _ _ keys_off
+      not_equal (value_cmp (Int (pos (time_of (zone_of court) a.end).day)) (Int (pos (time_of (zone_of court) b.end).day))) (value_cmp (Int (moment_cell (time_of (zone_of court) a.end).moment)) (Int (moment_cell (time_of (zone_of court) b.end).moment))) _ _ keys_off
 
   -- the rows of one deadline are apart from those of others
   abbrev IsPart : DeadlineRow → List Row → Type 0

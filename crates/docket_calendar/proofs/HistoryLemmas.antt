@@ -1,20 +1,17 @@
 -- The deadlines of a history whose times run, as they can be listed.
 use Rattle.std.proofs.Common.{◌≡◌, ℕ, ◌<◌, List, length, All, refl, arith}
 use Rattle.std.specs.List.{AllByRecursion}
-use Rattle.std.proofs.lemmas.List.Elements.{All-from_recursion, recursion_from_All}
+use Rattle.std.proofs.lemmas.List.Elements.{All-from_recursion}
 use Rattle.std.proofs.lemmas.List.Sorted.{All-permutation, IsPermutation-sym}
-use Rattle.sqlite_keyed.proofs.ListLemmas.{all_weaker}
 use Rattle.sqlite_keyed.proofs.SortLemmas.{IsPermutation-sort_by}
 use Rattle.sqlite_trees.proofs.ListLemmas.{all-filter, all-flat_map}
 use Rattle.court_days.specs.Court.{CourtSettings, zone_of}
 use Rattle.court_days.specs.declared.filing.End.{End}
-use Rattle.court_days.proofs.CourtLemmas.{zone_of-is_zone}
 use Rattle.court_rules.specs.Standings.{standing}
 use Rattle.court_rules.specs.declared.act.Standing.{Standing}
 use Rattle.court_rules.specs.declared.act.Standing.TheVariants.{Running, Suspended, Awaiting, Done, Vacated}
-use Rattle.docket_history.specs.CalendarItems.{IsEnteredItem}
-use Rattle.docket_decisions.specs.EndRows.{calendar_in}
-use Rattle.docket_history.specs.Histories.{History, items_of, standing_rows, case_rows, deadlines_of_case, acts_of_deadline}
+use Rattle.docket_decisions.specs.EndRows.{IsDueEnd, calendar_in}
+use Rattle.docket_history.specs.Histories.{History, case_rows, acts_of_deadline}
 use Rattle.docket_decisions.specs.Outcomes.{IsHistory}
 use Rattle.docket_decisions.specs.Tables.{Tables, rows_of}
 use Rattle.docket_history.specs.declared.record.DueRow.{DueRow}
@@ -28,11 +25,11 @@ use Rattle.docket_wire.specs.Valid.{IsCommand}
 use Rattle.docket_orderly.specs.Orderly.{IsCourtSettings}
 use Rattle.docket_orderly.proofs.DeadlineLemmas.{no_deadlines}
 use Rattle.docket_orderly.proofs.DocketLemmas.{orderly}
+use Rattle.docket_orderly.proofs.EndLemmas.{ends_due}
 use Rattle.docket_calendar.specs.Calendar.{row_where, due_of, running, due_within, calendar_rows}
-use Rattle.docket_calendar.specs.DueCells.{IsDueEnd, IsDue}
+use Rattle.docket_calendar.specs.DueCells.{IsDue}
 use Rattle.docket_calendar.proofs.DueLemmas.{HaveEnds, all_two, few_listed}
-use Rattle.docket_calendar.proofs.EndBounds.{ends_are_due, calendar_within}
-use Rattle.docket_calendar.proofs.KeyLemmas.{Apart, IsAmong, apart, of_each, numbered_within, few_of_cases}
+use Rattle.docket_calendar.proofs.KeyLemmas.{Apart, apart, few_of_cases}
 use Rattle.docket_calendar.proofs.Sorting.{sorted-sort_by}
 
 -- the deadlines of the tables can be listed
@@ -48,14 +45,10 @@ listable court h settings is all =
     let ds = t.deadlines in
     let held = orderly court h settings is all in
     let within = within_limits court h is in
-    let limits = calendar_within (items_of (standing_rows h)) (recursion_from_All IsEnteredItem (items_of (standing_rows h)) within.items) in
     let count = few_of_cases (length (case_rows h)) ds within.deadlines (no_deadlines court h is) in
-    let among : AllByRecursion (λ (d : DeadlineRow). IsAmong (length (deadlines_of_case d.case ds)) d) ds =
-    of_each (λ k d. IsAmong (length (deadlines_of_case k ds)) d) ds (λ k. numbered_within 1 (length (deadlines_of_case k ds)) (deadlines_of_case k ds) (omega arith) (omega arith) (held.deadlines_run k)) in
     record {
       apart = apart ds held.deadlines_run;
-      ends = all_weaker _ (λ (d : DeadlineRow). (end : End) → standing (zone_of court) (calendar_in t) (acts_of_deadline d.case d.number t.acts) ≡ Running end → IsDueEnd end)
-          (λ d place end runs. ends_are_due (calendar_in t) limits (zone_of court) (zone_of-is_zone court) (acts_of_deadline d.case d.number t.acts) end (within.acts d.case d.number place.0 place.1) runs) ds among;
+      ends = ends_due court h is;
       fit = held.deadlines;
       few = omega (arith, count, within.cases);
     }

@@ -98,27 +98,6 @@ module _ {X : Type 0} (show : DeadlineRow → X) where
   once [] off = tt
   once (d ∷ ds) off = (ap (λ (b : Bool). cond b (show d ∷ []) [] ++ those d ds) (itself d) ∙ ap (λ (xs : List X). show d ∷ xs) (none_there d ds off.0), behind d ds ds off.0 (once ds off.1))
 
--- what holds of the deadlines of each case holds of all
-pub of_each : (P : ℕ → DeadlineRow → Type 0) (ds : List DeadlineRow) → ((k : ℕ) → AllByRecursion (P k) (deadlines_of_case k ds)) → AllByRecursion (λ d. P d.case d) ds
-of_each P [] all = tt
-of_each P (d ∷ ds) all = (first (d.case == d.case) (grind (arith, nat_tests)) (all d.case), of_each P ds (λ k. rest k (d.case == k) (all k)))
-  where
-    first : (b : Bool) → b ≡ true → AllByRecursion (P d.case) (cond b (d ∷ deadlines_of_case d.case ds) (deadlines_of_case d.case ds)) → P d.case d
-    first true e h = h.0
-    first false e h = absurd (let no = e in cc)
-
-    rest : (k : ℕ) (b : Bool) → AllByRecursion (P k) (cond b (d ∷ deadlines_of_case k ds) (deadlines_of_case k ds)) → AllByRecursion (P k) (deadlines_of_case k ds)
-    rest k true h = h.1
-    rest k false h = h
-
-abbrev pub IsAmong : ℕ → DeadlineRow → Type 0
-IsAmong count d = (1 ≤ d.number) × (d.number ≤ count)
-
-pub numbered_within : (n count : ℕ) (ds : List DeadlineRow) → 1 ≤ n → n + length ds ≤ count + 1 → RunsFrom n (numbers ds) → AllByRecursion (IsAmong count) ds
-numbered_within n count [] low high runs = tt
-numbered_within n count (d ∷ ds) low high runs =
-    ((omega (arith, low, runs.0), omega (arith, high, runs.0)), numbered_within (suc n) count ds (omega (arith, low)) (omega (arith, high)) runs.1)
-
 -- how many there are
 
 abbrev others : ℕ → List DeadlineRow → List DeadlineRow

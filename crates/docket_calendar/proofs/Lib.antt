@@ -1,6 +1,5 @@
 mod CauseLemmas
 pub mod DueLemmas
-pub mod EndBounds
 pub mod HistoryLemmas
 pub mod JoinLemmas
 pub mod JoinMeans

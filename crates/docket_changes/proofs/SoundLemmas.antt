@@ -124,16 +124,19 @@ module _ (zone : ZoneRules) where
   passed_if None is = refl
   passed_if (Some d) is = acts_passed d is
 
-pub sound_told : (court : CourtSettings) (v : View) → length v.calendar ≤ 4000 → v.next_row ≤ 4_294_967_296 → list_all is_entered_item v.calendar ≡ true → is_lawful (zone_of court) (deadline_shown v) ≡ true → IsSoundView court v
-sound_told court v few next items lawful = record {
-  items = all_told is_entered_item IsEnteredItem item_told v.calendar items;
+pub sound_told : (court : CourtSettings) (v : View) → All IsEnteredItem v.calendar → length v.calendar ≤ 4000 → v.next_row ≤ 4_294_967_296 → is_lawful (zone_of court) (deadline_shown v) ≡ true → IsSoundView court v
+sound_told court v entered few next lawful = record {
+  items = entered;
   rows = few;
   next_row = next;
   acts = lawful_told (zone_of court) (deadline_shown v) lawful;
 }
 
-pub items_passed : (court : CourtSettings) (v : View) → IsSoundView court v → list_all is_entered_item v.calendar ≡ true
-items_passed court v is = all_passed is_entered_item IsEnteredItem item_passed v.calendar is.items
+pub items_told : (items : List CalendarItem) → list_all is_entered_item items ≡ true → All IsEnteredItem items
+items_told items e = all_told is_entered_item IsEnteredItem item_told items e
+
+pub items_passed : (items : List CalendarItem) → All IsEnteredItem items → list_all is_entered_item items ≡ true
+items_passed items all = all_passed is_entered_item IsEnteredItem item_passed items all
 
 pub lawful_passed : (court : CourtSettings) (v : View) → IsSoundView court v → is_lawful (zone_of court) (deadline_shown v) ≡ true
 lawful_passed court v is = passed_if (zone_of court) (deadline_shown v) is.acts
@@ -141,14 +144,14 @@ lawful_passed court v is = passed_if (zone_of court) (deadline_shown v) is.acts
 module _ (court : CourtSettings) (items : List CalendarItem) (ds : List DeadlineView) where
   pub case_told : length items ≤ 4000 → length ds ≤ 1000 → list_all is_entered_item items ≡ true → are_lawful (zone_of court) ds ≡ true → IsSoundCase court items ds
   case_told rows few entered lawful = record {
-    entered = all_told is_entered_item IsEnteredItem item_told items entered;
+    entered = items_told items entered;
     rows = rows;
     few = few;
     acts = all_told (λ (d : DeadlineView). are_acts (zone_of court) d.acts) (λ (d : DeadlineView). AreActs (zone_of court) d.acts) (acts_told (zone_of court)) ds lawful;
   }
 
   pub case_items_passed : IsSoundCase court items ds → list_all is_entered_item items ≡ true
-  case_items_passed is = all_passed is_entered_item IsEnteredItem item_passed items is.entered
+  case_items_passed is = items_passed items is.entered
 
   pub case_acts_passed : IsSoundCase court items ds → are_lawful (zone_of court) ds ≡ true
   case_acts_passed is = all_passed (λ (d : DeadlineView). are_acts (zone_of court) d.acts) (λ (d : DeadlineView). AreActs (zone_of court) d.acts) (acts_passed (zone_of court)) ds is.acts

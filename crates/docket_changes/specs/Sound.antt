@@ -49,7 +49,11 @@ abbrev pub is_lawful : ZoneRules → Option DeadlineView → Bool
 is_lawful zone None = true
 is_lawful zone (Some d) = are_acts zone d.acts
 
--- a court may enter each item of the calendar, at most 4,000 of them, and the deadlines of a case have lawful acts, at most 1,000
+-- a court may enter each item of the calendar, at most 4,000 of them
+abbrev pub IsSoundCalendar : List CalendarItem → Type 0
+IsSoundCalendar items = All IsEnteredItem items × (length items ≤ 4000)
+
+-- so it is, and the deadlines of a case have lawful acts, at most 1,000
 -- deadlines
 pub record IsSoundCase (court : CourtSettings) (items : List CalendarItem) (deadlines : List DeadlineView) : Type 0 where
   pub entered : All IsEnteredItem items
@@ -57,7 +61,7 @@ pub record IsSoundCase (court : CourtSettings) (items : List CalendarItem) (dead
   pub few : length deadlines ≤ 1000
   pub acts : All (λ d. AreActs (zone_of court) d.acts) deadlines
 
--- so it is of the calendar of the tables, and of the deadlines of each case
+-- the calendar of the tables is sound so, and so are the deadlines of each case
 pub record AreSound (court : CourtSettings) (t : Tables) : Type 0 where
   pub calendar : IsSoundCase court (items_of t.calendar) []
   pub cases : (k : ℕ) → IsSoundCase court [] (deadlines_in t k)

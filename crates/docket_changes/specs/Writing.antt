@@ -15,7 +15,8 @@ use Rattle.docket_changes.specs.Sound.{AreSound}
 use Rattle.docket_changes.specs.declared.moving.EndUpdate.{EndUpdate}
 use Rattle.docket_changes.specs.declared.moving.EndUpdate.TheVariants.{Moves, Calendar}
 
--- where ends are moved, none is added beside one of its deadline, and each to a deadline that stands
+-- where the changes of ends are given, each that is added is of a deadline that stands and has none then; where they follow from the
+-- calendar, nothing is asked of them
 abbrev pub MayAddEnds : EndUpdate → Tables → List EndRow → Type 0
 MayAddEnds (Moves moves) t ends = AddsOnce moves.items ends × AddsAmong (HasDeadline t) moves.items
 MayAddEnds (Calendar cases) t ends = Unit {0}

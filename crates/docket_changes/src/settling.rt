@@ -15,7 +15,7 @@ ghost use Rattle.docket_tables.specs.AnyRows.{with_stored};
 ghost use Rattle.docket_tables.specs.Contents.{AreStored, rows_with};
 ghost use Rattle.docket_tables.specs.Layouts.{Rows};
 ghost use Rattle.docket_orderly.specs.Orderly.{IsOrderly};
-ghost use Rattle.docket_tables.specs.Causes.{IsChangeFault};
+ghost use Rattle.docket_tables.specs.Causes.{IsChangeFault, IsReadingFault};
 ghost use Rattle.docket_tables.specs.declared.fault.ReadFault.TheVariants.{NoMemory};
 ghost use Rattle.docket_changes.specs.Sound.{AreSound, IsSoundCase};
 ghost use Rattle.docket_changes.specs.Writing.{MayAddEnds};
@@ -45,7 +45,7 @@ fn views_of_case<S: Alter>(
         (λ found. found.items ≡ deadlines_from case 1 t.acts (deadlines_of_case case t.deadlines)) }
     ensures still { (rows : Rows) → Inside (state S.Store tx.old.conn.now) (state S.Store tx.new.conn.now) rows rows result (λ _. Unit {0}) }
     ensures cause { HasCleanDisk (state S.Store tx.new.conn.now) → (court : CourtSettings) (t : Tables) (ends : List Ended) → IsOrderly court t
-        → Sees (state S.Store tx.old.conn.now) (rows_with court t ends) → IfErr result (IsChangeFault (state S.Store tx.old.conn.now) (state S.Store tx.new.conn.now)) }
+        → Sees (state S.Store tx.old.conn.now) (rows_with court t ends) → IfErr result (IsReadingFault (state S.Store tx.old.conn.now) (state S.Store tx.new.conn.now)) }
 {
     let rows = inside::deadlines_of_case(tx, alloc, case)?;
     let acts = inside::acts_of_case(tx, alloc, case)?;
@@ -159,7 +159,7 @@ fn calendar_standing<S: Alter>(
         → Inside (state S.Store tx.old.conn.now) (state S.Store tx.new.conn.now) (rows_with court.now t ends) (rows_with court.now t ends) result (λ calendar. calendar ≡ calendar_in t) }
     ensures still { (rows : Rows) → Inside (state S.Store tx.old.conn.now) (state S.Store tx.new.conn.now) rows rows result (λ _. Unit {0}) }
     ensures cause { HasCleanDisk (state S.Store tx.new.conn.now) → (t : Tables) (ends : List Ended) → IsOrderly court.now t → AreSound court.now t
-        → Sees (state S.Store tx.old.conn.now) (rows_with court.now t ends) → IfErr result (IsChangeFault (state S.Store tx.old.conn.now) (state S.Store tx.new.conn.now)) }
+        → Sees (state S.Store tx.old.conn.now) (rows_with court.now t ends) → IfErr result (IsReadingFault (state S.Store tx.old.conn.now) (state S.Store tx.new.conn.now)) }
 {
     let rows = inside::calendar(tx, alloc)?;
     calendar_of_rows(alloc, court, rows.as_slice())

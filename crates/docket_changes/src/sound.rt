@@ -5,7 +5,7 @@ ghost use Rattle.court_days.specs.Court.{zone_of};
 ghost use Rattle.court_rules.specs.Acts.{is_instant, is_entered_day};
 ghost use Rattle.docket_decisions.specs.Decisions.{IsSoundView};
 ghost use Rattle.docket_history.specs.Views.{deadline_shown};
-ghost use Rattle.docket_changes.specs.Sound.{is_entered_item, begins_in_time, are_acts, are_lawful, is_lawful, IsSoundCase};
+ghost use Rattle.docket_changes.specs.Sound.{is_entered_item, begins_in_time, are_acts, are_lawful, is_lawful, IsSoundCalendar, IsSoundCase};
 
 use court_days::{Court, Day, is_entered};
 use court_rules::{Act, Start, acts_ok};
@@ -101,11 +101,22 @@ fn is_lawful(court: &Court, view: &View) -> bool
 pub fn is_sound(court: &Court, view: &View) -> bool
     ensures { IsTrue result ↔ IsSoundView court.now view.now }
 {
-    let items = view.calendar.as_slice();
-    if items.len() > MOST_ROWS || view.next_row > LAST_ROW {
+    // Its contract says that a court may enter what stands in the calendar.
+    let _items = view.calendar.as_slice();
+    if view.next_row > LAST_ROW {
         return false;
     }
-    are_entered_items(items) && is_lawful(court, view)
+    is_lawful(court, view)
+}
+
+/// Whether these may be the items of a calendar.
+pub fn is_sound_calendar(items: &[CalendarItem]) -> bool
+    ensures { IsTrue result ↔ IsSoundCalendar items.now }
+{
+    if items.len() > MOST_ROWS {
+        return false;
+    }
+    are_entered_items(items)
 }
 
 /// Whether a history can show these deadlines of a case, beside a calendar of these items.

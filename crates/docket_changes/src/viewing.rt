@@ -22,9 +22,9 @@ ghost use Rattle.docket_tables.specs.Stands.{HoldsRows};
 use crate::gathering::{items_of, with_acts};
 use docket_command::{Action, Command, LocalRule};
 use docket_history::{
-    Acts, CalendarItems, CaseView, DeadlineView, View, asks_cases, asks_deadlines, asks_entries,
-    asks_local_rules, asks_next_row, asks_parties, case_named, deadline_named, is_served_among,
-    rule_name_asked,
+    Acts, CalendarItem, CaseView, DeadlineView, StandingCalendar, View, asks_cases, asks_deadlines,
+    asks_entries, asks_local_rules, asks_next_row, asks_parties, case_named, deadline_named,
+    is_served_among, rule_name_asked,
 };
 use docket_tables::{
     ReadFault, acts_of_case, acts_of_deadline, calendar, cases, count_deadlines, count_entries,
@@ -111,8 +111,8 @@ fn is_asked_row_standing<S: Alter>(
 pub fn calendar_items<S: Alter>(
     conn: &mut Connection<S>,
     alloc: Global,
-) -> Result<CalendarItems, ReadFault>
-    ensures read { Reads S.Store conn.old conn.new result (λ _ t found. found ≡ items_of t.calendar) }
+) -> Result<Vec<CalendarItem>, ReadFault>
+    ensures read { Reads S.Store conn.old conn.new result (λ _ t found. found.items ≡ items_of t.calendar) }
     ensures stays { (rows : Rows) → HoldsRows S.Store conn.old rows → Stays S.Store conn.new rows result }
     ensures clean { doubt (state S.Store conn.old).is_clean ≤ doubt (state S.Store conn.new).is_clean }
     ensures mode { conn.old.in_transaction ≡ false → conn.new.in_transaction ≡ false }
@@ -121,7 +121,7 @@ pub fn calendar_items<S: Alter>(
     ensures cause { (rows : Rows) → HoldsRows S.Store conn.old rows → HasCleanDisk (state S.Store conn.new) → FailsForCause (state S.Store conn.old) (state S.Store conn.new) result }
 {
     let rows = calendar(conn, alloc)?;
-    Ok(CalendarItems::new(items_of(alloc, rows.as_slice())?))
+    Ok(items_of(alloc, rows.as_slice())?)
 }
 
 /// The deadlines of a case, each with its acts.
@@ -402,7 +402,7 @@ pub fn view<S: Alter>(
     alloc: Global,
     command: &Command,
     body: &str,
-    calendar: CalendarItems,
+    calendar: StandingCalendar,
 ) -> Result<View, ReadFault>
     requires body { body.now ≡ canonical command.now }
     requires lawful { IsCommand command.now }

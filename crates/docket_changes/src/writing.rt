@@ -11,7 +11,7 @@ ghost use Rattle.docket_tables.specs.Contents.{rows_in, rows_with};
 ghost use Rattle.docket_tables.specs.Layouts.{Rows};
 ghost use Rattle.docket_tables.specs.Stands.{HoldsRows, Inside, LastsAsEither, Sees};
 ghost use Rattle.docket_decisions.specs.EndRows.{end_rows};
-ghost use Rattle.docket_tables.specs.Causes.{HasChangeCause};
+ghost use Rattle.docket_tables.specs.Causes.{HasChangeCause, IsLater};
 ghost use Rattle.docket_tables.specs.declared.fault.ReadFault.TheVariants.{Store, NoMemory};
 ghost use Rattle.sqlite.specs.declared.error.Error.{Error as Failed};
 ghost use Rattle.sqlite.specs.declared.error.Error.TheVariants.{SqliteFailure};
@@ -65,7 +65,8 @@ fn fill<S: Alter>(
         → MayUpdate court.now update.now (with_receipt command.now changes.now.reply (all_changed changes.now.rows.items t)) ends → MayWrite court.now update.now command.now changes.now.rows.items changes.now.reply t ends
         → Sees (state S.Store tx.old.conn.now) (rows_with court.now t ends) → IfErr result (HasChangeCause (state S.Store tx.old.conn.now) (state S.Store tx.new.conn.now)) }
 {
-    // Its contract bounds the text of a zone, so that the store takes the court's row.
+    // Its contract bounds the text of the zone: a new row of the calendar is counted in the court's row,
+    // which is written anew.
     let _zone = court.zone_text();
     record(tx, command, body, changes)?;
     match update_ends(tx, alloc, court, update) {
@@ -100,6 +101,9 @@ pub fn write<S: Alter>(
         → (next : List Ended) × MayLeave update.now stored next
         × MatchResult result (λ _. HoldsRows S.Store conn.new (with_stored next (recorded court.now n command.now changes.now.reply changes.now.rows.items rows)))
         (λ _. LastsAsEither S.Store conn.new rows (with_stored next (recorded court.now n command.now changes.now.reply changes.now.rows.items rows))) }
+    // It stays the same connection, on which faults are counted on.
+    ensures later { HasCleanDisk (state S.Store conn.new) → (t : Tables) → t.next_row + length changes.now.rows.items < 2 ^ 63 → HoldsRows S.Store conn.old (rows_in court.now t)
+        → IsUpdate court.now update.now t (with_receipt command.now changes.now.reply (all_changed changes.now.rows.items t)) → IsLater (state S.Store conn.old) (state S.Store conn.new) }
     // What may be written fails only for a cause.
     ensures cause { HasCleanDisk (state S.Store conn.new) → (t : Tables) → t.next_row + length changes.now.rows.items < 2 ^ 63 → HoldsRows S.Store conn.old (rows_in court.now t)
         → IsUpdate court.now update.now t (with_receipt command.now changes.now.reply (all_changed changes.now.rows.items t)) → MayWrite court.now update.now command.now changes.now.rows.items changes.now.reply t (end_rows court.now t)

@@ -1,5 +1,5 @@
 -- The rows of the docket's tables in SQL: the values of the columns, in order.
-use Rattle.std.specs.Prelude.{◌≡◌, ℕ, pos, List, [], ◌∷◌, codes, if◌then◌else◌, Option, Some, None}
+use Rattle.std.specs.Prelude.{◌≡◌, ℕ, ℤ, pos, List, [], ◌∷◌, codes, if◌then◌else◌, Option, Some, None}
 use Rattle.std.specs.Str.{bytes_eq}
 use Rattle.sqlite_value.specs.declared.value.Value.{Value}
 use Rattle.sqlite_value.specs.declared.value.Value.TheVariants.{Int, Text}
@@ -83,9 +83,17 @@ act_cells r =
     ∷ Int (pos (act_code r.act).kind) ∷ Int (act_code r.act).p1 ∷ Int (pos (act_code r.act).p2)
     ∷ Int (pos (act_code r.act).p3) ∷ Int (pos (act_code r.act).p4) ∷ Int (pos (act_code r.act).p5) ∷ []
 
+-- what stands in place of an instant where the time runs to the end of its last day
+abbrev pub whole_day : ℤ
+whole_day = pos 9_999_999_999_999
+
+abbrev pub moment_cell : Option ℤ → ℤ
+moment_cell None = whole_day
+moment_cell (Some at) = at
+
 -- due: case_no, deadline_no, day, moment
 abbrev pub end_cells : EndRow → Row
-end_cells r = Int (pos r.case) ∷ Int (pos r.deadline) ∷ Int r.end.day ∷ Int r.end.moment ∷ []
+end_cells r = Int (pos r.case) ∷ Int (pos r.deadline) ∷ Int (pos r.end.day) ∷ Int (moment_cell r.end.moment) ∷ []
 
 -- local_rule: number, name, days, direction, three, extendable
 abbrev pub local_rule_cells : LocalRuleRow → Row

@@ -1,5 +1,5 @@
 -- The rows that the types hold: a definition of specs/ knows of a field that it is a number or a list of bytes, and no more.
-use Rattle.std.specs.Prelude.{◌≡◌, ℕ, ◌<◌, ◌≤◌, ◌^◌, ℤ, List, [], FitsSigned}
+use Rattle.std.specs.Prelude.{◌≡◌, ◌≢◌, ℕ, ◌<◌, ◌≤◌, ◌^◌, ℤ, List, [], Option, Some, None, FitsSigned}
 use Rattle.std.specs.Int.{w64}
 use Rattle.std.specs.Str.{IsUtf8}
 use Rattle.civil_time.specs.Civil.{IsDayNumber}
@@ -13,6 +13,7 @@ use Rattle.docket_command.specs.Moments.{IsWholeMinute}
 use Rattle.docket_history.specs.declared.item.CalendarItem.{CalendarItem}
 use Rattle.docket_history.specs.declared.item.CalendarItem.TheVariants as item
 use Rattle.docket_decisions.specs.declared.end_row.EndRow.{EndRow}
+use Rattle.docket_decisions.specs.declared.end_row.EndTime.{EndTime}
 use Rattle.docket_history.specs.declared.row.CalendarRow.{CalendarRow}
 use Rattle.docket_history.specs.declared.row.CaseRow.{CaseRow}
 use Rattle.docket_history.specs.declared.row.ShortDayRow.{ShortDayRow}
@@ -23,6 +24,7 @@ use Rattle.docket_history.specs.declared.row.ActRow.{ActRow}
 use Rattle.docket_history.specs.declared.row.LocalRuleRow.{LocalRuleRow}
 use Rattle.docket_history.specs.declared.row.Receipt.{Receipt}
 use Rattle.docket_wire.specs.Valid.{IsCommand, IsMinute}
+use Rattle.docket_columns.specs.Cells.{whole_day}
 use Rattle.docket_columns.specs.Codes.{unit_count}
 
 -- a number of a row, a party, a count
@@ -87,8 +89,16 @@ IsAct act.Vacated = Unit {0}
 abbrev pub IsActRow : ActRow → Type 0
 IsActRow r = IsCount r.case × IsCount r.deadline × IsCount r.number × IsAct r.act
 
+-- an instant, which is not what stands in place of one
+abbrev pub IsStoredMoment : Option ℤ → Type 0
+IsStoredMoment None = Unit {0}
+IsStoredMoment (Some at) = IsSeconds at × (at ≢ whole_day)
+
+abbrev pub IsEndTime : EndTime → Type 0
+IsEndTime end = IsDayNumber end.day × IsStoredMoment end.moment
+
 abbrev pub IsEndRow : EndRow → Type 0
-IsEndRow r = IsCount r.case × IsCount r.deadline
+IsEndRow r = IsCount r.case × IsCount r.deadline × IsEndTime r.end
 
 abbrev pub IsReceipt : Receipt → Type 0
 IsReceipt r = IsCommand r.command × IsCount r.reply.number

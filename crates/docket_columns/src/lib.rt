@@ -23,7 +23,7 @@ pub use cases::{case_of, case_values};
 pub use cell::count_at;
 pub use court::{CourtRow, court_of, court_values, has_word, is_of_version};
 pub use deadline::{deadline_of, deadline_values};
-pub use end::{end_of, end_values};
+pub use end::{end_of, end_time_at, end_values};
 pub use entry::{entry_of, entry_values};
 pub use local_rule::{local_name_of, local_rule_of, local_rule_values};
 pub use party::{party_of, party_values};

@@ -1,8 +1,8 @@
 -- The changes of the rows of ends lead to those of the case, and leave those of other cases.
-use Rattle.std.proofs.Common.{◌≡◌, ◌≤◌, ◌<◌, ◌∙◌, ◌⊎◌, inl, inr, ℕ, zero, suc, ℤ, ◌+◌, ◌==◌, ◌&&◌, not, Bool, true, false, cond, List, [], ◌∷◌, ◌++◌, map, filter, Option, Some, None, IsPermutation, Ordering, Less, Equal, Greater, is_eq, int_cmp, int_eq, refl, sym, ap, ap₂, subst, arith, append-nil, append_assoc, length}
+use Rattle.std.proofs.Common.{◌≡◌, ◌≤◌, ◌<◌, ◌∙◌, ◌⊎◌, inl, inr, ℕ, zero, suc, ℤ, ◌+◌, ◌==◌, ◌&&◌, not, Bool, true, false, cond, List, [], ◌∷◌, ◌++◌, map, filter, Option, Some, None, IsPermutation, int_eq, refl, sym, ap, ap₂, subst, arith, append-nil, append_assoc, length}
 use Rattle.std.specs.List.{AllByRecursion, Contains}
-use Rattle.std.proofs.lemmas.Bool.Decides.{nat_tests}
-use Rattle.std.proofs.lemmas.Int.{ints}
+use Rattle.std.specs.Option.{option_eq}
+use Rattle.std.proofs.lemmas.Bool.Decides.{nat_tests, Decides-int_eq}
 use Rattle.std.proofs.lemmas.List.Elements.{filter-append}
 use Rattle.std.proofs.lemmas.List.{map-append}
 use Rattle.std.proofs.lemmas.List.Sorted.{IsPermutation-refl, IsPermutation-trans, IsPermutation-append_left, IsPermutation-append_right, IsPermutation-append_comm}
@@ -21,19 +21,25 @@ pub all_changed_ends-append : (xs ys : List EndChange) (rows : List EndRow) → 
 all_changed_ends-append [] ys rows = refl
 all_changed_ends-append (x ∷ xs) ys rows = all_changed_ends-append xs ys (changed_ends x rows)
 
+same_moment : (a b : Option ℤ) → option_eq int_eq a b ≡ true → a ≡ b
+same_moment None None e = refl
+same_moment (Some at) (Some other) e = ap Some ((Decides-int_eq at other).0 e)
+same_moment None (Some other) e = absurd (let no = e in cc)
+same_moment (Some at) None e = absurd (let no = e in cc)
+
 pub same_end : (a b : EndTime) → is_same_end a b ≡ true → a ≡ b
 same_end a b e =
-    let day : a.day ≡ b.day = at (int_cmp a.day b.day) refl (left_true (int_eq a.day b.day) _ e) in
-    let moment : a.moment ≡ b.moment = at (int_cmp a.moment b.moment) refl (right_true (int_eq a.day b.day) _ e) in
+    let days = left_true (a.day == b.day) _ e in
+    let day : a.day ≡ b.day = grind (arith, nat_tests, days) in
+    let moment : a.moment ≡ b.moment = same_moment a.moment b.moment (right_true (a.day == b.day) _ e) in
     λ i. record { day = day i; moment = moment i }
-  where
-    at : {x y : ℤ} (o : Ordering) → int_cmp x y ≡ o → is_eq o ≡ true → x ≡ y
-    at Less is e = absurd (let no = e in cc)
-    at Equal is e = grind (arith, ints)
-    at Greater is e = absurd (let no = e in cc)
 
-int_itself : (z : ℤ) → int_eq z z ≡ true
-int_itself z = ap is_eq (let same : int_cmp z z ≡ Equal = grind (arith, ints) in same)
+day_itself : (n : ℕ) → (n == n) ≡ true
+day_itself n = grind (arith, nat_tests)
+
+moment_itself : (o : Option ℤ) → option_eq int_eq o o ≡ true
+moment_itself None = refl
+moment_itself (Some at) = (Decides-int_eq at at).1 refl
 
 module _ (k : ℕ) where
   abbrev Elsewhere : ℕ → List EndRow → Type 0
@@ -303,7 +309,7 @@ module _ (k : ℕ) where
       ]
 
   same_itself : (end : EndTime) → is_same_end end end ≡ true
-  same_itself end = ap₂ (λ a b. a && b) (int_itself end.day) (int_itself end.moment)
+  same_itself end = ap₂ (λ a b. a && b) (day_itself end.day) (moment_itself end.moment)
 
   right_kept : (n : ℕ) (end : Option EndTime) (ends : List (Option EndTime)) (row : EndRow) → row.deadline ≡ n → Contains (end_row k n end ++ end_rows_from k (n + 1) ends) row → Untouched row (end_changes k n (Some row.end) end)
   right_kept n None ends row deadline has = absurd (omega (arith, deadline, wanted_from (n + 1) ends row has))

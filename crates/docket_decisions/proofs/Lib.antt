@@ -3,6 +3,7 @@ pub mod ActsKept
 pub mod AddedActs
 pub mod AddedEnds
 pub mod AlikeStandings
+pub mod EndBounds
 pub mod EndChanges
 pub mod FirstActs
 pub mod GoodValues

@@ -1,8 +1,6 @@
 -- The row of one deadline among those of others, and that a history has each deadline once.
 use Rattle.std.proofs.Common.{◌≡◌, ◌∙◌, ◌≤◌, ◌<◌, ℕ, ◌+◌, ◌==◌, ◌&&◌, not, Bool, true, false, cond, List, [], ◌∷◌, ◌++◌, map, filter, length, Option, Some, None, IsPermutation, refl, sym, ap, ap₂, subst, arith, append_assoc, length-append}
-use Rattle.std.specs.List.{All, AllByRecursion, flat_map}
-use Rattle.std.specs.Option.{option_and_then}
-use Rattle.std.specs.Prelude.{is_some, is_none, unwrap_or}
+use Rattle.std.specs.List.{AllByRecursion}
 use Rattle.std.proofs.lemmas.Bool.Decides.{nat_tests}
 use Rattle.std.proofs.lemmas.List.{map-append}
 use Rattle.std.proofs.lemmas.List.Elements.{filter-append}
@@ -30,7 +28,7 @@ module _ (k n : ℕ) where
   abbrev new : EndTime → EndRow
   new end = record { case = k; deadline = n; end = end }
 
-  here : is_of k n (new (record { day = Rattle.std.specs.Prelude.pos 0; moment = Rattle.std.specs.Prelude.pos 0 })) ≡ true
+  here : (k == k && n == n) ≡ true
   here = let a : (k == k) ≡ true = grind (arith, nat_tests) in let b : (n == n) ≡ true = grind (arith, nat_tests) in ap₂ (λ x y. x && y) a b
 
   left : (rows : List EndRow) → AreOthers rows → filter (λ row. not (is_of k n row)) rows ≡ rows

@@ -1,11 +1,14 @@
 -- The rows of the ends of deadlines: one for each deadline whose time runs, with its end by the calendar that stands.
-use Rattle.std.specs.Prelude.{◌≡◌, ◌≤◌, ℕ, ℤ, pos, ◌+◌, ◌==◌, not, Bool, false, ◌&&◌, if◌then◌else◌, List, [], ◌∷◌, ◌++◌, map, filter, Option, Some, None}
+use Rattle.std.specs.Prelude.{◌≡◌, ◌≤◌, ℕ, ℤ, ◌+◌, ◌==◌, not, Bool, false, ◌&&◌, if◌then◌else◌, List, [], ◌∷◌, ◌++◌, map, filter, Option, Some, None}
 use Rattle.std.specs.List.{flat_map}
+use Rattle.std.specs.Option.{option_eq}
 use Rattle.std.specs.Ordering.{int_eq}
+use Rattle.civil_time.specs.Civil.{IsDayNumber}
 use Rattle.civil_time.specs.LocalTime.{local_day, seconds}
 use Rattle.civil_time.specs.Zone.{ZoneRules}
 use Rattle.court_days.specs.Calendar.{Entered}
 use Rattle.court_days.specs.Court.{CourtSettings, zone_of}
+use Rattle.court_days.specs.Hours.{IsNearEntered}
 use Rattle.court_days.specs.declared.filing.End.{End}
 use Rattle.court_days.specs.declared.filing.End.TheVariants.{LastDay, Moment}
 use Rattle.court_rules.specs.Standings.{standing}
@@ -22,14 +25,24 @@ use Rattle.docket_history.specs.declared.row.ActRow.{ActRow}
 use Rattle.docket_history.specs.declared.row.DeadlineRow.{DeadlineRow}
 use Rattle.docket_history.specs.declared.view.DeadlineView.{DeadlineView}
 
--- what stands in place of an instant where the time runs to the end of its last day
-abbrev pub whole_day : ℤ
-whole_day = pos 9_999_999_999_999
-
--- an end as it is stored: its last day, which for an instant is the local day, and the instant
+-- an end as it is stored: its last day, which for an instant is the local day, and the instant, if it is one
 abbrev pub time_of : ZoneRules → End → EndTime
-time_of zone (LastDay day) = record { day = pos day; moment = whole_day }
-time_of zone (Moment at) = record { day = pos (local_day zone (seconds at)); moment = at }
+time_of zone (LastDay day) = record { day = day; moment = None }
+time_of zone (Moment at) = record { day = local_day zone (seconds at); moment = Some at }
+
+-- the instant, or the end of the last day
+abbrev pub end_by : ℕ → Option ℤ → End
+end_by day None = LastDay day
+end_by day (Some at) = Moment at
+
+-- the end that is stored so
+abbrev pub end_of_time : EndTime → End
+end_of_time time = end_by time.day time.moment
+
+-- the ends that times have: days of the calendar, and instants near the days that a court may enter
+abbrev pub IsDueEnd : End → Type 0
+IsDueEnd (LastDay day) = IsDayNumber day
+IsDueEnd (Moment at) = IsNearEntered (seconds at)
 
 -- the end of a time that runs
 abbrev pub end_running : ZoneRules → Standing → Option EndTime
@@ -100,7 +113,7 @@ AreRowsFrom k n (row ∷ rows) = (row.case ≡ k) × (n ≤ row.deadline) × Are
 -- which changes are made, deadline by deadline
 
 abbrev pub is_same_end : EndTime → EndTime → Bool
-is_same_end end other = int_eq end.day other.day && int_eq end.moment other.moment
+is_same_end end other = end.day == other.day && option_eq int_eq end.moment other.moment
 
 -- what is done about a deadline, by the end that is stored and the one that its time has
 abbrev pub end_changes : ℕ → ℕ → Option EndTime → Option EndTime → List EndChange

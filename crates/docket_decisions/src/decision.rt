@@ -15,7 +15,7 @@ use crate::refusals::{Matter, is_in_time, refusal};
 use court_days::{Calendar, Court};
 use court_rules::{Standing, due};
 use docket_command::{Action, Command, Refusal, Reply, Ruling};
-use docket_history::{Change, Kept, View, calendar_of, rows_added};
+use docket_history::{Change, Kept, View, rows_added};
 use std::alloc::{AllocError, AllocFailed, Global};
 
 /// The rows that a command adds and removes, one after another, and its reply.
@@ -143,13 +143,13 @@ fn decide_by_view(
         return Ok(Decision::Repeat(reply));
     }
     let action = &command.action;
-    let calendar = calendar_of(alloc, view.calendar.as_slice())?;
+    let calendar = view.calendar.calendar();
     let added = rows_added(alloc, view.calendar.as_slice(), action)?;
     let made = deadlines_made(alloc, &view.local, action)?;
     let matter = Matter {
         court,
-        calendar: &calendar,
-        standing: standing_shown(court, &calendar, view),
+        calendar,
+        standing: standing_shown(court, calendar, view),
         added: added.len(),
         made: made.len(),
     };

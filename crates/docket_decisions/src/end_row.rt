@@ -1,30 +1,40 @@
 //! The ends of deadlines as rows, and how they change.
-ghost use Rattle.std.specs.Prelude.{◌≡◌, pos, ◌++◌, ◌≤◌, List, length, Some, None, map, IfOk, OnOk, option_copied, false};
+ghost use Rattle.std.specs.Prelude.{◌≡◌, ◌++◌, ◌≤◌, List, length, Some, None, map, IfOk, OnOk, option_copied, false};
 ghost use Rattle.std.specs.List.{All, AllByRecursion, Contains};
 ghost use Rattle.std.specs.Prelude.{IsPermutation};
 ghost use Rattle.court_days.specs.Court.{zone_of};
-ghost use Rattle.civil_time.specs.LocalTime.{local_day, seconds};
-ghost use Rattle.court_days.specs.Hours.{IsNearEntered};
+ghost use Rattle.civil_time.specs.Zone.{ZoneRules};
+ghost use Rattle.court_days.specs.declared.filing.End.{End as Limit};
 ghost use Rattle.court_rules.specs.Standings.{AreActs, IsEndAfter, StandsAfter};
 ghost use Rattle.docket_decisions.specs.Additions.{AddsOnce, AddsAmong};
-ghost use Rattle.docket_decisions.specs.EndRows.{time_of, end_running, end_rows_of, ends_running, all_changed_ends, IsElsewhere, AreRowsFrom, is_same_end, end_changes, first_end, after_first, changes_from, touches};
+ghost use Rattle.docket_decisions.specs.EndRows.{time_of, end_of_time, end_running, end_rows_of, ends_running, all_changed_ends, IsElsewhere, AreRowsFrom, is_same_end, end_changes, first_end, after_first, changes_from, touches};
 ghost use Rattle.docket_decisions.specs.declared.end_row.EndRow.{EndRow as Stored};
 ghost use Rattle.docket_decisions.specs.declared.end_row.EndChange.TheVariants as change;
 
-use court_days::{Calendar, Court, End};
+use court_days::{Calendar, Court, Day, End};
 use court_rules::{Standing, due};
 use docket_history::DeadlineView;
 use std::alloc::{AllocError, Global};
 
-/// What stands in place of an instant where the time runs to the end of its last day.
-const WHOLE_DAY: i64 = 9_999_999_999_999;
-
-/// An end as it is stored: its last day, which for an instant is the local day, as a day number, and
-/// the instant, or 9,999,999,999,999 where the time runs to the end of that day.
+/// An end as it is stored: its last day, which for an instant is the local day, and the instant, or
+/// none where the time runs to the end of that day.
 #[derive(Clone, Copy)]
 pub struct EndTime {
-    pub day: i64,
-    pub moment: i64,
+    pub day: Day,
+    pub moment: Option<i64>,
+}
+
+impl EndTime {
+    /// The end that is stored so.
+    pub fn end(self) -> End
+        ensures value { result ≡ end_of_time self }
+        ensures stored { (zone : ZoneRules) (end : Limit) → self ≡ time_of zone end → result ≡ end }
+    {
+        match self.moment {
+            Some(at) => End::Moment(at),
+            None => End::LastDay(self.day),
+        }
+    }
 }
 
 /// The end of a deadline whose time runs.
@@ -44,32 +54,21 @@ pub enum EndChange {
     Move(EndRow),
 }
 
-/// The number of the local day at an instant.
-fn local_day(court: &Court, at: i64) -> i64
-    requires { IsNearEntered (seconds at) }
-    ensures { result ≡ pos (local_day (zone_of court.now) (seconds at)) }
-{
-    i64::from(court.local(at).0.epoch_day())
-}
-
 fn time_of(court: &Court, end: End) -> EndTime
     requires { IsEndAfter 100 end }
     ensures { result ≡ time_of (zone_of court.now) end }
 {
     match end {
-        End::LastDay(day) => EndTime {
-            day: i64::from(day.epoch_day()),
-            moment: WHOLE_DAY,
-        },
+        End::LastDay(day) => EndTime { day, moment: None },
         End::Moment(at) => EndTime {
-            day: local_day(court, at),
-            moment: at,
+            day: court.local(at).0,
+            moment: Some(at),
         },
     }
 }
 
 /// The end of a time that runs.
-pub(crate) fn end_running(court: &Court, standing: Standing) -> Option<EndTime>
+pub fn end_running(court: &Court, standing: Standing) -> Option<EndTime>
     requires { StandsAfter 100 standing }
     ensures { result ≡ end_running (zone_of court.now) standing }
 {
@@ -86,7 +85,7 @@ fn is_same_end(end: &EndTime, other: &EndTime) -> bool
 }
 
 /// The end of a deadline, where its row comes first.
-fn first_end(rows: &[EndRow], deadline: u32) -> Option<EndTime>
+pub fn first_end(rows: &[EndRow], deadline: u32) -> Option<EndTime>
     ensures { result ≡ first_end deadline rows.now }
 {
     match rows.first() {
@@ -96,7 +95,7 @@ fn first_end(rows: &[EndRow], deadline: u32) -> Option<EndTime>
 }
 
 /// The rows after that of a deadline, where it comes first.
-fn after_first(rows: &[EndRow], deadline: u32) -> &[EndRow]
+pub fn after_first(rows: &[EndRow], deadline: u32) -> &[EndRow]
     ensures { result.now ≡ after_first deadline rows.now }
 {
     match rows {

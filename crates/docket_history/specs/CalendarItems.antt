@@ -1,6 +1,6 @@
 -- What the rows of the calendar enter.
-use Rattle.std.specs.Prelude.{◌==◌, Bool, true, false, not, ◌&&◌, if◌then◌else◌, List, [], ◌∷◌, ◌++◌, filter}
-use Rattle.std.specs.List.{list_any}
+use Rattle.std.specs.Prelude.{◌≡◌, ◌≤◌, ◌==◌, Bool, true, false, not, ◌&&◌, if◌then◌else◌, List, [], ◌∷◌, ◌++◌, filter, length}
+use Rattle.std.specs.List.{All, list_any}
 use Rattle.court_days.specs.Civil.{IsEnteredDay, IsEnteredSpan}
 use Rattle.court_days.specs.Calendar.{Entered, no_days, with_day, with_span, with_short}
 use Rattle.court_days.specs.declared.calendar.DayKind.{DayKind}
@@ -62,3 +62,9 @@ abbrev pub IsEnteredItem : CalendarItem → Type 0
 IsEnteredItem (Day kind day) = IsEnteredDay day
 IsEnteredItem (Span start end) = IsEnteredSpan start end
 IsEnteredItem (Short day close) = IsEnteredDay day
+
+-- items that a court may enter, at most 4,000, and the calendar that they come to
+pub record IsStanding (items : List CalendarItem) (calendar : Entered) : Type 0 where
+  pub entered : All IsEnteredItem items
+  pub rows : length items ≤ 4000
+  pub calendar_is : calendar ≡ calendar_of items

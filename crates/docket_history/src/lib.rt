@@ -12,6 +12,7 @@ mod lines;
 mod named;
 mod record;
 mod row;
+mod standing;
 mod view;
 
 pub use calendar::{calendar_of, rows_added};
@@ -26,6 +27,5 @@ pub use row::{
     ActRow, CalendarRow, CaseRow, Change, DeadlineRow, EntryRow, LocalRuleRow, NewDeadline,
     PartyRow, Receipt, ShortDayRow,
 };
-pub use view::{
-    Acts, CalendarItems, CaseView, DeadlineView, Kept, View, is_served_among, rule_name_asked,
-};
+pub use standing::StandingCalendar;
+pub use view::{Acts, CaseView, DeadlineView, Kept, View, is_served_among, rule_name_asked};

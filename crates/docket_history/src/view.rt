@@ -4,8 +4,8 @@ ghost use Rattle.std.specs.List.{list_any};
 ghost use Rattle.docket_history.specs.Actions.{if_asked};
 ghost use Rattle.docket_history.specs.Views.{parties_in, entries_in, count_deadlines, deadline_shown, acts_in, served_in, deadline_at, deadline_of, is_vacated, has_initial, is_served_among, case_shown, named_in, local_name, local_name_in, rule_name_asked};
 
-use crate::item::CalendarItem;
 use crate::named::{asks_deadlines, asks_entries, asks_parties, deadline_named, local_rule_named};
+use crate::standing::StandingCalendar;
 use court_rules::{Act, DeadlineRule};
 use docket_command::{Action, LocalRule, Reply, Text};
 use std::marker::Model;
@@ -56,36 +56,6 @@ pub struct DeadlineView {
     pub rule: DeadlineRule,
     pub initial: bool,
     pub acts: Acts,
-}
-
-/// What the standing rows of the calendar enter, in the order of their numbers, seen as the list of
-/// it.
-#[derive(Drop)]
-pub struct CalendarItems {
-    items: Vec<CalendarItem>,
-}
-
-impl Model for CalendarItems {
-    ghost use Rattle.std.specs.Prelude.{List};
-    ghost use Rattle.docket_history.specs.declared.item.CalendarItem.{CalendarItem};
-
-    ghost Value = { List CalendarItem };
-
-    ghost view = { λ a. a.items.items };
-}
-
-impl CalendarItems {
-    pub fn new(items: Vec<CalendarItem>) -> CalendarItems
-        ensures { result ≡ items.items }
-    {
-        CalendarItems { items }
-    }
-
-    pub fn as_slice(&self) -> &[CalendarItem]
-        ensures { result.now ≡ self.now }
-    {
-        self.items.as_slice()
-    }
 }
 
 /// The case that a command names, as far as the command asks about it: its number, how many parties,
@@ -228,7 +198,7 @@ pub struct View {
     pub label_taken: bool,
     pub case: Option<CaseView>,
     pub row_stands: bool,
-    pub calendar: CalendarItems,
+    pub calendar: StandingCalendar,
     pub next_row: u64,
     pub local: Option<LocalRule>,
     pub local_rules: u32,

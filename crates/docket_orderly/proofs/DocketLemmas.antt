@@ -9,6 +9,7 @@ use Rattle.docket_wire.specs.Valid.{IsCommand}
 use Rattle.docket_orderly.specs.Orderly.{IsCourtSettings, IsOrderly}
 use Rattle.docket_orderly.proofs.ActLemmas.{acts_held, acts_run}
 use Rattle.docket_orderly.proofs.CalendarLemmas.{calendar_held, short_days_held, calendar_rises}
+use Rattle.docket_orderly.proofs.EndLemmas.{ends_held}
 use Rattle.docket_orderly.proofs.LabelLemmas.{one_case}
 use Rattle.docket_orderly.proofs.LocalRuleLemmas.{local_rules_held, local_rules_run, one_local_rule}
 use Rattle.docket_orderly.proofs.ReceiptLemmas.{receipts_held, one_receipt}
@@ -33,6 +34,7 @@ orderly court h held is all =
       deadlines_run = deadlines_run h;
       acts = acts_held court h is all;
       acts_run = acts_run court h is;
+      ends = ends_held court h is all;
       receipts = receipts_held court h is all;
       one_receipt = one_receipt court h is;
       local_rules = local_rules_held court h is all;

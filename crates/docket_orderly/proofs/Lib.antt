@@ -5,6 +5,7 @@ mod ApartLemmas
 pub mod CalendarLemmas
 pub mod DeadlineLemmas
 pub mod DocketLemmas
+pub mod EndLemmas
 pub mod LabelLemmas
 pub mod ListLemmas
 pub mod LocalRuleLemmas

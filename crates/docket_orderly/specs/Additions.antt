@@ -23,7 +23,8 @@ HasCase t k = list_any (λ (r : CaseRow). r.number == k) t.cases ≡ true
 abbrev pub HasDeadline : Tables → ℕ → ℕ → Type 0
 HasDeadline t k n = list_any (λ (r : DeadlineRow). r.case == k && r.number == n) t.deadlines ≡ true
 
--- a row may be added: none of its table has its number, or what stands once beside it, and its parent stands
+-- the change may be made: no row of the table has the key of the row that is added, or what stands once beside it, and its parent
+-- stands; a row may always be removed
 abbrev pub MayAdd : Change → Tables → Type 0
 MayAdd (AddCalendar row) t = AllByRecursion (λ (r : CalendarRow). (r.number ≢ row.number) × (is_same_item r.item row.item ≡ false)) t.calendar
 MayAdd (RemoveCalendar number) t = Unit {0}

@@ -4,12 +4,13 @@ use Rattle.std.specs.List.{AllByRecursion}
 use Rattle.court_days.specs.Court.{CourtSettings}
 use Rattle.docket_history.specs.Histories.{parties_of_case, entries_of_case, deadlines_of_case}
 use Rattle.docket_history.specs.ShortDays.{day_and_span_rows, short_day_rows}
+use Rattle.docket_decisions.specs.EndRows.{end_rows}
 use Rattle.docket_decisions.specs.Tables.{Tables}
 use Rattle.docket_history.specs.declared.row.ActRow.{ActRow}
 use Rattle.docket_history.specs.declared.row.CaseRow.{CaseRow}
 use Rattle.docket_history.specs.declared.row.LocalRuleRow.{LocalRuleRow}
 use Rattle.docket_history.specs.declared.row.Receipt.{Receipt}
-use Rattle.docket_columns.specs.Fits.{IsCourtRow, IsCalendarRow, IsShortDayRow, IsCaseRow, IsPartyRow, IsEntryRow, IsDeadlineRow, IsActRow, IsReceipt, IsLocalRuleRow}
+use Rattle.docket_columns.specs.Fits.{IsCourtRow, IsCalendarRow, IsShortDayRow, IsCaseRow, IsPartyRow, IsEntryRow, IsDeadlineRow, IsActRow, IsEndRow, IsReceipt, IsLocalRuleRow}
 
 -- what the types hold of a court
 abbrev pub IsCourtSettings : CourtSettings → Type 0
@@ -53,6 +54,7 @@ pub record IsOrderly (settings : CourtSettings) (t : Tables) : Type 0 where
   pub deadlines_run : (k : ℕ) → RunsFrom 1 (map (λ row. row.number) (deadlines_of_case k t.deadlines))
   pub acts : AllByRecursion IsActRow t.acts
   pub acts_run : (k n : ℕ) → RunsFrom 1 (map (λ row. row.number) (acts_on k n t.acts))
+  pub ends : AllByRecursion IsEndRow (end_rows settings t)
   pub receipts : AllByRecursion IsReceipt t.receipts
   pub one_receipt : (key : List ℕ) → length (receipts_under key t.receipts) ≤ 1
   pub local_rules : AllByRecursion IsLocalRuleRow t.local_rules

@@ -1,9 +1,10 @@
 //! What the tables show about a command.
-ghost use Rattle.std.specs.Prelude.{◌≡◌, ◌==◌, ◌&&◌, ◌<◌, ◌^◌, length, option_copied, IfOk, if◌then◌else◌, []};
-ghost use Rattle.std.specs.List.{find, list_any};
+ghost use Rattle.std.specs.Prelude.{◌≡◌, ◌==◌, ◌&&◌, ◌<◌, ◌≤◌, ◌^◌, length, option_copied, IfOk, if◌then◌else◌, []};
+ghost use Rattle.std.specs.List.{All, find, list_any};
 ghost use Rattle.std.specs.Option.{option_and_then};
 ghost use Rattle.std.specs.Str.{bytes_eq};
 ghost use Rattle.docket_history.specs.Actions.{case_named, asks_calendar, asks_cases, asks_next_row, asks_local_rules, if_asked};
+ghost use Rattle.docket_history.specs.CalendarItems.{IsEnteredItem};
 ghost use Rattle.docket_history.specs.Histories.{local_rule_in, acts_of_deadline, deadlines_of_case, deadlines_from, parties_of_case, entries_of_case, items_of};
 ghost use Rattle.docket_decisions.specs.Outcomes.{kept, is_label_taken, is_row_standing};
 ghost use Rattle.docket_decisions.specs.Tables.{case_in, view_in};
@@ -14,8 +15,8 @@ use crate::vectors::Vectors;
 use court_rules::Act;
 use docket_command::{Action, Command, LocalRule, Text};
 use docket_history::{
-    ActRow, Acts, CalendarItem, CalendarItems, CalendarRow, CaseRow, CaseView, DeadlineView,
-    EntryRow, Kept, LocalRuleRow, PartyRow, Receipt, View, asks_calendar, asks_cases,
+    ActRow, Acts, CalendarItem, CalendarRow, CaseRow, CaseView, DeadlineView, EntryRow, Kept,
+    LocalRuleRow, PartyRow, Receipt, StandingCalendar, View, asks_calendar, asks_cases,
     asks_local_rules, asks_next_row, case_named, rule_name_asked,
 };
 use std::alloc::{AllocError, Global};
@@ -126,17 +127,19 @@ pub(crate) fn items_of(alloc: Global, rows: &[CalendarRow]) -> Result<Vec<Calend
     rows.iter().map(|row| row.item).collect(alloc)
 }
 
-fn items_for(
+fn calendar_for(
     alloc: Global,
     rows: &[CalendarRow],
     action: &Action,
-) -> Result<CalendarItems, AllocError>
+) -> Result<StandingCalendar, AllocError>
+    requires items { All IsEnteredItem (items_of rows.now) }
+    requires rows { length (items_of rows.now) ≤ 4000 }
     ensures { IfOk result (λ items. items ≡ (if asks_calendar action.now then items_of rows.now else [])) }
 {
     if asks_calendar(action) {
-        Ok(CalendarItems::new(items_of(alloc, rows)?))
+        Ok(StandingCalendar::new(alloc, items_of(alloc, rows)?)?)
     } else {
-        Ok(CalendarItems::new(Vec::new(alloc)))
+        Ok(StandingCalendar::empty(alloc))
     }
 }
 
@@ -245,7 +248,9 @@ pub(crate) fn view_of(
     tables: &Vectors,
     command: &Command,
 ) -> Result<View, AllocError>
-    requires { AreSmall tables.now }
+    requires small { AreSmall tables.now }
+    requires items { All IsEnteredItem (items_of tables.now.calendar.items) }
+    requires rows { length (items_of tables.now.calendar.items) ≤ 4000 }
     ensures { IfOk result (λ view. view ≡ view_in (lists_of tables.now) command.now) }
 {
     let action = &command.action;
@@ -259,7 +264,7 @@ pub(crate) fn view_of(
         local_rules: rules_for(rules, action),
         case,
         row_stands: is_row_standing(tables.calendar.as_slice(), action),
-        calendar: items_for(alloc, tables.calendar.as_slice(), action)?,
+        calendar: calendar_for(alloc, tables.calendar.as_slice(), action)?,
         next_row: next_row_for(tables.next_row, action),
     })
 }

@@ -1,18 +1,17 @@
 -- A docket's own tables are sound, in whatever order of their keys they are read.
-use Rattle.std.proofs.Common.{◌≡◌, ◌∙◌, ℕ, Bool, List, map, length, Option, Some, None, sym, ap, ap₂, subst}
+use Rattle.std.proofs.Common.{◌≡◌, ◌∙◌, ℕ, Bool, List, map, length, sym, ap, ap₂, subst}
 use Rattle.std.specs.List.{AllByRecursion}
 use Rattle.std.specs.declared.cmp.Ordering.{Ordering}
 use Rattle.sqlite.specs.Order.{Row}
-use Rattle.sqlite_trees.proofs.ListLemmas.{all-permutation, all-map, all-flat_map, all_weaker, map-map}
+use Rattle.sqlite_trees.proofs.ListLemmas.{all-permutation, all-map, all_weaker, map-map}
 use Rattle.court_days.specs.Court.{CourtSettings, zone_of}
 use Rattle.docket_history.specs.CalendarItems.{calendar_of}
-use Rattle.docket_decisions.specs.EndRows.{end_row, end_rows, row_of_deadline, calendar_in}
+use Rattle.docket_decisions.specs.EndRows.{end_rows}
 use Rattle.docket_history.specs.Histories.{History, items_of, standing_rows, next_row, case_rows, party_rows, parties_of_case, entry_rows, deadline_rows, deadlines_of_case, act_rows, local_rule_rows}
 use Rattle.docket_decisions.specs.Outcomes.{IsHistory, receipts}
 use Rattle.docket_history.specs.ShortDays.{day_and_span_rows, short_day_rows}
 use Rattle.docket_decisions.specs.Tables.{rows_of}
 use Rattle.docket_decisions.specs.declared.end_row.EndRow.{EndRow}
-use Rattle.docket_decisions.specs.declared.end_row.EndTime.{EndTime}
 use Rattle.docket_history.specs.declared.row.ActRow.{ActRow}
 use Rattle.docket_history.specs.declared.row.CalendarRow.{CalendarRow}
 use Rattle.docket_history.specs.declared.row.DeadlineRow.{DeadlineRow}
@@ -20,7 +19,7 @@ use Rattle.docket_history.specs.declared.row.LocalRuleRow.{LocalRuleRow}
 use Rattle.docket_history.specs.declared.row.PartyRow.{PartyRow}
 use Rattle.docket_decisions.proofs.LimitsKept.{within_limits}
 use Rattle.docket_columns.specs.Cells.{calendar_cells, short_day_cells, case_cells, party_cells, entry_cells, deadline_cells, act_cells, receipt_cells, end_cells, local_rule_cells}
-use Rattle.docket_columns.specs.Fits.{IsCount, IsCalendarRow, IsShortDayRow, IsCaseRow, IsPartyRow, IsEntryRow, IsDeadlineRow, IsActRow, IsReceipt, IsEndRow, IsLocalRuleRow}
+use Rattle.docket_columns.specs.Fits.{IsCalendarRow, IsShortDayRow, IsCaseRow, IsPartyRow, IsEntryRow, IsDeadlineRow, IsActRow, IsReceipt, IsEndRow, IsLocalRuleRow}
 use Rattle.docket_wire.specs.Valid.{IsCommand}
 use Rattle.docket_sound.specs.Deadlines.{deadline_key}
 use Rattle.docket_sound.specs.Dues.{dues_of}
@@ -38,6 +37,7 @@ use Rattle.docket_tables.specs.declared.table.Table.{Table}
 use Rattle.docket_tables.specs.declared.table.Table.TheVariants as table
 use Rattle.docket_orderly.proofs.ActLemmas.{acts_held}
 use Rattle.docket_orderly.proofs.CalendarLemmas.{calendar_held, short_days_held}
+use Rattle.docket_orderly.proofs.EndLemmas.{ends_held}
 use Rattle.docket_orderly.proofs.LocalRuleLemmas.{local_rules_held}
 use Rattle.docket_orderly.proofs.ReceiptLemmas.{receipts_held}
 use Rattle.docket_orderly.proofs.RowLemmas.{cases_held, parties_held, entries_held, deadlines_held}
@@ -54,10 +54,6 @@ sound_records : {R : Type 0} (t : Table) (Is : R → Type 0) (cells : R → Row)
 sound_records t Is cells order AreSound all agrees each sound found is =
     let it = typed t cells order agrees all found is in
     record { records = it.0; are = record { held = all-permutation Is all it.0 it.2.same each; same = it.1 }; sound = sound it.0 it.2 }
-
-row_fits : (k n : ℕ) (end : Option EndTime) → IsCount k → IsCount n → AllByRecursion IsEndRow (end_row k n end)
-row_fits k n None case number = tt
-row_fits k n (Some end) case number = ((case, number), tt)
 
 module _ (court : CourtSettings) (h : History) (is : IsHistory court h) (commands : AllByRecursion IsCommand h) where
   pub calendar_sound : (found : List Row) → AreSorted table.Calendar (map calendar_cells (day_and_span_rows (standing_rows h))) found → AreCalendarRows court (next_row h) found
@@ -123,13 +119,6 @@ module _ (court : CourtSettings) (h : History) (is : IsHistory court h) (command
         sound = subst (AreSoundReceipts later) (sym (map-map (λ (r : StoredReceipt). r.receipt) as_stored it.0)) (sorted_receipts court later h is commands known it.0 it.2);
       }
 
-  ends_fit : AllByRecursion IsEndRow (end_rows court (rows_of court h))
-  unfolding end_rows
-  ends_fit =
-      let t = rows_of court h in
-      all-flat_map IsEndRow (row_of_deadline (zone_of court) (calendar_in t) t.acts) t.deadlines
-      (all_weaker IsDeadlineRow (λ d. AllByRecursion IsEndRow (row_of_deadline (zone_of court) (calendar_in t) t.acts d)) (λ d fits. row_fits d.case d.number _ fits.0 fits.1) t.deadlines (deadlines_held court h is commands))
-
   module _ (days : List CalendarRow) (acts : List ActRow) (of_days : AreSorted table.Calendar (map calendar_cells (day_and_span_rows (standing_rows h))) (map calendar_cells days)) (of_acts : AreSorted table.Acts (map act_cells (act_rows h)) (map act_cells acts)) where
     ends_expected : (ends : List EndRow) → AreInOrder end_order (end_rows court (rows_of court h)) ends → ends ≡ dues_of (zone_of court) (calendar_of (items_of days)) acts
     ends_expected ends order =
@@ -139,4 +128,4 @@ module _ (court : CourtSettings) (h : History) (is : IsHistory court h) (command
         ∙ ap₂ (λ items rows. dues_of (zone_of court) (calendar_of items) rows) (sym (calendar_items days d.0 d.1)) (sym (act_rows_alike acts a.0 a.1))
 
     pub ends_sound : (found : List Row) → AreSorted table.Ends (map end_cells (end_rows court (rows_of court h))) found → AreEndRows (dues_of (zone_of court) (calendar_of (items_of days)) acts) found
-    ends_sound = sound_records table.Ends IsEndRow end_cells end_order _ (end_rows court (rows_of court h)) ends_by_key ends_fit ends_expected
+    ends_sound = sound_records table.Ends IsEndRow end_cells end_order _ (end_rows court (rows_of court h)) ends_by_key (ends_held court h is commands) ends_expected

@@ -1,56 +1,16 @@
 //! The table of the ends of running deadlines.
-ghost use Rattle.std.specs.Prelude.{◌≡◌, ◌↔◌, pos, ◌++◌, ◌∷◌, [], List, true, false, OnOk, IsTrue, slice_get};
-ghost use Rattle.civil_time.specs.LocalTime.{local_day, seconds};
+ghost use Rattle.std.specs.Prelude.{◌≡◌, ◌↔◌, ◌++◌, ◌∷◌, [], List, true, false, OnOk, IsTrue, slice_get};
 ghost use Rattle.court_days.specs.Court.{zone_of};
-ghost use Rattle.court_days.specs.Hours.{IsNearEntered};
-ghost use Rattle.court_rules.specs.Standings.{IsEndAfter, StandsAfter, standing};
-ghost use Rattle.docket_decisions.specs.EndRows.{time_of, end_row, end_running};
+ghost use Rattle.court_rules.specs.Standings.{StandsAfter, standing};
+ghost use Rattle.docket_decisions.specs.EndRows.{end_row, end_running};
 ghost use Rattle.docket_decisions.specs.declared.end_row.EndRow.{EndRow as Stored};
 ghost use Rattle.docket_sound.specs.Acts.{are_lawful};
 ghost use Rattle.docket_sound.specs.Dues.{HasTakenDues};
 
-use court_days::{Calendar, Court, End};
+use court_days::{Calendar, Court};
 use court_rules::{Act, Standing, due};
-use docket_decisions::{EndRow, EndTime};
+use docket_decisions::{EndRow, end_running};
 use std::alloc::AllocError;
-
-/// What stands in place of an instant where the time runs to the end of its last day.
-const WHOLE_DAY: i64 = 9_999_999_999_999;
-
-/// The number of the local day at an instant.
-fn local_day(court: &Court, at: i64) -> i64
-    requires { IsNearEntered (seconds at) }
-    ensures { result ≡ pos (local_day (zone_of court.now) (seconds at)) }
-{
-    i64::from(court.local(at).0.epoch_day())
-}
-
-fn time_of(court: &Court, end: End) -> EndTime
-    requires { IsEndAfter 100 end }
-    ensures { result ≡ time_of (zone_of court.now) end }
-{
-    match end {
-        End::LastDay(day) => EndTime {
-            day: i64::from(day.epoch_day()),
-            moment: WHOLE_DAY,
-        },
-        End::Moment(at) => EndTime {
-            day: local_day(court, at),
-            moment: at,
-        },
-    }
-}
-
-/// The end of a time that runs.
-fn end_running(court: &Court, standing: &Standing) -> Option<EndTime>
-    requires { StandsAfter 100 standing.now }
-    ensures { result ≡ end_running (zone_of court.now) standing.now }
-{
-    match standing {
-        Standing::Running(end) => Some(time_of(court, *end)),
-        _ => None,
-    }
-}
 
 /// Where a deadline with these acts stands by the calendar.
 pub(crate) fn standing_of(court: &Court, calendar: &Calendar, acts: &[Act]) -> Standing
@@ -72,7 +32,7 @@ pub(crate) fn push_due(
     requires { StandsAfter 100 standing.now }
     ensures { OnOk result (dues.new.items ≡ dues.old.items ++ end_row case deadline (end_running (zone_of court.now) standing.now)) }
 {
-    let Some(end) = end_running(court, standing) else {
+    let Some(end) = end_running(court, *standing) else {
         return Ok(());
     };
     dues.extend_from_slice(&[EndRow {

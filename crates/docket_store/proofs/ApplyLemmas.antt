@@ -1,5 +1,5 @@
 -- From what the tables' functions leave to what a command leaves.
-use Rattle.std.proofs.Common.{◌≡◌, ◌⊎◌, inl, inr, ◌∷◌, ℕ, ◌+◌, length, ◌<◌, ◌^◌, List, Option, false, refl, sym, ap, subst, ◌∙◌, arith}
+use Rattle.std.proofs.Common.{◌≡◌, ◌⊎◌, inl, inr, [], ◌∷◌, ℕ, ◌+◌, length, ◌<◌, ◌^◌, Bool, if◌then◌else◌, List, Option, false, refl, sym, ap, subst, ◌∙◌, arith}
 use Rattle.std.specs.Prelude.{true, Err}
 use Rattle.court_days.specs.Calendar.{Entered}
 use Rattle.sqlite.specs.Store.{Ghosts}
@@ -12,7 +12,8 @@ use Rattle.docket_command.specs.declared.refusal.Reply.{Reply}
 use Rattle.court_rules.specs.declared.act.Act.{Act}
 use Rattle.docket_decisions.specs.Decisions.{IsSoundView}
 use Rattle.docket_decisions.specs.EndMoves.{Follows}
-use Rattle.docket_history.specs.Histories.{History, next_row, case_rows}
+use Rattle.docket_history.specs.Actions.{asks_calendar}
+use Rattle.docket_history.specs.Histories.{History, items_of, next_row, case_rows, standing_rows}
 use Rattle.docket_decisions.specs.Outcomes.{Answer, repeated, refused, accepted, shown, outcome, after, after_answer}
 use Rattle.docket_history.specs.Records.{calendar}
 use Rattle.docket_decisions.specs.Tables.{Tables, rows_of, with_receipt, all_changed}
@@ -116,3 +117,7 @@ module _ {S : Type 0} (g : Ghosts S) (conn : Held S) where
   fails_apart rows P (Store e) holds read = (holds.0, λ clean. absurd (read clean))
   fails_apart rows P ReadNoMemory holds read = holds
   fails_apart rows P ReadDamaged holds read = λ clean. read clean
+
+-- a calendar that is shown to a command which asks for it is that of the history
+pub shown_calendar : (court : CourtSettings) (h : History) (c : Command) (v : View) (asked : Bool) → v ≡ shown court h c → asked ≡ asks_calendar c.action → asked ≡ true → v.calendar ≡ items_of (standing_rows h)
+shown_calendar court h c v asked seen asks is = ap (λ (x : View). x.calendar) seen ∙ ap (λ b. if b then items_of (standing_rows h) else []) (sym asks ∙ is)

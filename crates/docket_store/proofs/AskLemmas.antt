@@ -3,7 +3,7 @@ use Rattle.std.proofs.Common.{◌≡◌, ◌∙◌, ◌&&◌, ℕ, zero, suc, �
 use Rattle.std.specs.Prelude.{MatchResult, is_some}
 use Rattle.std.specs.Option.{option_map}
 use Rattle.std.proofs.lemmas.List.{length-map}
-use Rattle.std.proofs.lemmas.List.Elements.{All-cons, All-nil, recursion_from_All}
+use Rattle.std.proofs.lemmas.List.Elements.{All-cons, All-nil}
 use Rattle.sqlite.specs.Store.{Ghosts}
 use Rattle.sqlite.specs.State.{HasCleanDisk}
 use Rattle.sqlite.specs.Held.{Held, state}
@@ -11,7 +11,6 @@ use Rattle.sqlite.specs.declared.error.Error.{Error}
 use Rattle.court_days.specs.Court.{CourtSettings, zone_of}
 use Rattle.docket_command.specs.declared.command.Command.{Command}
 use Rattle.docket_command.specs.declared.refusal.Reply.{Reply}
-use Rattle.docket_history.specs.CalendarItems.{IsEnteredItem}
 use Rattle.docket_decisions.specs.EndRows.{end_rows, end_rows_of}
 use Rattle.docket_history.specs.Histories.{History, items_of, standing_rows, case_rows, act_rows, deadline_rows, deadlines, deadlines_of_case}
 use Rattle.court_rules.specs.Standings.{AreActs}
@@ -30,7 +29,6 @@ use Rattle.docket_store.specs.Dockets.{Docket, serving}
 use Rattle.docket_tables.specs.Contents.{ends_of}
 use Rattle.docket_changes.specs.Sound.{IsSoundCase}
 use Rattle.docket_tables.proofs.StoredLemmas.{ends_of_all}
-use Rattle.docket_calendar.proofs.EndBounds.{calendar_within}
 use Rattle.docket_store.specs.Sound.{AreEndsBy, IsNotTold}
 use Rattle.docket_store.specs.declared.fault.Fault.{Fault}
 use Rattle.docket_store.specs.declared.fault.Fault.TheVariants.{Refused, NoMemory, StoreFailed, Closed, Damaged}
@@ -116,6 +114,11 @@ sound_calendar court h is =
     let sound = sound_case court h 0 is in
     record { entered = sound.entered; rows = sound.rows; few = omega arith; acts = λ i d low. absurd (omega (arith, low)) }
 
+-- the docket, with the calendar that stands kept beside its connection
+pub keeping : {S : Type 0} (g : Ghosts S) (conn : Held S) (court : CourtSettings) (kept : Option (List CalendarItem)) (items : List CalendarItem) (h : History) → Stands g (serving conn court kept) h
+    → (HasCleanDisk (state g conn) → items ≡ items_of (standing_rows h)) → Stands g (serving conn court (Some items)) h
+keeping g conn court kept items h stands are = record { docket = stands.docket; serves = refl; rows = stands.rows; calendar = are }
+
 -- and so is a deadline of a case alone
 pub sound_deadline : (court : CourtSettings) (h : History) (k n : ℕ) (d : DeadlineView) → IsDocket court h → deadline_at (deadlines k h) n ≡ Some d → IsSoundCase court [] (d ∷ [])
 sound_deadline court h k zero d is at = absurd (cc)
@@ -132,7 +135,6 @@ pub sound_ends : (court : CourtSettings) (h : History) (k : ℕ) → IsDocket co
 sound_ends court h k is =
     let sound = sound_case court h k is in record {
       sound = record { entered = λ i d low. absurd (omega (arith, low)); rows = omega arith; few = sound.few; acts = sound.acts };
-      limits = calendar_within (items_of (standing_rows h)) (recursion_from_All IsEnteredItem (items_of (standing_rows h)) sound.entered);
       same = refl;
     }
 

@@ -1,10 +1,11 @@
 -- The error for which a question was not answered, and its cause.
-use Rattle.std.proofs.Common.{subst₂, ◌≡◌, ◌∙◌, ◌≤◌, ◌↔◌, ℕ, Bool, true, false, inl, inr, Option, Some, None, IfSome, IfErr, IsErrAnd, MatchResult, Result, Ok, Err, refl, sym, ap, subst, arith}
-use Rattle.sqlite.specs.Held.{Held}
+use Rattle.std.proofs.Common.{◌≡◌, ◌∙◌, ◌<◌, ◌≤◌, ◌↔◌, ℕ, List, Bool, true, false, inl, inr, Option, Some, None, IfErr, IsErrAnd, MatchResult, Result, Ok, Err, refl, sym, ap, subst, length, get_or, slice_get, arith}
+use Rattle.std.proofs.lemmas.Option.{slice_get_read}
+use Rattle.sqlite.specs.Held.{state}
 use Rattle.sqlite.specs.State.{State}
 use Rattle.sqlite.specs.Store.{Ghosts}
 use Rattle.sqlite.specs.declared.error.Error.{Error}
-use Rattle.docket_tables.specs.Causes.{FailsForCause, IsCaused, IsCausedFault}
+use Rattle.docket_tables.specs.Causes.{FailsForCause, IsCaused, IsCausedFault, IsLater}
 use Rattle.docket_tables.specs.declared.fault.ReadFault.{ReadFault}
 use Rattle.docket_tables.specs.declared.fault.ReadFault.TheVariants.{Store}
 use Rattle.docket_tables.specs.declared.fault.ReadFault.TheVariants as read_fault
@@ -13,7 +14,8 @@ use Rattle.docket_tables.proofs.ChangeCauses.{change_after}
 use Rattle.docket_command.specs.declared.command.Command.{Command}
 use Rattle.docket_store.specs.declared.fault.Fault.TheVariants as fault
 use Rattle.docket_tables.proofs.PassedCauses.{fault_after}
-use Rattle.docket_store.specs.Causes.{IsNamed, IsCausedBy, IsCausedEnd, HasWriteCause, IsCausedStop, IsCausedWrite}
+use Rattle.docket_store.specs.Causes.{IsNamed, IsCausedBy, IsCausedEnd, HasWriteCause, IsCausedAt, StopsForCause, IsCausedWrite, IsClosedByWrite}
+use Rattle.docket_store.specs.Dockets.{Docket}
 use Rattle.docket_store.specs.Listing.{HasBroken}
 use Rattle.docket_store.specs.declared.listing.ListingEnd.{ListingEnd}
 use Rattle.docket_store.specs.declared.listing.ListingEnd.TheVariants.{NotBegun, Broken, WriteFailed}
@@ -159,8 +161,23 @@ kept_caused c old new failure e fault.Damaged kept cause = tt
 pub failed_write : {X : Type 0} (c : Command) (old new : State) (failure : Option Error) (result : Result X Fault) → result ≡ Err StoreFailed → IfErr result (IsCausedWrite c old new failure) → IsCausedWrite c old new failure StoreFailed
 failed_write c old new failure result failed cause = subst (λ r. IfErr r (IsCausedWrite c old new failure)) failed cause
 
--- the connection and the error are handed on
-pub stops_passed : {S : Type 0} (g : Ghosts S) (conn after : Held S) (failure told : Option Error) (stop : Option (ℕ × Fault)) → conn ≡ after → failure ≡ told
-    → IfSome stop (λ at. at.1 ≡ StoreFailed → IsCausedStop g conn failure) → IfSome stop (λ at. at.1 ≡ StoreFailed → IsCausedStop g after told)
-stops_passed g conn after failure told None same also_same cause = tt
-stops_passed g conn after failure told (Some at) same also_same cause = λ failed. subst₂ (λ c f. IsCausedStop g c f) same also_same (cause failed)
+-- what came after what came after
+pub later_then : (first old new : State) → IsLater first old → IsLater old new → IsLater first new
+later_then first old new one next = (omega (arith, one.0, next.0), next.1 ∙ one.1)
+
+-- a docket stays open where its database does not fail
+pub stays_open : {X : Type 0} (new : Bool) (result : Result X Fault) → (new ≡ true) ↔ (result ≡ Err StoreFailed) → (result ≡ Err StoreFailed → ⊥) → new ≡ false
+stays_open false result closes other = refl
+stays_open true result closes other = absurd (other (closes.0 refl))
+
+-- the command of this place closed the docket, which was on the same connection when the first of them came
+pub caused_at : {S : Type 0} (g : Ghosts S) (cs : List Command) (i place : ℕ) (c : Command) (first : State) (old new : Docket S) → i < length cs → c ≡ get_or cs i c → place ≡ i
+    → IsLater first (state g old.conn) → IsClosedByWrite g c old new → IsCausedAt cs first (state g new.conn) new.closed_by place
+caused_at g cs i place c first old new inside is at went closed =
+    (c, ap (slice_get cs) at ∙ slice_get_read cs (length cs) i c refl inside is, (closed.0, closed.1, write_caused_after c first (state g old.conn) (state g new.conn) closed.0 went.0 went.1 closed.2))
+
+-- what was done before the first of them is no cause less
+pub stop_caused_after : (cs : List Command) (first old new : State) (failure : Option Error) (stop : Option (ℕ × Fault)) → IsLater first old → StopsForCause cs old new failure stop → StopsForCause cs first new failure stop
+stop_caused_after cs first old new failure None went cause = tt
+stop_caused_after cs first old new failure (Some at) went cause = λ failed.
+    let it = cause failed in (it.0, it.1, (it.2.0, it.2.1, write_caused_after it.0 first old new it.2.0 went.0 went.1 it.2.2))

@@ -3,11 +3,10 @@ use Rattle.std.proofs.Common.{◌≡◌, ◌∙◌, ◌<◌, ◌==◌, ◌+◌, 
 use Rattle.std.proofs.lemmas.Bool.Decides.{nat_tests}
 use Rattle.std.proofs.lemmas.List.{drop_more}
 use Rattle.civil_time.specs.Zone.{ZoneRules}
-use Rattle.court_days.specs.Calendar.{Entered, IsWithinLimits}
+use Rattle.court_days.specs.Calendar.{Entered}
 use Rattle.court_days.specs.Court.{CourtSettings, zone_of}
 use Rattle.court_days.specs.declared.filing.End.{End}
-use Rattle.court_days.proofs.CourtLemmas.{zone_of-is_zone}
-use Rattle.court_rules.specs.Standings.{AreActs, standing}
+use Rattle.court_rules.specs.Standings.{standing}
 use Rattle.court_rules.specs.declared.act.Act.{Act}
 use Rattle.court_rules.specs.declared.act.Standing.{Standing}
 use Rattle.court_rules.specs.declared.act.Standing.TheVariants.{Running, Suspended, Awaiting, Done, Vacated}
@@ -17,17 +16,15 @@ use Rattle.docket_decisions.specs.declared.end_row.EndRow.{EndRow}
 use Rattle.docket_decisions.specs.declared.end_row.EndTime.{EndTime}
 use Rattle.docket_history.specs.declared.record.DeadlineLine.{DeadlineLine}
 use Rattle.docket_history.specs.declared.view.DeadlineView.{DeadlineView}
-use Rattle.docket_calendar.specs.DueCells.{IsDueEnd}
-use Rattle.docket_calendar.proofs.EndBounds.{ends_are_due}
 
 -- a time that runs, by the end that is stored
-pub runs_to : (court : CourtSettings) (entered : Entered) (acts : List Act) (stored : EndTime) → IsWithinLimits entered → AreActs (zone_of court) acts → Some stored ≡ end_running (zone_of court) (standing (zone_of court) entered acts)
-    → (end : End) × IsDueEnd end × (stored ≡ time_of (zone_of court) end) × (standing (zone_of court) entered acts ≡ Running end)
-runs_to court entered acts stored limits are same = by (standing (zone_of court) entered acts) refl same
+pub runs_to : (court : CourtSettings) (entered : Entered) (acts : List Act) (stored : EndTime) → Some stored ≡ end_running (zone_of court) (standing (zone_of court) entered acts)
+    → (end : End) × (stored ≡ time_of (zone_of court) end) × (standing (zone_of court) entered acts ≡ Running end)
+runs_to court entered acts stored same = by (standing (zone_of court) entered acts) refl same
   where
     by : (s : Standing) → standing (zone_of court) entered acts ≡ s → Some stored ≡ end_running (zone_of court) s
-        → (end : End) × IsDueEnd end × (stored ≡ time_of (zone_of court) end) × (standing (zone_of court) entered acts ≡ Running end)
-    by (Running end) is e = (end, ends_are_due entered limits (zone_of court) (zone_of-is_zone court) acts end are is, ap (λ o. unwrap_or o stored) e, is)
+        → (end : End) × (stored ≡ time_of (zone_of court) end) × (standing (zone_of court) entered acts ≡ Running end)
+    by (Running end) is e = (end, ap (λ o. unwrap_or o stored) e, is)
     by Suspended is e = absurd (let no = e in cc)
     by Awaiting is e = absurd (let no = e in cc)
     by Done is e = absurd (let no = e in cc)

@@ -1,6 +1,6 @@
 -- Why a docket's database failed.
-use Rattle.std.specs.Prelude.{◌≡◌, ◌≢◌, ◌⊎◌, ℕ, IsTrue, Option, Some, IsSome, Result, Err, None, ◌<◌, ◌^◌, length}
-use Rattle.sqlite.specs.Held.{Held, state}
+use Rattle.std.specs.Prelude.{◌≡◌, ◌≢◌, ◌⊎◌, ℕ, IsTrue, List, Option, Some, IfSome, IsSome, Result, Err, None, ◌<◌, ◌^◌, length, slice_get}
+use Rattle.sqlite.specs.Held.{state}
 use Rattle.sqlite.specs.State.{State}
 use Rattle.sqlite.specs.Store.{Ghosts}
 use Rattle.sqlite.specs.declared.error.Error.{Error}
@@ -83,6 +83,14 @@ IsCausedWrite c old new failure _ = Unit {0}
 abbrev pub IsClosedByWrite : {S : Type 0} → Ghosts S → Command → Docket S → Docket S → Type 0
 IsClosedByWrite g c old new = (e : Error) × (new.closed_by ≡ Some e) × HasWriteCause c (state g old.conn) (state g new.conn) e
 
--- a command closed the docket on this connection, for a cause that is told
-abbrev pub IsCausedStop : {S : Type 0} → Ghosts S → Held S → Option Error → Type 0
-IsCausedStop {S} g conn failure = (c : Command) × (before : Held S) × (e : Error) × (failure ≡ Some e) × HasWriteCause c (state g before) (state g conn) e
+-- the database failed at the command of this place, and the error that is told has a cause since the first of them
+abbrev pub IsCausedAt : List Command → State → State → Option Error → ℕ → Type 0
+IsCausedAt cs old new failure place = (c : Command) × (slice_get cs place ≡ Some c) × IsCausedWrite c old new failure StoreFailed
+
+-- commands in order stopped where the database failed, for such a cause, if it did
+abbrev pub StopsForCause : List Command → State → State → Option Error → Option (ℕ × Fault) → Type 0
+StopsForCause cs old new failure stop = IfSome stop (λ at. at.1 ≡ StoreFailed → IsCausedAt cs old new failure at.0)
+
+-- the database did not fail as commands in order were answered, up to the end or to a command that stopped them for another reason
+abbrev pub IsUnfailed : Option (ℕ × Fault) → Type 0
+IsUnfailed stop = IfSome stop (λ at. at.1 ≢ StoreFailed)

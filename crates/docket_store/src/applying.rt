@@ -19,7 +19,8 @@ ghost use Rattle.docket_tables.specs.AnyRows.{AreDocketRows};
 ghost use Rattle.docket_tables.specs.Layouts.{Rows};
 ghost use Rattle.docket_tables.specs.Stands.{HoldsRows};
 ghost use Rattle.docket_store.specs.AnyRows.{Preserves, WritesWhole};
-ghost use Rattle.docket_store.specs.Applying.{IsDocket, StandsFor, Keeps, Stands, IsAccepted, AreNamed, Applies, Asks};
+ghost use Rattle.docket_store.specs.Applying.{Keeps, Stands, IsAccepted, AreNamed, Applies, Asks};
+ghost use Rattle.docket_tables.specs.Causes.{IsLater};
 ghost use Rattle.docket_store.specs.Causes.{IsCausedBy, IsCausedWrite, IsNamed, IsNotAccepted};
 ghost use Rattle.docket_store.specs.Dockets.{serving};
 
@@ -31,7 +32,7 @@ use court_rules::Act;
 use docket_changes::{EndUpdate, case_moved, changes_calendar, moves, moves_all_cases, write};
 use docket_command::{Action, Command, Reply};
 use docket_decisions::{Changes, Decision};
-use docket_history::CalendarItems;
+use docket_history::StandingCalendar;
 use docket_tables::cases;
 use docket_wire::command_text;
 use sqlite::{Alter, Connection, Error};
@@ -45,7 +46,7 @@ fn changes_fit(changes: &Changes)
 }
 
 /// What stays of the calendar that is kept, after an accepted command.
-fn keep_calendar(kept: &mut Option<CalendarItems>, action: &Action)
+fn keep_calendar(kept: &mut Option<StandingCalendar>, action: &Action)
     ensures { (h : History) (c : Asked) → c.action ≡ action.now → Keeps kept.old h
         → Keeps kept.new h × Keeps kept.new (c ∷ h) }
 {
@@ -82,7 +83,7 @@ fn case_update<S: Alter>(
     conn: &mut Connection<S>,
     alloc: Global,
     court: &Court,
-    kept: &mut Option<CalendarItems>,
+    kept: &mut Option<StandingCalendar>,
     command: &Command,
     named: &[Act],
     changes: &Changes,
@@ -107,8 +108,11 @@ fn case_update<S: Alter>(
         → (HasCleanDisk (state S.Store conn.old) → IsAccepted court.now h command.now changes.now × AreNamed h command.now named.now) → HasCleanDisk (state S.Store conn.new)
         → IfOk result (λ found. MayAddEnds found (rows_of court.now (command.now ∷ h)) (end_rows court.now (rows_of court.now h))) }
 {
-    let calendar = calendar_told(conn, alloc, court, kept, failure)?;
-    match moves(alloc, court, &calendar, named, changes.rows.as_slice()) {
+    let standing = calendar_told(conn, alloc, kept, failure)?;
+    let calendar = standing.calendar();
+    let found = moves(alloc, court, calendar, named, changes.rows.as_slice());
+    *kept = Some(standing);
+    match found {
         Ok(update) => Ok(update),
         Err(fault) => Err(read_fault(conn, fault, failure)),
     }
@@ -120,7 +124,7 @@ fn end_update<S: Alter>(
     conn: &mut Connection<S>,
     alloc: Global,
     court: &Court,
-    kept: &mut Option<CalendarItems>,
+    kept: &mut Option<StandingCalendar>,
     command: &Command,
     named: &[Act],
     changes: &Changes,
@@ -159,7 +163,7 @@ fn keep<S: Alter>(
     conn: &mut Connection<S>,
     alloc: Global,
     court: &Court,
-    kept: &mut Option<CalendarItems>,
+    kept: &mut Option<StandingCalendar>,
     command: &Command,
     body: &str,
     named: &[Act],
@@ -177,6 +181,9 @@ fn keep<S: Alter>(
     ensures kept { (h : History) → Stands S.Store (serving conn.old court.now kept.old) h
         → (HasCleanDisk (state S.Store conn.old) → IsAccepted court.now h command.now changes.now × AreNamed h command.now named.now)
         → Applies S.Store (serving conn.new court.now kept.new) h command.now result }
+    ensures later { (h : History) → Stands S.Store (serving conn.old court.now kept.old) h
+        → (HasCleanDisk (state S.Store conn.old) → IsAccepted court.now h command.now changes.now × AreNamed h command.now named.now) → HasCleanDisk (state S.Store conn.new)
+        → IsLater (state S.Store conn.old) (state S.Store conn.new) }
     ensures cause { (h : History) → Stands S.Store (serving conn.old court.now kept.old) h
         → (HasCleanDisk (state S.Store conn.old) → IsAccepted court.now h command.now changes.now × AreNamed h command.now named.now) → HasCleanDisk (state S.Store conn.new)
         → IfErr result (IsCausedWrite command.now (state S.Store conn.old) (state S.Store conn.new) failure.new) }
@@ -195,7 +202,7 @@ pub(crate) fn apply_to<S: Alter>(
     conn: &mut Connection<S>,
     alloc: Global,
     court: &Court,
-    kept: &mut Option<CalendarItems>,
+    kept: &mut Option<StandingCalendar>,
     command: &Command,
     failure: &mut Option<Error>,
 ) -> Result<Reply, Fault>
@@ -207,6 +214,8 @@ pub(crate) fn apply_to<S: Alter>(
         → WritesWhole S.Store conn.new court.now n rows command.now result }
     ensures answer { (h : History) → Stands S.Store (serving conn.old court.now kept.old) h
         → Applies S.Store (serving conn.new court.now kept.new) h command.now result }
+    ensures later { (h : History) → Stands S.Store (serving conn.old court.now kept.old) h → HasCleanDisk (state S.Store conn.new)
+        → IsLater (state S.Store conn.old) (state S.Store conn.new) }
     // What nothing is written for fails only for a cause.
     ensures spared { (h : History) → Stands S.Store (serving conn.old court.now kept.old) h → HasCleanDisk (state S.Store conn.new) → IsNotAccepted court.now h command.now
         → IfErr result (IsCausedBy (state S.Store conn.old) (state S.Store conn.new) failure.new) }

@@ -1,35 +1,30 @@
 //! What the docket that the tables hold tells of a case.
-ghost use Rattle.std.specs.Prelude.{◌≡◌, ◌≤◌, List, Option, Some, [], false, IfErr, MatchResult};
+ghost use Rattle.std.specs.Prelude.{◌≡◌, ◌≤◌, List, Option, Some, false, IfErr};
 ghost use Rattle.std.specs.Option.{option_map};
 ghost use Rattle.sqlite.specs.Held.{state};
 ghost use Rattle.sqlite.specs.State.{HasCleanDisk};
 ghost use Rattle.sqlite.specs.View.{doubt};
 ghost use Rattle.court_days.specs.Court.{CourtSettings, zone_of};
-ghost use Rattle.docket_history.specs.CalendarItems.{calendar_of};
 ghost use Rattle.docket_decisions.specs.EndRows.{end_rows_of};
-ghost use Rattle.docket_history.specs.Histories.{History, deadlines, items_of, local_rule_rows, standing_rows};
+ghost use Rattle.docket_history.specs.Histories.{History, deadlines, items_of, standing_rows};
 ghost use Rattle.docket_history.specs.Records.{calendar, case_record, deadline_lines};
 ghost use Rattle.docket_decisions.specs.Tables.{case_deadlines, rows_of};
 ghost use Rattle.docket_history.specs.declared.item.CalendarItem.{CalendarItem as Item};
-ghost use Rattle.docket_changes.specs.Sound.{IsSoundCase};
 ghost use Rattle.docket_tables.specs.Layouts.{Rows};
 ghost use Rattle.docket_tables.specs.Stands.{HoldsRows};
 ghost use Rattle.docket_store.specs.AnyRows.{Preserves};
 ghost use Rattle.docket_store.specs.Applying.{Stands, Asks};
 ghost use Rattle.docket_store.specs.Causes.{IsCausedBy, IsNamed};
 ghost use Rattle.docket_store.specs.Dockets.{serving};
-ghost use Rattle.docket_store.specs.Sound.{IsNotTold};
 
 use crate::fault::{Fault, read_fault};
 use crate::judging::take_calendar;
 use crate::lines::lines_told;
 use court_days::{Calendar, Court};
-use docket_changes::{case_deadlines, case_record, is_sound_case};
+use docket_changes::{case_deadlines, case_record};
 use docket_decisions::EndRow;
-use docket_history::{
-    CalendarItem, CalendarItems, CaseRecord, DeadlineLine, DeadlineView, LocalRuleRow, calendar_of,
-};
-use docket_tables::{ends_of_case, local_rules};
+use docket_history::{DeadlineLine, DeadlineView, StandingCalendar};
+use docket_tables::ends_of_case;
 use sqlite::{Alter, Connection, Error};
 use std::alloc::Global;
 
@@ -58,13 +53,13 @@ fn deadlines_shown<S: Alter>(
     }
 }
 
-/// The items of the calendar. What is kept of it is taken.
-fn calendar_shown<S: Alter>(
+/// The calendar that stands. What is kept of it is taken, and the caller keeps it again.
+pub(crate) fn calendar_told<S: Alter>(
     conn: &mut Connection<S>,
     alloc: Global,
-    kept: &mut Option<CalendarItems>,
+    kept: &mut Option<StandingCalendar>,
     failure: &mut Option<Error>,
-) -> Result<CalendarItems, Fault>
+) -> Result<StandingCalendar, Fault>
     requires { conn.old.in_transaction ≡ false }
     ensures idle { conn.new.in_transaction ≡ false }
     ensures clean { doubt (state S.Store conn.old).is_clean ≤ doubt (state S.Store conn.new).is_clean }
@@ -78,45 +73,9 @@ fn calendar_shown<S: Alter>(
         → Asks S.Store (serving conn.new court kept.new) h (λ items. items ≡ items_of (standing_rows h)) result }
 {
     match take_calendar(conn, alloc, kept) {
-        Ok(items) => Ok(items),
+        Ok(standing) => Ok(standing),
         Err(fault) => Err(read_fault(conn, fault, failure)),
     }
-}
-
-/// The calendar of the items.
-fn calendar_by(alloc: Global, court: &Court, items: &[CalendarItem]) -> Result<Calendar, Fault>
-    ensures { MatchResult result (λ calendar. calendar ≡ calendar_of items.now) (IsNotTold (IsSoundCase court.now items.now [])) }
-{
-    if !is_sound_case(court, items, &[]) {
-        return Err(Fault::Damaged);
-    }
-    Ok(calendar_of(alloc, items)?)
-}
-
-/// The calendar, which is kept.
-pub(crate) fn calendar_told<S: Alter>(
-    conn: &mut Connection<S>,
-    alloc: Global,
-    court: &Court,
-    kept: &mut Option<CalendarItems>,
-    failure: &mut Option<Error>,
-) -> Result<Calendar, Fault>
-    requires { conn.old.in_transaction ≡ false }
-    ensures idle { conn.new.in_transaction ≡ false }
-    ensures clean { doubt (state S.Store conn.old).is_clean ≤ doubt (state S.Store conn.new).is_clean }
-    ensures stays { (rows : Rows) → HoldsRows S.Store conn.old rows → Preserves S.Store conn.new rows result }
-    ensures counts { (state S.Store conn.old).faults ≤ (state S.Store conn.new).faults }
-    ensures limit { (state S.Store conn.new).step_limit ≡ (state S.Store conn.old).step_limit }
-    ensures named { IfErr result (IsNamed failure.new) }
-    ensures cause { (rows : Rows) → HoldsRows S.Store conn.old rows → HasCleanDisk (state S.Store conn.new)
-        → IfErr result (IsCausedBy (state S.Store conn.old) (state S.Store conn.new) failure.new) }
-    ensures answer { (h : History) → Stands S.Store (serving conn.old court.now kept.old) h
-        → Asks S.Store (serving conn.new court.now kept.new) h (λ found. found ≡ calendar h) result }
-{
-    let items = calendar_shown(conn, alloc, kept, failure)?;
-    let answer = calendar_by(alloc, court, items.as_slice());
-    *kept = Some(items);
-    answer
 }
 
 /// The ends that are stored of the case of a number.
@@ -179,7 +138,7 @@ pub(crate) fn lines_numbered<S: Alter>(
     conn: &mut Connection<S>,
     alloc: Global,
     court: &Court,
-    kept: &mut Option<CalendarItems>,
+    kept: &mut Option<StandingCalendar>,
     number: u32,
     failure: &mut Option<Error>,
 ) -> Result<Option<Vec<DeadlineLine>>, Fault>
@@ -198,15 +157,16 @@ pub(crate) fn lines_numbered<S: Alter>(
     let Some(deadlines) = deadlines_shown(conn, alloc, number, failure)? else {
         return Ok(None);
     };
-    let entered = calendar_told(conn, alloc, court, kept, failure)?;
+    let standing = calendar_told(conn, alloc, kept, failure)?;
     let lines = lines_of_case(
         conn,
         alloc,
         court,
-        &entered,
+        standing.calendar(),
         number,
         deadlines.as_slice(),
         failure,
-    )?;
-    Ok(Some(lines))
+    );
+    *kept = Some(standing);
+    Ok(Some(lines?))
 }

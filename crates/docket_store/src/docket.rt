@@ -1,13 +1,10 @@
 //! The docket of a court in a database.
-ghost use Rattle.std.specs.Prelude.{◌≡◌, ◌↔◌, ◌⊎◌, ◌≤◌, ◌<◌, ◌^◌, ℕ, List, [], true, false, Ok, Err, IfOk, OnOk, IfErr, IfSome, IsErrAnd, IsTrue, MatchResult, is_some};
+ghost use Rattle.std.specs.Prelude.{◌≡◌, ◌↔◌, ◌≤◌, ◌<◌, ◌^◌, ℕ, List, [], true, false, None, Ok, Err, IfOk, OnOk, IfErr, IsErrAnd, IsTrue, MatchResult, is_some};
 ghost use Rattle.sqlite.specs.Held.{state};
 ghost use Rattle.sqlite.specs.State.{HasCleanDisk, Survives};
 ghost use Rattle.sqlite.specs.View.{doubt};
-ghost use Rattle.court_days.specs.Court.{CourtSettings, zone_of};
-ghost use Rattle.court_rules.specs.Standings.{AreActs};
-ghost use Rattle.std.specs.Option.{option_map};
-ghost use Rattle.docket_history.specs.Histories.{History, local_rule_rows};
-ghost use Rattle.docket_history.specs.Records.{case_record, deadline_lines};
+ghost use Rattle.court_days.specs.Court.{CourtSettings};
+ghost use Rattle.docket_history.specs.Histories.{History};
 ghost use Rattle.docket_columns.specs.declared.version.Version.TheVariants.{First};
 ghost use Rattle.docket_decisions.specs.Tables.{rows_of};
 ghost use Rattle.docket_migration.specs.Migrating.{Migrates, Tells};
@@ -18,20 +15,17 @@ ghost use Rattle.docket_tables.specs.Contents.{rows_by};
 ghost use Rattle.docket_tables.specs.Recognition.{has_docket_table};
 ghost use Rattle.docket_decisions.specs.declared.end_row.EndRow.{EndRow};
 ghost use Rattle.docket_tables.specs.AnyRows.{AreDocketRows};
+ghost use Rattle.docket_tables.specs.Causes.{IsLater};
 ghost use Rattle.docket_tables.specs.Layouts.{Rows};
 ghost use Rattle.docket_tables.specs.Stands.{HoldsRows, HoldsRowsIn};
 ghost use Rattle.docket_tables.specs.declared.table.Table.TheVariants as table;
-ghost use Rattle.docket_store.specs.AnyRows.{Preserves, PreservesCalendar, PreservesListing, PreservesRejected, WritesWhole};
-ghost use Rattle.docket_store.specs.Applying.{IsDocket, StandsFor, Stands, Applies, Asks, docket_rows};
-ghost use Rattle.docket_store.specs.Causes.{IsCausedCreating, IsCausedOpening, IsClosedByWrite, IsClosedForCause, IsNamed, IsNotAccepted};
-ghost use Rattle.docket_store.specs.Grounds.{AreGrounds};
-ghost use Rattle.docket_store.specs.Listing.{Lists, ListsCalendar};
+ghost use Rattle.docket_store.specs.AnyRows.{PreservesRejected, WritesWhole};
+ghost use Rattle.docket_store.specs.Applying.{IsDocket, StandsFor, Stands, Applies, docket_rows};
+ghost use Rattle.docket_store.specs.Causes.{IsCausedCreating, IsCausedOpening, IsClosedByWrite, IsClosedForCause, IsNotAccepted};
 ghost use Rattle.docket_store.specs.Migrating.{cause_of};
 ghost use Rattle.docket_store.specs.Opening.{IsAdopted, IsNotAdopted, IsNotMade, IsRejected, IsSoundDocket, IsSoundWith};
 ghost use Rattle.docket_store.specs.declared.creating.CreateFault.TheVariants.{NotEmpty};
 ghost use Rattle.docket_store.specs.declared.fault.Fault.TheVariants as fault;
-ghost use Rattle.docket_store.specs.declared.listing.CalendarEnd.TheVariants as calendar_end;
-ghost use Rattle.docket_store.specs.declared.listing.ListingEnd.TheVariants as listing_end;
 
 use crate::adopting::adopt_from;
 use crate::applying::apply_to;
@@ -42,7 +36,7 @@ use crate::migrating::MigrateFault;
 use crate::returned::Returned;
 use court_days::Court;
 use docket_command::{Command, Reply};
-use docket_history::CalendarItems;
+use docket_history::StandingCalendar;
 use docket_migration::migrate;
 use docket_scan::{AdoptFault, FoundDocket, Holdings, Unwatched, Watch};
 use sqlite::{Alter, Connection, Error};
@@ -58,7 +52,7 @@ pub struct Docket<S: Alter> {
     // The error of the database, where it failed.
     pub(crate) closed_by: Option<Error>,
     // The calendar, from when it is first asked for until it changes.
-    pub(crate) calendar: Option<CalendarItems>,
+    pub(crate) calendar: Option<StandingCalendar>,
 }
 
 impl<S: Alter> Model for Docket<S> {
@@ -130,6 +124,7 @@ impl<S: Alter> Docket<S> {
         // The database failed only for a cause.
         ensures cause { IfErr result (λ returned. HasCleanDisk (state S.Store returned.connection)
             → IsCausedOpening (state S.Store conn) (state S.Store returned.connection) returned.failure returned.fault) }
+        ensures opened { IfOk result (λ docket. docket.closed ≡ false) }
         // Nothing is written, whatever the answer.
         ensures writes_nothing { MatchResult result
             (λ docket. Survives (state S.Store conn) (state S.Store docket.conn) (λ _. ⊥))
@@ -164,6 +159,7 @@ impl<S: Alter> Docket<S> {
         // The database failed only for a cause.
         ensures cause { IfErr result (λ returned. HasCleanDisk (state S.Store returned.connection)
             → IsCausedOpening (state S.Store conn) (state S.Store returned.connection) returned.failure returned.fault) }
+        ensures opened { IfOk result (λ found. found.0.closed ≡ false) }
         // Nothing is written, whatever the answer.
         ensures writes_nothing { MatchResult result
             (λ found. Survives (state S.Store conn) (state S.Store found.0.conn) (λ _. ⊥))
@@ -268,6 +264,7 @@ impl<S: Alter> Docket<S> {
             → WritesWhole S.Store self.new.conn self.new.court n rows command.now result }
         ensures clean { doubt (state S.Store self.old.conn).is_clean ≤ doubt (state S.Store self.new.conn).is_clean }
         ensures closes { self.old.closed ≡ false → (self.new.closed ≡ true) ↔ (result ≡ Err fault.StoreFailed) }
+        ensures later { (h : History) → Stands S.Store self.old h → HasCleanDisk (state S.Store self.new.conn) → IsLater (state S.Store self.old.conn) (state S.Store self.new.conn) }
         // It fails of the database only for a cause, which is that of a question where nothing is written.
         ensures cause { (h : History) → Stands S.Store self.old h → HasCleanDisk (state S.Store self.new.conn)
             → result ≡ Err fault.StoreFailed → IsClosedByWrite S.Store command.now self.old self.new }
@@ -302,7 +299,8 @@ impl<S: Alter> Docket<S> {
 
     /// The error of the database for which the docket is closed.
     pub fn closed_by(&self) -> Option<Error>
-        ensures { result ≡ self.now.closed_by }
+        ensures error { result ≡ self.now.closed_by }
+        ensures none { self.now.closed ≡ false → result ≡ None }
     {
         self.closed_by
     }

@@ -18,7 +18,7 @@ use crate::asking::calendar_told;
 use crate::fault::{Fault, read_fault};
 use court_days::{Calendar, Court, Day};
 use docket_calendar::due_rows;
-use docket_history::{CalendarItems, DueRow};
+use docket_history::{DueRow, StandingCalendar};
 use sqlite::{Alter, Connection, Error};
 use std::alloc::Global;
 
@@ -56,7 +56,7 @@ pub(crate) fn due_days<S: Alter>(
     conn: &mut Connection<S>,
     alloc: Global,
     court: &Court,
-    kept: &mut Option<CalendarItems>,
+    kept: &mut Option<StandingCalendar>,
     from: Day,
     to: Day,
     failure: &mut Option<Error>,
@@ -71,6 +71,8 @@ pub(crate) fn due_days<S: Alter>(
     ensures answer { (h : History) → Stands S.Store (serving conn.old court.now kept.old) h
         → Asks S.Store (serving conn.new court.now kept.new) h (λ found. found.items ≡ calendar_rows court.now h from to) result }
 {
-    let entered = calendar_told(conn, alloc, court, kept, failure)?;
-    due_by(conn, alloc, court, &entered, from, to, failure)
+    let standing = calendar_told(conn, alloc, kept, failure)?;
+    let found = due_by(conn, alloc, court, standing.calendar(), from, to, failure);
+    *kept = Some(standing);
+    found
 }

@@ -21,7 +21,7 @@ use crate::asking::calendar_told;
 use crate::fault::{Fault, read_fault};
 use court_days::{Calendar, Court};
 use docket_changes::{deadline_view, is_sound_case};
-use docket_history::{CalendarItems, DeadlineView};
+use docket_history::{DeadlineView, StandingCalendar, calendar_of};
 use sqlite::{Alter, Connection, Error};
 use std::alloc::Global;
 use std::slice;
@@ -71,7 +71,7 @@ pub(crate) fn grounds_of<S: Alter>(
     conn: &mut Connection<S>,
     alloc: Global,
     court: &Court,
-    kept: &mut Option<CalendarItems>,
+    kept: &mut Option<StandingCalendar>,
     case: u32,
     number: u32,
     failure: &mut Option<Error>,
@@ -95,6 +95,11 @@ pub(crate) fn grounds_of<S: Alter>(
     if !is_sound_deadline(court, &deadline) {
         return Err(Fault::Damaged);
     }
-    let calendar = calendar_told(conn, alloc, court, kept, failure)?;
-    Ok(Some(Grounds { deadline, calendar }))
+    let standing = calendar_told(conn, alloc, kept, failure)?;
+    let calendar = calendar_of(alloc, standing.as_slice());
+    *kept = Some(standing);
+    Ok(Some(Grounds {
+        deadline,
+        calendar: calendar?,
+    }))
 }

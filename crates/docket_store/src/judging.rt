@@ -23,20 +23,41 @@ ghost use Rattle.docket_store.specs.Dockets.{serving};
 use crate::fault::{Fault, read_fault};
 use court_days::Court;
 use court_rules::Act;
-use docket_changes::{calendar_items, is_sound, view};
+use docket_changes::{calendar_items, is_sound, is_sound_calendar, view};
 use docket_command::{Action, Command};
 use docket_decisions::{DecideFault, Decision, acts_named, decide};
-use docket_history::{CalendarItems, View, asks_calendar};
+use docket_history::{StandingCalendar, View, asks_calendar};
 use docket_tables::ReadFault;
 use sqlite::{Alter, Connection, Error};
 use std::alloc::Global;
+
+/// The calendar that the tables hold, which is tested and built once.
+fn read_calendar<S: Alter>(
+    conn: &mut Connection<S>,
+    alloc: Global,
+) -> Result<StandingCalendar, ReadFault>
+    ensures mode { conn.old.in_transaction ≡ false → conn.new.in_transaction ≡ false }
+    ensures clean { doubt (state S.Store conn.old).is_clean ≤ doubt (state S.Store conn.new).is_clean }
+    ensures stays { (rows : Rows) → HoldsRows S.Store conn.old rows → Stays S.Store conn.new rows result }
+    ensures counts { (state S.Store conn.old).faults ≤ (state S.Store conn.new).faults }
+    ensures limit { (state S.Store conn.new).step_limit ≡ (state S.Store conn.old).step_limit }
+    ensures cause { (rows : Rows) → HoldsRows S.Store conn.old rows → HasCleanDisk (state S.Store conn.new) → FailsForCause (state S.Store conn.old) (state S.Store conn.new) result }
+    ensures read { (court : CourtSettings) (h : History) → IsDocket court h → StandsFor S.Store conn.old court h
+        → Gives S.Store conn.new (docket_rows court h) (λ items. items ≡ items_of (standing_rows h)) result }
+{
+    let items = calendar_items(conn, alloc)?;
+    if !is_sound_calendar(items.as_slice()) {
+        return Err(ReadFault::Damaged);
+    }
+    Ok(StandingCalendar::new(alloc, items)?)
+}
 
 /// The calendar: what is kept of it is taken, and else the tables are asked.
 pub(crate) fn take_calendar<S: Alter>(
     conn: &mut Connection<S>,
     alloc: Global,
-    kept: &mut Option<CalendarItems>,
-) -> Result<CalendarItems, ReadFault>
+    kept: &mut Option<StandingCalendar>,
+) -> Result<StandingCalendar, ReadFault>
     ensures mode { conn.old.in_transaction ≡ false → conn.new.in_transaction ≡ false }
     ensures clean { doubt (state S.Store conn.old).is_clean ≤ doubt (state S.Store conn.new).is_clean }
     ensures stays { (rows : Rows) → HoldsRows S.Store conn.old rows → Stays S.Store conn.new rows result }
@@ -48,8 +69,8 @@ pub(crate) fn take_calendar<S: Alter>(
         → Gives S.Store conn.new (docket_rows court h) (λ items. items ≡ items_of (standing_rows h)) result }
 {
     match kept.take() {
-        Some(items) => Ok(items),
-        None => calendar_items(conn, alloc),
+        Some(standing) => Ok(standing),
+        None => read_calendar(conn, alloc),
     }
 }
 
@@ -57,9 +78,9 @@ pub(crate) fn take_calendar<S: Alter>(
 fn calendar_asked<S: Alter>(
     conn: &mut Connection<S>,
     alloc: Global,
-    kept: &mut Option<CalendarItems>,
+    kept: &mut Option<StandingCalendar>,
     action: &Action,
-) -> Result<CalendarItems, ReadFault>
+) -> Result<StandingCalendar, ReadFault>
     ensures mode { conn.old.in_transaction ≡ false → conn.new.in_transaction ≡ false }
     ensures clean { doubt (state S.Store conn.old).is_clean ≤ doubt (state S.Store conn.new).is_clean }
     ensures stays { (rows : Rows) → HoldsRows S.Store conn.old rows → Stays S.Store conn.new rows result }
@@ -71,7 +92,7 @@ fn calendar_asked<S: Alter>(
         → Gives S.Store conn.new (docket_rows court h) (λ items. items ≡ (if asks_calendar action.now then items_of (standing_rows h) else [])) result }
 {
     if !asks_calendar(action) {
-        return Ok(CalendarItems::new(Vec::new(alloc)));
+        return Ok(StandingCalendar::empty(alloc));
     }
     take_calendar(conn, alloc, kept)
 }
@@ -80,7 +101,7 @@ fn calendar_asked<S: Alter>(
 fn shown<S: Alter>(
     conn: &mut Connection<S>,
     alloc: Global,
-    kept: &mut Option<CalendarItems>,
+    kept: &mut Option<StandingCalendar>,
     command: &Command,
     body: &str,
 ) -> Result<View, ReadFault>
@@ -105,7 +126,7 @@ fn shown<S: Alter>(
 fn look<S: Alter>(
     conn: &mut Connection<S>,
     alloc: Global,
-    kept: &mut Option<CalendarItems>,
+    kept: &mut Option<StandingCalendar>,
     command: &Command,
     body: &str,
     failure: &mut Option<Error>,
@@ -143,7 +164,7 @@ pub(crate) fn judge<S: Alter>(
     conn: &mut Connection<S>,
     alloc: Global,
     court: &Court,
-    kept: &mut Option<CalendarItems>,
+    kept: &mut Option<StandingCalendar>,
     command: &Command,
     body: &str,
     failure: &mut Option<Error>,

@@ -1,5 +1,5 @@
 //! The calendar of a docket, written row by row.
-ghost use Rattle.std.specs.Prelude.{◌≡◌, ◌≤◌, ◌⊎◌, ◌↔◌, List, Option, IfErr, is_some, true, false, MatchResult};
+ghost use Rattle.std.specs.Prelude.{◌≡◌, ◌≤◌, ◌↔◌, List, Option, IfErr, is_some, true, false};
 ghost use Rattle.sqlite.specs.Held.{state};
 ghost use Rattle.sqlite.specs.View.{doubt};
 ghost use Rattle.sqlite.specs.State.{HasCleanDisk};
@@ -19,7 +19,7 @@ use crate::asking::calendar_told;
 use crate::fault::{Fault, read_fault};
 use court_days::{Calendar, Court, Day};
 use docket_calendar::{Stop, calendar};
-use docket_history::CalendarItems;
+use docket_history::StandingCalendar;
 use sqlite::{Alter, Connection, Error};
 use std::alloc::Global;
 use std::io::Write;
@@ -107,7 +107,7 @@ pub(crate) fn list_days<S: Alter, W: Write>(
     conn: &mut Connection<S>,
     alloc: Global,
     court: &Court,
-    kept: &mut Option<CalendarItems>,
+    kept: &mut Option<StandingCalendar>,
     from: Day,
     to: Day,
     front: &[u8],
@@ -124,11 +124,14 @@ pub(crate) fn list_days<S: Alter, W: Write>(
     ensures lists { (h : History) → Stands S.Store (serving conn.old court.now kept.old) h
         → Lists S.Store (serving conn.new court.now kept.new) h from to front.now (W.contents writer.old) (W.contents writer.new) result }
 {
-    let entered = match calendar_told(conn, alloc, court, kept, failure) {
-        Ok(entered) => entered,
+    let standing = match calendar_told(conn, alloc, kept, failure) {
+        Ok(standing) => standing,
         Err(fault) => return Err(ListingEnd::NotBegun(fault)),
     };
-    list_by(
-        conn, alloc, court, &entered, from, to, front, writer, failure,
-    )
+    let entered = standing.calendar();
+    let listed = list_by(
+        conn, alloc, court, entered, from, to, front, writer, failure,
+    );
+    *kept = Some(standing);
+    listed
 }

@@ -1,11 +1,12 @@
 //! Commands in order, each in a transaction of its own.
-ghost use Rattle.std.specs.Prelude.{◌≡◌, ◌≤◌, ◌<◌, ◌^◌, ℕ, List, IfOk, IfErr, Err, true};
+ghost use Rattle.std.specs.Prelude.{◌≡◌, ◌≢◌, ◌≤◌, ◌<◌, ◌^◌, ℕ, List, IfOk, IfErr, Err, true, false};
 ghost use Rattle.sqlite.specs.Held.{state};
 ghost use Rattle.sqlite.specs.State.{HasCleanDisk};
 ghost use Rattle.sqlite.specs.View.{doubt};
 ghost use Rattle.docket_history.specs.Histories.{History};
 ghost use Rattle.docket_decisions.specs.declared.end_row.EndRow.{EndRow};
 ghost use Rattle.docket_tables.specs.AnyRows.{AreDocketRows};
+ghost use Rattle.docket_tables.specs.Causes.{IsLater};
 ghost use Rattle.docket_tables.specs.Layouts.{Rows};
 ghost use Rattle.docket_tables.specs.Stands.{HoldsRows};
 ghost use Rattle.docket_store.specs.AnyRows.{AnswersWhole};
@@ -33,6 +34,8 @@ pub fn answer<S: Alter>(
     ensures answer { (h : History) → Stands S.Store docket.old h → IfOk result (Answers S.Store docket.new h command.now) }
     ensures halts { (h : History) → Stands S.Store docket.old h → IfErr result (Halts S.Store docket.new h command.now) }
     ensures closes { result ≡ Err fault.StoreFailed → docket.new.closed ≡ true }
+    ensures stays_open { docket.old.closed ≡ false → result ≢ Err fault.StoreFailed → docket.new.closed ≡ false }
+    ensures later { (h : History) → Stands S.Store docket.old h → HasCleanDisk (state S.Store docket.new.conn) → IsLater (state S.Store docket.old.conn) (state S.Store docket.new.conn) }
     ensures cause { (h : History) → Stands S.Store docket.old h → HasCleanDisk (state S.Store docket.new.conn)
         → result ≡ Err fault.StoreFailed → IsClosedByWrite S.Store command.now docket.old docket.new }
 {

@@ -1,5 +1,5 @@
 //! A session: the docket of a database is adopted, commands are applied, and the connection goes back.
-ghost use Rattle.std.specs.Prelude.{◌≡◌, ◌≤◌, [], length, false, IfErr, IfOk, IfSome, IsErrAnd, MatchResult, vec_capacity, vec_len};
+ghost use Rattle.std.specs.Prelude.{◌≡◌, ◌≤◌, [], length, false, None, IfErr, IfOk, IsErrAnd, MatchResult, vec_capacity, vec_len};
 ghost use Rattle.line_io.specs.Steps.{Reaches};
 ghost use Rattle.sqlite.specs.Held.{state};
 ghost use Rattle.sqlite.specs.State.{HasCleanDisk};
@@ -13,8 +13,7 @@ ghost use Rattle.docket_tables.specs.Layouts.{Rows};
 ghost use Rattle.docket_tables.specs.Stands.{HoldsRows};
 ghost use Rattle.docket_store.specs.AnyRows.{PreservesRejected, WritesAtMostOne};
 ghost use Rattle.docket_store.specs.Applying.{IsDocket, StandsFor, Stands, docket_rows};
-ghost use Rattle.docket_store.specs.Causes.{IsCausedOpening, IsCausedStop};
-ghost use Rattle.docket_store.specs.declared.fault.Fault.TheVariants.{StoreFailed};
+ghost use Rattle.docket_store.specs.Causes.{IsCausedOpening, StopsForCause, IsUnfailed};
 ghost use Rattle.docket_store.specs.Dockets.{Docket as Kept};
 ghost use Rattle.docket_store.specs.Opening.{IsNotAdopted, IsRejected, WasSound};
 ghost use Rattle.docket_store.specs.Sessions.{EndsSession};
@@ -53,8 +52,9 @@ fn answer_until<S: Alter>(
     ensures steps { Reaches (WritesAtMostOne S.Store) docket.old docket.new }
     ensures ends { (h : History) → Stands S.Store docket.old h
         → EndsSession S.Store docket.new.conn docket.new.court h commands.now replies.new.items result }
+    ensures stays_open { docket.old.closed ≡ false → IsUnfailed result → docket.new.closed ≡ false }
     ensures cause { (h : History) → Stands S.Store docket.old h → HasCleanDisk (state S.Store docket.new.conn)
-        → IfSome result (λ stop. stop.1 ≡ StoreFailed → IsCausedStop S.Store docket.new.conn docket.new.closed_by) }
+        → StopsForCause commands.now (state S.Store docket.old.conn) (state S.Store docket.new.conn) docket.new.closed_by result }
 {
     'commands: for command in commands {
         match answer(docket, command) {
@@ -91,10 +91,12 @@ pub fn session<S: Alter>(
     // The database failed only for a cause.
     ensures cause { IfErr result (λ returned. HasCleanDisk (state S.Store returned.connection)
         → IsCausedOpening (state S.Store connection) (state S.Store returned.connection) returned.failure returned.fault) }
-    // And so it did where a command of a docket got no answer for it.
+    // And so it did where a command of a docket got no answer for it: the error that is told has a cause since the session began.
     ensures stops { (court : CourtSettings) (h : History) → IsDocket court h → StandsFor S.Store connection court h
         → IfOk result (λ end. HasCleanDisk (state S.Store end.connection)
-        → IfSome end.stopped_at (λ stop. stop.1 ≡ StoreFailed → IsCausedStop S.Store end.connection end.failure)) }
+        → StopsForCause commands.now (state S.Store connection) (state S.Store end.connection) end.failure end.stopped_at) }
+    // Where it did not fail, no error is told.
+    ensures unfailed { IfOk result (λ end. IsUnfailed end.stopped_at → end.failure ≡ None) }
     ensures clean { MatchResult result
         (λ end. doubt (state S.Store connection).is_clean ≤ doubt (state S.Store end.connection).is_clean)
         (λ returned. doubt (state S.Store connection).is_clean ≤ doubt (state S.Store returned.connection).is_clean) }

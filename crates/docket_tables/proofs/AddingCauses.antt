@@ -18,10 +18,9 @@ use Rattle.sqlite.specs.Term.{Term, eval_all, col}
 use Rattle.sqlite.specs.declared.error.Error.{Error}
 use Rattle.sqlite.specs.declared.error.Error.TheVariants.{SqliteFailure}
 use Rattle.sqlite.specs.declared.error.ErrorCode.TheVariants as code
-use Rattle.sqlite.specs.declared.run.Mode.{Mode}
 use Rattle.sqlite.specs.declared.types.Value.{Value}
 use Rattle.sqlite.specs.declared.types.Value.TheVariants as value
-use Rattle.sqlite.specs.declared.types.Value.TheVariants.{Null, Int}
+use Rattle.sqlite.specs.declared.types.Value.TheVariants.{Int}
 use Rattle.sqlite.specs.Kind.{Kind}
 use Rattle.sqlite.specs.Kind.TheVariants.{Integer, Text}
 use Rattle.sqlite.specs.Tree.{Trees}
@@ -54,6 +53,7 @@ use Rattle.docket_tables.proofs.InsertCauses.{opened, stored, entry, entered, re
 use Rattle.docket_tables.proofs.InsertLemmas.{puts}
 use Rattle.docket_tables.proofs.LayoutLemmas.{insert_means, terms_of, terms_by, kinds, no_value}
 use Rattle.docket_tables.proofs.MakingCauses.{IsOne, open_caused, write_stops}
+use Rattle.docket_tables.proofs.UpdateCauses.{plain_mode}
 
 -- each INSERT is one statement
 abbrev inserting : Table → Command
@@ -160,9 +160,6 @@ module _ (table : Table) (given : Row) (rows : Rows) (db : Trees) (fits : Fits t
       (SqliteFailure code.NoRowid, (let same = is in let other_is = bad.2 in let why = none.0 in cc), inr (refl, none.1))
   uninserted limit stop (inr (rows', source, inr (counter, counted, inr (mid, edits, inl (other, bad, is))))) = absurd (let never = bad in cc)
   uninserted limit stop (inr (rows', source, inr (counter, counted, inr (mid, edits, inr (end, counts, bad))))) = absurd (let never = bad in cc)
-
-  abbrev plain_mode : Mode
-  plain_mode = record { keys = Enforced; in_doubt = false; may_wait = false }
 
   unended : (limit : Option ℕ) (stop : Option Error) → OnRows (task_in limit) plain_mode None (inserting table) db (Err stop) → IsEnded table limit stop
   unended limit stop (inl (other, bad, is)) = let ended = uninserted limit other bad in (ended.0, (let same = is in let also = ended.1 in cc), ended.2)

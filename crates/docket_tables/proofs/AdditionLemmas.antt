@@ -1,6 +1,6 @@
 -- A row that may be added to a docket may stand, by its SQL values, beside the rows of all tables.
-use Rattle.std.proofs.Common.{◌≡◌, ◌≢◌, ◌∙◌, inl, inr, ℕ, ℤ, pos, Bool, true, false, ◌&&◌, not, cond, Ordering, Less, Equal, Greater, is_eq, int_cmp, List, [], ◌∷◌, map, refl, sym, subst, arith}
-use Rattle.std.specs.Prelude.{◌==◌, filter}
+use Rattle.std.proofs.Common.{◌≡◌, ◌≢◌, ◌∙◌, inl, inr, ℕ, ℤ, pos, Bool, true, false, ◌&&◌, not, Ordering, Less, Equal, Greater, is_eq, int_cmp, List, [], ◌∷◌, map, refl, sym, subst, arith}
+use Rattle.std.specs.Prelude.{◌==◌}
 use Rattle.std.specs.List.{AllByRecursion, list_any, cons_option}
 use Rattle.std.proofs.lemmas.Bool.{cases_eq, and_parts, and_from, and_cases, and_left, and_right, or_cases, or_left, or_right, eqb-true, eqb-false, false_from_ne_true}
 use Rattle.std.proofs.lemmas.Int.{ints}
@@ -33,22 +33,14 @@ use Rattle.sqlite.specs.declared.types.Value.TheVariants.{Int, Text}
 use Rattle.sqlite.specs.Order.{Row, column}
 use Rattle.sqlite.specs.Collation.TheVariants.{Binary}
 use Rattle.sqlite_schema.specs.Rules.{equal}
+use Rattle.sqlite_trees.proofs.ListLemmas.{all-filter}
 use Rattle.docket_tables.specs.Additions.{AreStorable, MayStand}
 use Rattle.docket_tables.specs.Contents.{rows_with}
 use Rattle.docket_tables.specs.declared.table.Table.TheVariants.{Calendar, Cases, Parties, Entries, Deadlines, Acts, Receipts, Ends, ShortDays, LocalRules}
 use Rattle.docket_tables.proofs.CellLemmas.{equal_text}
-use Rattle.docket_tables.proofs.HoldsLemmas.{equal_int}
+use Rattle.docket_tables.proofs.HoldsLemmas.{equal_int, same_int}
 
 -- lists of rows, and their values
-
--- what holds of all, holds of those that are kept
-all_kept : {X : Type 0} (P : X → Type 0) (p : X → Bool) (xs : List X) → AllByRecursion P xs → AllByRecursion P (filter p xs)
-all_kept P p [] all = tt
-all_kept P p (x ∷ xs) all = at (p x) (all_kept P p xs all.1)
-  where
-    at : (b : Bool) → AllByRecursion P (filter p xs) → AllByRecursion P (cond b (x ∷ filter p xs) (filter p xs))
-    at true rest = (all.0, rest)
-    at false rest = rest
 
 -- from what holds of all rows to what holds of the values of each
 all_cells : {X : Type 0} (cells : X → Row) (P : X → Type 0) (Q : Row → Type 0) → ((x : X) → P x → Q (cells x)) → (xs : List X) → AllByRecursion P xs → AllByRecursion Q (map cells xs)
@@ -66,12 +58,6 @@ any_cells cells p q follows (x ∷ xs) any =
     ]
 
 -- tests of values
-
--- a test of the order says that numbers are equal
-same_int : (o : Ordering) (m n : ℤ) → int_cmp m n ≡ o → is_eq o ≡ true → m ≡ n
-same_int Less m n is e = absurd (let no = e in cc)
-same_int Equal m n is e = grind (arith, ints)
-same_int Greater m n is e = absurd (let no = e in cc)
 
 -- other numbers are not equal values
 int_apart : (m n : ℤ) → m ≢ n → equal Binary (Int m) (Int n) ≡ false
@@ -292,7 +278,7 @@ module _ (court : CourtSettings) (t : Tables) (ends : List EndRow) where
   -- a day or a span of the calendar
   pub calendar_may : (row : CalendarRow) → MayAdd (AddCalendar row) t → AreStorable (calendar_cells row) → MayStand Calendar (calendar_cells row) (rows_with court t ends)
   calendar_may row may storable =
-      let apart = all_kept _ (λ (r : CalendarRow). not (is_short_day r.item)) t.calendar may in
+      let apart = all-filter _ (λ (r : CalendarRow). not (is_short_day r.item)) t.calendar may in
       record {
         storable = storable;
         alone = (

@@ -1,5 +1,5 @@
 -- The count of the calendar rows fails only for a cause.
-use Rattle.std.proofs.Common.{◌≡◌, inl, inr, ℕ, List, [], ◌∷◌, length, true, false, None, Some, Err, sym, ap, subst, arith, true≢false, ◌∙◌, ◌==◌, Bool, not, cond, nat_lt, ◌+◌, ◌<◌, ◌≤◌, ◌^◌, ℤ, pos, negsuc, drop, refl, IsPermutation, map, filter}
+use Rattle.std.proofs.Common.{◌≡◌, inl, inr, ℕ, List, [], ◌∷◌, length, true, false, Err, sym, ap, subst, arith, true≢false, ◌∙◌, ◌==◌, Bool, not, cond, ◌+◌, ◌<◌, ◌≤◌, ◌^◌, ℤ, pos, negsuc, drop, refl, IsPermutation, map, filter}
 use Rattle.sqlite.specs.Edit.{Edit}
 use Rattle.sqlite.specs.Command.TheVariants.{Update}
 use Rattle.sqlite.specs.Listing.{understood}
@@ -23,7 +23,6 @@ use Rattle.docket_tables.specs.declared.table.Table.TheVariants.{Court}
 use Rattle.sqlite_schema.specs.declared.schema.Constraint.TheVariants.{Unique, ForeignKey, Datatype, NotNull, Check, PrimaryKey}
 use Rattle.docket_tables.proofs.LayoutLemmas.{apart}
 use Rattle.sqlite_trees.specs.Tree.{without_rowid}
-use Rattle.std.proofs.lemmas.Bool.Decides.{nat_tests}
 use Rattle.docket_tables.specs.Statements.{count_text}
 use Rattle.sqlite_tied.specs.Compute.{everything}
 use Rattle.sqlite.specs.Term.{Term, lit, col, op2}
@@ -32,7 +31,7 @@ use Rattle.sqlite_sql.specs.declared.ops.ArithOp.TheVariants.{Add}
 use Rattle.sqlite_sql.specs.declared.ops.CompareOp.TheVariants.{Eq}
 use Rattle.sqlite.specs.Collation.TheVariants.{Binary}
 use Rattle.sqlite.specs.declared.types.Value.TheVariants.{Int, Null, Text}
-use Rattle.sqlite_sql.specs.Ops.{binary, int_or, real_arith, from_int}
+use Rattle.sqlite_sql.specs.Ops.{binary}
 use Rattle.sqlite.specs.Cast.{cast_row}
 use Rattle.sqlite_trees.specs.View.{IsStorableRow}
 use lib.Ieee.{is_nan}
@@ -41,8 +40,8 @@ use Rattle.std.proofs.lemmas.List.Elements.{All-from_recursion}
 use Rattle.std.proofs.lemmas.Nat.Bits.{bit_at-zero}
 use Rattle.docket_tables.proofs.CellLemmas.{cast_int, cast_null}
 use Rattle.docket_tables.proofs.HoldsLemmas.{keyed_by, keyed_as, rowid_as}
-use Rattle.sqlite_trees.proofs.ListLemmas.{filter_all}
-use Rattle.docket_tables.proofs.CourtLemmas.{found_by}
+use Rattle.sqlite_trees.proofs.ListLemmas.{all_of, filter_all}
+use Rattle.docket_tables.proofs.CourtLemmas.{found_by, one_more}
 use Rattle.sqlite_rules.specs.declared.error.Refusal.TheVariants.{Violates, Mismatch, NoRowid, BadReference, TooDeep}
 use Rattle.docket_tables.proofs.CreateCauses.{none_has}
 use Rattle.std.proofs.Math.Logic.{∥∥₁_elim}
@@ -51,7 +50,7 @@ use Rattle.docket_tables.specs.Layouts.{Rows}
 use Rattle.docket_tables.specs.Stands.{Sees}
 use Rattle.docket_tables.proofs.UpdateLemmas.{no_actions}
 use Rattle.std.proofs.lemmas.List.Sorted.{IsPermutation-sym}
-use Rattle.docket_tables.proofs.UpdateCauses.{IsSafe, IsFound, edit_by, update_caused, every, AreApart, keeps_unique, keeps_parents, referred, not_nan, never_over}
+use Rattle.docket_tables.proofs.UpdateCauses.{IsSafe, IsFound, edit_by, update_caused, AreApart, keeps_unique, keeps_parents, referred, not_nan, never_over}
 
 abbrev court : Shape
 court = shape_of Court
@@ -78,13 +77,6 @@ court_referred = referred court refl refl
 
 abbrev court_shown : Row → Row → Row
 court_shown params r = column r 0 ∷ column r 0 ∷ Null ∷ column r 2 ∷ column r 3 ∷ column r 4 ∷ column r 5 ∷ binary (Arith Add) (column r 6) (Int (pos 1)) ∷ []
-
--- a sum that 64 bits hold
-one_more : (n : ℕ) → n + 1 < 2 ^ 63 → binary (Arith Add) (Int (pos n)) (Int (pos 1)) ≡ Int (pos (n + 1))
-unfolding binary
-one_more n small =
-    let fits : nat_lt (n + 1) (2 ^ 63) ≡ true = grind (arith, nat_tests, small) in
-    ap (λ b. int_or (cond b (Some (pos (n + 1))) None) (real_arith Add (from_int (pos n)) (from_int (pos 1)))) fits
 
 module _ (word zone : List ℕ) (version close : ℤ) (n : ℕ) where
   abbrev shown : ℕ → Row
@@ -146,7 +138,7 @@ module _ (word zone : List ℕ) (version close : ℤ) (n : ℕ) where
     entry_unrefused obeyed (Violates NotNull) bad = true≢false bad
     entry_unrefused obeyed (Violates Check) bad = true≢false bad
     entry_unrefused obeyed (Violates PrimaryKey) bad = true≢false (subst (λ rows. are_fresh rows (stored ∷ []) ≡ false) left_none bad)
-    entry_unrefused obeyed (Violates Unique) bad = bad (keeps_unique court db (edited db entry) court_apart obeyed (every _ (λ row. refl) (edited db entry)))
+    entry_unrefused obeyed (Violates Unique) bad = bad (keeps_unique court db (edited db entry) court_apart obeyed (all_of _ (λ row. refl) (edited db entry)))
     entry_unrefused obeyed (Violates ForeignKey) bad = bad
     entry_unrefused obeyed Mismatch bad = true≢false bad
     entry_unrefused obeyed NoRowid bad = true≢false bad
@@ -170,7 +162,7 @@ module _ (word zone : List ℕ) (version close : ℤ) (n : ℕ) where
     no_work = no_actions;
     unrefused = λ found answer why bad. absurd (there (λ r at is. entry_unrefused small db r at is found answer (obeyed.rules Unique) why (subst (λ edit. IsRefused docket_schema Enforced db edit why) (edit_is small db r at is found answer) bad)));
     fits = λ found answer row has big. there (λ r at is. entry_fits small db r at is found answer short also_short row (subst (λ (edit : Edit). Has edit.news row) (edit_is small db r at is found answer) has) big);
-    refers = λ found answer next applied bad. bad (keeps_parents court db next court_apart applied.tables (λ e. let no = e in cc) (λ e. let no = e in cc) (obeyed.rules ForeignKey) (every _ (λ row. refl) (next 0)));
+    refers = λ found answer next applied bad. bad (keeps_parents court db next court_apart applied.tables (λ e. let no = e in cc) (λ e. let no = e in cc) (obeyed.rules ForeignKey) (all_of _ (λ row. refl) (next 0)));
   }
     where
       there : ((r : Row) → db 0 ≡ r ∷ [] → cells (places_of Court) r ≡ shown n → ⊥) → ⊥

@@ -65,7 +65,7 @@ abbrev court_shown : Row → Row → Row
 court_shown params r = column r 0 ∷ column r 0 ∷ Null ∷ column r 2 ∷ column r 3 ∷ column r 4 ∷ column r 5 ∷ binary (Arith Add) (column r 6) (Int (pos 1)) ∷ []
 
 -- a sum that 64 bits hold
-one_more : (n : ℕ) → n + 1 < 2 ^ 63 → binary (Arith Add) (Int (pos n)) (Int (pos 1)) ≡ Int (pos (n + 1))
+pub one_more : (n : ℕ) → n + 1 < 2 ^ 63 → binary (Arith Add) (Int (pos n)) (Int (pos 1)) ≡ Int (pos (n + 1))
 unfolding binary
 one_more n small =
     let fits : nat_lt (n + 1) (2 ^ 63) ≡ true = grind (arith, nat_tests, small) in

@@ -1,8 +1,7 @@
 -- Why a DELETE of the rows that a query finds fails: only for a cause, where no table refers to the table that loses them.
-use Rattle.std.proofs.Common.{◌≡◌, ◌≢◌, inl, inr, ◌∙◌, ◌==◌, ◌||◌, ◌&&◌, ℕ, ℤ, pos, negsuc, zero, suc, Bool, not, nat_lt, List, [], ◌∷◌, length, length-append, true, false, cond, filter, None, Some, Option, Ok, Err, IsSome, slice_get, refl, sym, ap, ap₂, subst, arith, true≢false}
+use Rattle.std.proofs.Common.{◌≡◌, ◌≢◌, inl, inr, ◌∙◌, ◌==◌, ◌||◌, ◌&&◌, ℕ, ℤ, pos, negsuc, zero, suc, Bool, not, nat_lt, List, [], ◌∷◌, length, length-append, true, false, cond, filter, None, Some, Option, Ok, Err, slice_get, refl, sym, ap, ap₂, subst, arith, true≢false}
 use Rattle.std.specs.List.{AllByRecursion, list_all, list_any}
-use Rattle.std.proofs.lemmas.Bool.{and_parts, or_parts, not-true}
-use Rattle.std.proofs.lemmas.Bool.Decides.{nat_tests}
+use Rattle.std.proofs.lemmas.Bool.{and_parts, or_parts, or_right, not-true}
 use Rattle.sqlite.specs.declared.types.Value.TheVariants.{Int}
 use Rattle.sqlite.specs.Edit.{Edit, edit_of, without_all}
 use Rattle.sqlite.specs.Command.TheVariants.{Delete}
@@ -18,9 +17,6 @@ use Rattle.sqlite.specs.Table.{Table as Shape}
 use Rattle.sqlite.specs.Term.{Term, lit, col}
 use Rattle.sqlite.specs.Tree.{Trees}
 use Rattle.sqlite.specs.declared.error.Error.{Error}
-use Rattle.sqlite.specs.declared.error.Error.TheVariants.{SqliteFailure}
-use Rattle.sqlite.specs.declared.error.ErrorCode.TheVariants.{OperationInterrupted}
-use Rattle.sqlite.specs.declared.run.Mode.{Mode}
 use Rattle.sqlite.proofs.Callers.{statement_of, one_step}
 use Rattle.sqlite_catalog.specs.Listing.{IsSound}
 use Rattle.sqlite_rules.specs.Action.{works, Writes as WritesEdit}
@@ -35,6 +31,7 @@ use Rattle.sqlite_schema.specs.declared.schema.Among.TheVariants as among
 use Rattle.sqlite_schema.specs.declared.schema.Constraint.TheVariants.{Datatype, NotNull, Check, PrimaryKey, Unique, ForeignKey}
 use Rattle.sqlite_schema.specs.declared.schema.Keys.TheVariants.{Enforced}
 use Rattle.sqlite_tied.specs.Compute.{everything}
+use Rattle.sqlite_trees.proofs.ListLemmas.{all-filter, all_of}
 use Rattle.sqlite_trees.specs.Tree.{with_tree, has_rowid, without_rowid}
 use Rattle.sqlite_typing.specs.Types.{accepts_program}
 use Rattle.docket_tables.specs.Causes.{HasMakingCause}
@@ -46,22 +43,14 @@ use Rattle.docket_tables.specs.Statements.{delete_text, delete_short_day_text, d
 use Rattle.docket_tables.specs.Tables.{layout_of}
 use Rattle.docket_tables.specs.declared.table.Table.TheVariants.{Calendar, ShortDays, Ends}
 use Rattle.docket_tables.proofs.DeleteLemmas.{numbered_in}
-use Rattle.docket_tables.proofs.HoldsLemmas.{all_both}
+use Rattle.docket_tables.proofs.HoldsLemmas.{all_both, all_each}
 use Rattle.docket_tables.proofs.InsertLemmas.{went, same_value}
-use Rattle.docket_tables.proofs.LayoutLemmas.{apart}
+use Rattle.docket_tables.proofs.LayoutLemmas.{apart, together}
 use Rattle.docket_tables.proofs.MakingCauses.{IsOne, write_caused}
 use Rattle.docket_tables.proofs.QueryLemmas.{keeps_from}
+use Rattle.docket_tables.proofs.UpdateCauses.{IsHalted, plain_mode}
 
--- what holds of each row holds of each that a filter leaves
-all_filtered : {X : Type 0} (P : X → Type 0) (p : X → Bool) (xs : List X) → AllByRecursion P xs → AllByRecursion P (filter p xs)
-all_filtered P p [] all = tt
-all_filtered P p (x ∷ xs) all = go (all_filtered P p xs all.1) (p x)
-  where
-    go : AllByRecursion P (filter p xs) → (b : Bool) → AllByRecursion P (cond b (x ∷ filter p xs) (filter p xs))
-    go more true = (all.0, more)
-    go more false = more
-
--- and what holds of none holds of none that a filter leaves
+-- what holds of none holds of none that a filter leaves
 none_filtered : {X : Type 0} (P p : X → Bool) (xs : List X) → list_any P xs ≡ false → list_any P (filter p xs) ≡ false
 none_filtered P p [] none = refl
 none_filtered P p (x ∷ xs) none = go (none_filtered P p xs (or_parts _ _ none).1) (p x)
@@ -73,7 +62,7 @@ none_filtered P p (x ∷ xs) none = go (none_filtered P p xs (or_parts _ _ none)
 -- the same, where rowids are taken out
 pub all_left : (P : Row → Type 0) (ids : List ℤ) (rows : List Row) → AllByRecursion P rows → AllByRecursion P (without_all rows ids)
 all_left P [] rows all = all
-all_left P (id ∷ ids) rows all = all_left P ids (without_rowid id rows) (all_filtered P (λ r. not (has_rowid id r)) rows all)
+all_left P (id ∷ ids) rows all = all_left P ids (without_rowid id rows) (all-filter P (λ r. not (has_rowid id r)) rows all)
 
 pub none_left : (P : Row → Bool) (ids : List ℤ) (rows : List Row) → list_any P rows ≡ false → list_any P (without_all rows ids) ≡ false
 none_left P [] rows none = none
@@ -99,14 +88,9 @@ unique_left schema old new t (ids, is) row =
     weaker (λ i. not (guards i t && clashes i.order i.columns (old t.tree) row)) (λ i. not (guards i t && clashes i.order i.columns (new t.tree) row))
     (λ i. not_and (guards i t) _ _ (λ none. subst (λ rows. clashes i.order i.columns rows row ≡ false) (sym is) (none_left _ ids (old t.tree) none))) schema.indexes
 
--- what follows for each element
-each : {X : Type 0} (P R : X → Type 0) → ((x : X) → P x → R x) → (xs : List X) → AllByRecursion P xs → AllByRecursion R xs
-each P R f [] all = tt
-each P R f (x ∷ xs) all = (f x all.0, each P R f xs all.1)
-
 -- what holds of each row holds of each row that is left
 rows_left : (P R : Row → Type 0) (old new : Trees) (t : Shape) → LosesRows old new t → ((row : Row) → P row → R row) → AllByRecursion P (old t.tree) → AllByRecursion R (new t.tree)
-rows_left P R old new t (ids, is) f all = subst (AllByRecursion R) (sym is) (all_left R ids (old t.tree) (each P R f (old t.tree) all))
+rows_left P R old new t (ids, is) f all = subst (AllByRecursion R) (sym is) (all_left R ids (old t.tree) (all_each P R f (old t.tree) all))
 
 -- where tables lose rows, what was unique still is
 pub keeps_unique : (schema : Schema) (old new : Trees) → AllByRecursion (LosesRows old new) schema.tables → Keeps Unique schema old → Keeps Unique schema new
@@ -122,10 +106,6 @@ is_elsewhere schema tree (Some key) = not (key.0 == tree) && list_any (λ t. t.t
 -- no table refers to the one with this tree
 abbrev pub is_unreferred : Schema → ℕ → Bool
 is_unreferred schema tree = list_all (λ t. list_all (λ ref. is_elsewhere schema tree (parent_key schema.tables ref)) t.references) schema.tables
-
--- what is tested as equal is
-together : (m n : ℕ) → (m == n) ≡ true → m ≡ n
-together m n same = grind (arith, nat_tests, same)
 
 -- the tree of another table is as it was
 kept_at : (tables : List Shape) (tree at : ℕ) (old new : Trees) → AllByRecursion (λ t. t.tree ≢ tree → new t.tree ≡ old t.tree) tables → at ≢ tree
@@ -145,15 +125,10 @@ held_still schema tree old new kept places row (Some key) away held =
     let parts = and_parts _ _ away in
     subst (λ rows. list_any (λ parent. agree key.2 key.1 parent places row) rows ≡ true) (sym (kept_at schema.tables tree key.0 old new kept (apart key.0 tree (not-true _ parts.0)) parts.1)) held
 
--- ways to the second part of a choice
-
+-- what follows from the second part of a choice may stand in its place
 or_else : (a b c : Bool) → (b ≡ true → c ≡ true) → (a || b) ≡ true → (a || c) ≡ true
 or_else true b c f h = refl
 or_else false b c f h = f h
-
-or_right : (a b : Bool) → b ≡ true → (a || b) ≡ true
-or_right true b h = refl
-or_right false b h = h
 
 -- two tests that passed of each element make a third
 both_pass : {X : Type 0} (P Q R : X → Bool) → ((x : X) → P x ≡ true → Q x ≡ true → R x ≡ true) → (xs : List X) → list_all P xs ≡ true → list_all Q xs ≡ true → list_all R xs ≡ true
@@ -180,15 +155,10 @@ refers_still schema tree old new away kept lose keeps =
     (λ t. LosesRows old new t × AllByRecursion (λ row. passes ForeignKey schema old t row ≡ true) (old t.tree))
     (λ t less all. (less, all)) schema.tables lose keeps)
 
--- what holds of anything holds of each element
-every : {X : Type 0} (P : X → Type 0) → ((x : X) → P x) → (xs : List X) → AllByRecursion P xs
-every P f [] = tt
-every P f (x ∷ xs) = (f x, every P f xs)
-
 -- each table loses rows where one does and the others are as they were
 pub lose_at : (tables : List Shape) (tree : ℕ) (ids : List ℤ) (old new : Trees) → new tree ≡ without_all (old tree) ids → AllByRecursion (λ t. t.tree ≢ tree → new t.tree ≡ old t.tree) tables
     → AllByRecursion (LosesRows old new) tables
-lose_at tables tree ids old new here = each _ _ (λ t kept. go t kept (t.tree == tree) refl) tables
+lose_at tables tree ids old new here = all_each _ _ (λ t kept. go t kept (t.tree == tree) refl) tables
   where
     go : (t : Shape) → (t.tree ≢ tree → new t.tree ≡ old t.tree) → (b : Bool) → (t.tree == tree) ≡ b → LosesRows old new t
     go t kept true is = (ids, subst (λ n. new n ≡ without_all (old n) ids) (sym (together t.tree tree is)) here)
@@ -201,10 +171,6 @@ with_fewer db tree ids t = go (t.tree == tree) refl
     go : (b : Bool) → (t.tree == tree) ≡ b → (found : List ℤ) × (cond b (without_all (db tree) ids) (db t.tree) ≡ without_all (db t.tree) found)
     go true is = (ids, ap (λ n. without_all (db n) ids) (sym (together t.tree tree is)))
     go false is = ([], refl)
-
--- what is left: a limit on steps was set, and came
-abbrev IsHalted : Option ℕ → Option Error → Type 0
-IsHalted limit stop = (e : Error) × (stop ≡ Some e) × (e ≡ SqliteFailure OperationInterrupted) × IsSome limit
 
 -- the text deletes rows from a table to which no other refers, by a query that takes these parameters
 pub record IsFreeDelete (schema : Schema) (sql : List ℕ) (at : ℕ) (table : Shape) (q : Program) (params : Row) : Type 0 where
@@ -226,7 +192,7 @@ module _ (schema : Schema) (sql : List ℕ) (at : ℕ) (table : Shape) (q : Prog
   unrefused db ids unique (Violates NotNull) bad = true≢false bad
   unrefused db ids unique (Violates Check) bad = true≢false bad
   unrefused db ids unique (Violates PrimaryKey) bad = true≢false bad
-  unrefused db ids unique (Violates Unique) bad = bad (keeps_unique schema db (with_tree db table.tree (without_all (db table.tree) ids)) (every _ (with_fewer db table.tree ids) schema.tables) unique)
+  unrefused db ids unique (Violates Unique) bad = bad (keeps_unique schema db (with_tree db table.tree (without_all (db table.tree) ids)) (all_of _ (with_fewer db table.tree ids) schema.tables) unique)
   unrefused db ids unique (Violates ForeignKey) bad = bad
   unrefused db ids unique Mismatch bad = true≢false bad
   unrefused db ids unique NoRowid bad = true≢false bad
@@ -252,9 +218,6 @@ module _ (schema : Schema) (sql : List ℕ) (at : ℕ) (table : Shape) (q : Prog
   undeleted limit db unique stop (inl (Some e, inr (inr halted), is)) = (e, (let same = is in cc), halted.0, halted.1)
   undeleted limit db unique stop (inr (rows, found, inl (other, bad, is))) = absurd (unstopped db (ids_of rows) unique bad.0 bad.1)
   undeleted limit db unique stop (inr (rows, found, inr (next, edits, bad))) = absurd (let never = bad in cc)
-
-  abbrev plain_mode : Mode
-  plain_mode = record { keys = Enforced; in_doubt = false; may_wait = false }
 
   -- and then each row has its parents still
   refers_after : (limit : Option ℕ) (db : Trees) (done : Written) → Keeps ForeignKey schema db → Deletes (task_in limit) q db (Ok done) → Refers among.All schema done.trees

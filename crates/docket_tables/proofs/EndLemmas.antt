@@ -14,7 +14,7 @@ use Rattle.std.proofs.lemmas.List.{take_more}
 use Rattle.docket_decisions.specs.Tables.{Tables}
 use Rattle.docket_decisions.specs.declared.end_row.EndRow.{EndRow}
 use Rattle.docket_decisions.specs.declared.end_row.EndChange.TheVariants.{Remove, Move}
-use Rattle.docket_columns.specs.Cells.{end_cells}
+use Rattle.docket_columns.specs.Cells.{end_cells, moment_cell}
 use Rattle.docket_tables.specs.Contents.{rows_with, ends_of}
 use Rattle.docket_orderly.specs.Orderly.{Rises}
 use Rattle.docket_tables.specs.Queries.{IsAnswer}
@@ -96,7 +96,7 @@ move_cells to (row ∷ ends) = ap₂ (λ c more. c ∷ more) (at (is_of to.case 
     found = ap (λ b. b && (equal Binary (Int (pos row.deadline)) (Int (pos to.deadline)) && true)) (equal_number row.case to.case) ∙ ap (λ b. (row.case == to.case) && b) (and_yes _ ∙ equal_number row.deadline to.deadline)
 
     cast_as : moved_cells (end_cells to) (end_cells row) ≡ end_cells (record row { end = to.end })
-    cast_as = rw (cast_int (pos row.case), cast_int (pos row.deadline), cast_int to.end.day, cast_int to.end.moment) refl
+    cast_as = rw (cast_int (pos row.case), cast_int (pos row.deadline), cast_int (pos to.end.day), cast_int (moment_cell to.end.moment)) refl
 
     by : (b : Bool) → cond b (moved_cells (end_cells to) (end_cells row)) (end_cells row) ≡ end_cells (cond b (record row { end = to.end }) row)
     by true = cast_as

@@ -1,4 +1,4 @@
--- An INSERT of a row that may stand fails only for a cause.
+-- A row that may stand is not refused: what an INSERT of it stores obeys the rules of its table.
 use Rattle.std.proofs.Common.{◌≡◌, ◌≢◌, ◌⊎◌, inl, inr, ◌∙◌, ◌<◌, ◌+◌, ◌&&◌, ◌||◌, ◌==◌, ℕ, ℤ, Bool, not, List, [], ◌∷◌, map, take, length, length-append, slice_get, true, false, cond, None, Some, Option, IsTrue, IsPermutation, refl, sym, ap, subst, arith, true≢false, is_eq, int_cmp}
 use mathlib.Core.Logic.{∥∥₁_elim}
 use mathlib.Core.HLevel.{⊥_prop}
@@ -23,7 +23,7 @@ use Rattle.sqlite_trees.specs.Tree.{Trees, rowid, IsAscending, with_tree}
 use Rattle.sqlite_trees.specs.View.{IsShaped, is_int, IsStorable, IsStorableRow}
 use Rattle.sqlite_trees.specs.declared.store.Shape.TheVariants as shape
 use Rattle.sqlite_value.specs.Keys.{plain, first_key}
-use Rattle.docket_tables.specs.Additions.{key_of, are_alike, MayStand, AreStorable}
+use Rattle.docket_tables.specs.Additions.{key_columns, are_alike, MayStand, AreStorable}
 use Rattle.docket_tables.specs.Holds.{cells, KeepsOthers}
 use Rattle.docket_tables.specs.Layouts.{Rows, AreRows, Fits}
 use Rattle.docket_tables.specs.Schema.{docket_schema, shape_of, tree_of, places_of, key_places, uniques_of, kinds_of}
@@ -83,7 +83,7 @@ unique_means LocalRules db row = refl
 
 -- the columns that stand once, where the rowid has none of its own
 abbrev once_in : Table → List (List ℕ)
-once_in table = let l = layout_of table in cond l.is_rowid l.uniques (key_of table ∷ l.uniques)
+once_in table = let l = layout_of table in cond l.is_rowid l.uniques (key_columns table ∷ l.uniques)
 
 -- what is stored once is shown once
 alike_means : (table : Table) (a b : Row) → map (λ places. are_alike places a b) (uniques_of table) ≡ map (λ columns. are_alike columns (cells (places_of table) a) (cells (places_of table) b)) (once_in table)
@@ -100,7 +100,7 @@ alike_means ShortDays a b = refl
 alike_means LocalRules a b = refl
 
 -- a stored row has a parent where one is like the row that is shown
-parents_mean : (table : Table) (a b : Row) → map (λ parent. are_alike (key_of parent) (cells (places_of parent) a) (cells (places_of table) b)) (layout_of table).parents
+parents_mean : (table : Table) (a b : Row) → map (λ parent. are_alike (key_columns parent) (cells (places_of parent) a) (cells (places_of table) b)) (layout_of table).parents
     ≡ map (λ parent. agree plain (key_places parent) a (take (layout_of parent).key (places_of table)) b) (layout_of table).parents
 unfolding first_key
 parents_mean Parties a b = refl
@@ -216,7 +216,7 @@ free_number (r ∷ rows) n rest keyed alone =
     or_from _ _ here (free_number rows n rest keyed.1 alone.1)
 
 abbrev IsFree : Table → Type 0
-IsFree table = (given : Row) (rows : List Row) → Fits table given → IsShaped shape.Table rows → AllByRecursion (λ r. are_alike (key_of table) (cells (places_of table) r) given ≡ false) rows
+IsFree table = (given : Row) (rows : List Row) → Fits table given → IsShaped shape.Table rows → AllByRecursion (λ r. are_alike (key_columns table) (cells (places_of table) r) given ≡ false) rows
     → is_taken rows (stored_by (layout_of table).is_rowid rows given) ≡ false
 
 free : (table : Table) → IsFree table
@@ -285,8 +285,8 @@ module _ (table : Table) (given : Row) (rows : Rows) (db : Trees) (fits : Fits t
 
   module _ (may : MayStand table given rows) (here : (t : Table) → HoldsHere rows db t) where
     -- no stored row has what stands once
-    alone_in : AllByRecursion (λ columns. AllByRecursion (λ r. are_alike columns (cells (places_of table) r) given ≡ false) (db (tree_of table))) (key_of table ∷ (layout_of table).uniques)
-    alone_in = all_each _ _ (λ columns none. shown_all (λ other. are_alike columns other given ≡ false) (places_of table) (db (tree_of table)) (rows table) (here table).0 none) (key_of table ∷ (layout_of table).uniques) may.alone
+    alone_in : AllByRecursion (λ columns. AllByRecursion (λ r. are_alike columns (cells (places_of table) r) given ≡ false) (db (tree_of table))) (key_columns table ∷ (layout_of table).uniques)
+    alone_in = all_each _ _ (λ columns none. shown_all (λ other. are_alike columns other given ≡ false) (places_of table) (db (tree_of table)) (rows table) (here table).0 none) (key_columns table ∷ (layout_of table).uniques) may.alone
 
     -- nor has any, among the columns as they are stored
     apart_in : (places : List ℕ) → Has (uniques_of table) places → (r : Row) → Has (db (tree_of table)) r → are_alike places r stored ≡ false
@@ -295,7 +295,7 @@ module _ (table : Table) (given : Row) (rows : Rows) (db : Trees) (fits : Fits t
         (unmapped (λ places. are_alike places r stored) (uniques_of table)
         (subst (AllByRecursion (λ b. b ≡ false)) (sym (alike_means table r stored ∙ ap (λ shown. map (λ columns. are_alike columns (cells (places_of table) r) shown) (once_in table)) stored_shown))
         (mapped (λ columns. are_alike columns (cells (places_of table) r) given) (once_in table)
-        (once_of (layout_of table).is_rowid (all_each _ _ (λ columns none. all_has _ (db (tree_of table)) r none there) (key_of table ∷ (layout_of table).uniques) alone_in))))) known
+        (once_of (layout_of table).is_rowid (all_each _ _ (λ columns none. all_has _ (db (tree_of table)) r none there) (key_columns table ∷ (layout_of table).uniques) alone_in))))) known
       where
         mapped : {X : Type 0} (p : X → Bool) (xs : List X) → AllByRecursion (λ x. p x ≡ false) xs → AllByRecursion (λ b. b ≡ false) (map p xs)
         mapped p [] all = tt
@@ -305,8 +305,8 @@ module _ (table : Table) (given : Row) (rows : Rows) (db : Trees) (fits : Fits t
         unmapped p [] all = tt
         unmapped p (x ∷ xs) all = (all.0, unmapped p xs all.1)
 
-        once_of : (b : Bool) → AllByRecursion (λ columns. are_alike columns (cells (places_of table) r) given ≡ false) (key_of table ∷ (layout_of table).uniques)
-            → AllByRecursion (λ columns. are_alike columns (cells (places_of table) r) given ≡ false) (cond b (layout_of table).uniques (key_of table ∷ (layout_of table).uniques))
+        once_of : (b : Bool) → AllByRecursion (λ columns. are_alike columns (cells (places_of table) r) given ≡ false) (key_columns table ∷ (layout_of table).uniques)
+            → AllByRecursion (λ columns. are_alike columns (cells (places_of table) r) given ≡ false) (cond b (layout_of table).uniques (key_columns table ∷ (layout_of table).uniques))
         once_of true all = all.1
         once_of false all = all
 
@@ -331,13 +331,13 @@ module _ (table : Table) (given : Row) (rows : Rows) (db : Trees) (fits : Fits t
         all_equal f g [] e = tt
         all_equal f g (t ∷ ts) e = let both : (f t ≡ g t) × (map f ts ≡ map g ts) = (cc, cc) in (both.0, all_equal f g ts both.1)
 
-        each : (ts : List Table) → AllByRecursion (λ parent. list_any (λ other. are_alike (key_of parent) other given) (rows parent) ≡ true) ts
-            → ((r : Row) → AllByRecursion (λ parent. are_alike (key_of parent) (cells (places_of parent) r) (cells (places_of table) stored) ≡ agree plain (key_places parent) r (take (layout_of parent).key (places_of table)) stored) ts)
+        each : (ts : List Table) → AllByRecursion (λ parent. list_any (λ other. are_alike (key_columns parent) other given) (rows parent) ≡ true) ts
+            → ((r : Row) → AllByRecursion (λ parent. are_alike (key_columns parent) (cells (places_of parent) r) (cells (places_of table) stored) ≡ agree plain (key_places parent) r (take (layout_of parent).key (places_of table)) stored) ts)
             → AllByRecursion (λ parent. list_any (λ other. agree plain (key_places parent) other (take (layout_of parent).key (places_of table)) stored) (db (tree_of parent)) ≡ true) ts
         each [] has means = tt
         each (parent ∷ ts) has means =
-            let found = shown_any (λ other. are_alike (key_of parent) other given) (places_of parent) (db (tree_of parent)) (rows parent) (here parent).0 has.0 in
-            let agrees = sym (means found.0).0 ∙ ap (are_alike (key_of parent) (cells (places_of parent) found.0)) stored_shown ∙ found.2 in
+            let found = shown_any (λ other. are_alike (key_columns parent) other given) (places_of parent) (db (tree_of parent)) (rows parent) (here parent).0 has.0 in
+            let agrees = sym (means found.0).0 ∙ ap (are_alike (key_columns parent) (cells (places_of parent) found.0)) stored_shown ∙ found.2 in
             (some_from _ (db (tree_of parent)) found.0 found.1 agrees, each ts has.1 (λ r. (means r).1))
 
     -- and still there, where rows only came in

@@ -156,7 +156,8 @@ numbered true (field ∷ more) rows (_ ∷ row) fits = absurd (false≢true fits
 pub apart : (m n : ℕ) → (m == n) ≡ false → m ≢ n
 apart m n other e = grind (arith, nat_tests, other, e)
 
-together : (m n : ℕ) → (m == n) ≡ true → m ≡ n
+-- what is tested as equal is
+pub together : (m n : ℕ) → (m == n) ≡ true → m ≡ n
 together m n same = grind (arith, nat_tests, same)
 
 -- other rows in a table, and the other tables as they were

@@ -1,5 +1,5 @@
-pub mod AddingCauses
-pub mod AdditionLemmas
+mod AddingCauses
+mod AdditionLemmas
 pub mod AnswerLemmas
 pub mod AnyLemmas
 mod CalendarLemmas

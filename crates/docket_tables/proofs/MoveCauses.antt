@@ -1,5 +1,5 @@
 -- The move of an end fails only for a cause.
-use Rattle.std.proofs.Common.{◌≡◌, inl, inr, ℕ, List, [], ◌∷◌, length, true, false, Err, sym, ap, subst, arith, true≢false, ◌∙◌, ◌⊎◌, ◌≢◌, ◌==◌, Bool, not, ◌&&◌, cond, ℤ, pos, negsuc, drop, refl, IsPermutation, map, filter, ap₂, ◌++◌, ◌||◌}
+use Rattle.std.proofs.Common.{◌≡◌, inl, inr, ℕ, List, [], ◌∷◌, length, true, false, Err, sym, ap, subst, arith, true≢false, ◌∙◌, ◌⊎◌, ◌≢◌, ◌==◌, Bool, not, ◌&&◌, cond, ℤ, pos, negsuc, drop, refl, IsPermutation, map, filter, ap₂, ◌++◌}
 use Rattle.sqlite.specs.Edit.{Edit, without_all}
 use Rattle.sqlite.specs.Command.TheVariants.{Update}
 use Rattle.sqlite.specs.Listing.{understood}
@@ -9,7 +9,6 @@ use Rattle.sqlite.specs.Table.{Table as Shape}
 use Rattle.sqlite.specs.Tree.{Trees}
 use Rattle.sqlite.specs.declared.error.Error.{Error}
 use Rattle.sqlite.specs.declared.error.Error.TheVariants.{SqliteFailure}
-use Rattle.sqlite.specs.declared.error.ErrorCode.TheVariants.{OperationInterrupted}
 use Rattle.sqlite.specs.declared.error.ErrorCode.TheVariants as code
 use Rattle.sqlite_rules.specs.Calls.{ids_of}
 use Rattle.sqlite_rules.specs.Edit.{IsRefused, IsOversized, edited, are_fresh, id_in, put_all}
@@ -55,13 +54,14 @@ use Rattle.sqlite.specs.declared.types.Value.{Value}
 use Rattle.std.proofs.lemmas.Bool.{and_parts, and_from, not-true, or_parts, or_from}
 use Rattle.sqlite_value.specs.Keys.{plain}
 use Rattle.sqlite.specs.Kind.TheVariants.{Integer}
-use Rattle.docket_tables.proofs.RowidLemmas.{left}
-use Rattle.docket_tables.proofs.MoveLemmas.{numbered_given}
+use Rattle.docket_tables.proofs.RowidLemmas.{any_mapped, left}
+use Rattle.docket_tables.proofs.HoldsLemmas.{all_each}
+use Rattle.docket_tables.proofs.MoveLemmas.{moved_parts, numbered_given, put_all_permutes}
 use Rattle.std.proofs.lemmas.List.{length-map}
 use Rattle.sqlite_schema.specs.declared.schema.Index.{Index}
 use Rattle.sqlite_sql.specs.Catalog.{entry_of}
-use Rattle.docket_tables.proofs.UpdateCauses.{IsSafe, IsFound, edit_by, update_caused, each, AreApart, keeps_unique, keeps_parents, referred, not_nan, never_over}
-use Rattle.docket_tables.proofs.RowidCounts.{int_is, count, once, count_permuted, count_append, fresh_of, put_all_permutes, moved_parts}
+use Rattle.docket_tables.proofs.UpdateCauses.{IsSafe, IsFound, edit_by, update_caused, AreApart, keeps_unique, keeps_parents, referred, not_nan, never_over}
+use Rattle.docket_tables.proofs.RowidCounts.{int_is, count, once, count_permuted, count_append, fresh_of}
 
 abbrev ends : Shape
 ends = shape_of Ends
@@ -141,10 +141,6 @@ all_has P (y ∷ ys) x all (inr more) = all_has P ys x all.1 more
 all_pass : {X : Type 0} (p : X → Bool) (xs : List X) → AllByRecursion (λ x. p x ≡ true) xs → list_all p xs ≡ true
 all_pass p [] all = refl
 all_pass p (x ∷ xs) all = and_from _ _ all.0 (all_pass p xs all.1)
-
-any_mapped : {A B : Type 0} (p : B → Bool) (f : A → B) (xs : List A) → list_any p (map f xs) ≡ list_any (λ x. p (f x)) xs
-any_mapped p f [] = refl
-any_mapped p f (x ∷ xs) = ap (λ b. p (f x) || b) (any_mapped p f xs)
 
 any_weaker : {X : Type 0} (p q : X → Bool) → ((x : X) → p x ≡ false → q x ≡ false) → (xs : List X) → list_any p xs ≡ false → list_any q xs ≡ false
 any_weaker p q f [] none = refl
@@ -263,7 +259,7 @@ module _ (k d : ℕ) (day moment : ℤ) where
 
     news_int : AllByRecursion (λ r. is_int (rowid r) ≡ true) (map made found)
     news_int =
-        let moved_int : AllByRecursion (λ r. is_int (rowid (moved r)) ≡ true) hits = each IsNumbered _ (λ r is. ap is_int is.0) hits (all-filter IsNumbered matches due_rows numbered_rows) in
+        let moved_int : AllByRecursion (λ r. is_int (rowid (moved r)) ≡ true) hits = all_each IsNumbered _ (λ r is. ap is_int is.0) hits (all-filter IsNumbered matches due_rows numbered_rows) in
         recursion_from_All _ _ (All-permutation (λ r. is_int (rowid r) ≡ true) _ _ news_same (All-from_recursion _ _ (all-map (λ r. is_int (rowid r) ≡ true) moved hits moved_int)))
 
     fresh : are_fresh left_rows (map made found) ≡ true
@@ -286,7 +282,7 @@ module _ (k d : ℕ) (day moment : ℤ) where
     unique_after =
         let was = of_each (λ (t : Shape). AllByRecursion (λ row. passes Unique docket_schema db t row ≡ true) (db t.tree)) (obeyed.rules Unique) Ends in
         keeps_unique ends db (edited db edit) ends_apart (obeyed.rules Unique)
-        (lifted (λ row. passes Unique docket_schema (with_tree db due (edited db edit)) ends row ≡ true) (each (λ r. passes Unique docket_schema db ends r ≡ true) _ passes_after due_rows was))
+        (lifted (λ row. passes Unique docket_schema (with_tree db due (edited db edit)) ends row ≡ true) (all_each (λ r. passes Unique docket_schema db ends r ≡ true) _ passes_after due_rows was))
       where
         passes_after : (r : Row) → passes Unique docket_schema db ends r ≡ true → passes Unique docket_schema (with_tree db due (edited db edit)) ends (after r) ≡ true
         passes_after r was =
@@ -301,18 +297,18 @@ module _ (k d : ℕ) (day moment : ℤ) where
     parents_after next is deadlines =
         let was = of_each (λ (t : Shape). AllByRecursion (λ row. passes ForeignKey docket_schema db t row ≡ true) (db t.tree)) (obeyed.rules ForeignKey) Ends in
         subst (AllByRecursion (λ row. passes ForeignKey docket_schema next ends row ≡ true)) (sym is)
-        (lifted (λ row. passes ForeignKey docket_schema next ends row ≡ true) (each (λ r. passes ForeignKey docket_schema db ends r ≡ true) _ referred_after due_rows was))
+        (lifted (λ row. passes ForeignKey docket_schema next ends row ≡ true) (all_each (λ r. passes ForeignKey docket_schema db ends r ≡ true) _ referred_after due_rows was))
       where
         referred_after : (r : Row) → passes ForeignKey docket_schema db ends r ≡ true → passes ForeignKey docket_schema next ends (after r) ≡ true
         referred_after r was = ap₂ (λ (parents : List Row) (row : Row). list_all (has_parent docket_schema.tables (λ _. parents) row) ends.references) deadlines (core_after r) ∙ was
 
     news_are : AllByRecursion IsNew edit.news
     news_are =
-        let all_new = each IsNumbered (λ r. IsNew (moved r)) new_row hits (all-filter IsNumbered matches due_rows numbered_rows) in
+        let all_new = all_each IsNumbered (λ r. IsNew (moved r)) new_row hits (all-filter IsNumbered matches due_rows numbered_rows) in
         subst (AllByRecursion IsNew) (sym news_is) (recursion_from_All IsNew _ (All-permutation IsNew _ _ news_same (All-from_recursion IsNew _ (all-map IsNew moved hits all_new))))
 
     each_new : (p : Row → Bool) → ((a b c : ℤ) → p (Int a ∷ Int b ∷ Int c ∷ Int day ∷ Int moment ∷ []) ≡ true) → list_all p edit.news ≡ true
-    each_new p h = all_pass p edit.news (each IsNew (λ s. p s ≡ true) (λ s new. subst (λ x. p x ≡ true) (sym new.3) (h new.0 new.1 new.2)) edit.news news_are)
+    each_new p h = all_pass p edit.news (all_each IsNew (λ s. p s ≡ true) (λ s new. subst (λ x. p x ≡ true) (sym new.3) (h new.0 new.1 new.2)) edit.news news_are)
 
     -- the rowids are those that were there
     ids_fit : HasFitIds db → list_all (λ r. fits_i64 (id_in (rowid r))) edit.news ≡ true

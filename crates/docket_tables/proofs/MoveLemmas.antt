@@ -23,7 +23,8 @@ pub numbered_given : (rows news : List Row) → numbered Given rows news ≡ new
 numbered_given rows [] = refl
 numbered_given rows (r ∷ rs) = ap (λ more. r ∷ more) (numbered_given (put_row r rows) rs)
 
-put_all_permutes : (rows news : List Row) → are_fresh rows news ≡ true → IsPermutation (news ++ rows) (put_all rows news)
+-- fresh rows are put among those that are there
+pub put_all_permutes : (rows news : List Row) → are_fresh rows news ≡ true → IsPermutation (news ++ rows) (put_all rows news)
 put_all_permutes rows [] fresh = IsPermutation-refl rows
 put_all_permutes rows (r ∷ rs) fresh =
     let parts = and_parts _ _ fresh in
@@ -38,7 +39,7 @@ put_all_shaped rows (r ∷ rs) keyed shaped =
     put_all_shaped (put_row r rows) rs parts.1 (IsShaped-put_row r rows parts.0 shaped)
 
 -- those that match and are changed, and those that do not
-moved_parts : (match : Row → Bool) (move : Row → Row) (all : List Row) → IsPermutation (map move (filter match all) ++ filter (λ c. not (match c)) all) (map (λ c. cond (match c) (move c) c) all)
+pub moved_parts : (match : Row → Bool) (move : Row → Row) (all : List Row) → IsPermutation (map move (filter match all) ++ filter (λ c. not (match c)) all) (map (λ c. cond (match c) (move c) c) all)
 moved_parts match move [] = IsPermutation-refl _
 moved_parts match move (c ∷ all) = at (match c) (moved_parts match move all)
   where

@@ -1,7 +1,7 @@
 -- How often a rowid stands among rows.
-use Rattle.std.proofs.Common.{◌≡◌, ℕ, List, [], ◌∷◌, length, true, false, sym, ap, arith, ◌∙◌, Bool, not, cond, nat_lt, ◌+◌, ◌≤◌, ℤ, refl, IsPermutation, map, filter, is_eq, int_cmp, ap₂, Less, ◌++◌}
+use Rattle.std.proofs.Common.{◌≡◌, ℕ, List, [], ◌∷◌, length, true, false, sym, ap, arith, ◌∙◌, Bool, cond, nat_lt, ◌+◌, ◌≤◌, ℤ, refl, IsPermutation, filter, is_eq, int_cmp, ap₂, Less, ◌++◌}
 use Rattle.sqlite.specs.Order.{Row, value_cmp}
-use Rattle.sqlite_rules.specs.Edit.{are_fresh, id_in, is_taken, put_all}
+use Rattle.sqlite_rules.specs.Edit.{are_fresh, id_in, is_taken}
 use Rattle.std.specs.List.{AllByRecursion}
 use Rattle.sqlite_trees.specs.Tree.{rowid, has_rowid, put_row}
 use Rattle.sqlite.specs.declared.types.Value.TheVariants.{Int, Null, Text, Real, Blob}
@@ -9,13 +9,13 @@ use Rattle.sqlite_trees.specs.View.{is_int, IsShaped}
 use Rattle.sqlite_trees.specs.declared.store.Shape.TheVariants as shape
 use Rattle.docket_tables.proofs.CellLemmas.{put_permutes}
 use Rattle.sqlite_trees.proofs.ListLemmas.{IsPermutation-filter}
-use Rattle.std.proofs.lemmas.List.Sorted.{IsPermutation-sym, length_permutation, IsPermutation-refl, IsPermutation-trans, IsPermutation-middle, IsPermutation-append_right, IsPermutation-cons}
+use Rattle.std.proofs.lemmas.List.Sorted.{length_permutation}
 use Rattle.sqlite.specs.declared.types.Value.{Value}
 use Rattle.sqlite_value.proofs.OrderLemmas.{value_cmp-Int}
 use Rattle.std.proofs.lemmas.Int.{ints}
 use Rattle.sqlite_rules.proofs.TableLemmas.{taken_is}
 use Rattle.docket_tables.proofs.ReadLemmas.{any_kept}
-use Rattle.std.proofs.lemmas.Bool.{and_parts, and_from, not-true, not_from_false}
+use Rattle.std.proofs.lemmas.Bool.{and_from, not_from_false}
 
 pub int_is : (v : Value) → is_int v ≡ true → v ≡ Int (id_in v)
 int_is Null h = absurd (let no = h in cc)
@@ -92,22 +92,3 @@ fresh_of rows (r ∷ rs) int few =
     let no : nat_lt 0 (count id rows) ≡ false = ap (nat_lt 0) none in
     let free : is_taken rows r ≡ false = taken_is rows r int.0 ∙ sym (any_kept (has_rowid id) rows) ∙ no in
     and_from _ _ (not_from_false _ free) (fresh_of (put_row r rows) rs int.1 (λ i. omega (arith, few i, count_first i r rs, count_first i r rows, count_permuted i _ _ (put_permutes r rows free))))
-
--- they are put among those that are there
-pub put_all_permutes : (rows news : List Row) → are_fresh rows news ≡ true → IsPermutation (news ++ rows) (put_all rows news)
-put_all_permutes rows [] fresh = IsPermutation-refl rows
-put_all_permutes rows (r ∷ rs) fresh =
-    let parts = and_parts _ _ fresh in
-    let one = put_permutes r rows (not-true _ parts.0) in
-    IsPermutation-trans _ _ _ (IsPermutation-sym _ _ (IsPermutation-middle rs r rows))
-    (IsPermutation-trans _ _ _ (IsPermutation-append_right rs _ _ one) (put_all_permutes (put_row r rows) rs parts.1))
-
--- those that match and are changed, and those that do not
-pub moved_parts : (match : Row → Bool) (move : Row → Row) (all : List Row) → IsPermutation (map move (filter match all) ++ filter (λ c. not (match c)) all) (map (λ c. cond (match c) (move c) c) all)
-moved_parts match move [] = IsPermutation-refl _
-moved_parts match move (c ∷ all) = at (match c) (moved_parts match move all)
-  where
-    at : (b : Bool) → IsPermutation (map move (filter match all) ++ filter (λ x. not (match x)) all) (map (λ x. cond (match x) (move x) x) all)
-        → IsPermutation (map move (cond b (c ∷ filter match all) (filter match all)) ++ cond (not b) (c ∷ filter (λ x. not (match x)) all) (filter (λ x. not (match x)) all)) (cond b (move c) c ∷ map (λ x. cond (match x) (move x) x) all)
-    at true more = IsPermutation-cons _ _ _ more
-    at false more = IsPermutation-trans _ _ _ (IsPermutation-middle (map move (filter match all)) c _) (IsPermutation-cons _ _ _ more)

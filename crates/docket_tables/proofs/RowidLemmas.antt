@@ -69,7 +69,7 @@ taken (i ∷ ids) rows =
     taken ids (without_rowid i rows) ∙ passing_both (λ r. not (has_rowid i r)) (λ r. not (list_any (λ j. has_rowid j r) ids)) rows
     ∙ filter_same _ _ rows (all_of _ (λ r. not_or (has_rowid i r) (list_any (λ j. has_rowid j r) ids)) rows)
 
-any_mapped : {A B : Type 0} (p : B → Bool) (f : A → B) (xs : List A) → list_any p (map f xs) ≡ list_any (λ x. p (f x)) xs
+pub any_mapped : {A B : Type 0} (p : B → Bool) (f : A → B) (xs : List A) → list_any p (map f xs) ≡ list_any (λ x. p (f x)) xs
 any_mapped p f [] = refl
 any_mapped p f (x ∷ xs) = ap (λ b. p (f x) || b) (any_mapped p f xs)
 

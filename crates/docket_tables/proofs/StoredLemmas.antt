@@ -14,7 +14,6 @@ use Rattle.docket_decisions.specs.declared.end_row.EndRow.{EndRow}
 use Rattle.docket_decisions.specs.declared.end_row.EndTime.{EndTime}
 use Rattle.docket_history.specs.declared.row.ActRow.{ActRow}
 use Rattle.docket_history.specs.declared.row.DeadlineRow.{DeadlineRow}
-use Rattle.docket_columns.specs.Fits.{IsEndRow, IsDeadlineRow}
 use Rattle.docket_tables.specs.Contents.{AreStored, ends_in_case, ends_of}
 use Rattle.docket_orderly.specs.Orderly.{IsOrderly, RunsFrom}
 
@@ -76,22 +75,10 @@ rows_from k n [] = tt
 rows_from k n (None ∷ ends) = rows_higher k (n + 1) n (end_rows_from k (n + 1) ends) (omega arith) (rows_from k (n + 1) ends)
 rows_from k n (Some end ∷ ends) = (refl, omega arith, rows_from k (n + 1) ends)
 
-all_append : {X : Type 0} (P : X → Type 0) (xs ys : List X) → AllByRecursion P xs → AllByRecursion P ys → AllByRecursion P (xs ++ ys)
-all_append P [] ys a b = b
-all_append P (x ∷ xs) ys a b = (a.0, all_append P xs ys a.1 b)
-
-row_fits : (d : DeadlineRow) (end : Option EndTime) → IsDeadlineRow d → AllByRecursion IsEndRow (end_row d.case d.number end)
-row_fits d None fits = tt
-row_fits d (Some end) fits = ((fits.0, fits.1), tt)
-
-all_fit : (court : CourtSettings) (entered : Entered) (acts : List ActRow) (ds : List DeadlineRow) → AllByRecursion IsDeadlineRow ds → AllByRecursion IsEndRow (rows_by court entered acts ds)
-all_fit court entered acts [] fits = tt
-all_fit court entered acts (d ∷ ds) fits = all_append IsEndRow _ _ (row_fits d _ fits.0) (all_fit court entered acts ds fits.1)
-
 -- the ends of an orderly docket are stored so that a question shows those of a case
 pub all_stored : (court : CourtSettings) (t : Tables) → IsOrderly court t → (k : ℕ) → AreStored k (end_rows court t)
 unfolding end_rows
 all_stored court t orderly k = record {
-  fit = all-filter _ _ (end_rows court t) (all_fit court (calendar_in t) t.acts t.deadlines orderly.deadlines);
+  fit = all-filter _ _ (end_rows court t) orderly.ends;
   rows = subst (AreRowsFrom k 1) (sym (ends_of_all court t k orderly)) (rows_from k 1 (ends_running (zone_of court) (calendar_in t) (deadlines_from k 1 t.acts (deadlines_of_case k t.deadlines))));
 }

@@ -39,13 +39,14 @@ use Rattle.docket_tables.specs.Holds.{KeepsOthers, plain_query}
 use Rattle.docket_tables.specs.declared.table.Table.TheVariants.{Cases, Parties, Entries, Deadlines, Acts, Ends}
 use Rattle.sqlite_schema.specs.declared.schema.Constraint.TheVariants.{Unique, ForeignKey}
 use Rattle.docket_tables.proofs.LayoutLemmas.{apart, others_same}
+use Rattle.sqlite_trees.proofs.ListLemmas.{all_of}
 use Rattle.sqlite_trees.specs.Tree.{with_tree}
 use Rattle.std.proofs.lemmas.Bool.Decides.{nat_tests}
 use Rattle.sqlite.specs.Term.{Term, lit}
 use Rattle.sqlite.specs.declared.types.Value.TheVariants.{Int}
 use lib.Ieee.{is_nan}
 use Rattle.std.specs.Float.{NotNan}
-use Rattle.docket_tables.proofs.HoldsLemmas.{and_yes}
+use Rattle.docket_tables.proofs.HoldsLemmas.{all_each, and_yes}
 use Rattle.sqlite_rules.specs.declared.error.Refusal.TheVariants.{NoRowid}
 use Rattle.sqlite_value.specs.Keys.{plain}
 
@@ -138,14 +139,6 @@ update_caused table q at sql params Spare old new e place is_one has safe barred
 
 -- ---- what stands after a change of one table
 
-pub every : {X : Type 0} (P : X → Type 0) → ((x : X) → P x) → (xs : List X) → AllByRecursion P xs
-every P f [] = tt
-every P f (x ∷ xs) = (f x, every P f xs)
-
-pub each : {X : Type 0} (P R : X → Type 0) → ((x : X) → P x → R x) → (xs : List X) → AllByRecursion P xs → AllByRecursion R xs
-each P R f [] all = tt
-each P R f (x ∷ xs) all = (f x all.0, each P R f xs all.1)
-
 -- each table is this one, or stands in another tree
 abbrev pub AreApart : Shape → List Shape → Type 0
 AreApart table ts = AllByRecursion (λ (t : Shape). ((t.tree == table.tree) ≡ false) ⊎ (t ≡ table)) ts
@@ -159,12 +152,12 @@ module _ (table : Shape) (old new : Trees) (P R : Shape → Row → Type 0) (her
   still (t ∷ ts) parted kept step all = (one parted.0, still ts parted.1 kept.1 step.1 all.1)
     where
       one : ((t.tree == table.tree) ≡ false) ⊎ (t ≡ table) → AllByRecursion (R t) (new t.tree)
-      one (inl other) = let same = kept.0 (apart t.tree table.tree other) in subst (AllByRecursion (R t)) (sym same) (each (P t) (R t) (step.0 same) (old t.tree) all.0)
+      one (inl other) = let same = kept.0 (apart t.tree table.tree other) in subst (AllByRecursion (R t)) (sym same) (all_each (P t) (R t) (step.0 same) (old t.tree) all.0)
       one (inr is) = subst (λ (x : Shape). AllByRecursion (R x) (new x.tree)) (sym is) here
 
 -- one tree with other rows, the others as they were
 pub with_others : (db : Trees) (tree : ℕ) (rows : List Row) (ts : List Shape) → AllByRecursion (λ (t : Shape). t.tree ≢ tree → with_tree db tree rows t.tree ≡ db t.tree) ts
-with_others db tree rows = every _ (λ (t : Shape) other. let no : (t.tree == tree) ≡ false = grind (arith, nat_tests, other) in ap (λ b. cond b rows (db t.tree)) no)
+with_others db tree rows = all_of _ (λ (t : Shape) other. let no : (t.tree == tree) ≡ false = grind (arith, nat_tests, other) in ap (λ b. cond b rows (db t.tree)) no)
 
 -- no unique list is broken elsewhere
 pub keeps_unique : (table : Shape) (db : Trees) (rows : List Row) → AreApart table docket_schema.tables → Keeps Unique docket_schema db
@@ -172,7 +165,7 @@ pub keeps_unique : (table : Shape) (db : Trees) (rows : List Row) → AreApart t
 keeps_unique table db rows parted was here =
     let new = with_tree db table.tree rows in
     still table db new (λ t row. passes Unique docket_schema db t row ≡ true) (λ t row. passes Unique docket_schema new t row ≡ true) here docket_schema.tables parted (with_others db table.tree rows docket_schema.tables)
-    (every (λ (t : Shape). new t.tree ≡ db t.tree → (row : Row) → passes Unique docket_schema db t row ≡ true → passes Unique docket_schema new t row ≡ true)
+    (all_of (λ (t : Shape). new t.tree ≡ db t.tree → (row : Row) → passes Unique docket_schema db t row ≡ true → passes Unique docket_schema new t row ≡ true)
     (λ (t : Shape) same row h. subst (λ (own : List Row). list_all (λ i. not (guards i t && clashes i.order i.columns own row)) docket_schema.indexes ≡ true) (sym same) h) docket_schema.tables) was
 
 -- each row has its parents where the cases and the deadlines stand as they stood

@@ -18,8 +18,8 @@ use Rattle.docket_tables.specs.Texts.{counted}
 use Rattle.docket_tables.specs.declared.table.Table.{Table}
 
 -- the columns of the key
-abbrev pub key_of : Table → List ℕ
-key_of table = let l = layout_of table in take l.key (counted 0 l.fields)
+abbrev pub key_columns : Table → List ℕ
+key_columns table = let l = layout_of table in take l.key (counted 0 l.fields)
 
 -- the rows have the same values in these columns
 abbrev pub are_alike : List ℕ → Row → Row → Bool
@@ -27,17 +27,17 @@ are_alike columns a b = list_all (λ c. equal Binary (column a c) (column b c)) 
 
 -- none of the rows has the key of the row, nor what stands once beside the key
 abbrev pub StandsAlone : Table → Row → List Row → Type 0
-StandsAlone table row rows = AllByRecursion (λ columns. AllByRecursion (λ other. are_alike columns other row ≡ false) rows) (key_of table ∷ (layout_of table).uniques)
+StandsAlone table row rows = AllByRecursion (λ columns. AllByRecursion (λ other. are_alike columns other row ≡ false) rows) (key_columns table ∷ (layout_of table).uniques)
 
--- each parent of the row stands
+-- in each parent of the table stands a row that has in the columns of its key what the row has there
 abbrev pub HasParents : Table → Row → Rows → Type 0
-HasParents table row rows = AllByRecursion (λ parent. list_any (λ other. are_alike (key_of parent) other row) (rows parent) ≡ true) (layout_of table).parents
+HasParents table row rows = AllByRecursion (λ parent. list_any (λ other. are_alike (key_columns parent) other row) (rows parent) ≡ true) (layout_of table).parents
 
--- a number of 64 bits, or a text of ten million bytes at most
+-- a number of 64 bits, or a text of ten million bytes at most: no column takes another value
 abbrev pub IsStorableValue : Value → Type 0
 IsStorableValue (Int n) = fits_i64 n ≡ true
 IsStorableValue (Text t) = length t ≤ 10 ^ 7
-IsStorableValue _ = Unit {0}
+IsStorableValue _ = ⊥
 
 -- the values can be stored
 abbrev pub AreStorable : Row → Type 0

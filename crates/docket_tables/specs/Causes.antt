@@ -1,5 +1,5 @@
 -- Why a call of the database fails.
-use Rattle.std.specs.Prelude.{◌≡◌, ◌⊎◌, false, IsTrue, IsSome, IfErr, Result, Option, Some, List, map, get_or, true}
+use Rattle.std.specs.Prelude.{◌≡◌, ◌≤◌, ◌⊎◌, false, IsTrue, IsSome, IfErr, Result, Option, Some, List, map, get_or, true}
 use Rattle.sqlite.specs.Disk.{MoreFaults}
 use Rattle.sqlite.specs.Kind.{Kind}
 use Rattle.sqlite.specs.Kind.TheVariants.{Integer}
@@ -30,6 +30,10 @@ IsOfMemory e = e ≡ SqliteFailure OutOfMemory
 -- a query came to the limit on steps, which was set
 abbrev pub IsOfLimit : State → Error → Type 0
 IsOfLimit old e = (e ≡ SqliteFailure OperationInterrupted) × IsSome old.step_limit
+
+-- a later state of the connection: no fault of its disk is forgotten, and the limit on steps is the same
+abbrev pub IsLater : State → State → Type 0
+IsLater old new = (old.faults ≤ new.faults) × (new.step_limit ≡ old.step_limit)
 
 -- the error of a question to a connection that held rows has a cause
 abbrev pub IsCaused : State → State → Error → Type 0
@@ -68,7 +72,7 @@ abbrev pub IsCausedMaking : State → State → Option Error → StoreFault → 
 IsCausedMaking old new failure making.StoreFailed = (e : Error) × (failure ≡ Some e) × HasMakingCause old new e
 IsCausedMaking old new failure making.NoMemory = (e : Error) × (failure ≡ Some e) × IsOfMemory e
 
--- no hidden rowid was left in a table: where only this program wrote, none comes to the last of 2^63
+-- a row was to have a hidden rowid beyond 2^63 - 1; a new row has the one after the last of its table
 abbrev pub IsOfRowids : Error → Type 0
 IsOfRowids e = e ≡ SqliteFailure NoRowid
 
@@ -76,11 +80,17 @@ IsOfRowids e = e ≡ SqliteFailure NoRowid
 abbrev pub HasAddCause : Table → State → State → Error → Type 0
 HasAddCause table old new e = IsCaused old new e ⊎ (IsOfRowids e × ((layout_of table).is_rowid ≡ false))
 
--- the error of a change, inside a transaction, has a cause
+-- the error of changes inside a transaction has a cause, or a row was to have a rowid beyond the last
 abbrev pub HasChangeCause : State → State → Error → Type 0
 HasChangeCause old new e = IsCaused old new e ⊎ IsOfRowids e
 
--- the fault of a part of a transaction has a cause where the store failed, and no row is told to be damaged
+-- the fault of a reading inside a transaction has a cause where the store failed, and no row is told to be damaged
+abbrev pub IsReadingFault : State → State → ReadFault → Type 0
+IsReadingFault old new (Store e) = IsCaused old new e
+IsReadingFault old new NoMemory = Unit {0}
+IsReadingFault old new Damaged = ⊥
+
+-- the same of a part that may change rows
 abbrev pub IsChangeFault : State → State → ReadFault → Type 0
 IsChangeFault old new (Store e) = HasChangeCause old new e
 IsChangeFault old new NoMemory = Unit {0}

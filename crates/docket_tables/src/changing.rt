@@ -13,7 +13,7 @@ ghost use Rattle.docket_columns.specs.Cells.{end_cells, receipt_cells};
 ghost use Rattle.docket_decisions.specs.Additions.{AddsOnce, AddsAmong};
 ghost use Rattle.docket_orderly.specs.Additions.{HasDeadline, MayAdd, MayAddAll, MayReceive};
 ghost use Rattle.docket_tables.specs.Additions.{AreStorable, values_added};
-ghost use Rattle.docket_tables.specs.Causes.{HasChangeCause, IsChangeFault};
+ghost use Rattle.docket_tables.specs.Causes.{HasChangeCause, IsCaused, IsChangeFault};
 ghost use Rattle.docket_tables.specs.AnyRows.{AreDocketRows, all_rows_changed, recorded, row_changed, with_calendar_row, without_calendar_row, with_stored};
 ghost use Rattle.docket_tables.specs.Contents.{rows_with};
 ghost use Rattle.docket_tables.specs.Holds.{IsKeyed};
@@ -66,7 +66,7 @@ fn withdraw_row<S: Alter>(tx: &mut Transaction<'_, S>, number: u32) -> Result<()
     ensures ok { HasCleanDisk (state S.Store tx.new.conn.now) → (rows : Rows) → AllByRecursion IsKeyed (rows table.Calendar) → AllByRecursion IsKeyed (rows table.ShortDays)
         → Sees (state S.Store tx.old.conn.now) rows → OnOk result (Sees (state S.Store tx.new.conn.now) (without_calendar_row number rows)) }
     ensures cause { HasCleanDisk (state S.Store tx.new.conn.now) → (court : CourtSettings) (t : Tables) (ends : List Ended)
-        → Sees (state S.Store tx.old.conn.now) (rows_with court t ends) → IfErr result (HasChangeCause (state S.Store tx.old.conn.now) (state S.Store tx.new.conn.now)) }
+        → Sees (state S.Store tx.old.conn.now) (rows_with court t ends) → IfErr result (IsCaused (state S.Store tx.old.conn.now) (state S.Store tx.new.conn.now)) }
 {
     remove_calendar_row(tx, number)?;
     remove_short_day(tx, number)
@@ -156,7 +156,7 @@ pub fn record<S: Alter>(
     )
 }
 
-/// The numbers of an end lie in memory, so that the table takes them.
+/// Each number of an end has at most 64 bits, as the program keeps it, so that the table takes it.
 fn end_fits(row: EndRow)
     ensures { AreStorable (end_cells row) }
 {}

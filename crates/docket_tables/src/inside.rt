@@ -7,7 +7,7 @@ ghost use Rattle.docket_history.specs.Histories.{deadlines_of_case};
 ghost use Rattle.docket_decisions.specs.Tables.{Tables};
 ghost use Rattle.docket_decisions.specs.declared.end_row.EndRow.{EndRow as Ended};
 ghost use Rattle.sqlite.specs.State.{HasCleanDisk};
-ghost use Rattle.docket_tables.specs.Causes.{IsChangeFault};
+ghost use Rattle.docket_tables.specs.Causes.{IsReadingFault};
 ghost use Rattle.docket_tables.specs.Contents.{AreStored, ends_of, rows_with};
 ghost use Rattle.docket_orderly.specs.Orderly.{IsOrderly};
 ghost use Rattle.docket_tables.specs.Layouts.{Rows};
@@ -35,7 +35,7 @@ pub fn calendar<S: Alter>(
         → Inside (state S.Store tx.old.conn.now) (state S.Store tx.new.conn.now) (rows_with court t ends) (rows_with court t ends) result (λ found. found.items ≡ t.calendar) }
     ensures still { (rows : Rows) → Inside (state S.Store tx.old.conn.now) (state S.Store tx.new.conn.now) rows rows result (λ _. Unit {0}) }
     ensures cause { HasCleanDisk (state S.Store tx.new.conn.now) → (court : CourtSettings) (t : Tables) (ends : List Ended) → IsOrderly court t
-        → Sees (state S.Store tx.old.conn.now) (rows_with court t ends) → IfErr result (IsChangeFault (state S.Store tx.old.conn.now) (state S.Store tx.new.conn.now)) }
+        → Sees (state S.Store tx.old.conn.now) (rows_with court t ends) → IfErr result (IsReadingFault (state S.Store tx.old.conn.now) (state S.Store tx.new.conn.now)) }
 {
     let rows = ask_inside(tx, Query::Calendar, &[])?;
     let short_rows = ask_inside(tx, Query::ShortDays, &[])?;
@@ -54,7 +54,7 @@ pub fn ends_of_case<S: Alter>(
         → Inside (state S.Store tx.old.conn.now) (state S.Store tx.new.conn.now) (rows_with court t ends) (rows_with court t ends) result (λ found. found.items ≡ ends_of case ends) }
     ensures still { (rows : Rows) → Inside (state S.Store tx.old.conn.now) (state S.Store tx.new.conn.now) rows rows result (λ _. Unit {0}) }
     ensures cause { HasCleanDisk (state S.Store tx.new.conn.now) → (court : CourtSettings) (t : Tables) (ends : List Ended) → AreStored case ends
-        → Sees (state S.Store tx.old.conn.now) (rows_with court t ends) → IfErr result (IsChangeFault (state S.Store tx.old.conn.now) (state S.Store tx.new.conn.now)) }
+        → Sees (state S.Store tx.old.conn.now) (rows_with court t ends) → IfErr result (IsReadingFault (state S.Store tx.old.conn.now) (state S.Store tx.new.conn.now)) }
 {
     let rows = ask_inside(tx, Query::Ends, &[case.to_sql()])?;
     all_in(alloc, rows.as_slice())
@@ -72,7 +72,7 @@ pub fn deadlines_of_case<S: Alter>(
         → Inside (state S.Store tx.old.conn.now) (state S.Store tx.new.conn.now) (rows_with court t ends) (rows_with court t ends) result (λ found. found.items ≡ deadlines_of_case case t.deadlines) }
     ensures still { (rows : Rows) → Inside (state S.Store tx.old.conn.now) (state S.Store tx.new.conn.now) rows rows result (λ _. Unit {0}) }
     ensures cause { HasCleanDisk (state S.Store tx.new.conn.now) → (court : CourtSettings) (t : Tables) (ends : List Ended) → IsOrderly court t
-        → Sees (state S.Store tx.old.conn.now) (rows_with court t ends) → IfErr result (IsChangeFault (state S.Store tx.old.conn.now) (state S.Store tx.new.conn.now)) }
+        → Sees (state S.Store tx.old.conn.now) (rows_with court t ends) → IfErr result (IsReadingFault (state S.Store tx.old.conn.now) (state S.Store tx.new.conn.now)) }
 {
     let rows = ask_inside(tx, Query::Deadlines, &[case.to_sql()])?;
     all_in(alloc, rows.as_slice())
@@ -90,7 +90,7 @@ pub fn acts_of_case<S: Alter>(
         → Inside (state S.Store tx.old.conn.now) (state S.Store tx.new.conn.now) (rows_with court t ends) (rows_with court t ends) result (λ found. AreActsOf case t.acts found.items) }
     ensures still { (rows : Rows) → Inside (state S.Store tx.old.conn.now) (state S.Store tx.new.conn.now) rows rows result (λ _. Unit {0}) }
     ensures cause { HasCleanDisk (state S.Store tx.new.conn.now) → (court : CourtSettings) (t : Tables) (ends : List Ended) → IsOrderly court t
-        → Sees (state S.Store tx.old.conn.now) (rows_with court t ends) → IfErr result (IsChangeFault (state S.Store tx.old.conn.now) (state S.Store tx.new.conn.now)) }
+        → Sees (state S.Store tx.old.conn.now) (rows_with court t ends) → IfErr result (IsReadingFault (state S.Store tx.old.conn.now) (state S.Store tx.new.conn.now)) }
 {
     let rows = ask_inside(tx, Query::Acts, &[case.to_sql()])?;
     all_in(alloc, rows.as_slice())

@@ -9,8 +9,9 @@
 //! failure may leave (`HoldsRows`), and a step of a transaction as the rows that it saw and sees then
 //! (`Inside`). A question fails of the store only for a cause (`IsCaused`): the disk failed or refused more
 //! often than before, memory was refused, or a query came to a limit on steps that was set. So does the
-//! making of the tables (`HasMakingCause`), and so do changes of rows that may stand (`HasChangeCause`):
-//! none has the key of another, or what stands once beside it, and its parents stand (`MayStand`).
+//! making of the tables (`HasMakingCause`) on a connection that is open. Changes fail for such a cause, or
+//! where no hidden rowid was left (`HasChangeCause`), if each row that they add may stand (`MayStand`): no
+//! other has its key, or what stands once beside that, and its parents stand.
 #![tactic(auto)]
 
 mod changing;

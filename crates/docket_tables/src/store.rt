@@ -113,7 +113,7 @@ pub(crate) fn remove_calendar_row<S: Alter>(
     ensures ok { HasCleanDisk (state S.Store tx.new.conn.now) → (rows : Rows) → AllByRecursion IsKeyed (rows table.Calendar) → Sees (state S.Store tx.old.conn.now) rows
         → OnOk result (Sees (state S.Store tx.new.conn.now) (with_rows table.Calendar (without_number number (rows table.Calendar)) rows)) }
     ensures cause { HasCleanDisk (state S.Store tx.new.conn.now) → (rows : Rows) → Sees (state S.Store tx.old.conn.now) rows
-        → IfErr result (HasChangeCause (state S.Store tx.old.conn.now) (state S.Store tx.new.conn.now)) }
+        → IfErr result (IsCaused (state S.Store tx.old.conn.now) (state S.Store tx.new.conn.now)) }
 {
     change(tx, delete_text(), params![number])
 }
@@ -128,7 +128,7 @@ pub(crate) fn remove_short_day<S: Alter>(
     ensures ok { HasCleanDisk (state S.Store tx.new.conn.now) → (rows : Rows) → AllByRecursion IsKeyed (rows table.ShortDays) → Sees (state S.Store tx.old.conn.now) rows
         → OnOk result (Sees (state S.Store tx.new.conn.now) (with_rows table.ShortDays (without_number number (rows table.ShortDays)) rows)) }
     ensures cause { HasCleanDisk (state S.Store tx.new.conn.now) → (rows : Rows) → Sees (state S.Store tx.old.conn.now) rows
-        → IfErr result (HasChangeCause (state S.Store tx.old.conn.now) (state S.Store tx.new.conn.now)) }
+        → IfErr result (IsCaused (state S.Store tx.old.conn.now) (state S.Store tx.new.conn.now)) }
 {
     change(tx, delete_short_day_text(), params![number])
 }
@@ -144,7 +144,7 @@ pub(crate) fn remove_end<S: Alter>(
     ensures ok { HasCleanDisk (state S.Store tx.new.conn.now) → (rows : Rows) → Sees (state S.Store tx.old.conn.now) rows
         → OnOk result (Sees (state S.Store tx.new.conn.now) (with_rows table.Ends (without_key (0 ∷ 1 ∷ []) (Int (pos case) ∷ Int (pos deadline) ∷ []) (rows table.Ends)) rows)) }
     ensures cause { HasCleanDisk (state S.Store tx.new.conn.now) → (rows : Rows) → Sees (state S.Store tx.old.conn.now) rows
-        → IfErr result (HasChangeCause (state S.Store tx.old.conn.now) (state S.Store tx.new.conn.now)) }
+        → IfErr result (IsCaused (state S.Store tx.old.conn.now) (state S.Store tx.new.conn.now)) }
 {
     change(tx, delete_end_text(), params![case, deadline])
 }
@@ -174,7 +174,7 @@ pub(crate) fn ask_inside<S: Alter>(
     ensures ok { HasCleanDisk (state S.Store tx.new.conn.now) → (rows : Rows) → Sees (state S.Store tx.old.conn.now) rows
         → IfOk result (λ found. Sees (state S.Store tx.new.conn.now) rows × IsAnswer query (bound values.now) (rows (table_of query)) found.items) }
     ensures cause { HasCleanDisk (state S.Store tx.new.conn.now) → (rows : Rows) → Sees (state S.Store tx.old.conn.now) rows → Suits query (bound values.now)
-        → IfErr result (HasChangeCause (state S.Store tx.old.conn.now) (state S.Store tx.new.conn.now)) }
+        → IfErr result (IsCaused (state S.Store tx.old.conn.now) (state S.Store tx.new.conn.now)) }
 {
     tx.query_all(select_text(query), values)
 }
@@ -186,7 +186,7 @@ pub(crate) fn count_calendar_row<S: Alter>(tx: &mut Transaction<'_, S>) -> Resul
     ensures ok { HasCleanDisk (state S.Store tx.new.conn.now) → (court : CourtSettings) (n : ℕ) (rows : Rows) → n + 1 < 2 ^ 63 → rows table.Court ≡ court_cells court n ∷ [] → Sees (state S.Store tx.old.conn.now) rows
         → OnOk result (Sees (state S.Store tx.new.conn.now) (with_rows table.Court (court_cells court (n + 1) ∷ []) rows)) }
     ensures cause { HasCleanDisk (state S.Store tx.new.conn.now) → (court : CourtSettings) (n : ℕ) (rows : Rows) → n + 1 < 2 ^ 63 → length court.zone_text ≤ 31 → rows table.Court ≡ court_cells court n ∷ []
-        → Sees (state S.Store tx.old.conn.now) rows → IfErr result (HasChangeCause (state S.Store tx.old.conn.now) (state S.Store tx.new.conn.now)) }
+        → Sees (state S.Store tx.old.conn.now) rows → IfErr result (IsCaused (state S.Store tx.old.conn.now) (state S.Store tx.new.conn.now)) }
 {
     change(tx, count_text(), &[])
 }

@@ -14,6 +14,7 @@ fn style_text() -> &'static str
      table{border-collapse:collapse;margin:1em 0}\
      th,td{border:thin solid #888;padding:0.2em 0.6em;text-align:left;vertical-align:top}\
      .number,time{font-family:monospace}\
+     bdi{overflow-wrap:anywhere}\
      @media print{body{margin:0}nav{display:none}a{color:inherit;text-decoration:none}thead{display:table-header-group}tr{break-inside:avoid}}"
 }
 

@@ -13,9 +13,6 @@ use std::test::Fail;
 
 const ZONE: &str = "EST5EDT,M3.2.0,M11.1.0";
 
-/// What stands in place of an instant where the time runs to the end of its last day.
-const WHOLE_DAY: i64 = 9_999_999_999_999;
-
 /// A day of July 2025.
 fn july(day: u32) -> Result<Day, Fail> {
     Ok(Day::from_ymd(2025, 7, day).ok_or("no day")?)
@@ -238,12 +235,12 @@ fn ends(
 }
 
 fn is_end(rows: &[EndRow], deadline: u32, day: u32) -> Result<bool, Fail> {
-    let day = i64::from(july(day)?.epoch_day());
+    let day = july(day)?;
     Ok(match rows {
         [row] => row.case == 1
             && row.deadline == deadline
             && row.end.day == day
-            && row.end.moment == WHOLE_DAY,
+            && row.end.moment.is_none(),
         _ => false,
     })
 }
@@ -255,8 +252,8 @@ fn takes_end(expected: Vec<EndRow>, day: u32) -> Result<bool, Fail> {
         case: 1,
         deadline: 2,
         end: EndTime {
-            day: i64::from(july(day)?.epoch_day()),
-            moment: WHOLE_DAY,
+            day: july(day)?,
+            moment: None,
         },
     };
     Ok(check.take(row) && check.is_sound())

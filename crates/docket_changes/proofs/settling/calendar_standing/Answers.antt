@@ -1,5 +1,5 @@
-use Rattle.docket_tables.proofs.ChangeCauses.{fault_passed}
-use Rattle.docket_tables.specs.Causes.{IsChangeFault}
+use Rattle.docket_tables.proofs.ChangeCauses.{reading_passed}
+use Rattle.docket_tables.specs.Causes.{IsReadingFault}
 use Rattle.docket_changes.specs.Sound.{IsSoundCase}
 use Rattle.std.proofs.Common.{◌∙◌, [], ap, sym, subst}
 use Rattle.std.proofs.lemmas.Result.{IfOk-weaker, IfErr-weaker}
@@ -36,7 +36,7 @@ returns-clause-still g c rows sees =
 
 pub returns-in_err-rows-clause-cause : goal.returns-in_err-rows-clause-cause
 returns-in_err-rows-clause-cause g c clean t ends orderly sound sees =
-    fault_passed (state g.S.Store c.args.tx.now.conn.now) (state g.S.Store c.calendar.new.tx.conn.now) c.in_err-rows.field-0.0 c.from_residual.result c.from_residual.ensures.1
+    reading_passed (state g.S.Store c.args.tx.now.conn.now) (state g.S.Store c.calendar.new.tx.conn.now) c.in_err-rows.field-0.0 c.from_residual.result c.from_residual.ensures.1
     (c.in_err-rows.ensures.cause clean c.args.court.now t ends orderly sees)
 
 pub returns-clause-cause : goal.returns-clause-cause
@@ -46,5 +46,5 @@ returns-clause-cause g c clean t ends orderly sound sees =
     let new = state g.S.Store c.calendar.new.tx.conn.now in
     let read = c.in_ok-rows.ensures.inside court t ends orderly (λ _. sees) in
     let is = c.as_slice.ensures.value ∙ (read.1 clean).1 in
-    IfErr-weaker c.calendar_of_rows.result _ _ (λ fault none. subst (IsChangeFault old new) (sym none) tt)
+    IfErr-weaker c.calendar_of_rows.result _ _ (λ fault none. subst (IsReadingFault old new) (sym none) tt)
     (c.calendar_of_rows.ensures.short (subst (λ rows. IsSoundCase court (items_of rows) []) (sym is) sound.calendar))

@@ -1,4 +1,4 @@
-use Rattle.docket_tables.proofs.ChangeCauses.{fault_after, fault_passed}
+use Rattle.docket_tables.proofs.ChangeCauses.{fault_after, fault_passed, reading_changes}
 use Rattle.sqlite.specs.State.{HasCleanDisk}
 use Rattle.std.proofs.Common.{◌≡◌, subst, arith}
 use Rattle.std.proofs.lemmas.Result.{IfOk-weaker, IfErr-weaker}
@@ -50,8 +50,10 @@ returns-clause-any g c stored rows =
 
 pub returns-in_err-calendar-clause-cause : goal.returns-in_err-calendar-clause-cause
 returns-in_err-calendar-clause-cause g c clean t ends orderly sound stored only sees =
-    fault_passed (state g.S.Store c.args.tx.now.conn.now) (state g.S.Store c.calendar_standing.new.tx.conn.now) c.in_err-calendar.field-0.0 c.from_residual.result c.from_residual.ensures.1
-    (c.in_err-calendar.ensures.cause clean t ends orderly sound sees)
+    let start = state g.S.Store c.args.tx.now.conn.now in
+    let mid = state g.S.Store c.calendar_standing.new.tx.conn.now in
+    let fault = c.in_err-calendar.field-0.0 in
+    fault_passed start mid fault c.from_residual.result c.from_residual.ensures.1 (reading_changes start mid fault (c.in_err-calendar.ensures.cause clean t ends orderly sound sees))
 
 pub returns-clause-cause : goal.returns-clause-cause
 returns-clause-cause g c clean t ends orderly sound stored only sees =

@@ -1,6 +1,6 @@
 use Rattle.docket_orderly.proofs.ParentLemmas.{any_of_run, any_filtered}
 use Rattle.docket_decisions.proofs.AddedEnds.{among_more}
-use Rattle.docket_tables.proofs.ChangeCauses.{fault_after, fault_passed}
+use Rattle.docket_tables.proofs.ChangeCauses.{fault_after, fault_passed, reading_changes}
 use Rattle.docket_tables.specs.Causes.{IsChangeFault}
 use Rattle.docket_tables.specs.declared.fault.ReadFault.TheVariants.{NoMemory}
 use Rattle.sqlite.specs.State.{HasCleanDisk}
@@ -152,8 +152,10 @@ among_standing court t k deadlines changes orderly shown among =
 
 pub returns-in_err-stored-clause-cause : goal.returns-in_err-stored-clause-cause
 returns-in_err-stored-clause-cause g c clean t ends orderly sound are sees =
-    fault_passed (state g.S.Store c.args.tx.now.conn.now) (state g.S.Store c.ends_of_case.new.tx.conn.now) c.in_err-stored.field-0.0 c.from_residual.result c.from_residual.ensures.1
-    (c.in_err-stored.ensures.cause clean c.args.court.now t ends are sees)
+    let start = state g.S.Store c.args.tx.now.conn.now in
+    let new = state g.S.Store c.ends_of_case.new.tx.conn.now in
+    let fault = c.in_err-stored.field-0.0 in
+    fault_passed start new fault c.from_residual.result c.from_residual.ensures.1 (reading_changes start new fault (c.in_err-stored.ensures.cause clean c.args.court.now t ends are sees))
 
 pub returns-in_err-deadlines-clause-cause : goal.returns-in_err-deadlines-clause-cause
 returns-in_err-deadlines-clause-cause g c clean t ends orderly sound are sees =
@@ -165,7 +167,7 @@ returns-in_err-deadlines-clause-cause g c clean t ends orderly sound are sees =
     let went = c.in_ok-stored.ensures.inside court t ends are (λ _. sees) in
     let fault = c.in_err-deadlines.field-0.0 in
     fault_passed start new fault c.from_residual-in_err-deadlines.result c.from_residual-in_err-deadlines.ensures.1
-    (fault_after start mid new new fault went.0.survives.counts (omega arith) went.0.survives.limit (c.in_err-deadlines.ensures.cause clean court t ends orderly (went.1 between).0))
+    (fault_after start mid new new fault went.0.survives.counts (omega arith) went.0.survives.limit (reading_changes mid new fault (c.in_err-deadlines.ensures.cause clean court t ends orderly (went.1 between).0)))
 
 pub returns-in_err-changes-clause-cause : goal.returns-in_err-changes-clause-cause
 returns-in_err-changes-clause-cause g c clean t ends orderly sound are sees =

@@ -1,4 +1,4 @@
-use Rattle.docket_tables.proofs.ChangeCauses.{fault_after, fault_passed}
+use Rattle.docket_tables.proofs.ChangeCauses.{reading_after, reading_passed}
 use Rattle.docket_tables.specs.declared.fault.ReadFault.TheVariants.{NoMemory}
 use Rattle.sqlite.specs.State.{HasCleanDisk}
 use Rattle.std.proofs.Common.{◌∙◌, ap, sym, subst, map, arith}
@@ -76,7 +76,7 @@ returns-clause-still g c rows =
 
 pub returns-in_err-rows-clause-cause : goal.returns-in_err-rows-clause-cause
 returns-in_err-rows-clause-cause g c clean court t ends orderly sees =
-    fault_passed (state g.S.Store c.args.tx.now.conn.now) (state g.S.Store c.deadlines_of_case.new.tx.conn.now) c.in_err-rows.field-0.0 c.from_residual.result c.from_residual.ensures.1
+    reading_passed (state g.S.Store c.args.tx.now.conn.now) (state g.S.Store c.deadlines_of_case.new.tx.conn.now) c.in_err-rows.field-0.0 c.from_residual.result c.from_residual.ensures.1
     (c.in_err-rows.ensures.cause clean court t ends orderly sees)
 
 pub returns-in_err-acts-clause-cause : goal.returns-in_err-acts-clause-cause
@@ -87,9 +87,9 @@ returns-in_err-acts-clause-cause g c clean court t ends orderly sees =
     let between : HasCleanDisk mid = omega (arith, clean, c.acts_of_case.ensures.clean) in
     let went = c.in_ok-rows.ensures.inside court t ends orderly (λ _. sees) in
     let fault = c.in_err-acts.field-0.0 in
-    fault_passed old new fault c.from_residual-in_err-acts.result c.from_residual-in_err-acts.ensures.1
-    (fault_after old mid new new fault went.0.survives.counts (omega arith) went.0.survives.limit (c.in_err-acts.ensures.cause clean court t ends orderly (went.1 between).0))
+    reading_passed old new fault c.from_residual-in_err-acts.result c.from_residual-in_err-acts.ensures.1
+    (reading_after old mid new new fault went.0.survives.counts (omega arith) went.0.survives.limit (c.in_err-acts.ensures.cause clean court t ends orderly (went.1 between).0))
 
 pub returns-in_err-with_acts-clause-cause : goal.returns-in_err-with_acts-clause-cause
 returns-in_err-with_acts-clause-cause g c clean court t ends orderly sees =
-    fault_passed (state g.S.Store c.args.tx.now.conn.now) (state g.S.Store c.acts_of_case.new.tx.conn.now) NoMemory c.from_residual-in_err-with_acts.result c.from_residual-in_err-with_acts.ensures.1 tt
+    reading_passed (state g.S.Store c.args.tx.now.conn.now) (state g.S.Store c.acts_of_case.new.tx.conn.now) NoMemory c.from_residual-in_err-with_acts.result c.from_residual-in_err-with_acts.ensures.1 tt

@@ -20,7 +20,7 @@ pub returns-clause-read : goal.returns-clause-read
 returns-clause-read g c court t orderly holds =
     let read = c.in_ok-rows.ensures.read court t orderly holds in (
       read.0,
-      λ clean. c.new.ensures ∙ c.in_ok-items_of.ensures ∙ ap items_of (c.as_slice.ensures.value ∙ read.1 clean),
+      λ clean. c.in_ok-items_of.ensures ∙ ap items_of (c.as_slice.ensures.value ∙ read.1 clean),
     )
 
 pub returns-in_err-rows-clause-stays : goal.returns-in_err-rows-clause-stays

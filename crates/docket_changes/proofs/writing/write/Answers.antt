@@ -1,9 +1,9 @@
 use Rattle.sqlite.specs.declared.error.Error.{Error}
 use Rattle.std.proofs.lemmas.Result.{IfErr-weaker}
-use Rattle.docket_changes.proofs.WritingCauses.{change_since}
+use Rattle.docket_changes.proofs.WritingCauses.{change_since, later_at_end}
 use Rattle.docket_tables.proofs.MakingCauses.{commit_caused, open_caused}
 use Rattle.docket_tables.proofs.ChangeCauses.{change_after, change_passed}
-use Rattle.docket_tables.specs.Causes.{HasChangeCause}
+use Rattle.docket_tables.specs.Causes.{HasChangeCause, IsLater}
 use Rattle.std.proofs.Common.{◌≡◌, [], IsTrue, false, Ok, Err, MatchResult, IfErr, OnOk, inl, ap, sym, subst, arith, rules}
 use Rattle.sqlite.specs.State.{HasCleanDisk, KeepsCounts, Shows as Turns}
 use Rattle.sqlite.specs.Steps.{FailsToCommit}
@@ -173,3 +173,41 @@ returns-clause-cause g c clean t small holds update written =
     change_since start begun (state g.S.Store end) (state g.S.Store end) e begins (omega arith)
     (change_after begun last (state g.S.Store end) (state g.S.Store end) e done.0.survives.counts (omega arith) done.0.survives.limit cause) in
     subst (λ h. IfErr c.commit.result (HasChangeCause start (state g.S.Store h))) same (IfErr-weaker c.commit.result _ _ caused (c.commit.ensures.err ended))
+
+pub returns-in_err-fill-clause-later : goal.returns-in_err-fill-clause-later
+returns-in_err-fill-clause-later g c clean t small holds update =
+    let court = c.args.court.now in
+    let start = state g.S.Store c.args.conn.now in
+    let begun = state g.S.Store c.transaction-tx.result.conn.now in
+    let last = state g.S.Store c.fill.new.tx.conn.now in
+    let end = c.drop-tx.new.self.0 in
+    let then : Tables = with_receipt c.args.command.now c.args.changes.now.reply (all_changed c.args.changes.now.rows.items t) in
+    let rows : Rows = rows_in court t in
+    let begins = ap (state g.S.Store) c.transaction-tx.ensures.begun in
+    let same : end ≡ c.conn-1.given.0 = search rules in
+    let ended : HasCleanDisk (state g.S.Store end) = subst (λ h. HasCleanDisk (state g.S.Store h)) (sym same) clean in
+    let before : HasCleanDisk last = omega (arith, ended, c.drop-tx.ensures.survives.clean) in
+    let at_begin : HasCleanDisk begun = omega (arith, before, c.fill.ensures.clean) in
+    let was = holds.1 (subst HasCleanDisk begins at_begin) in
+    let inside : StaysInside begun last = (c.fill.ensures.inside t (end_rows court t) small (may_update court c.args.update.now t then update) (λ _. begins_seeing start begun rows was begins)).0 in
+    subst (λ h. IsLater start (state g.S.Store h)) same
+    (later_at_end start begun last (state g.S.Store end) begins (inside.survives.counts, inside.survives.limit) (c.drop-tx.ensures.survives.counts, c.drop-tx.ensures.survives.limit))
+
+pub returns-clause-later : goal.returns-clause-later
+returns-clause-later g c clean t small holds update =
+    let court = c.args.court.now in
+    let start = state g.S.Store c.args.conn.now in
+    let begun = state g.S.Store c.transaction-tx.result.conn.now in
+    let last = state g.S.Store c.fill.new.tx.conn.now in
+    let end = c.commit.new.self.0 in
+    let then : Tables = with_receipt c.args.command.now c.args.changes.now.reply (all_changed c.args.changes.now.rows.items t) in
+    let rows : Rows = rows_in court t in
+    let begins = ap (state g.S.Store) c.transaction-tx.ensures.begun in
+    let same : end ≡ c.conn-2-1.given.0 = search rules in
+    let ended : HasCleanDisk (state g.S.Store end) = subst (λ h. HasCleanDisk (state g.S.Store h)) (sym same) clean in
+    let before : HasCleanDisk last = omega (arith, ended, c.commit.ensures.survives.clean) in
+    let at_begin : HasCleanDisk begun = omega (arith, before, c.fill.ensures.clean) in
+    let was = holds.1 (subst HasCleanDisk begins at_begin) in
+    let done = c.in_ok-fill.ensures.inside t (end_rows court t) small (may_update court c.args.update.now t then update) (λ _. begins_seeing start begun rows was begins) in
+    subst (λ h. IsLater start (state g.S.Store h)) same
+    (later_at_end start begun last (state g.S.Store end) begins (done.0.survives.counts, done.0.survives.limit) (c.commit.ensures.survives.counts, c.commit.ensures.survives.limit))

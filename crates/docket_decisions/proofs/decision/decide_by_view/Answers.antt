@@ -14,7 +14,7 @@ pub changes_of_action-requires-clause-numbers : goal.changes_of_action-requires-
 changes_of_action-requires-clause-numbers c =
     let free = is_free c.args.court.now c.args.view.now c.args.command.now (sym c.refusal.ensures ∙ c.in-None.is) in
     let fit = rows_fit c.args.view.now c.args.command.now.action free.room c.requires.next_row in
-    let count : length c.in_ok-added.added.items ≡ count_added c.args.view.now c.args.command.now.action = ap length c.in_ok-added.ensures ∙ ap (λ items. length (rows_added items c.args.command.now.action)) c.as_slice-2.ensures in
+    let count : length c.in_ok-added.added.items ≡ count_added c.args.view.now c.args.command.now.action = ap length c.in_ok-added.ensures ∙ ap (λ items. length (rows_added items c.args.command.now.action)) c.as_slice.ensures.items in
     omega (arith, fit, count)
 
 pub changes_of_action-requires-clause-room : goal.changes_of_action-requires-clause-room

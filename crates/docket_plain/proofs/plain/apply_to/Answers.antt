@@ -1,4 +1,9 @@
-use Rattle.std.proofs.Common.{◌≡◌, ◌∷◌, sym, ap, subst, ◌∙◌, inr}
+use Rattle.std.proofs.Common.{◌≡◌, ◌∷◌, length, sym, ap, subst, ◌∙◌, inr, arith}
+use Rattle.std.specs.List.{All}
+use Rattle.std.proofs.lemmas.List.{length-map}
+use Rattle.docket_history.specs.CalendarItems.{IsEnteredItem}
+use Rattle.docket_history.specs.Histories.{History, items_of, standing_rows}
+use Rattle.docket_history.specs.declared.row.CalendarRow.{CalendarRow}
 use Rattle.docket_decisions.proofs.LimitsKept.{within_limits, sound_view}
 use Rattle.docket_decisions.specs.Decisions.{IsSoundView}
 use Rattle.docket_decisions.specs.Outcomes.{shown, after_answer, accepted}
@@ -10,7 +15,16 @@ use Rattle.docket_plain.proofs.HeldHistories.{small, is_docket, history_told}
 use Rattle.docket_plain.proofs.plain.apply_to.Goals as goal
 
 pub view_of-requires : goal.view_of-requires
-view_of-requires c = small c.args.court.now c.args.tables.now c.requires
+view_of-requires c =
+    let court = c.args.court.now in
+    let h : History = history_of c.args.tables.now.receipts.items in
+    let limits = within_limits court h c.requires.accepted in
+    let seen : items_of c.args.tables.now.calendar.items ≡ items_of (standing_rows h) = ap (λ t. items_of t.calendar) c.requires.same in
+    record {
+      small = small court c.args.tables.now c.requires;
+      items = subst (All IsEnteredItem) (sym seen) limits.items;
+      rows = omega (arith, ap length seen, length-map (standing_rows h) (λ (row : CalendarRow). row.item), limits.rows);
+    }
 
 pub decide-requires : goal.decide-requires
 decide-requires c =

@@ -13,7 +13,7 @@ use Rattle.docket_store.proofs.AnyLemmas.{unwritten}
 use Rattle.std.proofs.Common.{IfErr, inl as left}
 use Rattle.docket_store.specs.declared.fault.Fault.TheVariants as fault
 use Rattle.docket_store.specs.Causes.{IsCausedBy}
-use Rattle.docket_store.proofs.FailureLemmas.{err_named, err_caused_by, err_writes, writes_later}
+use Rattle.docket_store.proofs.FailureLemmas.{err_named, err_caused_by, err_writes, later_then, writes_later}
 use Rattle.docket_store.proofs.applying.apply_to.Goals as goal
 
 pub returns-in-Repeat-clause-answer : goal.returns-in-Repeat-clause-answer
@@ -102,3 +102,23 @@ returns-clause-cause g c h stands clean =
     ) in
     writes_later command (state g.S.Store c.args.conn.now) (state g.S.Store c.judge.new.conn) (state g.S.Store c.keep.new.conn) c.keep.new.failure c.keep.result c.judge.ensures.counts c.judge.ensures.limit
     (c.keep.ensures.cause h judged.0 (λ clean. (accepts clean, c.as_slice.ensures.value ∙ (judged.1 clean).2 _ (accepts clean).0)) clean)
+
+pub returns-in_err-decision-clause-later : goal.returns-in_err-decision-clause-later
+returns-in_err-decision-clause-later g c h stands clean = (c.judge.ensures.counts, c.judge.ensures.limit)
+
+pub returns-in-Repeat-clause-later : goal.returns-in-Repeat-clause-later
+returns-in-Repeat-clause-later g c h stands clean = (c.judge.ensures.counts, c.judge.ensures.limit)
+
+pub returns-clause-later : goal.returns-clause-later
+returns-clause-later g c h stands clean =
+    let court = c.args.court.now in
+    let command = c.args.command.now in
+    let judged = c.in_ok-decision.ensures.judged h stands in
+    let accepts : HasCleanDisk (state g.S.Store c.judge.new.conn) → IsAccepted court h command c.in-Change.changes =
+    λ clean. (
+      subst (λ (d : Decision). IsAnswer (Ok d) (outcome court h command)) c.in-Change.is (judged.1 clean).0,
+      subst (λ (d : Decision). LeadsTo court h command d) c.in-Change.is (judged.1 clean).1,
+      subst (λ (d : Decision). IsChange (action_changes (shown court h command) command.action) d) c.in-Change.is (c.in_ok-decision.ensures.changes h stands clean),
+    ) in
+    later_then (state g.S.Store c.args.conn.now) (state g.S.Store c.judge.new.conn) (state g.S.Store c.keep.new.conn) (c.judge.ensures.counts, c.judge.ensures.limit)
+    (c.keep.ensures.later h judged.0 (λ clean. (accepts clean, c.as_slice.ensures.value ∙ (judged.1 clean).2 _ (accepts clean).0)) clean)

@@ -11,10 +11,11 @@ use Rattle.docket_store.proofs.ApplyLemmas.{after_accepted, docket_after, number
 use Rattle.docket_store.proofs.AskLemmas.{applies_err}
 use Rattle.docket_store.proofs.AnyLemmas.{unwritten, written_or_not}
 use Rattle.std.proofs.Common.{◌+◌, ◌<◌, ◌^◌, inr, inr as right, length}
-use Rattle.docket_store.proofs.FailureLemmas.{err_named, err_writes, kept_caused}
+use Rattle.docket_store.proofs.FailureLemmas.{err_named, err_writes, kept_caused, later_then}
 use Rattle.docket_wire.specs.Writing.{canonical}
 use Rattle.docket_tables.proofs.ChangeCauses.{change_after}
 use Rattle.docket_store.specs.Causes.{HasWriteCause}
+use Rattle.docket_tables.specs.Causes.{IsLater}
 use Rattle.docket_store.proofs.WriteLemmas.{lengths, may_write}
 use Rattle.docket_store.proofs.applying.keep.Goals as goal
 
@@ -112,3 +113,35 @@ returns-clause-cause g c h stands accepts clean =
       | inr long ↦ inr long
     ] in
     kept_caused command start last c.store_fault.new.failure e c.store_fault.result c.store_fault.ensures.kept cause
+
+pub returns-in_err-update-clause-later : goal.returns-in_err-update-clause-later
+returns-in_err-update-clause-later g c h stands accepts clean = (c.end_update.ensures.counts, c.end_update.ensures.limit)
+
+pub returns-in-Ok-clause-later : goal.returns-in-Ok-clause-later
+returns-in-Ok-clause-later g c h stands accepts clean =
+    let court = c.args.court.now in
+    let command = c.args.command.now in
+    let changes = c.args.changes.now in
+    let start = state g.S.Store c.args.conn.now in
+    let asked_at = state g.S.Store c.end_update.new.conn in
+    let early : HasCleanDisk asked_at = omega (arith, clean, c.write.ensures.clean) in
+    let at_start : HasCleanDisk start = omega (arith, early, c.end_update.ensures.clean) in
+    let asked = c.in_ok-update.ensures.update h stands accepts in
+    later_then start asked_at (state g.S.Store c.write.new.conn) (c.end_update.ensures.counts, c.end_update.ensures.limit)
+    (c.write.ensures.later clean (rows_of court h) (numbers_fit court h _ stands.docket c.changes_fit.ensures) asked.0.rows (update_written court h command changes c.in_ok-update.update (accepts at_start).0 (asked.1 early)))
+
+pub returns-clause-later : goal.returns-clause-later
+returns-clause-later g c h stands accepts clean =
+    let court = c.args.court.now in
+    let command = c.args.command.now in
+    let changes = c.args.changes.now in
+    let start = state g.S.Store c.args.conn.now in
+    let asked_at = state g.S.Store c.end_update.new.conn in
+    let wrote = state g.S.Store c.write.new.conn in
+    let written : HasCleanDisk wrote = omega (arith, clean, c.store_fault.ensures.clean) in
+    let early : HasCleanDisk asked_at = omega (arith, written, c.write.ensures.clean) in
+    let at_start : HasCleanDisk start = omega (arith, early, c.end_update.ensures.clean) in
+    let asked = c.in_ok-update.ensures.update h stands accepts in
+    let went : IsLater start wrote = later_then start asked_at wrote (c.end_update.ensures.counts, c.end_update.ensures.limit)
+    (c.write.ensures.later written (rows_of court h) (numbers_fit court h _ stands.docket c.changes_fit.ensures) asked.0.rows (update_written court h command changes c.in_ok-update.update (accepts at_start).0 (asked.1 early))) in
+    later_then start wrote (state g.S.Store c.store_fault.new.conn) went (c.store_fault.ensures.counts, c.store_fault.ensures.limit)

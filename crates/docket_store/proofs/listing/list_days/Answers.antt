@@ -1,30 +1,33 @@
-use Rattle.std.proofs.Common.{◌≡◌, ℕ}
+use Rattle.std.proofs.Common.{◌≡◌, ◌∙◌, ℕ, List, Some, ap}
 use Rattle.std.proofs.KnownBytes.{Appends-nil}
-use Rattle.court_days.specs.Calendar.{Entered}
 use Rattle.sqlite.specs.Held.{state}
-use Rattle.docket_history.specs.Records.{calendar}
+use Rattle.docket_history.specs.CalendarItems.{calendar_of}
+use Rattle.docket_history.specs.Histories.{items_of, standing_rows}
+use Rattle.docket_history.specs.declared.item.CalendarItem.{CalendarItem}
 use Rattle.docket_store.specs.Dockets.{serving}
-use Rattle.docket_store.proofs.AskLemmas.{fault_of_other}
+use Rattle.docket_store.proofs.AskLemmas.{fault_of_other, keeping}
 use Rattle.docket_store.proofs.FailureLemmas.{end_caused_after}
 use Rattle.docket_store.proofs.listing.list_days.Goals as goal
 
 pub returns-in-Err-clause-lists : goal.returns-in-Err-clause-lists
 returns-in-Err-clause-lists g c h stands =
     let left = serving c.calendar_told.new.conn c.args.court.now c.calendar_told.new.kept in (
-      fault_of_other g.S.Store left h (λ (found : Entered). found ≡ calendar h) (λ (lines : ℕ). ⊥) c.in-Err.fault (c.in-Err.ensures.answer h stands),
+      fault_of_other g.S.Store left h (λ (items : List CalendarItem). items ≡ items_of (standing_rows h)) (λ (lines : ℕ). ⊥) c.in-Err.fault (c.in-Err.ensures.answer c.args.court.now h stands),
       λ clean. Appends-nil (g.W.Write.contents c.args.writer.now),
     )
 
 pub returns-clause-lists : goal.returns-clause-lists
 returns-clause-lists g c h stands =
-    let told = c.in-Ok.ensures.answer h stands in
-    c.list_by.ensures.lists c.calendar_told.new.kept h told.0 told.1
+    let court = c.args.court.now in
+    let standing : List CalendarItem = c.in-Ok.standing in
+    let told = c.in-Ok.ensures.answer court h stands in
+    c.list_by-listed.ensures.lists (Some standing) h (keeping g.S.Store c.calendar_told.new.conn court c.calendar_told.new.kept standing h told.0 told.1) (λ clean. c.calendar-entered.ensures ∙ ap calendar_of (told.1 clean))
 
 pub returns-clause-stays : goal.returns-clause-stays
-returns-clause-stays g c rows holds = c.list_by.ensures.stays rows (c.in-Ok.ensures.stays rows holds)
+returns-clause-stays g c rows holds = c.list_by-listed.ensures.stays rows (c.in-Ok.ensures.stays rows holds)
 
 pub returns-clause-cause : goal.returns-clause-cause
 returns-clause-cause g c rows holds clean =
     let told = c.calendar_told in
-    end_caused_after (state g.S.Store c.args.conn.now) (state g.S.Store told.new.conn) (state g.S.Store c.list_by.new.conn) c.list_by.new.failure c.list_by.result told.ensures.counts told.ensures.limit
-    (c.list_by.ensures.cause rows (c.in-Ok.ensures.stays rows holds) clean)
+    end_caused_after (state g.S.Store c.args.conn.now) (state g.S.Store told.new.conn) (state g.S.Store c.list_by-listed.new.conn) c.list_by-listed.new.failure c.list_by-listed.result told.ensures.counts told.ensures.limit
+    (c.list_by-listed.ensures.cause rows (c.in-Ok.ensures.stays rows holds) clean)

@@ -6,7 +6,7 @@ use Rattle.docket_store.specs.declared.fault.Fault.{Fault}
 use Rattle.std.proofs.Common.{Err}
 use Rattle.docket_store.specs.AnyRows.{WritesWhole}
 use Rattle.docket_store.specs.declared.fault.Fault.TheVariants.{StoreFailed}
-use Rattle.docket_store.proofs.FailureLemmas.{failed_closes, same_fault}
+use Rattle.docket_store.proofs.FailureLemmas.{failed_closes, same_fault, stays_open}
 use Rattle.docket_store.proofs.sequence.answer.Goals as goal
 
 pub returns-in-Err-Refused-clause-answer : goal.returns-in-Err-Refused-clause-answer
@@ -28,3 +28,12 @@ returns-in-Err-clause-closes g c failed = failed_closes c.args.docket.now.closed
 
 pub returns-in-Err-clause-cause : goal.returns-in-Err-clause-cause
 returns-in-Err-clause-cause g c h stands clean failed = c.apply.ensures.cause h stands clean (c.in-Err.is ∙ ap Err (same_fault _ c.in-Err.fault StoreFailed refl failed))
+
+pub returns-in-Ok-clause-stays_open : goal.returns-in-Ok-clause-stays_open
+returns-in-Ok-clause-stays_open g c opened other = stays_open c.apply.new.self.closed c.apply.result (c.apply.ensures.closes opened) (λ failed. let no = sym c.in-Ok.is ∙ failed in cc)
+
+pub returns-in-Err-Refused-clause-stays_open : goal.returns-in-Err-Refused-clause-stays_open
+returns-in-Err-Refused-clause-stays_open g c opened other = stays_open c.apply.new.self.closed c.apply.result (c.apply.ensures.closes opened) (λ failed. let no = sym c.in-Err-Refused.is ∙ failed in cc)
+
+pub returns-in-Err-clause-stays_open : goal.returns-in-Err-clause-stays_open
+returns-in-Err-clause-stays_open g c opened other = stays_open c.apply.new.self.closed c.apply.result (c.apply.ensures.closes opened) (λ failed. other (ap Err (same_fault c.apply.result c.in-Err.fault StoreFailed c.in-Err.is failed)))

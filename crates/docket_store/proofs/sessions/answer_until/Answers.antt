@@ -6,6 +6,10 @@ use Rattle.docket_decisions.specs.Outcomes.{run, answers}
 use Rattle.docket_store.specs.Applying.{IsDocket, Stands}
 use Rattle.docket_store.specs.Sequence.{AreReplies}
 use Rattle.docket_store.proofs.RunLemmas.{run_more, replies_more, halts_more}
+use Rattle.sqlite.specs.State.{HasCleanDisk}
+use Rattle.sqlite.specs.Held.{state}
+use Rattle.docket_store.specs.declared.fault.Fault.TheVariants.{StoreFailed}
+use Rattle.docket_store.proofs.FailureLemmas.{caused_at, later_then, same_fault}
 use Rattle.docket_store.proofs.SessionLemmas.{answered, stopped}
 use Rattle.line_io.proofs.StepLemmas.{here, one_step, steps_then}
 use Rattle.docket_store.specs.AnyRows.{WritesAtMostOne}
@@ -40,6 +44,12 @@ commands-preserved g c =
       len = omega (arith, c.push_reserved.ensures.len, c.commands.invariant.len);
       count = ap length c.push_reserved.ensures.items ∙ length-append told (c.in-Ok.reply ∷ []) ∙ ap (λ (n : ℕ). n + 1) c.commands.invariant.count;
       room = omega (arith, c.push_reserved.ensures.capacity, c.commands.invariant.room);
+      stays_open = λ opened. c.answer.ensures.stays_open (c.commands.invariant.stays_open opened) (λ failed. let no = sym c.in-Ok.is ∙ failed in cc);
+      later = λ h stands clean.
+          let between : HasCleanDisk (state g.S.Store c.commands.docket.conn) = omega (arith, clean, c.answer.ensures.clean) in
+          let was = c.commands.invariant.answers h stands between in
+          later_then (state g.S.Store c.args.docket.now.conn) (state g.S.Store c.commands.docket.conn) (state g.S.Store c.answer.new.docket.conn) (c.commands.invariant.later h stands between)
+          (c.answer.ensures.later (run c.commands.docket.court h (take i cs)) was.0 clean);
       steps = steps_then (WritesAtMostOne g.S.Store) _ _ _ c.commands.invariant.steps (one_step (WritesAtMostOne g.S.Store) _ _ (λ rows n stored are small holds.
           answered_one g.S.Store c.answer.new.docket.conn rows c.answer.new.docket.court n c.command-item.result c.answer.result (c.answer.ensures.any rows n stored are small holds)));
       answers = λ h stands clean.
@@ -67,6 +77,8 @@ commands-init g c = record {
   len = c.requires.none;
   count = ap length c.requires.fresh;
   room = c.requires.room;
+  stays_open = λ opened. opened;
+  later = λ h stands clean. (omega arith, refl);
   steps = here (WritesAtMostOne g.S.Store) _;
   answers = λ h stands clean. (stands, subst (λ rs. AreReplies rs []) (sym c.requires.fresh) tt);
 }
@@ -83,7 +95,11 @@ pub returns-in-Err-clause-cause : goal.returns-in-Err-clause-cause
 returns-in-Err-clause-cause g c h stands clean failed =
     let i = c.commands.command-index in
     let cs = c.args.commands.now in
-    let was = c.commands.invariant.answers h stands (omega (arith, clean, c.answer.ensures.clean)) in
+    let between : HasCleanDisk (state g.S.Store c.commands.docket.conn) = omega (arith, clean, c.answer.ensures.clean) in
+    let was = c.commands.invariant.answers h stands between in
     let before = c.commands.docket in
-    let closed = c.in-Err.ensures.cause (run before.court h (take i cs)) was.0 clean (ap Err failed) in
-    (c.command-item.result, before.conn, closed.0, closed.1, closed.2)
+    caused_at g.S.Store cs i c.len.result c.command-item.result (state g.S.Store c.args.docket.now.conn) before c.answer.new.docket (omega arith) c.command-item.is (c.len.ensures ∙ c.commands.invariant.len)
+    (c.commands.invariant.later h stands between) (c.in-Err.ensures.cause (run before.court h (take i cs)) was.0 clean (ap Err failed))
+
+pub returns-in-Err-clause-stays_open : goal.returns-in-Err-clause-stays_open
+returns-in-Err-clause-stays_open g c opened unfailed = c.answer.ensures.stays_open (c.commands.invariant.stays_open opened) (λ failed. unfailed (same_fault c.answer.result c.in-Err.fault StoreFailed c.in-Err.is failed))

@@ -1,13 +1,13 @@
-use Rattle.std.proofs.Common.{◌∙◌, subst, arith}
+use Rattle.std.proofs.Common.{◌∙◌, subst, subst₂, arith}
 use Rattle.sqlite.specs.State.{HasCleanDisk}
 use Rattle.sqlite.specs.Held.{Held, state}
 use Rattle.docket_store.proofs.SessionLemmas.{ended, not_begun}
 use Rattle.std.proofs.Common.{sym}
 use Rattle.docket_tables.specs.Stands.{HoldsRows}
 use Rattle.docket_store.specs.AnyRows.{PreservesRejected}
-use Rattle.docket_store.specs.Causes.{IsCausedOpening}
+use Rattle.docket_store.specs.Causes.{IsCausedOpening, StopsForCause}
 use Rattle.docket_store.proofs.AnyLemmas.{err_if}
-use Rattle.docket_store.proofs.FailureLemmas.{stops_passed}
+use Rattle.docket_store.proofs.FailureLemmas.{stop_caused_after}
 use Rattle.docket_store.proofs.sessions.session.Goals as goal
 
 pub returns-in-Ok-clause-ends : goal.returns-in-Ok-clause-ends
@@ -51,6 +51,13 @@ pub returns-in-Ok-clause-stops : goal.returns-in-Ok-clause-stops
 returns-in-Ok-clause-stops g c court h is stands clean =
     let until = c.answer_until-stopped_at in
     let d = until.new.docket in
+    let cs = c.args.commands.now in
     let was : HasCleanDisk (state g.S.Store d.conn) = subst (λ (x : Held g.row.S.Denot). HasCleanDisk (state g.S.Store x)) c.close.ensures.conn clean in
     let adopted = c.in_ok-docket.ensures.adopted court h is stands (omega (arith, was, until.ensures.clean)) in
-    stops_passed g.S.Store d.conn c.close.result d.closed_by c.closed_by.result until.result (sym c.close.ensures.conn) (sym c.closed_by.ensures) (until.ensures.cause h adopted.0 was)
+    let first = state g.S.Store c.args.connection in
+    let opened = c.in_ok-docket.ensures.writes_nothing in
+    let stopped = stop_caused_after cs first (state g.S.Store c.in_ok-docket.docket.conn) (state g.S.Store d.conn) d.closed_by until.result (opened.counts, opened.limit) (until.ensures.cause h adopted.0 was) in
+    subst₂ (λ (x : Held g.row.S.Denot) failure. StopsForCause cs first (state g.S.Store x) failure until.result) (sym c.close.ensures.conn) (sym c.closed_by.ensures.error) stopped
+
+pub returns-in-Ok-clause-unfailed : goal.returns-in-Ok-clause-unfailed
+returns-in-Ok-clause-unfailed g c unfailed = c.closed_by.ensures.none (c.answer_until-stopped_at.ensures.stays_open c.in_ok-docket.ensures.opened unfailed)

@@ -1,5 +1,5 @@
 use Rattle.docket_tables.proofs.ChangeCauses.{change_after, change_passed}
-use Rattle.std.proofs.Common.{◌∙◌, arith}
+use Rattle.std.proofs.Common.{◌∙◌, inl, arith}
 use Rattle.std.proofs.lemmas.Result.{IfOk-weaker, IfErr-weaker}
 use Rattle.sqlite.specs.Held.{state}
 use Rattle.docket_tables.specs.AnyRows.{with_calendar_row}
@@ -42,5 +42,5 @@ returns-clause-cause g c clean court t ends small short sees may storable =
     let rows = rows_with court t ends in
     let added = c.in_ok-insert_calendar_row.ensures.ok (omega (arith, clean, c.count_calendar_row.ensures.inside.survives.clean)) rows sees in
     let survives = c.insert_calendar_row.ensures.inside.survives in
-    IfErr-weaker c.count_calendar_row.result _ _ (λ e h. change_after old mid new new e survives.counts (omega arith) survives.limit h)
+    IfErr-weaker c.count_calendar_row.result _ _ (λ e h. change_after old mid new new e survives.counts (omega arith) survives.limit (inl h))
     (c.count_calendar_row.ensures.cause clean court t.next_row (with_calendar_row row.number row.name row.item rows) small short (court_apart row.number row.name row.item rows) added)

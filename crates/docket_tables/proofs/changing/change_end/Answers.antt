@@ -1,4 +1,4 @@
-use Rattle.std.proofs.Common.{subst, [], ◌∷◌, Err}
+use Rattle.std.proofs.Common.{subst, [], ◌∷◌, inl, Err}
 use Rattle.docket_orderly.specs.Additions.{HasDeadline}
 use Rattle.docket_decisions.specs.Additions.{AddsOnce, AddsAmong}
 use Rattle.docket_tables.proofs.ChangeCauses.{fault_told, row_caused}
@@ -119,7 +119,7 @@ pub returns-in_err-remove_end-in-Remove-clause-cause : goal.returns-in_err-remov
 returns-in_err-remove_end-in-Remove-clause-cause g c clean court t ends sees once among =
     let old = state g.S.Store c.args.tx.now.conn.now in
     let new = state g.S.Store c.remove_end.new.tx.conn.now in
-    fault_told old new c.in_err-remove_end-in-Remove.field-0.0 c.from_residual-in_err-remove_end-in-Remove.result c.from_residual-in_err-remove_end-in-Remove.ensures.1 (c.in_err-remove_end-in-Remove.ensures.cause clean (rows_with court t ends) sees)
+    fault_told old new c.in_err-remove_end-in-Remove.field-0.0 c.from_residual-in_err-remove_end-in-Remove.result c.from_residual-in_err-remove_end-in-Remove.ensures.1 (inl (c.in_err-remove_end-in-Remove.ensures.cause clean (rows_with court t ends) sees))
 
 pub returns-in_err-move_end-in-Move-clause-cause : goal.returns-in_err-move_end-in-Move-clause-cause
 returns-in_err-move_end-in-Move-clause-cause g c clean court t ends sees once among =

@@ -1,10 +1,11 @@
 use Rattle.docket_tables.proofs.ChangeCauses.{fault_after, fault_passed, once_at, among_at}
 use Rattle.docket_orderly.specs.Additions.{HasDeadline}
 use Rattle.sqlite.specs.State.{HasCleanDisk}
-use Rattle.std.proofs.Common.{◌≡◌, ◌<◌, ◌∙◌, length, take, refl, subst, arith}
+use Rattle.std.proofs.Common.{◌≡◌, ◌<◌, ◌∙◌, ◌∷◌, [], get_or, length, take, refl, sym, ap, subst, arith, rules}
 use Rattle.std.proofs.lemmas.List.{take_all}
 use Rattle.sqlite.specs.Held.{state}
-use Rattle.docket_decisions.specs.EndRows.{all_changed_ends}
+use Rattle.docket_decisions.specs.Additions.{AddsOnce, AddsAmong}
+use Rattle.docket_decisions.specs.EndRows.{all_changed_ends, changed_ends}
 use Rattle.docket_tables.specs.AnyRows.{with_stored}
 use Rattle.docket_tables.specs.Contents.{rows_with}
 use Rattle.docket_tables.proofs.CommitLemmas.{inside_still}
@@ -31,6 +32,8 @@ pub changes-preserved : goal.changes-preserved
 changes-preserved g c =
     let all = c.args.changes.now in
     let i = c.changes.change-index in
+    let change = c.change-item.result in
+    let is : change ≡ get_or all i change = search rules in
     let inside : i < length all = omega (arith, c.changes-test.true) in (
       c.change_end.ensures.same_reference ∙ c.changes.invariant.0,
       λ court t ends.
@@ -38,7 +41,7 @@ changes-preserved g c =
           let mid = state g.S.Store c.changes.tx.conn.now in
           let new = state g.S.Store c.change_end.new.tx.conn.now in
           let done = all_changed_ends (take i all) ends in
-          subst (λ es. Went start new (rows_with court t ends) (rows_with court t es) (Unit {0})) (changed_next_end all ends i _ inside)
+          subst (λ es. Went start new (rows_with court t ends) (rows_with court t es) (Unit {0})) (ap (λ x. changed_ends x done) is ∙ changed_next_end all ends i change inside)
           (went_after start mid new (rows_with court t ends) (rows_with court t done) _ (Unit {0}) (Unit {0}) (Unit {0}) (c.changes.invariant.1 court t ends) (c.in_ok-change_end.ensures.inside court t done) (λ a b. tt)),
       omega (arith, c.changes.invariant.2, c.change_end.ensures.clean),
       λ stored rows.
@@ -46,7 +49,7 @@ changes-preserved g c =
           let mid = state g.S.Store c.changes.tx.conn.now in
           let new = state g.S.Store c.change_end.new.tx.conn.now in
           let done = all_changed_ends (take i all) stored in
-          subst (λ es. Went start new (with_stored stored rows) (with_stored es rows) (Unit {0})) (changed_next_end all stored i _ inside)
+          subst (λ es. Went start new (with_stored stored rows) (with_stored es rows) (Unit {0})) (ap (λ x. changed_ends x done) is ∙ changed_next_end all stored i change inside)
           (went_after start mid new (with_stored stored rows) (with_stored done rows) _ (Unit {0}) (Unit {0}) (Unit {0}) (c.changes.invariant.3 stored rows) (c.in_ok-change_end.ensures.any done rows) (λ a b. tt)),
     )
 
@@ -88,7 +91,10 @@ pub returns-in_err-change_end-clause-cause : goal.returns-in_err-change_end-clau
 returns-in_err-change_end-clause-cause g c clean court t ends sees once among =
     let all = c.args.changes.now in
     let i = c.changes.change-index in
+    let change = c.change-item.result in
+    let is : change ≡ get_or all i change = search rules in
     let inside : i < length all = omega (arith, c.changes-test.true) in
+    let done = all_changed_ends (take i all) ends in
     let start = state g.S.Store c.args.tx.now.conn.now in
     let mid = state g.S.Store c.changes.tx.conn.now in
     let end = state g.S.Store c.change_end.new.tx.conn.now in
@@ -97,4 +103,4 @@ returns-in_err-change_end-clause-cause g c clean court t ends sees once among =
     let fault = c.in_err-change_end.field-0.0 in
     fault_passed start end fault c.from_residual.result c.from_residual.ensures.1
     (fault_after start mid end end fault went.0.survives.counts (omega arith) went.0.survives.limit
-    (c.in_err-change_end.ensures.cause clean court t (all_changed_ends (take i all) ends) (went.1 before).0 (once_at all i _ ends inside once) (among_at (HasDeadline t) all i _ inside among)))
+    (c.in_err-change_end.ensures.cause clean court t done (went.1 before).0 (subst (λ x. AddsOnce (x ∷ []) done) (sym is) (once_at all i change ends inside once)) (subst (λ x. AddsAmong (HasDeadline t) (x ∷ [])) (sym is) (among_at (HasDeadline t) all i change inside among))))

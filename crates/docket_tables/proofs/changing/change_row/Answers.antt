@@ -2,8 +2,8 @@ use Rattle.docket_tables.specs.Additions.{AreStorable, values_added}
 use Rattle.docket_orderly.specs.Additions.{MayAdd}
 use Rattle.docket_tables.proofs.AdditionLemmas.{case_may, party_may, entry_may, deadline_may, act_may, local_rule_may}
 use Rattle.docket_tables.proofs.ChangeCauses.{row_caused}
-use Rattle.std.proofs.Common.{◌∙◌, ap, sym, subst, refl}
-use Rattle.std.proofs.lemmas.Result.{IfOk-weaker}
+use Rattle.std.proofs.Common.{◌∙◌, ap, inl, sym, subst, refl}
+use Rattle.std.proofs.lemmas.Result.{IfErr-weaker, IfOk-weaker}
 use Rattle.sqlite.specs.Held.{state}
 use Rattle.docket_history.specs.ShortDays.{day_and_span_rows, short_day_rows}
 use Rattle.docket_decisions.specs.Tables.{changed}
@@ -133,7 +133,7 @@ returns-in-AddCalendar-clause-cause g c clean court t ends small short sees may 
     c.add_calendar_row.ensures.cause clean court t ends small short sees (subst (λ x. MayAdd x t) c.in-AddCalendar.is may) (subst (λ x. AreStorable (values_added x)) c.in-AddCalendar.is storable)
 
 pub returns-in-RemoveCalendar-clause-cause : goal.returns-in-RemoveCalendar-clause-cause
-returns-in-RemoveCalendar-clause-cause g c clean court t ends small short sees may storable = c.withdraw_row.ensures.cause clean court t ends sees
+returns-in-RemoveCalendar-clause-cause g c clean court t ends small short sees may storable = IfErr-weaker c.withdraw_row.result _ _ (λ e h. inl h) (c.withdraw_row.ensures.cause clean court t ends sees)
 
 pub returns-in-AddCase-clause-cause : goal.returns-in-AddCase-clause-cause
 returns-in-AddCase-clause-cause g c clean court t ends small short sees may storable =

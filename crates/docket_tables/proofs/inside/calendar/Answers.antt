@@ -1,5 +1,5 @@
 use Rattle.std.proofs.Common.{refl}
-use Rattle.docket_tables.proofs.ChangeCauses.{change_after, fault_told, fault_read}
+use Rattle.docket_tables.proofs.ChangeCauses.{caused_within, fault_read, reading_told}
 use Rattle.std.proofs.Common.{◌∙◌, arith}
 use Rattle.sqlite.specs.Held.{state}
 use Rattle.sqlite.specs.State.{HasCleanDisk}
@@ -67,7 +67,7 @@ returns-clause-still g c rows =
 
 pub returns-in_err-rows-clause-cause : goal.returns-in_err-rows-clause-cause
 returns-in_err-rows-clause-cause g c clean court t ends orderly sees =
-    fault_told (state g.S.Store c.args.tx.now.conn.now) (state g.S.Store c.ask_inside.new.tx.conn.now) c.in_err-rows.field-0.0 c.from_residual.result c.from_residual.ensures.1
+    reading_told (state g.S.Store c.args.tx.now.conn.now) (state g.S.Store c.ask_inside.new.tx.conn.now) c.in_err-rows.field-0.0 c.from_residual.result c.from_residual.ensures.1
     (c.in_err-rows.ensures.cause clean (rows_with court t ends) sees refl)
 
 pub returns-in_err-short_rows-clause-cause : goal.returns-in_err-short_rows-clause-cause
@@ -80,8 +80,8 @@ returns-in_err-short_rows-clause-cause g c clean court t ends orderly sees =
     let asked = c.in_ok-rows.ensures.ok between rows sees in
     let survives = (c.in_ok-rows.ensures.inside rows (λ _. sees)).survives in
     let e = c.in_err-short_rows.field-0.0 in
-    fault_told old new e c.from_residual-in_err-short_rows.result c.from_residual-in_err-short_rows.ensures.1
-    (change_after old mid new new e survives.counts (omega arith) survives.limit (c.in_err-short_rows.ensures.cause clean rows asked.0 refl))
+    reading_told old new e c.from_residual-in_err-short_rows.result c.from_residual-in_err-short_rows.ensures.1
+    (caused_within old mid new new e survives.counts (omega arith) survives.limit (c.in_err-short_rows.ensures.cause clean rows asked.0 refl))
 
 pub returns-clause-cause : goal.returns-clause-cause
 returns-clause-cause g c clean court t ends orderly sees =

@@ -1,4 +1,4 @@
-use Rattle.docket_tables.proofs.ChangeCauses.{fault_told, fault_read}
+use Rattle.docket_tables.proofs.ChangeCauses.{fault_read, reading_told}
 use Rattle.docket_tables.proofs.CauseLemmas.{number_suits}
 use Rattle.std.proofs.Common.{◌∙◌, ◌==◌, [], ◌∷◌, pos, refl, arith}
 use Rattle.sqlite.specs.Held.{state}
@@ -48,7 +48,7 @@ returns-clause-still g c rows sees =
 
 pub returns-in_err-rows-clause-cause : goal.returns-in_err-rows-clause-cause
 returns-in_err-rows-clause-cause g c clean court t ends orderly sees =
-    fault_told (state g.S.Store c.args.tx.now.conn.now) (state g.S.Store c.ask_inside.new.tx.conn.now) c.in_err-rows.field-0.0 c.from_residual.result c.from_residual.ensures.1
+    reading_told (state g.S.Store c.args.tx.now.conn.now) (state g.S.Store c.ask_inside.new.tx.conn.now) c.in_err-rows.field-0.0 c.from_residual.result c.from_residual.ensures.1
     (c.in_err-rows.ensures.cause clean (rows_with court t ends) sees (number_suits c.to_sql.ensures))
 
 pub returns-clause-cause : goal.returns-clause-cause

@@ -1,5 +1,5 @@
 use Rattle.docket_tables.proofs.CauseLemmas.{inside_caused}
-use Rattle.docket_tables.specs.Causes.{HasChangeCause}
+use Rattle.docket_tables.specs.Causes.{IsCaused}
 use Rattle.sqlite.specs.State.{FailsToQuery, IsTooLate}
 use Rattle.std.proofs.Common.{◌∙◌, ◌⊎◌, inl, inr, sym, subst, IfErr, Ok, Err, true≢false}
 use Rattle.std.proofs.lemmas.Result.{IfOk-weaker}
@@ -35,10 +35,10 @@ returns-clause-cause g c clean rows sees suits =
     let new = state g.S.Store c.query_all.new.self.conn.now in
     let sql = c.select_text.result.now in
     let params = bound c.args.values.now in
-    elim c.query_all.result as (λ r. IfErr r (λ e. FailsToQuery sql params old new e ⊎ IsTooLate sql params old new e) → IfErr r (HasChangeCause old new)) [
+    elim c.query_all.result as (λ r. IfErr r (λ e. FailsToQuery sql params old new e ⊎ IsTooLate sql params old new e) → IfErr r (IsCaused old new)) [
       | Ok found ↦ λ _. tt
       | Err e ↦ λ failed. elim failed [
-        | inl fails ↦ inl (inside_caused c.args.query params rows old new e sees suits (rw c.select_text.ensures at fails))
+        | inl fails ↦ inside_caused c.args.query params rows old new e sees suits (rw c.select_text.ensures at fails)
         | inr late ↦ absurd (true≢false (sym sees.begun ∙ late.3))
       ]
     ] (c.query_all.ensures.err clean)

@@ -1,4 +1,3 @@
-use Rattle.std.proofs.Common.{inl}
 use Rattle.docket_tables.proofs.MakingCauses.{open_caused}
 use Rattle.docket_tables.proofs.DeleteCauses.{delete_end_caused}
 use Rattle.std.proofs.lemmas.Result.{IfErr-weaker, IfOk-weaker}
@@ -16,4 +15,4 @@ pub returns-clause-cause : goal.returns-clause-cause
 returns-clause-cause g c clean rows sees =
     let old = state g.S.Store c.args.tx.now.conn.now in
     let new = state g.S.Store c.change.new.tx.conn.now in
-    IfErr-weaker c.change.result _ _ (λ e h. inl (open_caused old new e sees.shows.is_open (delete_end_caused c.args.case c.args.deadline rows old new e sees (rw (c.delete_end_text.ensures, c.params-to_sql.ensures, c.params-to_sql-2.ensures) at h)))) (c.change.ensures.fails clean sees.begun)
+    IfErr-weaker c.change.result _ _ (λ e h. open_caused old new e sees.shows.is_open (delete_end_caused c.args.case c.args.deadline rows old new e sees (rw (c.delete_end_text.ensures, c.params-to_sql.ensures, c.params-to_sql-2.ensures) at h))) (c.change.ensures.fails clean sees.begun)

@@ -4,7 +4,7 @@ use Rattle.docket_tables.specs.AnyRows.{AreDocketRows}
 use Rattle.docket_store.specs.Dockets.{Docket, serving}
 use Rattle.sqlite.specs.Held.{state}
 use Rattle.sqlite.specs.declared.error.Error.{Error}
-use Rattle.docket_tables.specs.Causes.{IsCaused}
+use Rattle.docket_tables.specs.Causes.{IsCaused, IsLater}
 use Rattle.docket_store.specs.Applying.{Stands}
 use Rattle.docket_store.specs.Causes.{HasWriteCause, IsNotAccepted}
 use Rattle.docket_store.proofs.FailureLemmas.{failed_caused, failed_write}
@@ -42,3 +42,10 @@ returns-clause-answer g c h stands =
     let serves : Stands g.S.Store (serving c.self.inside.conn court c.self.inside.calendar) h = record { docket = here.docket; serves = refl; rows = here.rows; calendar = here.calendar } in
     applies_kept g.S.Store c.apply_to-answer.new.conn court c.apply_to-answer.new.kept h c.args.command.now c.closing_error-self-inside.result c.apply_to-answer.result c.closing_error-self-inside.ensures.fails.0
     (c.apply_to-answer.ensures.answer h serves)
+
+pub returns-clause-later : goal.returns-clause-later
+returns-clause-later g c h stands clean =
+    let court = c.self.inside.court in
+    let here = subst (λ (d : Docket g.row.S.Denot). Stands g.S.Store d h) (sym c.self.view_is) stands in
+    let serves : Stands g.S.Store (serving c.self.inside.conn court c.self.inside.calendar) h = record { docket = here.docket; serves = refl; rows = here.rows; calendar = here.calendar } in
+    subst (λ (d : Docket g.row.S.Denot). IsLater (state g.S.Store d.conn) (state g.S.Store c.apply_to-answer.new.conn)) c.self.view_is (c.apply_to-answer.ensures.later h serves clean)

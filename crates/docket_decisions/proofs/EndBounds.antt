@@ -33,7 +33,7 @@ use Rattle.court_rules.specs.declared.table.Period.TheVariants as period
 use Rattle.docket_history.specs.CalendarItems.{IsEnteredItem, entered_with, calendar_of}
 use Rattle.docket_history.specs.declared.item.CalendarItem.{CalendarItem}
 use Rattle.docket_history.specs.declared.item.CalendarItem.TheVariants.{Day, Span, Short}
-use Rattle.docket_calendar.specs.DueCells.{IsDueEnd}
+use Rattle.docket_decisions.specs.EndRows.{IsDueEnd}
 
 -- a last day is at most so late after that many acts, each of which moves it by at most ten years and some days
 abbrev IsEnd : ℕ → End → Type 0
