@@ -1,7 +1,7 @@
 """A plain docket over the module sqlite3, in a file with the tables of `docketctl create`: file_model.py FILE [in-memory] < COMMANDS.
 With the second word it works on a copy of the file in memory, which is not kept.
 
-It answers the seven kinds of commands that bench/file sends, one transaction each, with a log that is synced at each commit. It
+It answers the seven kinds of commands that bench/file sends it, one transaction each, with a log that is synced at each commit. It
 refuses nothing but a key that was used for another command and a label that stands, and knows no calendar but the statutory
 holidays.
 """

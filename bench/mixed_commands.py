@@ -1,10 +1,19 @@
 """Mixed commands: mixed_commands.py CASES COMMANDS [local] prints commands that open so many cases, and so many over 1,000 of these:
 parties, entries, counterclaims that are served, and extensions of their deadlines, all accepted. With the third word 20 local rules
-are entered first, and a third of the deadlines run by them in the place of the counterclaim's. The same arguments give the same ones."""
+are entered first, and a third of the deadlines run by them in the place of the counterclaim's. The same arguments give the same ones.
+mixed_commands.py calendar prints commands that fill the court calendar: 2,000 closed days and 2,000 closed spans, years after the
+deadlines."""
 import json
 import random
 import sys
 from datetime import date, timedelta
+
+if sys.argv[1:] == ["calendar"]:
+    for number in range(2_000):
+        print(json.dumps({"do": "close_day", "key": f"calendar-day-{number}", "day": str(date(2030, 1, 1) + timedelta(number)), "name": "Closed"}))
+        morning = date(2040, 1, 1) + timedelta(number)
+        print(json.dumps({"do": "close_span", "key": f"calendar-span-{number}", "start": f"{morning}T10:00+00:00", "end": f"{morning}T11:00+00:00"}))
+    sys.exit()
 
 cases, commands, local = int(sys.argv[1]), int(sys.argv[2]), sys.argv[3:] == ["local"]
 random.seed(6103)
