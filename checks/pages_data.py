@@ -133,13 +133,16 @@ def exchanges():
     yield got("/pages/calendar?from=3999-12-28"), days("3999-12-28", "3999-12-31", "3999-12-21/3999-12-24", "3999-12-31/3999-12-31", [])
     for target in ("/pages/cases/9", "/pages/cases/4294967295"):
         yield got(target), error("404 Not Found", "no-such-case")
-    for target in ("/pages/x", "/pagesx", "/pages/cases/", "/pages/cases/1/deadlines", "/pages/holidays/2027", "/pages/commands", "/pages//cases", "/Pages"):
+    for target in ("/pages/x", "/pagesx", "/pages/cases/", "/pages/cases/1/deadlines", "/pages/holidays/2027", "/pages/commands", "/pages//cases", "/Pages",
+                   "/backup", "/pages/backup/", "/pages/backups"):
         yield got(target), error("404 Not Found", "not-found")
     for target in ("/pages?from=0", "/pages?from=100001", "/pages?", "/pages?from=", "/pages?from=1&x=2", "/pages?x=1", "/pages/cases/0", "/pages/cases/01",
                    "/pages/calendar", "/pages/calendar?from=2025-7-7", "/pages/calendar?from=1979-12-31", "/pages/calendar/2025-07-02/2025-07-01"):
         yield got(target), error("400 Bad Request", "bad-path-value")
-    for line in ("POST /pages", "HEAD /pages/cases/1", "PUT /pages/calendar"):
+    for line in ("POST /pages", "HEAD /pages/cases/1", "PUT /pages/calendar", "POST /pages/backup"):
         yield f"{line} HTTP/1.1\r\nHost: x\r\n\r\n".encode(), error("405 Method Not Allowed", "method")
+    # of a docket in memory there is no file to copy: the caller is told that one is asked for
+    yield got("/pages/backup"), b"a copy of the docket is asked for"
     yield got("/cases/1/deadlines"), answer("200 OK", "text/plain; charset=utf-8", f"deadline 1 party 1 {DUE[5]} due {DUE[0]} {DUE[1]} {DUE[2]}\n".encode())
 
 

@@ -68,3 +68,4 @@ read_closed routes input wish body o n (Err serve.NoMemory) asked closed = inl (
 read_closed routes input wish body o n (Err serve.StoreFailed) asked closed = inl (wish, body, asked, closed)
 read_closed routes input wish body o n (Err serve.ReadFailed) asked closed = absurd closed.sent
 read_closed routes input wish body o n (Err serve.EndedEarly) asked closed = absurd closed.sent
+read_closed routes input wish body o n (Err serve.CopyWanted) asked closed = absurd closed.sent

@@ -18,7 +18,7 @@ use Rattle.http_request.specs.declared.fields.Rejection.TheVariants as rejection
 use Rattle.http_request.specs.declared.page.Page.{Page}
 use Rattle.http_request.specs.declared.page.Page.TheVariants as page
 use Rattle.http_request.specs.declared.wish.Wish.{Wish}
-use Rattle.http_request.specs.declared.wish.Wish.TheVariants.{Reject, Command as CommandWish, Case, Deadlines, Calendar, Holidays, Page as PageWish}
+use Rattle.http_request.specs.declared.wish.Wish.TheVariants.{Reject, Command as CommandWish, Case, Deadlines, Calendar, Holidays, Page as PageWish, Copy}
 use Rattle.docket_http.specs.Answer.{Response, rejection_status}
 use Rattle.docket_http.specs.Asking.{IsAnswered, LeftBy, command_response, deadlines_response, history_after, outcome_response, response_to, told}
 use Rattle.docket_http.specs.Cases.{case_response, case_told}
@@ -26,7 +26,7 @@ use Rattle.docket_http.specs.Pages.{page_response}
 use Rattle.docket_http.specs.declared.asking.Telling.{Telling}
 use Rattle.docket_http.specs.declared.asking.Telling.TheVariants as telling
 use Rattle.docket_http.specs.declared.problem.Problem.{Problem}
-use Rattle.docket_http.specs.declared.problem.Problem.TheVariants.{Rejected, NoSuchCase, NoMemory, Store, Closed, Damaged}
+use Rattle.docket_http.specs.declared.problem.Problem.TheVariants.{Rejected, NoSuchCase, NoCopy, NoMemory, Store, Closed, Damaged}
 
 -- no answer to what is asked says 503
 
@@ -74,6 +74,7 @@ response_fine court h (Deadlines number) body = deadlines_fine court (deadline_l
 response_fine court h (Calendar from to) body = refl
 response_fine court h (Holidays year) body = refl
 response_fine court h (PageWish page) body = page_fine court h page
+response_fine court h Copy body = refl
 
 module _ {S : Type 0} (g : Ghosts S) (d : Docket S) (h : History) (wish : Wish) (body : List ℕ) (response : Response) where
   says : {b : _} (other : Response) → response ≡ other → (other.status == 503) ≡ b → (response.status == 503) ≡ b
@@ -91,6 +92,7 @@ module _ {S : Type 0} (g : Ghosts S) (d : Docket S) (h : History) (wish : Wish) 
   left_by (Some Store) is left = inr (left.1, says _ is refl, left.2)
   left_by (Some (Rejected r)) is left = absurd left
   left_by (Some NoSuchCase) is left = absurd left
+  left_by (Some NoCopy) is left = absurd left
   left_by (Some Closed) is left = absurd left
   left_by (Some Damaged) is left = absurd left
 

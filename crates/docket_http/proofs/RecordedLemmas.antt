@@ -19,7 +19,7 @@ use Rattle.http_request.specs.declared.fields.Rejection.{Rejection}
 use Rattle.http_request.specs.declared.fields.Rejection.TheVariants as rejection
 use Rattle.http_request.specs.declared.page.Routes.{Routes}
 use Rattle.http_request.specs.declared.wish.Wish.{Wish}
-use Rattle.http_request.specs.declared.wish.Wish.TheVariants.{Reject, Command as CommandWish, Case, Deadlines, Calendar, Holidays, Page as PageWish}
+use Rattle.http_request.specs.declared.wish.Wish.TheVariants.{Reject, Command as CommandWish, Case, Deadlines, Calendar, Holidays, Page as PageWish, Copy}
 use Rattle.docket_http.specs.Answer.{json, problem_response, problem_status, rejection_status}
 use Rattle.docket_http.specs.Asking.{said_status}
 use Rattle.docket_http.specs.Recorded.{IsBacked, RepliesBacked, SentBacked, ServesBacked}
@@ -53,6 +53,7 @@ no_rejection rejection.TooLong is = omega (arith, is)
 no_problem : (p : Problem) → problem_status p ≡ 200 → ⊥
 no_problem (problem.Rejected r) is = no_rejection r is
 no_problem problem.NoSuchCase is = omega (arith, is)
+no_problem problem.NoCopy is = omega (arith, is)
 no_problem problem.NoMemory is = omega (arith, is)
 no_problem problem.Store is = omega (arith, is)
 no_problem problem.Closed is = omega (arith, is)
@@ -86,6 +87,7 @@ module _ {S : Type 0} (g : Ghosts S) (d : Docket S) where
   problem_backed (Calendar from to) body p = tt
   problem_backed (Holidays year) body p = tt
   problem_backed (PageWish page) body p = tt
+  problem_backed Copy body p = tt
 
   pub backed_as : (a b : Wish) (x y : List ℕ) (r : Result Reply Fault) → a ≡ b → x ≡ y → IfOk r (RepliesBacked g d a x) → IfOk r (RepliesBacked g d b y)
   backed_as a b x y r same_wish same_body backed =
@@ -104,6 +106,7 @@ module _ {S : Type 0} (g : Ghosts S) (d : Docket S) where
   sent_backed (Calendar from to) body reply o n r backed whole front = tt
   sent_backed (Holidays year) body reply o n r backed whole front = tt
   sent_backed (PageWish page) body reply o n r backed whole front = tt
+  sent_backed Copy body reply o n r backed whole front = tt
 
   pub calendar_backed : (from to : ℕ) (wish : Wish) (body : List ℕ) (o n : Option (List ℕ)) (r : Result Served ServeFault) → wish ≡ Calendar from to → SentBacked g d wish body o n r
   calendar_backed from to wish body o n r same = subst (λ (w : Wish). SentBacked g d w body o n r) (sym same) tt
@@ -116,6 +119,7 @@ module _ {S : Type 0} (g : Ghosts S) (d : Docket S) where
   read_backed routes input wish body o n (Err serve.StoreFailed) asked sent = inl (wish, body, asked, sent)
   read_backed routes input wish body o n (Err serve.ReadFailed) asked sent = tt
   read_backed routes input wish body o n (Err serve.EndedEarly) asked sent = tt
+  read_backed routes input wish body o n (Err serve.CopyWanted) asked sent = tt
 
   unread : (routes : Routes) (input o n : Option (List ℕ)) (r : Result Served ServeFault) → Sends (problem_response problem.NoMemory) o n r → ServesBacked g routes input d o n r
   unread routes input o n (Ok s) sent = inr sent
@@ -124,6 +128,7 @@ module _ {S : Type 0} (g : Ghosts S) (d : Docket S) where
   unread routes input o n (Err serve.StoreFailed) sent = absurd sent
   unread routes input o n (Err serve.ReadFailed) sent = tt
   unread routes input o n (Err serve.EndedEarly) sent = tt
+  unread routes input o n (Err serve.CopyWanted) sent = tt
 
   -- memory was short before the request was read
   pub unread_backed : (routes : Routes) (input o n : Option (List ℕ)) (r : Result Served ServeFault)

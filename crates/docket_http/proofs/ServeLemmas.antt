@@ -1,5 +1,5 @@
 -- From the writing of a reply to what a connection is served.
-use Rattle.std.proofs.Common.{◌≡◌, ◌+◌, ◌++◌, [], inl, inr, ℕ, List, Option, Some, None, Result, Ok, Err, IfOk, IfErr, true, length, take, take_at, length-append, append-nil, refl, sym, ap, subst, ◌∙◌, arith}
+use Rattle.std.proofs.Common.{◌≡◌, ◌+◌, ◌++◌, [], inl, inr, ℕ, List, Option, Some, None, Result, Ok, Err, IfOk, IfErr, true, false, length, take, take_at, length-append, append-nil, refl, sym, ap, subst, ◌∙◌, arith}
 use Rattle.std.specs.Io.KnownBytes.{Appends}
 use Rattle.sqlite.specs.Store.{Ghosts}
 use Rattle.sqlite.specs.State.{HasCleanDisk}
@@ -17,11 +17,11 @@ use Rattle.docket_store.specs.declared.listing.ListingEnd.TheVariants as listing
 use Rattle.line_io.specs.Output.{AppendsFront, HasFront}
 use Rattle.http_request.specs.declared.page.Routes.{Routes}
 use Rattle.http_request.specs.declared.wish.Wish.{Wish}
-use Rattle.http_request.specs.declared.wish.Wish.TheVariants.{Calendar}
+use Rattle.http_request.specs.declared.wish.Wish.TheVariants.{Calendar, Copy}
 use Rattle.docket_http.specs.Answer.{response_bytes, problem_response, head_bytes, open_text}
 use Rattle.docket_http.specs.Asking.{problem_of_fault}
 use Rattle.docket_http.specs.Reply.{reply_bytes, reply_status}
-use Rattle.docket_http.specs.Serve.{Begins, IsServed, IsCut, IsBroken, IsAsked, Serves, Fails, fault_of_broken}
+use Rattle.docket_http.specs.Serve.{Begins, IsServed, IsCut, IsBroken, IsAsked, Serves, Fails, WantsCopy, fault_of_broken}
 use Rattle.docket_http.specs.declared.head.Form.TheVariants.{OpenText}
 use Rattle.docket_http.specs.declared.problem.Problem.{Problem}
 use Rattle.docket_http.specs.declared.problem.Problem.TheVariants.{NoMemory}
@@ -54,6 +54,11 @@ nothing_appends (Some p) (Some q) (Some r) x k h = h ∙ ap (λ z. z ++ x) (k �
 
 nothing_front : (a b c : Option (List ℕ)) (x : List ℕ) → Appends a b [] → AppendsFront b c x → AppendsFront a c x
 nothing_front a b c x k f = record { count = f.count; within = f.within; front = nothing_appends a b c (take f.count x) k f.front }
+
+-- a request for a copy that was read
+pub wants : {S : Type 0} (routes : Routes) (input : Option (List ℕ)) (wish : Wish) (body : List ℕ) (d : Docket S) → IsAsked routes input wish body
+    → (wish ≡ Copy) × (d.closed ≡ false) → WantsCopy routes input d d
+wants routes input wish body d asked is = record { body = body; asked = subst (λ (w : Wish). IsAsked routes input w body) is.0 asked; same = refl; serves = is.1 }
 
 module _ {S : Type 0} (g : Ghosts S) where
   -- a reply that went out
@@ -133,6 +138,7 @@ module _ {S : Type 0} (g : Ghosts S) where
       → IsBroken g d h wish body o n e → Fails g routes input old d h o n e
   read_broken d old serve.ReadFailed h routes input wish body o n asked is = absurd is
   read_broken d old serve.EndedEarly h routes input wish body o n asked is = absurd is
+  read_broken d old serve.CopyWanted h routes input wish body o n asked is = absurd is
   read_broken d old serve.WriteFailed h routes input wish body o n asked is = inl (wish, body, asked, is)
   read_broken d old serve.NoMemory h routes input wish body o n asked is = (wish, body, asked, is)
   read_broken d old serve.StoreFailed h routes input wish body o n asked is = (wish, body, asked, is)

@@ -4,29 +4,33 @@ use Rattle.http.specs.StatusCode.{status_text}
 use Rattle.http_request.specs.declared.fields.Rejection.{Rejection}
 use Rattle.http_request.specs.declared.fields.Rejection.TheVariants.{HeadTooLong, BadHead, NotFound, Method, BadPathValue, LengthRequired, TooLong}
 use Rattle.docket_http.specs.declared.head.Form.{Form}
-use Rattle.docket_http.specs.declared.head.Form.TheVariants.{Json, Text, OpenText, Html}
+use Rattle.docket_http.specs.declared.head.Form.TheVariants.{Json, Text, OpenText, Html, File}
 use Rattle.docket_http.specs.declared.problem.Problem.{Problem}
-use Rattle.docket_http.specs.declared.problem.Problem.TheVariants.{Rejected, NoSuchCase, NoMemory, Store, Closed, Damaged}
+use Rattle.docket_http.specs.declared.problem.Problem.TheVariants.{Rejected, NoSuchCase, NoCopy, NoMemory, Store, Closed, Damaged}
 
 abbrev pub type_of : Form → List ℕ
 type_of Json = codes "application/json"
 type_of Text = codes "text/plain; charset=utf-8"
 type_of OpenText = codes "text/plain; charset=utf-8"
 type_of Html = codes "text/html; charset=utf-8"
+type_of File = codes "application/vnd.sqlite3"
 
 -- the line of the length; an answer that ends with the connection has none
 abbrev pub length_line : Form → ℕ → List ℕ
 length_line Json len = codes "content-length: " ++ (decimal len ++ codes "\r\n")
 length_line Text len = codes "content-length: " ++ (decimal len ++ codes "\r\n")
 length_line Html len = codes "content-length: " ++ (decimal len ++ codes "\r\n")
+length_line File len = codes "content-length: " ++ (decimal len ++ codes "\r\n")
 length_line OpenText len = []
 
 -- what a page may do in a browser (Content Security Policy): it is styled by what stands in it, and its forms ask this server. It runs no
--- script, takes nothing from elsewhere and is shown in no other page. And no browser keeps it (RFC 9111, 5.2.2.5): what is due changes
+-- script, takes nothing from elsewhere and is shown in no other page. And no browser keeps it (RFC 9111, 5.2.2.5): what is due changes. A file is
+-- saved and not shown (RFC 6266)
 abbrev pub policy_line : Form → List ℕ
 policy_line Html =
     codes "content-security-policy: default-src 'none'; style-src 'unsafe-inline'; form-action 'self'; base-uri 'none'; frame-ancestors 'none'\r\n"
     ++ codes "cache-control: no-store\r\n"
+policy_line File = codes "content-disposition: attachment; filename=\"docket.db\"\r\n" ++ codes "cache-control: no-store\r\n"
 policy_line Json = []
 policy_line Text = []
 policy_line OpenText = []
@@ -57,6 +61,10 @@ text body = record { status = 200; form = Text; body = body }
 abbrev pub html : List ℕ → Response
 html body = record { status = 200; form = Html; body = body }
 
+-- the bytes of a file
+abbrev pub file : List ℕ → Response
+file body = record { status = 200; form = File; body = body }
+
 -- its end is told by the end of the connection
 abbrev pub open_text : List ℕ → Response
 open_text body = record { status = 200; form = OpenText; body = body }
@@ -82,6 +90,7 @@ rejection_word TooLong = codes "too-long"
 abbrev pub problem_status : Problem → ℕ
 problem_status (Rejected rejection) = rejection_status rejection
 problem_status NoSuchCase = 404
+problem_status NoCopy = 500
 problem_status NoMemory = 500
 problem_status Store = 503
 problem_status Closed = 503
@@ -90,6 +99,7 @@ problem_status Damaged = 503
 abbrev pub problem_word : Problem → List ℕ
 problem_word (Rejected rejection) = rejection_word rejection
 problem_word NoSuchCase = codes "no-such-case"
+problem_word NoCopy = codes "no-copy"
 problem_word NoMemory = codes "no-memory"
 problem_word Store = codes "store"
 problem_word Closed = codes "closed"

@@ -23,14 +23,14 @@ use Rattle.docket_wire.specs.Reading.{command_in}
 use Rattle.docket_wire.specs.Texts.{reply_text, fault_text}
 use Rattle.docket_wire.specs.declared.fault.WireFault.{WireFault}
 use Rattle.http_request.specs.declared.wish.Wish.{Wish}
-use Rattle.http_request.specs.declared.wish.Wish.TheVariants.{Reject, Command as CommandWish, Case, Deadlines, Calendar, Holidays, Page as PageWish}
+use Rattle.http_request.specs.declared.wish.Wish.TheVariants.{Reject, Command as CommandWish, Case, Deadlines, Calendar, Holidays, Page as PageWish, Copy}
 use Rattle.docket_http.specs.Answer.{Response, json, text, open_text, problem_response}
 use Rattle.docket_http.specs.Cases.{response_of_case}
 use Rattle.docket_http.specs.Pages.{page_response}
 use Rattle.docket_http.specs.Reply.{IsReply}
 use Rattle.docket_http.specs.declared.asking.Telling.TheVariants as telling
 use Rattle.docket_http.specs.declared.problem.Problem.{Problem}
-use Rattle.docket_http.specs.declared.problem.Problem.TheVariants.{Rejected, NoSuchCase, NoMemory, Store, Closed, Damaged}
+use Rattle.docket_http.specs.declared.problem.Problem.TheVariants.{Rejected, NoSuchCase, NoCopy, NoMemory, Store, Closed, Damaged}
 use Rattle.docket_http.specs.declared.reply.Reply.{Reply}
 
 -- the status of a reply, and of a refusal
@@ -53,7 +53,7 @@ abbrev pub deadlines_response : CourtSettings → Option (List DeadlineLine) →
 deadlines_response court None = problem_response NoSuchCase
 deadlines_response court (Some lines) = text (deadlines_text court lines)
 
--- the answer to what is asked, with this body
+-- the answer to what is asked, with this body; of the file in which it is kept a docket has no copy to give
 abbrev pub response_to : CourtSettings → History → Wish → List ℕ → Response
 response_to court h (Reject rejection) body = problem_response (Rejected rejection)
 response_to court h (CommandWish len) body = command_response court h (command_in body)
@@ -62,6 +62,7 @@ response_to court h (Deadlines number) body = deadlines_response court (deadline
 response_to court h (Calendar from to) body = open_text (text_of_calendar court h from to)
 response_to court h (Holidays year) body = text (holiday_text year)
 response_to court h (PageWish page) body = page_response court h page
+response_to court h Copy body = problem_response NoCopy
 
 abbrev pub after_reading : CourtSettings → History → Result Command WireFault → History
 after_reading court h (Ok c) = after court h c
@@ -76,6 +77,7 @@ history_after court h _ body = h
 abbrev pub asks_docket : Wish → Bool
 asks_docket (Reject rejection) = false
 asks_docket (Holidays year) = false
+asks_docket Copy = false
 asks_docket _ = true
 
 -- whether memory is taken to answer: what is told to a request that is refused by its head is a constant
@@ -100,6 +102,7 @@ IsBuilt (Case number) = Unit {0}
 IsBuilt (Deadlines number) = Unit {0}
 IsBuilt (Holidays year) = Unit {0}
 IsBuilt (PageWish page) = Unit {0}
+IsBuilt Copy = Unit {0}
 
 -- the answer, or the problem that is told in its place
 abbrev pub told : Option Problem → Response → Response
@@ -146,6 +149,7 @@ IsClosedAnswer (Case number) body response = response ≡ problem_response Close
 IsClosedAnswer (Deadlines number) body response = response ≡ problem_response Closed
 IsClosedAnswer (Calendar from to) body response = response ≡ problem_response Closed
 IsClosedAnswer (PageWish page) body response = response ≡ problem_response Closed
+IsClosedAnswer Copy body response = response ≡ problem_response NoCopy
 IsClosedAnswer (Holidays year) body response = (response ≡ text (holiday_text year)) ⊎ (response ≡ problem_response NoMemory)
 
 -- the reply of a closed docket, and what it replies before a fault is told as a problem

@@ -51,6 +51,7 @@ module _ {S : Type 0} (g : Ghosts S) where
   abbrev pub ServesBacked : Routes → Option (List ℕ) → Docket S → Option (List ℕ) → Option (List ℕ) → Result Served ServeFault → Type 0
   ServesBacked routes input d before after (Err serve.ReadFailed) = Unit {0}
   ServesBacked routes input d before after (Err serve.EndedEarly) = Unit {0}
+  ServesBacked routes input d before after (Err serve.CopyWanted) = Unit {0}
   ServesBacked routes input d before after result =
       ((wish : Wish) × (body : List ℕ) × IsAsked routes input wish body × SentBacked d wish body before after result)
       ⊎ Sends (problem_response NoMemory) before after result

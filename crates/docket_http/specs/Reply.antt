@@ -2,14 +2,16 @@
 use Rattle.std.specs.Prelude.{◌≡◌, ℕ, List, ◌++◌, string_bytes}
 use Rattle.docket_http.specs.Answer.{Response, response_bytes, problem_response, problem_status}
 use Rattle.docket_http.specs.declared.reply.Reply.{Reply}
-use Rattle.docket_http.specs.declared.reply.Reply.TheVariants.{Built, Fixed}
+use Rattle.docket_http.specs.declared.reply.Reply.TheVariants.{Built, File, Fixed}
 
 abbrev pub reply_bytes : Reply → List ℕ
 reply_bytes (Built status head body) = string_bytes head ++ string_bytes body
+reply_bytes (File head body) = string_bytes head ++ body.items
 reply_bytes (Fixed problem) = response_bytes (problem_response problem)
 
 abbrev pub reply_status : Reply → ℕ
 reply_status (Built status head body) = status
+reply_status (File head body) = 200
 reply_status (Fixed problem) = problem_status problem
 
 -- the reply is this answer

@@ -1,5 +1,5 @@
 -- What a connection is served, and what is left where it is not served whole.
-use Rattle.std.specs.Prelude.{◌≡◌, ◌≤◌, ◌⊎◌, ℕ, List, Option, Some, IfSome, Result, Ok, Err}
+use Rattle.std.specs.Prelude.{◌≡◌, ◌≤◌, ◌⊎◌, ℕ, false, List, Option, Some, None, IfSome, Result, Ok, Err}
 use Rattle.std.specs.Io.KnownBytes.{Appends, Keeps}
 use Rattle.sqlite.specs.Store.{Ghosts}
 use Rattle.docket_history.specs.Histories.{History}
@@ -10,9 +10,10 @@ use Rattle.line_io.specs.Output.{AppendsFront}
 use Rattle.http_request.specs.Request.{IsRequest, EndsEarly}
 use Rattle.http_request.specs.declared.page.Routes.{Routes}
 use Rattle.http_request.specs.declared.wish.Wish.{Wish}
-use Rattle.docket_http.specs.Answer.{Response, response_bytes, problem_response}
+use Rattle.http_request.specs.declared.wish.Wish.TheVariants.{Copy}
+use Rattle.docket_http.specs.Answer.{Response, file, response_bytes, problem_response}
 use Rattle.docket_http.specs.Asking.{IsAnswered, IsBuilt, IsClosedAnswer, LeftBy, response_to}
-use Rattle.docket_http.specs.declared.problem.Problem.TheVariants.{NoMemory, Store}
+use Rattle.docket_http.specs.declared.problem.Problem.TheVariants.{NoCopy, NoMemory, Store}
 use Rattle.docket_http.specs.declared.fault.ServeFault.{ServeFault}
 use Rattle.docket_http.specs.declared.fault.ServeFault.TheVariants as serve
 use Rattle.docket_http.specs.declared.sending.Served.{Served}
@@ -40,6 +41,24 @@ Sends response before after (Ok served) = Appends before after (response_bytes r
 Sends response before after (Err serve.WriteFailed) = AppendsFront before after (response_bytes response)
 Sends response before after (Err _) = ⊥
 
+-- the answer where a copy was made of the docket's file, and where none was; memory may be short for the head of a copy
+abbrev pub IsCopyAnswer : Option (List ℕ) → Response → Type 0
+IsCopyAnswer None response = response ≡ problem_response NoCopy
+IsCopyAnswer (Some copy) response = (response ≡ file copy) ⊎ (response ≡ problem_response NoMemory)
+
+-- such an answer went out, or a front of it
+pub record SendsCopy (copy : Option (List ℕ)) (before after : Option (List ℕ)) (result : Result Served ServeFault) : Type 0 where
+  pub response : Response
+  pub is : IsCopyAnswer copy response
+  pub sent : Sends response before after result
+
+-- a copy of the docket's file is asked for, which the docket does not give: it is as it was, and not closed
+pub record WantsCopy {S : Type 0} (routes : Routes) (input : Option (List ℕ)) (old new : Docket S) : Type 0 where
+  pub body : List ℕ
+  pub asked : IsAsked routes input Copy body
+  pub same : new ≡ old
+  pub serves : old.closed ≡ false
+
 -- a closed docket's answer to this went out, or a front of it
 pub record SendsClosed (wish : Wish) (body : List ℕ) (before after : Option (List ℕ)) (result : Result Served ServeFault) : Type 0 where
   pub response : Response
@@ -50,6 +69,7 @@ pub record SendsClosed (wish : Wish) (body : List ℕ) (before after : Option (L
 abbrev pub ServesClosed : Routes → Option (List ℕ) → Option (List ℕ) → Option (List ℕ) → Result Served ServeFault → Type 0
 ServesClosed routes input before after (Err serve.ReadFailed) = Keeps before after
 ServesClosed routes input before after (Err serve.EndedEarly) = Keeps before after × IfSome input (EndsEarly routes)
+ServesClosed routes input before after (Err serve.CopyWanted) = ⊥
 ServesClosed routes input before after result =
     ((wish : Wish) × (body : List ℕ) × IsAsked routes input wish body × SendsClosed wish body before after result)
     ⊎ Sends (problem_response NoMemory) before after result
@@ -94,10 +114,12 @@ module _ {S : Type 0} (g : Ghosts S) where
   Unserved routes input old new h before after e =
       (wish : Wish) × (body : List ℕ) × IsAsked routes input wish body × IsBroken new h wish body before after e
 
-  -- a connection was not served whole: before the request was read whole nothing was written and the docket is as it was
+  -- a connection was not served whole: before the request was read whole nothing was written and the docket is as it was, and so where a copy is
+  -- wanted
   abbrev pub Fails : Routes → Option (List ℕ) → Docket S → Docket S → History → Option (List ℕ) → Option (List ℕ) → ServeFault → Type 0
   Fails routes input old new h before after serve.ReadFailed = (new ≡ old) × Keeps before after
   Fails routes input old new h before after serve.EndedEarly = (new ≡ old) × Keeps before after × IfSome input (EndsEarly routes)
+  Fails routes input old new h before after serve.CopyWanted = WantsCopy routes input old new × (after ≡ before)
   Fails routes input old new h before after serve.WriteFailed =
       Unserved routes input old new h before after serve.WriteFailed
       ⊎ ((new ≡ old) × AppendsFront before after (response_bytes (problem_response NoMemory)))

@@ -52,6 +52,8 @@ fn reply_to<S: Alter>(
         Wish::Calendar(..) => Ok(Reply::Fixed(Problem::Damaged)),
         Wish::Holidays(year) => Ok(holidays_reply(alloc, year)?),
         Wish::Page(page) => page_reply(alloc, docket, page),
+        // Comes here where the docket is closed: else the caller is told that a copy is wanted.
+        Wish::Copy => Ok(Reply::Fixed(Problem::NoCopy)),
     }
 }
 

@@ -26,7 +26,7 @@ use std::io::Write;
 /// What a calendar comes to whose docket failed in the middle.
 fn broken(fault: Fault) -> ServeFault
     ensures fault { result ≡ fault_of_broken fault }
-    ensures read { (result ≢ ServeFault.ReadFailed) × (result ≢ ServeFault.EndedEarly) }
+    ensures own { (result ≢ ServeFault.ReadFailed) × (result ≢ ServeFault.EndedEarly) × (result ≢ ServeFault.CopyWanted) }
 {
     match fault {
         Fault::NoMemory => ServeFault::NoMemory,
@@ -52,7 +52,7 @@ pub(crate) fn serve_calendar<W: Write, S: Alter>(
     ensures fails { IfErr result (λ e. (h : History) (body : List ℕ) → Stands S.Store docket.old h
         → HasCleanDisk (state S.Store docket.new.conn)
         → IsBroken S.Store docket.new h (Calendar from to) body (W.contents writer.old) (W.contents writer.new) e) }
-    ensures read { IfErr result (λ e. (e ≢ ServeFault.ReadFailed) × (e ≢ ServeFault.EndedEarly)) }
+    ensures own { IfErr result (λ e. (e ≢ ServeFault.ReadFailed) × (e ≢ ServeFault.EndedEarly) × (e ≢ ServeFault.CopyWanted)) }
 {
     match docket.calendar_after(open_head(), from, to, writer) {
         Ok(_) => Ok(Served {

@@ -14,6 +14,9 @@ pub enum ServeFault {
     NoMemory,
     /// A calendar stopped in the middle since the database failed.
     StoreFailed,
+    /// A copy of the file is asked for in which the docket is kept. Nothing was written: the copy is for the
+    /// caller to give (`send_copy`).
+    CopyWanted,
 }
 
 impl fmt::Display for ServeFault {
@@ -24,6 +27,7 @@ impl fmt::Display for ServeFault {
             ServeFault::EndedEarly => "a request ended early",
             ServeFault::NoMemory => "there was not enough memory for the rest of an answer",
             ServeFault::StoreFailed => "the database failed in the middle of an answer",
+            ServeFault::CopyWanted => "a copy of the docket is asked for",
         })
     }
 }

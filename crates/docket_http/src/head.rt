@@ -15,6 +15,8 @@ pub(crate) enum Form {
     OpenText,
     /// A page, which a browser shows.
     Html,
+    /// A database of SQLite, which a browser saves.
+    File,
 }
 
 /// Writes the value of the field `content-type`.
@@ -29,12 +31,14 @@ impl fmt::Display for Form {
             Form::Json => "application/json",
             Form::Text | Form::OpenText => "text/plain; charset=utf-8",
             Form::Html => "text/html; charset=utf-8",
+            Form::File => "application/vnd.sqlite3",
         })
     }
 }
 
 /// The lines of the fields `content-security-policy` and `cache-control`, which a page has: a browser runs
-/// no script for it, takes nothing from elsewhere, shows it in no other page, and keeps no copy of it.
+/// no script for it, takes nothing from elsewhere, shows it in no other page, and keeps no copy of it. A file
+/// is saved, under the name that `content-disposition` gives it.
 #[derive(Clone, Copy)]
 struct PolicyLine(Form);
 
@@ -48,6 +52,10 @@ impl fmt::Display for PolicyLine {
         match self.0 {
             Form::Html => f.write_str(
                 "content-security-policy: default-src 'none'; style-src 'unsafe-inline'; form-action 'self'; base-uri 'none'; frame-ancestors 'none'\r\n\
+                 cache-control: no-store\r\n",
+            ),
+            Form::File => f.write_str(
+                "content-disposition: attachment; filename=\"docket.db\"\r\n\
                  cache-control: no-store\r\n",
             ),
             Form::Json | Form::Text | Form::OpenText => Ok(()),
@@ -72,7 +80,9 @@ impl fmt::Display for LengthLine {
         let len = self.len;
         match self.form {
             Form::OpenText => Ok(()),
-            Form::Json | Form::Text | Form::Html => write!(f, "content-length: {len}\r\n"),
+            Form::Json | Form::Text | Form::Html | Form::File => {
+                write!(f, "content-length: {len}\r\n")
+            }
         }
     }
 }

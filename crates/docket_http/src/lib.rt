@@ -9,6 +9,7 @@ mod answering;
 mod asking;
 mod calendar;
 mod commands;
+mod copies;
 mod fault;
 mod head;
 mod pages;
@@ -17,6 +18,7 @@ mod reply;
 mod sending;
 mod serve;
 
+pub use copies::send_copy;
 pub use fault::ServeFault;
 pub use http_request::Routes;
 pub use sending::Served;

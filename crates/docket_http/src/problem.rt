@@ -13,6 +13,8 @@ use http_request::Rejection;
 pub(crate) enum Problem {
     Rejected(Rejection),
     NoSuchCase,
+    /// No copy was made of the file in which the docket is kept.
+    NoCopy,
     NoMemory,
     Store,
     Closed,
@@ -60,7 +62,7 @@ impl Problem {
         match self {
             Problem::Rejected(rejection) => status_of(rejection),
             Problem::NoSuchCase => StatusCode::NOT_FOUND,
-            Problem::NoMemory => StatusCode::INTERNAL_SERVER_ERROR,
+            Problem::NoCopy | Problem::NoMemory => StatusCode::INTERNAL_SERVER_ERROR,
             Problem::Store | Problem::Closed | Problem::Damaged => StatusCode::SERVICE_UNAVAILABLE,
         }
     }
@@ -73,6 +75,8 @@ impl Problem {
             Problem::Rejected(rejection) => rejection_answer(rejection),
             Problem::NoSuchCase =>
                 b"HTTP/1.1 404 Not Found\r\ncontent-type: application/json\r\ncontent-length: 25\r\nconnection: close\r\n\r\n{\"error\":\"no-such-case\"}\n",
+            Problem::NoCopy =>
+                b"HTTP/1.1 500 Internal Server Error\r\ncontent-type: application/json\r\ncontent-length: 20\r\nconnection: close\r\n\r\n{\"error\":\"no-copy\"}\n",
             Problem::NoMemory =>
                 b"HTTP/1.1 500 Internal Server Error\r\ncontent-type: application/json\r\ncontent-length: 22\r\nconnection: close\r\n\r\n{\"error\":\"no-memory\"}\n",
             Problem::Store =>

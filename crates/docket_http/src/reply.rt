@@ -1,6 +1,6 @@
 //! Answers, whole.
 ghost use Rattle.std.specs.Prelude.{◌≡◌, IfOk, string_bytes};
-ghost use Rattle.docket_http.specs.Answer.{html, json, text};
+ghost use Rattle.docket_http.specs.Answer.{file, html, json, text};
 ghost use Rattle.docket_http.specs.Reply.{IsReply, reply_status};
 
 use crate::head::{Form, Head};
@@ -17,6 +17,11 @@ pub(crate) enum Reply {
         head: String,
         body: String,
     },
+    /// One with the bytes of a file for its body.
+    File {
+        head: String,
+        body: Vec<u8>,
+    },
     /// One that tells a problem.
     Fixed(Problem),
 }
@@ -27,6 +32,7 @@ impl Reply {
     {
         match self {
             Reply::Built { status, .. } => *status,
+            Reply::File { .. } => StatusCode::OK,
             Reply::Fixed(problem) => problem.status(),
         }
     }
@@ -65,4 +71,17 @@ pub(crate) fn html_reply(alloc: Global, body: String) -> Result<Reply, AllocErro
     ensures { IfOk result (λ reply. IsReply reply (html (string_bytes body))) }
 {
     built(alloc, StatusCode::OK, Form::Html, body)
+}
+
+/// An answer that is a file.
+pub(crate) fn file_reply(alloc: Global, body: Vec<u8>) -> Result<Reply, AllocError>
+    ensures { IfOk result (λ reply. IsReply reply (file body.items)) }
+{
+    let head = Head {
+        status: StatusCode::OK,
+        form: Form::File,
+        len: body.len(),
+    };
+    let head = format!(in alloc; "{head}")?;
+    Ok(Reply::File { head, body })
 }

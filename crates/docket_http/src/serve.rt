@@ -1,5 +1,5 @@
 //! One connection: a request is read, and its answer is written.
-ghost use Rattle.std.specs.Prelude.{◌≡◌, ◌≢◌, ◌⊎◌, ◌≤◌, IfOk, IfErr, MatchOption, true, vec_len};
+ghost use Rattle.std.specs.Prelude.{◌≡◌, ◌≢◌, ◌⊎◌, ◌≤◌, Err, IfOk, IfErr, MatchOption, false, true, vec_len};
 ghost use Rattle.std.specs.Io.KnownBytes.{Keeps};
 ghost use Rattle.sqlite.specs.Held.{state};
 ghost use Rattle.sqlite.specs.State.{HasCleanDisk};
@@ -9,10 +9,10 @@ ghost use Rattle.docket_store.specs.AnyRows.{HoldsDocketRows, WritesAtMostOne};
 ghost use Rattle.docket_store.specs.Applying.{Stands};
 ghost use Rattle.http_request.specs.Request.{body_of};
 ghost use Rattle.http_request.specs.Wish.{IsWithinLimits};
-ghost use Rattle.http_request.specs.declared.wish.Wish.TheVariants.{Calendar};
+ghost use Rattle.http_request.specs.declared.wish.Wish.TheVariants.{Calendar, Copy};
 ghost use Rattle.docket_http.specs.Asking.{IsBuilt};
 ghost use Rattle.docket_http.specs.Recorded.{SentBacked, ServesBacked};
-ghost use Rattle.docket_http.specs.Serve.{IsServed, IsBroken, Serves, Fails, SendsClosed, ServesClosed};
+ghost use Rattle.docket_http.specs.Serve.{IsServed, IsBroken, Serves, Fails, SendsClosed, ServesClosed, WantsCopy};
 
 use crate::answering::reply_of;
 use crate::calendar::serve_calendar;
@@ -57,7 +57,7 @@ fn serve_request<W: Write, S: Alter>(
     ensures fails { IfErr result (λ e. (h : History) → Stands S.Store docket.old h
         → HasCleanDisk (state S.Store docket.new.conn)
         → IsBroken S.Store docket.new h request.now.wish (body_of request.now) (W.contents writer.old) (W.contents writer.new) e) }
-    ensures read { IfErr result (λ e. (e ≢ ServeFault.ReadFailed) × (e ≢ ServeFault.EndedEarly)) }
+    ensures own { IfErr result (λ e. (e ≢ ServeFault.ReadFailed) × (e ≢ ServeFault.EndedEarly) × (e ≢ ServeFault.CopyWanted)) }
     ensures recorded { HoldsDocketRows S.Store docket.old
         → SentBacked S.Store docket.new request.now.wish (body_of request.now) (W.contents writer.old) (W.contents writer.new) result }
 {
@@ -70,9 +70,17 @@ fn serve_request<W: Write, S: Alter>(
     }
 }
 
+/// Whether a copy is wanted of the file in which a docket is kept that is open.
+fn wants_copy<S: Alter>(docket: &Docket<S>, wish: &Wish) -> bool
+    ensures { result ≡ true → (wish.now ≡ Copy) × (docket.now.closed ≡ false) }
+{
+    matches!(wish, Wish::Copy) && !docket.is_closed()
+}
+
 /// Serves one request of a connection: what is written is the answer to what was read, and the docket
 /// then stands for the history that this answer reports. A closed docket stays as it is, and a request
-/// that asks it is told that it is closed. Pages are shown where they are among the routes.
+/// that asks it is told that it is closed. Pages are shown where they are among the routes. Where a copy
+/// of the file is asked for in which the docket is kept, nothing is written, and that is told.
 pub fn serve_one<R: Read, W: Write, S: Alter>(
     alloc: Global,
     reader: &mut R,
@@ -99,11 +107,18 @@ pub fn serve_one<R: Read, W: Write, S: Alter>(
     // Where no request was read, nothing was written and the docket is as it was.
     ensures untouched { IfErr result (λ e. (e ≡ ServeFault.ReadFailed) ⊎ (e ≡ ServeFault.EndedEarly)
         → (docket.new ≡ docket.old) × Keeps (W.contents writer.old) (W.contents writer.new)) }
+    // A copy is wanted where one is asked for of an open docket, and nowhere else.
+    ensures copy { result ≡ Err ServeFault.CopyWanted
+        → WantsCopy routes (R.remaining reader.old) docket.old docket.new × (writer.new ≡ writer.old) }
 {
-    match read_request(alloc, reader, routes) {
-        Ok(request) => serve_request(alloc, docket, &request, writer),
-        Err(InputFault::NoMemory) => send(writer, &Reply::Fixed(Problem::NoMemory)),
-        Err(InputFault::ReadFailed) => Err(ServeFault::ReadFailed),
-        Err(InputFault::EndedEarly) => Err(ServeFault::EndedEarly),
+    let request = match read_request(alloc, reader, routes) {
+        Ok(request) => request,
+        Err(InputFault::NoMemory) => return send(writer, &Reply::Fixed(Problem::NoMemory)),
+        Err(InputFault::ReadFailed) => return Err(ServeFault::ReadFailed),
+        Err(InputFault::EndedEarly) => return Err(ServeFault::EndedEarly),
+    };
+    if wants_copy(docket, &request.wish) {
+        return Err(ServeFault::CopyWanted);
     }
+    serve_request(alloc, docket, &request, writer)
 }

@@ -232,6 +232,7 @@ With --pages a browser is shown pages as well, which change nothing:
   GET /pages/cases/NUMBER     the docket sheet of a case
   GET /pages/calendar?from=DAY  what falls due in the seven days from that day
   GET /pages/calendar/FROM/TO what falls due, with links to the weeks before and after
+  GET /pages/backup           the docket in one file, as `docketctl backup` copies it
 A reply to a command goes out when it stands in the file. The first line of the output is written
 when connections are taken; port 0 is one that is free:
   docketctl serve --db court.db --port 8080 --count 1000
@@ -240,7 +241,8 @@ when connections are taken; port 0 is one that is free:
   listening on 127.0.0.1:8080
 A browser on this machine then shows the docket at http://127.0.0.1:8080/pages.
 A client is waited for ten seconds in all for its request, and ten for its answer. What goes wrong
-with a connection is told in a line of standard error, and the next is served.
+with a connection is told in a line of standard error, and the next is served. A copy is made in
+memory and judged, which takes as long as the opening.
 
 Exit status: 0 N connections were served, 2 bad command line, 3 the docket or the port could not
 be opened, or writing, memory or the database failed.";

@@ -1,5 +1,5 @@
 -- From each connection to all of them.
-use Rattle.std.proofs.Common.{inl, inr, ◌≡◌, ◌+◌, ◌++◌, ◌∷◌, ◌≤◌, ◌⊎◌, [], ℕ, true, false, List, Option, Some, None, Result, Ok, Err, IfOk, IfErr, IsErrAnd, length-append, append-nil, append_assoc, refl, sym, ap, ap₂, subst, ◌∙◌, arith}
+use Rattle.std.proofs.Common.{inl, inr, ◌≡◌, ◌+◌, ◌++◌, ◌∷◌, ◌≤◌, ◌⊎◌, [], ℕ, Bool, true, false, List, Option, Some, None, Result, Ok, Err, IfOk, IfErr, IsErrAnd, length-append, append-nil, append_assoc, refl, sym, ap, ap₂, subst, ◌∙◌, arith}
 use Rattle.std.specs.Io.KnownBytes.{Keeps}
 use Rattle.std.specs.List.{AllByRecursion}
 use Rattle.sqlite.specs.Store.{Ghosts}
@@ -11,14 +11,16 @@ use Rattle.docket_store.specs.AnyRows.{HoldsDocketRows, WritesAtMostOne}
 use Rattle.docket_store.specs.Applying.{Stands}
 use Rattle.docket_store.specs.Dockets.{Docket}
 use Rattle.http_request.specs.declared.page.Routes.{Routes}
+use Rattle.http_request.specs.declared.wish.Wish.TheVariants.{Copy}
 use Rattle.docket_http.specs.Recorded.{ServesBacked}
-use Rattle.docket_http.specs.Serve.{Fails, Serves, ServesClosed}
+use Rattle.docket_http.specs.Serve.{Fails, IsAsked, Serves, ServesClosed, WantsCopy}
 use Rattle.docket_http.specs.declared.fault.ServeFault.{ServeFault}
+use Rattle.docket_http.specs.declared.fault.ServeFault.TheVariants as serve
 use Rattle.docket_http.specs.declared.fault.ServeFault.TheVariants.{EndedEarly, ReadFailed}
 use Rattle.docket_http.specs.declared.sending.Served.{Served}
 use Rattle.docket_serving.specs.Desks.{Desk}
-use Rattle.docket_serving.specs.Exchanges.{Ends, Exchange, Logs, exchange, tells_failure}
-use Rattle.docket_serving.specs.Serving.{Answers, IsAttended, IsToldClosed, Leads, ServesEach, ServesRun}
+use Rattle.docket_serving.specs.Exchanges.{Ends, Exchange, Logs, exchange, tells_failure, wants_copy}
+use Rattle.docket_serving.specs.Serving.{Answers, AnswersOf, GivesCopy, IsAttended, IsToldClosed, Leads, ServesEach, ServesRun}
 use Rattle.docket_serving.specs.declared.serving.ServingFault.{ServingFault}
 use Rattle.docket_serving.proofs.StepLemmas.{Leaves, leaves}
 use Rattle.docket_serving.specs.declared.serving.ServingFault.TheVariants.{AcceptFailed, DocketFailed}
@@ -62,6 +64,20 @@ ends_below n count all DocketFailed below is = (omega (arith, below, is.0), is.1
 abbrev desk_of : {S : Type 0} → Docket S → Routes → Desk S
 desk_of docket routes = record { docket = docket; routes = routes }
 
+-- an end that wants a copy is that fault
+pub wanted_copy : (end : Result Served ServeFault) → wants_copy end ≡ true → end ≡ Err serve.CopyWanted
+wanted_copy (Ok served) is = absurd (cc)
+wanted_copy (Err serve.CopyWanted) is = refl
+wanted_copy (Err serve.WriteFailed) is = absurd (cc)
+wanted_copy (Err serve.ReadFailed) is = absurd (cc)
+wanted_copy (Err serve.EndedEarly) is = absurd (cc)
+wanted_copy (Err serve.NoMemory) is = absurd (cc)
+wanted_copy (Err serve.StoreFailed) is = absurd (cc)
+
+shut_serves : (closed : Bool) → closed ≡ true → closed ≡ false → ⊥
+shut_serves true shut serves = absurd (cc)
+shut_serves false shut serves = absurd (cc)
+
 -- desks of one docket that serve the same routes
 pub same_desk : {S : Type 0} (a b : Desk S) → a.docket ≡ b.docket → a.routes ≡ b.routes → a ≡ b
 same_desk a b dockets routes = ap₂ desk_of dockets routes
@@ -70,7 +86,7 @@ module _ {S : Type 0} (g : Ghosts S) (routes : Routes) where
   answers_by : (old new : Docket S) (input before after : Option (List ℕ)) (end : Result Served ServeFault)
       → IfOk end (λ served. (h : History) → Stands g old h → HasCleanDisk (state g new.conn) → Serves g routes input old new h before after served.status)
       → IfErr end (λ fault. (h : History) → Stands g old h → HasCleanDisk (state g new.conn) → Fails g routes input old new h before after fault)
-      → (h : History) → Stands g old h → HasCleanDisk (state g new.conn) → Answers g routes old new h (exchange input before after end) end
+      → (h : History) → Stands g old h → HasCleanDisk (state g new.conn) → AnswersOf g routes old new h (exchange input before after end) end
   answers_by old new input before after (Ok served) whole fails = whole
   answers_by old new input before after (Err fault) whole fails = fails
 
@@ -84,16 +100,69 @@ module _ {S : Type 0} (g : Ghosts S) (routes : Routes) where
       → IfErr end (λ fault. (h : History) → Stands g old h → HasCleanDisk (state g new.conn) → Fails g routes input old new h before after fault)
       → (HoldsDocketRows g old → ServesBacked g routes input new before after end)
       → IfErr end (λ fault. (fault ≡ ReadFailed) ⊎ (fault ≡ EndedEarly) → (new ≡ old) × Keeps before after)
+      → wants_copy end ≡ false
       → IsAttended g routes old (exchange input before after end) new
-  attended_by old new input before after end court clean any closed served fails recorded untouched = record {
+  attended_by old new input before after end court clean any closed served fails recorded untouched answered = record {
     court = court;
     clean = clean;
     any = any;
     closed = closed;
-    answers = answers_by old new input before after end served fails;
+    answered = answered;
+    answers = λ h stands clean. inl (answers_by old new input before after end served fails h stands clean);
     recorded = recorded;
     untouched = untouched;
   }
+
+  -- an answer to who asks for a copy is whole, or the writer failed
+
+  copy_backed : (new : Docket S) (input before after : Option (List ℕ)) (end : Result Served ServeFault) (body : List ℕ) → IsAsked routes input Copy body
+      → GivesCopy before after end → ServesBacked g routes input new before after end
+  copy_backed new input before after (Ok served) body asked gives = inl (Copy, body, asked, tt)
+  copy_backed new input before after (Err serve.WriteFailed) body asked gives = inl (Copy, body, asked, tt)
+  copy_backed new input before after (Err serve.NoMemory) body asked gives = inl (Copy, body, asked, tt)
+  copy_backed new input before after (Err serve.StoreFailed) body asked gives = inl (Copy, body, asked, tt)
+  copy_backed new input before after (Err serve.ReadFailed) body asked gives = tt
+  copy_backed new input before after (Err serve.EndedEarly) body asked gives = tt
+  copy_backed new input before after (Err serve.CopyWanted) body asked gives = tt
+
+  copy_read : (before after : Option (List ℕ)) (end : Result Served ServeFault) (A : Type 0) → GivesCopy before after end
+      → IfErr end (λ fault. (fault ≡ ReadFailed) ⊎ (fault ≡ EndedEarly) → A)
+  copy_read before after (Ok served) A gives = tt
+  copy_read before after (Err serve.WriteFailed) A gives = λ is. elim is [ inl e ↦ absurd (cc) | inr e ↦ absurd (cc) ]
+  copy_read before after (Err serve.ReadFailed) A gives = absurd gives.2.sent
+  copy_read before after (Err serve.EndedEarly) A gives = absurd gives.2.sent
+  copy_read before after (Err serve.NoMemory) A gives = absurd gives.2.sent
+  copy_read before after (Err serve.StoreFailed) A gives = absurd gives.2.sent
+  copy_read before after (Err serve.CopyWanted) A gives = absurd gives.2.sent
+
+  copy_answered : (before after : Option (List ℕ)) (end : Result Served ServeFault) → GivesCopy before after end → wants_copy end ≡ false
+  copy_answered before after (Ok served) gives = refl
+  copy_answered before after (Err serve.CopyWanted) gives = absurd gives.2.sent
+  copy_answered before after (Err serve.WriteFailed) gives = refl
+  copy_answered before after (Err serve.ReadFailed) gives = refl
+  copy_answered before after (Err serve.EndedEarly) gives = refl
+  copy_answered before after (Err serve.NoMemory) gives = refl
+  copy_answered before after (Err serve.StoreFailed) gives = refl
+
+  -- a copy that was asked for
+  pub attended_by_copy : (old new : Docket S) (input before middle after : Option (List ℕ)) (end : Result Served ServeFault)
+      → WritesAtMostOne g old new
+      → WantsCopy routes input old new × (middle ≡ before)
+      → GivesCopy middle after end
+      → IsAttended g routes old (exchange input before after end) new
+  attended_by_copy old new input before middle after end any wanted gives =
+      let given : GivesCopy before after end = subst (λ (b : Option (List ℕ)). GivesCopy b after end) wanted.1 gives in
+      let want = wanted.0 in
+      record {
+        court = ap (λ (d : Docket S). d.court) want.same;
+        clean = subst (λ (d : Docket S). doubt (state g old.conn).is_clean ≤ doubt (state g d.conn).is_clean) (sym want.same) (omega arith);
+        any = any;
+        closed = λ shut. absurd (shut_serves old.closed shut want.serves);
+        answered = copy_answered before after end given;
+        answers = λ h stands clean. inr (record { body = want.body; asked = want.asked; same = want.same; gives = given });
+        recorded = λ holds. copy_backed new input before after end want.body want.asked given;
+        untouched = copy_read before after end ((new ≡ old) × Keeps before after) given;
+      }
 
   each_court : (all : List Exchange) (old new : Docket S) → ServesEach g routes old all new → new.court ≡ old.court
   each_court [] old new each = ap (λ (d : Docket S). d.court) each
@@ -118,7 +187,7 @@ module _ {S : Type 0} (g : Ghosts S) (routes : Routes) where
   was_clean before now less clean = omega (arith, less, clean)
 
   -- the next connections by what this one leaves
-  leads_on : (old left new : Docket S) (h : History) (e : Exchange) (rest : List Exchange) → Answers g routes old left h e e.end → ServesEach g routes left rest new
+  leads_on : (old left new : Docket S) (h : History) (e : Exchange) (rest : List Exchange) → Answers g routes old left h e → ServesEach g routes left rest new
       → ((next : History) → Stands g left next → Leads g routes left next rest new) → Leaves g routes h e left → Leads g routes old h (e ∷ rest) new
   leads_on old left new h e rest answers each more (inl stays) = (left, answers, inl (stays.0, stays.1, more stays.0 stays.1.stands))
   leads_on old left new h e rest answers each more (inr fell) = (left, answers, inr (fell, each))
@@ -129,7 +198,7 @@ module _ {S : Type 0} (g : Ghosts S) (routes : Routes) where
       let left = each.0 in
       let now : HasCleanDisk (state g left.conn) = was_clean _ _ (each_clean rest left new each.2) clean in
       let answers = each.1.answers h stands now in
-      leads_on old left new h e rest answers each.2 (λ next here. each_leads rest left new next each.2 here clean) (leaves g routes old left h e e.end refl stands answers)
+      leads_on old left new h e rest answers each.2 (λ next here. each_leads rest left new next each.2 here clean) (leaves g routes old left h e stands answers)
 
   module _ (old new : Docket S) (count : ℕ) (before after : Option (List Exchange)) (result : Result (Unit {0}) ServingFault) (all : List Exchange) where
     served_by : Logs before after all → Ends count all result → ServesEach g routes old all new → ServesRun g routes old new count before after result

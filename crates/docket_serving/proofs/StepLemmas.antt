@@ -1,5 +1,5 @@
 -- What one connection leaves of the docket of a history.
-use Rattle.std.proofs.Common.{◌≡◌, ◌==◌, ◌⊎◌, inl, inr, ℕ, true, false, List, Result, Ok, Err, refl, sym, ap, subst, ◌∙◌}
+use Rattle.std.proofs.Common.{◌≡◌, ◌==◌, ◌⊎◌, inl, inr, ℕ, true, false, List, Option, Some, None, Result, Ok, Err, refl, sym, ap, subst, ◌∙◌}
 use Rattle.sqlite.specs.Store.{Ghosts}
 use Rattle.docket_history.specs.Histories.{History}
 use Rattle.docket_tables.specs.Stands.{LastsAsEither}
@@ -7,7 +7,6 @@ use Rattle.docket_store.specs.Applying.{Stands, docket_rows}
 use Rattle.docket_store.specs.Dockets.{Docket}
 use Rattle.http_request.specs.declared.page.Routes.{Routes}
 use Rattle.http_request.specs.declared.wish.Wish.{Wish}
-use Rattle.docket_http.specs.Answer.{Response}
 use Rattle.docket_http.specs.Asking.{IsAnswered, history_after}
 use Rattle.docket_http.specs.Serve.{IsAsked}
 use Rattle.docket_http.specs.declared.fault.ServeFault.{ServeFault}
@@ -15,7 +14,9 @@ use Rattle.docket_http.specs.declared.fault.ServeFault.TheVariants as serve
 use Rattle.docket_http.specs.declared.sending.Served.{Served}
 use Rattle.docket_http.proofs.LeftLemmas.{Left, left as split}
 use Rattle.docket_serving.specs.Exchanges.{Exchange, tells_failure}
-use Rattle.docket_serving.specs.Serving.{Answers, Fell, IsNext, Stays}
+use Rattle.docket_http.specs.Answer.{Response}
+use Rattle.docket_http.specs.Serve.{IsCopyAnswer, SendsCopy}
+use Rattle.docket_serving.specs.Serving.{Answers, AnswersOf, Fell, IsNext, Stays}
 
 module _ {S : Type 0} (g : Ghosts S) (routes : Routes) where
   -- the docket of a history, or one that fell
@@ -51,15 +52,35 @@ module _ {S : Type 0} (g : Ghosts S) (routes : Routes) where
         → ((response.status == 503) ≡ true → (tells_failure e.end ≡ true) ⊎ (e.end ≡ Err serve.WriteFailed)) → Leaves h e left
     left_told response answered fine failed = left_as response (split g left h wish body response answered) fine failed
 
-  pub leaves : (old left : Docket S) (h : History) (e : Exchange) (end : Result Served ServeFault) → e.end ≡ end → Stands g old h → Answers g routes old left h e end → Leaves h e left
-  leaves old left h e (Ok served) ended stands (inl is) =
+  -- no answer to who asks for a copy says 503
+  copy_fine : (copy : Option (List ℕ)) (response : Response) → IsCopyAnswer copy response → (response.status == 503) ≡ false
+  copy_fine None response is = ap (λ (r : Response). r.status == 503) is
+  copy_fine (Some bytes) response (inl is) = ap (λ (r : Response). r.status == 503) is
+  copy_fine (Some bytes) response (inr is) = ap (λ (r : Response). r.status == 503) is
+
+  copy_told : (copy : Option (List ℕ)) (o n : Option (List ℕ)) (end : Result Served ServeFault) → SendsCopy copy o n end → tells_failure end ≡ false
+  copy_told copy o n (Ok served) sends = ap (λ k. k == 503) sends.sent.1 ∙ copy_fine copy sends.response sends.is
+  copy_told copy o n (Err serve.WriteFailed) sends = refl
+  copy_told copy o n (Err serve.ReadFailed) sends = absurd sends.sent
+  copy_told copy o n (Err serve.EndedEarly) sends = absurd sends.sent
+  copy_told copy o n (Err serve.NoMemory) sends = absurd sends.sent
+  copy_told copy o n (Err serve.StoreFailed) sends = absurd sends.sent
+  copy_told copy o n (Err serve.CopyWanted) sends = absurd sends.sent
+
+  leaves_of : (old left : Docket S) (h : History) (e : Exchange) (end : Result Served ServeFault) → e.end ≡ end → Stands g old h → AnswersOf g routes old left h e end → Leaves h e left
+  leaves_of old left h e (Ok served) ended stands (inl is) =
       let now : tells_failure e.end ≡ (is.3.response.status == 503) = ap tells_failure ended ∙ ap (λ n. n == 503) is.3.status_told in
       left_told left h e is.0 is.1 is.2 is.3.response is.3.answered (λ fine. now ∙ fine) (λ failed. inl (now ∙ failed))
-  leaves old left h e (Ok served) ended stands (inr is) = left_same old left h e is.same stands (ap tells_failure ended ∙ ap (λ n. n == 503) is.status_told)
-  leaves old left h e (Err serve.ReadFailed) ended stands is = left_same old left h e is.0 stands (ap tells_failure ended)
-  leaves old left h e (Err serve.EndedEarly) ended stands is = left_same old left h e is.0 stands (ap tells_failure ended)
-  leaves old left h e (Err serve.WriteFailed) ended stands (inl is) =
+  leaves_of old left h e (Ok served) ended stands (inr is) = left_same old left h e is.same stands (ap tells_failure ended ∙ ap (λ n. n == 503) is.status_told)
+  leaves_of old left h e (Err serve.ReadFailed) ended stands is = left_same old left h e is.0 stands (ap tells_failure ended)
+  leaves_of old left h e (Err serve.EndedEarly) ended stands is = left_same old left h e is.0 stands (ap tells_failure ended)
+  leaves_of old left h e (Err serve.WriteFailed) ended stands (inl is) =
       left_told left h e is.0 is.1 is.2 is.3.response is.3.answered (λ fine. ap tells_failure ended) (λ failed. inr ended)
-  leaves old left h e (Err serve.WriteFailed) ended stands (inr is) = left_same old left h e is.0 stands (ap tells_failure ended)
-  leaves old left h e (Err serve.NoMemory) ended stands is = left_either left h e is.0 is.1 is.2 is.3.0.1 (ap tells_failure ended)
-  leaves old left h e (Err serve.StoreFailed) ended stands is = fell left h e is.0 is.1 is.2 is.3.0.1 is.3.0.2 (inl (ap tells_failure ended))
+  leaves_of old left h e (Err serve.WriteFailed) ended stands (inr is) = left_same old left h e is.0 stands (ap tells_failure ended)
+  leaves_of old left h e (Err serve.NoMemory) ended stands is = left_either left h e is.0 is.1 is.2 is.3.0.1 (ap tells_failure ended)
+  leaves_of old left h e (Err serve.StoreFailed) ended stands is = fell left h e is.0 is.1 is.2 is.3.0.1 is.3.0.2 (inl (ap tells_failure ended))
+  leaves_of old left h e (Err serve.CopyWanted) ended stands is = left_same old left h e is.0.same stands (ap tells_failure ended)
+
+  pub leaves : (old left : Docket S) (h : History) (e : Exchange) → Stands g old h → Answers g routes old left h e → Leaves h e left
+  leaves old left h e stands (inl answers) = leaves_of old left h e e.end refl stands answers
+  leaves old left h e stands (inr copied) = left_same old left h e copied.same stands (copy_told copied.gives.0 e.before e.after e.end copied.gives.2)

@@ -2,7 +2,7 @@
 use Rattle.std.specs.Prelude.{◌≡◌, ◌≤◌, ◌<◌, ◌==◌, ℕ, Bool, true, false, List, [], ◌∷◌, ◌++◌, length, Option, Some, None, Result, Ok, Err, ⊤}
 use Rattle.std.specs.List.{AllByRecursion}
 use Rattle.docket_http.specs.declared.fault.ServeFault.{ServeFault}
-use Rattle.docket_http.specs.declared.fault.ServeFault.TheVariants.{StoreFailed}
+use Rattle.docket_http.specs.declared.fault.ServeFault.TheVariants.{CopyWanted, StoreFailed}
 use Rattle.docket_http.specs.declared.sending.Served.{Served}
 use Rattle.docket_serving.specs.declared.serving.ServingFault.{ServingFault}
 use Rattle.docket_serving.specs.declared.serving.ServingFault.TheVariants.{AcceptFailed, DocketFailed}
@@ -28,6 +28,12 @@ abbrev pub tells_failure : Result Served ServeFault → Bool
 tells_failure (Ok served) = served.status == 503
 tells_failure (Err StoreFailed) = true
 tells_failure (Err _) = false
+
+-- whether an end tells that a copy is wanted, and so that nobody was answered
+abbrev pub wants_copy : Result Served ServeFault → Bool
+wants_copy (Ok served) = false
+wants_copy (Err CopyWanted) = true
+wants_copy (Err _) = false
 
 abbrev pub NoneFailed : List Exchange → Type 0
 NoneFailed = AllByRecursion (λ e. tells_failure e.end ≡ false)

@@ -1,5 +1,5 @@
 -- What a docket is brought to by connections that are served one after the other.
-use Rattle.std.specs.Prelude.{◌≡◌, ◌⊎◌, ◌≤◌, ℕ, true, false, List, [], ◌∷◌, Option, Result, Ok, Err, IfErr}
+use Rattle.std.specs.Prelude.{◌≡◌, ◌⊎◌, ◌≤◌, ℕ, true, false, List, [], ◌∷◌, Option, IfSome, Result, Ok, Err, IfErr}
 use Rattle.std.specs.Io.KnownBytes.{Keeps}
 use Rattle.std.specs.List.{AllByRecursion}
 use Rattle.sqlite.specs.Store.{Ghosts}
@@ -12,15 +12,17 @@ use Rattle.docket_tables.specs.Stands.{LastsAsEither}
 use Rattle.docket_store.specs.AnyRows.{HoldsDocketRows, WritesAtMostOne}
 use Rattle.docket_store.specs.Applying.{Stands, docket_rows}
 use Rattle.docket_store.specs.Dockets.{Docket}
+use Rattle.docket_copies.specs.Copies.{IsSoundFile}
 use Rattle.http_request.specs.declared.page.Routes.{Routes}
 use Rattle.http_request.specs.declared.wish.Wish.{Wish}
+use Rattle.http_request.specs.declared.wish.Wish.TheVariants.{Copy}
 use Rattle.docket_http.specs.Asking.{history_after}
 use Rattle.docket_http.specs.Recorded.{ServesBacked}
-use Rattle.docket_http.specs.Serve.{Fails, IsAsked, Serves, ServesClosed}
+use Rattle.docket_http.specs.Serve.{Fails, IsAsked, SendsCopy, Serves, ServesClosed}
 use Rattle.docket_http.specs.declared.fault.ServeFault.{ServeFault}
 use Rattle.docket_http.specs.declared.fault.ServeFault.TheVariants.{EndedEarly, ReadFailed, WriteFailed}
 use Rattle.docket_http.specs.declared.sending.Served.{Served}
-use Rattle.docket_serving.specs.Exchanges.{Ends, Exchange, Logs, tells_failure}
+use Rattle.docket_serving.specs.Exchanges.{Ends, Exchange, Logs, tells_failure, wants_copy}
 use Rattle.docket_serving.specs.declared.serving.ServingFault.{ServingFault}
 
 -- the history is that before a connection, or that after the command which it gave
@@ -31,11 +33,26 @@ IsNext routes court h e next = (next ≡ h) ⊎ ((wish : Wish) × (body : List �
 abbrev pub IsToldClosed : Routes → Exchange → Type 0
 IsToldClosed routes e = ServesClosed routes e.input e.before e.after e.end
 
+-- the answer to who asks for a copy went out, or a front of it: the bytes of a file that alone is a sound docket's, or that there is no copy
+abbrev pub GivesCopy : Option (List ℕ) → Option (List ℕ) → Result Served ServeFault → Type 0
+GivesCopy before after end = (copy : Option (List ℕ)) × IfSome copy IsSoundFile × SendsCopy copy before after end
+
+-- a copy of the docket's file was asked for, and that was answered; the docket is as it was
+pub record IsCopied {S : Type 0} (routes : Routes) (old new : Docket S) (e : Exchange) : Type 0 where
+  pub body : List ℕ
+  pub asked : IsAsked routes e.input Copy body
+  pub same : new ≡ old
+  pub gives : GivesCopy e.before e.after e.end
+
 module _ {S : Type 0} (g : Ghosts S) (routes : Routes) where
-  -- what a connection is served where the docket stood for a history
-  abbrev pub Answers : Docket S → Docket S → History → Exchange → Result Served ServeFault → Type 0
-  Answers old new h e (Ok served) = Serves g routes e.input old new h e.before e.after served.status
-  Answers old new h e (Err fault) = Fails g routes e.input old new h e.before e.after fault
+  -- what the docket serves to a connection where it stood for a history
+  abbrev pub AnswersOf : Docket S → Docket S → History → Exchange → Result Served ServeFault → Type 0
+  AnswersOf old new h e (Ok served) = Serves g routes e.input old new h e.before e.after served.status
+  AnswersOf old new h e (Err fault) = Fails g routes e.input old new h e.before e.after fault
+
+  -- what a connection is served then
+  abbrev pub Answers : Docket S → Docket S → History → Exchange → Type 0
+  Answers old new h e = AnswersOf old new h e e.end ⊎ IsCopied routes old new e
 
   -- all that is promised of one connection, whatever the docket
   pub record IsAttended (old : Docket S) (e : Exchange) (new : Docket S) : Type 0 where
@@ -43,7 +60,9 @@ module _ {S : Type 0} (g : Ghosts S) (routes : Routes) where
     pub clean : doubt (state g old.conn).is_clean ≤ doubt (state g new.conn).is_clean
     pub any : WritesAtMostOne g old new
     pub closed : old.closed ≡ true → (new ≡ old) × IsToldClosed routes e
-    pub answers : (h : History) → Stands g old h → HasCleanDisk (state g new.conn) → Answers old new h e e.end
+    -- who wants a copy is answered too
+    pub answered : wants_copy e.end ≡ false
+    pub answers : (h : History) → Stands g old h → HasCleanDisk (state g new.conn) → Answers old new h e
     pub recorded : HoldsDocketRows g old → ServesBacked g routes e.input new e.before e.after e.end
     pub untouched : IfErr e.end (λ fault. (fault ≡ ReadFailed) ⊎ (fault ≡ EndedEarly) → (new ≡ old) × Keeps e.before e.after)
 
@@ -72,7 +91,7 @@ module _ {S : Type 0} (g : Ghosts S) (routes : Routes) where
   abbrev pub Leads : Docket S → History → List Exchange → Docket S → Type 0
   Leads old h [] new = (new ≡ old) × Stands g new h
   Leads old h (e ∷ rest) new =
-      (left : Docket S) × Answers old left h e e.end
+      (left : Docket S) × Answers old left h e
       × (((next : History) × Stays h e left next × Leads left next rest new) ⊎ (Fell h e left × ServesEach left rest new))
 
   -- so many connections were taken, as the source's log tells them, and served

@@ -1,7 +1,10 @@
 //! The desk at which a docket is served.
 ghost use Rattle.std.specs.Prelude.{◌≡◌};
+ghost use Rattle.docket_serving.specs.Exchanges.{wants_copy};
 
 use crate::connections::Attendant;
+use crate::copying::give_copy;
+use docket_copies::DocketFiles;
 use docket_http::{Routes, ServeFault, Served, serve_one};
 use docket_store::Docket;
 use sqlite::Alter;
@@ -11,13 +14,15 @@ use std::marker::Model;
 
 /// Keeps a docket in a database, and answers one request of each connection by it. A contract sees the
 /// docket, and which routes are served.
-pub struct Desk<S: Alter> {
+pub struct Desk<'a, S: Alter> {
     alloc: Global,
     docket: Docket<S>,
     routes: Routes,
+    // The files of which copies are given, where the docket is kept in files.
+    files: Option<DocketFiles<'a>>,
 }
 
-impl<S: Alter> Model for Desk<S> {
+impl<'a, S: Alter> Model for Desk<'a, S> {
     ghost use Rattle.docket_serving.specs.Desks.{Desk, desk_code};
 
     ghost Value = { Desk S };
@@ -27,38 +32,52 @@ impl<S: Alter> Model for Desk<S> {
     ghost view = { λ desk. record { docket = desk.docket; routes = desk.routes } };
 }
 
-impl<S: Alter + Drop> Drop for Desk<S> {
+impl<S: Alter + Drop> Drop for Desk<'_, S> {
     fn drop(self) {
         let _ = self.into_docket().close();
     }
 }
 
-impl<S: Alter> Desk<S> {
-    /// A desk at which these routes of the docket are served.
-    pub fn new(alloc: Global, docket: Docket<S>, routes: Routes) -> Desk<S>
+impl<'a, S: Alter> Desk<'a, S> {
+    /// A desk at which these routes of the docket are served, with copies of the files in which it is kept.
+    pub fn new(
+        alloc: Global,
+        docket: Docket<S>,
+        routes: Routes,
+        files: Option<DocketFiles<'a>>,
+    ) -> Desk<'a, S>
         ensures { result ≡ record { docket = docket; routes = routes } }
     {
         Desk {
             alloc,
             docket,
             routes,
+            files,
         }
     }
 
     /// The docket as the connections left it.
     pub fn into_docket(self) -> Docket<S>
-        ensures { result ≡ self.docket }
+        ensures { result ≡ self.entry.docket }
     {
         let Desk {
             alloc: _,
             docket,
             routes: _,
+            files: _,
         } = self;
         docket
     }
 }
 
-impl<S: Alter> Attendant for Desk<S> {
+/// Whether who asks for a copy is still to be answered.
+fn is_copy_wanted(served: &Result<Served, ServeFault>) -> bool
+    ensures { result ≡ wants_copy served.now }
+{
+    matches!(served, Err(ServeFault::CopyWanted))
+}
+
+impl<S: Alter> Attendant for Desk<'_, S> {
     ghost use Rattle.docket_serving.specs.Desks.{DeskAttends};
 
     ghost Attends = { λ old e new. DeskAttends S.Store old e new };
@@ -68,6 +87,10 @@ impl<S: Alter> Attendant for Desk<S> {
         reader: &mut R,
         writer: &mut W,
     ) -> Result<Served, ServeFault> {
-        serve_one(self.alloc, reader, writer, &mut self.docket, self.routes)
+        let served = serve_one(self.alloc, reader, writer, &mut self.docket, self.routes);
+        if is_copy_wanted(&served) {
+            return give_copy(self.alloc, self.files, writer);
+        }
+        served
     }
 }

@@ -54,7 +54,7 @@ fn is_failed(served: &Result<Served, ServeFault>) -> bool
 fn serve_next<C: Connections, S: Alter, E: Write>(
     alloc: Global,
     connections: &mut C,
-    desk: &mut Desk<S>,
+    desk: &mut Desk<'_, S>,
     e: &mut E,
 ) -> Result<(), ServingFault>
     ensures routes { desk.new.routes ≡ desk.old.routes }
@@ -79,7 +79,7 @@ pub fn serve_run<C: Connections, S: Alter, E: Write>(
     alloc: Global,
     connections: &mut C,
     count: u32,
-    desk: &mut Desk<S>,
+    desk: &mut Desk<'_, S>,
     e: &mut E,
 ) -> Result<(), ServingFault>
     ensures routes { desk.new.routes ≡ desk.old.routes }

@@ -349,5 +349,5 @@ pub fn serve_on_file<S: Start, V: Watch + Drop, W: Write, E: Write>(
     ensures unserved { MatchResult result (λ done. IfErr done.outcome (λ _. (w.new ≡ w.old) × (e.new ≡ e.old))) (λ _. (w.new ≡ w.old) × (e.new ≡ e.old)) }
 {
     let conn = reopen_from(rt, path, start)?;
-    Ok(leave(serve_over(rt, conn, watch, service, w, e)))
+    Ok(leave(serve_over(rt, path, conn, watch, service, w, e)))
 }

@@ -13,7 +13,7 @@ ghost use Rattle.file_jobs.specs.Tells.{WorksTo};
 
 use crate::adopting::adopt;
 use crate::ended::Worked;
-use docket_serving::{Desk, Listening, Routes, ServingFault, serve_run};
+use docket_serving::{Desk, DocketFiles, Listening, Routes, ServingFault, serve_run};
 use docket_store::{AdoptFault, Watch};
 use sqlite::{Alter, Connection};
 use std::alloc::Global;
@@ -53,7 +53,7 @@ fn listen<S: Alter, W: Write, E: Write>(
     rt: &HostRuntime,
     port: u16,
     count: u32,
-    desk: &mut Desk<S>,
+    desk: &mut Desk<'_, S>,
     w: &mut W,
     e: &mut E,
 ) -> Result<(), ServeEnd>
@@ -75,9 +75,10 @@ fn listen<S: Alter, W: Write, E: Write>(
 }
 
 /// Adopts the docket that a database holds, tells on `w` where connections are taken, and serves so many
-/// of them. What goes wrong with one is told on `e`.
+/// of them. What goes wrong with one is told on `e`. The files at the path are those of the database.
 pub(crate) fn serve_over<S: Alter, V: Watch + Drop, W: Write, E: Write>(
     rt: &HostRuntime,
+    path: &str,
     conn: Connection<S>,
     watch: V,
     service: &Service,
@@ -95,7 +96,8 @@ pub(crate) fn serve_over<S: Alter, V: Watch + Drop, W: Write, E: Write>(
         Ok(found) => found,
         Err(returned) => return Worked::from(returned),
     };
-    let mut desk = Desk::new(rt.alloc(), docket, service.routes);
+    let files = DocketFiles::new(rt, path);
+    let mut desk = Desk::new(rt.alloc(), docket, service.routes, Some(files));
     let end = listen(rt, service.port, service.count, &mut desk, w, e);
     Worked {
         outcome: Ok(end),

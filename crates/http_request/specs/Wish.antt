@@ -9,7 +9,7 @@ use Rattle.http_request.specs.Path.{Place, place_of}
 use Rattle.http_request.specs.declared.fields.Rejection.{Rejection}
 use Rattle.http_request.specs.declared.fields.Rejection.TheVariants.{BadHead, NotFound, Method, BadPathValue}
 use Rattle.http_request.specs.declared.wish.Wish.{Wish}
-use Rattle.http_request.specs.declared.wish.Wish.TheVariants.{Reject, Command, Case, Deadlines, Calendar, Holidays, Page as PageWish}
+use Rattle.http_request.specs.declared.wish.Wish.TheVariants.{Reject, Command, Case, Deadlines, Calendar, Holidays, Page as PageWish, Copy}
 use Rattle.http_request.specs.declared.page.Routes.{Routes}
 use Rattle.http_request.specs.declared.page.Page.{Page}
 use Rattle.http_request.specs.Number.{number_of, year_of}
@@ -65,10 +65,18 @@ abbrev pub page_wish : List ℕ → Option (Option Page) → Wish
 page_wish method None = Reject NotFound
 page_wish method (Some page) = if bytes_eq method (codes "GET") then got_wish page else Reject Method
 
--- what a path asks for: one of the docket, or a page where it has a rest behind "/pages"
+-- a copy is got
+abbrev pub copy_wish : List ℕ → Wish
+copy_wish method = if bytes_eq method (codes "GET") then Copy else Reject Method
+
+-- what the rest of a path behind "/pages" asks for, with the query: a copy of the docket's file, or a page
+abbrev pub rest_wish : List ℕ → List ℕ → Option (List ℕ) → Wish
+rest_wish method rest query = if bytes_eq rest (codes "/backup") then copy_wish method else page_wish method (page_of rest query)
+
+-- what a path asks for: one of the docket, or what its rest behind "/pages" asks for
 abbrev pub path_wish : List ℕ → List ℕ → List (List ℕ × List ℕ) → Option (List ℕ) → Wish
 path_wish method target fields None = place_wish method fields (place_of (path_of target))
-path_wish method target fields (Some rest) = page_wish method (page_of rest (query_of target))
+path_wish method target fields (Some rest) = rest_wish method rest (query_of target)
 
 -- what a head of this method, target and fields asks for, where these routes are served
 abbrev pub wish_of : Routes → List ℕ → List ℕ → List (List ℕ × List ℕ) → Wish
@@ -92,4 +100,5 @@ IsWithinLimits (Command len) = Unit {0}
 IsWithinLimits (Case number) = Unit {0}
 IsWithinLimits (Deadlines number) = Unit {0}
 IsWithinLimits (Calendar from to) = Unit {0}
+IsWithinLimits Copy = Unit {0}
 IsWithinLimits (PageWish page) = IsPageWithinLimits page

@@ -4,7 +4,7 @@ ghost use Rattle.httparse.specs.Spans.{IsHeaderWithin, header_bytes};
 ghost use Rattle.http_request.specs.Rows.{route_rows};
 ghost use Rattle.http_request.specs.Path.{place_of};
 ghost use Rattle.http_request.specs.Pages.{page_of};
-ghost use Rattle.http_request.specs.Wish.{route_wish, place_wish, page_wish as wish_by_page, wish_of, route_method, is_method, IsHeadWish, IsWithinLimits};
+ghost use Rattle.http_request.specs.Wish.{route_wish, place_wish, page_wish as wish_by_page, copy_wish as wish_of_copy, rest_wish as wish_by_rest, wish_of, route_method, is_method, IsHeadWish, IsWithinLimits};
 
 use crate::days::read_range;
 use crate::fields::{Rejection, body_length};
@@ -39,6 +39,8 @@ pub enum Wish {
     Holidays(u32),
     /// A page, where pages are served.
     Page(Page),
+    /// A copy of the file in which the docket is kept, where pages are served.
+    Copy,
 }
 
 fn method_of(route: Route) -> Method
@@ -112,7 +114,7 @@ fn is_get(method: &[u8]) -> bool
     method == Method::GET.as_str().as_bytes()
 }
 
-// What the rest of a path behind "/pages" asks for. A page is got.
+// The page that the rest of a path behind "/pages" asks for. A page is got.
 fn page_wish(router: &Router<Route>, method: &[u8], rest: &str, query: Option<&str>) -> Wish
     requires { router.now ≡ route_rows }
     ensures asks { result ≡ wish_by_page method.now (page_of rest.now (option_copied query.entry)) }
@@ -123,6 +125,29 @@ fn page_wish(router: &Router<Route>, method: &[u8], rest: &str, query: Option<&s
         Some(_) if !is_get(method) => Wish::Reject(Rejection::Method),
         Some(None) => Wish::Reject(Rejection::BadPathValue),
         Some(Some(page)) => Wish::Page(page),
+    }
+}
+
+// What a request for a copy asks for: it is got.
+fn copy_wish(method: &[u8]) -> Wish
+    ensures { result ≡ wish_of_copy method.now }
+{
+    if is_get(method) {
+        Wish::Copy
+    } else {
+        Wish::Reject(Rejection::Method)
+    }
+}
+
+// What the rest of a path behind "/pages" asks for: a copy, or a page.
+fn rest_wish(router: &Router<Route>, method: &[u8], rest: &str, query: Option<&str>) -> Wish
+    requires { router.now ≡ route_rows }
+    ensures asks { result ≡ wish_by_rest method.now rest.now (option_copied query.entry) }
+    ensures within { IsWithinLimits result }
+{
+    match rest {
+        "/backup" => copy_wish(method),
+        _ => page_wish(router, method, rest, query),
     }
 }
 
@@ -147,7 +172,7 @@ fn parts_wish(
     let path = path_of(target);
     match behind_pages(routes, path) {
         None => docket_wish(router, method, path, head, headers),
-        Some(rest) => page_wish(router, method, rest, query_of(target)),
+        Some(rest) => rest_wish(router, method, rest, query_of(target)),
     }
 }
 

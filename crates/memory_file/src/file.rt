@@ -39,6 +39,25 @@ impl MemoryFile {
             db: MemoryFile::new(alloc),
         }
     }
+
+    /// Its bytes.
+    pub fn into_bytes(self) -> Vec<u8>
+        ensures { result.items ≡ bytes_of self }
+    {
+        self.bytes
+    }
+}
+
+impl From<Vec<u8>> for MemoryFile {
+    ghost use Rattle.std.specs.Prelude.{◌≡◌};
+    ghost use Rattle.memory_file.specs.Files.{bytes_of};
+
+    ghost from_gives = { λ bytes file. bytes_of file ≡ bytes.items };
+
+    /// A file that holds these bytes.
+    fn from(bytes: Vec<u8>) -> MemoryFile {
+        MemoryFile { bytes, faults: 0 }
+    }
 }
 
 fn counted(outcome: Result<(), AllocError>, faults: &mut u64) -> io::Result<()>

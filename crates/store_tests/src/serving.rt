@@ -18,11 +18,16 @@ const OPENED: &[u8] =
 const NO_COURT: &[u8] =
     b"HTTP/1.1 404 Not Found\r\ncontent-type: application/json\r\ncontent-length: 22\r\nconnection: close\r\n\r\n{\"error\":\"not-found\"}\n";
 
+const NO_COPY: &[u8] =
+    b"HTTP/1.1 500 Internal Server Error\r\ncontent-type: application/json\r\ncontent-length: 20\r\nconnection: close\r\n\r\n{\"error\":\"no-copy\"}\n";
+
 /// Requests of one client after the other, each with its answer and what is told of it.
-const VISITS: [(&[u8], &[u8], &[u8]); 4] = [
+const VISITS: [(&[u8], &[u8], &[u8]); 5] = [
     (OPEN, OPENED, b""),
     (OPEN, OPENED, b""),
     (b"GET /courts HTTP/1.1\r\n\r\nmore", NO_COURT, b""),
+    // A docket in memory has no file to give a copy of.
+    (b"GET /pages/backup HTTP/1.1\r\n\r\n", NO_COPY, b""),
     (
         b"GET /cases/1 HTTP/1.1\r\n",
         b"",
@@ -39,7 +44,7 @@ fn docket(alloc: Global) -> Option<Docket<MemStore>> {
 fn visited(
     rt: &HostRuntime,
     listener: &TcpListener,
-    desk: &mut Desk<MemStore>,
+    desk: &mut Desk<'_, MemStore>,
     request: &[u8],
 ) -> Result<(Vec<u8>, Vec<u8>), Fail> {
     let mut client = TcpStream::connect(rt, listener.local_addr()?)?;
@@ -58,7 +63,7 @@ fn visited(
 #[test]
 fn clients_of_a_socket(rt: HostRuntime) -> Result<(), Fail> {
     let docket = docket(rt.alloc()).ok_or("no docket")?;
-    let mut desk = Desk::new(rt.alloc(), docket, Routes::Docket);
+    let mut desk = Desk::new(rt.alloc(), docket, Routes::WithPages, None);
     let listener = TcpListener::bind(&rt, "127.0.0.1:0")?;
     for (request, wanted, fault) in VISITS {
         let (answer, told) = visited(&rt, &listener, &mut desk, request)?;

@@ -1,11 +1,11 @@
 use Rattle.std.proofs.Common.{sym, ap, refl, subst, inl, Ok}
 use Rattle.std.specs.List.{slice_range}
 use Rattle.http_request.specs.Request.{body_of}
-use Rattle.http_request.specs.declared.wish.Wish.TheVariants.{Reject, Command, Case, Deadlines, Holidays, Page}
+use Rattle.http_request.specs.declared.wish.Wish.TheVariants.{Reject, Command, Case, Copy, Deadlines, Holidays, Page}
 use Rattle.docket_text.specs.HolidayTexts.{holiday_text}
 use Rattle.docket_http.specs.Answer.{text, problem_response}
 use Rattle.docket_http.specs.Asking.{IsBuilt}
-use Rattle.docket_http.specs.declared.problem.Problem.TheVariants.{Rejected}
+use Rattle.docket_http.specs.declared.problem.Problem.TheVariants.{NoCopy, Rejected}
 use Rattle.docket_http.specs.declared.reply.Reply.TheVariants.{Fixed}
 use Rattle.docket_http.proofs.AskingLemmas.{replies_as}
 use Rattle.docket_http.proofs.ClosedLemmas.{closed_as}
@@ -45,6 +45,11 @@ returns-in-Reject-clause-closed g c shut =
     let told = problem_response (Rejected c.in-Reject.rejection) in
     (refl, closed_as (Reject c.in-Reject.rejection) c.args.request.now.wish body body (Ok (Fixed (Rejected c.in-Reject.rejection))) (sym c.in-Reject.is) refl (told, (refl, refl), refl))
 
+pub returns-in-Copy-clause-closed : goal.returns-in-Copy-clause-closed
+returns-in-Copy-clause-closed g c shut =
+    let body = body_of c.args.request.now in
+    (refl, closed_as Copy c.args.request.now.wish body body (Ok (Fixed NoCopy)) (sym c.in-Copy.is) refl (problem_response NoCopy, (refl, refl), refl))
+
 pub returns-in-Command-clause-closed : goal.returns-in-Command-clause-closed
 returns-in-Command-clause-closed g c shut =
     let closed = c.command_reply.ensures.closed shut in (
@@ -82,6 +87,9 @@ returns-in-Command-clause-recorded g c docket =
 
 pub returns-in-Reject-clause-recorded : goal.returns-in-Reject-clause-recorded
 returns-in-Reject-clause-recorded g c docket = problem_backed g.S.Store c.args.docket.now c.args.request.now.wish (body_of c.args.request.now) (Rejected c.in-Reject.rejection)
+
+pub returns-in-Copy-clause-recorded : goal.returns-in-Copy-clause-recorded
+returns-in-Copy-clause-recorded g c docket = problem_backed g.S.Store c.args.docket.now c.args.request.now.wish (body_of c.args.request.now) NoCopy
 
 pub returns-in-Case-clause-recorded : goal.returns-in-Case-clause-recorded
 returns-in-Case-clause-recorded g c docket =

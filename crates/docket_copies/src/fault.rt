@@ -1,0 +1,19 @@
+//! Why there is no copy.
+use std::alloc::AllocError;
+use std::io;
+
+/// No copy was made: a file could not be read, or what was read is no sound docket, or memory was short.
+#[derive(Clone, Copy, Debug, PartialEq, Eq)]
+pub struct NoCopy;
+
+impl From<io::Error> for NoCopy {
+    fn from(_error: io::Error) -> NoCopy {
+        NoCopy
+    }
+}
+
+impl From<AllocError> for NoCopy {
+    fn from(_error: AllocError) -> NoCopy {
+        NoCopy
+    }
+}

@@ -1,0 +1,20 @@
+use Rattle.std.proofs.Common.{◌≡◌, ℕ, List, Option, None, Some, inl, inr, refl, subst, sym}
+use Rattle.std.specs.Option.{option_map}
+use Rattle.docket_http.specs.Answer.{Response, file, problem_response}
+use Rattle.docket_http.specs.Serve.{IsCopyAnswer}
+use Rattle.docket_http.specs.declared.problem.Problem.TheVariants.{NoCopy, NoMemory}
+use Rattle.docket_http.proofs.copies.copy_reply.Goals as goal
+
+answer_as : {T : Type 0} (f : T → List ℕ) (a b : Option T) (response : Response) → b ≡ a → IsCopyAnswer (option_map f a) response → IsCopyAnswer (option_map f b) response
+answer_as {T} f a b response same is = subst (λ (o : Option T). IsCopyAnswer (option_map f o) response) (sym same) is
+
+pub returns-in-Ok : goal.returns-in-Ok
+returns-in-Ok c =
+    (file c.in-Some.bytes.items, c.in-Ok.ensures, answer_as (λ bytes. bytes.items) (Some c.in-Some.bytes) c.args.copy (file c.in-Some.bytes.items) c.in-Some.is (inl refl))
+
+pub returns-in-Err : goal.returns-in-Err
+returns-in-Err c =
+    (problem_response NoMemory, (refl, refl), answer_as (λ bytes. bytes.items) (Some c.in-Some.bytes) c.args.copy (problem_response NoMemory) c.in-Some.is (inr refl))
+
+pub returns-in-None : goal.returns-in-None
+returns-in-None c = (problem_response NoCopy, (refl, refl), answer_as (λ bytes. bytes.items) None c.args.copy (problem_response NoCopy) c.in-None.is refl)
