@@ -1,17 +1,17 @@
 //! The engine of `run`: commands in, one answer each out.
-ghost use Rattle.std.specs.Prelude.{◌≡◌, length, true, Err, IfOk, IfErr, OnErr, IfSome};
-ghost use Rattle.std.specs.Io.KnownBytes.{Appends};
+ghost use Rattle.std.specs.Prelude.{◌≡◌, true, Err, IfOk, IfErr, OnErr, IfSome};
 ghost use Rattle.sqlite.specs.Held.{state};
 ghost use Rattle.sqlite.specs.State.{HasCleanDisk};
 ghost use Rattle.line_io.specs.Lines.{lines_of};
 ghost use Rattle.line_io.specs.Output.{HasFront};
 ghost use Rattle.line_io.specs.Ending.{BreaksOff};
+ghost use Rattle.line_io.specs.Report.{TellsAll};
 ghost use Rattle.line_io.specs.Steps.{Reaches};
 ghost use Rattle.docket_store.specs.AnyRows.{WritesAtMostOne};
 ghost use Rattle.docket_store.specs.declared.fault.Fault.TheVariants as fault;
 ghost use Rattle.command_lines.specs.Ending.{StandsAs, Leaves};
 ghost use Rattle.command_lines.specs.declared.fault.RunFault.TheVariants as run;
-ghost use Rattle.command_lines.specs.Lines.{Docket, run_text, bad_answers, docket_after, line_judged};
+ghost use Rattle.command_lines.specs.Lines.{Docket, run_text, line_judged};
 
 use crate::clerk::Clerk;
 use crate::fault::RunFault;
@@ -37,10 +37,7 @@ pub fn command_run<R: Read, W: Write, S: Alter>(
 ) -> Result<CountEnd, RunFault>
     ensures whole { IfOk result (λ end. (docket : Docket) → StandsAs S.Store clerk.old docket
         → HasCleanDisk (state S.Store clerk.new.conn) → IfSome (R.remaining reader.old) (λ input.
-        Appends (W.contents writer.old) (W.contents writer.new) (run_text docket input)
-        × (end.lines ≡ length (lines_of input))
-        × (end.bad ≡ bad_answers docket input)
-        × StandsAs S.Store clerk.new (docket_after docket input))) }
+        TellsAll line_judged (StandsAs S.Store clerk.new) docket (lines_of input) (W.contents writer.old) (W.contents writer.new) end)) }
     ensures trust { HasCleanDisk (state S.Store clerk.new.conn) → HasCleanDisk (state S.Store clerk.old.conn) }
     ensures front { OnErr result ((docket : Docket) → StandsAs S.Store clerk.old docket
         → HasCleanDisk (state S.Store clerk.new.conn) → IfSome (R.remaining reader.old) (λ input.

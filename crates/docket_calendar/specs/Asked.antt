@@ -10,7 +10,7 @@ use Rattle.sqlite.specs.Listing.{understood, reads_listing}
 use Rattle.sqlite_resolve.specs.declared.compiled.Compiled.{Compiled}
 use Rattle.sqlite_resolve.specs.declared.error.CompileError.{CompileError}
 use Rattle.sqlite.specs.Store.{Ghosts}
-use Rattle.sqlite.specs.State.{IsUnchanged, IsRolledBack, Fails}
+use Rattle.sqlite.specs.State.{HasCleanDisk, IsUnchanged, IsRolledBack, Fails}
 use Rattle.sqlite.specs.Held.{Held, state}
 use Rattle.court_days.specs.Calendar.{Entered}
 use Rattle.court_days.specs.Court.{CourtSettings}
@@ -39,6 +39,12 @@ module _ {S : Type 0} (g : Ghosts S) where
   -- the question is asked, and the rows of so many of the deadlines were given
   abbrev pub Gave : List ℕ → Row → CourtSettings → List DueRow → ℕ → Held S → Type 0
   Gave sql params court listed n h = HasGiven g sql params h (map (due_cells court) (take n listed)) × (n ≤ length listed)
+
+  -- this is so of whatever question lists deadlines, where the rows of so many of them were given, unless the disk was not honest
+  abbrev pub OfAsked : CourtSettings → Entered → ℕ → Held S → Held S → (List ℕ → Row → List DueRow → Type 0) → Type 0
+  OfAsked court entered n old new P =
+      (sql : List ℕ) (params : Row) (listed : List DueRow) → HasCleanDisk (state g new) → Lists sql params court entered (state g old).now listed
+      → Gave sql params court listed n old → P sql params listed
 
   -- what the next row comes to
   abbrev pub Next : List ℕ → Row → CourtSettings → List DueRow → ℕ → Held S → Held S → Result (Option DueRow) ReadFault → Type 0

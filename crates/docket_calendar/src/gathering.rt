@@ -3,7 +3,6 @@ ghost use Rattle.std.specs.Prelude.{◌≡◌, ◌≤◌, false, ℕ, List, IfEr
 ghost use Rattle.sqlite.specs.Given.{IsPlain};
 ghost use Rattle.sqlite.specs.Held.{state};
 ghost use Rattle.sqlite.specs.Listing.{understood};
-ghost use Rattle.sqlite.specs.Order.{Row as Cells};
 ghost use Rattle.sqlite.specs.State.{HasCleanDisk, Survives};
 ghost use Rattle.sqlite.specs.Values.{bound};
 ghost use Rattle.sqlite.specs.View.{doubt};
@@ -15,7 +14,7 @@ ghost use Rattle.docket_tables.specs.Causes.{IsCausedFault};
 ghost use Rattle.docket_tables.specs.Layouts.{Rows as Stored};
 ghost use Rattle.docket_tables.specs.Readings.{Gives, Stays};
 ghost use Rattle.docket_tables.specs.Stands.{HoldsRows};
-ghost use Rattle.docket_calendar.specs.Asked.{Lists, Gave, RemainsAfter};
+ghost use Rattle.docket_calendar.specs.Asked.{Lists, OfAsked, RemainsAfter};
 ghost use Rattle.docket_calendar.specs.Calendar.{calendar_rows};
 ghost use Rattle.docket_calendar.specs.Gathering.{ComesTo};
 ghost use Rattle.docket_calendar.specs.Question.{question, days_asked};
@@ -44,12 +43,9 @@ fn gather_all<S: Alter>(
     ensures cause { HasCleanDisk (state S.Store rows.new.conn.now) → IsUnderWay S.Store rows.old.conn.now
         → IfErr result (IsCausedFault (state S.Store rows.old.conn.now) (state S.Store rows.new.conn.now)) }
     ensures remains { HasCleanDisk (state S.Store rows.new.conn.now) → IsTrue (state S.Store rows.old.conn.now).is_open → RemainsAfter S.Store rows.old.conn.now rows.new.conn.now result }
-    ensures gathers { (sql : List ℕ) (params : Cells) (listed : List Due)
-        → HasCleanDisk (state S.Store rows.new.conn.now)
-        → Lists sql params court.now entered.now (state S.Store rows.old.conn.now).now listed
-        → Gave S.Store sql params court.now listed 0 rows.old.conn.now
-        → IsTrue (state S.Store rows.old.conn.now).is_open
-        → ComesTo S.Store rows.old.conn.now rows.new.conn.now (λ found. found.items ≡ listed) result }
+    ensures gathers { OfAsked S.Store court.now entered.now 0 rows.old.conn.now rows.new.conn.now
+        (λ sql params listed. IsTrue (state S.Store rows.old.conn.now).is_open
+        → ComesTo S.Store rows.old.conn.now rows.new.conn.now (λ found. found.items ≡ listed) result) }
 {
     let mut found = Vec::new(alloc);
     'rows: for _ in 0..u32::MAX {

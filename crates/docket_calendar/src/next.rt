@@ -1,11 +1,9 @@
 //! The rows of the question, one at a time.
-ghost use Rattle.std.specs.Prelude.{◌≡◌, false, ℕ, List, IfSome, MatchResult};
-ghost use Rattle.sqlite.specs.Order.{Row as Cells};
+ghost use Rattle.std.specs.Prelude.{◌≡◌, false, ℕ, IfSome, MatchResult};
 ghost use Rattle.sqlite.specs.Held.{state};
 ghost use Rattle.sqlite.specs.State.{HasCleanDisk, Survives};
-ghost use Rattle.docket_history.specs.declared.record.DueRow.{DueRow as Due};
 ghost use Rattle.docket_tables.specs.Causes.{IsCausedFault};
-ghost use Rattle.docket_calendar.specs.Asked.{Lists, Gave, Next, RemainsAfter};
+ghost use Rattle.docket_calendar.specs.Asked.{Next, OfAsked, RemainsAfter};
 ghost use Rattle.docket_calendar.specs.Stops.{IsUnderWay};
 
 use crate::row::due_of;
@@ -29,11 +27,8 @@ pub(crate) fn next_due<S: Alter>(
     ensures cause { HasCleanDisk (state S.Store rows.new.conn.now) → IsUnderWay S.Store rows.old.conn.now
         → MatchResult result (λ due. IfSome due (λ _. IsUnderWay S.Store rows.new.conn.now)) (IsCausedFault (state S.Store rows.old.conn.now) (state S.Store rows.new.conn.now)) }
     ensures remains { HasCleanDisk (state S.Store rows.new.conn.now) → RemainsAfter S.Store rows.old.conn.now rows.new.conn.now result }
-    ensures next { (sql : List ℕ) (params : Cells) (listed : List Due) (n : ℕ)
-        → HasCleanDisk (state S.Store rows.new.conn.now)
-        → Lists sql params court.now entered.now (state S.Store rows.old.conn.now).now listed
-        → Gave S.Store sql params court.now listed n rows.old.conn.now
-        → Next S.Store sql params court.now listed n rows.old.conn.now rows.new.conn.now result }
+    ensures next { (n : ℕ) → OfAsked S.Store court.now entered.now n rows.old.conn.now rows.new.conn.now
+        (λ sql params listed. Next S.Store sql params court.now listed n rows.old.conn.now rows.new.conn.now result) }
 {
     rows.advance()?;
     let Some(row) = rows.get() else {

@@ -1,13 +1,10 @@
 //! The lines of a calendar, each written before the next row is read.
-ghost use Rattle.std.specs.Prelude.{◌≡◌, ◌++◌, false, ℕ, List, [], IfOk, IfErr, IsTrue, Ok, Err, string_bytes, MatchResult};
-ghost use Rattle.std.specs.Option.{option_copied};
+ghost use Rattle.std.specs.Prelude.{◌≡◌, ◌++◌, false, [], IfOk, IfErr, IsTrue, Ok, Err, string_bytes, MatchResult};
 ghost use Rattle.std.specs.Io.KnownBytes.{Appends};
-ghost use Rattle.sqlite.specs.Order.{Row as Cells};
 ghost use Rattle.sqlite.specs.Held.{state};
 ghost use Rattle.sqlite.specs.State.{HasCleanDisk, Survives};
-ghost use Rattle.docket_history.specs.declared.record.DueRow.{DueRow as Due};
 ghost use Rattle.line_io.specs.Output.{HasFront};
-ghost use Rattle.docket_calendar.specs.Asked.{Lists, Gave};
+ghost use Rattle.docket_calendar.specs.Asked.{OfAsked};
 ghost use Rattle.docket_calendar.specs.Sending.{opening, text_at, Remains, SendsNext, SendsAll};
 ghost use Rattle.docket_calendar.specs.Stops.{IsCausedStop, IsStopAt, IsUnderWay};
 
@@ -86,11 +83,9 @@ fn send_next<S: Alter, W: Write>(
     ensures cause { HasCleanDisk (state S.Store rows.new.conn.now) → IsUnderWay S.Store rows.old.conn.now
         → MatchResult result (λ more. IsTrue more → IsUnderWay S.Store rows.new.conn.now) (IsCausedStop (state S.Store rows.old.conn.now) (state S.Store rows.new.conn.now)) }
     ensures remains { HasCleanDisk (state S.Store rows.new.conn.now) → Remains S.Store rows.old.conn.now rows.new.conn.now result }
-    ensures sends { (sql : List ℕ) (params : Cells) (listed : List Due)
-        → HasCleanDisk (state S.Store rows.new.conn.now)
-        → Lists sql params court.now entered.now (state S.Store rows.old.conn.now).now listed
-        → Gave S.Store sql params court.now listed lines rows.old.conn.now
-        → SendsNext S.Store sql params court.now listed lines front.now (W.contents writer.old) (W.contents writer.new) rows.old.conn.now rows.new.conn.now result }
+    ensures sends { OfAsked S.Store court.now entered.now lines rows.old.conn.now rows.new.conn.now
+        (λ sql params listed. SendsNext S.Store sql params court.now listed lines front.now (W.contents writer.old) (W.contents writer.new)
+        rows.old.conn.now rows.new.conn.now result) }
 {
     let due = match next_due(alloc, court, entered, rows) {
         Ok(due) => due,
@@ -121,12 +116,9 @@ pub(crate) fn send_all<S: Alter, W: Write>(
     ensures cause { HasCleanDisk (state S.Store rows.new.conn.now) → IsUnderWay S.Store rows.old.conn.now
         → IfErr result (IsCausedStop (state S.Store rows.old.conn.now) (state S.Store rows.new.conn.now)) }
     ensures remains { HasCleanDisk (state S.Store rows.new.conn.now) → IsTrue (state S.Store rows.old.conn.now).is_open → Remains S.Store rows.old.conn.now rows.new.conn.now result }
-    ensures sends { (sql : List ℕ) (params : Cells) (listed : List Due)
-        → HasCleanDisk (state S.Store rows.new.conn.now)
-        → Lists sql params court.now entered.now (state S.Store rows.old.conn.now).now listed
-        → Gave S.Store sql params court.now listed 0 rows.old.conn.now
-        → IsTrue (state S.Store rows.old.conn.now).is_open
-        → SendsAll S.Store court.now listed front.now (W.contents writer.old) (W.contents writer.new) rows.old.conn.now rows.new.conn.now result }
+    ensures sends { OfAsked S.Store court.now entered.now 0 rows.old.conn.now rows.new.conn.now
+        (λ sql params listed. IsTrue (state S.Store rows.old.conn.now).is_open
+        → SendsAll S.Store court.now listed front.now (W.contents writer.old) (W.contents writer.new) rows.old.conn.now rows.new.conn.now result) }
 {
     'rows: for lines in 0..u32::MAX {
         let front = opening(front, lines);

@@ -2,23 +2,19 @@
 use Rattle.std.proofs.Common.{◌≡◌, ◌∙◌, ◌≤◌, ◌<◌, inl, inr, ◌==◌, ◌&&◌, ℕ, zero, suc, Bool, true, false, cond, nat_lt, List, [], ◌∷◌, length, refl, ap, arith, length-append}
 use Rattle.std.proofs.lemmas.Bool.Decides.{nat_tests}
 use Rattle.std.proofs.lemmas.List.{length-map}
-use Rattle.std.proofs.lemmas.List.Elements.{All-nil}
 use Rattle.court_days.specs.Calendar.{Entered}
 use Rattle.court_days.specs.Court.{CourtSettings, zone_of}
-use Rattle.court_rules.specs.Standings.{AreActs}
 use Rattle.court_rules.specs.declared.act.Act.{Act}
 use Rattle.docket_command.specs.declared.command.Command.{Command}
 use Rattle.docket_decisions.specs.Additions.{GetsAct}
 use Rattle.docket_decisions.specs.EndMoves.{Follows}
 use Rattle.docket_decisions.specs.Outcomes.{IsHistory}
 use Rattle.docket_decisions.specs.Tables.{Tables, rows_of, changed, all_changed}
-use Rattle.docket_history.specs.CalendarItems.{IsEnteredItem}
 use Rattle.docket_history.specs.Histories.{History, standing_rows, deadline_rows, act_rows, deadlines_of_case, acts_of_deadline}
 use Rattle.docket_history.specs.declared.row.ActRow.{ActRow}
 use Rattle.docket_history.specs.declared.row.CalendarRow.{CalendarRow}
 use Rattle.docket_history.specs.declared.row.Change.{Change}
 use Rattle.docket_history.specs.declared.row.Change.TheVariants.{AddAct}
-use Rattle.docket_history.specs.declared.view.DeadlineView.{DeadlineView}
 use Rattle.docket_decisions.proofs.ActsKept.{acts_more}
 use Rattle.docket_decisions.proofs.Leading.{length-deadlines_from}
 use Rattle.docket_decisions.proofs.LimitsKept.{all_kept, within_limits, lawful_deadlines}
@@ -30,15 +26,8 @@ use Rattle.docket_changes.specs.Sound.{AreSound}
 pub sound_docket : (court : CourtSettings) (h : History) → IsHistory court h → AreSound court (rows_of court h)
 sound_docket court h is =
     let within = within_limits court h is in record {
-      calendar = record {
-        entered = within.items;
-        rows = omega (arith, length-map (standing_rows h) (λ (row : CalendarRow). row.item), within.rows);
-        few = omega arith;
-        acts = All-nil (λ (d : DeadlineView). AreActs (zone_of court) d.acts);
-      };
+      calendar = (within.items, omega (arith, length-map (standing_rows h) (λ (row : CalendarRow). row.item), within.rows));
       cases = λ k. record {
-        entered = All-nil IsEnteredItem;
-        rows = omega arith;
         few = omega (arith, length-deadlines_from k 1 (act_rows h) (deadlines_of_case k (deadline_rows h)), within.deadlines k);
         acts = lawful_deadlines court h within k;
       };

@@ -141,17 +141,12 @@ items_passed items all = all_passed is_entered_item IsEnteredItem item_passed it
 pub lawful_passed : (court : CourtSettings) (v : View) → IsSoundView court v → is_lawful (zone_of court) (deadline_shown v) ≡ true
 lawful_passed court v is = passed_if (zone_of court) (deadline_shown v) is.acts
 
-module _ (court : CourtSettings) (items : List CalendarItem) (ds : List DeadlineView) where
-  pub case_told : length items ≤ 4000 → length ds ≤ 1000 → list_all is_entered_item items ≡ true → are_lawful (zone_of court) ds ≡ true → IsSoundCase court items ds
-  case_told rows few entered lawful = record {
-    entered = items_told items entered;
-    rows = rows;
+module _ (court : CourtSettings) (ds : List DeadlineView) where
+  pub case_told : length ds ≤ 1000 → are_lawful (zone_of court) ds ≡ true → IsSoundCase court ds
+  case_told few lawful = record {
     few = few;
     acts = all_told (λ (d : DeadlineView). are_acts (zone_of court) d.acts) (λ (d : DeadlineView). AreActs (zone_of court) d.acts) (acts_told (zone_of court)) ds lawful;
   }
 
-  pub case_items_passed : IsSoundCase court items ds → list_all is_entered_item items ≡ true
-  case_items_passed is = items_passed items is.entered
-
-  pub case_acts_passed : IsSoundCase court items ds → are_lawful (zone_of court) ds ≡ true
-  case_acts_passed is = all_passed (λ (d : DeadlineView). are_acts (zone_of court) d.acts) (λ (d : DeadlineView). AreActs (zone_of court) d.acts) (acts_passed (zone_of court)) ds is.acts
+  pub case_passed : IsSoundCase court ds → are_lawful (zone_of court) ds ≡ true
+  case_passed is = all_passed (λ (d : DeadlineView). are_acts (zone_of court) d.acts) (λ (d : DeadlineView). AreActs (zone_of court) d.acts) (acts_passed (zone_of court)) ds is.acts

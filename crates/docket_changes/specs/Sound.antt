@@ -1,5 +1,5 @@
 -- What is tested of a view that was read from a database.
-use Rattle.std.specs.Prelude.{nat_le, nat_lt, ◌≤◌, ◌&&◌, ℕ, Bool, true, List, [], length, Option, Some, None}
+use Rattle.std.specs.Prelude.{nat_le, nat_lt, ◌≤◌, ◌&&◌, ℕ, Bool, true, List, length, Option, Some, None}
 use Rattle.std.specs.List.{All, list_all}
 use Rattle.civil_time.specs.LocalTime.{local_day, seconds}
 use Rattle.civil_time.specs.Zone.{ZoneRules}
@@ -53,15 +53,12 @@ is_lawful zone (Some d) = are_acts zone d.acts
 abbrev pub IsSoundCalendar : List CalendarItem → Type 0
 IsSoundCalendar items = All IsEnteredItem items × (length items ≤ 4000)
 
--- so it is, and the deadlines of a case have lawful acts, at most 1,000
--- deadlines
-pub record IsSoundCase (court : CourtSettings) (items : List CalendarItem) (deadlines : List DeadlineView) : Type 0 where
-  pub entered : All IsEnteredItem items
-  pub rows : length items ≤ 4000
+-- the deadlines of a case, at most 1,000 of them, have lawful acts
+pub record IsSoundCase (court : CourtSettings) (deadlines : List DeadlineView) : Type 0 where
   pub few : length deadlines ≤ 1000
   pub acts : All (λ d. AreActs (zone_of court) d.acts) deadlines
 
 -- the calendar of the tables is sound so, and so are the deadlines of each case
 pub record AreSound (court : CourtSettings) (t : Tables) : Type 0 where
-  pub calendar : IsSoundCase court (items_of t.calendar) []
-  pub cases : (k : ℕ) → IsSoundCase court [] (deadlines_in t k)
+  pub calendar : IsSoundCalendar (items_of t.calendar)
+  pub cases : (k : ℕ) → IsSoundCase court (deadlines_in t k)

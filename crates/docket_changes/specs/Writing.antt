@@ -1,19 +1,43 @@
 -- What may be written of a command, in one transaction.
-use Rattle.std.specs.Prelude.{List}
+use Rattle.std.specs.Prelude.{ℕ, List, MatchResult, Result}
 use Rattle.std.specs.List.{AllByRecursion}
+use Rattle.sqlite.specs.Held.{Held, state}
+use Rattle.sqlite.specs.State.{HasCleanDisk}
+use Rattle.sqlite.specs.Store.{Ghosts}
 use Rattle.court_days.specs.Court.{CourtSettings}
 use Rattle.docket_columns.specs.Cells.{receipt_cells}
 use Rattle.docket_command.specs.declared.command.Command.{Command}
-use Rattle.docket_command.specs.declared.refusal.Reply.{Reply}
 use Rattle.docket_decisions.specs.Additions.{AddsOnce, AddsAmong}
-use Rattle.docket_decisions.specs.Tables.{Tables, all_changed, with_receipt}
+use Rattle.docket_decisions.specs.Tables.{Tables}
+use Rattle.docket_decisions.specs.declared.decision.Changes.{Changes}
 use Rattle.docket_decisions.specs.declared.end_row.EndRow.{EndRow}
-use Rattle.docket_history.specs.declared.row.Change.{Change}
 use Rattle.docket_orderly.specs.Additions.{HasDeadline, MayAddAll, MayReceive}
 use Rattle.docket_tables.specs.Additions.{AreStorable, values_added}
+use Rattle.docket_tables.specs.AnyRows.{with_stored}
+use Rattle.docket_tables.specs.Changing.{rows_changed, with_changes}
+use Rattle.docket_tables.specs.Contents.{rows_with}
+use Rattle.docket_tables.specs.Layouts.{Rows}
+use Rattle.docket_tables.specs.Stands.{HoldsRows, LastsAsEither}
+use Rattle.docket_changes.specs.Settling.{updated_ends}
 use Rattle.docket_changes.specs.Sound.{AreSound}
 use Rattle.docket_changes.specs.declared.moving.EndUpdate.{EndUpdate}
 use Rattle.docket_changes.specs.declared.moving.EndUpdate.TheVariants.{Moves, Calendar}
+
+-- the rows of the tables with what a command changes, and with the stored ends brought up to date by them
+abbrev pub written : CourtSettings → EndUpdate → Command → Changes → Tables → List EndRow → Rows
+written court update c changes t ends = rows_with court (with_changes c changes t) (updated_ends court update (with_changes c changes t) ends)
+
+-- any rows with the same changes, and with these ends
+abbrev pub recorded_with : CourtSettings → ℕ → Command → Changes → List EndRow → Rows → Rows
+recorded_with court next c changes ends rows = with_stored ends (rows_changed court next c changes rows)
+
+-- this is so unless the disk was not honest
+abbrev pub IfClean : {S : Type 0} → Ghosts S → Held S → Type 0 → Type 0
+IfClean g conn P = HasCleanDisk (state g conn) → P
+
+-- it was written; or it was not, and a power failure may leave either
+abbrev pub Writes : {S E : Type 0} → Ghosts S → Held S → Rows → Rows → Result (Unit {0}) E → Type 0
+Writes g conn rows next result = MatchResult result (λ _. HoldsRows g conn next) (λ _. LastsAsEither g conn rows next)
 
 -- where the changes of ends are given, each that is added is of a deadline that stands and has none then; where they follow from the
 -- calendar, nothing is asked of them
@@ -23,10 +47,10 @@ MayAddEnds (Calendar cases) t ends = Unit {0}
 
 -- The rows that a command adds may stand, with its receipt and the ends that are added then, and all can be stored; the tables that
 -- it leaves are sound.
-pub record MayWrite (court : CourtSettings) (update : EndUpdate) (c : Command) (changes : List Change) (reply : Reply) (t : Tables) (stored : List EndRow) : Type 0 where
-  pub added : MayAddAll changes t
+pub record MayWrite (court : CourtSettings) (update : EndUpdate) (c : Command) (changes : Changes) (t : Tables) (stored : List EndRow) : Type 0 where
+  pub added : MayAddAll changes.rows.items t
   pub received : MayReceive c t
-  pub storable : AllByRecursion (λ x. AreStorable (values_added x)) changes
-  pub kept : AreStorable (receipt_cells (record { command = c; reply = reply }))
-  pub ends : MayAddEnds update (with_receipt c reply (all_changed changes t)) stored
-  pub sound : AreSound court (with_receipt c reply (all_changed changes t))
+  pub storable : AllByRecursion (λ x. AreStorable (values_added x)) changes.rows.items
+  pub kept : AreStorable (receipt_cells (record { command = c; reply = changes.reply }))
+  pub ends : MayAddEnds update (with_changes c changes t) stored
+  pub sound : AreSound court (with_changes c changes t)

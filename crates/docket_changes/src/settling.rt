@@ -1,5 +1,5 @@
 //! The stored ends of deadlines, changed inside a transaction: by changes, or case by case.
-ghost use Rattle.std.specs.Prelude.{◌≡◌, ◌≤◌, ◌++◌, ℕ, List, [], length, IfErr, IfOk, IsPermutation};
+ghost use Rattle.std.specs.Prelude.{◌≡◌, ◌≤◌, ◌++◌, List, length, IfErr, IfOk, IsPermutation};
 ghost use Rattle.std.specs.List.{AllByRecursion};
 ghost use Rattle.sqlite.specs.Held.{state};
 ghost use Rattle.sqlite.specs.State.{HasCleanDisk};
@@ -17,14 +17,14 @@ ghost use Rattle.docket_tables.specs.Layouts.{Rows};
 ghost use Rattle.docket_orderly.specs.Orderly.{IsOrderly};
 ghost use Rattle.docket_tables.specs.Causes.{IsChangeFault, IsReadingFault};
 ghost use Rattle.docket_tables.specs.declared.fault.ReadFault.TheVariants.{NoMemory};
-ghost use Rattle.docket_changes.specs.Sound.{AreSound, IsSoundCase};
+ghost use Rattle.docket_changes.specs.Sound.{AreSound, IsSoundCalendar, IsSoundCase};
 ghost use Rattle.docket_changes.specs.Writing.{MayAddEnds};
-ghost use Rattle.docket_changes.specs.Settling.{RunsOnlyWhereStored, MayLeave, MayUpdate, settled_case, settled_cases, updated_ends};
-ghost use Rattle.docket_tables.specs.Stands.{Inside, Sees};
+ghost use Rattle.docket_changes.specs.Settling.{EachIsStored, EachRunsWhereStored, FailsOnlyFor, Leads, RunsOnlyWhereStored, MayLeave, MayUpdate, settled_case, settled_cases, updated_ends};
+ghost use Rattle.docket_tables.specs.Stands.{Inside};
 
 use crate::gathering::{items_of, with_acts};
 use crate::moving::EndUpdate;
-use crate::sound::is_sound_case;
+use crate::sound::{is_sound_calendar, is_sound_case};
 use court_days::{Calendar, Court};
 use docket_decisions::{EndChange, EndRow, due_changes};
 use docket_history::{CalendarRow, DeadlineView, calendar_of};
@@ -45,7 +45,7 @@ fn views_of_case<S: Alter>(
         (λ found. found.items ≡ deadlines_from case 1 t.acts (deadlines_of_case case t.deadlines)) }
     ensures still { (rows : Rows) → Inside (state S.Store tx.old.conn.now) (state S.Store tx.new.conn.now) rows rows result (λ _. Unit {0}) }
     ensures cause { HasCleanDisk (state S.Store tx.new.conn.now) → (court : CourtSettings) (t : Tables) (ends : List Ended) → IsOrderly court t
-        → Sees (state S.Store tx.old.conn.now) (rows_with court t ends) → IfErr result (IsReadingFault (state S.Store tx.old.conn.now) (state S.Store tx.new.conn.now)) }
+        → FailsOnlyFor IsReadingFault (state S.Store tx.old.conn.now) (state S.Store tx.new.conn.now) (rows_with court t ends) result }
 {
     let rows = inside::deadlines_of_case(tx, alloc, case)?;
     let acts = inside::acts_of_case(tx, alloc, case)?;
@@ -65,9 +65,9 @@ fn changes_of_case(
         → IfOk result (λ changes. IsPermutation (all_changed_ends changes.items (others ++ stored.now)) (others ++ end_rows_from case 1 (ends_running (zone_of court.now) calendar.now deadlines.now))) }
     ensures once { (others : List Ended) → AllByRecursion (IsElsewhere case 1) others → AreRowsFrom case 1 stored.now
         → IfOk result (λ changes. AddsOnce changes.items (others ++ stored.now) × AddsAmong (λ k n. (k ≡ case) × (1 ≤ n) × (n ≤ length deadlines.now)) changes.items) }
-    ensures short { IsSoundCase court.now [] deadlines.now → IfErr result (λ fault. fault ≡ NoMemory) }
+    ensures short { IsSoundCase court.now deadlines.now → IfErr result (λ fault. fault ≡ NoMemory) }
 {
-    if !is_sound_case(court, &[], deadlines) {
+    if !is_sound_case(court, deadlines) {
         return Err(ReadFault::Damaged);
     }
     Ok(due_changes(alloc, court, calendar, case, deadlines, stored)?)
@@ -85,12 +85,12 @@ fn settle_case<S: Alter>(
     ensures same_reference { tx.new.conn.ghost_name ≡ tx.old.conn.ghost_name }
     ensures clean { doubt (state S.Store tx.old.conn.now).is_clean ≤ doubt (state S.Store tx.new.conn.now).is_clean }
     ensures inside { (t : Tables) (ends : List Ended) → IsOrderly court.now t → AreStored case ends → RunsOnlyWhereStored court.now t ends case
-        → Inside (state S.Store tx.old.conn.now) (state S.Store tx.new.conn.now) (rows_with court.now t ends) (rows_with court.now t (settled_case court.now calendar.now t case ends)) result (λ _. Unit {0}) }
+        → Leads (state S.Store tx.old.conn.now) (state S.Store tx.new.conn.now) (rows_with court.now t ends) (rows_with court.now t (settled_case court.now calendar.now t case ends)) result }
     ensures any { (stored : List Ended) (rows : Rows) → (next : List Ended)
-        × Inside (state S.Store tx.old.conn.now) (state S.Store tx.new.conn.now) (with_stored stored rows) (with_stored next rows) result (λ _. Unit {0}) }
+        × Leads (state S.Store tx.old.conn.now) (state S.Store tx.new.conn.now) (with_stored stored rows) (with_stored next rows) result }
     // Of a docket whose tables are sound it fails only for a cause.
     ensures cause { HasCleanDisk (state S.Store tx.new.conn.now) → (t : Tables) (ends : List Ended) → IsOrderly court.now t → AreSound court.now t → AreStored case ends
-        → Sees (state S.Store tx.old.conn.now) (rows_with court.now t ends) → IfErr result (IsChangeFault (state S.Store tx.old.conn.now) (state S.Store tx.new.conn.now)) }
+        → FailsOnlyFor IsChangeFault (state S.Store tx.old.conn.now) (state S.Store tx.new.conn.now) (rows_with court.now t ends) result }
 {
     let stored = inside::ends_of_case(tx, alloc, case)?;
     if stored.is_empty() {
@@ -118,12 +118,12 @@ fn settle_cases<S: Alter>(
 ) -> Result<(), ReadFault>
     ensures same_reference { tx.new.conn.ghost_name ≡ tx.old.conn.ghost_name }
     ensures clean { doubt (state S.Store tx.old.conn.now).is_clean ≤ doubt (state S.Store tx.new.conn.now).is_clean }
-    ensures inside { (t : Tables) (ends : List Ended) → IsOrderly court.now t → ((k : ℕ) → AreStored k ends) → ((k : ℕ) → RunsOnlyWhereStored court.now t ends k)
-        → Inside (state S.Store tx.old.conn.now) (state S.Store tx.new.conn.now) (rows_with court.now t ends) (rows_with court.now t (settled_cases court.now calendar.now t cases ends)) result (λ _. Unit {0}) }
+    ensures inside { (t : Tables) (ends : List Ended) → IsOrderly court.now t → EachIsStored ends → EachRunsWhereStored court.now t ends
+        → Leads (state S.Store tx.old.conn.now) (state S.Store tx.new.conn.now) (rows_with court.now t ends) (rows_with court.now t (settled_cases court.now calendar.now t cases ends)) result }
     ensures any { (stored : List Ended) (rows : Rows) → (next : List Ended)
-        × Inside (state S.Store tx.old.conn.now) (state S.Store tx.new.conn.now) (with_stored stored rows) (with_stored next rows) result (λ _. Unit {0}) }
-    ensures cause { HasCleanDisk (state S.Store tx.new.conn.now) → (t : Tables) (ends : List Ended) → IsOrderly court.now t → AreSound court.now t → ((k : ℕ) → AreStored k ends) → ((k : ℕ) → RunsOnlyWhereStored court.now t ends k)
-        → Sees (state S.Store tx.old.conn.now) (rows_with court.now t ends) → IfErr result (IsChangeFault (state S.Store tx.old.conn.now) (state S.Store tx.new.conn.now)) }
+        × Leads (state S.Store tx.old.conn.now) (state S.Store tx.new.conn.now) (with_stored stored rows) (with_stored next rows) result }
+    ensures cause { HasCleanDisk (state S.Store tx.new.conn.now) → (t : Tables) (ends : List Ended) → IsOrderly court.now t → AreSound court.now t → EachIsStored ends → EachRunsWhereStored court.now t ends
+        → FailsOnlyFor IsChangeFault (state S.Store tx.old.conn.now) (state S.Store tx.new.conn.now) (rows_with court.now t ends) result }
 {
     'cases: for done in 0..cases {
         settle_case(tx, alloc, court, calendar, done + 1)?;
@@ -132,16 +132,12 @@ fn settle_cases<S: Alter>(
 }
 
 /// The calendar of rows, which a court may enter.
-fn calendar_of_rows(
-    alloc: Global,
-    court: &Court,
-    rows: &[CalendarRow],
-) -> Result<Calendar, ReadFault>
+fn calendar_of_rows(alloc: Global, rows: &[CalendarRow]) -> Result<Calendar, ReadFault>
     ensures calendar { IfOk result (λ calendar. calendar ≡ calendar_of (items_of rows.now)) }
-    ensures short { IsSoundCase court.now (items_of rows.now) [] → IfErr result (λ fault. fault ≡ NoMemory) }
+    ensures short { IsSoundCalendar (items_of rows.now) → IfErr result (λ fault. fault ≡ NoMemory) }
 {
     let items = items_of(alloc, rows)?;
-    if !is_sound_case(court, items.as_slice(), &[]) {
+    if !is_sound_calendar(items.as_slice()) {
         return Err(ReadFault::Damaged);
     }
     Ok(calendar_of(alloc, items.as_slice())?)
@@ -151,18 +147,17 @@ fn calendar_of_rows(
 fn calendar_standing<S: Alter>(
     tx: &mut Transaction<'_, S>,
     alloc: Global,
-    court: &Court,
 ) -> Result<Calendar, ReadFault>
     ensures same_reference { tx.new.conn.ghost_name ≡ tx.old.conn.ghost_name }
     ensures clean { doubt (state S.Store tx.old.conn.now).is_clean ≤ doubt (state S.Store tx.new.conn.now).is_clean }
-    ensures inside { (t : Tables) (ends : List Ended) → IsOrderly court.now t
-        → Inside (state S.Store tx.old.conn.now) (state S.Store tx.new.conn.now) (rows_with court.now t ends) (rows_with court.now t ends) result (λ calendar. calendar ≡ calendar_in t) }
+    ensures inside { (court : CourtSettings) (t : Tables) (ends : List Ended) → IsOrderly court t
+        → Inside (state S.Store tx.old.conn.now) (state S.Store tx.new.conn.now) (rows_with court t ends) (rows_with court t ends) result (λ calendar. calendar ≡ calendar_in t) }
     ensures still { (rows : Rows) → Inside (state S.Store tx.old.conn.now) (state S.Store tx.new.conn.now) rows rows result (λ _. Unit {0}) }
-    ensures cause { HasCleanDisk (state S.Store tx.new.conn.now) → (t : Tables) (ends : List Ended) → IsOrderly court.now t → AreSound court.now t
-        → Sees (state S.Store tx.old.conn.now) (rows_with court.now t ends) → IfErr result (IsReadingFault (state S.Store tx.old.conn.now) (state S.Store tx.new.conn.now)) }
+    ensures cause { HasCleanDisk (state S.Store tx.new.conn.now) → (court : CourtSettings) (t : Tables) (ends : List Ended) → IsOrderly court t → AreSound court t
+        → FailsOnlyFor IsReadingFault (state S.Store tx.old.conn.now) (state S.Store tx.new.conn.now) (rows_with court t ends) result }
 {
     let rows = inside::calendar(tx, alloc)?;
-    calendar_of_rows(alloc, court, rows.as_slice())
+    calendar_of_rows(alloc, rows.as_slice())
 }
 
 /// Brings the ends of the first cases up to date by the calendar that stands.
@@ -174,14 +169,14 @@ fn settle_by_rows<S: Alter>(
 ) -> Result<(), ReadFault>
     ensures same_reference { tx.new.conn.ghost_name ≡ tx.old.conn.ghost_name }
     ensures clean { doubt (state S.Store tx.old.conn.now).is_clean ≤ doubt (state S.Store tx.new.conn.now).is_clean }
-    ensures inside { (t : Tables) (ends : List Ended) → IsOrderly court.now t → ((k : ℕ) → AreStored k ends) → ((k : ℕ) → RunsOnlyWhereStored court.now t ends k)
-        → Inside (state S.Store tx.old.conn.now) (state S.Store tx.new.conn.now) (rows_with court.now t ends) (rows_with court.now t (settled_cases court.now (calendar_in t) t cases ends)) result (λ _. Unit {0}) }
+    ensures inside { (t : Tables) (ends : List Ended) → IsOrderly court.now t → EachIsStored ends → EachRunsWhereStored court.now t ends
+        → Leads (state S.Store tx.old.conn.now) (state S.Store tx.new.conn.now) (rows_with court.now t ends) (rows_with court.now t (settled_cases court.now (calendar_in t) t cases ends)) result }
     ensures any { (stored : List Ended) (rows : Rows) → (next : List Ended)
-        × Inside (state S.Store tx.old.conn.now) (state S.Store tx.new.conn.now) (with_stored stored rows) (with_stored next rows) result (λ _. Unit {0}) }
-    ensures cause { HasCleanDisk (state S.Store tx.new.conn.now) → (t : Tables) (ends : List Ended) → IsOrderly court.now t → AreSound court.now t → ((k : ℕ) → AreStored k ends) → ((k : ℕ) → RunsOnlyWhereStored court.now t ends k)
-        → Sees (state S.Store tx.old.conn.now) (rows_with court.now t ends) → IfErr result (IsChangeFault (state S.Store tx.old.conn.now) (state S.Store tx.new.conn.now)) }
+        × Leads (state S.Store tx.old.conn.now) (state S.Store tx.new.conn.now) (with_stored stored rows) (with_stored next rows) result }
+    ensures cause { HasCleanDisk (state S.Store tx.new.conn.now) → (t : Tables) (ends : List Ended) → IsOrderly court.now t → AreSound court.now t → EachIsStored ends → EachRunsWhereStored court.now t ends
+        → FailsOnlyFor IsChangeFault (state S.Store tx.old.conn.now) (state S.Store tx.new.conn.now) (rows_with court.now t ends) result }
 {
-    let calendar = calendar_standing(tx, alloc, court)?;
+    let calendar = calendar_standing(tx, alloc)?;
     settle_cases(tx, alloc, court, &calendar, cases)
 }
 
@@ -195,11 +190,11 @@ pub(crate) fn update_ends<S: Alter>(
     ensures same_reference { tx.new.conn.ghost_name ≡ tx.old.conn.ghost_name }
     ensures clean { doubt (state S.Store tx.old.conn.now).is_clean ≤ doubt (state S.Store tx.new.conn.now).is_clean }
     ensures inside { (t : Tables) (ends : List Ended) → MayUpdate court.now update.now t ends
-        → Inside (state S.Store tx.old.conn.now) (state S.Store tx.new.conn.now) (rows_with court.now t ends) (rows_with court.now t (updated_ends court.now update.now t ends)) result (λ _. Unit {0}) }
+        → Leads (state S.Store tx.old.conn.now) (state S.Store tx.new.conn.now) (rows_with court.now t ends) (rows_with court.now t (updated_ends court.now update.now t ends)) result }
     ensures any { (stored : List Ended) (rows : Rows) → (next : List Ended) × MayLeave update.now stored next
-        × Inside (state S.Store tx.old.conn.now) (state S.Store tx.new.conn.now) (with_stored stored rows) (with_stored next rows) result (λ _. Unit {0}) }
+        × Leads (state S.Store tx.old.conn.now) (state S.Store tx.new.conn.now) (with_stored stored rows) (with_stored next rows) result }
     ensures cause { HasCleanDisk (state S.Store tx.new.conn.now) → (t : Tables) (ends : List Ended) → MayUpdate court.now update.now t ends → MayAddEnds update.now t ends → AreSound court.now t
-        → Sees (state S.Store tx.old.conn.now) (rows_with court.now t ends) → IfErr result (IsChangeFault (state S.Store tx.old.conn.now) (state S.Store tx.new.conn.now)) }
+        → FailsOnlyFor IsChangeFault (state S.Store tx.old.conn.now) (state S.Store tx.new.conn.now) (rows_with court.now t ends) result }
 {
     match update {
         EndUpdate::Moves(moves) => change_ends(tx, moves.as_slice()),

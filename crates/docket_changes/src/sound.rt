@@ -119,12 +119,12 @@ pub fn is_sound_calendar(items: &[CalendarItem]) -> bool
     are_entered_items(items)
 }
 
-/// Whether a history can show these deadlines of a case, beside a calendar of these items.
-pub fn is_sound_case(court: &Court, items: &[CalendarItem], deadlines: &[DeadlineView]) -> bool
-    ensures { IsTrue result ↔ IsSoundCase court.now items.now deadlines.now }
+/// Whether a history can show these deadlines of a case.
+pub fn is_sound_case(court: &Court, deadlines: &[DeadlineView]) -> bool
+    ensures { IsTrue result ↔ IsSoundCase court.now deadlines.now }
 {
-    if items.len() > MOST_ROWS || deadlines.len() > MOST_DEADLINES {
+    if deadlines.len() > MOST_DEADLINES {
         return false;
     }
-    are_entered_items(items) && are_lawful(court, deadlines)
+    are_lawful(court, deadlines)
 }

@@ -1,23 +1,24 @@
 //! All that a command changes, in one transaction.
-ghost use Rattle.std.specs.Prelude.{◌≡◌, ◌<◌, ◌≤◌, ◌+◌, ◌^◌, ℕ, List, length, false, IfErr, MatchResult};
-ghost use Rattle.docket_decisions.specs.Tables.{Tables, all_changed, with_receipt};
+ghost use Rattle.std.specs.Prelude.{◌≡◌, ◌≤◌, ℕ, List, false, IfErr};
+ghost use Rattle.docket_decisions.specs.Tables.{Tables};
 ghost use Rattle.docket_wire.specs.Writing.{canonical};
 ghost use Rattle.sqlite.specs.Held.{state};
 ghost use Rattle.sqlite.specs.State.{HasCleanDisk};
 ghost use Rattle.sqlite.specs.View.{doubt};
 ghost use Rattle.docket_decisions.specs.declared.end_row.EndRow.{EndRow as Ended};
-ghost use Rattle.docket_tables.specs.AnyRows.{AreDocketRows, recorded, with_stored};
+ghost use Rattle.docket_tables.specs.AnyRows.{AreDocketRows};
+ghost use Rattle.docket_tables.specs.Changing.{AreNumbered, with_changes};
 ghost use Rattle.docket_tables.specs.Contents.{rows_in, rows_with};
 ghost use Rattle.docket_tables.specs.Layouts.{Rows};
-ghost use Rattle.docket_tables.specs.Stands.{HoldsRows, Inside, LastsAsEither, Sees};
+ghost use Rattle.docket_tables.specs.Stands.{HoldsRows};
 ghost use Rattle.docket_decisions.specs.EndRows.{end_rows};
 ghost use Rattle.docket_tables.specs.Causes.{HasChangeCause, IsLater};
 ghost use Rattle.docket_tables.specs.declared.fault.ReadFault.TheVariants.{Store, NoMemory};
 ghost use Rattle.sqlite.specs.declared.error.Error.{Error as Failed};
 ghost use Rattle.sqlite.specs.declared.error.Error.TheVariants.{SqliteFailure};
 ghost use Rattle.sqlite.specs.declared.error.ErrorCode.TheVariants.{OutOfMemory};
-ghost use Rattle.docket_changes.specs.Writing.{MayWrite};
-ghost use Rattle.docket_changes.specs.Settling.{IsUpdate, MayLeave, MayUpdate, updated_ends};
+ghost use Rattle.docket_changes.specs.Settling.{FailsOnlyFor, IsUpdate, Leads, MayLeave, MayUpdate};
+ghost use Rattle.docket_changes.specs.Writing.{IfClean, MayWrite, Writes, recorded_with, written};
 
 use crate::moving::EndUpdate;
 use crate::settling::update_ends;
@@ -54,16 +55,16 @@ fn fill<S: Alter>(
     requires body { body.now ≡ canonical command.now }
     ensures same_reference { tx.new.conn.ghost_name ≡ tx.old.conn.ghost_name }
     ensures clean { doubt (state S.Store tx.old.conn.now).is_clean ≤ doubt (state S.Store tx.new.conn.now).is_clean }
-    ensures inside { (t : Tables) (ends : List Ended) → t.next_row + length changes.now.rows.items < 2 ^ 63
-        → MayUpdate court.now update.now (with_receipt command.now changes.now.reply (all_changed changes.now.rows.items t)) ends
-        → Inside (state S.Store tx.old.conn.now) (state S.Store tx.new.conn.now) (rows_with court.now t ends)
-        (rows_with court.now (with_receipt command.now changes.now.reply (all_changed changes.now.rows.items t)) (updated_ends court.now update.now (with_receipt command.now changes.now.reply (all_changed changes.now.rows.items t)) ends)) result (λ _. Unit {0}) }
-    ensures any { (n : ℕ) (stored : List Ended) (rows : Rows) → AreDocketRows court.now n stored rows → n + length changes.now.rows.items < 2 ^ 63
+    ensures inside { (t : Tables) (ends : List Ended) → AreNumbered t.next_row changes.now
+        → MayUpdate court.now update.now (with_changes command.now changes.now t) ends
+        → Leads (state S.Store tx.old.conn.now) (state S.Store tx.new.conn.now) (rows_with court.now t ends)
+        (written court.now update.now command.now changes.now t ends) result }
+    ensures any { (n : ℕ) (stored : List Ended) (rows : Rows) → AreDocketRows court.now n stored rows → AreNumbered n changes.now
         → (next : List Ended) × MayLeave update.now stored next
-        × Inside (state S.Store tx.old.conn.now) (state S.Store tx.new.conn.now) rows (with_stored next (recorded court.now n command.now changes.now.reply changes.now.rows.items rows)) result (λ _. Unit {0}) }
-    ensures cause { HasCleanDisk (state S.Store tx.new.conn.now) → (t : Tables) (ends : List Ended) → t.next_row + length changes.now.rows.items < 2 ^ 63
-        → MayUpdate court.now update.now (with_receipt command.now changes.now.reply (all_changed changes.now.rows.items t)) ends → MayWrite court.now update.now command.now changes.now.rows.items changes.now.reply t ends
-        → Sees (state S.Store tx.old.conn.now) (rows_with court.now t ends) → IfErr result (HasChangeCause (state S.Store tx.old.conn.now) (state S.Store tx.new.conn.now)) }
+        × Leads (state S.Store tx.old.conn.now) (state S.Store tx.new.conn.now) rows (recorded_with court.now n command.now changes.now next rows) result }
+    ensures cause { HasCleanDisk (state S.Store tx.new.conn.now) → (t : Tables) (ends : List Ended) → AreNumbered t.next_row changes.now
+        → MayUpdate court.now update.now (with_changes command.now changes.now t) ends → MayWrite court.now update.now command.now changes.now t ends
+        → FailsOnlyFor HasChangeCause (state S.Store tx.old.conn.now) (state S.Store tx.new.conn.now) (rows_with court.now t ends) result }
 {
     // Its contract bounds the text of the zone: a new row of the calendar is counted in the court's row,
     // which is written anew.
@@ -92,21 +93,19 @@ pub fn write<S: Alter>(
     requires body { body.now ≡ canonical command.now }
     ensures idle { conn.new.in_transaction ≡ false }
     ensures clean { doubt (state S.Store conn.old).is_clean ≤ doubt (state S.Store conn.new).is_clean }
-    ensures either { (t : Tables) → t.next_row + length changes.now.rows.items < 2 ^ 63 → HoldsRows S.Store conn.old (rows_in court.now t)
-        → (HasCleanDisk (state S.Store conn.old) → IsUpdate court.now update.now t (with_receipt command.now changes.now.reply (all_changed changes.now.rows.items t)))
-        → MatchResult result (λ _. HoldsRows S.Store conn.new (rows_in court.now (with_receipt command.now changes.now.reply (all_changed changes.now.rows.items t))))
-        (λ _. LastsAsEither S.Store conn.new (rows_in court.now t) (rows_in court.now (with_receipt command.now changes.now.reply (all_changed changes.now.rows.items t)))) }
+    ensures either { (t : Tables) → AreNumbered t.next_row changes.now → HoldsRows S.Store conn.old (rows_in court.now t)
+        → IfClean S.Store conn.old (IsUpdate court.now update.now t (with_changes command.now changes.now t))
+        → Writes S.Store conn.new (rows_in court.now t) (rows_in court.now (with_changes command.now changes.now t)) result }
     // Whether or not a history leads to the rows: all changes of the command, its receipt, and some ends.
-    ensures any { (n : ℕ) (stored : List Ended) (rows : Rows) → AreDocketRows court.now n stored rows → n + length changes.now.rows.items < 2 ^ 63 → HoldsRows S.Store conn.old rows
+    ensures any { (n : ℕ) (stored : List Ended) (rows : Rows) → AreDocketRows court.now n stored rows → AreNumbered n changes.now → HoldsRows S.Store conn.old rows
         → (next : List Ended) × MayLeave update.now stored next
-        × MatchResult result (λ _. HoldsRows S.Store conn.new (with_stored next (recorded court.now n command.now changes.now.reply changes.now.rows.items rows)))
-        (λ _. LastsAsEither S.Store conn.new rows (with_stored next (recorded court.now n command.now changes.now.reply changes.now.rows.items rows))) }
+        × Writes S.Store conn.new rows (recorded_with court.now n command.now changes.now next rows) result }
     // It stays the same connection, on which faults are counted on.
-    ensures later { HasCleanDisk (state S.Store conn.new) → (t : Tables) → t.next_row + length changes.now.rows.items < 2 ^ 63 → HoldsRows S.Store conn.old (rows_in court.now t)
-        → IsUpdate court.now update.now t (with_receipt command.now changes.now.reply (all_changed changes.now.rows.items t)) → IsLater (state S.Store conn.old) (state S.Store conn.new) }
+    ensures later { HasCleanDisk (state S.Store conn.new) → (t : Tables) → AreNumbered t.next_row changes.now → HoldsRows S.Store conn.old (rows_in court.now t)
+        → IsUpdate court.now update.now t (with_changes command.now changes.now t) → IsLater (state S.Store conn.old) (state S.Store conn.new) }
     // What may be written fails only for a cause.
-    ensures cause { HasCleanDisk (state S.Store conn.new) → (t : Tables) → t.next_row + length changes.now.rows.items < 2 ^ 63 → HoldsRows S.Store conn.old (rows_in court.now t)
-        → IsUpdate court.now update.now t (with_receipt command.now changes.now.reply (all_changed changes.now.rows.items t)) → MayWrite court.now update.now command.now changes.now.rows.items changes.now.reply t (end_rows court.now t)
+    ensures cause { HasCleanDisk (state S.Store conn.new) → (t : Tables) → AreNumbered t.next_row changes.now → HoldsRows S.Store conn.old (rows_in court.now t)
+        → IsUpdate court.now update.now t (with_changes command.now changes.now t) → MayWrite court.now update.now command.now changes.now t (end_rows court.now t)
         → IfErr result (HasChangeCause (state S.Store conn.old) (state S.Store conn.new)) }
 {
     let mut tx = conn.transaction();

@@ -5,9 +5,10 @@ ghost use Rattle.docket_columns.specs.Cells.{court_cells, court_cells_of};
 ghost use Rattle.docket_columns.specs.declared.version.Version.TheVariants.{First};
 ghost use Rattle.sqlite.specs.Held.{state};
 ghost use Rattle.sqlite.specs.Effect.{Database};
-ghost use Rattle.sqlite.specs.State.{HasCleanDisk, Executes, Survives, Shows as Turns};
+ghost use Rattle.sqlite.specs.State.{HasCleanDisk, Survives};
 ghost use Rattle.sqlite.specs.Tree.{Trees};
 ghost use Rattle.sqlite.specs.View.{doubt};
+ghost use Rattle.docket_tables.specs.Changing.{Ran};
 ghost use Rattle.docket_tables.specs.Layouts.{Rows, with_rows};
 ghost use Rattle.docket_tables.specs.Stands.{HoldsRowsIn, MakesNothing, Sees, StaysInside};
 ghost use Rattle.docket_tables.specs.Tables.{first_tables, layout_of};
@@ -36,8 +37,7 @@ fn version_text() -> &'static str
 fn run<S: Alter>(tx: &mut Transaction<'_, S>, sql: &str) -> Result<(), Error>
     ensures same_reference { tx.new.conn.ghost_name ≡ tx.old.conn.ghost_name }
     ensures inside { StaysInside (state S.Store tx.old.conn.now) (state S.Store tx.new.conn.now) }
-    ensures runs { HasCleanDisk (state S.Store tx.new.conn.now) → OnOk result ((count : ℕ) × Executes sql.now [] (state S.Store tx.old.conn.now) (state S.Store tx.new.conn.now) (Ok count)
-        × Turns (state S.Store tx.old.conn.now) (state S.Store tx.new.conn.now) (state S.Store tx.new.conn.now).now (state S.Store tx.old.conn.now).committed true) }
+    ensures runs { HasCleanDisk (state S.Store tx.new.conn.now) → OnOk result (Ran sql.now [] (state S.Store tx.old.conn.now) (state S.Store tx.new.conn.now)) }
 {
     tx.execute(sql, &[])?;
     Ok(())

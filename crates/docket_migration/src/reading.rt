@@ -2,9 +2,7 @@
 ghost use Rattle.std.specs.Prelude.{◌≡◌, IfOk, OnOk, [], true};
 ghost use Rattle.sqlite.specs.Held.{state};
 ghost use Rattle.sqlite.specs.State.{HasCleanDisk, IsUnchanged, Survives};
-ghost use Rattle.docket_columns.specs.declared.version.Version.TheVariants.{First, Second};
-ghost use Rattle.docket_columns.specs.declared.court.CourtRow.{CourtRow as Stored};
-ghost use Rattle.docket_migration.specs.Growing.{IsNew};
+ghost use Rattle.docket_columns.specs.declared.version.Version.TheVariants.{Second};
 ghost use Rattle.docket_migration.specs.Keeping.{AreNewEmpty, HoldsCourt};
 ghost use Rattle.docket_scan.specs.Scans.{AreRowsOf};
 ghost use Rattle.docket_tables.specs.declared.table.Table.TheVariants as table;

@@ -1,5 +1,6 @@
 -- From each connection to all of them.
-use Rattle.std.proofs.Common.{inl, inr, ◌≡◌, ◌+◌, ◌++◌, ◌∷◌, ◌≤◌, ◌⊎◌, [], ℕ, Bool, true, false, List, Option, Some, None, Result, Ok, Err, IfOk, IfErr, IsErrAnd, length-append, append-nil, append_assoc, refl, sym, ap, ap₂, subst, ◌∙◌, arith}
+use Rattle.std.proofs.Common.{inl, inr, ◌≡◌, ◌+◌, ◌++◌, ◌∷◌, ◌≤◌, ◌⊎◌, [], ℕ, true, false, List, Option, Some, None, Result, Ok, Err, IfOk, IfErr, IsErrAnd, length-append, append-nil, append_assoc, refl, sym, ap, ap₂, subst, ◌∙◌, arith}
+use Rattle.std.proofs.lemmas.Bool.{false≢true}
 use Rattle.std.specs.Io.KnownBytes.{Keeps}
 use Rattle.std.specs.List.{AllByRecursion}
 use Rattle.sqlite.specs.Store.{Ghosts}
@@ -13,7 +14,7 @@ use Rattle.docket_store.specs.Dockets.{Docket}
 use Rattle.http_request.specs.declared.page.Routes.{Routes}
 use Rattle.http_request.specs.declared.wish.Wish.TheVariants.{Copy}
 use Rattle.docket_http.specs.Recorded.{ServesBacked}
-use Rattle.docket_http.specs.Serve.{Fails, IsAsked, Serves, ServesClosed, WantsCopy}
+use Rattle.docket_http.specs.Serve.{Fails, Serves, ServesClosed, WantsCopy}
 use Rattle.docket_http.specs.declared.fault.ServeFault.{ServeFault}
 use Rattle.docket_http.specs.declared.fault.ServeFault.TheVariants as serve
 use Rattle.docket_http.specs.declared.fault.ServeFault.TheVariants.{EndedEarly, ReadFailed}
@@ -22,7 +23,7 @@ use Rattle.docket_serving.specs.Desks.{Desk}
 use Rattle.docket_serving.specs.Exchanges.{Ends, Exchange, Logs, exchange, tells_failure, wants_copy}
 use Rattle.docket_serving.specs.Serving.{Answers, AnswersOf, GivesCopy, IsAttended, IsToldClosed, Leads, ServesEach, ServesRun}
 use Rattle.docket_serving.specs.declared.serving.ServingFault.{ServingFault}
-use Rattle.docket_serving.proofs.StepLemmas.{Leaves, leaves}
+use Rattle.docket_serving.proofs.StepLemmas.{Leaves, by_copy, leaves}
 use Rattle.docket_serving.specs.declared.serving.ServingFault.TheVariants.{AcceptFailed, DocketFailed}
 
 -- logs
@@ -74,10 +75,6 @@ wanted_copy (Err serve.EndedEarly) is = absurd (cc)
 wanted_copy (Err serve.NoMemory) is = absurd (cc)
 wanted_copy (Err serve.StoreFailed) is = absurd (cc)
 
-shut_serves : (closed : Bool) → closed ≡ true → closed ≡ false → ⊥
-shut_serves true shut serves = absurd (cc)
-shut_serves false shut serves = absurd (cc)
-
 -- desks of one docket that serve the same routes
 pub same_desk : {S : Type 0} (a b : Desk S) → a.docket ≡ b.docket → a.routes ≡ b.routes → a ≡ b
 same_desk a b dockets routes = ap₂ desk_of dockets routes
@@ -113,36 +110,8 @@ module _ {S : Type 0} (g : Ghosts S) (routes : Routes) where
     untouched = untouched;
   }
 
-  -- an answer to who asks for a copy is whole, or the writer failed
-
-  copy_backed : (new : Docket S) (input before after : Option (List ℕ)) (end : Result Served ServeFault) (body : List ℕ) → IsAsked routes input Copy body
-      → GivesCopy before after end → ServesBacked g routes input new before after end
-  copy_backed new input before after (Ok served) body asked gives = inl (Copy, body, asked, tt)
-  copy_backed new input before after (Err serve.WriteFailed) body asked gives = inl (Copy, body, asked, tt)
-  copy_backed new input before after (Err serve.NoMemory) body asked gives = inl (Copy, body, asked, tt)
-  copy_backed new input before after (Err serve.StoreFailed) body asked gives = inl (Copy, body, asked, tt)
-  copy_backed new input before after (Err serve.ReadFailed) body asked gives = tt
-  copy_backed new input before after (Err serve.EndedEarly) body asked gives = tt
-  copy_backed new input before after (Err serve.CopyWanted) body asked gives = tt
-
-  copy_read : (before after : Option (List ℕ)) (end : Result Served ServeFault) (A : Type 0) → GivesCopy before after end
-      → IfErr end (λ fault. (fault ≡ ReadFailed) ⊎ (fault ≡ EndedEarly) → A)
-  copy_read before after (Ok served) A gives = tt
-  copy_read before after (Err serve.WriteFailed) A gives = λ is. elim is [ inl e ↦ absurd (cc) | inr e ↦ absurd (cc) ]
-  copy_read before after (Err serve.ReadFailed) A gives = absurd gives.2.sent
-  copy_read before after (Err serve.EndedEarly) A gives = absurd gives.2.sent
-  copy_read before after (Err serve.NoMemory) A gives = absurd gives.2.sent
-  copy_read before after (Err serve.StoreFailed) A gives = absurd gives.2.sent
-  copy_read before after (Err serve.CopyWanted) A gives = absurd gives.2.sent
-
-  copy_answered : (before after : Option (List ℕ)) (end : Result Served ServeFault) → GivesCopy before after end → wants_copy end ≡ false
-  copy_answered before after (Ok served) gives = refl
-  copy_answered before after (Err serve.CopyWanted) gives = absurd gives.2.sent
-  copy_answered before after (Err serve.WriteFailed) gives = refl
-  copy_answered before after (Err serve.ReadFailed) gives = refl
-  copy_answered before after (Err serve.EndedEarly) gives = refl
-  copy_answered before after (Err serve.NoMemory) gives = refl
-  copy_answered before after (Err serve.StoreFailed) gives = refl
+  abbrev Untouched : Docket S → Docket S → Option (List ℕ) → Option (List ℕ) → Result Served ServeFault → Type 0
+  Untouched old new before after end = IfErr end (λ fault. (fault ≡ ReadFailed) ⊎ (fault ≡ EndedEarly) → (new ≡ old) × Keeps before after)
 
   -- a copy that was asked for
   pub attended_by_copy : (old new : Docket S) (input before middle after : Option (List ℕ)) (end : Result Served ServeFault)
@@ -157,11 +126,11 @@ module _ {S : Type 0} (g : Ghosts S) (routes : Routes) where
         court = ap (λ (d : Docket S). d.court) want.same;
         clean = subst (λ (d : Docket S). doubt (state g old.conn).is_clean ≤ doubt (state g d.conn).is_clean) (sym want.same) (omega arith);
         any = any;
-        closed = λ shut. absurd (shut_serves old.closed shut want.serves);
-        answered = copy_answered before after end given;
+        closed = λ shut. absurd (false≢true (sym want.serves ∙ shut));
+        answered = by_copy (λ ended. wants_copy ended ≡ false) (λ served sends. refl) refl end given.2;
         answers = λ h stands clean. inr (record { body = want.body; asked = want.asked; same = want.same; gives = given });
-        recorded = λ holds. copy_backed new input before after end want.body want.asked given;
-        untouched = copy_read before after end ((new ≡ old) × Keeps before after) given;
+        recorded = λ holds. by_copy (ServesBacked g routes input new before after) (λ served sends. inl (Copy, want.body, want.asked, tt)) (inl (Copy, want.body, want.asked, tt)) end given.2;
+        untouched = by_copy (Untouched old new before after) (λ served sends. tt) (λ is. elim is [ inl e ↦ absurd (cc) | inr e ↦ absurd (cc) ]) end given.2;
       }
 
   each_court : (all : List Exchange) (old new : Docket S) → ServesEach g routes old all new → new.court ≡ old.court

@@ -18,6 +18,17 @@ use Rattle.docket_http.specs.Answer.{Response}
 use Rattle.docket_http.specs.Serve.{IsCopyAnswer, SendsCopy}
 use Rattle.docket_serving.specs.Serving.{Answers, AnswersOf, Fell, IsNext, Stays}
 
+-- the answer to who asks for a copy went out whole, or the writer failed
+pub by_copy : {copy before after : Option (List ℕ)} (P : Result Served ServeFault → Type 0) → ((served : Served) → SendsCopy copy before after (Ok served) → P (Ok served)) → P (Err serve.WriteFailed)
+    → (end : Result Served ServeFault) → SendsCopy copy before after end → P end
+by_copy P whole failed (Ok served) sends = whole served sends
+by_copy P whole failed (Err serve.WriteFailed) sends = failed
+by_copy P whole failed (Err serve.ReadFailed) sends = absurd sends.sent
+by_copy P whole failed (Err serve.EndedEarly) sends = absurd sends.sent
+by_copy P whole failed (Err serve.NoMemory) sends = absurd sends.sent
+by_copy P whole failed (Err serve.StoreFailed) sends = absurd sends.sent
+by_copy P whole failed (Err serve.CopyWanted) sends = absurd sends.sent
+
 module _ {S : Type 0} (g : Ghosts S) (routes : Routes) where
   -- the docket of a history, or one that fell
   abbrev pub Leaves : History → Exchange → Docket S → Type 0
@@ -58,14 +69,9 @@ module _ {S : Type 0} (g : Ghosts S) (routes : Routes) where
   copy_fine (Some bytes) response (inl is) = ap (λ (r : Response). r.status == 503) is
   copy_fine (Some bytes) response (inr is) = ap (λ (r : Response). r.status == 503) is
 
-  copy_told : (copy : Option (List ℕ)) (o n : Option (List ℕ)) (end : Result Served ServeFault) → SendsCopy copy o n end → tells_failure end ≡ false
-  copy_told copy o n (Ok served) sends = ap (λ k. k == 503) sends.sent.1 ∙ copy_fine copy sends.response sends.is
-  copy_told copy o n (Err serve.WriteFailed) sends = refl
-  copy_told copy o n (Err serve.ReadFailed) sends = absurd sends.sent
-  copy_told copy o n (Err serve.EndedEarly) sends = absurd sends.sent
-  copy_told copy o n (Err serve.NoMemory) sends = absurd sends.sent
-  copy_told copy o n (Err serve.StoreFailed) sends = absurd sends.sent
-  copy_told copy o n (Err serve.CopyWanted) sends = absurd sends.sent
+  copy_told : (copy : Option (List ℕ)) (before after : Option (List ℕ)) (end : Result Served ServeFault) → SendsCopy copy before after end → tells_failure end ≡ false
+  copy_told copy before after =
+      by_copy (λ ended. tells_failure ended ≡ false) (λ served sends. ap (λ k. k == 503) sends.sent.1 ∙ copy_fine copy sends.response sends.is) refl
 
   leaves_of : (old left : Docket S) (h : History) (e : Exchange) (end : Result Served ServeFault) → e.end ≡ end → Stands g old h → AnswersOf g routes old left h e end → Leaves h e left
   leaves_of old left h e (Ok served) ended stands (inl is) =

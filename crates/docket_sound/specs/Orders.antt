@@ -4,6 +4,8 @@ use Rattle.std.specs.Cmp.Lexicographic.{slice_cmp}
 use Rattle.std.specs.Ordering.{nat_cmp, on, then_cmp}
 use Rattle.std.specs.declared.cmp.Ordering.{Ordering}
 use Rattle.docket_decisions.specs.declared.end_row.EndRow.{EndRow}
+use Rattle.docket_history.specs.Histories.{History, act_rows, local_rule_rows, standing_rows}
+use Rattle.docket_history.specs.ShortDays.{day_and_span_rows}
 use Rattle.docket_history.specs.declared.row.ActRow.{ActRow}
 use Rattle.docket_history.specs.declared.row.CalendarRow.{CalendarRow}
 use Rattle.docket_history.specs.declared.row.CaseRow.{CaseRow}
@@ -67,3 +69,15 @@ end_order = on end_key key_order
 -- by the key, byte by byte
 abbrev pub receipt_order : Receipt → Receipt → Ordering
 receipt_order = on key_of (slice_cmp nat_cmp)
+
+-- the rows of a history, as they are read
+
+-- its days and spans
+abbrev pub AreDaysOf : History → List CalendarRow → Type 0
+AreDaysOf h days = AreInOrder calendar_order (day_and_span_rows (standing_rows h)) days
+
+abbrev pub AreLocalRulesOf : History → List LocalRuleRow → Type 0
+AreLocalRulesOf h rules = AreInOrder local_rule_order (local_rule_rows h) rules
+
+abbrev pub AreActsOf : History → List ActRow → Type 0
+AreActsOf h acts = AreInOrder act_order (act_rows h) acts

@@ -29,7 +29,7 @@ ghost use Rattle.docket_sound.specs.Entries.{AreSoundEntries};
 ghost use Rattle.docket_sound.specs.KnownTexts.{is_one_of};
 ghost use Rattle.docket_sound.specs.LocalRules.{AreSoundLocalRules, rule_names};
 ghost use Rattle.docket_sound.specs.Numbers.{numbers_in};
-ghost use Rattle.docket_sound.specs.Orders.{AreInOrder, calendar_order, short_day_order, case_order, party_order, entry_order, deadline_order, act_order, end_order, receipt_order, local_rule_order};
+ghost use Rattle.docket_sound.specs.Orders.{AreActsOf, AreDaysOf, AreInOrder, AreLocalRulesOf, calendar_order, short_day_order, case_order, party_order, entry_order, deadline_order, act_order, end_order, receipt_order, local_rule_order};
 ghost use Rattle.docket_sound.specs.Parties.{AreSoundParties, party_key};
 ghost use Rattle.docket_sound.specs.Receipts.{AreOfKnownKinds, AreSoundReceipts, IsSoundReceipt, receipt_row, key_of};
 ghost use Rattle.docket_sound.specs.ShortDays.{AreSoundShortDays};
@@ -63,7 +63,7 @@ pub fn sorted_histories_are_sound()
     ensures calendar { (court : CourtSettings) (h : History) (rows : List CalendarRow) → IsHistory court h
         → AreInOrder calendar_order (day_and_span_rows (standing_rows h)) rows → AreSoundCalendarRows court (next_row h) rows }
     ensures short_days { (court : CourtSettings) (h : History) (days : List CalendarRow) (rows : List ShortDayRow) → IsHistory court h
-        → AreInOrder calendar_order (day_and_span_rows (standing_rows h)) days
+        → AreDaysOf h days
         → AreInOrder short_day_order (short_day_rows (standing_rows h)) rows
         → AreSoundShortDays court.close_minute (next_row h) (map (λ row. row.number) days) rows }
     ensures cases { (court : CourtSettings) (h : History) (rows : List CaseRow) → IsHistory court h
@@ -78,7 +78,7 @@ pub fn sorted_histories_are_sound()
     ensures local_rules { (court : CourtSettings) (h : History) (rows : List LocalRuleRow) → IsHistory court h
         → AreInOrder local_rule_order (local_rule_rows h) rows → AreSoundLocalRules rows }
     ensures deadlines { (court : CourtSettings) (h : History) (rules : List LocalRuleRow) (rows : List DeadlineRow) → IsHistory court h
-        → AreInOrder local_rule_order (local_rule_rows h) rules → AreInOrder deadline_order (deadline_rows h) rows
+        → AreLocalRulesOf h rules → AreInOrder deadline_order (deadline_rows h) rows
         → AreSoundDeadlines (length (case_rows h)) (λ k. length (parties_of_case k (party_rows h))) (is_one_of (rule_names rules)) rows }
     ensures deadline_counts { (court : CourtSettings) (h : History) (rows : List DeadlineRow) → IsHistory court h
         → AreInOrder deadline_order (deadline_rows h) rows
@@ -104,11 +104,11 @@ pub fn short_days_move_nothing()
 /// in the order of their keys. So the ends that are stored of a history are the expected ones.
 pub fn stored_ends_are_expected()
     ensures in_order { (court : CourtSettings) (h : History) (days : List CalendarRow) (acts : List ActRow)
-        → IsHistory court h → AreInOrder calendar_order (day_and_span_rows (standing_rows h)) days → AreInOrder act_order (act_rows h) acts
+        → IsHistory court h → AreDaysOf h days → AreActsOf h acts
         → AreInOrder end_order (end_rows court (rows_of court h))
         (dues_of (zone_of court) (calendar_of (items_of days)) acts) }
     ensures stored { (court : CourtSettings) (h : History) (days : List CalendarRow) (acts : List ActRow) (ends : List EndRow)
-        → IsHistory court h → AreInOrder calendar_order (day_and_span_rows (standing_rows h)) days → AreInOrder act_order (act_rows h) acts
+        → IsHistory court h → AreDaysOf h days → AreActsOf h acts
         → AreInOrder end_order (end_rows court (rows_of court h)) ends
         → ends ≡ dues_of (zone_of court) (calendar_of (items_of days)) acts }
 {}

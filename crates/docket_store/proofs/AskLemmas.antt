@@ -27,7 +27,7 @@ use Rattle.docket_decisions.proofs.Passed.{one_of_all}
 use Rattle.docket_store.specs.Applying.{IsDocket, Stands, Asks, Applies, Faults, FailsAs, Keeps, docket_rows}
 use Rattle.docket_store.specs.Dockets.{Docket, serving}
 use Rattle.docket_tables.specs.Contents.{ends_of}
-use Rattle.docket_changes.specs.Sound.{IsSoundCase}
+use Rattle.docket_changes.specs.Sound.{IsSoundCalendar, IsSoundCase}
 use Rattle.docket_tables.proofs.StoredLemmas.{ends_of_all}
 use Rattle.docket_store.specs.Sound.{AreEndsBy, IsNotTold}
 use Rattle.docket_store.specs.declared.fault.Fault.{Fault}
@@ -98,21 +98,19 @@ module _ {S : Type 0} (g : Ghosts S) where
   asks_told d h Sound P answer (Err Closed) stands sound tells told = absurd told
   asks_told d h Sound P answer (Err Damaged) stands sound tells told = λ clean. told (sound clean)
 
--- every history shows deadlines of a case, and a calendar, that are sound
-pub sound_case : (court : CourtSettings) (h : History) (k : ℕ) → IsDocket court h → IsSoundCase court (items_of (standing_rows h)) (deadlines k h)
+-- every history shows deadlines of a case that are sound
+pub sound_case : (court : CourtSettings) (h : History) (k : ℕ) → IsDocket court h → IsSoundCase court (deadlines k h)
 sound_case court h k is =
     let within = within_limits court h is.history in record {
-      entered = within.items;
-      rows = omega (arith, length-map (standing_rows h) (λ (row : CalendarRow). row.item), within.rows);
       few = omega (arith, length-deadlines_from k 1 (act_rows h) (deadlines_of_case k (deadline_rows h)), within.deadlines k);
       acts = lawful_deadlines court h within k;
     }
 
--- and every calendar without deadlines is
-pub sound_calendar : (court : CourtSettings) (h : History) → IsDocket court h → IsSoundCase court (items_of (standing_rows h)) []
+-- and a calendar that is
+pub sound_calendar : (court : CourtSettings) (h : History) → IsDocket court h → IsSoundCalendar (items_of (standing_rows h))
 sound_calendar court h is =
-    let sound = sound_case court h 0 is in
-    record { entered = sound.entered; rows = sound.rows; few = omega arith; acts = λ i d low. absurd (omega (arith, low)) }
+    let within = within_limits court h is.history in
+    (within.items, omega (arith, length-map (standing_rows h) (λ (row : CalendarRow). row.item), within.rows))
 
 -- the docket, with the calendar that stands kept beside its connection
 pub keeping : {S : Type 0} (g : Ghosts S) (conn : Held S) (court : CourtSettings) (kept : Option (List CalendarItem)) (items : List CalendarItem) (h : History) → Stands g (serving conn court kept) h
@@ -120,23 +118,17 @@ pub keeping : {S : Type 0} (g : Ghosts S) (conn : Held S) (court : CourtSettings
 keeping g conn court kept items h stands are = record { docket = stands.docket; serves = refl; rows = stands.rows; calendar = are }
 
 -- and so is a deadline of a case alone
-pub sound_deadline : (court : CourtSettings) (h : History) (k n : ℕ) (d : DeadlineView) → IsDocket court h → deadline_at (deadlines k h) n ≡ Some d → IsSoundCase court [] (d ∷ [])
+pub sound_deadline : (court : CourtSettings) (h : History) (k n : ℕ) (d : DeadlineView) → IsDocket court h → deadline_at (deadlines k h) n ≡ Some d → IsSoundCase court (d ∷ [])
 sound_deadline court h k zero d is at = absurd (cc)
 sound_deadline court h k (suc n) d is at =
     let P : DeadlineView → Type 0 = λ (other : DeadlineView). AreActs (zone_of court) other.acts in record {
-      entered = λ i item low. absurd (omega (arith, low));
-      rows = omega arith;
       few = omega arith;
       acts = All-cons P d [] (one_of_all P (deadlines k h) n d (sound_case court h k is).acts at) (All-nil P);
     }
 
 -- and so are its deadlines with the rows of their ends
 pub sound_ends : (court : CourtSettings) (h : History) (k : ℕ) → IsDocket court h → AreEndsBy court (calendar h) k (deadlines k h) (end_rows_of (zone_of court) (calendar h) k (deadlines k h))
-sound_ends court h k is =
-    let sound = sound_case court h k is in record {
-      sound = record { entered = λ i d low. absurd (omega (arith, low)); rows = omega arith; few = sound.few; acts = sound.acts };
-      same = refl;
-    }
+sound_ends court h k is = record { sound = sound_case court h k is; same = refl }
 
 -- the rows of a case among those of all deadlines
 pub ends_are : (court : CourtSettings) (h : History) (k : ℕ) (rows : List EndRow) → IsDocket court h → rows ≡ ends_of k (end_rows court (rows_of court h)) → rows ≡ end_rows_of (zone_of court) (calendar h) k (deadlines k h)

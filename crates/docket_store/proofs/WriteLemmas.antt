@@ -28,7 +28,7 @@ pub lengths : (n limit : ℕ) → (n ≤ limit) ⊎ (limit < n)
 lengths n limit = elim (cases_Bool (nat_le n limit)) [ inl low ↦ inl (grind (arith, nat_tests, low)) | inr high ↦ inr (grind (arith, nat_tests, high)) ]
 
 pub may_write : (court : CourtSettings) (h : History) (c : Command) (changes : Changes) (update : EndUpdate) → IsDocket court h → IsCommand c → IsAccepted court h c changes → length (canonical c) ≤ 10 ^ 7
-    → MayAddEnds update (rows_of court (c ∷ h)) (end_rows court (rows_of court h)) → MayWrite court update c changes.rows.items changes.reply (rows_of court h) (end_rows court (rows_of court h))
+    → MayAddEnds update (rows_of court (c ∷ h)) (end_rows court (rows_of court h)) → MayWrite court update c changes (rows_of court h) (end_rows court (rows_of court h))
 may_write court h c changes update is lawful accepts short adds =
     let history : IsHistory court (c ∷ h) = ((changes.reply, accepts.0), is.history) in
     let all : AllByRecursion IsCommand (c ∷ h) = (lawful, is.commands) in

@@ -64,6 +64,10 @@ module _ {S : Type 0} (g : Ghosts S) where
     pub rows : StandsFor d.conn d.court h
     pub calendar : HasCleanDisk (state g d.conn) → Keeps d.calendar h
 
+  -- the changes are those of the command, which is accepted, and the acts are those that it names, unless the disk was not honest
+  abbrev pub IsJudged : Held S → CourtSettings → History → Command → Changes → List Act → Type 0
+  IsJudged conn court h c changes named = HasCleanDisk (state g conn) → IsAccepted court h c changes × AreNamed h c named
+
   -- what an error of the database comes to, where the rows were these or, by a write under way, the next
   abbrev pub FailsAs : Held S → Rows → Rows → Fault → Type 0
   FailsAs conn rows next NoMemory = HoldsRows g conn rows

@@ -1,5 +1,5 @@
 -- What a run leaves for the next one.
-use Rattle.std.specs.Prelude.{◌≡◌, ◌⊎◌, ⊤, IsTrue, Result, Ok, Err}
+use Rattle.std.specs.Prelude.{◌≡◌, ◌⊎◌, ⊤, IsTrue, MatchResult, Result, Ok, Err}
 use Rattle.sqlite_disk.specs.declared.Disk.{Ghosts as Disk}
 use Rattle.sqlite_disk.specs.declared.Files.{Files}
 use Rattle.sqlite_wal.specs.Recovery.{Image}
@@ -76,3 +76,8 @@ IsNotRecovered court h next (NotAdopted returned) =
 abbrev pub AppliesOnce : {S : Type 0} → Ghosts S → Docket S → CourtSettings → History → Command → Result Reply Fault → Type 0
 AppliesOnce g d court h c (Ok reply) = ∥ Applies g d h c (Ok reply) × (d.court ≡ court) ∥₁
 AppliesOnce g d court h c (Err fault) = ∥ (Faults g d h c fault ⊎ Faults g d (after court h c) c fault) × (d.court ≡ court) ∥₁
+
+-- a run goes on where one stopped at a command, and gives it again; or the docket was not recovered
+abbrev pub GoesOn : {D : Type 0} {g : Disk D} → CourtSettings → History → Command → Result (Docket (FileStore D g) × Result Reply Fault) (RecoverFault D g) → Type 0
+GoesOn court h c result =
+    MatchResult result (λ r. HasCleanDisk (held.state over_files r.0.conn) → AppliesOnce over_files r.0 court h c r.1) (IsNotRecovered court h (after court h c))

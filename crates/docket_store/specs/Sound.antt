@@ -1,5 +1,5 @@
 -- Why what a docket shows was not told.
-use Rattle.std.specs.Prelude.{◌≡◌, ℕ, List, []}
+use Rattle.std.specs.Prelude.{◌≡◌, ℕ, List}
 use Rattle.court_days.specs.Calendar.{Entered}
 use Rattle.court_days.specs.Court.{CourtSettings, zone_of}
 use Rattle.docket_decisions.specs.EndRows.{end_rows_of}
@@ -11,7 +11,7 @@ use Rattle.docket_store.specs.declared.fault.Fault.TheVariants.{NoMemory, Damage
 
 -- a history may show these deadlines of case k, and the rows are those of their ends by the calendar
 pub record AreEndsBy (court : CourtSettings) (entered : Entered) (k : ℕ) (deadlines : List DeadlineView) (rows : List EndRow) : Type 0 where
-  pub sound : IsSoundCase court [] deadlines
+  pub sound : IsSoundCase court deadlines
   pub same : rows ≡ end_rows_of (zone_of court) entered k deadlines
 
 -- why it was not told: want of memory, or what is so of every history is not so

@@ -19,12 +19,12 @@ ghost use Rattle.docket_tables.specs.AnyRows.{AreDocketRows};
 ghost use Rattle.docket_tables.specs.Layouts.{Rows};
 ghost use Rattle.docket_tables.specs.Stands.{HoldsRows};
 ghost use Rattle.docket_store.specs.AnyRows.{Preserves, WritesWhole};
-ghost use Rattle.docket_store.specs.Applying.{Keeps, Stands, IsAccepted, AreNamed, Applies, Asks};
+ghost use Rattle.docket_store.specs.Applying.{Keeps, Stands, IsJudged, Applies, Asks};
 ghost use Rattle.docket_tables.specs.Causes.{IsLater};
 ghost use Rattle.docket_store.specs.Causes.{IsCausedBy, IsCausedWrite, IsNamed, IsNotAccepted};
 ghost use Rattle.docket_store.specs.Dockets.{serving};
 
-use crate::asking::calendar_told;
+use crate::asking::calendar_taken;
 use crate::fault::{Fault, read_fault, store_fault};
 use crate::judging::{Judged, judge};
 use court_days::Court;
@@ -96,19 +96,19 @@ fn case_update<S: Alter>(
     ensures stays { (rows : Rows) → HoldsRows S.Store conn.old rows → Preserves S.Store conn.new rows result }
     ensures named { IfErr result (IsNamed failure.new) }
     ensures update { (h : History) → Stands S.Store (serving conn.old court.now kept.old) h
-        → (HasCleanDisk (state S.Store conn.old) → IsAccepted court.now h command.now changes.now × AreNamed h command.now named.now)
+        → IsJudged S.Store conn.old court.now h command.now changes.now named.now
         → Asks S.Store (serving conn.new court.now kept.new) h (λ found. IsUpdate court.now found (rows_of court.now h) (rows_of court.now (command.now ∷ h))) result }
     ensures counts { (state S.Store conn.old).faults ≤ (state S.Store conn.new).faults }
     ensures limit { (state S.Store conn.new).step_limit ≡ (state S.Store conn.old).step_limit }
     ensures cause { (h : History) → Stands S.Store (serving conn.old court.now kept.old) h
-        → (HasCleanDisk (state S.Store conn.old) → IsAccepted court.now h command.now changes.now × AreNamed h command.now named.now) → HasCleanDisk (state S.Store conn.new)
+        → IsJudged S.Store conn.old court.now h command.now changes.now named.now → HasCleanDisk (state S.Store conn.new)
         → IfErr result (IsCausedBy (state S.Store conn.old) (state S.Store conn.new) failure.new) }
     // No end is added beside one of its deadline, and each to a deadline that stands.
     ensures adds { (h : History) → Stands S.Store (serving conn.old court.now kept.old) h
-        → (HasCleanDisk (state S.Store conn.old) → IsAccepted court.now h command.now changes.now × AreNamed h command.now named.now) → HasCleanDisk (state S.Store conn.new)
+        → IsJudged S.Store conn.old court.now h command.now changes.now named.now → HasCleanDisk (state S.Store conn.new)
         → IfOk result (λ found. MayAddEnds found (rows_of court.now (command.now ∷ h)) (end_rows court.now (rows_of court.now h))) }
 {
-    let standing = calendar_told(conn, alloc, kept, failure)?;
+    let standing = calendar_taken(conn, alloc, kept, failure)?;
     let calendar = standing.calendar();
     let found = moves(alloc, court, calendar, named, changes.rows.as_slice());
     *kept = Some(standing);
@@ -137,16 +137,16 @@ fn end_update<S: Alter>(
     ensures stays { (rows : Rows) → HoldsRows S.Store conn.old rows → Preserves S.Store conn.new rows result }
     ensures named { IfErr result (IsNamed failure.new) }
     ensures update { (h : History) → Stands S.Store (serving conn.old court.now kept.old) h
-        → (HasCleanDisk (state S.Store conn.old) → IsAccepted court.now h command.now changes.now × AreNamed h command.now named.now)
+        → IsJudged S.Store conn.old court.now h command.now changes.now named.now
         → Asks S.Store (serving conn.new court.now kept.new) h (λ found. IsUpdate court.now found (rows_of court.now h) (rows_of court.now (command.now ∷ h))) result }
     ensures counts { (state S.Store conn.old).faults ≤ (state S.Store conn.new).faults }
     ensures limit { (state S.Store conn.new).step_limit ≡ (state S.Store conn.old).step_limit }
     ensures cause { (h : History) → Stands S.Store (serving conn.old court.now kept.old) h
-        → (HasCleanDisk (state S.Store conn.old) → IsAccepted court.now h command.now changes.now × AreNamed h command.now named.now) → HasCleanDisk (state S.Store conn.new)
+        → IsJudged S.Store conn.old court.now h command.now changes.now named.now → HasCleanDisk (state S.Store conn.new)
         → IfErr result (IsCausedBy (state S.Store conn.old) (state S.Store conn.new) failure.new) }
     // No end is added beside one of its deadline, and each to a deadline that stands.
     ensures adds { (h : History) → Stands S.Store (serving conn.old court.now kept.old) h
-        → (HasCleanDisk (state S.Store conn.old) → IsAccepted court.now h command.now changes.now × AreNamed h command.now named.now) → HasCleanDisk (state S.Store conn.new)
+        → IsJudged S.Store conn.old court.now h command.now changes.now named.now → HasCleanDisk (state S.Store conn.new)
         → IfOk result (λ found. MayAddEnds found (rows_of court.now (command.now ∷ h)) (end_rows court.now (rows_of court.now h))) }
 {
     if moves_all_cases(&command.action) {
@@ -179,13 +179,13 @@ fn keep<S: Alter>(
     ensures any { (rows : Rows) (n : ℕ) (stored : List Ended) → AreDocketRows court.now n stored rows → n < 2 ^ 62 → HoldsRows S.Store conn.old rows
         → WritesWhole S.Store conn.new court.now n rows command.now result }
     ensures kept { (h : History) → Stands S.Store (serving conn.old court.now kept.old) h
-        → (HasCleanDisk (state S.Store conn.old) → IsAccepted court.now h command.now changes.now × AreNamed h command.now named.now)
+        → IsJudged S.Store conn.old court.now h command.now changes.now named.now
         → Applies S.Store (serving conn.new court.now kept.new) h command.now result }
     ensures later { (h : History) → Stands S.Store (serving conn.old court.now kept.old) h
-        → (HasCleanDisk (state S.Store conn.old) → IsAccepted court.now h command.now changes.now × AreNamed h command.now named.now) → HasCleanDisk (state S.Store conn.new)
+        → IsJudged S.Store conn.old court.now h command.now changes.now named.now → HasCleanDisk (state S.Store conn.new)
         → IsLater (state S.Store conn.old) (state S.Store conn.new) }
     ensures cause { (h : History) → Stands S.Store (serving conn.old court.now kept.old) h
-        → (HasCleanDisk (state S.Store conn.old) → IsAccepted court.now h command.now changes.now × AreNamed h command.now named.now) → HasCleanDisk (state S.Store conn.new)
+        → IsJudged S.Store conn.old court.now h command.now changes.now named.now → HasCleanDisk (state S.Store conn.new)
         → IfErr result (IsCausedWrite command.now (state S.Store conn.old) (state S.Store conn.new) failure.new) }
 {
     changes_fit(changes);

@@ -10,6 +10,7 @@ ghost use Rattle.docket_history.specs.Histories.{History, deadlines, items_of, s
 ghost use Rattle.docket_history.specs.Records.{calendar, case_record, deadline_lines};
 ghost use Rattle.docket_decisions.specs.Tables.{case_deadlines, rows_of};
 ghost use Rattle.docket_history.specs.declared.item.CalendarItem.{CalendarItem as Item};
+ghost use Rattle.docket_changes.specs.Writing.{IfClean};
 ghost use Rattle.docket_tables.specs.Layouts.{Rows};
 ghost use Rattle.docket_tables.specs.Stands.{HoldsRows};
 ghost use Rattle.docket_store.specs.AnyRows.{Preserves};
@@ -53,8 +54,8 @@ fn deadlines_shown<S: Alter>(
     }
 }
 
-/// The calendar that stands. What is kept of it is taken, and the caller keeps it again.
-pub(crate) fn calendar_told<S: Alter>(
+/// The calendar that stands. What is kept of it is taken: the caller keeps it again.
+pub(crate) fn calendar_taken<S: Alter>(
     conn: &mut Connection<S>,
     alloc: Global,
     kept: &mut Option<StandingCalendar>,
@@ -124,8 +125,8 @@ fn lines_of_case<S: Alter>(
     ensures cause { (rows : Rows) → HoldsRows S.Store conn.old rows → HasCleanDisk (state S.Store conn.new)
         → IfErr result (IsCausedBy (state S.Store conn.old) (state S.Store conn.new) failure.new) }
     ensures answer { (kept : Option (List Item)) (h : History) → Stands S.Store (serving conn.old court.now kept) h
-        → (HasCleanDisk (state S.Store conn.old) → entered.now ≡ calendar h)
-        → (HasCleanDisk (state S.Store conn.old) → case_deadlines (rows_of court.now h) number ≡ Some deadlines.now)
+        → IfClean S.Store conn.old (entered.now ≡ calendar h)
+        → IfClean S.Store conn.old (case_deadlines (rows_of court.now h) number ≡ Some deadlines.now)
         → Asks S.Store (serving conn.new court.now kept) h (λ lines. Some lines.items ≡ deadline_lines court.now h number) result }
 {
     let stored = ends_shown(conn, alloc, number, failure)?;
@@ -157,7 +158,7 @@ pub(crate) fn lines_numbered<S: Alter>(
     let Some(deadlines) = deadlines_shown(conn, alloc, number, failure)? else {
         return Ok(None);
     };
-    let standing = calendar_told(conn, alloc, kept, failure)?;
+    let standing = calendar_taken(conn, alloc, kept, failure)?;
     let lines = lines_of_case(
         conn,
         alloc,

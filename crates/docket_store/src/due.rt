@@ -14,7 +14,7 @@ ghost use Rattle.docket_store.specs.Applying.{Asks, Stands};
 ghost use Rattle.docket_store.specs.Causes.{IsCausedBy, IsNamed};
 ghost use Rattle.docket_store.specs.Dockets.{serving};
 
-use crate::asking::calendar_told;
+use crate::asking::calendar_taken;
 use crate::fault::{Fault, read_fault};
 use court_days::{Calendar, Court, Day};
 use docket_calendar::due_rows;
@@ -71,7 +71,7 @@ pub(crate) fn due_days<S: Alter>(
     ensures answer { (h : History) → Stands S.Store (serving conn.old court.now kept.old) h
         → Asks S.Store (serving conn.new court.now kept.new) h (λ found. found.items ≡ calendar_rows court.now h from to) result }
 {
-    let standing = calendar_told(conn, alloc, kept, failure)?;
+    let standing = calendar_taken(conn, alloc, kept, failure)?;
     let found = due_by(conn, alloc, court, standing.calendar(), from, to, failure);
     *kept = Some(standing);
     found

@@ -17,7 +17,7 @@ ghost use Rattle.docket_store.specs.Causes.{IsCausedBy, IsNamed};
 ghost use Rattle.docket_store.specs.Dockets.{serving};
 ghost use Rattle.docket_store.specs.Grounds.{AreGrounds};
 
-use crate::asking::calendar_told;
+use crate::asking::calendar_taken;
 use crate::fault::{Fault, read_fault};
 use court_days::{Calendar, Court};
 use docket_changes::{deadline_view, is_sound_case};
@@ -61,9 +61,9 @@ fn deadline_numbered<S: Alter>(
 
 /// Whether a history can show the deadline.
 fn is_sound_deadline(court: &Court, deadline: &DeadlineView) -> bool
-    ensures { IsTrue result ↔ IsSoundCase court.now [] (deadline.now ∷ []) }
+    ensures { IsTrue result ↔ IsSoundCase court.now (deadline.now ∷ []) }
 {
-    is_sound_case(court, &[], slice::from_ref(deadline))
+    is_sound_case(court, slice::from_ref(deadline))
 }
 
 /// What decides where the deadline of a number, from 1, of a case stands. The calendar is kept.
@@ -95,7 +95,7 @@ pub(crate) fn grounds_of<S: Alter>(
     if !is_sound_deadline(court, &deadline) {
         return Err(Fault::Damaged);
     }
-    let standing = calendar_told(conn, alloc, kept, failure)?;
+    let standing = calendar_taken(conn, alloc, kept, failure)?;
     let calendar = calendar_of(alloc, standing.as_slice());
     *kept = Some(standing);
     Ok(Some(Grounds {

@@ -70,7 +70,7 @@ pub(crate) fn lines_told(
         (λ lines. AreEndsBy court.now calendar.now case deadlines.now stored.now → lines.items ≡ lines_from court.now calendar.now 1 deadlines.now)
         (IsNotTold (AreEndsBy court.now calendar.now case deadlines.now stored.now)) }
 {
-    if !is_sound_case(court, &[], deadlines) {
+    if !is_sound_case(court, deadlines) {
         return Err(Fault::Damaged);
     }
     Ok(lines_by_ends(alloc, court, calendar, deadlines, stored)?)

@@ -15,7 +15,7 @@ ghost use Rattle.docket_store.specs.Dockets.{serving};
 ghost use Rattle.docket_store.specs.Listing.{HasBroken, Lists};
 ghost use Rattle.docket_store.specs.declared.fault.Fault.TheVariants as fault;
 
-use crate::asking::calendar_told;
+use crate::asking::calendar_taken;
 use crate::fault::{Fault, read_fault};
 use court_days::{Calendar, Court, Day};
 use docket_calendar::{Stop, calendar};
@@ -124,7 +124,7 @@ pub(crate) fn list_days<S: Alter, W: Write>(
     ensures lists { (h : History) → Stands S.Store (serving conn.old court.now kept.old) h
         → Lists S.Store (serving conn.new court.now kept.new) h from to front.now (W.contents writer.old) (W.contents writer.new) result }
 {
-    let standing = match calendar_told(conn, alloc, kept, failure) {
+    let standing = match calendar_taken(conn, alloc, kept, failure) {
         Ok(standing) => standing,
         Err(fault) => return Err(ListingEnd::NotBegun(fault)),
     };

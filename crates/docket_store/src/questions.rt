@@ -1,6 +1,6 @@
 //! What is asked of the docket. A question changes nothing; where the database fails under it, the docket is
 //! closed.
-ghost use Rattle.std.specs.Prelude.{◌≡◌, ◌↔◌, ◌⊎◌, ◌≤◌, List, Option, Some, None, true, false, Ok, Err, IfOk, IfErr, IfSome, IsErrAnd, is_some};
+ghost use Rattle.std.specs.Prelude.{◌≡◌, ◌↔◌, ◌≤◌, Option, Some, None, true, false, Ok, Err, IfOk, IfSome, IsErrAnd, is_some};
 ghost use Rattle.std.specs.Option.{option_map};
 ghost use Rattle.sqlite.specs.Held.{state};
 ghost use Rattle.sqlite.specs.State.{HasCleanDisk};

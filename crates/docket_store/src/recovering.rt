@@ -2,13 +2,11 @@
 ghost use Rattle.std.specs.Prelude.{IsTrue, IfErr, MatchResult};
 ghost use Rattle.sqlite_store.specs.declared.store.FileStore.{FileStore};
 ghost use Rattle.sqlite.specs.Files.{over_files, image_of};
-ghost use Rattle.sqlite.specs.Held.{state};
-ghost use Rattle.sqlite.specs.State.{HasCleanDisk};
 ghost use Rattle.court_days.specs.Court.{CourtSettings};
 ghost use Rattle.docket_history.specs.Histories.{History};
 ghost use Rattle.docket_decisions.specs.Outcomes.{after};
 ghost use Rattle.docket_store.specs.Applying.{IsDocket};
-ghost use Rattle.docket_store.specs.Reopening.{AppliesOnce, IsEither, IsNotOpened, IsNotRecovered, LeavesEither, MayLeave};
+ghost use Rattle.docket_store.specs.Reopening.{GoesOn, IsEither, IsNotOpened, IsNotRecovered, LeavesEither, MayLeave};
 
 use crate::docket::Docket;
 use crate::fault::Fault;
@@ -82,8 +80,7 @@ pub fn apply_again<D: Disk + Drop>(
     requires db { IsTrue (D.Disk.is_usable files.db) }
     ensures once { (it : FileStore D D.Disk) (court : CourtSettings) (h : History) → IsDocket court h → IsDocket court (after court h command.now)
         → LeavesEither it court h (after court h command.now) → MayLeave it (image_of D.Disk files)
-        → MatchResult result (λ r. HasCleanDisk (state over_files r.0.conn) → AppliesOnce over_files r.0 court h command.now r.1)
-        (IsNotRecovered court h (after court h command.now)) }
+        → GoesOn court h command.now result }
     ensures opened { IfErr result (IsNotOpened files) }
 {
     let mut docket = recover(alloc, files, options)?;

@@ -1,6 +1,7 @@
 pub mod Additions
 pub mod AnyRows
 pub mod Causes
+pub mod Changing
 pub mod Contents
 pub mod Creation
 pub mod Holds

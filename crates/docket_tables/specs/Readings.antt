@@ -1,5 +1,5 @@
 -- What a question to a connection gives.
-use Rattle.std.specs.Prelude.{◌≡◌, ◌==◌, ℕ, zero, suc, List, filter, slice_get, Option, None, Result, Ok, Err}
+use Rattle.std.specs.Prelude.{◌≡◌, ◌==◌, ℕ, zero, suc, List, map, filter, slice_get, Option, None, Result, Ok, Err}
 use Rattle.std.specs.List.Sorted.{IsNonDecreasingBy}
 use Rattle.sqlite.specs.Store.{Ghosts}
 use Rattle.sqlite.specs.State.{HasCleanDisk}
@@ -7,9 +7,10 @@ use Rattle.sqlite.specs.Held.{Held, state}
 use Rattle.court_days.specs.Court.{CourtSettings}
 use Rattle.docket_decisions.specs.Tables.{Tables}
 use Rattle.docket_history.specs.declared.row.ActRow.{ActRow}
+use Rattle.docket_history.specs.declared.row.CalendarRow.{CalendarRow}
 use Rattle.docket_tables.specs.Contents.{rows_in}
 use Rattle.docket_tables.specs.Layouts.{Rows}
-use Rattle.docket_orderly.specs.Orderly.{IsOrderly, acts_on}
+use Rattle.docket_orderly.specs.Orderly.{IsOrderly, Rises, acts_on}
 use Rattle.docket_tables.specs.Stands.{HoldsRows, Lasts}
 use Rattle.docket_tables.specs.declared.fault.ReadFault.{ReadFault}
 use Rattle.docket_tables.specs.declared.fault.ReadFault.TheVariants.{Store, NoMemory, Damaged}
@@ -19,6 +20,10 @@ abbrev pub IsReadAs : {X : Type 0} → (X → Type 0) → Result X ReadFault →
 IsReadAs answer (Ok x) = answer x
 IsReadAs answer (Err NoMemory) = Unit {0}
 IsReadAs answer (Err _) = ⊥
+
+-- they stand in the order of their numbers, each of which is there once
+abbrev pub AreNumberedRows : List CalendarRow → Type 0
+AreNumberedRows rows = Rises (map (λ row. row.number) rows)
 
 -- the row of a number, from 1
 abbrev pub row_at : {R : Type 0} → List R → ℕ → Option R

@@ -1,20 +1,19 @@
 //! Changes of rows, inside a transaction.
-ghost use Rattle.std.specs.Prelude.{◌≡◌, ◌<◌, ◌≤◌, ◌+◌, ◌^◌, ℕ, List, [], ◌∷◌, length, IfErr, OnOk};
+ghost use Rattle.std.specs.Prelude.{◌≡◌, ◌<◌, ◌≤◌, ◌+◌, ◌^◌, ℕ, List, [], ◌∷◌, length, IfErr};
 ghost use Rattle.court_days.specs.Court.{CourtSettings};
 ghost use Rattle.docket_decisions.specs.EndRows.{changed_ends, all_changed_ends};
-ghost use Rattle.docket_decisions.specs.Tables.{Tables, changed, all_changed, with_receipt};
+ghost use Rattle.docket_decisions.specs.Tables.{Tables, changed, all_changed};
 ghost use Rattle.docket_history.specs.declared.row.Change.TheVariants as change;
 ghost use Rattle.docket_wire.specs.Writing.{canonical};
 ghost use Rattle.sqlite.specs.Held.{state};
 ghost use Rattle.sqlite.specs.State.{HasCleanDisk};
 ghost use Rattle.sqlite.specs.View.{doubt};
 ghost use Rattle.docket_decisions.specs.declared.end_row.EndRow.{EndRow as Ended};
-ghost use Rattle.docket_columns.specs.Cells.{end_cells, receipt_cells};
-ghost use Rattle.docket_decisions.specs.Additions.{AddsOnce, AddsAmong};
-ghost use Rattle.docket_orderly.specs.Additions.{HasDeadline, MayAdd, MayAddAll, MayReceive};
-ghost use Rattle.docket_tables.specs.Additions.{AreStorable, values_added};
-ghost use Rattle.docket_tables.specs.Causes.{HasChangeCause, IsCaused, IsChangeFault};
-ghost use Rattle.docket_tables.specs.AnyRows.{AreDocketRows, all_rows_changed, recorded, row_changed, with_calendar_row, without_calendar_row, with_stored};
+ghost use Rattle.docket_columns.specs.Cells.{end_cells};
+ghost use Rattle.docket_tables.specs.Additions.{AreStorable};
+ghost use Rattle.docket_tables.specs.Causes.{IsCaused};
+ghost use Rattle.docket_tables.specs.Changing.{AreNumbered, FailsForChange, FailsForChanges, FailsForCommand, FailsForEnds, IfCounted, Makes, rows_changed, with_changes};
+ghost use Rattle.docket_tables.specs.AnyRows.{AreDocketRows, all_rows_changed, row_changed, with_calendar_row, without_calendar_row, with_stored};
 ghost use Rattle.docket_tables.specs.Contents.{rows_with};
 ghost use Rattle.docket_tables.specs.Holds.{IsKeyed};
 ghost use Rattle.docket_tables.specs.Layouts.{Rows};
@@ -43,10 +42,9 @@ fn insert_calendar_row<S: Alter>(
 ) -> Result<(), Error>
     ensures same_reference { tx.new.conn.ghost_name ≡ tx.old.conn.ghost_name }
     ensures inside { StaysInside (state S.Store tx.old.conn.now) (state S.Store tx.new.conn.now) }
-    ensures ok { HasCleanDisk (state S.Store tx.new.conn.now) → (rows : Rows) → Sees (state S.Store tx.old.conn.now) rows
-        → OnOk result (Sees (state S.Store tx.new.conn.now) (with_calendar_row row.now.number row.now.name row.now.item rows)) }
+    ensures ok { HasCleanDisk (state S.Store tx.new.conn.now) → (rows : Rows) → Makes (state S.Store tx.old.conn.now) (state S.Store tx.new.conn.now) rows (with_calendar_row row.now.number row.now.name row.now.item rows) result }
     ensures cause { HasCleanDisk (state S.Store tx.new.conn.now) → (court : CourtSettings) (t : Tables) (ends : List Ended)
-        → Sees (state S.Store tx.old.conn.now) (rows_with court t ends) → MayAdd (change.AddCalendar row.now) t → AreStorable (values_added (change.AddCalendar row.now)) → IfErr result (HasChangeCause (state S.Store tx.old.conn.now) (state S.Store tx.new.conn.now)) }
+        → FailsForChange (change.AddCalendar row.now) t (rows_with court t ends) (state S.Store tx.old.conn.now) (state S.Store tx.new.conn.now) result }
 {
     match row.item {
         CalendarItem::Short(day, close) => {
@@ -64,7 +62,7 @@ fn withdraw_row<S: Alter>(tx: &mut Transaction<'_, S>, number: u32) -> Result<()
     ensures same_reference { tx.new.conn.ghost_name ≡ tx.old.conn.ghost_name }
     ensures inside { StaysInside (state S.Store tx.old.conn.now) (state S.Store tx.new.conn.now) }
     ensures ok { HasCleanDisk (state S.Store tx.new.conn.now) → (rows : Rows) → AllByRecursion IsKeyed (rows table.Calendar) → AllByRecursion IsKeyed (rows table.ShortDays)
-        → Sees (state S.Store tx.old.conn.now) rows → OnOk result (Sees (state S.Store tx.new.conn.now) (without_calendar_row number rows)) }
+        → Makes (state S.Store tx.old.conn.now) (state S.Store tx.new.conn.now) rows (without_calendar_row number rows) result }
     ensures cause { HasCleanDisk (state S.Store tx.new.conn.now) → (court : CourtSettings) (t : Tables) (ends : List Ended)
         → Sees (state S.Store tx.old.conn.now) (rows_with court t ends) → IfErr result (IsCaused (state S.Store tx.old.conn.now) (state S.Store tx.new.conn.now)) }
 {
@@ -77,11 +75,11 @@ fn add_calendar_row<S: Alter>(tx: &mut Transaction<'_, S>, row: &CalendarRow) ->
     ensures same_reference { tx.new.conn.ghost_name ≡ tx.old.conn.ghost_name }
     ensures inside { StaysInside (state S.Store tx.old.conn.now) (state S.Store tx.new.conn.now) }
     ensures ok { HasCleanDisk (state S.Store tx.new.conn.now) → (court : CourtSettings) (t : Tables) (ends : List Ended) → t.next_row + 1 < 2 ^ 63
-        → Sees (state S.Store tx.old.conn.now) (rows_with court t ends) → OnOk result (Sees (state S.Store tx.new.conn.now) (rows_with court (changed (change.AddCalendar row.now) t) ends)) }
+        → Makes (state S.Store tx.old.conn.now) (state S.Store tx.new.conn.now) (rows_with court t ends) (rows_with court (changed (change.AddCalendar row.now) t) ends) result }
     ensures any { HasCleanDisk (state S.Store tx.new.conn.now) → (court : CourtSettings) (n : ℕ) (stored : List Ended) (rows : Rows) → AreDocketRows court n stored rows → n + 1 < 2 ^ 63
-        → Sees (state S.Store tx.old.conn.now) rows → OnOk result (Sees (state S.Store tx.new.conn.now) (row_changed court n (change.AddCalendar row.now) rows)) }
-    ensures cause { HasCleanDisk (state S.Store tx.new.conn.now) → (court : CourtSettings) (t : Tables) (ends : List Ended) → t.next_row + 1 < 2 ^ 63 → length court.zone_text ≤ 31
-        → Sees (state S.Store tx.old.conn.now) (rows_with court t ends) → MayAdd (change.AddCalendar row.now) t → AreStorable (values_added (change.AddCalendar row.now)) → IfErr result (HasChangeCause (state S.Store tx.old.conn.now) (state S.Store tx.new.conn.now)) }
+        → Makes (state S.Store tx.old.conn.now) (state S.Store tx.new.conn.now) rows (row_changed court n (change.AddCalendar row.now) rows) result }
+    ensures cause { HasCleanDisk (state S.Store tx.new.conn.now) → (court : CourtSettings) (t : Tables) (ends : List Ended)
+        → IfCounted court t.next_row 1 (FailsForChange (change.AddCalendar row.now) t (rows_with court t ends) (state S.Store tx.old.conn.now) (state S.Store tx.new.conn.now) result) }
 {
     insert_calendar_row(tx, row)?;
     count_calendar_row(tx)
@@ -92,12 +90,12 @@ fn change_row<S: Alter>(tx: &mut Transaction<'_, S>, change: &Change) -> Result<
     ensures same_reference { tx.new.conn.ghost_name ≡ tx.old.conn.ghost_name }
     ensures inside { StaysInside (state S.Store tx.old.conn.now) (state S.Store tx.new.conn.now) }
     ensures ok { HasCleanDisk (state S.Store tx.new.conn.now) → (court : CourtSettings) (t : Tables) (ends : List Ended) → t.next_row + 1 < 2 ^ 63
-        → Sees (state S.Store tx.old.conn.now) (rows_with court t ends) → OnOk result (Sees (state S.Store tx.new.conn.now) (rows_with court (changed change.now t) ends)) }
+        → Makes (state S.Store tx.old.conn.now) (state S.Store tx.new.conn.now) (rows_with court t ends) (rows_with court (changed change.now t) ends) result }
     ensures any { HasCleanDisk (state S.Store tx.new.conn.now) → (court : CourtSettings) (n : ℕ) (stored : List Ended) (rows : Rows) → AreDocketRows court n stored rows → n + 1 < 2 ^ 63
-        → Sees (state S.Store tx.old.conn.now) rows → OnOk result (Sees (state S.Store tx.new.conn.now) (row_changed court n change.now rows)) }
+        → Makes (state S.Store tx.old.conn.now) (state S.Store tx.new.conn.now) rows (row_changed court n change.now rows) result }
     // A change that may be made fails only for a cause.
-    ensures cause { HasCleanDisk (state S.Store tx.new.conn.now) → (court : CourtSettings) (t : Tables) (ends : List Ended) → t.next_row + 1 < 2 ^ 63 → length court.zone_text ≤ 31
-        → Sees (state S.Store tx.old.conn.now) (rows_with court t ends) → MayAdd change.now t → AreStorable (values_added change.now) → IfErr result (HasChangeCause (state S.Store tx.old.conn.now) (state S.Store tx.new.conn.now)) }
+    ensures cause { HasCleanDisk (state S.Store tx.new.conn.now) → (court : CourtSettings) (t : Tables) (ends : List Ended)
+        → IfCounted court t.next_row 1 (FailsForChange change.now t (rows_with court t ends) (state S.Store tx.old.conn.now) (state S.Store tx.new.conn.now) result) }
 {
     match change {
         Change::AddCalendar(row) => add_calendar_row(tx, row),
@@ -116,11 +114,11 @@ fn change_all<S: Alter>(tx: &mut Transaction<'_, S>, changes: &[Change]) -> Resu
     ensures same_reference { tx.new.conn.ghost_name ≡ tx.old.conn.ghost_name }
     ensures inside { StaysInside (state S.Store tx.old.conn.now) (state S.Store tx.new.conn.now) }
     ensures ok { HasCleanDisk (state S.Store tx.new.conn.now) → (court : CourtSettings) (t : Tables) (ends : List Ended) → t.next_row + length changes.now < 2 ^ 63
-        → Sees (state S.Store tx.old.conn.now) (rows_with court t ends) → OnOk result (Sees (state S.Store tx.new.conn.now) (rows_with court (all_changed changes.now t) ends)) }
+        → Makes (state S.Store tx.old.conn.now) (state S.Store tx.new.conn.now) (rows_with court t ends) (rows_with court (all_changed changes.now t) ends) result }
     ensures any { HasCleanDisk (state S.Store tx.new.conn.now) → (court : CourtSettings) (n : ℕ) (stored : List Ended) (rows : Rows) → AreDocketRows court n stored rows → n + length changes.now < 2 ^ 63
-        → Sees (state S.Store tx.old.conn.now) rows → OnOk result (Sees (state S.Store tx.new.conn.now) (all_rows_changed court n changes.now rows)) }
-    ensures cause { HasCleanDisk (state S.Store tx.new.conn.now) → (court : CourtSettings) (t : Tables) (ends : List Ended) → t.next_row + length changes.now < 2 ^ 63 → length court.zone_text ≤ 31
-        → Sees (state S.Store tx.old.conn.now) (rows_with court t ends) → MayAddAll changes.now t → AllByRecursion (λ x. AreStorable (values_added x)) changes.now → IfErr result (HasChangeCause (state S.Store tx.old.conn.now) (state S.Store tx.new.conn.now)) }
+        → Makes (state S.Store tx.old.conn.now) (state S.Store tx.new.conn.now) rows (all_rows_changed court n changes.now rows) result }
+    ensures cause { HasCleanDisk (state S.Store tx.new.conn.now) → (court : CourtSettings) (t : Tables) (ends : List Ended)
+        → IfCounted court t.next_row (length changes.now) (FailsForChanges changes.now t (rows_with court t ends) (state S.Store tx.old.conn.now) (state S.Store tx.new.conn.now) result) }
 {
     'changes: for change in changes {
         change_row(tx, change)?;
@@ -138,15 +136,13 @@ pub fn record<S: Alter>(
     requires { body.now ≡ canonical command.now }
     ensures same_reference { tx.new.conn.ghost_name ≡ tx.old.conn.ghost_name }
     ensures inside { StaysInside (state S.Store tx.old.conn.now) (state S.Store tx.new.conn.now) }
-    ensures ok { HasCleanDisk (state S.Store tx.new.conn.now) → (court : CourtSettings) (t : Tables) (ends : List Ended) → t.next_row + length changes.now.rows.items < 2 ^ 63
-        → Sees (state S.Store tx.old.conn.now) (rows_with court t ends)
-        → OnOk result (Sees (state S.Store tx.new.conn.now) (rows_with court (with_receipt command.now changes.now.reply (all_changed changes.now.rows.items t)) ends)) }
-    ensures any { HasCleanDisk (state S.Store tx.new.conn.now) → (court : CourtSettings) (n : ℕ) (stored : List Ended) (rows : Rows) → AreDocketRows court n stored rows → n + length changes.now.rows.items < 2 ^ 63
-        → Sees (state S.Store tx.old.conn.now) rows → OnOk result (Sees (state S.Store tx.new.conn.now) (recorded court n command.now changes.now.reply changes.now.rows.items rows)) }
+    ensures ok { HasCleanDisk (state S.Store tx.new.conn.now) → (court : CourtSettings) (t : Tables) (ends : List Ended) → AreNumbered t.next_row changes.now
+        → Makes (state S.Store tx.old.conn.now) (state S.Store tx.new.conn.now) (rows_with court t ends) (rows_with court (with_changes command.now changes.now t) ends) result }
+    ensures any { HasCleanDisk (state S.Store tx.new.conn.now) → (court : CourtSettings) (n : ℕ) (stored : List Ended) (rows : Rows) → AreDocketRows court n stored rows → AreNumbered n changes.now
+        → Makes (state S.Store tx.old.conn.now) (state S.Store tx.new.conn.now) rows (rows_changed court n command.now changes.now rows) result }
     // Changes that may be made, with a receipt under a key that is fresh, fail only for a cause.
-    ensures cause { HasCleanDisk (state S.Store tx.new.conn.now) → (court : CourtSettings) (t : Tables) (ends : List Ended) → t.next_row + length changes.now.rows.items < 2 ^ 63 → length court.zone_text ≤ 31
-        → Sees (state S.Store tx.old.conn.now) (rows_with court t ends) → MayAddAll changes.now.rows.items t → MayReceive command.now t
-        → AllByRecursion (λ x. AreStorable (values_added x)) changes.now.rows.items → AreStorable (receipt_cells (record { command = command.now; reply = changes.now.reply })) → IfErr result (HasChangeCause (state S.Store tx.old.conn.now) (state S.Store tx.new.conn.now)) }
+    ensures cause { HasCleanDisk (state S.Store tx.new.conn.now) → (court : CourtSettings) (t : Tables) (ends : List Ended)
+        → IfCounted court t.next_row (length changes.now.rows.items) (FailsForCommand command.now changes.now t (rows_with court t ends) (state S.Store tx.old.conn.now) (state S.Store tx.new.conn.now) result) }
 {
     change_all(tx, changes.rows.as_slice())?;
     insert(
@@ -170,7 +166,7 @@ fn change_end<S: Alter>(tx: &mut Transaction<'_, S>, change: &EndChange) -> Resu
     ensures any { (stored : List Ended) (rows : Rows)
         → Inside (state S.Store tx.old.conn.now) (state S.Store tx.new.conn.now) (with_stored stored rows) (with_stored (changed_ends change.now stored) rows) result (λ _. Unit {0}) }
     ensures cause { HasCleanDisk (state S.Store tx.new.conn.now) → (court : CourtSettings) (t : Tables) (ends : List Ended)
-        → Sees (state S.Store tx.old.conn.now) (rows_with court t ends) → AddsOnce (change.now ∷ []) ends → AddsAmong (HasDeadline t) (change.now ∷ []) → IfErr result (IsChangeFault (state S.Store tx.old.conn.now) (state S.Store tx.new.conn.now)) }
+        → FailsForEnds (change.now ∷ []) t ends (rows_with court t ends) (state S.Store tx.old.conn.now) (state S.Store tx.new.conn.now) result }
 {
     match change {
         EndChange::Add(row) => {
@@ -196,7 +192,7 @@ pub fn change_ends<S: Alter>(
         → Inside (state S.Store tx.old.conn.now) (state S.Store tx.new.conn.now) (with_stored stored rows) (with_stored (all_changed_ends changes.now stored) rows) result (λ _. Unit {0}) }
     // Changes that add no end beside one of its deadline, and each to a deadline that stands, fail only for a cause.
     ensures cause { HasCleanDisk (state S.Store tx.new.conn.now) → (court : CourtSettings) (t : Tables) (ends : List Ended)
-        → Sees (state S.Store tx.old.conn.now) (rows_with court t ends) → AddsOnce changes.now ends → AddsAmong (HasDeadline t) changes.now → IfErr result (IsChangeFault (state S.Store tx.old.conn.now) (state S.Store tx.new.conn.now)) }
+        → FailsForEnds changes.now t ends (rows_with court t ends) (state S.Store tx.old.conn.now) (state S.Store tx.new.conn.now) result }
 {
     'changes: for change in changes {
         change_end(tx, change)?;

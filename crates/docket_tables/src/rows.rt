@@ -17,9 +17,8 @@ ghost use Rattle.docket_wire.specs.Valid.{IsCommand};
 ghost use Rattle.docket_wire.specs.Writing.{canonical};
 ghost use Rattle.docket_columns.specs.Cells.{act_cells, calendar_cells, court_cells, local_rule_cells, receipt_cells, short_day_cells, stored_cells};
 ghost use Rattle.docket_columns.specs.Fits.{IsActRow, IsCalendarRow, IsCourtRow, IsLocalRuleRow, IsReceipt, IsShortDayRow};
-ghost use Rattle.docket_orderly.specs.Orderly.{Rises};
 ghost use Rattle.docket_tables.specs.Causes.{IsOwn};
-ghost use Rattle.docket_tables.specs.Readings.{IsReadAs};
+ghost use Rattle.docket_tables.specs.Readings.{AreNumberedRows, IsReadAs};
 
 use crate::fault::ReadFault;
 use court_rules::Act;
@@ -49,7 +48,7 @@ fn in_order(
     mut calendar: Vec<CalendarRow>,
     short_days: Vec<ShortDayRow>,
 ) -> Result<Vec<CalendarRow>, AllocError>
-    ensures { (all : List Entered) → Rises (map (λ row. row.number) all) → calendar.items ≡ day_and_span_rows all → short_days.items ≡ short_day_rows all
+    ensures { (all : List Entered) → AreNumberedRows all → calendar.items ≡ day_and_span_rows all → short_days.items ≡ short_day_rows all
         → IfOk result (λ found. found.items ≡ all) }
 {
     calendar.extend(short_days.into_iter().map(|row| CalendarRow::from(row)))?;
@@ -63,7 +62,7 @@ pub(crate) fn calendar_in(
     rows: &[Row],
     short_rows: &[Row],
 ) -> Result<Vec<CalendarRow>, ReadFault>
-    ensures read { (all : List Entered) → AllByRecursion IsCalendarRow (day_and_span_rows all) → AllByRecursion IsShortDayRow (short_day_rows all) → Rises (map (λ row. row.number) all)
+    ensures read { (all : List Entered) → AllByRecursion IsCalendarRow (day_and_span_rows all) → AllByRecursion IsShortDayRow (short_day_rows all) → AreNumberedRows all
         → rows.now ≡ map calendar_cells (day_and_span_rows all) → short_rows.now ≡ map short_day_cells (short_day_rows all) → IsReadAs (λ found. found.items ≡ all) result }
     ensures own { IfErr result IsOwn }
 {

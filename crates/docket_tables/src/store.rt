@@ -1,9 +1,9 @@
 //! Calls of the database.
-ghost use Rattle.std.specs.Prelude.{◌≡◌, IsTrue, pos, ◌≤◌, ◌<◌, ◌^◌, ◌+◌, [], ◌∷◌, ℕ, List, length, map, Ok, Err, OnOk, OnErr, IfOk, IfErr, false, true};
+ghost use Rattle.std.specs.Prelude.{◌≡◌, IsTrue, pos, ◌≤◌, ◌<◌, ◌^◌, ◌+◌, [], ◌∷◌, ℕ, List, length, map, Ok, Err, OnOk, OnErr, IfOk, IfErr, false};
 ghost use Rattle.sqlite.specs.Given.{IsPlain};
 ghost use Rattle.sqlite.specs.Held.{state};
 ghost use Rattle.sqlite.specs.Listing.{understood};
-ghost use Rattle.sqlite.specs.State.{FailsToQuery, HasCleanDisk, Shown, Executes, ExecutesInside, Shows as Turns};
+ghost use Rattle.sqlite.specs.State.{FailsToQuery, HasCleanDisk, Shown, ExecutesInside};
 ghost use Rattle.sqlite.specs.Values.{bound};
 ghost use Rattle.sqlite.specs.View.{doubt};
 ghost use Rattle.court_days.specs.Court.{CourtSettings};
@@ -13,6 +13,7 @@ ghost use Rattle.docket_decisions.specs.declared.end_row.EndChange.TheVariants a
 ghost use Rattle.docket_decisions.specs.declared.end_row.EndRow.{EndRow as Ended};
 ghost use Rattle.docket_tables.specs.Additions.{MayStand};
 ghost use Rattle.docket_tables.specs.Causes.{HasAddCause, HasChangeCause, IsCaused, Suits};
+ghost use Rattle.docket_tables.specs.Changing.{Ran};
 ghost use Rattle.docket_tables.specs.Holds.{IsKeyed, without_number, without_key};
 ghost use Rattle.sqlite.specs.declared.types.Value.TheVariants.{Int};
 ghost use Rattle.docket_tables.specs.Layouts.{Rows, Fits, with_row, with_rows};
@@ -77,8 +78,7 @@ pub(crate) fn change<S: Alter>(
 ) -> Result<(), Error>
     ensures same_reference { tx.new.conn.ghost_name ≡ tx.old.conn.ghost_name }
     ensures inside { StaysInside (state S.Store tx.old.conn.now) (state S.Store tx.new.conn.now) }
-    ensures runs { HasCleanDisk (state S.Store tx.new.conn.now) → OnOk result ((count : ℕ) × Executes sql.now (bound params.now) (state S.Store tx.old.conn.now) (state S.Store tx.new.conn.now) (Ok count)
-        × Turns (state S.Store tx.old.conn.now) (state S.Store tx.new.conn.now) (state S.Store tx.new.conn.now).now (state S.Store tx.old.conn.now).committed true) }
+    ensures runs { HasCleanDisk (state S.Store tx.new.conn.now) → OnOk result (Ran sql.now (bound params.now) (state S.Store tx.old.conn.now) (state S.Store tx.new.conn.now)) }
     ensures fails { HasCleanDisk (state S.Store tx.new.conn.now) → IsTrue (state S.Store tx.old.conn.now).in_transaction
         → IfErr result (λ e. ExecutesInside 0 sql.now (bound params.now) (state S.Store tx.old.conn.now) (state S.Store tx.new.conn.now) (Err e)) }
 {

@@ -1,27 +1,14 @@
 -- How a job on files ended, and what goes out of a text.
-use Rattle.std.proofs.Common.{◌≡◌, ℕ, List, [], length, Option, Some, None, Result, Ok, Err, IfErr, IfOk, IfSome, IsErr, IsOkAnd, MatchOption, MatchResult, OnOk, OnErr, ◌∙◌, sym, subst, subst₂, arith}
+use Rattle.std.proofs.Common.{◌≡◌, ℕ, List, [], Option, Some, None, Result, Ok, Err, IfErr, IfOk, IfSome, IsErr, IsOkAnd, MatchOption, MatchResult, OnOk, ◌∙◌, sym, subst, subst₂}
 use Rattle.std.proofs.lemmas.Bool.{false≢true}
-use Rattle.std.proofs.lemmas.List.{append-nil, take_all}
+use Rattle.std.proofs.lemmas.List.{append-nil}
 use Rattle.std.specs.Io.KnownBytes.{Appends}
 use Rattle.docket_scan.specs.declared.fault.AdoptFault.{AdoptFault}
 use Rattle.line_io.specs.Output.{AppendsFront}
-use Rattle.file_jobs.specs.Tells.{WorksTo}
-use Rattle.job_runs.specs.declared.status.Status.{Status}
-use Rattle.job_runs.specs.declared.status.Status.TheVariants.{Failed}
-use Rattle.job_runs.specs.Ends.{SaysMissing}
-
--- all of it is a front of it
-whole_front : (before after : Option (List ℕ)) (bytes : List ℕ) → Appends before after bytes → AppendsFront before after bytes
-whole_front before after bytes is = record {
-  count = length bytes;
-  within = omega arith;
-  front = subst (Appends before after) (sym (take_all (length bytes) bytes (omega arith))) is;
-}
-
-pub written : {T E : Type 0} (r : Result T E) (before after : Option (List ℕ)) (bytes : List ℕ)
-    → OnOk r (Appends before after bytes) → OnErr r (AppendsFront before after bytes) → AppendsFront before after bytes
-written (Ok x) before after bytes whole front = whole_front before after bytes whole
-written (Err e) before after bytes whole front = front
+use Rattle.file_dockets.specs.Works.{WorksTo}
+use Rattle.job_ends.specs.declared.status.Status.{Status}
+use Rattle.job_ends.specs.declared.status.Status.TheVariants.{Failed}
+use Rattle.job_runs.specs.Tells.{SaysMissing}
 
 pub err_holds : {T E : Type 0} (r : Result T E) (K : Type 0) → IfErr r (λ _. K) → IsErr r → K
 err_holds (Ok x) K all is = absurd (false≢true is)

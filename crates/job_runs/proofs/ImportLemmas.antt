@@ -3,10 +3,10 @@ use Rattle.std.proofs.Common.{◌≡◌, ◌≢◌, ◌∙◌, List, [], ℕ, Op
 use Rattle.docket_command.specs.declared.command.Command.{Command}
 use Rattle.docket_command.specs.declared.new_day.NewDay.{NewDay}
 use Rattle.day_tables.specs.CalendarCsv.{IsTable}
-use Rattle.job_runs.specs.Ends.{TellsNothing}
+use Rattle.job_ends.specs.Ends.{TellsNothing}
 use Rattle.job_runs.specs.Jobs.{import_command}
-use Rattle.job_runs.specs.declared.status.Status.{Status}
-use Rattle.job_runs.specs.declared.status.Status.TheVariants.{Done, Failed}
+use Rattle.job_ends.specs.declared.status.Status.{Status}
+use Rattle.job_ends.specs.declared.status.Status.TheVariants.{Done, Failed}
 
 -- the days of the table were entered by their command, or the job failed
 pub entered : {L : Type 0} (o : Option L) (Clean : L → Type 0) (A : L → Command → Type 0) (text : List ℕ) (status : Status) (command : Command) (input key : List ℕ)

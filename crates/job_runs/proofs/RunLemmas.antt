@@ -9,13 +9,13 @@ use Rattle.line_io.specs.declared.ending.CountEnd.{CountEnd}
 use Rattle.command_lines.specs.Lines.{Docket, bad_answers, run_text}
 use Rattle.command_lines.specs.declared.fault.RunFault.{RunFault}
 use Rattle.command_lines.specs.declared.fault.RunFault.TheVariants as run
-use Rattle.file_jobs.specs.Runs.{Answers, AnswersAll, LeavesPrefix}
-use Rattle.file_jobs.specs.Tells.{WorksTo}
-use Rattle.job_runs.specs.Ends.{last_line}
+use Rattle.file_changes.specs.Runs.{Answers, AnswersAll, LeavesPrefix}
+use Rattle.file_dockets.specs.Works.{WorksTo}
+use Rattle.job_runs.specs.Tells.{last_line}
 use Rattle.job_runs.specs.Jobs.{Runs, RunsInMemory}
 use Rattle.job_runs.specs.Runs.{TellsEnd}
-use Rattle.job_runs.specs.declared.status.Status.{Status}
-use Rattle.job_runs.specs.declared.status.Status.TheVariants.{Done, SomeBad, Failed}
+use Rattle.job_ends.specs.declared.status.Status.{Status}
+use Rattle.job_ends.specs.declared.status.Status.TheVariants.{Done, SomeBad, Failed}
 use Rattle.job_runs.proofs.EndLemmas.{nothing_more, some_left}
 
 module _ (Left : Rows → Rows → Type 0) (docket : Docket) (input : List ℕ) (before : Option (List ℕ)) where

@@ -5,8 +5,8 @@ use Rattle.docket_command.specs.declared.refusal.Reply.{Reply}
 use Rattle.docket_wire.specs.Texts.{reply_text}
 use Rattle.docket_store.specs.declared.fault.Fault.{Fault}
 use Rattle.docket_store.specs.declared.fault.Fault.TheVariants.{Refused}
-use Rattle.job_runs.specs.declared.status.Status.{Status}
-use Rattle.job_runs.specs.declared.status.Status.TheVariants.{Done, SomeBad, BadLine, Failed}
+use Rattle.job_ends.specs.declared.status.Status.{Status}
+use Rattle.job_ends.specs.declared.status.Status.TheVariants.{Done, SomeBad, BadLine, Failed}
 
 -- the line of an answer, or nothing where there was no memory for it
 abbrev pub TellsAnswer : Result Reply Refusal → List ℕ → Status → Type 0

@@ -34,21 +34,22 @@ use Rattle.day_tables.specs.CalendarCsv.{IsTable}
 use Rattle.line_io.specs.Output.{AppendsFront, HasFront}
 use Rattle.command_lines.specs.Lines.{Docket, bad_answers, docket_after, run_text}
 use Rattle.command_lines.specs.declared.fault.RunFault.{RunFault}
-use Rattle.file_jobs.specs.CaseLists.{cases_told}
-use Rattle.file_jobs.specs.Commands.{AppliesTo}
-use Rattle.file_jobs.specs.Exports.{page_of_sheet, text_of_export}
-use Rattle.file_jobs.specs.Keeping.{Keeps, rows_told}
+use Rattle.file_questions.specs.CaseLists.{cases_told}
+use Rattle.file_changes.specs.Commands.{AppliesTo}
+use Rattle.file_questions.specs.Exports.{page_of_sheet, text_of_export}
+use Rattle.file_dockets.specs.Keeping.{Keeps, rows_told}
 use Rattle.docket_store.specs.Left.{LeavesRows}
-use Rattle.file_jobs.specs.Migrates.{MigratesTo}
-use Rattle.file_jobs.specs.Runs.{LeavesPrefix}
+use Rattle.file_changes.specs.Migrates.{MigratesTo}
+use Rattle.file_changes.specs.Runs.{LeavesPrefix}
 use Rattle.explain_lines.specs.Explain.{explain_text}
-use Rattle.file_jobs.specs.Tells.{text_of_case, text_of_reasons}
+use Rattle.file_questions.specs.Tells.{text_of_case, text_of_reasons}
 use Rattle.job_runs.specs.Checks.{check_text}
-use Rattle.job_runs.specs.Ends.{HasListed, HasTold, SaysMissing, TellsIfAny, TellsNothing, TellsText, last_line, no_such_case, no_such_deadline}
+use Rattle.job_ends.specs.Ends.{TellsNothing}
+use Rattle.job_runs.specs.Tells.{HasListed, HasTold, SaysMissing, TellsIfAny, TellsText, last_line, no_such_case, no_such_deadline}
 use Rattle.job_runs.specs.Imports.{TellsApplied}
-use Rattle.job_runs.specs.declared.end.JobEnd.{JobEnd}
-use Rattle.job_runs.specs.declared.status.Status.{Status}
-use Rattle.job_runs.specs.declared.status.Status.TheVariants.{Done, SomeBad, BadLine, Failed}
+use Rattle.job_ends.specs.declared.end.JobEnd.{JobEnd}
+use Rattle.job_ends.specs.declared.status.Status.{Status}
+use Rattle.job_ends.specs.declared.status.Status.TheVariants.{Done, SomeBad, BadLine, Failed}
 
 -- the command that enters days in the calendar under a key
 abbrev pub import_command : List ℕ → List NewDay → Command

@@ -1,5 +1,5 @@
 pub mod Checks
-pub mod Ends
 pub mod Imports
 pub mod Jobs
 pub mod Runs
+pub mod Tells

@@ -3,9 +3,9 @@ use Rattle.std.specs.Prelude.{◌≡◌, ◌≢◌, ℕ, List, Option, Result, O
 use Rattle.line_io.specs.Output.{AppendsFront}
 use Rattle.line_io.specs.declared.ending.CountEnd.{CountEnd}
 use Rattle.command_lines.specs.declared.fault.RunFault.{RunFault}
-use Rattle.job_runs.specs.Ends.{last_line}
-use Rattle.job_runs.specs.declared.status.Status.{Status}
-use Rattle.job_runs.specs.declared.status.Status.TheVariants.{Done, SomeBad, Failed}
+use Rattle.job_runs.specs.Tells.{last_line}
+use Rattle.job_ends.specs.declared.status.Status.{Status}
+use Rattle.job_ends.specs.declared.status.Status.TheVariants.{Done, SomeBad, Failed}
 
 -- the status says whether an answer was a refusal or a fault; where it broke off a last line says why
 abbrev pub TellsEnd : Result CountEnd RunFault → Option (List ℕ) → Option (List ℕ) → Status → Type 0

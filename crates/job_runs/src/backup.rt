@@ -2,15 +2,13 @@
 ghost use Rattle.std.specs.Prelude.{◌≡◌, codes, None};
 ghost use Rattle.std.specs.Cow.{cow_str_bytes};
 ghost use Rattle.sqlite_wal.specs.Files.{image_at};
-ghost use Rattle.job_runs.specs.Ends.{TellsText};
+ghost use Rattle.job_runs.specs.Tells.{TellsText};
 ghost use Rattle.job_runs.specs.Jobs.{OfDocket, TellsOf};
 
-use crate::end::JobEnd;
-use crate::opening::{AtPath, done_on_docket, ready};
-use crate::status::Status;
-use crate::telling::failed;
+use crate::opening::ready;
 use file_copies::{copy_file, is_free};
-use file_jobs::check_on_file;
+use file_questions::check_on_file;
+use job_ends::{AtPath, JobEnd, Status, done_on_docket, failed};
 use sqlite::{FileFrom, Leftover, Start};
 use sqlite_disk::Disk;
 use std::borrow::CowStr;

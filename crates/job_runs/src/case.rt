@@ -3,16 +3,14 @@ ghost use Rattle.std.specs.Prelude.{◌≡◌, ℕ, List, Option, None, string_b
 ghost use Rattle.std.specs.Option.{option_map};
 ghost use Rattle.std.specs.Cow.{cow_str_bytes};
 ghost use Rattle.sqlite_wal.specs.Files.{image_at};
-ghost use Rattle.file_jobs.specs.Tells.{AnswersTo, text_of_case};
-ghost use Rattle.job_runs.specs.Ends.{SaysMissing, TellsIfAny, no_such_case};
+ghost use Rattle.file_questions.specs.Tells.{AnswersTo, text_of_case};
+ghost use Rattle.job_runs.specs.Tells.{SaysMissing, TellsIfAny, no_such_case};
 ghost use Rattle.job_runs.specs.Jobs.{OfDocket, TellsOf};
 
-use crate::end::JobEnd;
-use crate::opening::{done_on_docket, ready};
-use crate::status::Status;
-use crate::telling::failed;
+use crate::opening::ready;
 use docket_store::Fault;
-use file_jobs::case_on_file;
+use file_questions::case_on_file;
+use job_ends::{JobEnd, Status, done_on_docket, failed};
 use line_io::write_bytes;
 use sqlite::{FileFrom, Start};
 use sqlite_disk::Disk;

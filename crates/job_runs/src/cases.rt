@@ -2,17 +2,15 @@
 ghost use Rattle.std.specs.Prelude.{[], ℕ, List, Option, option_copied};
 ghost use Rattle.sqlite_wal.specs.Files.{image_at};
 ghost use Rattle.docket_history.specs.declared.row.CaseRow.{CaseRow};
-ghost use Rattle.file_jobs.specs.CaseLists.{ListsCases, cases_told};
-ghost use Rattle.job_runs.specs.Ends.{HasListed, SaysMissing, no_such_case};
+ghost use Rattle.file_questions.specs.CaseLists.{ListsCases, cases_told};
+ghost use Rattle.job_runs.specs.Tells.{HasListed, SaysMissing, no_such_case};
 ghost use Rattle.job_runs.specs.Jobs.{OfDocket, TellsOf};
 
 use crate::case::NO_SUCH_CASE;
-use crate::end::JobEnd;
-use crate::opening::{done_on_docket, ready};
-use crate::status::Status;
-use crate::telling::failed;
+use crate::opening::ready;
 use docket_store::CalendarEnd;
-use file_jobs::{Wanted, cases_on_file};
+use file_questions::{Wanted, cases_on_file};
+use job_ends::{JobEnd, Status, done_on_docket, failed};
 use line_io::write_bytes;
 use sqlite::{FileFrom, Start};
 use std::alloc::Global;

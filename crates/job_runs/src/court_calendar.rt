@@ -2,14 +2,14 @@
 ghost use Rattle.sqlite_wal.specs.Files.{image_at};
 ghost use Rattle.docket_history.specs.Histories.{standing_rows};
 ghost use Rattle.docket_text.specs.CourtCalendar.{court_calendar_text};
-ghost use Rattle.job_runs.specs.Ends.{TellsText};
+ghost use Rattle.job_runs.specs.Tells.{TellsText};
 ghost use Rattle.job_runs.specs.Jobs.{OfDocket, TellsOf};
 
-use crate::end::JobEnd;
-use crate::opening::{done_on_docket, ready};
+use crate::opening::ready;
 use crate::rules::text_told;
 use court_days::Day;
-use file_jobs::court_calendar_on_file;
+use file_questions::court_calendar_on_file;
+use job_ends::{JobEnd, done_on_docket};
 use sqlite::{FileFrom, Start};
 use std::io::Write;
 

@@ -2,13 +2,9 @@
 ghost use Rattle.std.specs.Cow.{cow_str_bytes};
 ghost use Rattle.job_runs.specs.Jobs.{FailsOr, Makes};
 
-use crate::end::JobEnd;
-use crate::file::{FileFault, test_file};
-use crate::opening::{AtPath, done};
-use crate::status::Status;
-use crate::telling::failed;
 use court_days::Court;
-use file_jobs::create_on_file;
+use file_changes::create_on_file;
+use job_ends::{AtPath, FileFault, JobEnd, Status, done, failed, test_file};
 use sqlite::{FileFrom, Start};
 use std::borrow::CowStr;
 use std::io::Write;

@@ -1,17 +1,15 @@
 //! Why a deadline is what it is: one of the docket in a file, or what lines of days ask for.
 ghost use Rattle.std.specs.Prelude.{IfSome};
 ghost use Rattle.sqlite_wal.specs.Files.{image_at};
-ghost use Rattle.file_jobs.specs.Tells.{text_of_reasons};
-ghost use Rattle.job_runs.specs.Ends.{SaysMissing, TellsIfAny, no_such_deadline};
+ghost use Rattle.file_questions.specs.Tells.{text_of_reasons};
+ghost use Rattle.job_runs.specs.Tells.{SaysMissing, TellsIfAny, no_such_deadline};
 ghost use Rattle.job_runs.specs.Jobs.{Explains, OfDocket, TellsOf};
 
 use crate::case::told_if_any;
-use crate::end::JobEnd;
-use crate::opening::{done_on_docket, ready};
-use crate::status::Status;
-use crate::telling::failed;
+use crate::opening::ready;
 use explain_lines::explain_run;
-use file_jobs::explain_on_file;
+use file_questions::explain_on_file;
+use job_ends::{JobEnd, Status, done_on_docket, failed};
 use sqlite::{FileFrom, Start};
 use std::alloc::Global;
 use std::io::{Read, Write};

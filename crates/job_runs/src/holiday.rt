@@ -3,11 +3,10 @@ ghost use Rattle.std.specs.Prelude.{◌≡◌, None};
 ghost use Rattle.std.specs.Cow.{cow_str_bytes};
 ghost use Rattle.std.specs.Int.{IsInRange};
 ghost use Rattle.docket_text.specs.HolidayTexts.{holiday_text};
-ghost use Rattle.job_runs.specs.Ends.{TellsText};
+ghost use Rattle.job_runs.specs.Tells.{TellsText};
 
-use crate::end::JobEnd;
-use crate::telling::no_memory;
 use docket_text::holiday_text;
+use job_ends::{JobEnd, no_memory};
 use sqlite_disk::Disk;
 use std::alloc::Global;
 use std::io::Write;

@@ -10,15 +10,13 @@ ghost use Rattle.docket_store.specs.Left.{LeavesRows};
 ghost use Rattle.job_runs.specs.Imports.{TellsAnswer, TellsApplied};
 ghost use Rattle.job_runs.specs.Jobs.{Applies, FailsOr, Imports, OfDocket, import_command};
 
-use crate::end::JobEnd;
-use crate::opening::{done_on_docket, ready};
-use crate::status::Status;
-use crate::telling::{failed, failed_by, no_memory, write_text};
+use crate::opening::ready;
 use day_tables::{CsvFault, read_calendar_csv};
 use docket_command::{Action, Command, ImportCalendar, NewDay, NewDays, Refusal, Reply, Text};
 use docket_store::Fault;
 use docket_wire::reply_text;
-use file_jobs::apply_on_file;
+use file_changes::apply_on_file;
+use job_ends::{JobEnd, Status, done_on_docket, failed, failed_by, no_memory, write_text};
 use sqlite::{FileFrom, Start};
 use sqlite_disk::Disk;
 use std::alloc::{AllocError, Global};

@@ -8,10 +8,9 @@ ghost use Rattle.docket_store.specs.Migrating.{HoldFirst};
 ghost use Rattle.command_lines.specs.Lines.{Docket as Told};
 ghost use Rattle.job_runs.specs.Jobs.{FailsOr, Migrates};
 
-use crate::end::JobEnd;
-use crate::opening::{done, ready};
-use crate::status::Status;
-use file_jobs::migrate_on_file;
+use crate::opening::ready;
+use file_changes::migrate_on_file;
+use job_ends::{JobEnd, Status, done};
 use sqlite::{FileFrom, Start};
 use std::borrow::CowStr;
 use std::io::Write;

@@ -3,11 +3,9 @@ ghost use Rattle.std.specs.Prelude.{◌≡◌, [], if◌then◌else◌};
 ghost use Rattle.std.specs.Cow.{cow_str_bytes};
 ghost use Rattle.http_request.specs.declared.page.Routes.TheVariants.{Docket, WithPages};
 
-use crate::end::JobEnd;
-use crate::opening::{done_on_docket, ready};
-use crate::status::Status;
-use crate::telling::{failed, failed_by};
-use file_jobs::{Routes, ServeEnd, Service, serve_on_file};
+use crate::opening::ready;
+use file_serving::{Routes, ServeEnd, Service, serve_on_file};
+use job_ends::{JobEnd, Status, done_on_docket, failed, failed_by};
 use sqlite::{FileFrom, Start};
 use std::alloc::Global;
 use std::fmt;

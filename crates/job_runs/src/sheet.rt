@@ -1,13 +1,13 @@
 //! The docket sheet of a case of the docket in a file.
 ghost use Rattle.sqlite_wal.specs.Files.{image_at};
-ghost use Rattle.file_jobs.specs.Exports.{page_of_sheet};
-ghost use Rattle.job_runs.specs.Ends.{SaysMissing, TellsIfAny, no_such_case};
+ghost use Rattle.file_questions.specs.Exports.{page_of_sheet};
+ghost use Rattle.job_runs.specs.Tells.{SaysMissing, TellsIfAny, no_such_case};
 ghost use Rattle.job_runs.specs.Jobs.{OfDocket, TellsOf};
 
 use crate::case::{NO_SUCH_CASE, told_if_any};
-use crate::end::JobEnd;
-use crate::opening::{done_on_docket, ready};
-use file_jobs::sheet_on_file;
+use crate::opening::ready;
+use file_questions::sheet_on_file;
+use job_ends::{JobEnd, done_on_docket};
 use sqlite::{FileFrom, Start};
 use std::io::Write;
 

@@ -1,8 +1,9 @@
 -- What a part of a run did, for the functions that the run is made of.
-use Rattle.std.specs.Prelude.{◌≡◌, ℕ, ◌+◌, ◌≤◌, List, ◌++◌, length, take, Option}
+use Rattle.std.specs.Prelude.{◌≡◌, ℕ, ◌+◌, ◌≤◌, List, [], ◌++◌, length, take, Option}
 use Rattle.std.specs.Io.KnownBytes.{Appends}
-use Rattle.line_io.specs.Lines.{lines_from}
-use Rattle.line_io.specs.Report.{Judged, text_of, bad_of, after_of}
+use Rattle.line_io.specs.Lines.{lines_from, lines_of}
+use Rattle.line_io.specs.Report.{Judged, text_of, bad_of, after_of, within}
+use Rattle.line_io.specs.declared.lines.Progress.{Progress}
 
 -- This holds from each state that is shown, and for each part of a line of which this is kept, as long as what the
 -- answers rely on is not lost.
@@ -63,3 +64,31 @@ pub record Tells {S : Type 0} (judge : S → List ℕ → Judged S) (Shows : S �
   pub lines_are : count ≡ length lines
   pub bad_are : bad ≡ bad_of judge s lines
   pub shows : Shows (after_of judge s lines)
+
+-- The same, by how far the run has come.
+
+abbrev pub FromKept : {S : Type 0} → Type 0 → (S → Type 0) → ℕ → Progress → (S → List ℕ → Type 0) → Type 0
+FromKept Trusted Shows limit progress Holds = FromEach Trusted Shows (limit + 2) progress.kept.items Holds
+
+module _ {S : Type 0} (limit : ℕ) (judge : S → List ℕ → Judged S) (judge_long : S → Judged S) where
+  abbrev pub TakesPiece : (S → Type 0) → S → List ℕ → List ℕ → Progress → Progress → Option (List ℕ) → Option (List ℕ) → Type 0
+  TakesPiece Shows s part piece old new before now =
+      Takes (within limit judge judge_long) Shows (limit + 2) s part piece new.kept.items before now
+      old.pending.items new.pending.items old.counts.lines old.counts.bad new.counts.lines new.counts.bad
+
+  -- whatever came behind the piece
+  abbrev pub StopsIn : (S → S → Type 0) → ℕ → S → List ℕ → List ℕ → Progress → Progress → Option (List ℕ) → Option (List ℕ) → Type 0
+  StopsIn Left most s part piece old new before now =
+      (rest : List ℕ) → Stops (within limit judge judge_long) Left most s (lines_from part (piece ++ rest)) before now old.pending.items new.pending.items
+
+  -- from the first byte of the input
+  abbrev pub StopsOn : (S → S → Type 0) → ℕ → S → List ℕ → Progress → Option (List ℕ) → Option (List ℕ) → Type 0
+  StopsOn Left most s input new before now = Stops (within limit judge judge_long) Left most s (lines_of input) before now [] new.pending.items
+
+  abbrev pub EndsIn : (S → Type 0) → S → List (List ℕ) → Progress → Progress → Type 0
+  EndsIn Shows s ended old new =
+      Ends (within limit judge judge_long) Shows s ended old.pending.items new.pending.items old.counts.lines old.counts.bad new.counts.lines new.counts.bad
+
+  abbrev pub TellsOf : (S → Type 0) → S → List ℕ → Progress → Option (List ℕ) → Option (List ℕ) → Type 0
+  TellsOf Shows s input new before now =
+      Tells (within limit judge judge_long) Shows s (lines_of input) before now new.pending.items new.counts.lines new.counts.bad

@@ -1,12 +1,11 @@
 //! The input, read piece after piece.
-ghost use Rattle.std.specs.Prelude.{◌≡◌, ◌+◌, ◌<◌, ◌≤◌, ◌^◌, ◌++◌, [], ℕ, List, length, take, IfOk, IfErr, OnOk, OnErr, IfSome, vec_len};
-ghost use Rattle.std.specs.Io.KnownBytes.{Appends};
+ghost use Rattle.std.specs.Prelude.{◌≡◌, ◌+◌, ◌<◌, ◌≤◌, ◌^◌, [], length, IfOk, IfErr, OnOk, OnErr, IfSome, vec_len};
 ghost use Rattle.line_io.specs.Ending.{BreaksOff, Leaves};
-ghost use Rattle.line_io.specs.Lines.{lines_from, lines_of};
-ghost use Rattle.line_io.specs.Report.{within, text_of, bad_of, after_of};
+ghost use Rattle.line_io.specs.Lines.{lines_of};
+ghost use Rattle.line_io.specs.Report.{TellsAll, within, text_of};
 ghost use Rattle.line_io.specs.Output.{HasFront};
 ghost use Rattle.line_io.specs.Steps.{Reaches};
-ghost use Rattle.line_io.specs.Progress.{FromEach, Stops, Takes, Tells};
+ghost use Rattle.line_io.specs.Progress.{FromKept, StopsIn, StopsOn, TakesPiece, TellsOf};
 
 use crate::answerer::Answerer;
 use crate::ending::{CountEnd, LineFault};
@@ -31,26 +30,19 @@ fn take_piece<W: Write, A: Answerer>(
     requires counts { progress.old.counts.bad ≤ progress.old.counts.lines
         × progress.old.counts.lines + length piece.now < 2 ^ 64 }
     ensures takes { OnOk result (
-        FromEach (A.Trusts answerer.new) (A.Shows answerer.old) (A.LIMIT + 2) progress.old.kept.items (λ s part.
-        Takes (within A.LIMIT A.judge A.judge_long) (A.Shows answerer.new) (A.LIMIT + 2) s
-        part piece.now progress.new.kept.items
-        (W.contents writer.old) (W.contents writer.new)
-        progress.old.pending.items progress.new.pending.items
-        progress.old.counts.lines progress.old.counts.bad
-        progress.new.counts.lines progress.new.counts.bad)) }
+        FromKept (A.Trusts answerer.new) (A.Shows answerer.old) A.LIMIT progress.old (λ s part.
+        TakesPiece A.LIMIT A.judge A.judge_long (A.Shows answerer.new) s part piece.now progress.old progress.new
+        (W.contents writer.old) (W.contents writer.new))) }
     ensures trust { A.Trusts answerer.new → A.Trusts answerer.old }
     ensures steps { Reaches A.Steps answerer.old answerer.new }
     ensures kept { OnOk result (vec_len progress.new.kept ≤ A.LIMIT + 2) }
     ensures counts { OnOk result ((progress.new.counts.bad ≤ progress.new.counts.lines)
         × (progress.new.counts.lines ≤ progress.old.counts.lines + length piece.now)) }
     ensures pending { OnOk result (length progress.new.pending.items ≤ A.MAX_PENDING) }
-    ensures stops { IfErr result (λ fault.
-        FromEach (A.Trusts answerer.new) (A.Shows answerer.old) (A.LIMIT + 2) progress.old.kept.items (λ s part.
-        (rest : List ℕ) → Stops (within A.LIMIT A.judge A.judge_long)
-        (Leaves (A.Shows answerer.new) (A.Fails answerer.new) fault) A.MAX_PENDING s
-        (lines_from part (piece.now ++ rest))
-        (W.contents writer.old) (W.contents writer.new)
-        progress.old.pending.items progress.new.pending.items)) }
+    ensures stops { IfErr result (λ why.
+        FromKept (A.Trusts answerer.new) (A.Shows answerer.old) A.LIMIT progress.old (λ s part.
+        StopsIn A.LIMIT A.judge A.judge_long (Leaves (A.Shows answerer.new) (A.Fails answerer.new) why) A.MAX_PENDING s part
+        piece.now progress.old progress.new (W.contents writer.old) (W.contents writer.new))) }
 {
     let mut rest = piece;
     'lines: while let Some(at) = memchr(b'\n', rest) {
@@ -76,16 +68,14 @@ fn answer_lines<R: Read, W: Write, A: Answerer>(
     requires counts { progress.old.counts.bad ≡ 0 × progress.old.counts.lines ≡ 0 }
     ensures whole { OnOk result ((s : A.State) → A.Shows answerer.old s → A.Trusts answerer.new
         → IfSome (R.remaining reader.old) (λ input.
-        Tells (within A.LIMIT A.judge A.judge_long) (A.Shows answerer.new) s (lines_of input)
-        (W.contents writer.old) (W.contents writer.new)
-        progress.new.pending.items progress.new.counts.lines progress.new.counts.bad)) }
+        TellsOf A.LIMIT A.judge A.judge_long (A.Shows answerer.new) s input progress.new
+        (W.contents writer.old) (W.contents writer.new))) }
     ensures trust { A.Trusts answerer.new → A.Trusts answerer.old }
     ensures steps { Reaches A.Steps answerer.old answerer.new }
-    ensures stops { IfErr result (λ fault. (s : A.State) → A.Shows answerer.old s → A.Trusts answerer.new
+    ensures stops { IfErr result (λ why. (s : A.State) → A.Shows answerer.old s → A.Trusts answerer.new
         → IfSome (R.remaining reader.old) (λ input.
-        Stops (within A.LIMIT A.judge A.judge_long)
-        (Leaves (A.Shows answerer.new) (A.Fails answerer.new) fault) A.MAX_PENDING s (lines_of input)
-        (W.contents writer.old) (W.contents writer.new) [] progress.new.pending.items)) }
+        StopsOn A.LIMIT A.judge A.judge_long (Leaves (A.Shows answerer.new) (A.Fails answerer.new) why) A.MAX_PENDING s input
+        progress.new (W.contents writer.old) (W.contents writer.new))) }
 {
     let mut piece = [0u8; PIECE];
     'reads: for _ in 0..u32::MAX {
@@ -122,21 +112,18 @@ pub fn run_lines<R: Read, W: Write, A: Answerer>(
 ) -> Result<CountEnd, LineFault<A::Fault>>
     ensures whole { IfOk result (λ end. (s : A.State) → A.Shows answerer.old s → A.Trusts answerer.new
         → IfSome (R.remaining reader.old) (λ input.
-        Appends (W.contents writer.old) (W.contents writer.new)
-        (text_of (within A.LIMIT A.judge A.judge_long) s (lines_of input))
-        × (end.lines ≡ length (lines_of input))
-        × (end.bad ≡ bad_of (within A.LIMIT A.judge A.judge_long) s (lines_of input))
-        × A.Shows answerer.new (after_of (within A.LIMIT A.judge A.judge_long) s (lines_of input)))) }
+        TellsAll (within A.LIMIT A.judge A.judge_long) (A.Shows answerer.new) s (lines_of input)
+        (W.contents writer.old) (W.contents writer.new) end)) }
     ensures trust { A.Trusts answerer.new → A.Trusts answerer.old }
     ensures steps { Reaches A.Steps answerer.old answerer.new }
     ensures front { OnErr result ((s : A.State) → A.Shows answerer.old s → A.Trusts answerer.new
         → IfSome (R.remaining reader.old) (λ input.
         HasFront (W.contents writer.old) (W.contents writer.new)
         (text_of (within A.LIMIT A.judge A.judge_long) s (lines_of input)))) }
-    ensures left { IfErr result (λ fault. (s : A.State) → A.Shows answerer.old s → A.Trusts answerer.new
+    ensures left { IfErr result (λ why. (s : A.State) → A.Shows answerer.old s → A.Trusts answerer.new
         → IfSome (R.remaining reader.old) (λ input.
         BreaksOff (within A.LIMIT A.judge A.judge_long)
-        (Leaves (A.Shows answerer.new) (A.Fails answerer.new) fault) A.MAX_PENDING s
+        (Leaves (A.Shows answerer.new) (A.Fails answerer.new) why) A.MAX_PENDING s
         (lines_of input) (W.contents writer.old) (W.contents writer.new))) }
 {
     let mut progress = Progress {

@@ -1,10 +1,10 @@
 //! Lines, from their first byte to their answer.
-ghost use Rattle.std.specs.Prelude.{◌≡◌, ◌+◌, ◌<◌, ◌≤◌, ◌^◌, ◌++◌, ◌∷◌, [], ℕ, List, length, take, IfOk, IfErr, OnOk, OnErr, if◌then◌else◌, vec_len, ◌-◌};
+ghost use Rattle.std.specs.Prelude.{◌≡◌, ◌+◌, ◌<◌, ◌≤◌, ◌^◌, ◌++◌, [], length, take, IfOk, IfErr, OnOk, OnErr, if◌then◌else◌, vec_len, ◌-◌};
 ghost use Rattle.line_io.specs.Ending.{Leaves};
-ghost use Rattle.line_io.specs.Lines.{without_cr, last_line, lines_from, HasNoFeed};
+ghost use Rattle.line_io.specs.Lines.{fed, without_cr, last_line, HasNoFeed};
 ghost use Rattle.line_io.specs.Report.{Answers, within, after_of};
 ghost use Rattle.line_io.specs.Steps.{Reaches};
-ghost use Rattle.line_io.specs.Progress.{FromEach, Stops, Takes, Ends};
+ghost use Rattle.line_io.specs.Progress.{EndsIn, FromKept, StopsIn, TakesPiece};
 
 use crate::answerer::Answerer;
 use crate::ending::{CountEnd, LineFault};
@@ -83,7 +83,7 @@ fn end_line<A: Answerer>(
 ) -> Result<bool, LineFault<A::Fault>>
     requires { vec_len progress.old.kept ≤ A.LIMIT + 2 }
     ensures ok { IfOk result (λ bad.
-        FromEach (A.Trusts answerer.new) (A.Shows answerer.old) (A.LIMIT + 2) progress.old.kept.items (λ s part.
+        FromKept (A.Trusts answerer.new) (A.Shows answerer.old) A.LIMIT progress.old (λ s part.
         Answers (A.Shows answerer.new) progress.old.pending.items progress.new.pending.items bad
         (within A.LIMIT A.judge A.judge_long s (without_cr (part ++ bytes.now))))) }
     ensures kept { OnOk result (progress.new.kept.items ≡ []) }
@@ -93,7 +93,7 @@ fn end_line<A: Answerer>(
     ensures steps { Reaches A.Steps answerer.old answerer.new }
     ensures err { OnErr result (progress.new.pending.items ≡ progress.old.pending.items) }
     ensures fails { IfErr result (λ fault.
-        FromEach (A.Trusts answerer.new) (A.Shows answerer.old) (A.LIMIT + 2) progress.old.kept.items (λ s part.
+        FromKept (A.Trusts answerer.new) (A.Shows answerer.old) A.LIMIT progress.old (λ s part.
         Leaves (A.Shows answerer.new) (A.Fails answerer.new) fault s
         (within A.LIMIT A.judge A.judge_long s (without_cr (part ++ bytes.now))).after)) }
 {
@@ -133,26 +133,19 @@ pub(crate) fn take_line<W: Write, A: Answerer>(
     requires pending { length progress.old.pending.items ≤ A.MAX_PENDING }
     requires free { HasNoFeed bytes.now }
     ensures takes { OnOk result (
-        FromEach (A.Trusts answerer.new) (A.Shows answerer.old) (A.LIMIT + 2) progress.old.kept.items (λ s part.
-        Takes (within A.LIMIT A.judge A.judge_long) (A.Shows answerer.new) (A.LIMIT + 2) s
-        part (bytes.now ++ 10 ∷ []) progress.new.kept.items
-        (W.contents writer.old) (W.contents writer.new)
-        progress.old.pending.items progress.new.pending.items
-        progress.old.counts.lines progress.old.counts.bad
-        progress.new.counts.lines progress.new.counts.bad)) }
+        FromKept (A.Trusts answerer.new) (A.Shows answerer.old) A.LIMIT progress.old (λ s part.
+        TakesPiece A.LIMIT A.judge A.judge_long (A.Shows answerer.new) s part (fed bytes.now) progress.old progress.new
+        (W.contents writer.old) (W.contents writer.new))) }
     ensures trust { A.Trusts answerer.new → A.Trusts answerer.old }
     ensures steps { Reaches A.Steps answerer.old answerer.new }
     ensures kept { OnOk result (vec_len progress.new.kept ≡ 0) }
     ensures counts { OnOk result ((progress.new.counts.bad ≤ progress.new.counts.lines)
         × (progress.new.counts.lines ≡ progress.old.counts.lines + 1)) }
     ensures pending { OnOk result (length progress.new.pending.items ≤ A.MAX_PENDING) }
-    ensures stops { IfErr result (λ fault.
-        FromEach (A.Trusts answerer.new) (A.Shows answerer.old) (A.LIMIT + 2) progress.old.kept.items (λ s part.
-        (rest : List ℕ) → Stops (within A.LIMIT A.judge A.judge_long)
-        (Leaves (A.Shows answerer.new) (A.Fails answerer.new) fault) A.MAX_PENDING s
-        (lines_from part ((bytes.now ++ 10 ∷ []) ++ rest))
-        (W.contents writer.old) (W.contents writer.new)
-        progress.old.pending.items progress.new.pending.items)) }
+    ensures stops { IfErr result (λ why.
+        FromKept (A.Trusts answerer.new) (A.Shows answerer.old) A.LIMIT progress.old (λ s part.
+        StopsIn A.LIMIT A.judge A.judge_long (Leaves (A.Shows answerer.new) (A.Fails answerer.new) why) A.MAX_PENDING s part
+        (fed bytes.now) progress.old progress.new (W.contents writer.old) (W.contents writer.new))) }
 {
     let bad = end_line(answerer, progress, bytes)?;
     progress.counts = counted(progress.counts, bad);
@@ -173,16 +166,13 @@ pub(crate) fn finish<A: Answerer>(
     requires counts { progress.old.counts.bad ≤ progress.old.counts.lines
         × progress.old.counts.lines < 2 ^ 64 - 1 }
     ensures ok { OnOk result (
-        FromEach (A.Trusts answerer.new) (A.Shows answerer.old) (A.LIMIT + 2) progress.old.kept.items (λ s part.
-        Ends (within A.LIMIT A.judge A.judge_long) (A.Shows answerer.new) s (last_line part)
-        progress.old.pending.items progress.new.pending.items
-        progress.old.counts.lines progress.old.counts.bad
-        progress.new.counts.lines progress.new.counts.bad)) }
+        FromKept (A.Trusts answerer.new) (A.Shows answerer.old) A.LIMIT progress.old (λ s part.
+        EndsIn A.LIMIT A.judge A.judge_long (A.Shows answerer.new) s (last_line part) progress.old progress.new)) }
     ensures trust { A.Trusts answerer.new → A.Trusts answerer.old }
     ensures steps { Reaches A.Steps answerer.old answerer.new }
     ensures err { OnErr result (progress.new.pending.items ≡ progress.old.pending.items) }
     ensures fails { IfErr result (λ fault.
-        FromEach (A.Trusts answerer.new) (A.Shows answerer.old) (A.LIMIT + 2) progress.old.kept.items (λ s part.
+        FromKept (A.Trusts answerer.new) (A.Shows answerer.old) A.LIMIT progress.old (λ s part.
         Leaves (A.Shows answerer.new) (A.Fails answerer.new) fault s
         (after_of (within A.LIMIT A.judge A.judge_long) s (last_line part)))) }
 {

@@ -27,7 +27,7 @@ returns-in_err-due-clause-gathers g c = λ sql params listed clean lists gave is
     let new = c.next_due.new.rows.conn.now in
     let early : HasCleanDisk (state g.S.Store now) = omega (arith, c.next_due.ensures.survives.clean, clean) in
     let so_far = c.rows.invariant.gathered early sql params listed lists gave is_open in
-    let next = c.in_err-due.ensures.next sql params listed c.rows.counter clean (lists_still g.S.Store court listed sql params old now so_far.same lists) so_far.gave in
+    let next = c.in_err-due.ensures.next c.rows.counter sql params listed clean (lists_still g.S.Store court listed sql params old now so_far.same lists) so_far.gave in
     err_comes g.S.Store old new (λ (found : Vec DueRow Global). found.items ≡ listed) _ c.from_residual.result c.from_residual.ensures.1
     (stops g.S.Store court listed sql params c.rows.counter c.rows.found.items old now new so_far _ next)
 
@@ -39,7 +39,7 @@ returns-in_default-clause-gathers g c = λ sql params listed clean lists gave is
     let new = c.next_due.new.rows.conn.now in
     let early : HasCleanDisk (state g.S.Store now) = omega (arith, c.next_due.ensures.survives.clean, clean) in
     let so_far = c.rows.invariant.gathered early sql params listed lists gave is_open in
-    let next = c.in_ok-due.ensures.next sql params listed c.rows.counter clean (lists_still g.S.Store court listed sql params old now so_far.same lists) so_far.gave in
+    let next = c.in_ok-due.ensures.next c.rows.counter sql params listed clean (lists_still g.S.Store court listed sql params old now so_far.same lists) so_far.gave in
     let none = rw c.in_default.is at next in
     whole g.S.Store court listed sql params c.rows.counter c.rows.found.items old now new so_far none
 
@@ -62,7 +62,7 @@ rows-preserved g c =
       gathered = λ clean sql params listed lists gave is_open.
           let early : HasCleanDisk (state g.S.Store now) = omega (arith, c.next_due.ensures.survives.clean, clean) in
           let so_far = c.rows.invariant.gathered early sql params listed lists gave is_open in
-          let next = c.in_ok-due.ensures.next sql params listed c.rows.counter clean (lists_still g.S.Store court listed sql params old now so_far.same lists) so_far.gave in
+          let next = c.in_ok-due.ensures.next c.rows.counter sql params listed clean (lists_still g.S.Store court listed sql params old now so_far.same lists) so_far.gave in
           let some = rw c.in-Some.is at next in
           goes_on g.S.Store court listed sql params c.rows.counter c.rows.found.items old now new so_far c.in-Some.due c.push.new.self.items some c.in_ok-push.ensures.items;
     }

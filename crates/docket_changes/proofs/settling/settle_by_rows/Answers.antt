@@ -14,7 +14,7 @@ use Rattle.docket_changes.proofs.settling.settle_by_rows.Goals as goal
 pub returns-in_err-calendar-clause-inside : goal.returns-in_err-calendar-clause-inside
 returns-in_err-calendar-clause-inside g c t ends orderly stored only =
     failed_after (state g.S.Store c.args.tx.now.conn.now) (state g.S.Store c.calendar_standing.new.tx.conn.now) (rows_with c.args.court.now t ends) _ c.from_residual.result _
-    (λ sees. (c.calendar_standing.ensures.inside t ends orderly sees).0) c.from_residual.ensures.0
+    (λ sees. (c.calendar_standing.ensures.inside c.args.court.now t ends orderly sees).0) c.from_residual.ensures.0
 
 pub returns-clause-inside : goal.returns-clause-inside
 returns-clause-inside g c t ends orderly stored only =
@@ -26,7 +26,7 @@ returns-clause-inside g c t ends orderly stored only =
     let entered = c.in_ok-calendar.calendar in
     let n = c.args.cases in
     let Same = entered ≡ calendar_in t in
-    inside_with start mid new rows rows (rows_with court t (settled_cases court (calendar_in t) t n ends)) Same c.settle_cases.result _ (c.in_ok-calendar.ensures.inside t ends orderly)
+    inside_with start mid new rows rows (rows_with court t (settled_cases court (calendar_in t) t n ends)) Same c.settle_cases.result _ (c.in_ok-calendar.ensures.inside c.args.court.now t ends orderly)
     (λ sees. (c.settle_cases.ensures.inside t ends orderly stored only sees).0)
     (λ clean same sees.
     IfOk-weaker c.settle_cases.result _ _ (λ u h. (subst (λ e. Sees new (rows_with court t (settled_cases court e t n ends))) same h.0, h.1)) ((c.settle_cases.ensures.inside t ends orderly stored only (λ _. sees)).1 clean))
@@ -53,7 +53,7 @@ returns-in_err-calendar-clause-cause g c clean t ends orderly sound stored only 
     let start = state g.S.Store c.args.tx.now.conn.now in
     let mid = state g.S.Store c.calendar_standing.new.tx.conn.now in
     let fault = c.in_err-calendar.field-0.0 in
-    fault_passed start mid fault c.from_residual.result c.from_residual.ensures.1 (reading_changes start mid fault (c.in_err-calendar.ensures.cause clean t ends orderly sound sees))
+    fault_passed start mid fault c.from_residual.result c.from_residual.ensures.1 (reading_changes start mid fault (c.in_err-calendar.ensures.cause clean c.args.court.now t ends orderly sound sees))
 
 pub returns-clause-cause : goal.returns-clause-cause
 returns-clause-cause g c clean t ends orderly sound stored only sees =
@@ -61,6 +61,6 @@ returns-clause-cause g c clean t ends orderly sound stored only sees =
     let mid = state g.S.Store c.calendar_standing.new.tx.conn.now in
     let new = state g.S.Store c.settle_cases.new.tx.conn.now in
     let between : HasCleanDisk mid = omega (arith, clean, c.settle_cases.ensures.clean) in
-    let went = c.in_ok-calendar.ensures.inside t ends orderly (λ _. sees) in
+    let went = c.in_ok-calendar.ensures.inside c.args.court.now t ends orderly (λ _. sees) in
     IfErr-weaker c.settle_cases.result _ _ (λ fault h. fault_after start mid new new fault went.0.survives.counts (omega arith) went.0.survives.limit h)
     (c.settle_cases.ensures.cause clean t ends orderly sound stored only (went.1 between).0)

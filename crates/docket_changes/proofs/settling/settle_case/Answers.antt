@@ -181,7 +181,7 @@ returns-in_err-changes-clause-cause g c clean t ends orderly sound are sees =
     let read = c.in_ok-deadlines.ensures.inside court t ends orderly (λ _. (went.1 between).0) in
     let shown = c.as_slice.ensures.value ∙ (read.1 clean).1 in
     let fault = c.in_err-changes.field-0.0 in
-    let short : fault ≡ NoMemory = c.in_err-changes.ensures.short (subst (IsSoundCase court []) (sym shown) (sound.cases k)) in
+    let short : fault ≡ NoMemory = c.in_err-changes.ensures.short (subst (IsSoundCase court) (sym shown) (sound.cases k)) in
     fault_passed start new fault c.from_residual-in_err-changes.result c.from_residual-in_err-changes.ensures.1 (subst (IsChangeFault start new) (sym short) tt)
 
 pub returns-clause-cause : goal.returns-clause-cause

@@ -4,7 +4,7 @@ use Rattle.docket_tables.proofs.ChangeCauses.{change_after, change_passed}
 use Rattle.std.proofs.Common.{arith}
 use Rattle.sqlite.specs.Held.{state}
 use Rattle.sqlite.specs.State.{HasCleanDisk}
-use Rattle.docket_decisions.specs.Tables.{Tables, all_changed, with_receipt}
+use Rattle.docket_decisions.specs.Tables.{Tables}
 use Rattle.docket_tables.specs.AnyRows.{recorded, with_stored}
 use Rattle.docket_tables.specs.Contents.{rows_with}
 use Rattle.docket_tables.specs.Layouts.{Rows}
@@ -12,6 +12,7 @@ use Rattle.docket_tables.proofs.AnyLemmas.{recorded_stored}
 use Rattle.docket_tables.proofs.ContentsLemmas.{sees_same}
 use Rattle.docket_tables.proofs.InsideLemmas.{Went, Stays, failed_after, stays_after, went_after}
 use Rattle.docket_changes.proofs.AnyLemmas.{one_left}
+use Rattle.docket_tables.specs.Changing.{with_changes}
 use Rattle.docket_changes.proofs.writing.fill.Goals as goal
 
 pub returns-in_err-record-clause-inside : goal.returns-in_err-record-clause-inside
@@ -21,7 +22,7 @@ returns-in_err-record-clause-inside g c t ends small may =
 pub returns-in-Ok-clause-inside : goal.returns-in-Ok-clause-inside
 returns-in-Ok-clause-inside g c t ends small may =
     let court = c.args.court.now in
-    let then : Tables = with_receipt c.args.command.now c.args.changes.now.reply (all_changed c.args.changes.now.rows.items t) in
+    let then : Tables = with_changes c.args.command.now c.args.changes.now t in
     let start = state g.S.Store c.args.tx.now.conn.now in
     let mid = state g.S.Store c.record.new.tx.conn.now in
     let new = state g.S.Store c.update_ends.new.tx.conn.now in
@@ -32,7 +33,7 @@ returns-in-Ok-clause-inside g c t ends small may =
 pub returns-in-Err-clause-inside : goal.returns-in-Err-clause-inside
 returns-in-Err-clause-inside g c t ends small may =
     let court = c.args.court.now in
-    let then : Tables = with_receipt c.args.command.now c.args.changes.now.reply (all_changed c.args.changes.now.rows.items t) in
+    let then : Tables = with_changes c.args.command.now c.args.changes.now t in
     let start = state g.S.Store c.args.tx.now.conn.now in
     let mid = state g.S.Store c.record.new.tx.conn.now in
     let new = state g.S.Store c.update_ends.new.tx.conn.now in
@@ -94,7 +95,7 @@ returns-in_err-record-clause-cause g c clean t ends small may written sees =
 pub returns-in-Err-clause-cause : goal.returns-in-Err-clause-cause
 returns-in-Err-clause-cause g c clean t ends small may written sees =
     let court = c.args.court.now in
-    let then : Tables = with_receipt c.args.command.now c.args.changes.now.reply (all_changed c.args.changes.now.rows.items t) in
+    let then : Tables = with_changes c.args.command.now c.args.changes.now t in
     let start = state g.S.Store c.args.tx.now.conn.now in
     let mid = state g.S.Store c.record.new.tx.conn.now in
     let new = state g.S.Store c.update_ends.new.tx.conn.now in

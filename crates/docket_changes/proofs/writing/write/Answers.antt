@@ -9,7 +9,7 @@ use Rattle.sqlite.specs.State.{HasCleanDisk, KeepsCounts, Shows as Turns}
 use Rattle.sqlite.specs.Steps.{FailsToCommit}
 use Rattle.sqlite.specs.Held.{state}
 use Rattle.docket_decisions.specs.EndRows.{end_rows}
-use Rattle.docket_decisions.specs.Tables.{Tables, all_changed, with_receipt}
+use Rattle.docket_decisions.specs.Tables.{Tables}
 use Rattle.docket_tables.specs.AnyRows.{recorded, with_stored}
 use Rattle.docket_tables.specs.Contents.{rows_in}
 use Rattle.docket_tables.specs.Layouts.{Rows}
@@ -18,6 +18,7 @@ use Rattle.docket_tables.specs.Stands.{Sees, HoldsRows, LastsAsEither, StaysInsi
 use Rattle.docket_tables.proofs.CommitLemmas.{begins_seeing, when_err, LeavesCommit, dropped, committed, not_committed}
 use Rattle.docket_tables.proofs.EndLemmas.{sees_permuted}
 use Rattle.docket_changes.proofs.WholeLemmas.{may_update, updated}
+use Rattle.docket_tables.specs.Changing.{with_changes}
 use Rattle.docket_changes.proofs.writing.write.Goals as goal
 
 pub returns-in_err-fill-clause-either : goal.returns-in_err-fill-clause-either
@@ -27,7 +28,7 @@ returns-in_err-fill-clause-either g c t small holds ready =
     let begun = state g.S.Store c.transaction-tx.result.conn.now in
     let last = state g.S.Store c.fill.new.tx.conn.now in
     let end = c.drop-tx.new.self.0 in
-    let then : Tables = with_receipt c.args.command.now c.args.changes.now.reply (all_changed c.args.changes.now.rows.items t) in
+    let then : Tables = with_changes c.args.command.now c.args.changes.now t in
     let rows : Rows = rows_in court t in
     let next : Rows = rows_in court then in
     let begins = ap (state g.S.Store) c.transaction-tx.ensures.begun in
@@ -53,7 +54,7 @@ returns-clause-either g c t small holds ready =
     let begun = state g.S.Store c.transaction-tx.result.conn.now in
     let last = state g.S.Store c.fill.new.tx.conn.now in
     let end = c.commit.new.self.0 in
-    let then : Tables = with_receipt c.args.command.now c.args.changes.now.reply (all_changed c.args.changes.now.rows.items t) in
+    let then : Tables = with_changes c.args.command.now c.args.changes.now t in
     let rows : Rows = rows_in court t in
     let next : Rows = rows_in court then in
     let begins = ap (state g.S.Store) c.transaction-tx.ensures.begun in
@@ -137,7 +138,7 @@ returns-in_err-fill-clause-cause g c clean t small holds update written =
     let begun = state g.S.Store c.transaction-tx.result.conn.now in
     let last = state g.S.Store c.fill.new.tx.conn.now in
     let end = c.drop-tx.new.self.0 in
-    let then : Tables = with_receipt c.args.command.now c.args.changes.now.reply (all_changed c.args.changes.now.rows.items t) in
+    let then : Tables = with_changes c.args.command.now c.args.changes.now t in
     let rows : Rows = rows_in court t in
     let begins = ap (state g.S.Store) c.transaction-tx.ensures.begun in
     let same : end ≡ c.conn-1.given.0 = search rules in
@@ -157,7 +158,7 @@ returns-clause-cause g c clean t small holds update written =
     let begun = state g.S.Store c.transaction-tx.result.conn.now in
     let last = state g.S.Store c.fill.new.tx.conn.now in
     let end = c.commit.new.self.0 in
-    let then : Tables = with_receipt c.args.command.now c.args.changes.now.reply (all_changed c.args.changes.now.rows.items t) in
+    let then : Tables = with_changes c.args.command.now c.args.changes.now t in
     let rows : Rows = rows_in court t in
     let begins = ap (state g.S.Store) c.transaction-tx.ensures.begun in
     let same : end ≡ c.conn-2-1.given.0 = search rules in
@@ -181,7 +182,7 @@ returns-in_err-fill-clause-later g c clean t small holds update =
     let begun = state g.S.Store c.transaction-tx.result.conn.now in
     let last = state g.S.Store c.fill.new.tx.conn.now in
     let end = c.drop-tx.new.self.0 in
-    let then : Tables = with_receipt c.args.command.now c.args.changes.now.reply (all_changed c.args.changes.now.rows.items t) in
+    let then : Tables = with_changes c.args.command.now c.args.changes.now t in
     let rows : Rows = rows_in court t in
     let begins = ap (state g.S.Store) c.transaction-tx.ensures.begun in
     let same : end ≡ c.conn-1.given.0 = search rules in
@@ -200,7 +201,7 @@ returns-clause-later g c clean t small holds update =
     let begun = state g.S.Store c.transaction-tx.result.conn.now in
     let last = state g.S.Store c.fill.new.tx.conn.now in
     let end = c.commit.new.self.0 in
-    let then : Tables = with_receipt c.args.command.now c.args.changes.now.reply (all_changed c.args.changes.now.rows.items t) in
+    let then : Tables = with_changes c.args.command.now c.args.changes.now t in
     let rows : Rows = rows_in court t in
     let begins = ap (state g.S.Store) c.transaction-tx.ensures.begun in
     let same : end ≡ c.conn-2-1.given.0 = search rules in

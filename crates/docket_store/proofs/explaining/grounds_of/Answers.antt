@@ -23,7 +23,7 @@ returns-then-not-is_sound_deadline-clause-answer g c h stands = λ clean.
     both_ways _ c.if-not-is_sound_deadline.true (c.is_sound_deadline.ensures.1 sound)
 
 pub returns-in_err-standing-clause-stays : goal.returns-in_err-standing-clause-stays
-returns-in_err-standing-clause-stays g c rows holds = err_preserves g.S.Store c.calendar_told.new.conn rows c.in_err-standing.field-0.0 c.from_residual-in_err-standing.result c.from_residual-in_err-standing.ensures.1 (c.in_err-standing.ensures.stays rows (c.in_ok-deadline.ensures.stays rows holds))
+returns-in_err-standing-clause-stays g c rows holds = err_preserves g.S.Store c.calendar_taken.new.conn rows c.in_err-standing.field-0.0 c.from_residual-in_err-standing.result c.from_residual-in_err-standing.ensures.1 (c.in_err-standing.ensures.stays rows (c.in_ok-deadline.ensures.stays rows holds))
 
 pub returns-clause-stays : goal.returns-clause-stays
 returns-clause-stays g c rows holds = c.in_ok-standing.ensures.stays rows (c.in_ok-deadline.ensures.stays rows holds)
@@ -37,7 +37,7 @@ pub returns-in_err-deadline-clause-named : goal.returns-in_err-deadline-clause-n
 returns-in_err-deadline-clause-named g c = err_named c.deadline_numbered.new.failure c.in_err-deadline.field-0.0 c.from_residual.result c.from_residual.ensures.1 c.in_err-deadline.ensures.named
 
 pub returns-in_err-standing-clause-named : goal.returns-in_err-standing-clause-named
-returns-in_err-standing-clause-named g c = err_named c.calendar_told.new.failure c.in_err-standing.field-0.0 c.from_residual-in_err-standing.result c.from_residual-in_err-standing.ensures.1 c.in_err-standing.ensures.named
+returns-in_err-standing-clause-named g c = err_named c.calendar_taken.new.failure c.in_err-standing.field-0.0 c.from_residual-in_err-standing.result c.from_residual-in_err-standing.ensures.1 c.in_err-standing.ensures.named
 
 pub returns-in_err-deadline-clause-cause : goal.returns-in_err-deadline-clause-cause
 returns-in_err-deadline-clause-cause g c rows holds clean =
@@ -46,8 +46,8 @@ returns-in_err-deadline-clause-cause g c rows holds clean =
 pub returns-in_err-standing-clause-cause : goal.returns-in_err-standing-clause-cause
 returns-in_err-standing-clause-cause g c rows holds clean =
     let first = state g.S.Store c.args.conn.now in
-    let last = state g.S.Store c.calendar_told.new.conn in
-    let failure = c.calendar_told.new.failure in
+    let last = state g.S.Store c.calendar_taken.new.conn in
+    let failure = c.calendar_taken.new.failure in
     let fault = c.in_err-standing.field-0.0 in
     let cause = c.in_err-standing.ensures.cause rows (c.in_ok-deadline.ensures.stays rows holds) clean in
     err_caused_by first last failure fault c.from_residual-in_err-standing.result c.from_residual-in_err-standing.ensures.1
@@ -55,7 +55,7 @@ returns-in_err-standing-clause-cause g c rows holds clean =
 
 pub returns-in_err-calendar-clause-stays : goal.returns-in_err-calendar-clause-stays
 returns-in_err-calendar-clause-stays g c rows holds =
-    short_preserves g.S.Store c.calendar_told.new.conn rows c.from_residual-in_err-calendar.result c.from_residual-in_err-calendar.ensures.1 (c.in_ok-standing.ensures.stays rows (c.in_ok-deadline.ensures.stays rows holds))
+    short_preserves g.S.Store c.calendar_taken.new.conn rows c.from_residual-in_err-calendar.result c.from_residual-in_err-calendar.ensures.1 (c.in_ok-standing.ensures.stays rows (c.in_ok-deadline.ensures.stays rows holds))
 
 pub returns-clause-answer : goal.returns-clause-answer
 returns-clause-answer g c h stands =
@@ -63,6 +63,6 @@ returns-clause-answer g c h stands =
     let standing : List CalendarItem = c.in_ok-standing.standing in
     let shown = c.in_ok-deadline.ensures.answer court c.args.kept.now h stands in
     let told = c.in_ok-standing.ensures.answer court h shown.0 in (
-      keeping g.S.Store c.calendar_told.new.conn court c.calendar_told.new.kept standing h told.0 told.1,
-      λ clean. (sym (shown.1 (omega (arith, clean, c.calendar_told.ensures.clean))) ∙ c.in-Some.is, c.in_ok-calendar.ensures ∙ ap calendar_of (c.as_slice.ensures.items ∙ told.1 clean)),
+      keeping g.S.Store c.calendar_taken.new.conn court c.calendar_taken.new.kept standing h told.0 told.1,
+      λ clean. (sym (shown.1 (omega (arith, clean, c.calendar_taken.ensures.clean))) ∙ c.in-Some.is, c.in_ok-calendar.ensures ∙ ap calendar_of (c.as_slice.ensures.items ∙ told.1 clean)),
     )

@@ -24,7 +24,7 @@ pub returns-then-not-is_sound_calendar-clause-read : goal.returns-then-not-is_so
 returns-then-not-is_sound_calendar-clause-read g c court h is stands = λ clean.
     let read = c.in_ok-items.ensures.read court (rows_of court h) (docket_orderly court h is) stands in
     let sound = sound_calendar court h is in
-    both_ways _ c.if-not-is_sound_calendar.true (c.is_sound_calendar.ensures.1 (subst IsSoundCalendar (sym (c.as_slice.ensures.value ∙ read.1 clean)) (sound.entered, sound.rows)))
+    both_ways _ c.if-not-is_sound_calendar.true (c.is_sound_calendar.ensures.1 (subst IsSoundCalendar (sym (c.as_slice.ensures.value ∙ read.1 clean)) sound))
 
 pub returns-in_err-new-clause-read : goal.returns-in_err-new-clause-read
 returns-in_err-new-clause-read g c court h is stands =

@@ -11,7 +11,7 @@ use Rattle.docket_store.proofs.listing.list_days.Goals as goal
 
 pub returns-in-Err-clause-lists : goal.returns-in-Err-clause-lists
 returns-in-Err-clause-lists g c h stands =
-    let left = serving c.calendar_told.new.conn c.args.court.now c.calendar_told.new.kept in (
+    let left = serving c.calendar_taken.new.conn c.args.court.now c.calendar_taken.new.kept in (
       fault_of_other g.S.Store left h (λ (items : List CalendarItem). items ≡ items_of (standing_rows h)) (λ (lines : ℕ). ⊥) c.in-Err.fault (c.in-Err.ensures.answer c.args.court.now h stands),
       λ clean. Appends-nil (g.W.Write.contents c.args.writer.now),
     )
@@ -21,13 +21,13 @@ returns-clause-lists g c h stands =
     let court = c.args.court.now in
     let standing : List CalendarItem = c.in-Ok.standing in
     let told = c.in-Ok.ensures.answer court h stands in
-    c.list_by-listed.ensures.lists (Some standing) h (keeping g.S.Store c.calendar_told.new.conn court c.calendar_told.new.kept standing h told.0 told.1) (λ clean. c.calendar-entered.ensures ∙ ap calendar_of (told.1 clean))
+    c.list_by-listed.ensures.lists (Some standing) h (keeping g.S.Store c.calendar_taken.new.conn court c.calendar_taken.new.kept standing h told.0 told.1) (λ clean. c.calendar-entered.ensures ∙ ap calendar_of (told.1 clean))
 
 pub returns-clause-stays : goal.returns-clause-stays
 returns-clause-stays g c rows holds = c.list_by-listed.ensures.stays rows (c.in-Ok.ensures.stays rows holds)
 
 pub returns-clause-cause : goal.returns-clause-cause
 returns-clause-cause g c rows holds clean =
-    let told = c.calendar_told in
+    let told = c.calendar_taken in
     end_caused_after (state g.S.Store c.args.conn.now) (state g.S.Store told.new.conn) (state g.S.Store c.list_by-listed.new.conn) c.list_by-listed.new.failure c.list_by-listed.result told.ensures.counts told.ensures.limit
     (c.list_by-listed.ensures.cause rows (c.in-Ok.ensures.stays rows holds) clean)

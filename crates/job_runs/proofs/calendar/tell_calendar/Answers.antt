@@ -4,10 +4,11 @@ use Rattle.std.specs.Io.KnownBytes.{Appends}
 use Rattle.sqlite.specs.Files.{IsCleanLeft}
 use Rattle.docket_calendar.specs.Calendar.{text_of_calendar}
 use Rattle.line_io.specs.Output.{HasFront}
-use Rattle.file_jobs.specs.Keeping.{rows_told}
+use Rattle.file_dockets.specs.Keeping.{rows_told}
 use Rattle.docket_store.specs.Left.{LeavesRows}
-use Rattle.file_jobs.specs.Tells.{ListsTo}
-use Rattle.job_runs.specs.Ends.{HasTold, TellsNothing}
+use Rattle.file_questions.specs.Tells.{ListsTo}
+use Rattle.job_ends.specs.Ends.{TellsNothing}
+use Rattle.job_runs.specs.Tells.{HasTold}
 use Rattle.job_runs.proofs.EndLemmas.{answered, nothing_more, some_left, unwritten}
 use Rattle.job_runs.proofs.calendar.tell_calendar.Goals as goal
 

@@ -1,9 +1,9 @@
 use Rattle.std.proofs.Common.{◌≡◌, ◌∙◌, string_bytes, option_map, ap, sym, subst, subst₂}
 use Rattle.std.specs.Cow.{cow_str_bytes}
 use Rattle.sqlite.specs.Files.{IsCleanLeft}
-use Rattle.file_jobs.specs.Tells.{AnswersTo, text_of_case}
-use Rattle.job_runs.specs.Ends.{TellsIfAny, no_such_case}
-use Rattle.file_jobs.specs.Keeping.{rows_told}
+use Rattle.file_questions.specs.Tells.{AnswersTo, text_of_case}
+use Rattle.job_runs.specs.Tells.{TellsIfAny, no_such_case}
+use Rattle.file_dockets.specs.Keeping.{rows_told}
 use Rattle.docket_store.specs.Left.{LeavesRows}
 use Rattle.job_runs.proofs.EndLemmas.{answered, failed_otherwise, said_missing, some_left, unasked}
 use Rattle.job_runs.proofs.case.tell_case.Goals as goal

@@ -1,6 +1,6 @@
 use Rattle.std.proofs.Common.{subst}
 use Rattle.line_io.specs.Output.{AppendsFront}
-use Rattle.job_runs.proofs.EndLemmas.{written}
+use Rattle.job_ends.proofs.FrontLemmas.{written}
 use Rattle.job_runs.proofs.cases.list_told.Goals as goal
 
 pub returns-in-Ok-eq0-clause-missing : goal.returns-in-Ok-eq0-clause-missing

@@ -4,10 +4,11 @@ use Rattle.std.specs.Io.KnownBytes.{Appends}
 use Rattle.sqlite.specs.Files.{IsCleanLeft}
 use Rattle.docket_history.specs.declared.row.CaseRow.{CaseRow}
 use Rattle.line_io.specs.Output.{HasFront}
-use Rattle.file_jobs.specs.Keeping.{rows_told}
+use Rattle.file_dockets.specs.Keeping.{rows_told}
 use Rattle.docket_store.specs.Left.{LeavesRows}
-use Rattle.file_jobs.specs.CaseLists.{ListsCases, case_lines, cases_told}
-use Rattle.job_runs.specs.Ends.{HasListed, TellsNothing, no_such_case}
+use Rattle.file_questions.specs.CaseLists.{ListsCases, case_lines, cases_told}
+use Rattle.job_ends.specs.Ends.{TellsNothing}
+use Rattle.job_runs.specs.Tells.{HasListed, no_such_case}
 use Rattle.job_runs.proofs.EndLemmas.{answered, failed_otherwise, nothing_more, said_missing, some_left, unwritten}
 use Rattle.job_runs.proofs.cases.tell_cases.Goals as goal
 

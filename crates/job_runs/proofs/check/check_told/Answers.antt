@@ -1,8 +1,8 @@
 use Rattle.std.proofs.Common.{◌∙◌, sym, subst}
 use Rattle.std.specs.Cow.{cow_str_bytes}
-use Rattle.file_jobs.specs.Checks.{IsSoundDocket}
+use Rattle.file_questions.specs.Checks.{IsSoundDocket}
 use Rattle.job_runs.specs.Checks.{check_text}
-use Rattle.job_runs.specs.Ends.{TellsText}
+use Rattle.job_runs.specs.Tells.{TellsText}
 use Rattle.job_runs.proofs.check.check_told.Goals as goal
 
 pub returns-in-Ok-sound_text-clause-told : goal.returns-in-Ok-sound_text-clause-told

@@ -2,10 +2,10 @@ use Rattle.std.proofs.Common.{sym, subst, subst₂}
 use Rattle.std.specs.Cow.{cow_str_bytes}
 use Rattle.sqlite.specs.Files.{IsCleanLeft}
 use Rattle.docket_scan.specs.Dockets.{holdings_in}
-use Rattle.file_jobs.specs.Checks.{IsSoundDocket}
+use Rattle.file_questions.specs.Checks.{IsSoundDocket}
 use Rattle.job_runs.specs.Checks.{check_text}
-use Rattle.job_runs.specs.Ends.{TellsText}
-use Rattle.file_jobs.specs.Keeping.{rows_told}
+use Rattle.job_runs.specs.Tells.{TellsText}
+use Rattle.file_dockets.specs.Keeping.{rows_told}
 use Rattle.docket_store.specs.Left.{LeavesRows}
 use Rattle.job_runs.proofs.EndLemmas.{answered, some_left, unasked}
 use Rattle.job_runs.proofs.check.tell_check.Goals as goal

@@ -1,8 +1,8 @@
 use Rattle.std.proofs.Common.{IfOk, IfSome, sym, ap, subst₂}
 use Rattle.sqlite.specs.Files.{IsCleanLeft}
 use Rattle.docket_store.specs.Left.{LeavesRows}
-use Rattle.file_jobs.specs.Runs.{Answers, LeavesPrefix}
-use Rattle.file_jobs.specs.Tells.{WorksTo}
+use Rattle.file_changes.specs.Runs.{Answers, LeavesPrefix}
+use Rattle.file_dockets.specs.Works.{WorksTo}
 use Rattle.job_runs.proofs.command.run_told.Goals as goal
 
 pub returns-clause-runs : goal.returns-clause-runs

@@ -3,9 +3,9 @@ use Rattle.std.specs.Cow.{cow_str_bytes}
 use Rattle.sqlite.specs.Files.{IsCleanLeft}
 use Rattle.docket_history.specs.Histories.{standing_rows}
 use Rattle.docket_text.specs.CourtCalendar.{court_calendar_text}
-use Rattle.file_jobs.specs.Tells.{AnswersTo}
-use Rattle.job_runs.specs.Ends.{TellsText}
-use Rattle.file_jobs.specs.Keeping.{rows_told}
+use Rattle.file_questions.specs.Tells.{AnswersTo}
+use Rattle.job_runs.specs.Tells.{TellsText}
+use Rattle.file_dockets.specs.Keeping.{rows_told}
 use Rattle.docket_store.specs.Left.{LeavesRows}
 use Rattle.job_runs.proofs.EndLemmas.{answered, some_left, unasked}
 use Rattle.job_runs.proofs.court_calendar.tell_court_calendar.Goals as goal

@@ -2,11 +2,12 @@ use Rattle.std.proofs.Common.{◌≡◌, ◌∙◌, ℕ, List, [], Option, refl,
 use Rattle.std.specs.Cow.{cow_str_bytes}
 use Rattle.std.specs.Io.KnownBytes.{Appends}
 use Rattle.sqlite.specs.Files.{IsCleanLeft}
-use Rattle.file_jobs.specs.Exports.{ExportsTo, text_of_export}
+use Rattle.file_questions.specs.Exports.{ExportsTo, text_of_export}
 use Rattle.line_io.specs.Output.{HasFront}
-use Rattle.file_jobs.specs.Keeping.{rows_told}
+use Rattle.file_dockets.specs.Keeping.{rows_told}
 use Rattle.docket_store.specs.Left.{LeavesRows}
-use Rattle.job_runs.specs.Ends.{HasTold, TellsNothing}
+use Rattle.job_ends.specs.Ends.{TellsNothing}
+use Rattle.job_runs.specs.Tells.{HasTold}
 use Rattle.job_runs.proofs.EndLemmas.{answered, nothing_more, some_left, unwritten}
 use Rattle.job_runs.proofs.export.tell_written.Goals as goal
 

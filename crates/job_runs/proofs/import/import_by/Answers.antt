@@ -3,9 +3,9 @@ use Rattle.std.proofs.lemmas.Result.{IfOk-weaker}
 use Rattle.std.specs.Cow.{cow_str_bytes}
 use Rattle.sqlite.specs.Files.{IsCleanLeft}
 use Rattle.docket_store.specs.declared.fault.Fault.TheVariants.{NoMemory}
-use Rattle.file_jobs.specs.Commands.{AppliesTo}
+use Rattle.file_changes.specs.Commands.{AppliesTo}
 use Rattle.docket_store.specs.Left.{LeavesRows}
-use Rattle.file_jobs.specs.Tells.{WorksTo}
+use Rattle.file_dockets.specs.Works.{WorksTo}
 use Rattle.job_runs.specs.Imports.{TellsApplied}
 use Rattle.job_runs.specs.Jobs.{Applies}
 use Rattle.job_runs.proofs.EndLemmas.{err_holds, gives, some_left, undone}

@@ -2,7 +2,7 @@ use Rattle.std.proofs.Common.{refl, sym, subst}
 use Rattle.std.proofs.lemmas.Result.{IfOk-weaker}
 use Rattle.std.specs.Cow.{cow_str_bytes}
 use Rattle.sqlite.specs.Files.{IsCleanLeft}
-use Rattle.file_jobs.specs.Migrates.{MigratesTo}
+use Rattle.file_changes.specs.Migrates.{MigratesTo}
 use Rattle.job_runs.specs.Jobs.{Migrates}
 use Rattle.job_runs.proofs.EndLemmas.{gives, of_fault, undone}
 use Rattle.job_runs.proofs.migrate.migrate_docket.Goals as goal

@@ -1,0 +1,4 @@
+mod ApplyLemmas
+mod MigrateLemmas
+mod RunLemmas
+mod StandLemmas

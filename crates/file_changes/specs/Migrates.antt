@@ -1,0 +1,40 @@
+-- What a migration leaves of a docket in the first version of the tables.
+use Rattle.std.specs.Prelude.{◌⊎◌, Result, Ok, Err}
+use Rattle.sqlite_disk.specs.declared.Disk.{Ghosts}
+use Rattle.sqlite.specs.Held.{Held, state}
+use Rattle.sqlite.specs.State.{HasCleanDisk}
+use Rattle.sqlite.specs.Store.{Ghosts as Store}
+use Rattle.sqlite.specs.Tree.{Trees}
+use Rattle.sqlite.specs.declared.file.Leftover.{Leftover}
+use Rattle.docket_columns.specs.declared.version.Version.TheVariants.{First}
+use Rattle.docket_tables.specs.Stands.{IsImage, IsImageIn}
+use Rattle.docket_store.specs.Left.{Leaves, LeavesRows}
+use Rattle.docket_store.specs.Migrating.{first_rows}
+use Rattle.docket_store.specs.declared.migrating.MigrateFault.{MigrateFault}
+use Rattle.docket_store.specs.declared.migrating.MigrateFault.TheVariants.{NoMemory, StoreFailed}
+use Rattle.command_lines.specs.Lines.{Docket}
+use Rattle.file_dockets.specs.Keeping.{rows_told}
+
+-- a database has the docket in tables of the first version
+abbrev pub IsFirst : Docket → Trees → Type 0
+IsFirst docket = IsImageIn First (first_rows docket.court docket.history)
+
+-- in tables of the one version or of the other
+abbrev pub IsEitherVersion : Docket → Trees → Type 0
+IsEitherVersion docket db = IsFirst docket db ⊎ IsImage (rows_told docket) db
+
+-- Whatever is left, `Left` says that each database in it is of a kind. The docket was not migrated, and only for want of memory, which
+-- leaves it in the first version, or where the database failed, which leaves it in one of the two.
+abbrev pub Stays : ((Trees → Type 0) → Type 0) → Docket → MigrateFault → Type 0
+Stays Left docket NoMemory = Left (IsFirst docket)
+Stays Left docket StoreFailed = Left (IsEitherVersion docket)
+Stays Left docket _ = ⊥
+
+-- so it stays by what the connection may leave, unless the disk was not honest
+abbrev pub StaysIn : {S : Type 0} → Store S → Held S → Docket → MigrateFault → Type 0
+StaysIn g conn docket fault = HasCleanDisk (state g conn) → Stays (λ P. (db : Trees) → (state g conn).may_leave db → P db) docket fault
+
+-- it is left in the second version, or it was not migrated
+abbrev pub MigratesTo : {D : Type 0} {g : Ghosts D} → Leftover D g → Docket → Result (Unit {0}) MigrateFault → Type 0
+MigratesTo rest docket (Ok done) = LeavesRows rest (rows_told docket) (rows_told docket)
+MigratesTo rest docket (Err fault) = Stays (Leaves rest) docket fault

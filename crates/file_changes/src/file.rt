@@ -1,0 +1,112 @@
+//! Jobs that may change the docket in the files at a path: each opens them, adopts the docket, does its work
+//! and lets the files go.
+//!
+//! `start` stands for what the two files hold as they are opened. Each theorem here is one for every
+//! start, and a program hands `Unknown`.
+ghost use Rattle.std.specs.Prelude.{◌≡◌, [], IfErr, IfOk, IfSome, MatchResult, OnOk};
+ghost use Rattle.sqlite_wal.specs.Files.{image_at};
+ghost use Rattle.sqlite.specs.Files.{IsCleanLeft};
+ghost use Rattle.docket_columns.specs.declared.version.Version.TheVariants.{First};
+ghost use Rattle.docket_scan.specs.Dockets.{MayHold};
+ghost use Rattle.docket_tables.specs.Stands.{IsImage};
+ghost use Rattle.docket_store.specs.Applying.{IsDocket, docket_rows};
+ghost use Rattle.docket_store.specs.Left.{IsUnharmed, LeavesRows};
+ghost use Rattle.docket_store.specs.Migrating.{HoldFirst};
+ghost use Rattle.docket_store.specs.Reopening.{HoldDocket};
+ghost use Rattle.command_lines.specs.Lines.{Docket as Told};
+ghost use Rattle.file_dockets.specs.Keeping.{rows_told};
+ghost use Rattle.file_dockets.specs.Works.{WorksTo};
+ghost use Rattle.file_changes.specs.Commands.{AppliesTo};
+ghost use Rattle.file_changes.specs.Migrates.{IsFirst, MigratesTo};
+ghost use Rattle.file_changes.specs.Runs.{LeavesPrefix, RunsTo};
+
+use crate::creating::create_over;
+use crate::importing::apply_over;
+use crate::migrating::migrate_over;
+use crate::running::run_over;
+use command_lines::{CountEnd, RunFault};
+use court_days::Court;
+use docket_command::{Command, Reply};
+use docket_store::{CreateFault, Fault, MigrateFault, Watch, reopen_from};
+use file_dockets::{OnFile, leave};
+use sqlite::Start;
+use std::io::{Read, Write};
+use std::rt::HostRuntime;
+
+/// Answers the lines of the reader by the docket in the files at a path. Each answer is written before
+/// the next command is applied. Whatever stops it, what is left, also past a power failure, is the
+/// docket of the lines whose answers went out, and of at most one line more.
+pub fn run_on_file<S: Start, V: Watch + Drop, R: Read, W: Write>(
+    rt: &HostRuntime,
+    path: &str,
+    start: S,
+    watch: V,
+    reader: &mut R,
+    writer: &mut W,
+) -> OnFile<S, Result<CountEnd, RunFault>>
+    ensures runs { (told : Told) → IsDocket told.court told.history → HoldDocket (image_at S.Start) told.court told.history
+        → IfOk result (λ done. IsCleanLeft done.left → IfSome (R.remaining reader.old) (λ input.
+        RunsTo (LeavesRows done.left) told input (W.contents writer.old) (W.contents writer.new) done.outcome)) }
+    ensures prefix { (told : Told) → IsDocket told.court told.history → HoldDocket (image_at S.Start) told.court told.history
+        → IfOk result (λ done. IsCleanLeft done.left → IfSome (R.remaining reader.old) (λ input.
+        LeavesPrefix (LeavesRows done.left) told input (W.contents writer.old) (W.contents writer.new))) }
+    ensures unopened { (told : Told) → HoldDocket (image_at S.Start) told.court told.history
+        → IfErr result (IsUnharmed (image_at S.Start) (IsImage (rows_told told))) }
+    // Where there is no docket nothing is read or written.
+    ensures unread { MatchResult result (λ done. IfErr done.outcome (λ _. (reader.new ≡ reader.old) × (writer.new ≡ writer.old)))
+        (λ _. (reader.new ≡ reader.old) × (writer.new ≡ writer.old)) }
+{
+    let conn = reopen_from(rt, path, start)?;
+    Ok(leave(run_over(rt.alloc(), conn, watch, reader, writer)))
+}
+
+/// Applies a command to the docket in the files at a path.
+pub fn apply_on_file<S: Start, V: Watch + Drop>(
+    rt: &HostRuntime,
+    path: &str,
+    start: S,
+    watch: V,
+    command: &Command,
+) -> OnFile<S, Result<Reply, Fault>>
+    ensures applies { (told : Told) → IsDocket told.court told.history → HoldDocket (image_at S.Start) told.court told.history
+        → IfOk result (λ done. IsCleanLeft done.left
+        → WorksTo (AppliesTo (LeavesRows done.left) told command.now) done.outcome) }
+    ensures stays { (told : Told) → IsDocket told.court told.history → HoldDocket (image_at S.Start) told.court told.history
+        → IfOk result (λ done. IsCleanLeft done.left → IfErr done.outcome (λ _. LeavesRows done.left (rows_told told) (rows_told told))) }
+    ensures unopened { (told : Told) → HoldDocket (image_at S.Start) told.court told.history
+        → IfErr result (IsUnharmed (image_at S.Start) (IsImage (rows_told told))) }
+{
+    let conn = reopen_from(rt, path, start)?;
+    Ok(leave(apply_over(rt.alloc(), conn, watch, command)))
+}
+
+/// Makes the docket of a court, without any record, in the files at a path, which hold nothing.
+pub fn create_on_file<S: Start>(
+    rt: &HostRuntime,
+    path: &str,
+    start: S,
+    court: Court,
+) -> OnFile<S, (), CreateFault>
+    ensures made { IfOk result (λ done. IsCleanLeft done.left
+        → OnOk done.outcome (IsDocket court [] × LeavesRows done.left (docket_rows court []) (docket_rows court []))) }
+{
+    let conn = reopen_from(rt, path, start)?;
+    Ok(leave(create_over(rt.alloc(), conn, court)))
+}
+
+/// Takes the docket in the files at a path from the first version of the tables to the second. The first
+/// holds no command of the last three kinds.
+pub fn migrate_on_file<S: Start, V: Watch + Drop>(
+    rt: &HostRuntime,
+    path: &str,
+    start: S,
+    watch: V,
+) -> OnFile<S, (), MigrateFault>
+    ensures migrated { (told : Told) → IsDocket told.court told.history → MayHold First told.history → HoldFirst (image_at S.Start) told.court told.history
+        → IfOk result (λ done. IsCleanLeft done.left → MigratesTo done.left told done.outcome) }
+    ensures unopened { (told : Told) → HoldFirst (image_at S.Start) told.court told.history
+        → IfErr result (IsUnharmed (image_at S.Start) (IsFirst told)) }
+{
+    let conn = reopen_from(rt, path, start)?;
+    Ok(leave(migrate_over(rt.alloc(), conn, watch)))
+}

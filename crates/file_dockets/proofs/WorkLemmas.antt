@@ -1,0 +1,66 @@
+-- What a job on a docket came to, and what its connection holds.
+use Rattle.std.proofs.Common.{◌≡◌, Result, Ok, Err, IfErr, IsErrAnd, OnOk, subst, sym}
+use Rattle.sqlite.specs.Store.{Ghosts}
+use Rattle.sqlite.specs.Held.{Held}
+use Rattle.docket_scan.specs.declared.fault.AdoptFault.{AdoptFault}
+use Rattle.docket_scan.specs.declared.fault.AdoptFault.TheVariants as adopt
+use Rattle.docket_tables.specs.Layouts.{Rows}
+use Rattle.docket_store.specs.AnyRows.{PreservesRejected}
+use Rattle.docket_store.specs.Opening.{IsNotAdopted}
+use Rattle.file_dockets.specs.Keeping.{HoldsBetween}
+use Rattle.file_dockets.specs.Works.{WorksTo}
+use Rattle.file_dockets.proofs.KeepLemmas.{held, lasting}
+
+-- what is so of an error is so of the result that tells it
+pub err_told : {T E : Type 0} (P : E → Type 0) (r : Result T E) (e : E) → IsErrAnd r (λ f. f ≡ e) → P e → IfErr r P
+err_told P (Ok x) e told p = absurd told
+err_told P (Err f) e told p = subst P (sym told) p
+
+if_err : {T F : Type 0} (P Q : F → Type 0) → ((fault : F) → P fault → Q fault) → (r : Result T F) → IfErr r P → IfErr r Q
+if_err P Q then (Ok x) is = tt
+if_err P Q then (Err fault) is = then fault is
+
+pub any_err : {T F : Type 0} (P : Type 0) (r : Result T F) → P → IfErr r (λ _. P)
+any_err P (Ok x) is = tt
+any_err P (Err fault) is = is
+
+on_ok : {T F : Type 0} (P Q : Type 0) → (P → Q) → (r : Result T F) → OnOk r P → OnOk r Q
+on_ok P Q then (Ok x) is = then is
+on_ok P Q then (Err fault) is = tt
+
+pub err_map : {T F : Type 0} (P Q : F → Type 0) → ((fault : F) → P fault → Q fault) → (now was : Result T F) → now ≡ was → IfErr was P → IfErr now Q
+err_map P Q then now was same is = subst (λ r. IfErr r Q) (sym same) (if_err P Q then was is)
+
+pub made_map : {T F : Type 0} (P Q : Type 0) → (P → Q) → (now was : Result T F) → now ≡ was → OnOk was P → OnOk now Q
+made_map P Q then now was same is = subst (λ r. OnOk r Q) (sym same) (on_ok P Q then was is)
+
+pub works_map : {T : Type 0} (P Q : T → Type 0) → ((done : T) → P done → Q done) → (outcome : Result T AdoptFault) → WorksTo P outcome → WorksTo Q outcome
+works_map P Q then (Ok done) is = then done is
+works_map P Q then (Err adopt.NoMemory) is = tt
+works_map P Q then (Err adopt.StoreFailed) is = tt
+works_map P Q then (Err adopt.Empty) is = is
+works_map P Q then (Err adopt.NotADocket) is = is
+works_map P Q then (Err adopt.OtherVersion) is = is
+works_map P Q then (Err (adopt.Damaged table)) is = is
+
+module _ {S : Type 0} (g : Ghosts S) where
+  -- what a connection holds is held by the one that comes back
+  pub held_closed : (now conn : Held S) (rows : Rows) → now ≡ conn → HoldsBetween g conn rows rows → HoldsBetween g now rows rows
+  held_closed now conn rows same = subst (λ (c : Held S). HoldsBetween g c rows rows) (sym same)
+
+  module _ (conn : Held S) (rows : Rows) where
+    pub kept_rejected : (fault : AdoptFault) → PreservesRejected g conn rows fault → HoldsBetween g conn rows rows
+    kept_rejected adopt.NoMemory holds = held g conn rows holds
+    kept_rejected adopt.StoreFailed lasts = lasting g conn rows lasts
+    kept_rejected adopt.Empty holds = held g conn rows holds
+    kept_rejected adopt.NotADocket holds = held g conn rows holds
+    kept_rejected adopt.OtherVersion holds = held g conn rows holds
+    kept_rejected (adopt.Damaged table) holds = held g conn rows holds
+
+    pub unadopted_keeps : (fault : AdoptFault) → IsNotAdopted g conn rows fault → HoldsBetween g conn rows rows
+    unadopted_keeps adopt.NoMemory is = held g conn rows is
+    unadopted_keeps adopt.StoreFailed is = lasting g conn rows is
+    unadopted_keeps adopt.Empty is = λ clean. absurd (is clean)
+    unadopted_keeps adopt.NotADocket is = λ clean. absurd (is clean)
+    unadopted_keeps adopt.OtherVersion is = λ clean. absurd (is clean)
+    unadopted_keeps (adopt.Damaged table) is = λ clean. absurd (is clean)

@@ -1,0 +1,33 @@
+//! Adopting the docket of a database.
+ghost use Rattle.std.specs.Prelude.{IfOk, MatchResult, ◌≡◌};
+ghost use Rattle.sqlite.specs.Held.{state};
+ghost use Rattle.sqlite.specs.State.{HasCleanDisk};
+ghost use Rattle.court_days.specs.Court.{CourtSettings};
+ghost use Rattle.docket_history.specs.Histories.{History};
+ghost use Rattle.docket_scan.specs.Dockets.{holdings_in};
+ghost use Rattle.docket_tables.specs.Layouts.{Rows};
+ghost use Rattle.docket_tables.specs.Stands.{HoldsRows};
+ghost use Rattle.docket_store.specs.AnyRows.{PreservesRejected};
+ghost use Rattle.docket_store.specs.Applying.{IsDocket, StandsFor, docket_rows};
+ghost use Rattle.docket_store.specs.Opening.{IsAdopted, IsNotAdopted};
+
+use docket_store::{AdoptFault, Docket, Holdings, Returned, Watch};
+use sqlite::{Alter, Connection};
+use std::alloc::Global;
+
+/// Adopts the docket that a database holds. The watch is told of each row that is read, and then let go.
+pub fn adopt<S: Alter, V: Watch + Drop>(
+    alloc: Global,
+    conn: Connection<S>,
+    mut watch: V,
+) -> Result<(Docket<S>, Holdings), Returned<S, AdoptFault>>
+    ensures adopted { (court : CourtSettings) (h : History) → IsDocket court h → StandsFor S.Store conn court h
+        → MatchResult result (λ found. IsAdopted S.Store found.0 court h)
+        (λ returned. IsNotAdopted S.Store returned.connection (docket_rows court h) returned.fault) }
+    ensures counted { (court : CourtSettings) (h : History) → IsDocket court h → StandsFor S.Store conn court h
+        → IfOk result (λ found. HasCleanDisk (state S.Store found.0.conn) → found.1 ≡ holdings_in court h) }
+    ensures stays { (rows : Rows) → HoldsRows S.Store conn rows → MatchResult result (λ found. HoldsRows S.Store found.0.conn rows)
+        (λ returned. PreservesRejected S.Store returned.connection rows returned.fault) }
+{
+    Docket::adopt_watched(alloc, conn, &mut watch)
+}

@@ -1,0 +1,10 @@
+//! A docket in files that is adopted for a job, and let go once the job is done.
+#![tactic(auto)]
+
+mod adopting;
+mod ended;
+mod leaving;
+
+pub use adopting::adopt;
+pub use ended::{Ended, OnFile, Worked};
+pub use leaving::leave;

@@ -1,9 +1,0 @@
-pub mod CaseLists
-pub mod Checks
-pub mod Commands
-pub mod Exports
-pub mod Keeping
-pub mod Migrates
-pub mod Runs
-pub mod Serves
-pub mod Tells

@@ -1,0 +1,6 @@
+mod CaseLemmas
+mod CasedLemmas
+mod ExportLemmas
+mod ListLemmas
+mod PartLemmas
+mod TellLemmas

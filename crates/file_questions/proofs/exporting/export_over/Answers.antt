@@ -1,0 +1,27 @@
+use Rattle.std.proofs.Common.{subst, arith}
+use Rattle.sqlite.specs.Held.{Held, state}
+use Rattle.sqlite.specs.State.{HasCleanDisk}
+use Rattle.court_days.specs.Court.{CourtSettings}
+use Rattle.file_questions.specs.Exports.{ExportsTo}
+use Rattle.file_questions.proofs.ExportLemmas.{exported}
+use Rattle.file_dockets.proofs.WorkLemmas.{held_closed, kept_rejected}
+use Rattle.file_questions.proofs.TellLemmas.{kept_calendar}
+use Rattle.file_questions.proofs.exporting.export_over.Goals as goal
+
+pub returns-in-Err-clause-stays : goal.returns-in-Err-clause-stays
+returns-in-Err-clause-stays g c rows holds =
+    held_closed g.S.Store _ _ rows c.from.ensures.1
+    (kept_rejected g.S.Store c.in-Err.returned.connection rows c.in-Err.returned.fault (c.in-Err.ensures.stays rows holds))
+
+pub returns-clause-stays : goal.returns-clause-stays
+returns-clause-stays g c rows holds =
+    held_closed g.S.Store _ _ rows c.close.ensures.conn
+    (kept_calendar g.S.Store c.write_export-end.new.docket.conn rows c.write_export-end.result (c.write_export-end.ensures.stays rows (c.in-Ok.ensures.stays rows holds)))
+
+pub returns-clause-told : goal.returns-clause-told
+returns-clause-told g c told is stands clean =
+    let asked_of = c.write_export-end in
+    let now : HasCleanDisk (state g.S.Store asked_of.new.docket.conn) = subst (λ (conn : Held g.row.S.Denot). HasCleanDisk (state g.S.Store conn)) c.close.ensures.conn clean in
+    let adopted = c.in-Ok.ensures.adopted told.court told.history is stands (omega (arith, now, asked_of.ensures.clean)) in
+    subst (λ (court : CourtSettings). ExportsTo c.args.export.now court told.history (g.W.Write.contents c.args.writer.now) (g.W.Write.contents asked_of.new.writer) asked_of.result) adopted.1
+    (exported g.S.Store asked_of.new.docket told.history c.args.export.now _ _ _ asked_of.result (asked_of.ensures.puts told.history adopted.0) now)

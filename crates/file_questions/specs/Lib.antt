@@ -1,0 +1,4 @@
+pub mod CaseLists
+pub mod Checks
+pub mod Exports
+pub mod Tells

@@ -1,0 +1,43 @@
+//! Serving the docket in the files at a path: they are opened, the docket is adopted and served, and the files
+//! are let go.
+//!
+//! `start` stands for what the two files hold as they are opened. The theorem here is one for every start,
+//! and a program hands `Unknown`.
+ghost use Rattle.std.specs.Prelude.{◌≡◌, IfErr, IfOk, MatchResult};
+ghost use Rattle.sqlite_wal.specs.Files.{image_at};
+ghost use Rattle.sqlite.specs.Files.{IsCleanLeft};
+ghost use Rattle.docket_tables.specs.Stands.{IsImage};
+ghost use Rattle.docket_store.specs.Left.{IsUnharmed, LeavesRows};
+ghost use Rattle.docket_store.specs.Reopening.{HoldDocket};
+ghost use Rattle.command_lines.specs.Lines.{Docket as Told};
+ghost use Rattle.file_dockets.specs.Keeping.{rows_told};
+ghost use Rattle.file_serving.specs.Serves.{IfUnserved};
+
+use crate::serving::{ServeEnd, Service, serve_over};
+use docket_store::{Watch, reopen_from};
+use file_dockets::{OnFile, leave};
+use sqlite::Start;
+use std::io::Write;
+use std::rt::HostRuntime;
+
+/// Serves the connections that come to a port of this machine alone, by the docket in the files at a
+/// path. It is told on `w` where they are taken, and on `e` what goes wrong with one.
+pub fn serve_on_file<S: Start, V: Watch + Drop, W: Write, E: Write>(
+    rt: &HostRuntime,
+    path: &str,
+    start: S,
+    watch: V,
+    service: &Service,
+    w: &mut W,
+    e: &mut E,
+) -> OnFile<S, Result<(), ServeEnd>>
+    // Where no connection was waited for the docket stays.
+    ensures stays { (told : Told) → HoldDocket (image_at S.Start) told.court told.history
+        → IfOk result (λ done. IsCleanLeft done.left → IfUnserved done.outcome (LeavesRows done.left (rows_told told) (rows_told told))) }
+    ensures unopened { (told : Told) → HoldDocket (image_at S.Start) told.court told.history
+        → IfErr result (IsUnharmed (image_at S.Start) (IsImage (rows_told told))) }
+    ensures unserved { MatchResult result (λ done. IfErr done.outcome (λ _. (w.new ≡ w.old) × (e.new ≡ e.old))) (λ _. (w.new ≡ w.old) × (e.new ≡ e.old)) }
+{
+    let conn = reopen_from(rt, path, start)?;
+    Ok(leave(serve_over(rt, path, conn, watch, service, w, e)))
+}

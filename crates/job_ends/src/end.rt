@@ -1,0 +1,77 @@
+//! How a job ended, and what is still to be told.
+ghost use Rattle.std.specs.Prelude.{◌≡◌, [], None, string_bytes};
+ghost use Rattle.std.specs.Cow.{cow_str_bytes};
+ghost use Rattle.job_ends.specs.Ends.{Writes};
+
+use crate::status::Status;
+use crate::telling::write_text;
+use sqlite::Leftover;
+use sqlite_disk::Disk;
+use std::alloc::Global;
+use std::borrow::CowStr;
+use std::io::Write;
+
+/// How a job ended: the text that is still to be told once the files are let go, and what is left of the
+/// files, where a job opened them.
+#[derive(Drop)]
+pub struct JobEnd<D: Disk> {
+    pub text: CowStr<'static>,
+    pub status: Status,
+    pub left: Option<Leftover<D>>,
+}
+
+impl<D: Disk + Drop> JobEnd<D> {
+    /// Nothing is still to be told, and no files were opened.
+    pub fn of(status: Status) -> JobEnd<D>
+        ensures text { cow_str_bytes result.text ≡ [] }
+        ensures status { result.status ≡ status }
+        ensures left { result.left ≡ None }
+    {
+        JobEnd {
+            text: CowStr::Borrowed(""),
+            status,
+            left: None,
+        }
+    }
+
+    /// The text is still to be told, and no files were opened.
+    pub fn told(text: String) -> JobEnd<D>
+        ensures text { cow_str_bytes result.text ≡ string_bytes text }
+        ensures status { result.status ≡ Status.Done }
+        ensures left { result.left ≡ None }
+    {
+        JobEnd {
+            text: CowStr::Owned(text),
+            status: Status::Done,
+            left: None,
+        }
+    }
+
+    /// The same, but for the status.
+    pub fn ending(self, status: Status) -> JobEnd<D>
+        ensures text { result.text ≡ self.text }
+        ensures status { result.status ≡ status }
+        ensures left { result.left ≡ self.left }
+    {
+        JobEnd { status, ..self }
+    }
+
+    /// The same, with what is left of the files.
+    pub fn with(self, left: Option<Leftover<D>>) -> JobEnd<D>
+        ensures text { result.text ≡ self.text }
+        ensures status { result.status ≡ self.status }
+        ensures left { result.left ≡ left }
+    {
+        JobEnd { left, ..self }
+    }
+
+    /// Lets the files go, writes the text, and answers the status, which is `Failed` where it can't be
+    /// written.
+    pub fn finish<W: Write, E: Write>(self, alloc: Global, w: &mut W, e: &mut E) -> Status
+        ensures { Writes (cow_str_bytes self.text) self.status (W.contents w.old) (W.contents w.new) result }
+    {
+        let JobEnd { text, status, left } = self;
+        drop(left);
+        write_text(alloc, text.as_str(), status, w, e)
+    }
+}

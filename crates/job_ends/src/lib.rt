@@ -1,0 +1,15 @@
+//! How a job of `docketctl` ends: its exit status, what it still has to tell, and the line that says why it
+//! failed.
+#![tactic(auto)]
+
+mod end;
+mod file;
+mod outcome;
+mod status;
+mod telling;
+
+pub use end::JobEnd;
+pub use file::{FileFault, test_file};
+pub use outcome::{AtPath, done, done_on_docket};
+pub use status::Status;
+pub use telling::{failed, failed_by, no_memory, out_of_memory, write_text};

@@ -1,0 +1,70 @@
+//! What a job tells on its writers.
+ghost use Rattle.std.specs.Prelude.{◌≡◌};
+ghost use Rattle.line_io.specs.Output.{AppendsFront};
+ghost use Rattle.job_ends.specs.Ends.{Writes, no_memory_line};
+
+use crate::status::Status;
+use line_io::write_bytes;
+use std::alloc::{AllocError, Global};
+use std::fmt;
+use std::io::{ErrorKind, Write};
+
+const NO_MEMORY: &[u8] = b"docketctl: there is not enough memory\n";
+
+/// Writes the text, and tells where that fails.
+pub fn write_text<W: Write, E: Write>(
+    alloc: Global,
+    text: &str,
+    done: Status,
+    w: &mut W,
+    e: &mut E,
+) -> Status
+    ensures { Writes text.now done (W.contents w.old) (W.contents w.new) result }
+{
+    match write_bytes(w, text.as_bytes()) {
+        Ok(()) => done,
+        Err(_) => failed(alloc, e, &"the output could not be written"),
+    }
+}
+
+fn line_of<F: fmt::Display>(alloc: Global, fault: &F) -> Result<String, AllocError> {
+    format!(in alloc; "docketctl: {fault}\n")
+}
+
+/// Tells in one line why the program failed. Where it can't be told, the status alone says it.
+pub fn failed<E: Write, F: fmt::Display>(alloc: Global, e: &mut E, fault: &F) -> Status
+    ensures { result ≡ Status.Failed }
+{
+    let _ = match line_of(alloc, fault) {
+        Ok(line) => write_bytes(e, line.as_bytes()),
+        Err(_) => write_bytes(e, NO_MEMORY),
+    };
+    Status::Failed
+}
+
+/// Tells in one line that there is not enough memory, which takes none.
+pub fn no_memory<E: Write>(e: &mut E) -> Status
+    ensures { result ≡ Status.Failed }
+{
+    let _ = write_bytes(e, NO_MEMORY);
+    Status::Failed
+}
+
+/// Tells in one line that this could not be done, or that it lacked memory.
+pub fn failed_by<E: Write>(alloc: Global, e: &mut E, kind: ErrorKind, what: &str) -> Status
+    ensures { result ≡ Status.Failed }
+{
+    match kind {
+        ErrorKind::OutOfMemory => no_memory(e),
+        _ => failed(alloc, e, &what),
+    }
+}
+
+/// Tells on the output, in the place of an answer, that there is not enough memory.
+pub fn out_of_memory<W: Write>(w: &mut W) -> Status
+    ensures status { result ≡ Status.Failed }
+    ensures told { AppendsFront (W.contents w.old) (W.contents w.new) no_memory_line }
+{
+    let _ = write_bytes(w, b"{\"error\":\"no-memory\"}\n");
+    Status::Failed
+}
