@@ -1,10 +1,8 @@
-//! The tables in memory: a row of each written, and read back by plain SQL and by the questions. Days:
-//! 20241 is 2025-06-02, 20276 is 2025-07-07; moments: 1751893200 is 2025-07-07T13:00Z.
+//! The tables in memory: a row of each written, and read back by plain SQL. Days: 20241 is 2025-06-02, 20276
+//! is 2025-07-07; moments: 1751893200 is 2025-07-07T13:00Z.
 mod cells;
 mod changes;
 mod layout;
-mod others;
-mod readings;
 
 use self::changes::{acts, of_each};
 use crate::asking::court;
@@ -42,10 +40,14 @@ fn made(alloc: Global) -> Result<Database, Fail> {
 }
 
 /// A vacation under the key.
-fn vacation(alloc: Global, key: &str, deadline: u32) -> Result<Command, AllocError> {
+fn vacation(alloc: Global, key: &str) -> Result<Command, AllocError> {
+    let vacate = Vacate {
+        case: 1,
+        deadline: 2,
+    };
     Ok(Command {
         key: Text::from_str(alloc, key)?,
-        action: Action::Vacate(Vacate { case: 1, deadline }),
+        action: Action::Vacate(vacate),
     })
 }
 
@@ -56,7 +58,7 @@ fn is_written<S: Alter>(
     key: &str,
     rows: Vec<Change>,
 ) -> Result<bool, AllocError> {
-    let command = vacation(alloc, key, 2)?;
+    let command = vacation(alloc, key)?;
     let body = command_text(alloc, &command)?;
     let Some(court) = court(alloc) else {
         return Ok(false);

@@ -25,7 +25,7 @@ use std::alloc::Global;
 use std::io;
 use texts::canonical;
 use worked::worked_out;
-pub(crate) use worked::{ASKED, ZONE, eastern_court};
+pub(crate) use worked::{ASKED, ZONE, court_of, eastern_court};
 
 /// How an input is played.
 #[derive(Clone, Copy)]

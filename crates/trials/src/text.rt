@@ -1,14 +1,12 @@
 //! A calendar of many lines.
+use crate::plays::eastern_court;
 use anyhow::{Error, anyhow};
-use court_days::{Court, Day, End};
+use court_days::{Day, End};
 use docket_command::Text;
 use docket_history::DueRow;
 use docket_text::calendar_text;
 use std::alloc::Global;
 use std::time::Instant;
-
-/// The court's zone, Eastern time.
-const ZONE: &str = "EST5EDT,M3.2.0,M11.1.0";
 
 /// 2025-06-02.
 const DAY: i32 = 20_241;
@@ -54,7 +52,7 @@ fn row(alloc: Global, number: u32) -> Result<DueRow, Error> {
 /// standard error.
 pub(crate) fn time_text(rt: &HostRuntime, rows: u32) -> Result<(), Error> {
     let alloc = rt.alloc();
-    let court = Court::read(alloc, ZONE, "17:00").map_err(|_| anyhow!("no court"))?;
+    let court = eastern_court(alloc)?;
     let mut due = Vec::new(alloc);
     for number in 0..rows {
         due.push(row(alloc, number)?)?;

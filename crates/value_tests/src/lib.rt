@@ -1,6 +1,6 @@
 //! Tests of the parts that need no database: dates, zones, courts, rules, acts, commands, texts, exports,
-//! lines, `count`, the checks of tables, the words of the command line, and copies of files. They stand in a
-//! crate of their own, since a crate with tests is proved twice.
+//! lines, `count`, the words of the command line, and copies of files. They stand in a crate of their own, since
+//! a crate with tests is proved twice.
 #![tactic(auto)]
 
 #[cfg(test)]
@@ -23,8 +23,6 @@ mod lines;
 mod listed_rules;
 #[cfg(test)]
 mod rules;
-#[cfg(test)]
-mod tables;
 #[cfg(test)]
 mod texts;
 #[cfg(test)]

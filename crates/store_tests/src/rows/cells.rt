@@ -81,15 +81,6 @@ pub(super) fn court_cells(next_row: i64) -> [ValueRef<'static>; 6] {
     ]
 }
 
-/// Whether they are the same values.
-pub(super) fn are(values: &[ValueRef<'_>], cells: &[ValueRef<'_>]) -> bool {
-    values.len() == cells.len()
-        && values
-            .iter()
-            .zip(cells)
-            .all(|(value, cell)| is_same(*value, *cell))
-}
-
 /// Whether these are the values of a row of SQL.
 pub(super) fn is_row(row: &Row, cells: &[ValueRef<'_>]) -> bool {
     for (at, cell) in cells.iter().enumerate() {

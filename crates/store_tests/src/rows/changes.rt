@@ -145,7 +145,7 @@ fn hours_from(at: i64) -> Act {
 }
 
 /// The acts of a deadline, in order: among the three are acts of each kind, and starts of each.
-pub(super) fn acts_of(alloc: Global, deadline: u32) -> Result<Vec<Act>, Fail> {
+fn acts_of(alloc: Global, deadline: u32) -> Result<Vec<Act>, Fail> {
     let filed = day(20_241)?;
     let on = day(20_276)?;
     Ok(match deadline {

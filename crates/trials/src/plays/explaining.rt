@@ -28,11 +28,10 @@ fn reasons_of(
     docket: &mut Docket<MemStore>,
     number: u32,
 ) -> Result<Option<String>, Error> {
-    let found = docket
-        .grounds(CASE, number)
-        .map_err(|fault| anyhow!("{fault}"))?;
-    let Some(grounds) = found else {
-        return Ok(None);
+    let grounds = match docket.grounds(CASE, number) {
+        Ok(Some(grounds)) => grounds,
+        Ok(None) => return Ok(None),
+        Err(fault) => return Err(anyhow!("{fault}")),
     };
     let (court, calendar) = (docket.court(), &grounds.calendar);
     let steps = reasons(alloc, court, calendar, grounds.deadline.acts.as_slice())?;

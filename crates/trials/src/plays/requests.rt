@@ -17,7 +17,10 @@ fn request_of(alloc: Global, line: &[u8]) -> Result<Vec<u8>, Error> {
     };
     let mut bytes = Vec::new(alloc);
     for character in text.chars() {
-        bytes.push(u8::try_from(character).map_err(|_| anyhow!("a character is no byte"))?)?;
+        let Ok(byte) = u8::try_from(character) else {
+            return Err(anyhow!("a character is no byte"));
+        };
+        bytes.push(byte)?;
     }
     Ok(bytes)
 }

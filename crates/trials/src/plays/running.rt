@@ -1,14 +1,14 @@
 //! Commands of `run`, over a docket in SQLite's tables in memory.
+use crate::plays::worked::court_of;
 use anyhow::{Error, anyhow};
 use command_lines::{Clerk, command_run};
-use court_days::Court;
 use docket_store::{Docket, Returned};
 use sqlite::{Connection, MemStore};
 use std::alloc::Global;
 
 /// A docket without any record, in memory, for a court of the zone.
 pub(crate) fn docket(alloc: Global, zone: &str) -> Result<Docket<MemStore>, Error> {
-    let court = Court::read(alloc, zone, "17:00").map_err(|_| anyhow!("no court"))?;
+    let court = court_of(alloc, zone)?;
     let connection = Connection::open_in_memory(alloc)?;
     match Docket::create(alloc, connection, court) {
         Ok(docket) => Ok(docket),

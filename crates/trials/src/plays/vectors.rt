@@ -1,5 +1,5 @@
 //! The same commands, over the docket in vectors.
-use crate::plays::worked::{ASKED, CASE, ZONE, eastern_court, push_deadlines};
+use crate::plays::worked::{ASKED, CASE, ZONE, court_of, eastern_court, push_deadlines};
 use anyhow::{Error, anyhow};
 use court_days::Court;
 use docket_decisions::DecideFault;
@@ -9,8 +9,7 @@ use std::alloc::Global;
 
 /// A docket without any record for a court of the zone.
 pub(crate) fn docket(alloc: Global, zone: &str) -> Result<Plain, Error> {
-    let court = Court::read(alloc, zone, "17:00").map_err(|_| anyhow!("no court"))?;
-    Ok(Plain::new(alloc, court))
+    Ok(Plain::new(alloc, court_of(alloc, zone)?))
 }
 
 /// What is answered to the command on the line.

@@ -12,9 +12,16 @@ use std::alloc::{AllocError, Global};
 /// The court's zone, Eastern time.
 pub(crate) const ZONE: &str = "EST5EDT,M3.2.0,M11.1.0";
 
-/// The court, which closes at five.
+/// The court of a zone, which closes at five.
+pub(crate) fn court_of(alloc: Global, zone: &str) -> Result<Court, Error> {
+    match Court::read(alloc, zone, "17:00") {
+        Ok(court) => Ok(court),
+        Err(_) => Err(anyhow!("no court")),
+    }
+}
+
 pub(crate) fn eastern_court(alloc: Global) -> Result<Court, Error> {
-    Court::read(alloc, ZONE, "17:00").map_err(|_| anyhow!("no court"))
+    court_of(alloc, ZONE)
 }
 
 /// The case whose deadlines are shown.

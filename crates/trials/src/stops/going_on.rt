@@ -104,10 +104,12 @@ fn gone_on_with<D: Disk + Drop>(
 /// Applies the commands of the lines, each of which is to be accepted.
 fn apply_lines<S: Alter>(alloc: Global, docket: &mut Docket<S>, lines: &[u8]) -> Result<(), Error> {
     for line in lines.split_inclusive(|byte| *byte == b'\n') {
-        let command = read_command(alloc, line).map_err(|_| anyhow!("a line is no command"))?;
-        docket
-            .apply(&command)
-            .map_err(|_| anyhow!("a command is not accepted"))?;
+        let Ok(command) = read_command(alloc, line) else {
+            return Err(anyhow!("a line is no command"));
+        };
+        if docket.apply(&command).is_err() {
+            return Err(anyhow!("a command is not accepted"));
+        }
     }
     Ok(())
 }

@@ -46,7 +46,10 @@ fn told_after<D: Tried>(alloc: Global, before: &Bytes, frames: usize) -> Result<
         return Err(anyhow!("the docket is not migrated"));
     }
     let (told, _) = found(alloc, files, frames);
-    told.map_err(|_| anyhow!("the docket that is migrated is not found"))
+    match told {
+        Ok(told) => Ok(told),
+        Err(_) => Err(anyhow!("the docket that is migrated is not found")),
+    }
 }
 
 /// Whether the migration was acknowledged. Where a disk stopped it may not be.

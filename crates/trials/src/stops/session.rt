@@ -39,7 +39,9 @@ impl Course {
         };
         course.told.push(told_by_vectors(alloc, &docket, &court)?)?;
         for line in lines.split_inclusive(|byte| *byte == b'\n') {
-            let command = read_command(alloc, line).map_err(|_| anyhow!("a line is no command"))?;
+            let Ok(command) = read_command(alloc, line) else {
+                return Err(anyhow!("a line is no command"));
+            };
             course.commands.push(command)?;
             course
                 .answers

@@ -23,10 +23,12 @@ fn push_case<S: Alter>(
     number: u32,
     text: &mut Vec<u8>,
 ) -> Result<(), Error> {
-    let case = docket.case(number).map_err(|fault| anyhow!("{fault}"))?;
-    let lines = docket
-        .deadlines(number)
-        .map_err(|fault| anyhow!("{fault}"))?;
+    let Ok(case) = docket.case(number) else {
+        return Err(anyhow!("a case is not told"));
+    };
+    let Ok(lines) = docket.deadlines(number) else {
+        return Err(anyhow!("the deadlines of a case are not told"));
+    };
     let (Some(case), Some(lines)) = (case, lines) else {
         return Ok(());
     };

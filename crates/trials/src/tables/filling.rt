@@ -1,4 +1,5 @@
 //! Tables with many rows.
+use crate::plays::court_of;
 use crate::tables::commands::{FILED, key_of, label_of};
 use anyhow::{Error, anyhow};
 use court_days::Court;
@@ -11,12 +12,14 @@ const AT_ONCE: u32 = 1000;
 
 /// Makes the tables of a court, and answers it.
 pub(crate) fn made<S: Alter>(alloc: Global, conn: &mut Connection<S>) -> Result<Court, Error> {
-    let court = Court::read(alloc, "UTC0", "17:00").map_err(|_| anyhow!("no court"))?;
+    let court = court_of(alloc, "UTC0")?;
     if !conn.is_autocommit() || !is_bare(conn.schema()) {
         return Err(anyhow!("not an empty database"));
     }
-    make(conn, &court, &mut None).map_err(|_| anyhow!("no tables"))?;
-    Ok(court)
+    match make(conn, &court, &mut None) {
+        Ok(_) => Ok(court),
+        Err(_) => Err(anyhow!("no tables")),
+    }
 }
 
 /// Adds a case, its first party and a receipt.
