@@ -2,14 +2,12 @@
 use Rattle.std.proofs.Common.{◌≡◌, ◌∙◌, ◌≤◌, ◌<◌, inl, inr, ◌==◌, ◌&&◌, ℕ, zero, suc, Bool, true, false, cond, nat_lt, List, [], ◌∷◌, length, refl, ap, arith, length-append}
 use Rattle.std.proofs.lemmas.Bool.Decides.{nat_tests}
 use Rattle.std.proofs.lemmas.List.{length-map}
-use Rattle.court_days.specs.Calendar.{Entered}
-use Rattle.court_days.specs.Court.{CourtSettings, zone_of}
-use Rattle.court_rules.specs.declared.act.Act.{Act}
+use Rattle.court_days.specs.Court.{CourtSettings}
 use Rattle.docket_command.specs.declared.command.Command.{Command}
+use Rattle.docket_command.specs.declared.refusal.Reply.{Reply}
 use Rattle.docket_decisions.specs.Additions.{GetsAct}
-use Rattle.docket_decisions.specs.EndMoves.{Follows}
 use Rattle.docket_decisions.specs.Outcomes.{IsHistory}
-use Rattle.docket_decisions.specs.Tables.{Tables, rows_of, changed, all_changed}
+use Rattle.docket_decisions.specs.Tables.{Tables, rows_of, changed, all_changed, with_receipt}
 use Rattle.docket_history.specs.Histories.{History, standing_rows, deadline_rows, act_rows, deadlines_of_case, acts_of_deadline}
 use Rattle.docket_history.specs.declared.row.ActRow.{ActRow}
 use Rattle.docket_history.specs.declared.row.CalendarRow.{CalendarRow}
@@ -73,8 +71,8 @@ gets_act (AddAct row ∷ xs) t k n gets = elim gets [
 gets_act (x ∷ xs) t k n gets = gets_act xs (changed x t) k n gets
 
 -- a deadline that gets an act stands after the command
-pub gets_deadline : (court : CourtSettings) (entered : Entered) (acts : List Act) (changes : List Change) (h : History) (c : Command) → Follows court entered acts changes h c
-    → (k n : ℕ) → GetsAct changes k n → HasDeadline (rows_of court (c ∷ h)) k n
-gets_deadline court entered acts changes h c follows k n gets =
-    let same = ap (λ (t : Tables). length (acts_of_deadline k n t.acts)) follows.leads in
-    acts_have_deadlines court (c ∷ h) k n follows.history (omega (arith, same, gets_act changes (rows_of court h) k n gets))
+pub gets_deadline : (court : CourtSettings) (h : History) (c : Command) (reply : Reply) (changes : List Change) → IsHistory court (c ∷ h)
+    → with_receipt c reply (all_changed changes (rows_of court h)) ≡ rows_of court (c ∷ h) → (k n : ℕ) → GetsAct changes k n → HasDeadline (rows_of court (c ∷ h)) k n
+gets_deadline court h c reply changes is leads k n gets =
+    let same = ap (λ (t : Tables). length (acts_of_deadline k n t.acts)) leads in
+    acts_have_deadlines court (c ∷ h) k n is (omega (arith, same, gets_act changes (rows_of court h) k n gets))

@@ -1,11 +1,18 @@
-mod AnyLemmas
-mod GatherLemmas
+pub mod AnyLemmas
+pub mod ApplyLemmas
+pub mod AskLemmas
 pub mod DocketLemmas
+pub mod FailureLemmas
+pub mod GatherLemmas
 pub mod HistoryLemmas
-mod RunningLemmas
-mod SettlingLemmas
-mod SoundLemmas
+pub mod LeftEnds
+pub mod LineLemmas
+pub mod ListingLemmas
+pub mod RunningLemmas
+pub mod SettlingLemmas
+pub mod SoundLemmas
 pub mod StorableLemmas
-mod ViewLemmas
-mod WholeLemmas
-mod WritingCauses
+pub mod ViewLemmas
+pub mod WholeLemmas
+pub mod WriteLemmas
+pub mod WritingCauses

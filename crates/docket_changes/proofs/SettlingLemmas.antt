@@ -1,5 +1,5 @@
 -- The ends of cases brought up to date, one case after another.
-use Rattle.std.proofs.Common.{◌≡◌, ◌∙◌, ◌<◌, ◌≢◌, ◌==◌, ◌&&◌, ◌+◌, ℕ, zero, suc, not, Bool, true, false, cond, List, [], ◌∷◌, ◌++◌, filter, Option, Some, None, IsPermutation, refl, sym, ap, subst, arith, append-nil}
+use Rattle.std.proofs.Common.{◌≡◌, ◌∙◌, ◌<◌, ◌≢◌, ◌==◌, ◌&&◌, ◌+◌, ℕ, zero, suc, not, Bool, true, false, cond, List, [], ◌∷◌, ◌++◌, filter, Option, Some, None, IsPermutation, refl, sym, ap, subst, arith, append-nil, Result, IfOk}
 use Rattle.std.specs.List.{AllByRecursion}
 use Rattle.std.proofs.lemmas.Bool.Decides.{nat_tests}
 use Rattle.std.proofs.lemmas.List.Elements.{filter-append}
@@ -11,16 +11,14 @@ use Rattle.docket_history.specs.Histories.{deadlines_of_case, deadlines_from}
 use Rattle.docket_decisions.specs.declared.end_row.EndChange.{EndChange}
 use Rattle.docket_history.specs.declared.view.DeadlineView.{DeadlineView}
 use Rattle.sqlite.specs.State.{State, HasCleanDisk}
-use Rattle.docket_tables.specs.Contents.{rows_with}
+use Rattle.docket_tables.specs.Contents.{rows_with, AreStored, ends_in_case, ends_of}
 use Rattle.docket_tables.specs.Stands.{Sees, Inside}
 use Rattle.docket_tables.specs.declared.fault.ReadFault.{ReadFault}
 use Rattle.docket_tables.proofs.EndLemmas.{sees_permuted}
 use Rattle.std.proofs.lemmas.Result.{IfOk-weaker}
-use Rattle.std.proofs.Common.{Result, IfOk}
 use Rattle.docket_decisions.specs.Tables.{Tables}
 use Rattle.docket_decisions.specs.declared.end_row.EndRow.{EndRow}
 use Rattle.docket_decisions.specs.declared.end_row.EndTime.{EndTime}
-use Rattle.docket_tables.specs.Contents.{AreStored, ends_in_case, ends_of}
 use Rattle.docket_changes.specs.Settling.{settled_case, settled_cases, RunsOnlyWhereStored}
 use Rattle.docket_tables.proofs.CaseActs.{passing_both}
 

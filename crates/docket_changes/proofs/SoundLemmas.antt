@@ -1,5 +1,5 @@
 -- What is tested of a view makes it sound, and a sound view passes.
-use Rattle.std.proofs.Common.{◌≡◌, ◌≤◌, ◌⊎◌, ℕ, Bool, true, false, Option, Some, None, List, [], ◌∷◌, length, refl, arith}
+use Rattle.std.proofs.Common.{◌≡◌, ◌≤◌, ℕ, Bool, true, false, ◌||◌, ◌<◌, Option, Some, None, List, [], ◌∷◌, length, refl, ap, arith}
 use Rattle.std.specs.Prelude.{nat_lt, nat_le, ◌&&◌, IfSome}
 use Rattle.std.specs.List.{All, list_all}
 use Rattle.std.proofs.lemmas.Bool.Decides.{nat_tests}
@@ -8,22 +8,23 @@ use Rattle.civil_time.specs.Zone.{ZoneRules}
 use Rattle.court_days.specs.Civil.{IsEnteredDay}
 use Rattle.court_days.specs.Court.{CourtSettings, zone_of}
 use Rattle.court_rules.specs.Acts.{acts_ok, is_within, is_instant, is_entered_day}
+use Rattle.court_rules.specs.LocalRules.{is_local_rule}
 use Rattle.court_rules.specs.Standings.{AreActs, begins_on_entered_day}
 use Rattle.court_rules.specs.declared.act.Act.{Act}
 use Rattle.court_rules.specs.declared.act.Act.TheVariants as act
 use Rattle.court_rules.specs.declared.act.Start.TheVariants as start
+use Rattle.court_rules.specs.declared.local_rule.LocalRule.{LocalRule}
 use Rattle.docket_history.specs.CalendarItems.{IsEnteredItem}
 use Rattle.docket_decisions.specs.Decisions.{IsSoundView}
-use Rattle.docket_history.specs.Views.{deadline_shown}
+use Rattle.docket_decisions.specs.Refusals.{is_over}
+use Rattle.docket_history.specs.Times.{standing_shown}
+use Rattle.docket_history.specs.Views.{acts_in, deadline_shown}
 use Rattle.docket_history.specs.declared.item.CalendarItem.{CalendarItem}
 use Rattle.docket_history.specs.declared.item.CalendarItem.TheVariants.{Day, Span, Short}
-use Rattle.docket_decisions.specs.EndMoves.{acts_with, MayCome, AreLawful}
-use Rattle.docket_history.specs.declared.row.Change.{Change}
-use Rattle.docket_history.specs.declared.row.Change.TheVariants.{AddAct}
 use Rattle.docket_history.specs.declared.view.DeadlineView.{DeadlineView}
 use Rattle.docket_history.specs.declared.view.View.{View}
 use Rattle.docket_decisions.proofs.Passed.{left_true, right_true}
-use Rattle.docket_changes.specs.Sound.{is_entered_item, begins_in_time, are_acts, are_lawful, is_lawful, may_come, IsSoundCase}
+use Rattle.docket_changes.specs.Sound.{is_entered_item, begins_in_time, are_acts, are_lawful, is_lawful, has_room, is_lawful_rule, IsSoundCase}
 
 both_true : (a b : Bool) → a ≡ true → b ≡ true → (a && b) ≡ true
 both_true true b e f = f
@@ -101,21 +102,6 @@ module _ (zone : ZoneRules) where
   acts_passed : (d : DeadlineView) → AreActs zone d.acts → are_acts zone d.acts ≡ true
   acts_passed d is = list_passed d.acts is
 
-  -- an act that is tested may come on its deadline
-  change_told : (named : List Act) (change : Change) → may_come zone named change ≡ true → MayCome zone named change
-  change_told named (AddAct row) e = list_told (acts_with named row) e
-  change_told named _ e = tt
-
-  change_passed : (named : List Act) (change : Change) → MayCome zone named change → may_come zone named change ≡ true
-  change_passed named (AddAct row) is = list_passed (acts_with named row) is
-  change_passed named _ is = refl
-
-  pub changes_told : (named : List Act) (changes : List Change) → (named ≡ []) ⊎ AreActs zone named → list_all (may_come zone named) changes ≡ true → AreLawful zone named changes
-  changes_told named changes lawful e = record { named = lawful; after = all_told (may_come zone named) (MayCome zone named) (change_told named) changes e }
-
-  pub changes_passed : (named : List Act) (changes : List Change) → AreLawful zone named changes → list_all (may_come zone named) changes ≡ true
-  changes_passed named changes is = all_passed (may_come zone named) (MayCome zone named) (change_passed named) changes is.after
-
   lawful_told : (o : Option DeadlineView) → is_lawful zone o ≡ true → IfSome o (λ d. AreActs zone d.acts)
   lawful_told None e = tt
   lawful_told (Some d) e = acts_told d e
@@ -124,12 +110,50 @@ module _ (zone : ZoneRules) where
   passed_if None is = refl
   passed_if (Some d) is = acts_passed d is
 
-pub sound_told : (court : CourtSettings) (v : View) → All IsEnteredItem v.calendar → length v.calendar ≤ 4000 → v.next_row ≤ 4_294_967_296 → is_lawful (zone_of court) (deadline_shown v) ≡ true → IsSoundView court v
-sound_told court v entered few next lawful = record {
+either : (a b : Bool) → (a || b) ≡ true → b ≡ false → a ≡ true
+either true b e off = refl
+either false b e off = absurd (let yes = e in let no = off in cc)
+
+or_true : (a b : Bool) → (a ≡ false → b ≡ true) → (a || b) ≡ true
+or_true true b e = refl
+or_true false b e = e refl
+
+-- room for one act more, where the time is not over
+room_told : (court : CourtSettings) (v : View) → has_room court v ≡ true → is_over (standing_shown court v) ≡ false → length (acts_in (deadline_shown v)) < 100
+room_told court v e going =
+    let few : nat_lt (length (acts_in (deadline_shown v))) 100 ≡ true = either _ _ e going in
+    grind (arith, nat_tests, few)
+
+pub room_passed : (court : CourtSettings) (v : View) → (is_over (standing_shown court v) ≡ false → length (acts_in (deadline_shown v)) < 100) → has_room court v ≡ true
+room_passed court v room = at (is_over (standing_shown court v)) refl
+  where
+    at : (b : Bool) → is_over (standing_shown court v) ≡ b → has_room court v ≡ true
+    at true over = or_true (nat_lt (length (acts_in (deadline_shown v))) 100) (is_over (standing_shown court v)) (λ off. over)
+    at false going =
+        let short = room going in
+        let few : nat_lt (length (acts_in (deadline_shown v))) 100 ≡ true = grind (arith, nat_tests, short) in
+        ap (λ b. b || is_over (standing_shown court v)) few
+
+rule_told : (o : Option LocalRule) → is_lawful_rule o ≡ true → IfSome o (λ (rule : LocalRule). is_local_rule rule ≡ true)
+rule_told None e = tt
+rule_told (Some rule) e = e
+
+pub rule_passed : (o : Option LocalRule) → IfSome o (λ (rule : LocalRule). is_local_rule rule ≡ true) → is_lawful_rule o ≡ true
+rule_passed None is = refl
+rule_passed (Some rule) is = is
+
+pub acts_lawful : (court : CourtSettings) (v : View) → is_lawful (zone_of court) (deadline_shown v) ≡ true → IfSome (deadline_shown v) (λ d. AreActs (zone_of court) d.acts)
+acts_lawful court v lawful = lawful_told (zone_of court) (deadline_shown v) lawful
+
+pub sound_told : (court : CourtSettings) (v : View) → All IsEnteredItem v.calendar → length v.calendar ≤ 4000 → v.next_row ≤ 4_294_967_296 → is_lawful (zone_of court) (deadline_shown v) ≡ true
+    → has_room court v ≡ true → is_lawful_rule v.local ≡ true → IsSoundView court v
+sound_told court v entered few next lawful room rule = record {
   items = entered;
   rows = few;
   next_row = next;
-  acts = lawful_told (zone_of court) (deadline_shown v) lawful;
+  acts = acts_lawful court v lawful;
+  room = room_told court v room;
+  local = rule_told v.local rule;
 }
 
 pub items_told : (items : List CalendarItem) → list_all is_entered_item items ≡ true → All IsEnteredItem items

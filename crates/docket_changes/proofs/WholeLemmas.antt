@@ -14,8 +14,8 @@ use Rattle.docket_tables.specs.Contents.{ends_in_case, ends_of}
 use Rattle.docket_orderly.specs.Orderly.{IsOrderly}
 use Rattle.docket_tables.proofs.StoredLemmas.{all_stored, ends_of_all}
 use Rattle.docket_changes.specs.Settling.{AreUntouched, IsUpdate, MayUpdate, settled_case, settled_cases, updated_ends}
-use Rattle.docket_changes.specs.declared.moving.EndUpdate.{EndUpdate}
-use Rattle.docket_changes.specs.declared.moving.EndUpdate.TheVariants.{Moves, Calendar}
+use Rattle.docket_decisions.specs.declared.moving.EndUpdate.{EndUpdate}
+use Rattle.docket_decisions.specs.declared.moving.EndUpdate.TheVariants.{Moves, Calendar}
 use Rattle.docket_changes.proofs.SettlingLemmas.{others_of, settled_other, settled_before}
 
 -- lists of rows that have the same rows of each case are the same but for the order

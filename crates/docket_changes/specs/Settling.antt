@@ -1,16 +1,13 @@
--- The ends of cases brought up to date, and what a command does about the stored ends.
-use Rattle.std.specs.Prelude.{◌≡◌, ◌<◌, ◌⊎◌, ℕ, zero, suc, Bool, true, false, Option, None, ◌+◌, ◌==◌, not, List, [], ◌++◌, filter, IfErr, IsPermutation, Result}
+-- The ends of cases brought up to date, and what is done about the stored ends.
+use Rattle.std.specs.Prelude.{◌≡◌, ◌<◌, ◌⊎◌, ℕ, zero, suc, ◌+◌, ◌==◌, not, List, [], ◌++◌, filter, IfErr, IsPermutation, Result}
 use Rattle.sqlite.specs.State.{State}
 use Rattle.court_days.specs.Calendar.{Entered}
 use Rattle.court_days.specs.Court.{CourtSettings}
-use Rattle.docket_command.specs.declared.command.Action.{Action}
-use Rattle.docket_command.specs.declared.command.Action.TheVariants.{DeclareDay, CloseDay, CloseSpan, ShortDay, WithdrawCalendar, ImportCalendar, AddParty, FileEntry}
-use Rattle.docket_history.specs.Actions.{case_named}
 use Rattle.docket_decisions.specs.EndRows.{all_changed_ends, calendar_in, end_rows}
 use Rattle.docket_decisions.specs.Tables.{Tables}
 use Rattle.docket_decisions.specs.declared.end_row.EndRow.{EndRow}
-use Rattle.docket_changes.specs.declared.moving.EndUpdate.{EndUpdate}
-use Rattle.docket_changes.specs.declared.moving.EndUpdate.TheVariants.{Moves, Calendar}
+use Rattle.docket_decisions.specs.declared.moving.EndUpdate.{EndUpdate}
+use Rattle.docket_decisions.specs.declared.moving.EndUpdate.TheVariants.{Moves, Calendar}
 use Rattle.docket_tables.specs.Contents.{AreStored, ends_in_case, ends_of}
 use Rattle.docket_tables.specs.Layouts.{Rows}
 use Rattle.docket_tables.specs.Stands.{Inside, Sees}
@@ -74,23 +71,3 @@ MayUpdate court (Calendar cases) t ends = IsOrderly court t × EachIsStored ends
 abbrev pub MayLeave : EndUpdate → List EndRow → List EndRow → Type 0
 MayLeave (Moves moves) stored next = next ≡ all_changed_ends moves.items stored
 MayLeave (Calendar cases) stored next = Unit {0}
-
--- the action enters or withdraws days or spans of the calendar, by which ends of any case may move; a short day moves none
-abbrev pub moves_all_cases : Action → Bool
-moves_all_cases (DeclareDay a) = true
-moves_all_cases (CloseDay a) = true
-moves_all_cases (CloseSpan a) = true
-moves_all_cases (WithdrawCalendar a) = true
-moves_all_cases (ImportCalendar a) = true
-moves_all_cases _ = false
-
--- the action enters or withdraws rows of the calendar
-abbrev pub changes_calendar : Action → Bool
-changes_calendar (ShortDay a) = true
-changes_calendar a = moves_all_cases a
-
--- the case in which an action may make a deadline or an act; a party and an entry are neither
-abbrev pub case_moved : Action → Option ℕ
-case_moved (AddParty a) = None
-case_moved (FileEntry a) = None
-case_moved a = case_named a

@@ -1,23 +1,26 @@
 -- What is tested of a view that was read from a database.
-use Rattle.std.specs.Prelude.{nat_le, nat_lt, ◌≤◌, ◌&&◌, ℕ, Bool, true, List, length, Option, Some, None}
+use Rattle.std.specs.Prelude.{nat_le, nat_lt, ◌≤◌, ◌&&◌, ◌||◌, ℕ, Bool, true, List, length, Option, Some, None}
 use Rattle.std.specs.List.{All, list_all}
 use Rattle.civil_time.specs.LocalTime.{local_day, seconds}
 use Rattle.civil_time.specs.Zone.{ZoneRules}
 use Rattle.court_days.specs.Court.{CourtSettings, zone_of}
 use Rattle.court_rules.specs.Acts.{acts_ok, is_entered_day, is_instant}
+use Rattle.court_rules.specs.LocalRules.{is_local_rule}
 use Rattle.court_rules.specs.Standings.{AreActs}
 use Rattle.court_rules.specs.declared.act.Act.{Act}
 use Rattle.court_rules.specs.declared.act.Act.TheVariants as act
 use Rattle.court_rules.specs.declared.act.Start.TheVariants as start
+use Rattle.court_rules.specs.declared.local_rule.LocalRule.{LocalRule}
+use Rattle.docket_decisions.specs.Refusals.{is_over}
 use Rattle.docket_decisions.specs.Tables.{Tables, deadlines_in}
 use Rattle.docket_history.specs.CalendarItems.{IsEnteredItem}
 use Rattle.docket_history.specs.Histories.{items_of}
-use Rattle.docket_decisions.specs.EndMoves.{acts_with}
+use Rattle.docket_history.specs.Times.{standing_shown}
+use Rattle.docket_history.specs.Views.{acts_in, deadline_shown}
 use Rattle.docket_history.specs.declared.item.CalendarItem.{CalendarItem}
 use Rattle.docket_history.specs.declared.item.CalendarItem.TheVariants.{Day, Span, Short}
-use Rattle.docket_history.specs.declared.row.Change.{Change}
-use Rattle.docket_history.specs.declared.row.Change.TheVariants.{AddAct}
 use Rattle.docket_history.specs.declared.view.DeadlineView.{DeadlineView}
+use Rattle.docket_history.specs.declared.view.View.{View}
 
 -- a court may enter the item
 abbrev pub is_entered_item : CalendarItem → Bool
@@ -35,11 +38,6 @@ begins_in_time zone _ = true
 abbrev pub are_acts : ZoneRules → List Act → Bool
 are_acts zone acts = acts_ok acts && list_all (begins_in_time zone) acts
 
--- the act may come on its deadline, where those of the deadline that its command names are given
-abbrev pub may_come : ZoneRules → List Act → Change → Bool
-may_come zone named (AddAct row) = are_acts zone (acts_with named row)
-may_come zone named _ = true
-
 -- each deadline has lawful acts
 abbrev pub are_lawful : ZoneRules → List DeadlineView → Bool
 are_lawful zone all = list_all (λ d. are_acts zone d.acts) all
@@ -48,6 +46,15 @@ are_lawful zone all = list_all (λ d. are_acts zone d.acts) all
 abbrev pub is_lawful : ZoneRules → Option DeadlineView → Bool
 is_lawful zone None = true
 is_lawful zone (Some d) = are_acts zone d.acts
+
+-- there is room for one act more on the deadline that the command names, or its time is over
+abbrev pub has_room : CourtSettings → View → Bool
+has_room court v = nat_lt (length (acts_in (deadline_shown v))) 100 || is_over (standing_shown court v)
+
+-- the local rule, if there is one, is one that a court may have
+abbrev pub is_lawful_rule : Option LocalRule → Bool
+is_lawful_rule None = true
+is_lawful_rule (Some rule) = is_local_rule rule
 
 -- a court may enter each item of the calendar, at most 4,000 of them
 abbrev pub IsSoundCalendar : List CalendarItem → Type 0

@@ -18,14 +18,18 @@ use Rattle.docket_tables.specs.Changing.{rows_changed, with_changes}
 use Rattle.docket_tables.specs.Contents.{rows_with}
 use Rattle.docket_tables.specs.Layouts.{Rows}
 use Rattle.docket_tables.specs.Stands.{HoldsRows, LastsAsEither}
-use Rattle.docket_changes.specs.Settling.{updated_ends}
+use Rattle.docket_changes.specs.Settling.{IsUpdate, updated_ends}
 use Rattle.docket_changes.specs.Sound.{AreSound}
-use Rattle.docket_changes.specs.declared.moving.EndUpdate.{EndUpdate}
-use Rattle.docket_changes.specs.declared.moving.EndUpdate.TheVariants.{Moves, Calendar}
+use Rattle.docket_decisions.specs.declared.moving.EndUpdate.{EndUpdate}
+use Rattle.docket_decisions.specs.declared.moving.EndUpdate.TheVariants.{Moves, Calendar}
 
 -- the rows of the tables with what a command changes, and with the stored ends brought up to date by them
-abbrev pub written : CourtSettings → EndUpdate → Command → Changes → Tables → List EndRow → Rows
-written court update c changes t ends = rows_with court (with_changes c changes t) (updated_ends court update (with_changes c changes t) ends)
+abbrev pub written : CourtSettings → Command → Changes → Tables → List EndRow → Rows
+written court c changes t ends = rows_with court (with_changes c changes t) (updated_ends court changes.ends (with_changes c changes t) ends)
+
+-- what the changes do about the stored ends is right for the write of them
+abbrev pub UpdatesEnds : CourtSettings → Command → Changes → Tables → Type 0
+UpdatesEnds court c changes t = IsUpdate court changes.ends t (with_changes c changes t)
 
 -- any rows with the same changes, and with these ends
 abbrev pub recorded_with : CourtSettings → ℕ → Command → Changes → List EndRow → Rows → Rows
@@ -47,10 +51,10 @@ MayAddEnds (Calendar cases) t ends = Unit {0}
 
 -- The rows that a command adds may stand, with its receipt and the ends that are added then, and all can be stored; the tables that
 -- it leaves are sound.
-pub record MayWrite (court : CourtSettings) (update : EndUpdate) (c : Command) (changes : Changes) (t : Tables) (stored : List EndRow) : Type 0 where
+pub record MayWrite (court : CourtSettings) (c : Command) (changes : Changes) (t : Tables) (stored : List EndRow) : Type 0 where
   pub added : MayAddAll changes.rows.items t
   pub received : MayReceive c t
   pub storable : AllByRecursion (λ x. AreStorable (values_added x)) changes.rows.items
   pub kept : AreStorable (receipt_cells (record { command = c; reply = changes.reply }))
-  pub ends : MayAddEnds update (with_changes c changes t) stored
+  pub ends : MayAddEnds changes.ends (with_changes c changes t) stored
   pub sound : AreSound court (with_changes c changes t)

@@ -1,22 +1,33 @@
-//! What a command reads of a docket's tables, and all that it changes in them, in one transaction.
+//! What a docket's tables answer, and all that a command changes in them, on a connection.
 //!
-//! `view` shows a docket as a command asks of it; `case_record`, `case_deadlines`, `deadline_view` and
-//! `calendar_items` show a case, one deadline and the calendar. `is_sound`, `is_sound_calendar` and
-//! `is_sound_case` test whether a history can show what was read. `moves` tells what the changes of a command do to the
-//! stored ends of deadlines, and `write` makes its changes, adds its receipt and updates the ends, all
-//! of it or nothing. The tables and their statements are those of `docket_tables`.
+//! A command is three steps. `view` shows a docket as the command asks of it, where `is_sound` tests
+//! whether a history can show that; it is decided; and `write` makes the changes of an accepted one, adds
+//! its receipt and updates the stored ends of deadlines in one transaction, all of it or nothing.
+//! `apply_to` does the three. `case_record`, `lines_numbered`, `due_days`, `grounds_of` and `list_days`
+//! answer what is asked of a case, of a deadline and of the calendar. The tables and their statements are
+//! those of `docket_tables`; who has the connection, and from when until when, is `docket_store`'s.
 #![tactic(auto)]
 
+mod applying;
+mod asking;
+mod due;
+mod explaining;
+mod fault;
 mod gathering;
-mod moving;
+mod judging;
+mod lines;
+mod listing;
 mod settling;
 mod sound;
 mod telling;
 mod viewing;
 mod writing;
 
-pub use moving::{EndUpdate, case_moved, changes_calendar, moves, moves_all_cases};
-pub use sound::{is_sound, is_sound_calendar, is_sound_case};
+pub use applying::apply_to;
+pub use asking::lines_numbered;
+pub use due::due_days;
+pub use explaining::{Grounds, grounds_of};
+pub use fault::{Fault, closing_error, read_fault};
+pub use listing::{CalendarEnd, ListingEnd, breaking_error, list_days};
 pub use telling::case_record;
-pub use viewing::{calendar_items, case_deadlines, deadline_view, view};
 pub use writing::write;

@@ -23,10 +23,9 @@ ghost use Rattle.docket_changes.specs.Settling.{EachIsStored, EachRunsWhereStore
 ghost use Rattle.docket_tables.specs.Stands.{Inside};
 
 use crate::gathering::{items_of, with_acts};
-use crate::moving::EndUpdate;
 use crate::sound::{is_sound_calendar, is_sound_case};
 use court_days::{Calendar, Court};
-use docket_decisions::{EndChange, EndRow, due_changes};
+use docket_decisions::{EndChange, EndRow, EndUpdate, due_changes};
 use docket_history::{CalendarRow, DeadlineView, calendar_of};
 use docket_tables::{ReadFault, change_ends, inside};
 use sqlite::{Alter, Transaction};

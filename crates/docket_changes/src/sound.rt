@@ -1,21 +1,27 @@
 //! Whether a view that was read may be one that a history shows.
-ghost use Rattle.std.specs.Prelude.{◌≡◌, ◌↔◌, IsTrue};
+ghost use Rattle.std.specs.Prelude.{◌≡◌, ◌↔◌, IsTrue, IfSome};
 ghost use Rattle.std.specs.List.{list_all};
 ghost use Rattle.court_days.specs.Court.{zone_of};
 ghost use Rattle.court_rules.specs.Acts.{is_instant, is_entered_day};
+ghost use Rattle.court_rules.specs.Standings.{AreActs};
 ghost use Rattle.docket_decisions.specs.Decisions.{IsSoundView};
 ghost use Rattle.docket_history.specs.Views.{deadline_shown};
-ghost use Rattle.docket_changes.specs.Sound.{is_entered_item, begins_in_time, are_acts, are_lawful, is_lawful, IsSoundCalendar, IsSoundCase};
+ghost use Rattle.docket_changes.specs.Sound.{is_entered_item, begins_in_time, are_acts, are_lawful, is_lawful, has_room, is_lawful_rule, IsSoundCalendar, IsSoundCase};
 
 use court_days::{Court, Day, is_entered};
-use court_rules::{Act, Start, acts_ok};
+use court_rules::{Act, Standing, Start, acts_ok, due};
+use docket_command::LocalRule;
 use docket_history::{CalendarItem, DeadlineView, View};
+use docket_sound::is_local_rule;
 
 /// How many rows a calendar holds at most.
 const MOST_ROWS: usize = 4000;
 
 /// How many deadlines a case has at most.
 const MOST_DEADLINES: usize = 1000;
+
+/// How many acts a deadline has at most.
+const MOST_ACTS: usize = 100;
 
 /// The greatest number that the next calendar row may have.
 const LAST_ROW: u64 = 4_294_967_296;
@@ -73,7 +79,7 @@ fn begin_in_time(court: &Court, acts: &[Act]) -> bool
 }
 
 /// Whether these may be the acts of a deadline of the court.
-pub(crate) fn are_acts(court: &Court, acts: &[Act]) -> bool
+fn are_acts(court: &Court, acts: &[Act]) -> bool
     ensures { result ≡ are_acts (zone_of court.now) acts.now }
 {
     acts_ok(acts) && begin_in_time(court, acts)
@@ -97,8 +103,34 @@ fn is_lawful(court: &Court, view: &View) -> bool
     }
 }
 
+/// Whether there is room for one act more on the deadline that the command names, or its time is over.
+fn has_room(court: &Court, view: &View) -> bool
+    requires { IfSome (deadline_shown view.now) (λ deadline. AreActs (zone_of court.now) deadline.acts) }
+    ensures { result ≡ has_room court.now view.now }
+{
+    let Some(deadline) = view.deadline_named() else {
+        return true;
+    };
+    let acts = deadline.acts.as_slice();
+    if acts.len() < MOST_ACTS {
+        return true;
+    }
+    let standing = due(court, view.calendar.calendar(), acts);
+    matches!(standing, Standing::Done | Standing::Vacated)
+}
+
+/// Whether the local rule, if there is one, is one that a court may have.
+fn is_lawful_rule(rule: &Option<LocalRule>) -> bool
+    ensures { result ≡ is_lawful_rule rule.now }
+{
+    match rule {
+        Some(rule) => is_local_rule(rule),
+        None => true,
+    }
+}
+
 /// Whether the view is one that a history can show. What a docket shows always is.
-pub fn is_sound(court: &Court, view: &View) -> bool
+pub(crate) fn is_sound(court: &Court, view: &View) -> bool
     ensures { IsTrue result ↔ IsSoundView court.now view.now }
 {
     // Its contract says that a court may enter what stands in the calendar.
@@ -106,11 +138,17 @@ pub fn is_sound(court: &Court, view: &View) -> bool
     if view.next_row > LAST_ROW {
         return false;
     }
-    is_lawful(court, view)
+    if !is_lawful(court, view) {
+        return false;
+    }
+    if !has_room(court, view) {
+        return false;
+    }
+    is_lawful_rule(&view.local)
 }
 
 /// Whether these may be the items of a calendar.
-pub fn is_sound_calendar(items: &[CalendarItem]) -> bool
+pub(crate) fn is_sound_calendar(items: &[CalendarItem]) -> bool
     ensures { IsTrue result ↔ IsSoundCalendar items.now }
 {
     if items.len() > MOST_ROWS {
@@ -120,7 +158,7 @@ pub fn is_sound_calendar(items: &[CalendarItem]) -> bool
 }
 
 /// Whether a history can show these deadlines of a case.
-pub fn is_sound_case(court: &Court, deadlines: &[DeadlineView]) -> bool
+pub(crate) fn is_sound_case(court: &Court, deadlines: &[DeadlineView]) -> bool
     ensures { IsTrue result ↔ IsSoundCase court.now deadlines.now }
 {
     if deadlines.len() > MOST_DEADLINES {

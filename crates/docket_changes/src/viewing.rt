@@ -108,7 +108,7 @@ fn is_asked_row_standing<S: Alter>(
 }
 
 /// The items of the calendar, in the order of the numbers of their rows.
-pub fn calendar_items<S: Alter>(
+pub(crate) fn calendar_items<S: Alter>(
     conn: &mut Connection<S>,
     alloc: Global,
 ) -> Result<Vec<CalendarItem>, ReadFault>
@@ -150,7 +150,7 @@ fn is_among(number: u32, count: u32) -> bool
 }
 
 /// The deadline of a number, from 1, of a case, with its acts.
-pub fn deadline_view<S: Alter>(
+pub(crate) fn deadline_view<S: Alter>(
     conn: &mut Connection<S>,
     alloc: Global,
     case: u32,
@@ -375,7 +375,7 @@ fn local_rules_if_asked<S: Alter>(
 }
 
 /// The deadlines of the case of a number, if there is one, each with its acts.
-pub fn case_deadlines<S: Alter>(
+pub(crate) fn case_deadlines<S: Alter>(
     conn: &mut Connection<S>,
     alloc: Global,
     number: u32,
@@ -397,7 +397,7 @@ pub fn case_deadlines<S: Alter>(
 
 /// What a docket's tables show about a command, beside the calendar, which the caller gives. `body` is
 /// the canonical text of the command.
-pub fn view<S: Alter>(
+pub(crate) fn view<S: Alter>(
     conn: &mut Connection<S>,
     alloc: Global,
     command: &Command,

@@ -17,10 +17,9 @@ ghost use Rattle.docket_tables.specs.declared.fault.ReadFault.TheVariants.{Store
 ghost use Rattle.sqlite.specs.declared.error.Error.{Error as Failed};
 ghost use Rattle.sqlite.specs.declared.error.Error.TheVariants.{SqliteFailure};
 ghost use Rattle.sqlite.specs.declared.error.ErrorCode.TheVariants.{OutOfMemory};
-ghost use Rattle.docket_changes.specs.Settling.{FailsOnlyFor, IsUpdate, Leads, MayLeave, MayUpdate};
-ghost use Rattle.docket_changes.specs.Writing.{IfClean, MayWrite, Writes, recorded_with, written};
+ghost use Rattle.docket_changes.specs.Settling.{FailsOnlyFor, Leads, MayLeave, MayUpdate};
+ghost use Rattle.docket_changes.specs.Writing.{IfClean, MayWrite, UpdatesEnds, Writes, recorded_with, written};
 
-use crate::moving::EndUpdate;
 use crate::settling::update_ends;
 use court_days::Court;
 use docket_command::Command;
@@ -42,12 +41,11 @@ fn store_error(fault: ReadFault) -> Error
     }
 }
 
-/// Makes the changes of a command, adds its receipt, and does what is to be done about the stored ends.
+/// Makes the changes of a command, those of the stored ends among them, and adds its receipt.
 fn fill<S: Alter>(
     tx: &mut Transaction<'_, S>,
     alloc: Global,
     court: &Court,
-    update: &EndUpdate,
     command: &Command,
     body: &str,
     changes: &Changes,
@@ -56,35 +54,34 @@ fn fill<S: Alter>(
     ensures same_reference { tx.new.conn.ghost_name ≡ tx.old.conn.ghost_name }
     ensures clean { doubt (state S.Store tx.old.conn.now).is_clean ≤ doubt (state S.Store tx.new.conn.now).is_clean }
     ensures inside { (t : Tables) (ends : List Ended) → AreNumbered t.next_row changes.now
-        → MayUpdate court.now update.now (with_changes command.now changes.now t) ends
+        → MayUpdate court.now changes.now.ends (with_changes command.now changes.now t) ends
         → Leads (state S.Store tx.old.conn.now) (state S.Store tx.new.conn.now) (rows_with court.now t ends)
-        (written court.now update.now command.now changes.now t ends) result }
+        (written court.now command.now changes.now t ends) result }
     ensures any { (n : ℕ) (stored : List Ended) (rows : Rows) → AreDocketRows court.now n stored rows → AreNumbered n changes.now
-        → (next : List Ended) × MayLeave update.now stored next
+        → (next : List Ended) × MayLeave changes.now.ends stored next
         × Leads (state S.Store tx.old.conn.now) (state S.Store tx.new.conn.now) rows (recorded_with court.now n command.now changes.now next rows) result }
     ensures cause { HasCleanDisk (state S.Store tx.new.conn.now) → (t : Tables) (ends : List Ended) → AreNumbered t.next_row changes.now
-        → MayUpdate court.now update.now (with_changes command.now changes.now t) ends → MayWrite court.now update.now command.now changes.now t ends
+        → MayUpdate court.now changes.now.ends (with_changes command.now changes.now t) ends → MayWrite court.now command.now changes.now t ends
         → FailsOnlyFor HasChangeCause (state S.Store tx.old.conn.now) (state S.Store tx.new.conn.now) (rows_with court.now t ends) result }
 {
     // Its contract bounds the text of the zone: a new row of the calendar is counted in the court's row,
     // which is written anew.
     let _zone = court.zone_text();
     record(tx, command, body, changes)?;
-    match update_ends(tx, alloc, court, update) {
+    match update_ends(tx, alloc, court, &changes.ends) {
         Ok(()) => Ok(()),
         Err(fault) => Err(store_error(fault)),
     }
 }
 
-/// Makes the changes of an accepted command, adds its receipt, and does `update` to the stored ends, in
-/// one transaction: all of it, or nothing. `body` is the canonical text of the command. On an error
+/// Makes the changes of an accepted command, those of the stored ends among them, and adds its receipt,
+/// in one transaction: all of it, or nothing. `body` is the canonical text of the command. On an error
 /// nothing of it stands, but that a power failure after a commit that failed may leave either; the
 /// connection is as it was, or shut.
 pub fn write<S: Alter>(
     conn: &mut Connection<S>,
     alloc: Global,
     court: &Court,
-    update: &EndUpdate,
     command: &Command,
     body: &str,
     changes: &Changes,
@@ -94,21 +91,21 @@ pub fn write<S: Alter>(
     ensures idle { conn.new.in_transaction ≡ false }
     ensures clean { doubt (state S.Store conn.old).is_clean ≤ doubt (state S.Store conn.new).is_clean }
     ensures either { (t : Tables) → AreNumbered t.next_row changes.now → HoldsRows S.Store conn.old (rows_in court.now t)
-        → IfClean S.Store conn.old (IsUpdate court.now update.now t (with_changes command.now changes.now t))
+        → IfClean S.Store conn.old (UpdatesEnds court.now command.now changes.now t)
         → Writes S.Store conn.new (rows_in court.now t) (rows_in court.now (with_changes command.now changes.now t)) result }
     // Whether or not a history leads to the rows: all changes of the command, its receipt, and some ends.
     ensures any { (n : ℕ) (stored : List Ended) (rows : Rows) → AreDocketRows court.now n stored rows → AreNumbered n changes.now → HoldsRows S.Store conn.old rows
-        → (next : List Ended) × MayLeave update.now stored next
+        → (next : List Ended) × MayLeave changes.now.ends stored next
         × Writes S.Store conn.new rows (recorded_with court.now n command.now changes.now next rows) result }
     // It stays the same connection, on which faults are counted on.
     ensures later { HasCleanDisk (state S.Store conn.new) → (t : Tables) → AreNumbered t.next_row changes.now → HoldsRows S.Store conn.old (rows_in court.now t)
-        → IsUpdate court.now update.now t (with_changes command.now changes.now t) → IsLater (state S.Store conn.old) (state S.Store conn.new) }
+        → UpdatesEnds court.now command.now changes.now t → IsLater (state S.Store conn.old) (state S.Store conn.new) }
     // What may be written fails only for a cause.
     ensures cause { HasCleanDisk (state S.Store conn.new) → (t : Tables) → AreNumbered t.next_row changes.now → HoldsRows S.Store conn.old (rows_in court.now t)
-        → IsUpdate court.now update.now t (with_changes command.now changes.now t) → MayWrite court.now update.now command.now changes.now t (end_rows court.now t)
+        → UpdatesEnds court.now command.now changes.now t → MayWrite court.now command.now changes.now t (end_rows court.now t)
         → IfErr result (HasChangeCause (state S.Store conn.old) (state S.Store conn.new)) }
 {
     let mut tx = conn.transaction();
-    fill(&mut tx, alloc, court, update, command, body, changes)?;
+    fill(&mut tx, alloc, court, command, body, changes)?;
     tx.commit()
 }

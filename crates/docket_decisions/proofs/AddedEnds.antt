@@ -11,7 +11,7 @@ use Rattle.court_rules.specs.declared.act.Act.{Act}
 use Rattle.docket_command.specs.declared.command.Command.{Command}
 use Rattle.docket_history.specs.Actions.{deadlines_made, acts_made}
 use Rattle.docket_decisions.specs.Additions.{AddsOnce, AddsAmong, GetsAct}
-use Rattle.docket_decisions.specs.EndMoves.{acts_before, acts_with, moves_by_act, end_moves, Follows}
+use Rattle.docket_decisions.specs.EndMoves.{acts_before, acts_with, moves_by_act, end_moves}
 use Rattle.docket_decisions.specs.EndRows.{end_row, row_of_deadline, end_rows, end_running, is_of, moved_end, changed_ends, all_changed_ends, IsElsewhere, AreRowsFrom, is_same_end, end_changes, first_end, after_first, changes_from}
 use Rattle.docket_history.specs.Histories.{History, deadline_rows, act_rows, deadlines_of_case, acts_of_deadline, first_acts_from, case_number, deadline_number, rule_found}
 use Rattle.docket_decisions.specs.Outcomes.{IsHistory}
@@ -27,7 +27,7 @@ use Rattle.docket_history.specs.declared.row.Change.TheVariants.{AddCalendar, Re
 use Rattle.docket_history.specs.declared.row.DeadlineRow.{DeadlineRow}
 use Rattle.docket_decisions.proofs.AddedActs.{turned, is_earlier, named_before}
 use Rattle.docket_decisions.proofs.EndChanges.{before, later, split, after_are, are_not}
-use Rattle.docket_decisions.proofs.MovedEnds.{end, rows, row_off, first_ends, first_off, firsts_added, moves_are, one_made, there_where_acted, firsts_made, later_made, none_yet, made_rows, rows_made}
+use Rattle.docket_decisions.proofs.MovedEnds.{Follows, end, rows, row_off, first_ends, first_off, firsts_added, moves_are, one_made, there_where_acted, firsts_made, later_made, none_yet, made_rows, rows_made}
 use Rattle.docket_decisions.proofs.OneDeadline.{AreOthers, both_append, is_deadline}
 
 -- rows of a deadline, where other rows change

@@ -3,8 +3,10 @@ pub mod ActsKept
 pub mod AddedActs
 pub mod AddedEnds
 pub mod AlikeStandings
+pub mod ComingActs
 pub mod EndBounds
 pub mod EndChanges
+pub mod EndUpdates
 pub mod FirstActs
 pub mod GoodValues
 pub mod InOrderLemmas
@@ -15,3 +17,4 @@ pub mod MovedEnds
 pub mod OneDeadline
 pub mod Passed
 pub mod Runs
+pub mod StillEnds

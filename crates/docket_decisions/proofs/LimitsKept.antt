@@ -9,6 +9,7 @@ use Rattle.std.proofs.lemmas.List.{map-append, length-map}
 use Rattle.std.proofs.lemmas.List.Elements.{filter-append, All-nil, All-cons, All-head, All-tail, All-append}
 use Rattle.std.proofs.lemmas.Option.{slice_get_within}
 use Rattle.civil_time.specs.Zone.{ZoneRules}
+use Rattle.court_days.specs.Calendar.{Entered}
 use Rattle.court_days.specs.Court.{CourtSettings, zone_of}
 use Rattle.court_rules.specs.Acts.{is_forward}
 use Rattle.court_rules.specs.LocalRules.{is_local_name, is_local_rule}
@@ -25,7 +26,7 @@ use Rattle.docket_decisions.specs.Decisions.{IsSoundView}
 use Rattle.docket_history.specs.Histories.{History, items_of, numbered, without_row, standing_rows, next_row, rows_added, case_rows, party_rows, entry_rows, deadline_rows, act_rows, parties_of_case, entries_of_case, deadlines_of_case, acts_of_deadline, deadlines, deadlines_from, new_case, new_party, new_entry, new_deadlines, deadline_rows_from, first_acts, later_acts, act_rows_on, case_number, deadline_number, local_rule_rows, new_local_rule, local_rule_in, rule_found}
 use Rattle.docket_history.specs.Limits.{IsWithinLimits}
 use Rattle.docket_decisions.specs.Outcomes.{IsHistory, outcome, accepted, shown, shown_fresh, case_of_number}
-use Rattle.docket_decisions.specs.Refusals.{lacks_local_rule, is_full, is_not_open, is_not_awaiting, is_calendar_full, lacks_case, lacks_deadline, count_added}
+use Rattle.docket_decisions.specs.Refusals.{is_over, lacks_local_rule, is_full, is_not_open, is_not_awaiting, is_calendar_full, lacks_case, lacks_deadline, count_added}
 use Rattle.docket_values.specs.Values.{first_bad, bad_values}
 use Rattle.docket_history.specs.Times.{standing_shown}
 use Rattle.docket_history.specs.Views.{parties_in, entries_in, count_deadlines, named_in, deadline_at, deadline_shown, acts_in}
@@ -390,42 +391,61 @@ next_shown : (b : Bool) (n : ℕ) → n ≤ 4_294_967_296 → if_asked b n ≤ 4
 next_shown true n fits = fits
 next_shown false n fits = omega arith
 
-module _ (court : CourtSettings) (h : History) (within : IsWithinLimits court h) where
-  abbrev IsLawful : DeadlineView → Type 0
-  IsLawful d = AreActs (zone_of court) d.acts
+-- what holds of the acts of each deadline holds of those of each that is shown
+module _ (h : History) (Holds : List Act → Type 0) (each : (k n : ℕ) → 1 ≤ n → n ≤ length (deadlines_of_case k (deadline_rows h)) → Holds (acts_of_deadline k n (act_rows h))) where
+  abbrev Has : DeadlineView → Type 0
+  Has d = Holds d.acts
 
-  all_from : (k m : ℕ) (rows : List DeadlineRow) → ((i : ℕ) → i < length rows → AreActs (zone_of court) (acts_of_deadline k (m + i) (act_rows h))) → All IsLawful (deadlines_from k m (act_rows h) rows)
-  all_from k m [] each = All-nil IsLawful
+  all_from : (k m : ℕ) (rows : List DeadlineRow) → ((i : ℕ) → i < length rows → Holds (acts_of_deadline k (m + i) (act_rows h))) → All Has (deadlines_from k m (act_rows h) rows)
+  all_from k m [] each = All-nil Has
   all_from k m (row ∷ rows) each =
       let start : m + 0 ≡ m = omega arith in
-      All-cons IsLawful _ (deadlines_from k (m + 1) (act_rows h) rows)
-      (subst (λ (j : ℕ). AreActs (zone_of court) (acts_of_deadline k j (act_rows h))) start (each 0 (omega arith)))
-      (all_from k (m + 1) rows (λ i lt. let place : m + (i + 1) ≡ m + 1 + i = omega arith in subst (λ (j : ℕ). AreActs (zone_of court) (acts_of_deadline k j (act_rows h))) place (each (i + 1) (omega (arith, lt)))))
+      All-cons Has _ (deadlines_from k (m + 1) (act_rows h) rows)
+      (subst (λ (j : ℕ). Holds (acts_of_deadline k j (act_rows h))) start (each 0 (omega arith)))
+      (all_from k (m + 1) rows (λ i lt. let place : m + (i + 1) ≡ m + 1 + i = omega arith in subst (λ (j : ℕ). Holds (acts_of_deadline k j (act_rows h))) place (each (i + 1) (omega (arith, lt)))))
 
-  pub lawful_deadlines : (k : ℕ) → All IsLawful (deadlines k h)
-  lawful_deadlines k = all_from k 1 (deadlines_of_case k (deadline_rows h)) (λ i lt. within.acts k (1 + i) (omega arith) (omega (arith, lt)))
+  all_deadlines : (k : ℕ) → All Has (deadlines k h)
+  all_deadlines k = all_from k 1 (deadlines_of_case k (deadline_rows h)) (λ i lt. each k (1 + i) (omega arith) (omega (arith, lt)))
 
-  lawful_got : (ds : List DeadlineView) (n : ℕ) (o : Option DeadlineView) → slice_get ds n ≡ o → All IsLawful ds → IfSome o IsLawful
-  lawful_got ds n None e all = tt
-  lawful_got ds n (Some d) e all = one_of_all IsLawful ds n d all e
+  one_got : (ds : List DeadlineView) (n : ℕ) (o : Option DeadlineView) → slice_get ds n ≡ o → All Has ds → IfSome o Has
+  one_got ds n None e all = tt
+  one_got ds n (Some d) e all = one_of_all Has ds n d all e
 
-  lawful_of : (ds : List DeadlineView) (o : Option ℕ) → All IsLawful ds → IfSome (option_and_then (deadline_at ds) o) IsLawful
-  lawful_of ds None all = tt
-  lawful_of ds (Some zero) all = tt
-  lawful_of ds (Some (suc n)) all = lawful_got ds n (slice_get ds n) refl all
+  one_of : (ds : List DeadlineView) (o : Option ℕ) → All Has ds → IfSome (option_and_then (deadline_at ds) o) Has
+  one_of ds None all = tt
+  one_of ds (Some zero) all = tt
+  one_of ds (Some (suc n)) all = one_got ds n (slice_get ds n) refl all
 
-  lawful_if : (b : Bool) (case : CaseView) → IfSome case.named IsLawful → IfSome (named_in (if b then Some case else None)) IsLawful
-  lawful_if true case lawful = lawful
-  lawful_if false case lawful = tt
+  one_if : (b : Bool) (case : CaseView) → IfSome case.named Has → IfSome (named_in (if b then Some case else None)) Has
+  one_if true case has = has
+  one_if false case has = tt
 
-  lawful_in : (a : Action) (o : Option ℕ) → IfSome (named_in (option_and_then (case_of_number h a) o)) IsLawful
-  lawful_in a None = tt
-  lawful_in a (Some k) = lawful_if (nat_le 1 k && nat_le k (length (case_rows h))) _ (lawful_of (deadlines k h) (deadline_named a) (lawful_deadlines k))
+  one_shown : (a : Action) (o : Option ℕ) → IfSome (named_in (option_and_then (case_of_number h a) o)) Has
+  one_shown a None = tt
+  one_shown a (Some k) = one_if (nat_le 1 k && nat_le k (length (case_rows h))) _ (one_of (deadlines k h) (deadline_named a) (all_deadlines k))
 
-  pub sound_view : (c : Command) → IsSoundView court (shown court h c)
-  sound_view c = record {
-    items = items_shown (asks_calendar c.action) (items_of (standing_rows h)) within.items;
-    rows = count_shown (asks_calendar c.action) (items_of (standing_rows h)) (omega (arith, length-map (standing_rows h) (λ (row : CalendarRow). row.item), within.rows));
-    next_row = next_shown (asks_next_row c.action) (next_row h) within.next_row;
-    acts = lawful_in c.action (case_named c.action);
-  }
+pub lawful_deadlines : (court : CourtSettings) (h : History) → IsWithinLimits court h → (k : ℕ) → All (λ (d : DeadlineView). AreActs (zone_of court) d.acts) (deadlines k h)
+lawful_deadlines court h within k = all_deadlines h (AreActs (zone_of court)) within.acts k
+
+-- the acts of a deadline that is shown are lawful, and there is room for one more where its time is not over
+lawful_acts : (zone : ZoneRules) (o : Option DeadlineView) → IfSome o (λ (d : DeadlineView). AreSound zone d.acts) → IfSome o (λ (d : DeadlineView). AreActs zone d.acts)
+lawful_acts zone None sound = tt
+lawful_acts zone (Some d) sound = sound.lawful
+
+room_left : (zone : ZoneRules) (entered : Entered) (o : Option DeadlineView) → IfSome o (λ (d : DeadlineView). AreSound zone d.acts)
+    → is_over (standing_by_acts zone entered (acts_in o)) ≡ false → length (acts_in o) < 100
+room_left zone entered None sound going = omega arith
+room_left zone entered (Some d) sound going = sound.room entered going
+
+pub sound_view : (court : CourtSettings) (h : History) → IsHistory court h → (c : Command) → IsSoundView court (shown court h c)
+sound_view court h is c =
+    let within = within_limits court h is in
+    let sound = one_shown h (AreSound (zone_of court)) (λ k n low high. (all_kept court h is k n).sound low high) c.action (case_named c.action) in
+    record {
+      items = items_shown (asks_calendar c.action) (items_of (standing_rows h)) within.items;
+      rows = count_shown (asks_calendar c.action) (items_of (standing_rows h)) (omega (arith, length-map (standing_rows h) (λ (row : CalendarRow). row.item), within.rows));
+      next_row = next_shown (asks_next_row c.action) (next_row h) within.next_row;
+      acts = lawful_acts (zone_of court) (deadline_shown (shown court h c)) sound;
+      room = room_left (zone_of court) (calendar_of (shown court h c).calendar) (deadline_shown (shown court h c)) sound;
+      local = named_lawful (local_rule_rows h) _ (rules_lawful court h is);
+    }

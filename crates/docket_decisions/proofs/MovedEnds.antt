@@ -1,27 +1,28 @@
 -- The changes of ends that follow from the acts of a command lead from the ends before it to those after it.
 use Rattle.std.proofs.Common.{◌≡◌, ◌∙◌, ◌≤◌, ◌<◌, ◌⊎◌, inl, inr, ℕ, ◌+◌, ◌==◌, ◌&&◌, Bool, true, false, List, [], ◌∷◌, ◌++◌, length, Option, Some, None, IsPermutation, refl, sym, ap, ap₂, subst, arith, append-nil, append_assoc}
-use Rattle.std.specs.List.{All, AllByRecursion, flat_map}
+use Rattle.std.specs.List.{AllByRecursion, flat_map}
 use Rattle.std.specs.Option.{option_and_then}
 use Rattle.std.specs.Prelude.{is_some, is_none, unwrap_or}
 use Rattle.std.proofs.lemmas.Bool.Decides.{nat_tests}
 use Rattle.std.proofs.lemmas.List.{append_cancel_left}
 use Rattle.std.proofs.lemmas.Grind.{flat_map-append}
-use Rattle.std.proofs.lemmas.List.Elements.{All-nil, All-cons}
 use Rattle.std.proofs.lemmas.List.Sorted.{IsPermutation-refl}
 use Rattle.civil_time.specs.Zone.{ZoneRules}
 use Rattle.court_days.specs.Calendar.{Entered}
 use Rattle.court_days.specs.Court.{CourtSettings, zone_of}
-use Rattle.court_rules.specs.Standings.{AreActs, standing}
+use Rattle.court_rules.specs.Standings.{standing}
 use Rattle.court_rules.specs.declared.act.Act.{Act}
 use Rattle.docket_command.specs.declared.command.Action.{Action}
 use Rattle.docket_command.specs.declared.command.Command.{Command}
+use Rattle.docket_command.specs.declared.refusal.Reply.{Reply}
 use Rattle.docket_command.specs.declared.command.Action.TheVariants.{RuleMotion, Dispose, StatementServed, Extend, Satisfy, Vacate}
 use Rattle.docket_history.specs.Actions.{deadline_named, deadlines_made, acts_made, extension}
-use Rattle.docket_decisions.specs.EndMoves.{acts_with, moves_by_act, end_moves, MayCome, AreLawful, Follows}
+use Rattle.docket_decisions.specs.EndMoves.{moves_by_act, end_moves}
 use Rattle.docket_decisions.specs.EndRows.{end_row, row_of_deadline, end_rows, end_running, is_of, all_changed_ends, end_changes}
 use Rattle.docket_history.specs.Histories.{History, deadline_rows, act_rows, deadlines, deadlines_of_case, acts_of_deadline, deadline_rows_from, first_acts_from, act_rows_on, case_number, deadline_number, rule_found}
 use Rattle.docket_decisions.specs.Outcomes.{IsHistory, shown_fresh, case_of_number}
-use Rattle.docket_decisions.specs.Tables.{Tables, rows_of}
+use Rattle.docket_decisions.specs.Tables.{Tables, rows_of, all_changed, with_receipt}
+use Rattle.docket_history.specs.Records.{calendar}
 use Rattle.docket_history.specs.Views.{deadline_at, deadline_shown, named_in, acts_in}
 use Rattle.docket_history.specs.declared.row.NewDeadline.{NewDeadline}
 use Rattle.docket_decisions.specs.declared.end_row.EndChange.{EndChange}
@@ -31,13 +32,11 @@ use Rattle.docket_history.specs.declared.row.ActRow.{ActRow}
 use Rattle.docket_history.specs.declared.row.Change.{Change}
 use Rattle.docket_history.specs.declared.row.Change.TheVariants.{AddCalendar, RemoveCalendar, AddCase, AddParty, AddEntry, AddDeadline, AddAct, AddLocalRule}
 use Rattle.docket_history.specs.declared.row.DeadlineRow.{DeadlineRow}
-use Rattle.docket_decisions.proofs.ActsKept.{first_sound, no_fewer}
 use Rattle.docket_decisions.proofs.AddedActs.{acts_both, one_act, both_same, turned, no_second, IsEarlier, is_earlier, no_firsts, no_later, its_later, named_before, acts_added, acts_are}
 use Rattle.docket_decisions.proofs.EndChanges.{all_changed_ends-append}
-use Rattle.docket_decisions.proofs.FirstActs.{AreFirst, made_first}
 use Rattle.docket_decisions.proofs.OneDeadline.{AreOthers, one_changed, AreNot, IsOnce, both_append, front_of, back_of, is_deadline, deadline_once, IsWithin, all_within}
 use Rattle.docket_decisions.proofs.Leading.{none_acted, seen}
-use Rattle.docket_decisions.proofs.LimitsKept.{IsPassed, passed, there_is, named_there, acts_are as acts_shown, all_kept, found_lawful}
+use Rattle.docket_decisions.proofs.LimitsKept.{IsPassed, passed, there_is, named_there, acts_are as acts_shown, all_kept}
 
 -- the rows of deadlines
 
@@ -230,21 +229,6 @@ moves_are zone entered named (AddEntry row ∷ xs) = moves_are zone entered name
 moves_are zone entered named (AddDeadline row ∷ xs) = moves_are zone entered named xs
 moves_are zone entered named (AddLocalRule row ∷ xs) = moves_are zone entered named xs
 
-may_come : (zone : ZoneRules) (named : List Act) (changes : List Change) → AllByRecursion (λ row. AreActs zone (acts_with named row)) (acts_added changes) → All (MayCome zone named) changes
-may_come zone named [] all = All-nil (MayCome zone named)
-may_come zone named (AddAct row ∷ xs) all = All-cons (MayCome zone named) (AddAct row) xs all.0 (may_come zone named xs all.1)
-may_come zone named (AddCalendar row ∷ xs) all = All-cons (MayCome zone named) (AddCalendar row) xs tt (may_come zone named xs all)
-may_come zone named (RemoveCalendar number ∷ xs) all = All-cons (MayCome zone named) (RemoveCalendar number) xs tt (may_come zone named xs all)
-may_come zone named (AddCase row ∷ xs) all = All-cons (MayCome zone named) (AddCase row) xs tt (may_come zone named xs all)
-may_come zone named (AddParty row ∷ xs) all = All-cons (MayCome zone named) (AddParty row) xs tt (may_come zone named xs all)
-may_come zone named (AddEntry row ∷ xs) all = All-cons (MayCome zone named) (AddEntry row) xs tt (may_come zone named xs all)
-may_come zone named (AddDeadline row ∷ xs) all = All-cons (MayCome zone named) (AddDeadline row) xs tt (may_come zone named xs all)
-may_come zone named (AddLocalRule row ∷ xs) all = All-cons (MayCome zone named) (AddLocalRule row) xs tt (may_come zone named xs all)
-
-first_lawful : (zone : ZoneRules) (named : List Act) (k m : ℕ) (made : List NewDeadline) → AreFirst zone made → AllByRecursion (λ row. AreActs zone (acts_with named row)) (first_acts_from k m made)
-first_lawful zone named k m [] all = tt
-first_lawful zone named k m (d ∷ made) all = ((first_sound zone d.first all.0).lawful, first_lawful zone named k (m + 1) made all.1)
-
 -- a command makes at most one act beside the first ones
 
 abbrev IsOneAtMost : List Act → Type 0
@@ -389,37 +373,15 @@ module _ (court : CourtSettings) (h : History) (c : Command) (is : IsHistory cou
           | inr it ↦ subst Moves (sym it.1) (moved_with it.0 (there_where_acted it.0 it.1))
         ]
 
-  -- the acts may come
-
-  acts_after : (act : Act) → IsThere n → acts_of_deadline k n (acts ++ (firsts_made ++ later_made (act ∷ []))) ≡ its_acts ++ act ∷ []
-  acts_after act there =
-      acts_both k n acts (firsts_made ++ later_made (act ∷ []))
-      ∙ ap (λ xs. its_acts ++ xs)
-      (acts_both k n firsts_made (later_made (act ∷ []))
-      ∙ ap₂ (λ xs ys. xs ++ ys) (no_firsts k n k (many + 1) (deadlines_made (rule_found h a) a) (inr (omega (arith, there.1)))) (its_later k n (length its_acts + 1) (act ∷ [])))
-
-  abbrev AreComing : List Act → Type 0
-  AreComing news = AllByRecursion (λ (row : ActRow). AreActs zone (acts_with its_acts row)) (later_made news)
-
-  later_lawful : AreComing (acts_made a)
-  later_lawful =
-      elim (one_made a) [
-        | inl none ↦ subst AreComing (sym none) tt
-        | inr it ↦
-            let act = it.0 in
-            let there = there_where_acted act it.1 in
-            let kept = (all_kept court (c ∷ h) is k n).sound there.0 (omega (arith, there.1, no_fewer k before (deadline_rows_from k (many + 1) (deadlines_made (rule_found h a) a)))) in
-            let all : acts_of_deadline k n (act_rows (c ∷ h)) ≡ its_acts ++ act ∷ [] = ap (λ news. acts_of_deadline k n (acts ++ (firsts_made ++ later_made news))) it.1 ∙ acts_after act there in
-            let lawful : AreActs zone (its_acts ++ act ∷ []) = subst (AreActs zone) all kept.lawful in
-            subst AreComing (sym it.1) (subst (λ xs. AreActs zone (xs ++ act ∷ [])) (sym (named_before its_acts k n act)) lawful, tt)
-      ]
-
-  named_lawful : (its_acts ≡ []) ⊎ AreActs zone its_acts
-  named_lawful =
-      elim seen_named [
-        | inl none ↦ inl (none_named none)
-        | inr it ↦ inr ((all_kept court h is.1 k n).sound it.0.0 it.0.1).lawful
-      ]
+-- the command comes after the history, and the calendar stays; the deadline that it names has these acts before it, and the changes
+-- lead to the tables with it
+pub record Follows (court : CourtSettings) (entered : Entered) (acts : List Act) (changes : List Change) (h : History) (c : Command) : Type 0 where
+  pub history : IsHistory court (c ∷ h)
+  pub stands : entered ≡ calendar h
+  pub stays : entered ≡ calendar (c ∷ h)
+  pub named : acts ≡ acts_of_deadline (case_number c.action) (deadline_number c.action) (act_rows h)
+  pub reply : Reply
+  pub leads : with_receipt c reply (all_changed changes (rows_of court h)) ≡ rows_of court (c ∷ h)
 
 module _ (court : CourtSettings) (entered : Entered) (named : List Act) (changes : List Change) (h : History) (c : Command) (follows : Follows court entered named changes h c) where
   abbrev pub made_rows : List ActRow
@@ -440,17 +402,3 @@ module _ (court : CourtSettings) (entered : Entered) (named : List Act) (changes
       (subst (λ e. IsPermutation (all_changed_ends all (rows zone e (act_rows h) (deadline_rows h))) (end_rows court (rows_of court (c ∷ h)))) follows.stands
       (subst (λ e. IsPermutation (all_changed_ends all (rows zone entered (act_rows h) (deadline_rows h))) (rows zone e (act_rows (c ∷ h)) (deadline_rows (c ∷ h)))) follows.stays
       (moves_made court h c follows.history entered)))
-
-  -- and of a docket the acts are lawful
-  pub moves_lawful : AreLawful (zone_of court) named changes
-  moves_lawful =
-      let zone = zone_of court in
-      let is = follows.history in
-      let its = acts_of_deadline (case_number c.action) (deadline_number c.action) (act_rows h) in
-      let coming : AllByRecursion (λ (row : ActRow). AreActs zone (acts_with its row)) made_rows =
-      both_append (λ (row : ActRow). AreActs zone (acts_with its row)) _ _ (first_lawful zone its (case_number c.action) _ (deadlines_made (rule_found h c.action) c.action) (made_first court (rule_found h c.action) c.action (found_lawful court h is.1 c.action) (passed court h c is.0.0 is.0.1).values)) (later_lawful court h c is) in
-      subst (λ acts. AreLawful zone acts changes) (sym follows.named)
-      (record {
-        named = named_lawful court h c is;
-        after = may_come zone its changes (subst (λ rows. AllByRecursion (λ (row : ActRow). AreActs zone (acts_with its row)) rows) (sym rows_made) coming);
-      })

@@ -3,16 +3,9 @@ use Rattle.std.specs.Prelude.{◌≡◌, ◌⊎◌, ◌==◌, if◌then◌else�
 use Rattle.std.specs.List.{All, flat_map}
 use Rattle.civil_time.specs.Zone.{ZoneRules}
 use Rattle.court_days.specs.Calendar.{Entered}
-use Rattle.court_days.specs.Court.{CourtSettings}
 use Rattle.court_rules.specs.Standings.{AreActs, standing}
 use Rattle.court_rules.specs.declared.act.Act.{Act}
-use Rattle.docket_command.specs.declared.command.Command.{Command}
-use Rattle.docket_command.specs.declared.refusal.Reply.{Reply}
 use Rattle.docket_decisions.specs.EndRows.{end_running, end_changes}
-use Rattle.docket_history.specs.Histories.{History, case_number, deadline_number, act_rows, acts_of_deadline}
-use Rattle.docket_decisions.specs.Outcomes.{IsHistory}
-use Rattle.docket_history.specs.Records.{calendar}
-use Rattle.docket_decisions.specs.Tables.{rows_of, all_changed, with_receipt}
 use Rattle.docket_decisions.specs.declared.end_row.EndChange.{EndChange}
 use Rattle.docket_history.specs.declared.row.ActRow.{ActRow}
 use Rattle.docket_history.specs.declared.row.Change.{Change}
@@ -36,7 +29,7 @@ abbrev pub moves_by : ZoneRules → Entered → List Act → Change → List End
 moves_by zone entered named (AddAct row) = moves_by_act zone entered named row
 moves_by zone entered named _ = []
 
--- the changes of stored ends, by those of a command
+-- the changes of stored ends, by those of a command that leaves the days and the spans of the calendar as they are
 abbrev pub end_moves : ZoneRules → Entered → List Act → List Change → List EndChange
 end_moves zone entered named changes = flat_map (moves_by zone entered named) changes
 
@@ -49,13 +42,3 @@ MayCome zone named _ = Unit {0}
 pub record AreLawful (zone : ZoneRules) (acts : List Act) (changes : List Change) : Type 0 where
   pub named : (acts ≡ []) ⊎ AreActs zone acts
   pub after : All (MayCome zone acts) changes
-
--- the command comes after the history, and the calendar stays; the deadline that it names has these acts before it, and the changes
--- lead to the tables with it
-pub record Follows (court : CourtSettings) (entered : Entered) (acts : List Act) (changes : List Change) (h : History) (c : Command) : Type 0 where
-  pub history : IsHistory court (c ∷ h)
-  pub stands : entered ≡ calendar h
-  pub stays : entered ≡ calendar (c ∷ h)
-  pub named : acts ≡ acts_of_deadline (case_number c.action) (deadline_number c.action) (act_rows h)
-  pub reply : Reply
-  pub leads : with_receipt c reply (all_changed changes (rows_of court h)) ≡ rows_of court (c ∷ h)

@@ -1,16 +1,17 @@
 //! The answer to a command, and what it changes.
-ghost use Rattle.std.specs.Prelude.{◌≡◌, ◌+◌, ◌≤◌, ◌^◌, length, false, IfOk, if◌then◌else◌};
+ghost use Rattle.std.specs.Prelude.{◌≡◌, ◌+◌, ◌≤◌, ◌^◌, false, IfOk, if◌then◌else◌};
 ghost use Rattle.docket_history.specs.CalendarItems.{calendar_of};
 ghost use Rattle.court_rules.specs.Standings.{StandsAfter};
-ghost use Rattle.docket_decisions.specs.Decisions.{IsAnswer, IsChange, IsKeptReply, LeadsTo, IsSoundView, IsMatter};
+ghost use Rattle.docket_decisions.specs.Decisions.{UpdatesEndsBy, IsAnswer, IsChange, IsKeptReply, LeadsTo, IsSoundView, IsMatter, MovesEnds};
 ghost use Rattle.docket_history.specs.Histories.{History};
-ghost use Rattle.docket_decisions.specs.Outcomes.{reply_to, answer_of, shown, outcome};
+ghost use Rattle.docket_decisions.specs.Outcomes.{IsHistory, reply_to, answer_of, shown, outcome};
 ghost use Rattle.docket_decisions.specs.Refusals.{is_there, is_full};
 ghost use Rattle.docket_decisions.specs.Tables.{action_changes};
 ghost use Rattle.docket_history.specs.Times.{standing_shown};
 
 use crate::changes::changes_of_action;
 use crate::deadline::deadlines_made;
+use crate::moving::{EndUpdate, end_update};
 use crate::refusals::{Matter, is_in_time, refusal};
 use court_days::{Calendar, Court};
 use court_rules::{Standing, due};
@@ -18,10 +19,12 @@ use docket_command::{Action, Command, Refusal, Reply, Ruling};
 use docket_history::{Change, Kept, View, rows_added};
 use std::alloc::{AllocError, AllocFailed, Global};
 
-/// The rows that a command adds and removes, one after another, and its reply.
+/// The rows that a command adds and removes, one after another, what is done about the stored ends of
+/// deadlines, and its reply.
 #[derive(Drop)]
 pub struct Changes {
     pub rows: Vec<Change>,
+    pub ends: EndUpdate,
     pub reply: Reply,
 }
 
@@ -120,6 +123,9 @@ pub fn decide(
         → IsAnswer result (outcome court.now h command.now) }
     ensures tables { (h : History) → view.now ≡ shown court.now h command.now
         → IfOk result (LeadsTo court.now h command.now) }
+    // The stored ends become those of the deadlines with the command.
+    ensures ends { (h : History) → IsHistory court.now h → view.now ≡ shown court.now h command.now
+        → IfOk result (MovesEnds court.now h command.now) }
     // The changes are those of the action, in the order of their tables.
     ensures changes { IfOk result (IsChange (action_changes view.now command.now.action)) }
     ensures repeats { IfOk result (IsKeptReply view.now) }
@@ -136,6 +142,7 @@ fn decide_by_view(
 ) -> Result<Decision, DecideFault>
     requires { IsSoundView court.now view.now }
     ensures answer { IsAnswer result (answer_of court.now view.now command.now) }
+    ensures ends { IfOk result (UpdatesEndsBy court.now view.now command.now.action) }
     ensures changes { IfOk result (IsChange (action_changes view.now command.now.action)) }
     ensures repeats { IfOk result (IsKeptReply view.now) }
 {
@@ -161,5 +168,6 @@ fn decide_by_view(
         number: reply(&matter, view, action),
     };
     let rows = changes_of_action(alloc, view, added, made, action)?;
-    Ok(Decision::Change(Changes { rows, reply }))
+    let ends = end_update(alloc, court, view, action, rows.as_slice())?;
+    Ok(Decision::Change(Changes { rows, ends, reply }))
 }

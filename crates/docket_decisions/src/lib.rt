@@ -1,5 +1,5 @@
 //! The decision on a command: the refusals in their order, the rows that an accepted command changes,
-//! its reply, and where the stored ends of deadlines move.
+//! where the stored ends of deadlines move by it, and its reply.
 #![tactic(auto)]
 
 mod changes;
@@ -17,4 +17,4 @@ pub use laws::{
     acts_are_in_order, limits_are_kept, rows_are_numbered_in_order, rows_stand_until_withdrawn,
     short_days_move_no_deadline,
 };
-pub use moving::{acts_named, acts_with, end_moves};
+pub use moving::EndUpdate;

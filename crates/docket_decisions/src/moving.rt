@@ -1,22 +1,26 @@
-//! The changes of stored ends that follow from the acts of a command.
-ghost use Rattle.std.specs.Prelude.{◌≡◌, ◌++◌, ◌∷◌, ◌⊎◌, [], IfOk, OnOk, IsPermutation};
-ghost use Rattle.court_days.specs.Court.{CourtSettings, zone_of};
+//! What a command does about the stored ends of deadlines.
+ghost use Rattle.std.specs.Prelude.{◌≡◌, ◌++◌, ◌⊎◌, [], IfOk, OnOk};
+ghost use Rattle.court_days.specs.Court.{zone_of};
 ghost use Rattle.court_rules.specs.Standings.{AreActs, standing};
-ghost use Rattle.docket_command.specs.declared.command.Command.{Command as Asked};
-ghost use Rattle.docket_decisions.specs.Additions.{AddsOnce, AddsAmong, GetsAct};
-ghost use Rattle.docket_decisions.specs.EndMoves.{acts_before, acts_with, moves_by_act, moves_by, end_moves, AreLawful, Follows};
-ghost use Rattle.docket_decisions.specs.EndRows.{end_running, end_rows, all_changed_ends};
-ghost use Rattle.docket_history.specs.Histories.{History, case_number, deadline_number, act_rows, acts_of_deadline};
-ghost use Rattle.docket_decisions.specs.Outcomes.{IsHistory, shown};
-ghost use Rattle.docket_decisions.specs.Tables.{rows_of};
+ghost use Rattle.docket_decisions.specs.Decisions.{IsUpdateBy};
+ghost use Rattle.docket_decisions.specs.EndMoves.{acts_before, acts_with, moves_by_act, end_moves, AreLawful};
+ghost use Rattle.docket_decisions.specs.EndRows.{end_running};
 ghost use Rattle.docket_history.specs.Views.{deadline_shown, acts_in};
 
 use crate::end_row::{EndChange, EndTime, change_end, end_running};
 use court_days::{Calendar, Court};
 use court_rules::{Act, due};
-use docket_command::Command;
-use docket_history::{ActRow, Change, View};
+use docket_command::Action;
+use docket_history::{ActRow, Change, View, moves_all_cases};
 use std::alloc::{AllocError, Global};
+
+/// What is done about the stored ends: these changes are made, or, where days or spans of the calendar
+/// changed, the ends of the first so many cases are brought up to date by the rows that then stand.
+#[derive(Drop)]
+pub enum EndUpdate {
+    Moves(Vec<EndChange>),
+    Calendar { cases: u32 },
+}
 
 /// The acts of the row's deadline before it, where `named` are those of the deadline that the command
 /// names.
@@ -27,7 +31,7 @@ fn acts_before<'a>(named: &'a [Act], row: &ActRow) -> &'a [Act]
 }
 
 /// The acts of the row's deadline with it.
-pub fn acts_with(alloc: Global, named: &[Act], row: &ActRow) -> Result<Vec<Act>, AllocError>
+fn acts_with(alloc: Global, named: &[Act], row: &ActRow) -> Result<Vec<Act>, AllocError>
     ensures { IfOk result (λ acts. acts.items ≡ acts_with named.now row.now) }
 {
     let mut acts = Vec::new(alloc);
@@ -66,19 +70,9 @@ fn push_move(
     change_end(moves, row.case, row.deadline, stored, end)
 }
 
-/// The acts of the deadline that a command names, as a docket shows them before it.
-pub fn acts_named(alloc: Global, view: &View, command: &Command) -> Result<Vec<Act>, AllocError>
-    ensures shown { IfOk result (λ acts. acts.items ≡ acts_in (deadline_shown view.now)) }
-    ensures history { (court : CourtSettings) (h : History) → IsHistory court (command.now ∷ h) → view.now ≡ shown court h command.now
-        → IfOk result (λ acts. acts.items ≡ acts_of_deadline (case_number command.now.action) (deadline_number command.now.action) (act_rows h)) }
-{
-    let mut acts = Vec::new(alloc);
-    acts.extend_from_slice(view.acts_named())?;
-    Ok(acts)
-}
-
-/// The changes of stored ends that follow from the changes of a command.
-fn moves_by(
+/// The changes of stored ends that follow from the changes of a command. `named` are the acts of the
+/// deadline that it names, before it.
+fn end_moves(
     alloc: Global,
     court: &Court,
     calendar: &Calendar,
@@ -97,23 +91,21 @@ fn moves_by(
     Ok(moves)
 }
 
-/// The changes of stored ends that follow from the changes of a command, which leaves the calendar as
-/// it is. `named` are the acts of the deadline that it names, before it.
-pub fn end_moves(
+/// What is done about the stored ends with an action that no refusal meets, where the rows change so.
+pub(crate) fn end_update(
     alloc: Global,
     court: &Court,
-    calendar: &Calendar,
-    named: &[Act],
+    view: &View,
+    action: &Action,
     changes: &[Change],
-) -> Result<Vec<EndChange>, AllocError>
-    requires { AreLawful (zone_of court.now) named.now changes.now }
-    ensures made { IfOk result (λ moves. moves.items ≡ end_moves (zone_of court.now) calendar.now named.now changes.now) }
-    // They lead from the ends before the command to those after it.
-    ensures ends { (h : History) (c : Asked) → Follows court.now calendar.now named.now changes.now h c
-        → IfOk result (λ moves. IsPermutation (all_changed_ends moves.items (end_rows court.now (rows_of court.now h))) (end_rows court.now (rows_of court.now (c ∷ h)))) }
-    // No row is added beside one of its deadline, and each is of a deadline that gets an act.
-    ensures once { (h : History) (c : Asked) → Follows court.now calendar.now named.now changes.now h c
-        → IfOk result (λ moves. AddsOnce moves.items (end_rows court.now (rows_of court.now h)) × AddsAmong (GetsAct changes.now) moves.items) }
+) -> Result<EndUpdate, AllocError>
+    requires { AreLawful (zone_of court.now) (acts_in (deadline_shown view.now)) changes.now }
+    ensures { IfOk result (IsUpdateBy court.now view.now action.now changes.now) }
 {
-    moves_by(alloc, court, calendar, named, changes)
+    if moves_all_cases(action) {
+        return Ok(EndUpdate::Calendar { cases: view.cases });
+    }
+    let calendar = view.calendar.calendar();
+    let moves = end_moves(alloc, court, calendar, view.acts_named(), changes)?;
+    Ok(EndUpdate::Moves(moves))
 }

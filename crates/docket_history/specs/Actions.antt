@@ -94,23 +94,33 @@ local_rule_named (LocalRule a) = Some a.name
 local_rule_named (LocalPeriod a) = Some a.rule
 local_rule_named _ = None
 
--- it asks about the calendar: what it enters may stand already, or it is judged by the end of a time
-abbrev pub asks_calendar : Action → Bool
-asks_calendar (DeclareDay a) = true
-asks_calendar (CloseDay a) = true
-asks_calendar (CloseSpan a) = true
-asks_calendar (ShortDay a) = true
-asks_calendar (ImportCalendar a) = true
-asks_calendar (FileWaiver a) = true
-asks_calendar (RuleMotion a) = true
-asks_calendar (Extend a) = true
-asks_calendar (Satisfy a) = true
-asks_calendar _ = false
+-- it enters or withdraws days or spans of the calendar, by which ends of any case may move; a short day moves none
+abbrev pub moves_all_cases : Action → Bool
+moves_all_cases (DeclareDay a) = true
+moves_all_cases (CloseDay a) = true
+moves_all_cases (CloseSpan a) = true
+moves_all_cases (WithdrawCalendar a) = true
+moves_all_cases (ImportCalendar a) = true
+moves_all_cases _ = false
 
--- it asks how many cases there are: it opens one
+-- it enters or withdraws rows of the calendar
+abbrev pub changes_calendar : Action → Bool
+changes_calendar (ShortDay a) = true
+changes_calendar a = moves_all_cases a
+
+-- it asks about the calendar: what it enters may stand already, it is judged by the end of a time, or an end moves by what it makes
+abbrev pub asks_calendar : Action → Bool
+asks_calendar (WithdrawCalendar a) = false
+asks_calendar (OpenCase a) = false
+asks_calendar (AddParty a) = false
+asks_calendar (FileEntry a) = false
+asks_calendar (LocalRule a) = false
+asks_calendar _ = true
+
+-- it asks how many cases there are: it opens one, or may move ends of any
 abbrev pub asks_cases : Action → Bool
 asks_cases (OpenCase a) = true
-asks_cases _ = false
+asks_cases a = moves_all_cases a
 
 -- it asks how many parties its case has: it adds one, or may name some
 abbrev pub asks_parties : Action → Bool

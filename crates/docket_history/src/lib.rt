@@ -20,7 +20,7 @@ pub use item::{CalendarItem, NewRow, stands_among};
 pub use lines::{close_of_end, close_of_standing, deadline_lines, line_of};
 pub use named::{
     asks_calendar, asks_cases, asks_deadlines, asks_entries, asks_local_rules, asks_next_row,
-    asks_parties, case_named, deadline_named, local_rule_named,
+    asks_parties, case_named, changes_calendar, deadline_named, local_rule_named, moves_all_cases,
 };
 pub use record::{CaseRecord, DeadlineLine, DueRow, EntryRows, PartyRows};
 pub use row::{

@@ -1,6 +1,6 @@
 //! What an action names, and what it asks about.
 ghost use Rattle.std.specs.Prelude.{◌≡◌, option_copied};
-ghost use Rattle.docket_history.specs.Actions.{case_named, deadline_named, asks_calendar, asks_cases, asks_parties, asks_entries, asks_deadlines, asks_next_row, asks_local_rules, local_rule_named};
+ghost use Rattle.docket_history.specs.Actions.{case_named, deadline_named, moves_all_cases, changes_calendar, asks_calendar, asks_cases, asks_parties, asks_entries, asks_deadlines, asks_next_row, asks_local_rules, local_rule_named};
 
 use docket_command::{Action, Text};
 
@@ -55,25 +55,47 @@ pub fn local_rule_named(action: &Action) -> Option<&Text>
     }
 }
 
-/// Whether it asks about the calendar.
-pub fn asks_calendar(action: &Action) -> bool
-    ensures { result ≡ asks_calendar action.now }
+/// Whether it enters or withdraws days or spans of the calendar, by which ends of any case may move. A
+/// short day moves none.
+pub fn moves_all_cases(action: &Action) -> bool
+    ensures { result ≡ moves_all_cases action.now }
 {
     match action {
         Action::DeclareDay(_) | Action::CloseDay(_) | Action::CloseSpan(_) => true,
-        Action::ShortDay(_) | Action::ImportCalendar(_) | Action::FileWaiver(_) => true,
-        Action::RuleMotion(_) | Action::Extend(_) | Action::Satisfy(_) => true,
+        Action::WithdrawCalendar(_) | Action::ImportCalendar(_) => true,
         _ => false,
     }
 }
 
-/// Whether it asks how many cases there are: it opens one.
+/// Whether it enters or withdraws rows of the calendar.
+pub fn changes_calendar(action: &Action) -> bool
+    ensures { result ≡ changes_calendar action.now }
+{
+    match action {
+        Action::ShortDay(_) => true,
+        _ => moves_all_cases(action),
+    }
+}
+
+/// Whether it asks about the calendar: what it enters may stand already, it is judged by the end of a
+/// time, or an end moves by what it makes.
+pub fn asks_calendar(action: &Action) -> bool
+    ensures { result ≡ asks_calendar action.now }
+{
+    match action {
+        Action::WithdrawCalendar(_) | Action::OpenCase(_) => false,
+        Action::AddParty(_) | Action::FileEntry(_) | Action::LocalRule(_) => false,
+        _ => true,
+    }
+}
+
+/// Whether it asks how many cases there are: it opens one, or may move ends of any.
 pub fn asks_cases(action: &Action) -> bool
     ensures { result ≡ asks_cases action.now }
 {
     match action {
         Action::OpenCase(_) => true,
-        _ => false,
+        _ => moves_all_cases(action),
     }
 }
 

@@ -1,6 +1,5 @@
 //! What a docket shows about a command.
 ghost use Rattle.std.specs.Prelude.{◌≡◌, ◌<◌, ◌^◌, length, option_copied};
-ghost use Rattle.std.specs.List.{list_any};
 ghost use Rattle.docket_history.specs.Actions.{if_asked};
 ghost use Rattle.docket_history.specs.Views.{parties_in, entries_in, count_deadlines, deadline_shown, acts_in, served_in, deadline_at, deadline_of, is_vacated, has_initial, is_served_among, case_shown, named_in, local_name, local_name_in, rule_name_asked};
 
@@ -186,7 +185,7 @@ pub fn rule_name_asked<'a>(case: &'a Option<CaseView>, action: &'a Action) -> Op
 }
 
 /// What a docket shows about a command, which is what the command asks about: what stands under its
-/// key, how many cases there are (0 where it opens none), whether the label of its new case is in use,
+/// key, how many cases there are (0 where it doesn't ask), whether the label of its new case is in use,
 /// the case that it names, whether the calendar row that it withdraws stands, what the calendar's rows
 /// enter (nothing where it doesn't ask), the number of the next calendar row (0 where it adds none), the
 /// local rule that it names, or by which the deadline is timed that it extends, and how many local rules

@@ -7,19 +7,16 @@ use Rattle.std.proofs.lemmas.List.{length-append}
 use Rattle.std.proofs.lemmas.List.Elements.{filter-append}
 use Rattle.court_days.specs.Court.{CourtSettings}
 use Rattle.docket_command.specs.declared.command.Action.{Action}
-use Rattle.docket_history.specs.Actions.{FoundRule, case_named, deadlines_made, acts_made}
+use Rattle.docket_history.specs.Actions.{FoundRule, case_named, deadlines_made}
 use Rattle.docket_history.specs.Histories.{History, case_number, case_rows, new_case, deadline_rows, deadlines_of_case, deadline_rows_from, new_deadlines, rule_found}
 use Rattle.docket_decisions.specs.Outcomes.{IsHistory, shown_fresh, case_of_number}
 use Rattle.docket_history.specs.declared.row.DeadlineRow.{DeadlineRow}
 use Rattle.docket_history.specs.declared.view.CaseView.{CaseView}
 use Rattle.docket_decisions.proofs.Leading.{seen, none_made, none_acted_in}
 use Rattle.docket_decisions.proofs.LimitsKept.{passed}
+use Rattle.docket_decisions.proofs.StillEnds.{MakesNothing}
 use Rattle.docket_command.specs.declared.command.Command.{Command}
 use Rattle.docket_orderly.proofs.ActionLemmas.{NewDeadline}
-
--- the action makes no deadline and no act
-abbrev pub MakesNothing : Action → Type 0
-MakesNothing a = ((found : FoundRule) → deadlines_made found a ≡ []) × (acts_made a ≡ [])
 
 -- rows of another case
 

@@ -36,7 +36,7 @@ pub use laws::{
     histories_are_sound, short_days_move_nothing, sorted_histories_are_sound,
     stored_ends_are_expected,
 };
-pub use local_rule::LocalRuleCheck;
+pub use local_rule::{LocalRuleCheck, is_local_rule};
 pub use numbering::{Key, Numbering};
 pub use party::PartyCheck;
 pub use receipt::{ReceiptCheck, ReceiptRecord};

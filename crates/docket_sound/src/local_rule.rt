@@ -1,23 +1,25 @@
 //! The table of the court's own rules.
 ghost use Rattle.std.specs.Prelude.{◌≡◌, ◌++◌, ◌∷◌, [], List, Ok, true, false, length};
+ghost use Rattle.court_rules.specs.LocalRules.{is_local_rule};
 ghost use Rattle.docket_history.specs.declared.row.LocalRuleRow.{LocalRuleRow as Entered};
-ghost use Rattle.docket_sound.specs.LocalRules.{is_sound_local_rule, AreSoundLocalRules, HasTakenLocalRules, may_follow};
+ghost use Rattle.docket_sound.specs.LocalRules.{AreSoundLocalRules, HasTakenLocalRules, may_follow};
 
 use crate::known_texts::KnownTexts;
 use court_days::Direction;
 use court_rules::is_local_name;
+use docket_command::LocalRule;
 use docket_history::LocalRuleRow;
 use std::alloc::{AllocError, Global};
 
 /// How many local rules there are at most.
 const MOST_RULES: u32 = 1000;
 
-/// Whether a court may have the rule.
+/// Whether a court may have the rule: it has the name of one, 1 to 3,650 days, and three days more for
+/// service only where it counts forward (Fed. R. Civ. P. 6(d)).
 #[tactic(auto, unfolding(court_rules::specs::LocalRules::is_local_rule))]
-fn is_sound_local_rule(row: &LocalRuleRow) -> bool
-    ensures { result ≡ is_sound_local_rule row.now }
+pub fn is_local_rule(rule: &LocalRule) -> bool
+    ensures { result ≡ is_local_rule rule.now }
 {
-    let rule = &row.rule;
     is_local_name(rule.name.as_str())
         && (1..=3650).contains(&rule.days)
         && (!rule.three || matches!(rule.direction, Direction::Forward))
@@ -48,7 +50,7 @@ impl LocalRuleCheck {
     {
         self.count < MOST_RULES
             && row.number == self.count + 1
-            && is_sound_local_rule(row)
+            && is_local_rule(&row.rule)
             && !self.names.has(&row.rule.name)
     }
 

@@ -20,11 +20,11 @@ use Rattle.docket_history.specs.declared.view.Kept.TheVariants.{Same, Other}
 use Rattle.docket_history.specs.declared.view.View.{View}
 use Rattle.docket_decisions.proofs.Leading.{is_accepted}
 use Rattle.docket_orderly.proofs.ReceiptLemmas.{fresh_by, none_found}
-use Rattle.docket_store.specs.Applying.{Applies, Stands}
-use Rattle.docket_store.specs.Dockets.{Docket}
+use Rattle.docket_changes.specs.Applying.{Applies, Stands}
+use Rattle.docket_changes.specs.Dockets.{Docket}
 use Rattle.docket_store.specs.Reopening.{AppliesOnce}
-use Rattle.docket_store.specs.declared.fault.Fault.{Fault}
-use Rattle.docket_store.proofs.ApplyLemmas.{after_repeated}
+use Rattle.docket_changes.specs.declared.fault.Fault.{Fault}
+use Rattle.docket_changes.proofs.ApplyLemmas.{after_repeated}
 
 -- the reply to an action does not tell what stands under the key
 reply_kept : (court : CourtSettings) (v : View) (k : Kept) (a : Action) → reply_to court (record v { kept = k }) a ≡ reply_to court v a

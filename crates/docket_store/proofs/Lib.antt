@@ -1,14 +1,9 @@
-pub mod AnyLemmas
-mod AgainLemmas
-mod ApplyLemmas
-mod AskLemmas
-pub mod FailureLemmas
-mod LeftLemmas
-mod LineLemmas
-mod ListingLemmas
-mod OpeningLemmas
-mod QuestionLemmas
-mod ReopeningLemmas
-mod RunLemmas
-mod SessionLemmas
-mod WriteLemmas
+pub mod AgainLemmas
+pub mod JudgedLemmas
+pub mod LeftLemmas
+pub mod OpeningLemmas
+pub mod QuestionLemmas
+pub mod ReopeningLemmas
+pub mod RunLemmas
+pub mod SessionLemmas
+pub mod StopLemmas

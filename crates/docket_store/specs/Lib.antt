@@ -1,13 +1,7 @@
-pub mod AnyRows
-pub mod Applying
 pub mod Causes
-pub mod Dockets
-pub mod Grounds
 pub mod Left
-pub mod Listing
 pub mod Migrating
 pub mod Opening
 pub mod Reopening
 pub mod Sequence
 pub mod Sessions
-pub mod Sound

@@ -18,8 +18,8 @@ use Rattle.docket_scan.specs.declared.holdings.Holdings.{Holdings}
 use Rattle.docket_tables.specs.Recognition.{has_docket_table}
 use Rattle.docket_tables.specs.Layouts.{Rows}
 use Rattle.docket_tables.specs.Stands.{HoldsRows, IsImage, Lasts}
-use Rattle.docket_store.specs.Applying.{StandsFor, Stands, docket_rows}
-use Rattle.docket_store.specs.Dockets.{Docket}
+use Rattle.docket_changes.specs.Applying.{StandsFor, Stands, docket_rows}
+use Rattle.docket_changes.specs.Dockets.{Docket}
 use Rattle.docket_store.specs.declared.creating.CreateFault.{CreateFault}
 use Rattle.docket_store.specs.declared.creating.CreateFault.TheVariants as create
 
@@ -38,6 +38,15 @@ module _ {S : Type 0} (g : Ghosts S) where
       HasCleanDisk (state g new) → (db : Trees) → (state g new).may_leave db → (state g old).may_leave db
   IsNotMade old new court create.StoreFailed =
       HasCleanDisk (state g new) → (db : Trees) → (state g new).may_leave db → (state g old).may_leave db ⊎ IsImage (docket_rows court []) db
+
+  -- the judging of a database changes nothing, whether it is taken for a docket's or not
+  abbrev pub PreservesRejected : Held S → Rows → AdoptFault → Type 0
+  PreservesRejected conn rows adopt.StoreFailed = Lasts g conn rows
+  PreservesRejected conn rows _ = HoldsRows g conn rows
+
+  abbrev pub PreservesJudged : {X : Type 0} → Held S → Rows → Result X AdoptFault → Type 0
+  PreservesJudged conn rows (Ok x) = HoldsRows g conn rows
+  PreservesJudged conn rows (Err fault) = PreservesRejected conn rows fault
 
   -- any database
 

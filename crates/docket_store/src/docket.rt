@@ -19,22 +19,23 @@ ghost use Rattle.docket_tables.specs.Causes.{IsLater};
 ghost use Rattle.docket_tables.specs.Layouts.{Rows};
 ghost use Rattle.docket_tables.specs.Stands.{HoldsRows, HoldsRowsIn};
 ghost use Rattle.docket_tables.specs.declared.table.Table.TheVariants as table;
-ghost use Rattle.docket_store.specs.AnyRows.{PreservesRejected, WritesWhole};
-ghost use Rattle.docket_store.specs.Applying.{IsDocket, StandsFor, Stands, Applies, docket_rows};
-ghost use Rattle.docket_store.specs.Causes.{IsCausedCreating, IsCausedOpening, IsClosedByWrite, IsClosedForCause, IsNotAccepted};
+ghost use Rattle.docket_changes.specs.AnyRows.{WritesWhole};
+ghost use Rattle.docket_store.specs.Opening.{PreservesRejected};
+ghost use Rattle.docket_changes.specs.Applying.{IsDocket, StandsFor, Stands, Applies, docket_rows};
+ghost use Rattle.docket_changes.specs.Causes.{IsClosedByWrite, IsClosedForCause, IsNotAccepted};
+ghost use Rattle.docket_store.specs.Causes.{IsCausedCreating, IsCausedOpening};
 ghost use Rattle.docket_store.specs.Migrating.{cause_of};
 ghost use Rattle.docket_store.specs.Opening.{IsAdopted, IsNotAdopted, IsNotMade, IsRejected, IsSoundDocket, IsSoundWith};
 ghost use Rattle.docket_store.specs.declared.creating.CreateFault.TheVariants.{NotEmpty};
-ghost use Rattle.docket_store.specs.declared.fault.Fault.TheVariants as fault;
+ghost use Rattle.docket_changes.specs.declared.fault.Fault.TheVariants as fault;
 
 use crate::adopting::adopt_from;
-use crate::applying::apply_to;
 use crate::creating::{CreateFault, make_docket};
-use crate::fault::{Fault, closing_error};
 use crate::laws::courts_begin_without_a_record;
 use crate::migrating::MigrateFault;
 use crate::returned::Returned;
 use court_days::Court;
+use docket_changes::{Fault, apply_to, closing_error};
 use docket_command::{Command, Reply};
 use docket_history::StandingCalendar;
 use docket_migration::migrate;
@@ -57,7 +58,7 @@ pub struct Docket<S: Alter> {
 
 impl<S: Alter> Model for Docket<S> {
     ghost use Rattle.std.specs.Prelude.{◌≡◌, false, is_some};
-    ghost use Rattle.docket_store.specs.Dockets.{Docket, docket_code};
+    ghost use Rattle.docket_changes.specs.Dockets.{Docket, docket_code};
 
     ghost Value = { Docket S };
 

@@ -4,17 +4,9 @@
 #![tactic(auto)]
 
 mod adopting;
-mod applying;
-mod asking;
 mod creating;
 mod docket;
-mod due;
-mod explaining;
-mod fault;
-mod judging;
 mod laws;
-mod lines;
-mod listing;
 mod migrating;
 mod questions;
 mod recovering;
@@ -25,12 +17,10 @@ mod sessions;
 
 pub use creating::CreateFault;
 pub use docket::Docket;
+pub use docket_changes::{CalendarEnd, Fault, Grounds, ListingEnd};
 pub use docket_columns::Version;
 pub use docket_scan::{AdoptFault, Holdings, Unwatched, Watch};
-pub use explaining::Grounds;
-pub use fault::Fault;
 pub use laws::courts_begin_without_a_record;
-pub use listing::{CalendarEnd, ListingEnd};
 pub use migrating::MigrateFault;
 pub use recovering::{RecoverFault, apply_again, recover};
 pub use reopening::{

@@ -16,23 +16,21 @@ ghost use Rattle.docket_tables.specs.Readings.{Fails, Stays};
 ghost use Rattle.docket_tables.specs.Stands.{HoldsRows};
 ghost use Rattle.docket_tables.specs.declared.fault.ReadFault.{ReadFault as Unread};
 ghost use Rattle.docket_tables.specs.declared.fault.ReadFault.TheVariants.{Store};
-ghost use Rattle.docket_store.specs.AnyRows.{Preserves, PreservesCalendar, PreservesListing};
-ghost use Rattle.docket_store.specs.Applying.{Asks, FailsAs, Stands};
-ghost use Rattle.docket_store.specs.Causes.{IsClosedForCause};
-ghost use Rattle.docket_store.specs.Grounds.{AreGrounds};
-ghost use Rattle.docket_store.specs.Listing.{HasBroken, Lists, ListsCalendar};
-ghost use Rattle.docket_store.specs.declared.fault.Fault.TheVariants as fault;
-ghost use Rattle.docket_store.specs.declared.listing.CalendarEnd.TheVariants as calendar_end;
-ghost use Rattle.docket_store.specs.declared.listing.ListingEnd.TheVariants as listing_end;
+ghost use Rattle.docket_changes.specs.AnyRows.{Preserves, PreservesCalendar, PreservesListing};
+ghost use Rattle.docket_changes.specs.Applying.{Asks, FailsAs, Stands};
+ghost use Rattle.docket_changes.specs.Causes.{IsClosedForCause};
+ghost use Rattle.docket_changes.specs.Grounds.{AreGrounds};
+ghost use Rattle.docket_changes.specs.Listing.{HasBroken, Lists, ListsCalendar};
+ghost use Rattle.docket_changes.specs.declared.fault.Fault.TheVariants as fault;
+ghost use Rattle.docket_changes.specs.declared.listing.CalendarEnd.TheVariants as calendar_end;
+ghost use Rattle.docket_changes.specs.declared.listing.ListingEnd.TheVariants as listing_end;
 
-use crate::asking::lines_numbered;
 use crate::docket::Docket;
-use crate::due::due_days;
-use crate::explaining::{Grounds, grounds_of};
-use crate::fault::{Fault, closing_error, read_fault};
-use crate::listing::{CalendarEnd, ListingEnd, breaking_error, list_days};
 use court_days::Day;
-use docket_changes::case_record;
+use docket_changes::{
+    CalendarEnd, Fault, Grounds, ListingEnd, breaking_error, case_record, closing_error, due_days,
+    grounds_of, lines_numbered, list_days, read_fault,
+};
 use docket_history::{
     CalendarRow, CaseRecord, CaseRow, DeadlineLine, DueRow, LocalRuleRow, PartyRow,
 };

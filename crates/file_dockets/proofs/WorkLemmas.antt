@@ -1,11 +1,12 @@
 -- What a job on a docket came to, and what its connection holds.
 use Rattle.std.proofs.Common.{◌≡◌, Result, Ok, Err, IfErr, IsErrAnd, OnOk, subst, sym}
+use Rattle.std.proofs.lemmas.Result.{IfErr-weaker, on_ok_weaker}
 use Rattle.sqlite.specs.Store.{Ghosts}
 use Rattle.sqlite.specs.Held.{Held}
 use Rattle.docket_scan.specs.declared.fault.AdoptFault.{AdoptFault}
 use Rattle.docket_scan.specs.declared.fault.AdoptFault.TheVariants as adopt
 use Rattle.docket_tables.specs.Layouts.{Rows}
-use Rattle.docket_store.specs.AnyRows.{PreservesRejected}
+use Rattle.docket_store.specs.Opening.{PreservesRejected}
 use Rattle.docket_store.specs.Opening.{IsNotAdopted}
 use Rattle.file_dockets.specs.Keeping.{HoldsBetween}
 use Rattle.file_dockets.specs.Works.{WorksTo}
@@ -16,23 +17,15 @@ pub err_told : {T E : Type 0} (P : E → Type 0) (r : Result T E) (e : E) → Is
 err_told P (Ok x) e told p = absurd told
 err_told P (Err f) e told p = subst P (sym told) p
 
-if_err : {T F : Type 0} (P Q : F → Type 0) → ((fault : F) → P fault → Q fault) → (r : Result T F) → IfErr r P → IfErr r Q
-if_err P Q then (Ok x) is = tt
-if_err P Q then (Err fault) is = then fault is
-
 pub any_err : {T F : Type 0} (P : Type 0) (r : Result T F) → P → IfErr r (λ _. P)
 any_err P (Ok x) is = tt
 any_err P (Err fault) is = is
 
-on_ok : {T F : Type 0} (P Q : Type 0) → (P → Q) → (r : Result T F) → OnOk r P → OnOk r Q
-on_ok P Q then (Ok x) is = then is
-on_ok P Q then (Err fault) is = tt
-
 pub err_map : {T F : Type 0} (P Q : F → Type 0) → ((fault : F) → P fault → Q fault) → (now was : Result T F) → now ≡ was → IfErr was P → IfErr now Q
-err_map P Q then now was same is = subst (λ r. IfErr r Q) (sym same) (if_err P Q then was is)
+err_map P Q then now was same is = subst (λ r. IfErr r Q) (sym same) (IfErr-weaker was P Q then is)
 
 pub made_map : {T F : Type 0} (P Q : Type 0) → (P → Q) → (now was : Result T F) → now ≡ was → OnOk was P → OnOk now Q
-made_map P Q then now was same is = subst (λ r. OnOk r Q) (sym same) (on_ok P Q then was is)
+made_map P Q then now was same is = subst (λ r. OnOk r Q) (sym same) (on_ok_weaker was then is)
 
 pub works_map : {T : Type 0} (P Q : T → Type 0) → ((done : T) → P done → Q done) → (outcome : Result T AdoptFault) → WorksTo P outcome → WorksTo Q outcome
 works_map P Q then (Ok done) is = then done is

@@ -11,11 +11,11 @@ use Rattle.sqlite.specs.Store.{Ghosts}
 use Rattle.court_days.specs.Court.{CourtSettings}
 use Rattle.docket_history.specs.Histories.{History}
 use Rattle.docket_history.specs.declared.record.DueRow.{DueRow}
-use Rattle.docket_store.specs.Applying.{Asks, Stands}
-use Rattle.docket_store.specs.Dockets.{Docket}
-use Rattle.docket_store.specs.declared.fault.Fault.{Fault}
-use Rattle.docket_store.specs.declared.listing.CalendarEnd.{CalendarEnd}
-use Rattle.docket_store.specs.declared.listing.CalendarEnd.TheVariants.{Store}
+use Rattle.docket_changes.specs.Applying.{Asks, Stands}
+use Rattle.docket_changes.specs.Dockets.{Docket}
+use Rattle.docket_changes.specs.declared.fault.Fault.{Fault}
+use Rattle.docket_changes.specs.declared.listing.CalendarEnd.{CalendarEnd}
+use Rattle.docket_changes.specs.declared.listing.CalendarEnd.TheVariants.{Store}
 use Rattle.file_questions.specs.CaseLists.{IsEarlyWrite}
 use Rattle.file_questions.specs.Exports.{ExportsTo, PutsOut, TextOut, entries_from, entry_of, rows_of_export, text_of_export}
 use Rattle.file_questions.specs.declared.exporting.Export.{Export}

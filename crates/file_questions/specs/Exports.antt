@@ -12,8 +12,8 @@ use Rattle.docket_history.specs.declared.record.CaseRecord.{CaseRecord}
 use Rattle.docket_history.specs.declared.record.DeadlineLine.{DeadlineLine}
 use Rattle.docket_history.specs.declared.record.DueRow.{DueRow}
 use Rattle.docket_history.specs.declared.row.CaseRow.{CaseRow}
-use Rattle.docket_store.specs.Dockets.{Docket}
-use Rattle.docket_store.specs.declared.listing.CalendarEnd.{CalendarEnd}
+use Rattle.docket_changes.specs.Dockets.{Docket}
+use Rattle.docket_changes.specs.declared.listing.CalendarEnd.{CalendarEnd}
 use Rattle.due_exports.specs.Exports.{export_entry, tells_reasons}
 use Rattle.due_exports.specs.Texts.{Told, entries_text, export_text}
 use Rattle.file_questions.specs.CaseLists.{IsAsked, IsEarlyEnd}

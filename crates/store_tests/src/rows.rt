@@ -6,9 +6,9 @@ mod layout;
 
 use self::changes::{acts, of_each};
 use crate::asking::court;
-use docket_changes::{EndUpdate, write};
+use docket_changes::write;
 use docket_command::{Action, Command, Reply, Text, Vacate};
-use docket_decisions::Changes;
+use docket_decisions::{Changes, EndUpdate};
 use docket_history::Change;
 use docket_tables::{is_bare, make};
 use docket_wire::command_text;
@@ -68,11 +68,11 @@ fn is_written<S: Alter>(
     }
     let changes = Changes {
         rows,
+        // No end is moved.
+        ends: EndUpdate::Moves(Vec::new(alloc)),
         reply: Reply { number: 2 },
     };
-    // No end is moved.
-    let none = EndUpdate::Moves(Vec::new(alloc));
-    Ok(write(conn, alloc, &court, &none, &command, &body, &changes).is_ok())
+    Ok(write(conn, alloc, &court, &command, &body, &changes).is_ok())
 }
 
 /// Whether it writes a row of each table, acts of each kind, and the receipts of k1 and k2.

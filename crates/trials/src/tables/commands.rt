@@ -2,7 +2,7 @@
 use anyhow::{Error, anyhow};
 use court_days::Day;
 use docket_command::{Action, AddParty, Command, OpenCase, Reply, Role, Text};
-use docket_decisions::Changes;
+use docket_decisions::{Changes, EndUpdate};
 use docket_history::{CaseRow, Change, PartyRow};
 use std::alloc::Global;
 
@@ -25,6 +25,15 @@ pub(crate) fn scattered(number: u32, rows: u32) -> u32 {
         .unwrap_or(0) as u32
 }
 
+/// The changes that these rows are. A case and a party have no deadline, so no end moves.
+fn changes_of(alloc: Global, rows: Vec<Change>, number: u32) -> Changes {
+    Changes {
+        rows,
+        ends: EndUpdate::Moves(Vec::new(alloc)),
+        reply: Reply { number },
+    }
+}
+
 pub(crate) fn opening(alloc: Global, number: u32) -> Result<(Command, Changes), Error> {
     let label = label_of(alloc, number)?;
     let filed = Day::new(FILED).ok_or_else(|| anyhow!("no day"))?;
@@ -41,8 +50,8 @@ pub(crate) fn opening(alloc: Global, number: u32) -> Result<(Command, Changes), 
         filed,
     });
     let key = Text::new(key_of(alloc, number)?);
-    let reply = Reply { number };
-    Ok((Command { key, action }, Changes { rows, reply }))
+    let changes = changes_of(alloc, rows, number);
+    Ok((Command { key, action }, changes))
 }
 
 /// A party of a case, under the key of a number.
@@ -66,6 +75,6 @@ pub(crate) fn joining(
         role,
     });
     let key = Text::new(key_of(alloc, key)?);
-    let reply = Reply { number };
-    Ok((Command { key, action }, Changes { rows, reply }))
+    let changes = changes_of(alloc, rows, number);
+    Ok((Command { key, action }, changes))
 }

@@ -2,7 +2,7 @@
 use crate::tables::commands::{joining, key_of, opening, scattered};
 use anyhow::{Error, anyhow};
 use court_days::Court;
-use docket_changes::{EndUpdate, write};
+use docket_changes::write;
 use docket_command::Command;
 use docket_decisions::Changes;
 use docket_wire::command_text;
@@ -28,10 +28,8 @@ fn time_write<S: Alter>(
     if !conn.is_autocommit() {
         return Err(anyhow!("in a transaction"));
     }
-    // A case and a party have no deadline, so no end moves.
-    let none = EndUpdate::Moves(Vec::new(rt.alloc()));
     let start = Instant::now(rt)?;
-    write(conn, rt.alloc(), court, &none, command, &body, changes)?;
+    write(conn, rt.alloc(), court, command, &body, changes)?;
     Ok(start.elapsed(rt)?.as_nanos())
 }
 

@@ -4,10 +4,9 @@ use Rattle.sqlite.specs.View.{doubt}
 use Rattle.docket_decisions.specs.Tables.{Tables}
 use Rattle.docket_decisions.specs.declared.end_row.EndRow.{EndRow}
 use Rattle.docket_tables.specs.AnyRows.{with_stored}
-use Rattle.docket_tables.specs.Contents.{rows_with}
+use Rattle.docket_tables.specs.Contents.{rows_with, AreStored}
 use Rattle.docket_tables.specs.Layouts.{Rows}
 use Rattle.docket_orderly.specs.Orderly.{IsOrderly}
-use Rattle.docket_tables.specs.Contents.{AreStored}
 use Rattle.docket_changes.specs.Settling.{RunsOnlyWhereStored, settled_cases}
 use Rattle.docket_tables.proofs.InsideLemmas.{Went}
 use Rattle.docket_changes.proofs.settling.settle_cases.Given as goal

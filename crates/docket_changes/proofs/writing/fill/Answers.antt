@@ -11,7 +11,7 @@ use Rattle.docket_tables.specs.Layouts.{Rows}
 use Rattle.docket_tables.proofs.AnyLemmas.{recorded_stored}
 use Rattle.docket_tables.proofs.ContentsLemmas.{sees_same}
 use Rattle.docket_tables.proofs.InsideLemmas.{Went, Stays, failed_after, stays_after, went_after}
-use Rattle.docket_changes.proofs.AnyLemmas.{one_left}
+use Rattle.docket_changes.proofs.LeftEnds.{one_left}
 use Rattle.docket_tables.specs.Changing.{with_changes}
 use Rattle.docket_changes.proofs.writing.fill.Goals as goal
 
@@ -44,7 +44,7 @@ returns-in-Err-clause-inside g c t ends small may =
 
 pub returns-in_err-record-clause-any : goal.returns-in_err-record-clause-any
 returns-in_err-record-clause-any g c n stored rows are small =
-    let left = one_left c.args.update.now stored in (
+    let left = one_left c.args.changes.now.ends stored in (
       left.0,
       left.1,
       failed_after (state g.S.Store c.args.tx.now.conn.now) (state g.S.Store c.record.new.tx.conn.now) rows _ c.from_residual.result _ (λ sees. c.record.ensures.inside) c.from_residual.ensures.0,

@@ -40,7 +40,7 @@ returns-in_err-fill-clause-either g c t small holds ready =
           let at_start : HasCleanDisk start = subst HasCleanDisk begins at_begin in
           let facts = ready at_start in
           let was = holds.1 at_start in
-          let inside : StaysInside begun last = (c.fill.ensures.inside t (end_rows court t) small (may_update court c.args.update.now t then facts) (λ _. begins_seeing start begun rows was begins)).0 in
+          let inside : StaysInside begun last = (c.fill.ensures.inside t (end_rows court t) small (may_update court c.args.changes.now.ends t then facts) (λ _. begins_seeing start begun rows was begins)).0 in
           dropped start begun last (state g.S.Store end) rows next was begins (inside.kept before) inside.survives (λ db is_open may. g.met.S.Store.settled end.store db is_open may) clean
           c.drop-tx.ensures.survives (c.drop-tx.ensures.undone clean),
     ) in
@@ -66,9 +66,9 @@ returns-clause-either g c t small holds ready =
     subst HasCleanDisk begins at_begin in
     let was = λ (clean : HasCleanDisk (state g.S.Store end)). holds.1 (at_start clean) in
     let done = λ (clean : HasCleanDisk (state g.S.Store end)). let facts = ready (at_start clean) in
-    c.in_ok-fill.ensures.inside t (end_rows court t) small (may_update court c.args.update.now t then facts) (λ _. begins_seeing start begun rows (was clean) begins) in
+    c.in_ok-fill.ensures.inside t (end_rows court t) small (may_update court c.args.changes.now.ends t then facts) (λ _. begins_seeing start begun rows (was clean) begins) in
     let sees : HasCleanDisk (state g.S.Store end) → Sees last next = λ clean.
-    sees_permuted last court then (updated_ends court c.args.update.now then (end_rows court t)) (end_rows court then) (updated court c.args.update.now t then (ready (at_start clean))) ((done clean).1 (before clean)).0 in
+    sees_permuted last court then (updated_ends court c.args.changes.now.ends then (end_rows court t)) (end_rows court then) (updated court c.args.changes.now.ends t then (ready (at_start clean))) ((done clean).1 (before clean)).0 in
     let same : end ≡ c.conn-2-1.given.0 = search rules in
     let ended = elim c.commit.result as (λ r. (HasCleanDisk (state g.S.Store end) → OnOk r (IsTrue last.in_transaction × Turns last (state g.S.Store end) last.now last.now false × KeepsCounts last (state g.S.Store end) × ((state g.S.Store end).marks ≡ []))) → (HasCleanDisk (state g.S.Store end) → IfErr r (FailsToCommit last (state g.S.Store end))) → MatchResult r (λ _. HoldsRows g.S.Store end next) (λ _. LastsAsEither g.S.Store end rows next)) [
       | Ok u ↦ λ ok err. (c.commit.ensures.ended, λ clean. committed start begun last (state g.S.Store end) rows next (was clean) begins ((done clean).0.kept (before clean)) (done clean).0.survives law (sees clean) (ok clean).1)
@@ -147,7 +147,7 @@ returns-in_err-fill-clause-cause g c clean t small holds update written =
     let at_begin : HasCleanDisk begun = omega (arith, before, c.fill.ensures.clean) in
     let was = holds.1 (subst HasCleanDisk begins at_begin) in
     let e = c.in_err-fill.field-0.0 in
-    let cause = c.in_err-fill.ensures.cause before t (end_rows court t) small (may_update court c.args.update.now t then update) written (begins_seeing start begun rows was begins) in
+    let cause = c.in_err-fill.ensures.cause before t (end_rows court t) small (may_update court c.args.changes.now.ends t then update) written (begins_seeing start begun rows was begins) in
     change_passed start (state g.S.Store c.conn-1.given.0) e c.from_residual.result c.from_residual.ensures.1
     (subst (λ h. HasChangeCause start (state g.S.Store h) e) same (change_since start begun last (state g.S.Store end) e begins c.drop-tx.ensures.survives.counts cause))
 
@@ -166,7 +166,7 @@ returns-clause-cause g c clean t small holds update written =
     let before : HasCleanDisk last = omega (arith, ended, c.commit.ensures.survives.clean) in
     let at_begin : HasCleanDisk begun = omega (arith, before, c.fill.ensures.clean) in
     let was = holds.1 (subst HasCleanDisk begins at_begin) in
-    let done = c.in_ok-fill.ensures.inside t (end_rows court t) small (may_update court c.args.update.now t then update) (λ _. begins_seeing start begun rows was begins) in
+    let done = c.in_ok-fill.ensures.inside t (end_rows court t) small (may_update court c.args.changes.now.ends t then update) (λ _. begins_seeing start begun rows was begins) in
     let sees = (done.1 before).0 in
     let caused : (e : Error) → FailsToCommit last (state g.S.Store end) e → HasChangeCause start (state g.S.Store end) e =
     λ e fails.
@@ -190,7 +190,7 @@ returns-in_err-fill-clause-later g c clean t small holds update =
     let before : HasCleanDisk last = omega (arith, ended, c.drop-tx.ensures.survives.clean) in
     let at_begin : HasCleanDisk begun = omega (arith, before, c.fill.ensures.clean) in
     let was = holds.1 (subst HasCleanDisk begins at_begin) in
-    let inside : StaysInside begun last = (c.fill.ensures.inside t (end_rows court t) small (may_update court c.args.update.now t then update) (λ _. begins_seeing start begun rows was begins)).0 in
+    let inside : StaysInside begun last = (c.fill.ensures.inside t (end_rows court t) small (may_update court c.args.changes.now.ends t then update) (λ _. begins_seeing start begun rows was begins)).0 in
     subst (λ h. IsLater start (state g.S.Store h)) same
     (later_at_end start begun last (state g.S.Store end) begins (inside.survives.counts, inside.survives.limit) (c.drop-tx.ensures.survives.counts, c.drop-tx.ensures.survives.limit))
 
@@ -209,6 +209,6 @@ returns-clause-later g c clean t small holds update =
     let before : HasCleanDisk last = omega (arith, ended, c.commit.ensures.survives.clean) in
     let at_begin : HasCleanDisk begun = omega (arith, before, c.fill.ensures.clean) in
     let was = holds.1 (subst HasCleanDisk begins at_begin) in
-    let done = c.in_ok-fill.ensures.inside t (end_rows court t) small (may_update court c.args.update.now t then update) (λ _. begins_seeing start begun rows was begins) in
+    let done = c.in_ok-fill.ensures.inside t (end_rows court t) small (may_update court c.args.changes.now.ends t then update) (λ _. begins_seeing start begun rows was begins) in
     subst (λ h. IsLater start (state g.S.Store h)) same
     (later_at_end start begun last (state g.S.Store end) begins (done.0.survives.counts, done.0.survives.limit) (c.commit.ensures.survives.counts, c.commit.ensures.survives.limit))

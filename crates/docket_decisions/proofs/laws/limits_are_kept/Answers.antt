@@ -5,4 +5,4 @@ pub returns-clause-histories : goal.returns-clause-histories
 returns-clause-histories c court h is = within_limits court h is
 
 pub returns-clause-views : goal.returns-clause-views
-returns-clause-views c court h command is = sound_view court h (within_limits court h is) command
+returns-clause-views c court h command is = sound_view court h is command

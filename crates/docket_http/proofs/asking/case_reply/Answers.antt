@@ -1,6 +1,6 @@
 use Rattle.std.proofs.Common.{◌∙◌, sym, ℕ, ap, Err}
 use Rattle.docket_http.proofs.AskingLemmas.{unknown_case, asked_replied, passed_on, case_after, case_asks, case_takes}
-use Rattle.docket_store.proofs.AnyLemmas.{err_preserves}
+use Rattle.docket_changes.proofs.AnyLemmas.{err_preserves}
 use Rattle.docket_http.specs.Cases.{case_wish}
 use Rattle.docket_http.proofs.asking.case_reply.Goals as goal
 

@@ -1,7 +1,7 @@
 use Rattle.std.proofs.Common.{◌∙◌, sym, ap, Some, ℕ, refl, Err}
 use Rattle.std.specs.Option.{option_map}
 use Rattle.docket_http.proofs.AskingLemmas.{deadlines_replied, unknown_deadlines, asked_replied, passed_on}
-use Rattle.docket_store.proofs.AnyLemmas.{err_preserves, short_preserves}
+use Rattle.docket_changes.proofs.AnyLemmas.{err_preserves, short_preserves}
 use Rattle.http_request.specs.declared.wish.Wish.TheVariants.{Deadlines}
 use Rattle.docket_http.proofs.asking.deadlines_reply.Goals as goal
 

@@ -2,7 +2,7 @@ use Rattle.std.proofs.Common.{◌∙◌, ℕ, sym, ap, Some, Err}
 use Rattle.std.specs.Option.{option_map}
 use Rattle.docket_http.specs.Cases.{case_wish}
 use Rattle.docket_http.proofs.AskingLemmas.{case_replied, case_missing, clean_before, asked_replied, passed_on, case_after, case_asks, case_takes}
-use Rattle.docket_store.proofs.AnyLemmas.{err_preserves, short_preserves}
+use Rattle.docket_changes.proofs.AnyLemmas.{err_preserves, short_preserves}
 use Rattle.docket_http.proofs.asking.found_reply.Goals as goal
 
 pub returns-in_ok-told_case-in-Some-clause-replies : goal.returns-in_ok-told_case-in-Some-clause-replies

@@ -4,8 +4,8 @@ use Rattle.sqlite.specs.Held.{state}
 use Rattle.sqlite.specs.State.{HasCleanDisk}
 use Rattle.docket_history.specs.Histories.{case_rows}
 use Rattle.docket_history.specs.declared.row.CaseRow.{CaseRow}
-use Rattle.docket_store.specs.declared.fault.Fault.TheVariants as fault
-use Rattle.docket_store.proofs.AnyLemmas.{err_preserves, short_preserves}
+use Rattle.docket_changes.specs.declared.fault.Fault.TheVariants as fault
+use Rattle.docket_changes.proofs.AnyLemmas.{err_preserves, short_preserves}
 use Rattle.docket_http.proofs.PageLemmas.{all_taken, case_from, same_fault, taken}
 use Rattle.docket_http.proofs.pages.cases_from.Goals as goal
 

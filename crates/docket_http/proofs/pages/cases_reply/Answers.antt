@@ -4,7 +4,7 @@ use Rattle.std.specs.Prelude.{string_bytes}
 use Rattle.sqlite.specs.Held.{state}
 use Rattle.sqlite.specs.State.{HasCleanDisk}
 use Rattle.docket_history.specs.declared.row.CaseRow.{CaseRow}
-use Rattle.docket_store.proofs.AnyLemmas.{err_preserves, short_preserves}
+use Rattle.docket_changes.proofs.AnyLemmas.{err_preserves, short_preserves}
 use Rattle.html_sheets.specs.Sites.{cases_page}
 use Rattle.http_request.specs.declared.page.Page.TheVariants.{Cases}
 use Rattle.http_request.specs.declared.wish.Wish.TheVariants.{Page}

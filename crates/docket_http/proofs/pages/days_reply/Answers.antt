@@ -7,8 +7,8 @@ use Rattle.court_days.specs.Court.{CourtSettings}
 use Rattle.docket_calendar.specs.Calendar.{calendar_rows}
 use Rattle.docket_history.specs.Histories.{History}
 use Rattle.docket_history.specs.declared.record.DueRow.{DueRow}
-use Rattle.docket_store.specs.Dockets.{Docket}
-use Rattle.docket_store.proofs.AnyLemmas.{err_preserves, short_preserves}
+use Rattle.docket_changes.specs.Dockets.{Docket}
+use Rattle.docket_changes.proofs.AnyLemmas.{err_preserves, short_preserves}
 use Rattle.http_request.specs.declared.page.Page.TheVariants.{Days}
 use Rattle.http_request.specs.declared.wish.Wish.TheVariants.{Page}
 use Rattle.docket_http.specs.Answer.{html}

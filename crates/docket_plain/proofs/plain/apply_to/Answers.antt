@@ -30,7 +30,7 @@ pub decide-requires : goal.decide-requires
 decide-requires c =
     let h = history_of c.args.tables.now.receipts.items in
     let seen : c.in_ok-view.view ≡ shown c.args.court.now h c.args.command.now = c.in_ok-view.ensures ∙ ap (λ t. view_in t c.args.command.now) c.requires.same in
-    subst (λ (w : View). IsSoundView c.args.court.now w) (sym seen) (sound_view c.args.court.now h (within_limits c.args.court.now h c.requires.accepted) c.args.command.now)
+    subst (λ (w : View). IsSoundView c.args.court.now w) (sym seen) (sound_view c.args.court.now h c.requires.accepted c.args.command.now)
 
 pub enter-requires : goal.enter-requires
 enter-requires c = small c.args.court.now c.args.tables.now c.requires

@@ -1,13 +1,12 @@
-use Rattle.std.proofs.Common.{◌∙◌, subst, subst₂, arith}
+use Rattle.std.proofs.Common.{◌∙◌, subst, subst₂, arith, sym}
 use Rattle.sqlite.specs.State.{HasCleanDisk}
 use Rattle.sqlite.specs.Held.{Held, state}
 use Rattle.docket_store.proofs.SessionLemmas.{ended, not_begun}
-use Rattle.std.proofs.Common.{sym}
 use Rattle.docket_tables.specs.Stands.{HoldsRows}
-use Rattle.docket_store.specs.AnyRows.{PreservesRejected}
+use Rattle.docket_store.specs.Opening.{PreservesRejected}
 use Rattle.docket_store.specs.Causes.{IsCausedOpening, StopsForCause}
-use Rattle.docket_store.proofs.AnyLemmas.{err_if}
-use Rattle.docket_store.proofs.FailureLemmas.{stop_caused_after}
+use Rattle.docket_changes.proofs.AnyLemmas.{err_if}
+use Rattle.docket_store.proofs.StopLemmas.{stop_caused_after}
 use Rattle.docket_store.proofs.sessions.session.Goals as goal
 
 pub returns-in-Ok-clause-ends : goal.returns-in-Ok-clause-ends

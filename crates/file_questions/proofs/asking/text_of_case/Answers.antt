@@ -1,4 +1,4 @@
-use Rattle.docket_store.proofs.AnyLemmas.{err_preserves, short_preserves}
+use Rattle.docket_changes.proofs.AnyLemmas.{err_preserves, short_preserves}
 use Rattle.file_questions.proofs.asking.text_of_case.Goals as goal
 
 pub returns-in_err-case-clause-stays : goal.returns-in_err-case-clause-stays

@@ -3,9 +3,9 @@ use Rattle.std.specs.Option.{option_map}
 use Rattle.court_days.specs.Court.{CourtSettings}
 use Rattle.docket_history.specs.Histories.{History}
 use Rattle.docket_history.specs.Records.{calendar}
-use Rattle.docket_store.specs.Grounds.{AreGrounds}
-use Rattle.docket_store.specs.declared.explaining.Grounds.{Grounds}
-use Rattle.docket_store.proofs.AnyLemmas.{err_preserves, short_preserves}
+use Rattle.docket_changes.specs.Grounds.{AreGrounds}
+use Rattle.docket_changes.specs.declared.explaining.Grounds.{Grounds}
+use Rattle.docket_changes.proofs.AnyLemmas.{err_preserves, short_preserves}
 use Rattle.file_questions.specs.Tells.{reasons_of, text_of_reasons}
 use Rattle.file_questions.proofs.explaining.text_of_reasons.Goals as goal
 

@@ -1,6 +1,6 @@
 use Rattle.std.proofs.Common.{◌∙◌, sym, arith}
 use Rattle.docket_history.specs.Histories.{case_rows}
-use Rattle.docket_store.proofs.AnyLemmas.{err_preserves, short_preserves}
+use Rattle.docket_changes.proofs.AnyLemmas.{err_preserves, short_preserves}
 use Rattle.file_questions.proofs.CasedLemmas.{case_missed}
 use Rattle.file_questions.proofs.exporting.entry_of.Goals as goal
 

@@ -1,4 +1,4 @@
-use Rattle.docket_store.proofs.AnyLemmas.{err_preserves}
+use Rattle.docket_changes.proofs.AnyLemmas.{err_preserves}
 use Rattle.file_questions.proofs.listing.has_party.Goals as goal
 
 pub returns-in_err-parties-clause-stays : goal.returns-in_err-parties-clause-stays

@@ -4,7 +4,7 @@ use Rattle.sqlite.specs.State.{HasCleanDisk}
 use Rattle.docket_history.specs.Histories.{case_rows}
 use Rattle.docket_history.specs.Records.{case_at}
 use Rattle.docket_history.specs.declared.row.CaseRow.{CaseRow}
-use Rattle.docket_store.specs.declared.listing.CalendarEnd.TheVariants.{Store}
+use Rattle.docket_changes.specs.declared.listing.CalendarEnd.TheVariants.{Store}
 use Rattle.file_questions.specs.CaseLists.{GoesOut}
 use Rattle.file_questions.proofs.CaseLemmas.{front_out, less_out, more_out, no_case, one_more, one_of, parted, told_of_all, with_party}
 use Rattle.file_questions.proofs.ListLemmas.{unanswered}

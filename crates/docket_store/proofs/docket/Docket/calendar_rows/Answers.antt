@@ -2,10 +2,10 @@ use Rattle.std.proofs.Common.{◌≡◌, Vec, Global, Some, sym, subst, arith}
 use Rattle.docket_history.specs.Histories.{standing_rows}
 use Rattle.docket_history.specs.declared.row.CalendarRow.{CalendarRow}
 use Rattle.docket_decisions.specs.Tables.{rows_of}
-use Rattle.docket_store.specs.Applying.{Stands}
-use Rattle.docket_store.specs.Dockets.{Docket}
-use Rattle.docket_store.proofs.ApplyLemmas.{docket_orderly}
-use Rattle.docket_store.proofs.FailureLemmas.{told_cause}
+use Rattle.docket_changes.specs.Applying.{Stands}
+use Rattle.docket_changes.specs.Dockets.{Docket}
+use Rattle.docket_changes.proofs.ApplyLemmas.{docket_orderly}
+use Rattle.docket_changes.proofs.FailureLemmas.{told_cause}
 use Rattle.docket_store.proofs.QuestionLemmas.{question_asks}
 use Rattle.docket_tables.specs.Causes.{IsCaused}
 use Rattle.docket_tables.specs.Stands.{HoldsRows}

@@ -1,13 +1,13 @@
 use Rattle.std.proofs.Common.{◌≡◌, is_some, refl, sym, subst, ◌∙◌, Some}
 use Rattle.docket_calendar.specs.Calendar.{calendar_rows}
-use Rattle.docket_store.specs.Applying.{Asks, Stands}
-use Rattle.docket_store.specs.Dockets.{Docket, serving}
-use Rattle.docket_store.proofs.AskLemmas.{asks_kept}
+use Rattle.docket_changes.specs.Applying.{Asks, Stands}
+use Rattle.docket_changes.specs.Dockets.{Docket, serving}
+use Rattle.docket_changes.proofs.AskLemmas.{asks_kept}
 use Rattle.docket_tables.specs.Stands.{HoldsRows}
 use Rattle.sqlite.specs.Held.{state}
 use Rattle.sqlite.specs.declared.error.Error.{Error}
 use Rattle.docket_tables.specs.Causes.{IsCaused}
-use Rattle.docket_store.proofs.FailureLemmas.{failed_caused}
+use Rattle.docket_changes.proofs.FailureLemmas.{failed_caused}
 use Rattle.docket_store.proofs.docket.Docket.due_rows.Goals as goal
 
 pub returns-clause-answer : goal.returns-clause-answer

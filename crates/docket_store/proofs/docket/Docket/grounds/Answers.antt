@@ -1,8 +1,8 @@
 use Rattle.std.proofs.Common.{◌≡◌, refl, sym, subst, ◌∙◌, Some}
-use Rattle.docket_store.specs.Applying.{Stands}
-use Rattle.docket_store.specs.Dockets.{Docket, serving}
-use Rattle.docket_store.specs.Grounds.{AreGrounds}
-use Rattle.docket_store.proofs.AskLemmas.{asks_kept}
+use Rattle.docket_changes.specs.Applying.{Stands}
+use Rattle.docket_changes.specs.Dockets.{Docket, serving}
+use Rattle.docket_changes.specs.Grounds.{AreGrounds}
+use Rattle.docket_changes.proofs.AskLemmas.{asks_kept}
 use Rattle.docket_tables.specs.Stands.{HoldsRows}
 use Rattle.std.specs.Prelude.{IfOk, IfSome}
 use Rattle.court_days.specs.Court.{zone_of}
@@ -10,7 +10,7 @@ use Rattle.court_rules.specs.Standings.{AreActs}
 use Rattle.sqlite.specs.Held.{state}
 use Rattle.sqlite.specs.declared.error.Error.{Error}
 use Rattle.docket_tables.specs.Causes.{IsCaused}
-use Rattle.docket_store.proofs.FailureLemmas.{failed_caused}
+use Rattle.docket_changes.proofs.FailureLemmas.{failed_caused}
 use Rattle.docket_store.proofs.docket.Docket.grounds.Goals as goal
 
 pub returns-clause-answer : goal.returns-clause-answer
