@@ -55,11 +55,6 @@ module _ {S : Type 0} (g : Ghosts S) (conn : Held S) (rows : Rows) where
   held_at Closed holds = holds
   held_at Damaged holds = holds
 
-  pub read_held_at : (fault : ReadFault) → HoldsRows g conn rows → StaysAt g conn rows fault
-  read_held_at (Store e) holds = lasting holds
-  read_held_at Short holds = holds
-  read_held_at Unread holds = holds
-
   pub held_after : {X : Type 0} (res : Result X Fault) → HoldsRows g conn rows → Preserves g conn rows res
   held_after (Ok x) holds = holds
   held_after (Err fault) holds = held_at fault holds

@@ -82,7 +82,8 @@ fn keep<S: Alter>(
     }
 }
 
-/// Applies a command to the docket of the court in the database, in one transaction.
+/// Applies a command to the docket of the court in the database, in one transaction. `kept` is the
+/// calendar that is kept beside the connection; where the database fails, `failure` has its error.
 pub fn apply_to<S: Alter>(
     conn: &mut Connection<S>,
     alloc: Global,

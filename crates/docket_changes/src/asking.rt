@@ -135,7 +135,7 @@ fn lines_of_case<S: Alter>(
 }
 
 /// The deadlines of the case of a number, with where each stands by the ends that are stored. The
-/// calendar is kept.
+/// calendar is kept in `kept`; where the database fails, `failure` has its error.
 pub fn lines_numbered<S: Alter>(
     conn: &mut Connection<S>,
     alloc: Global,

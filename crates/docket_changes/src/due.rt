@@ -51,7 +51,7 @@ fn due_by<S: Alter>(
 }
 
 /// The deadlines whose time runs to a day of a range, in the order of the calendar. What the court
-/// entered is kept.
+/// entered is kept in `kept`; where the database fails, `failure` has its error.
 pub fn due_days<S: Alter>(
     conn: &mut Connection<S>,
     alloc: Global,

@@ -91,8 +91,7 @@ pub(crate) fn store_fault<S: Alter>(
     }
 }
 
-/// What a question that the tables did not answer comes to. An error of the database is kept as the last
-/// failure.
+/// What a question that the tables did not answer comes to. `failure` then has an error of the database.
 pub fn read_fault<S: Alter>(
     conn: &mut Connection<S>,
     fault: ReadFault,

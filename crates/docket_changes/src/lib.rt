@@ -6,6 +6,10 @@
 //! `apply_to` does the three. `case_record`, `lines_numbered`, `due_days`, `grounds_of` and `list_days`
 //! answer what is asked of a case, of a deadline and of the calendar. The tables and their statements are
 //! those of `docket_tables`; who has the connection, and from when until when, is `docket_store`'s.
+//!
+//! Each takes with the connection what is kept beside it of the court calendar (`kept`: nothing, until it
+//! was read), and keeps there what it reads; an accepted command that changes the calendar empties it. Where
+//! the answer is `StoreFailed`, `failure` has the error of the database.
 #![tactic(auto)]
 
 mod applying;

@@ -99,7 +99,7 @@ fn list_by<S: Alter, W: Write>(
 }
 
 /// Writes the bytes, and the calendar of the days from one to another behind them. What the court
-/// entered is kept.
+/// entered is kept in `kept`; where the database fails, `failure` has its error.
 pub fn list_days<S: Alter, W: Write>(
     conn: &mut Connection<S>,
     alloc: Global,

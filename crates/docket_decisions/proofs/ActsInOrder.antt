@@ -16,7 +16,8 @@ use Rattle.docket_history.specs.declared.row.NewDeadline.{NewDeadline}
 use Rattle.docket_history.specs.declared.row.ActRow.{ActRow}
 use Rattle.docket_decisions.proofs.ActsKept.{acts_more}
 use Rattle.docket_decisions.proofs.InOrderLemmas.{deadlines_in_order, gathered-append, length-from, same_number}
-use Rattle.docket_decisions.proofs.Leading.{seen, none_made, none_acted, none_acted_in}
+use Rattle.docket_history.proofs.Asked.{none_made, none_acted, none_acted_in}
+use Rattle.docket_decisions.proofs.Leading.{seen}
 use Rattle.docket_decisions.proofs.LaterActs.{IsNextOf, may_follow}
 use Rattle.docket_decisions.proofs.LimitsKept.{all_kept, passed, there_is, named_there, IsPassed}
 

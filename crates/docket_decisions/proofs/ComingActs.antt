@@ -29,7 +29,7 @@ use Rattle.docket_decisions.proofs.ActsKept.{first_sound}
 use Rattle.docket_decisions.proofs.AddedActs.{named_before}
 use Rattle.docket_decisions.proofs.FirstActs.{AreFirst, made_first}
 use Rattle.docket_decisions.proofs.LaterActs.{IsNext, IsNextOf, may_follow}
-use Rattle.docket_decisions.proofs.Leading.{none_acted}
+use Rattle.docket_history.proofs.Asked.{none_acted}
 use Rattle.docket_decisions.proofs.Passed.{IsFree}
 
 module _ (zone : ZoneRules) where

@@ -1,16 +1,16 @@
 -- What is done about the stored ends by what a history shows is right for the command after it.
-use Rattle.std.proofs.Common.{◌≡◌, ◌∙◌, inl, inr, ℕ, true, false, List, [], ◌∷◌, length, IsPermutation, refl, sym, ap, subst, append-nil}
+use Rattle.std.proofs.Common.{◌≡◌, ◌∙◌, ◌||◌, inl, inr, ℕ, true, false, Option, Some, None, List, [], ◌∷◌, length, IsPermutation, refl, sym, ap, subst, append-nil}
 use Rattle.std.specs.List.{flat_map}
-use Rattle.std.specs.Prelude.{if◌then◌else◌, IfOk, Result, Ok, Err}
+use Rattle.std.specs.Prelude.{is_some, if◌then◌else◌, IfOk, Result, Ok, Err}
 use Rattle.std.proofs.lemmas.List.{append_cancel_left}
 use Rattle.std.proofs.lemmas.List.Sorted.{IsPermutation-refl}
 use Rattle.court_days.specs.Court.{CourtSettings, zone_of}
 use Rattle.court_rules.specs.declared.act.Act.{Act}
 use Rattle.docket_command.specs.declared.command.Action.{Action}
-use Rattle.docket_command.specs.declared.command.Action.TheVariants.{DeclareDay, CloseDay, CloseSpan, WithdrawCalendar, ImportCalendar}
+use Rattle.docket_command.specs.declared.case_action.OpenCase.{OpenCase}
 use Rattle.docket_command.specs.declared.command.Command.{Command}
 use Rattle.docket_command.specs.declared.refusal.Reply.{Reply}
-use Rattle.docket_history.specs.Actions.{asks_calendar, asks_cases, changes_calendar, if_asked, moves_all_cases}
+use Rattle.docket_history.specs.Actions.{asks_calendar, asks_cases, changes_calendar, if_asked, moves_all_cases, opened}
 use Rattle.docket_history.specs.CalendarItems.{calendar_of}
 use Rattle.docket_history.specs.Histories.{History, items_of, standing_rows, case_rows, act_rows}
 use Rattle.docket_history.specs.Records.{calendar}
@@ -37,12 +37,11 @@ use Rattle.docket_decisions.proofs.StillEnds.{MakesNothing, nothing_or_asked, ca
 
 -- where ends of any case may move, the cases are counted
 cases_counted : (a : Action) (n : ℕ) → moves_all_cases a ≡ true → if_asked (asks_cases a) n ≡ n
-cases_counted (DeclareDay a) n e = refl
-cases_counted (CloseDay a) n e = refl
-cases_counted (CloseSpan a) n e = refl
-cases_counted (WithdrawCalendar a) n e = refl
-cases_counted (ImportCalendar a) n e = refl
-cases_counted _ n e = absurd (let no = e in cc)
+cases_counted a n e = at (opened a)
+  where
+    at : (o : Option OpenCase) → if_asked (is_some o || moves_all_cases a) n ≡ n
+    at None = ap (λ asked. if_asked asked n) e
+    at (Some case) = refl
 
 module _ (court : CourtSettings) (h : History) (c : Command) (is : IsHistory court (c ∷ h)) (v : View) (seen : v ≡ shown court h c) (changes : List Change) (reply : Reply)
     (leads : with_receipt c reply (all_changed changes (rows_of court h)) ≡ rows_of court (c ∷ h)) where

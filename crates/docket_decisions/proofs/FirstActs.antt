@@ -35,7 +35,8 @@ use Rattle.docket_command.specs.declared.command.Action.TheVariants as action
 use Rattle.docket_command.specs.declared.time_action.OrderPeriod as order_period
 use Rattle.docket_command.specs.declared.field.Field.{Field}
 use Rattle.docket_command.specs.declared.field.Field.TheVariants as field
-use Rattle.docket_history.specs.Actions.{answer_rule, answer_from, waiver_rule, pleading_rule, begun, timed_or_set, judgment_times, statement_ordered, ordered_three, day_ordered, hours_ordered, ordered, court_ordered, local_three, begun_locally, FoundRule, deadlines_made}
+use Rattle.docket_history.specs.Actions.{FoundRule, deadlines_made}
+use Rattle.docket_history.specs.DeadlinesMade.{answer_rule, answer_from, waiver_rule, pleading_rule, begun, timed_or_set, judgment_times, statement_ordered, ordered_three, day_ordered, hours_ordered, ordered, court_ordered, local_three, begun_locally}
 use Rattle.docket_values.specs.Values.{first_bad, bad_values, is_entered, is_entered_at, bad_attorney, bad_choice, bad_if, bad_method, bad_order, in_days, in_hours, is_fixed, most}
 use Rattle.docket_history.specs.declared.row.NewDeadline.{NewDeadline}
 use Rattle.docket_decisions.proofs.GoodValues.{AreGood, all_good, not_false, entered_instant}

@@ -9,10 +9,10 @@ use Rattle.docket_command.specs.declared.case_action.FileEntry.{FileEntry}
 use Rattle.docket_command.specs.declared.command.Command.{Command}
 use Rattle.docket_command.specs.declared.command.Action.{Action}
 use Rattle.docket_command.specs.declared.command.Action.TheVariants as action
-use Rattle.docket_history.specs.Actions.{FoundRule, case_named, deadlines_made, row_withdrawn}
-use Rattle.docket_history.specs.Histories.{History, case_rows, party_rows, entry_rows, deadline_rows, parties_of_case, entries_of_case, deadlines_of_case, new_case, new_party, new_entry, new_deadlines, deadline_rows_from, case_number, standing_rows, without_row, local_rule_rows, new_local_rule, rule_found}
-use Rattle.docket_history.specs.InOrder.{in_order, asked_in_order, rule_entered, local_rule_row, numbered_by, gathered, opened, case_row, party_added, party_row, entry_filed, entry_row, is_number, made_in, calendar_added, Withdraws, IsAddedAndKept}
-use Rattle.docket_decisions.proofs.Leading.{none_made}
+use Rattle.docket_history.specs.Actions.{FoundRule, case_named, deadlines_made, row_withdrawn, rule_entered, opened}
+use Rattle.docket_history.specs.Histories.{History, case_rows, party_rows, entry_rows, deadline_rows, parties_of_case, entries_of_case, deadlines_of_case, new_case, new_party, new_entry, new_deadlines, deadline_rows_from, case_number, standing_rows, without_row, local_rule_rows, new_local_rule, rule_found, local_rule_row, case_row, party_row, entry_row}
+use Rattle.docket_history.specs.InOrder.{in_order, asked_in_order, numbered_by, gathered, party_added, entry_filed, is_number, made_in, calendar_added, Withdraws, IsAddedAndKept}
+use Rattle.docket_history.proofs.Asked.{none_made}
 use Rattle.docket_history.specs.declared.row.NewDeadline.{NewDeadline}
 use Rattle.docket_history.specs.declared.row.CalendarRow.{CalendarRow}
 use Rattle.docket_history.specs.declared.row.DeadlineRow.{DeadlineRow}

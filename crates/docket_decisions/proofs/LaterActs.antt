@@ -21,7 +21,8 @@ use Rattle.docket_command.specs.declared.command.Action.{Action}
 use Rattle.docket_command.specs.declared.command.Action.TheVariants as action
 use Rattle.docket_command.specs.declared.field.Field.{Field}
 use Rattle.docket_command.specs.declared.field.Field.TheVariants as field
-use Rattle.docket_history.specs.Actions.{deadline_named, deadlines_made, acts_made, ruled, extension}
+use Rattle.docket_history.specs.Actions.{deadline_named, deadlines_made, acts_made}
+use Rattle.docket_history.specs.DeadlinesMade.{ruled, extension}
 use Rattle.docket_decisions.specs.Refusals.{is_running, is_suspended, is_awaiting, is_over, is_not_open, is_not_awaiting, is_full, has_too_many_acts}
 use Rattle.docket_history.specs.Times.{standing_shown}
 use Rattle.docket_values.specs.Values.{first_bad, bad_values, bad_choice, bad_days, bad_until, is_entered, is_entered_at}

@@ -5,10 +5,10 @@ use Rattle.std.specs.Option.{option_and_then}
 use Rattle.court_days.specs.Court.{CourtSettings}
 use Rattle.docket_command.specs.declared.command.Command.{Command}
 use Rattle.docket_command.specs.declared.command.Action.{Action}
-use Rattle.docket_command.specs.declared.command.Action.TheVariants.{DeclareDay, CloseDay, CloseSpan, ShortDay, WithdrawCalendar, ImportCalendar, OpenCase, AddParty, FileEntry, Satisfy, Vacate, RuleMotion, Dispose, StatementServed, Extend, LocalRule, LocalPeriod}
+use Rattle.docket_command.specs.declared.command.Action.TheVariants.{LocalPeriod}
 use Rattle.docket_command.specs.declared.refusal.Refusal.{Refusal}
 use Rattle.docket_command.specs.declared.refusal.Reply.{Reply}
-use Rattle.docket_history.specs.Actions.{case_named, deadline_named, FoundRule, deadlines_made, acts_made, asks_calendar, row_withdrawn}
+use Rattle.docket_history.specs.Actions.{case_named, deadline_named, deadlines_made, row_withdrawn}
 use Rattle.docket_decisions.specs.Decisions.{IsAnswer, IsChange, LeadsTo}
 use Rattle.docket_history.specs.Histories.{History, standing_rows, next_row, items_of, numbered, rows_added, case_rows, party_rows, entry_rows, deadline_rows, act_rows, without_row, new_party, new_entry, later_acts, case_number, deadline_number, parties_of_case, entries_of_case, deadlines_of_case, acts_of_deadline, deadlines_from, deadlines, first_acts_from, act_rows_on, deadline_rows_from, local_rule_rows, rule_found}
 use Rattle.docket_decisions.specs.Outcomes.{reply_to, replied, shown, shown_fresh, case_of_number, answer_kept, answer_by, answer_of, repeated, refused, accepted}
@@ -19,7 +19,6 @@ use Rattle.docket_history.specs.declared.row.NewDeadline.{NewDeadline}
 use Rattle.docket_decisions.specs.declared.decision.Decision.{Decision}
 use Rattle.docket_decisions.specs.declared.decision.Decision.TheVariants as decision
 use Rattle.docket_decisions.specs.declared.decision.DecideFault.{DecideFault}
-use Rattle.docket_history.specs.declared.item.CalendarItem.{CalendarItem}
 use Rattle.docket_history.specs.declared.item.NewRow.{NewRow}
 use Rattle.docket_history.specs.declared.row.Change.{Change}
 use Rattle.docket_history.specs.declared.row.Change.TheVariants as change
@@ -35,7 +34,7 @@ use Rattle.docket_history.specs.declared.view.DeadlineView.{DeadlineView}
 use Rattle.docket_history.specs.declared.view.Kept.{Kept}
 use Rattle.docket_history.specs.declared.view.Kept.TheVariants.{Fresh, Same, Other}
 use Rattle.docket_history.specs.declared.view.View.{View}
-use Rattle.docket_history.proofs.Asked.{case_asked, party_asked, entry_asked, rule_asked, made_asked, next_asked}
+use Rattle.docket_history.proofs.Asked.{no_party, no_entry, none_made, none_acted, none_acted_in, added_same, case_asked, party_asked, entry_asked, rule_asked, made_asked, next_asked}
 use Rattle.docket_decisions.proofs.Passed.{is_free}
 
 -- what changes of one kind do
@@ -93,45 +92,6 @@ module _ (c : Command) (w : Option ℕ) (calendar : List CalendarRow) (cases : L
         local_rules = t.local_rules ++ rules;
       }
   all_in_one = simp (all_changed-append, withdrawn, calendar_changed, cases_changed, parties_changed, entries_changed, deadlines_changed, acts_changed, rules_changed, append_assoc)
-
--- an action that names no case makes no row of one
-no_party : (a : Action) (m n : ℕ) → case_named a ≡ None → new_party m a ≡ new_party n a
-no_party (AddParty a) m n e = absurd (cc)
-no_party _ m n e = refl
-
-no_entry : (a : Action) (m n : ℕ) → case_named a ≡ None → new_entry m a ≡ new_entry n a
-no_entry (FileEntry a) m n e = absurd (cc)
-no_entry _ m n e = refl
-
-pub none_made : (found : FoundRule) (a : Action) → case_named a ≡ None → deadlines_made found a ≡ []
-none_made found (DeclareDay a) e = refl
-none_made found (CloseDay a) e = refl
-none_made found (CloseSpan a) e = refl
-none_made found (ShortDay a) e = refl
-none_made found (WithdrawCalendar a) e = refl
-none_made found (ImportCalendar a) e = refl
-none_made found (OpenCase a) e = refl
-none_made found (LocalRule a) e = refl
-none_made found _ e = absurd (cc)
-
--- an action that names no deadline makes no later act
-pub none_acted : (a : Action) → deadline_named a ≡ None → acts_made a ≡ []
-none_acted (RuleMotion a) e = absurd (cc)
-none_acted (Dispose a) e = absurd (cc)
-none_acted (StatementServed a) e = absurd (cc)
-none_acted (Extend a) e = absurd (cc)
-none_acted (Satisfy a) e = absurd (cc)
-none_acted (Vacate a) e = absurd (cc)
-none_acted _ e = refl
-
--- an action that doesn't ask about the calendar adds no row to it
-pub added_same : (items : List CalendarItem) (a : Action) → rows_added (if asks_calendar a then items else []) a ≡ rows_added items a
-added_same items (DeclareDay a) = refl
-added_same items (CloseDay a) = refl
-added_same items (CloseSpan a) = refl
-added_same items (ShortDay a) = refl
-added_same items (ImportCalendar a) = refl
-added_same items _ = refl
 
 pub length-deadlines_from : (k n : ℕ) (acts : List ActRow) (rows : List DeadlineRow) → length (deadlines_from k n acts rows) ≡ length rows
 length-deadlines_from k n acts [] = refl
@@ -195,16 +155,6 @@ deadline_seen k (suc n) h free = found (slice_get (deadlines k h) n) refl free
     found (Some d) is no_none =
         acts_at k 1 (act_rows h) (deadlines_of_case k (deadline_rows h)) n d is
         ∙ (let same : 1 + n ≡ suc n = omega arith in ap (λ m. acts_of_deadline k m (act_rows h)) same)
-
--- an action that names no case names no deadline
-pub none_acted_in : (a : Action) → case_named a ≡ None → acts_made a ≡ []
-none_acted_in (RuleMotion a) e = absurd (cc)
-none_acted_in (Dispose a) e = absurd (cc)
-none_acted_in (StatementServed a) e = absurd (cc)
-none_acted_in (Extend a) e = absurd (cc)
-none_acted_in (Satisfy a) e = absurd (cc)
-none_acted_in (Vacate a) e = absurd (cc)
-none_acted_in _ e = refl
 
 later_from : (h : History) (a : Action) (o : Option ℕ) → deadline_named a ≡ o → is_some o && is_none (option_and_then (deadline_at (deadlines (case_number a) h)) o) ≡ false
     → later_acts (length (acts_in (option_and_then (deadline_at (deadlines (case_number a) h)) o))) a ≡ later_acts (length (acts_of_deadline (case_number a) (unwrap_or o 0) (act_rows h))) a

@@ -2,7 +2,7 @@
 use Rattle.std.proofs.Common.{◌≡◌, ◌≢◌, ℕ, zero, suc, ◌+◌, ◌≤◌, ◌<◌, Bool, true, false, ◌&&◌, ◌||◌, cond, Option, Some, None, List, [], ◌∷◌, ◌++◌, length, not, refl, sym, ap, subst, ◌∙◌, arith, length-append, append-nil, append_assoc, ⊎_elim}
 use Rattle.std.specs.Prelude.{filter, ◌==◌, nat_lt, nat_le, slice_get, is_some, is_none, unwrap_or, if◌then◌else◌, IfSome}
 use Rattle.std.specs.List.{All, find}
-use Rattle.std.specs.Option.{option_map, option_and_then}
+use Rattle.std.specs.Option.{option_map, option_map_or, option_and_then}
 use Rattle.std.specs.Str.{bytes_eq}
 use Rattle.std.proofs.lemmas.Bool.Decides.{nat_tests}
 use Rattle.std.proofs.lemmas.List.{map-append, length-map}
@@ -20,8 +20,8 @@ use Rattle.docket_command.specs.declared.command.Action.{Action}
 use Rattle.docket_command.specs.declared.command.Action.TheVariants as action
 use Rattle.docket_command.specs.declared.command.Command.{Command}
 use Rattle.docket_command.specs.declared.refusal.Reply.{Reply}
-use Rattle.docket_history.specs.Actions.{asks_calendar, asks_next_row, if_asked, case_named, deadline_named, local_rule_named, rows_asked, row_withdrawn, deadlines_made, acts_made}
-use Rattle.docket_history.specs.CalendarItems.{IsEnteredItem, calendar_of}
+use Rattle.docket_history.specs.Actions.{case_work, is_timed, asks_calendar, asks_next_row, if_asked, case_named, deadline_named, local_rule_named, rows_asked, row_withdrawn, deadlines_made, acts_made}
+use Rattle.docket_history.specs.CalendarItems.{IsEnteredItem, calendar_of, fresh}
 use Rattle.docket_decisions.specs.Decisions.{IsSoundView}
 use Rattle.docket_history.specs.Histories.{History, items_of, numbered, without_row, standing_rows, next_row, rows_added, case_rows, party_rows, entry_rows, deadline_rows, act_rows, parties_of_case, entries_of_case, deadlines_of_case, acts_of_deadline, deadlines, deadlines_from, new_case, new_party, new_entry, new_deadlines, deadline_rows_from, first_acts, later_acts, act_rows_on, case_number, deadline_number, local_rule_rows, new_local_rule, local_rule_in, rule_found}
 use Rattle.docket_history.specs.Limits.{IsWithinLimits}
@@ -42,12 +42,12 @@ use Rattle.docket_history.specs.declared.view.CaseView.{CaseView}
 use Rattle.docket_history.specs.declared.view.DeadlineView.{DeadlineView}
 use Rattle.docket_history.specs.declared.view.View.{View}
 use Rattle.docket_decisions.proofs.ActsKept.{AreSound, IsKept, with_firsts, with_later, no_fewer, firsts_other}
-use Rattle.docket_history.proofs.Asked.{asked_where_made}
+use Rattle.docket_history.proofs.Asked.{no_rows, added_same, asked_where_made, none_made, none_acted, none_acted_in}
 use Rattle.docket_decisions.proofs.FirstActs.{IsLawfulRule, made_first}
 use Rattle.docket_decisions.proofs.LaterActs.{IsNext, IsNextOf, next_sound, may_follow}
 use Rattle.docket_decisions.proofs.GoodValues.{all_good, not_false, or_off, asked_entered, fresh_entered, numbered_entered}
-use Rattle.docket_decisions.proofs.Leading.{is_accepted, made_found, seen, seen_of, none_made, none_acted, none_acted_in, deadline_seen, length-deadlines_from, length-numbered}
-use Rattle.docket_decisions.proofs.Passed.{is_free, rows_fit, deadlines_fit, not_above, not_at, one_of_all}
+use Rattle.docket_decisions.proofs.Leading.{is_accepted, made_found, seen, seen_of, deadline_seen, length-deadlines_from, length-numbered}
+use Rattle.docket_decisions.proofs.Passed.{is_free, rows_fit, calendar_room, deadlines_fit, not_above, not_at, one_of_all}
 
 -- the deadline that is named is there, with these acts
 module _ (h : History) (k n : ℕ) (there : is_none (deadline_at (deadlines k h) n) ≡ false) where
@@ -321,20 +321,29 @@ room_in : (v : View) (added : ℕ) → is_calendar_full v added ≡ false → le
 room_in v added e = not_above 4000 (length v.calendar + added) (or_off (nat_lt 4000 (length v.calendar + added)) (nat_lt 4_294_967_296 (v.next_row + added)) e).0
 
 rows_step : (court : CourtSettings) (h : History) (a : Action) → IsPassed court h a → length (standing_rows h) ≤ 4000 → length (standing_rows h) + length (rows_added (items_of (standing_rows h)) a) ≤ 4000
-rows_step court h (action.DeclareDay p) is few = omega (arith, length-map (standing_rows h) (λ (row : CalendarRow). row.item), room_in (shown_fresh h (action.DeclareDay p)) (count_added (shown_fresh h (action.DeclareDay p)) (action.DeclareDay p)) is.room)
-rows_step court h (action.CloseDay p) is few = omega (arith, length-map (standing_rows h) (λ (row : CalendarRow). row.item), room_in (shown_fresh h (action.CloseDay p)) (count_added (shown_fresh h (action.CloseDay p)) (action.CloseDay p)) is.room)
-rows_step court h (action.CloseSpan p) is few = omega (arith, length-map (standing_rows h) (λ (row : CalendarRow). row.item), room_in (shown_fresh h (action.CloseSpan p)) (count_added (shown_fresh h (action.CloseSpan p)) (action.CloseSpan p)) is.room)
-rows_step court h (action.ShortDay p) is few = omega (arith, length-map (standing_rows h) (λ (row : CalendarRow). row.item), room_in (shown_fresh h (action.ShortDay p)) (count_added (shown_fresh h (action.ShortDay p)) (action.ShortDay p)) is.room)
-rows_step court h (action.ImportCalendar p) is few = omega (arith, length-map (standing_rows h) (λ (row : CalendarRow). row.item), room_in (shown_fresh h (action.ImportCalendar p)) (count_added (shown_fresh h (action.ImportCalendar p)) (action.ImportCalendar p)) is.room)
-rows_step court h _ is few = omega arith
+rows_step court h a is few = at (asks_next_row a) refl
+  where
+    at : (asked : Bool) → asks_next_row a ≡ asked → length (standing_rows h) + length (rows_added (items_of (standing_rows h)) a) ≤ 4000
+    at true e =
+        let items = items_of (standing_rows h) in
+        let shown : (shown_fresh h a).calendar ≡ items = ap (λ asked. if asked || option_map_or is_timed (case_work a) false then items else []) e in
+        omega (
+          arith,
+          room_in (shown_fresh h a) (count_added (shown_fresh h a) a) (calendar_room (shown_fresh h a) a is.room e),
+          ap length shown,
+          ap length (added_same items a),
+          length-map (standing_rows h) (λ (row : CalendarRow). row.item),
+        )
+    at false e = let none : length (rows_added (items_of (standing_rows h)) a) ≡ 0 = ap (λ asked. length (fresh (items_of (standing_rows h)) asked)) (no_rows a e) in omega (arith, none)
 
 next_step : (court : CourtSettings) (h : History) (a : Action) → IsPassed court h a → next_row h ≤ 4_294_967_296 → next_row h + length (rows_added (items_of (standing_rows h)) a) ≤ 4_294_967_296
-next_step court h (action.DeclareDay p) is was = rows_fit (shown_fresh h (action.DeclareDay p)) (action.DeclareDay p) is.room was
-next_step court h (action.CloseDay p) is was = rows_fit (shown_fresh h (action.CloseDay p)) (action.CloseDay p) is.room was
-next_step court h (action.CloseSpan p) is was = rows_fit (shown_fresh h (action.CloseSpan p)) (action.CloseSpan p) is.room was
-next_step court h (action.ShortDay p) is was = rows_fit (shown_fresh h (action.ShortDay p)) (action.ShortDay p) is.room was
-next_step court h (action.ImportCalendar p) is was = rows_fit (shown_fresh h (action.ImportCalendar p)) (action.ImportCalendar p) is.room was
-next_step court h _ is was = omega arith
+next_step court h a is was = at (asks_next_row a) refl
+  where
+    at : (asked : Bool) → asks_next_row a ≡ asked → next_row h + length (rows_added (items_of (standing_rows h)) a) ≤ 4_294_967_296
+    at true e =
+        let shown : (shown_fresh h a).next_row ≡ next_row h = ap (λ asked. if_asked asked (next_row h)) e in
+        omega (arith, rows_fit (shown_fresh h a) a is.room (omega (arith, shown, was)), shown, ap length (added_same (items_of (standing_rows h)) a))
+    at false e = let none : length (rows_added (items_of (standing_rows h)) a) ≡ 0 = ap (λ asked. length (fresh (items_of (standing_rows h)) asked)) (no_rows a e) in omega (arith, none, was)
 
 fewer : (w : Option ℕ) (rows : List CalendarRow) → length (without_row w rows) ≤ length rows
 fewer None rows = omega arith

@@ -16,7 +16,8 @@ use Rattle.docket_command.specs.declared.command.Action.{Action}
 use Rattle.docket_command.specs.declared.command.Command.{Command}
 use Rattle.docket_command.specs.declared.refusal.Reply.{Reply}
 use Rattle.docket_command.specs.declared.command.Action.TheVariants.{RuleMotion, Dispose, StatementServed, Extend, Satisfy, Vacate}
-use Rattle.docket_history.specs.Actions.{deadline_named, deadlines_made, acts_made, extension}
+use Rattle.docket_history.specs.Actions.{deadline_named, deadlines_made, acts_made}
+use Rattle.docket_history.specs.DeadlinesMade.{extension}
 use Rattle.docket_decisions.specs.EndMoves.{moves_by_act, end_moves}
 use Rattle.docket_decisions.specs.EndRows.{end_row, row_of_deadline, end_rows, end_running, is_of, all_changed_ends, end_changes}
 use Rattle.docket_history.specs.Histories.{History, deadline_rows, act_rows, deadlines, deadlines_of_case, acts_of_deadline, deadline_rows_from, first_acts_from, act_rows_on, case_number, deadline_number, rule_found}
@@ -35,7 +36,8 @@ use Rattle.docket_history.specs.declared.row.DeadlineRow.{DeadlineRow}
 use Rattle.docket_decisions.proofs.AddedActs.{acts_both, one_act, both_same, turned, no_second, IsEarlier, is_earlier, no_firsts, no_later, its_later, named_before, acts_added, acts_are}
 use Rattle.docket_decisions.proofs.EndChanges.{all_changed_ends-append}
 use Rattle.docket_decisions.proofs.OneDeadline.{AreOthers, one_changed, AreNot, IsOnce, both_append, front_of, back_of, is_deadline, deadline_once, IsWithin, all_within}
-use Rattle.docket_decisions.proofs.Leading.{none_acted, seen}
+use Rattle.docket_history.proofs.Asked.{none_acted}
+use Rattle.docket_decisions.proofs.Leading.{seen}
 use Rattle.docket_decisions.proofs.LimitsKept.{IsPassed, passed, there_is, named_there, acts_are as acts_shown, all_kept}
 
 -- the rows of deadlines

@@ -1,6 +1,7 @@
 -- Where no refusal applies, no refusal's sentence is true; and what follows from it.
 use Rattle.std.proofs.Common.{◌≡◌, ◌≢◌, ℕ, ◌+◌, ◌≤◌, ◌<◌, Bool, true, false, ◌||◌, Option, Some, None, List, [], ◌∷◌, length, refl, subst, arith}
-use Rattle.std.specs.Prelude.{nat_lt, nat_le, slice_get, ◌&&◌, IfSome}
+use Rattle.std.specs.Prelude.{nat_lt, nat_le, slice_get, is_some, ◌&&◌, if◌then◌else◌, IfSome}
+use Rattle.std.specs.Option.{option_map_or}
 use Rattle.std.specs.List.{All, list_all}
 use Rattle.std.proofs.lemmas.Bool.Decides.{nat_tests}
 use Rattle.std.proofs.lemmas.List.Elements.{All-get_or}
@@ -10,15 +11,16 @@ use Rattle.court_rules.specs.Acts.{acts_ok, is_within}
 use Rattle.court_rules.specs.Standings.{AreActs}
 use Rattle.court_rules.specs.declared.act.Act.{Act}
 use Rattle.docket_command.specs.declared.command.Action.{Action}
-use Rattle.docket_command.specs.declared.command.Action.TheVariants as action
 use Rattle.docket_command.specs.declared.command.Command.{Command}
 use Rattle.docket_command.specs.declared.field.Field.{Field}
 use Rattle.docket_command.specs.declared.refusal.Refusal.{Refusal}
-use Rattle.docket_history.specs.Actions.{deadlines_made}
+use Rattle.docket_history.specs.Actions.{CalendarWork, enters, imports, shortens, withdraws, Work, on_calendar, opens, enters_rule, in_case, FoundRule, work, calendar_in, case_in, rows_of_work, made_by, may_enter, deadlines_made, asks_next_row}
+use Rattle.docket_history.specs.CalendarItems.{fresh}
 use Rattle.docket_decisions.specs.Decisions.{IsSoundView}
-use Rattle.docket_decisions.specs.Refusals.{on, on_value, first_some, refusals, refusal_of, lacks_case, lacks_deadline, lacks_local_rule, is_there, is_not_open, is_not_awaiting, is_full, has_too_many_acts, count_added}
+use Rattle.docket_decisions.specs.Refusals.{on, on_value, first_some, refusals, refusal_of, lacks_case, lacks_deadline, lacks_local_rule, exists_already, is_not_open, is_not_awaiting, is_full_by, is_full, is_calendar_full, has_too_many_acts, count_added}
 use Rattle.docket_values.specs.Values.{first_bad, bad_values}
 use Rattle.docket_history.specs.Views.{count_deadlines, deadline_shown, acts_in}
+use Rattle.docket_history.specs.declared.row.NewDeadline.{NewDeadline}
 use Rattle.docket_history.specs.declared.view.DeadlineView.{DeadlineView}
 use Rattle.docket_history.specs.declared.view.View.{View}
 
@@ -45,7 +47,7 @@ pub record IsFree (court : CourtSettings) (v : View) (c : Command) : Type 0 wher
   pub case : lacks_case v c.action ≡ false
   pub deadline : lacks_deadline v c.action ≡ false
   pub rule : lacks_local_rule v c.action ≡ false
-  pub new : is_there v c.action ≡ false
+  pub new : exists_already v c.action ≡ false
   pub opened : is_not_open court v c.action ≡ false
   pub awaited : is_not_awaiting court v c.action ≡ false
   pub room : is_full v c.action ≡ false
@@ -76,31 +78,48 @@ not_at m n e = grind (arith, nat_tests)
 
 -- the numbers of new calendar rows fit
 pub rows_fit : (v : View) (a : Action) → is_full v a ≡ false → v.next_row ≤ 4_294_967_296 → v.next_row + count_added v a ≤ 4_294_967_296
-rows_fit v (action.DeclareDay a) e was = not_above _ _ (or_right_off _ _ e)
-rows_fit v (action.CloseDay a) e was = not_above _ _ (or_right_off _ _ e)
-rows_fit v (action.CloseSpan a) e was = not_above _ _ (or_right_off _ _ e)
-rows_fit v (action.ShortDay a) e was = not_above _ _ (or_right_off _ _ e)
-rows_fit v (action.ImportCalendar a) e was = not_above _ _ (or_right_off _ _ e)
-rows_fit v _ e was = omega arith
+rows_fit v a e was = at (work a) e
+  where
+    at : (w : Work) → is_full_by v a w ≡ false → v.next_row + length (fresh v.calendar (option_map_or rows_of_work (calendar_in w) [])) ≤ 4_294_967_296
+    at (on_calendar (enters row)) e = not_above _ _ (or_right_off _ _ e)
+    at (on_calendar (imports rows)) e = not_above _ _ (or_right_off _ _ e)
+    at (on_calendar (shortens short)) e = not_above _ _ (or_right_off _ _ e)
+    at (on_calendar (withdraws number)) e = omega arith
+    at (opens case) e = omega arith
+    at (enters_rule rule) e = omega arith
+    at (in_case work) e = omega arith
+
+-- where rows may be added, there is room for them
+pub calendar_room : (v : View) (a : Action) → is_full v a ≡ false → asks_next_row a ≡ true → is_calendar_full v (count_added v a) ≡ false
+calendar_room v a e asked = at (work a) e asked
+  where
+    by_work : (work : CalendarWork) → (may_enter work && is_calendar_full v (length (fresh v.calendar (rows_of_work work)))) ≡ false → may_enter work ≡ true → is_calendar_full v (length (fresh v.calendar (rows_of_work work))) ≡ false
+    by_work (enters row) e asked = e
+    by_work (imports rows) e asked = e
+    by_work (shortens short) e asked = e
+    by_work (withdraws number) e asked = absurd (let no = asked in cc)
+
+    at : (w : Work) → is_full_by v a w ≡ false → option_map_or may_enter (calendar_in w) false ≡ true → is_calendar_full v (length (fresh v.calendar (option_map_or rows_of_work (calendar_in w) []))) ≡ false
+    at (on_calendar work) e asked = by_work work e asked
+    at (opens case) e asked = absurd (let no = asked in cc)
+    at (enters_rule rule) e asked = absurd (let no = asked in cc)
+    at (in_case work) e asked = absurd (let no = asked in cc)
 
 -- so do those of new deadlines
 pub deadlines_fit : (v : View) (a : Action) → is_full v a ≡ false → deadlines_made v.local a ≢ [] → count_deadlines v.case + length (deadlines_made v.local a) ≤ 1000
-deadlines_fit v (action.DeclareDay a) e some = absurd (some refl)
-deadlines_fit v (action.CloseDay a) e some = absurd (some refl)
-deadlines_fit v (action.CloseSpan a) e some = absurd (some refl)
-deadlines_fit v (action.ShortDay a) e some = absurd (some refl)
-deadlines_fit v (action.WithdrawCalendar a) e some = absurd (some refl)
-deadlines_fit v (action.ImportCalendar a) e some = absurd (some refl)
-deadlines_fit v (action.OpenCase a) e some = absurd (some refl)
-deadlines_fit v (action.AddParty a) e some = absurd (some refl)
-deadlines_fit v (action.FileEntry a) e some = absurd (some refl)
-deadlines_fit v (action.RuleMotion a) e some = absurd (some refl)
-deadlines_fit v (action.StatementServed a) e some = absurd (some refl)
-deadlines_fit v (action.Extend a) e some = absurd (some refl)
-deadlines_fit v (action.Satisfy a) e some = absurd (some refl)
-deadlines_fit v (action.Vacate a) e some = absurd (some refl)
-deadlines_fit v (action.LocalRule a) e some = absurd (some refl)
-deadlines_fit v a e some = not_above _ _ (or_right_off (has_too_many_acts v a) _ e)
+deadlines_fit v a e some = at (work a) e some
+  where
+    by_made : (rest : Bool) (o : Option (FoundRule → List NewDeadline))
+        → (if is_some o then has_too_many_acts v a || nat_lt 1000 (count_deadlines v.case + length (option_map_or (λ make. make v.local) o [])) else rest) ≡ false
+        → option_map_or (λ make. make v.local) o [] ≢ [] → count_deadlines v.case + length (option_map_or (λ make. make v.local) o []) ≤ 1000
+    by_made rest None e some = absurd (some refl)
+    by_made rest (Some make) e some = not_above _ _ (or_right_off (has_too_many_acts v a) _ e)
+
+    at : (w : Work) → is_full_by v a w ≡ false → option_map_or (made_by v.local) (case_in w) [] ≢ [] → count_deadlines v.case + length (option_map_or (made_by v.local) (case_in w) []) ≤ 1000
+    at (on_calendar work) e some = absurd (some refl)
+    at (opens case) e some = absurd (some refl)
+    at (enters_rule rule) e some = absurd (some refl)
+    at (in_case work) e some = by_made _ work.deadlines e some
 
 -- what holds of all elements holds of one
 pub one_of_all : {X : Type 0} (P : X → Type 0) (xs : List X) (i : ℕ) (x : X) → All P xs → slice_get xs i ≡ Some x → P x

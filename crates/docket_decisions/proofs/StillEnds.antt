@@ -1,20 +1,22 @@
 -- Which ends stay where they are: those of a history after a command that makes no deadline and no act, and enters or withdraws no day
 -- and no span.
-use Rattle.std.proofs.Common.{◌≡◌, ◌∙◌, ◌⊎◌, inl, inr, ◌+◌, ℕ, Bool, true, false, cond, List, [], ◌∷◌, ◌++◌, length, None, refl, sym, ap, ap₂, append-nil}
+use Rattle.std.proofs.Common.{◌≡◌, ◌∙◌, ◌⊎◌, inl, inr, ◌+◌, ◌||◌, ℕ, Bool, true, false, cond, Option, Some, List, [], ◌∷◌, ◌++◌, length, None, refl, sym, ap, ap₂, append-nil}
 use Rattle.std.specs.List.{flat_map}
+use Rattle.std.specs.Option.{option_and_then, option_map_or}
+use Rattle.std.specs.Prelude.{is_some}
 use Rattle.std.proofs.lemmas.List.{map-append}
 use Rattle.civil_time.specs.Zone.{ZoneRules}
 use Rattle.court_days.specs.Court.{CourtSettings, zone_of}
 use Rattle.court_rules.specs.Standings.{standing}
 use Rattle.court_rules.specs.declared.act.Act.{Act}
 use Rattle.docket_command.specs.declared.command.Action.{Action}
-use Rattle.docket_command.specs.declared.command.Action.TheVariants.{DeclareDay, CloseDay, CloseSpan, ShortDay, WithdrawCalendar, ImportCalendar, OpenCase, AddParty, FileEntry, LocalRule}
 use Rattle.docket_command.specs.declared.command.Command.{Command}
-use Rattle.docket_history.specs.Actions.{FoundRule, row_withdrawn, rows_asked, deadlines_made, acts_made, asks_calendar, changes_calendar, moves_all_cases}
+use Rattle.docket_history.specs.Actions.{CalendarWork, enters, imports, shortens, withdraws, DeadlineWork, Work, on_calendar, opens, enters_rule, in_case, work, calendar_in, calendar_work, case_in, made_by, rows_of_work, withdrawn_by, may_move, may_enter, is_timed, FoundRule, row_withdrawn, rows_asked, deadlines_made, acts_made, asks_calendar, changes_calendar, moves_all_cases}
 use Rattle.docket_history.specs.CalendarItems.{fresh, stands_among, calendar_of}
 use Rattle.docket_history.specs.Histories.{History, standing_rows, next_row, items_of, numbered, without_row, case_number, deadline_rows, deadlines_of_case, deadline_rows_from, act_rows, acts_of_deadline, first_acts_from, act_rows_on, deadline_number, rule_found}
 use Rattle.docket_history.specs.declared.item.CalendarItem.TheVariants.{Short}
 use Rattle.docket_history.specs.declared.row.CalendarRow.{CalendarRow}
+use Rattle.docket_history.specs.declared.row.NewDeadline.{NewDeadline}
 use Rattle.docket_history.proofs.ShortDays.{standing-short}
 use Rattle.docket_decisions.specs.EndRows.{end_row, end_rows, end_running, row_of_deadline}
 use Rattle.docket_decisions.specs.Tables.{rows_of}
@@ -23,37 +25,46 @@ use Rattle.docket_decisions.specs.Tables.{rows_of}
 abbrev pub MakesNothing : Action → Type 0
 MakesNothing a = ((found : FoundRule) → deadlines_made found a ≡ []) × (acts_made a ≡ [])
 
+-- the same of its work
+abbrev WorksNothing : Work → Type 0
+WorksNothing w =
+    ((found : FoundRule) → option_map_or (made_by found) (case_in w) [] ≡ [])
+    × (option_map_or (λ work. work.acts) (option_and_then (λ work. work.acting) (case_in w)) [] ≡ [])
+
 -- so do those by which ends of any case may move
 pub makes_nothing : (a : Action) → moves_all_cases a ≡ true → MakesNothing a
-makes_nothing (DeclareDay a) e = (λ found. refl, refl)
-makes_nothing (CloseDay a) e = (λ found. refl, refl)
-makes_nothing (CloseSpan a) e = (λ found. refl, refl)
-makes_nothing (WithdrawCalendar a) e = (λ found. refl, refl)
-makes_nothing (ImportCalendar a) e = (λ found. refl, refl)
-makes_nothing _ e = absurd (let no = e in cc)
+makes_nothing a e = at (work a) e
+  where
+    at : (w : Work) → option_map_or may_move (calendar_in w) false ≡ true → WorksNothing w
+    at (on_calendar work) e = (λ found. refl, refl)
+    at (opens case) e = absurd (let no = e in cc)
+    at (enters_rule rule) e = absurd (let no = e in cc)
+    at (in_case work) e = absurd (let no = e in cc)
 
 -- every other makes nothing, or asks about the calendar and leaves it as it is
 pub nothing_or_asked : (a : Action) → moves_all_cases a ≡ false → MakesNothing a ⊎ ((asks_calendar a ≡ true) × (changes_calendar a ≡ false))
-nothing_or_asked (DeclareDay a) e = absurd (let no = e in cc)
-nothing_or_asked (CloseDay a) e = absurd (let no = e in cc)
-nothing_or_asked (CloseSpan a) e = absurd (let no = e in cc)
-nothing_or_asked (WithdrawCalendar a) e = absurd (let no = e in cc)
-nothing_or_asked (ImportCalendar a) e = absurd (let no = e in cc)
-nothing_or_asked (ShortDay a) e = inl (λ found. refl, refl)
-nothing_or_asked (OpenCase a) e = inl (λ found. refl, refl)
-nothing_or_asked (AddParty a) e = inl (λ found. refl, refl)
-nothing_or_asked (FileEntry a) e = inl (λ found. refl, refl)
-nothing_or_asked (LocalRule a) e = inl (λ found. refl, refl)
-nothing_or_asked _ e = inr (refl, refl)
+nothing_or_asked a e = at (work a)
+  where
+    by_parts : (made : Option (FoundRule → List NewDeadline)) (acting : Option DeadlineWork)
+        → (((found : FoundRule) → option_map_or (λ make. make found) made [] ≡ []) × (option_map_or (λ work. work.acts) acting [] ≡ []))
+        ⊎ (((is_some acting || is_some made) ≡ true) × (false ≡ false))
+    by_parts None None = inl (λ found. refl, refl)
+    by_parts None (Some acting) = inr (refl, refl)
+    by_parts (Some make) None = inr (refl, refl)
+    by_parts (Some make) (Some acting) = inr (refl, refl)
+
+    at : (w : Work) → WorksNothing w ⊎ (((option_map_or may_enter (calendar_in w) false || option_map_or is_timed (case_in w) false) ≡ true) × (is_some (calendar_in w) ≡ false))
+    at (on_calendar work) = inl (λ found. refl, refl)
+    at (opens case) = inl (λ found. refl, refl)
+    at (enters_rule rule) = inl (λ found. refl, refl)
+    at (in_case work) = by_parts work.deadlines work.acting
 
 quiet : (a : Action) → changes_calendar a ≡ false → (row_withdrawn a ≡ None) × (rows_asked a ≡ [])
-quiet (DeclareDay a) e = absurd (let no = e in cc)
-quiet (CloseDay a) e = absurd (let no = e in cc)
-quiet (CloseSpan a) e = absurd (let no = e in cc)
-quiet (ShortDay a) e = absurd (let no = e in cc)
-quiet (WithdrawCalendar a) e = absurd (let no = e in cc)
-quiet (ImportCalendar a) e = absurd (let no = e in cc)
-quiet _ e = (refl, refl)
+quiet a e = at (calendar_work a) e
+  where
+    at : (o : Option CalendarWork) → is_some o ≡ false → (option_and_then withdrawn_by o ≡ None) × (option_map_or rows_of_work o [] ≡ [])
+    at None e = (refl, refl)
+    at (Some work) e = absurd (let no = e in cc)
 
 pub calendar_kept : (h : History) (c : Command) → changes_calendar c.action ≡ false → items_of (standing_rows (c ∷ h)) ≡ items_of (standing_rows h)
 calendar_kept h c e =
@@ -79,13 +90,16 @@ with_short_row zone rows number day close name acts = at (stands_among (items_of
 standings_after : (a : Action) → moves_all_cases a ≡ false → (zone : ZoneRules) (rows : List CalendarRow) (number : ℕ) (acts : List Act)
     → standing zone (calendar_of (items_of (without_row (row_withdrawn a) rows ++ numbered number (fresh (items_of rows) (rows_asked a))))) acts
     ≡ standing zone (calendar_of (items_of rows)) acts
-standings_after (DeclareDay a) e zone rows number acts = absurd (let no = e in cc)
-standings_after (CloseDay a) e zone rows number acts = absurd (let no = e in cc)
-standings_after (CloseSpan a) e zone rows number acts = absurd (let no = e in cc)
-standings_after (WithdrawCalendar a) e zone rows number acts = absurd (let no = e in cc)
-standings_after (ImportCalendar a) e zone rows number acts = absurd (let no = e in cc)
-standings_after (ShortDay a) e zone rows number acts = with_short_row zone rows number a.day a.close a.name acts
-standings_after _ e zone rows number acts = ap (λ kept. standing zone (calendar_of (items_of kept)) acts) (append-nil rows)
+standings_after a e zone rows number acts = at (calendar_work a) e
+  where
+    at : (o : Option CalendarWork) → option_map_or may_move o false ≡ false
+        → standing zone (calendar_of (items_of (without_row (option_and_then withdrawn_by o) rows ++ numbered number (fresh (items_of rows) (option_map_or rows_of_work o []))))) acts
+        ≡ standing zone (calendar_of (items_of rows)) acts
+    at None e = ap (λ kept. standing zone (calendar_of (items_of kept)) acts) (append-nil rows)
+    at (Some (shortens short)) e = with_short_row zone rows number short.day short.close short.name acts
+    at (Some (enters row)) e = absurd (let no = e in cc)
+    at (Some (imports added)) e = absurd (let no = e in cc)
+    at (Some (withdraws gone)) e = absurd (let no = e in cc)
 
 standings_kept : (h : History) (c : Command) → moves_all_cases c.action ≡ false → (zone : ZoneRules) (acts : List Act)
     → standing zone (calendar_of (items_of (standing_rows (c ∷ h)))) acts ≡ standing zone (calendar_of (items_of (standing_rows h))) acts

@@ -2,15 +2,15 @@
 use Rattle.std.specs.Prelude.{◌≡◌, ℕ, ◌+◌, ◌==◌, Bool, false, ◌&&◌, if◌then◌else◌, List, [], ◌∷◌, ◌++◌, length, nat_le, Option, Some, None}
 use Rattle.std.specs.List.{list_any, find}
 use Rattle.std.specs.Str.{bytes_eq}
-use Rattle.std.specs.Option.{option_and_then}
+use Rattle.std.specs.Option.{option_and_then, option_map_or}
 use Rattle.court_days.specs.Court.{CourtSettings}
 use Rattle.docket_command.specs.Sameness.{is_same_command}
 use Rattle.docket_command.specs.declared.command.Command.{Command}
 use Rattle.docket_command.specs.declared.command.Action.{Action}
-use Rattle.docket_command.specs.declared.command.Action.TheVariants.{DeclareDay, CloseDay, CloseSpan, ShortDay, WithdrawCalendar, ImportCalendar, OpenCase, AddParty, FileEntry, RuleMotion, Dispose, StatementServed, Extend, Satisfy, Vacate, LocalRule}
+use Rattle.docket_command.specs.declared.command.Action.TheVariants.{DeclareDay, CloseDay, CloseSpan, ShortDay, WithdrawCalendar, ImportCalendar, OpenCase, AddParty, FileEntry, ServeSummons, FileWaiver, ServePleading, OrderReply, RuleMotion, Dispose, StatementServed, NoticeHearing, OrderPeriod, EnterJudgment, Extend, Satisfy, Vacate, LocalRule, LocalPeriod}
 use Rattle.docket_command.specs.declared.refusal.Refusal.{Refusal}
 use Rattle.docket_command.specs.declared.refusal.Reply.{Reply}
-use Rattle.docket_history.specs.Actions.{case_named, asks_calendar, asks_cases, asks_next_row, asks_local_rules, if_asked}
+use Rattle.docket_history.specs.Actions.{opened, case_named, row_withdrawn, asks_calendar, asks_cases, asks_next_row, asks_local_rules, if_asked}
 use Rattle.docket_history.specs.CalendarItems.{calendar_of}
 use Rattle.docket_history.specs.Histories.{History, standing_rows, items_of, next_row, case_rows, party_rows, parties_of_case, entry_rows, entries_of_case, deadlines, local_rule_rows, local_rule_in}
 use Rattle.docket_decisions.specs.Refusals.{refusal_of, count_added, wants_statement}
@@ -26,13 +26,11 @@ use Rattle.docket_history.specs.declared.view.CaseView.{CaseView}
 
 -- the label of a new case is in use
 abbrev pub is_label_taken : Action → List CaseRow → Bool
-is_label_taken (OpenCase a) rows = list_any (λ row. bytes_eq row.label a.label) rows
-is_label_taken _ rows = false
+is_label_taken a rows = option_map_or (λ case. list_any (λ row. bytes_eq row.label case.label) rows) (opened a) false
 
 -- the row that is to be withdrawn stands
 abbrev pub is_row_standing : Action → List CalendarRow → Bool
-is_row_standing (WithdrawCalendar a) rows = list_any (λ row. row.number == a.row) rows
-is_row_standing _ rows = false
+is_row_standing a rows = option_map_or (λ number. list_any (λ row. row.number == number) rows) (row_withdrawn a) false
 
 -- the case of a number, if there is one, as it is shown about an action
 abbrev pub case_of_number : History → Action → ℕ → Option CaseView
@@ -78,8 +76,15 @@ reply_to court v (Satisfy a) =
     if is_in_time court (calendar_of v.calendar) (standing_shown court v) a.at a.way then 1 else 0
 reply_to court v (Vacate a) = a.deadline
 reply_to court v (LocalRule a) = v.local_rules + 1
--- every other command makes deadlines: the reply is the number of the first
-reply_to court v _ = count_deadlines v.case + 1
+-- the number of the first deadline that the others make
+reply_to court v (ServeSummons a) = count_deadlines v.case + 1
+reply_to court v (FileWaiver a) = count_deadlines v.case + 1
+reply_to court v (ServePleading a) = count_deadlines v.case + 1
+reply_to court v (OrderReply a) = count_deadlines v.case + 1
+reply_to court v (NoticeHearing a) = count_deadlines v.case + 1
+reply_to court v (OrderPeriod a) = count_deadlines v.case + 1
+reply_to court v (EnterJudgment a) = count_deadlines v.case + 1
+reply_to court v (LocalPeriod a) = count_deadlines v.case + 1
 
 abbrev pub replied : ℕ → Reply
 replied n = record { number = n }

@@ -1,6 +1,7 @@
 //! The deadlines and the acts that an action makes.
 ghost use Rattle.std.specs.Prelude.{◌≡◌, ◌++◌, ◌∷◌, [], None, pos, max, IfOk, OnOk, option_to_list};
-ghost use Rattle.docket_history.specs.Actions.{begun_by, begun, timed, timed_or_set, answer_rule, later_of, answer_from, waiver_rule, pleading_rule, later_method, pleading_method, ordered_three, day_ordered, hours_ordered, ordered, court_ordered, after_judgment, judgment_times, statement_ordered, local_three, begun_locally, local_time, deadlines_made, ruled, extension, acts_made};
+ghost use Rattle.docket_history.specs.Actions.{deadlines_made, acts_made};
+ghost use Rattle.docket_history.specs.DeadlinesMade.{begun_by, begun, timed, timed_or_set, answer_rule, later_of, answer_from, waiver_rule, pleading_rule, later_method, pleading_method, ordered_three, day_ordered, hours_ordered, ordered, court_ordered, after_judgment, judgment_times, statement_ordered, local_three, begun_locally, local_time, ruled, extension};
 
 use court_days::{Day, Direction};
 use court_rules::{Act, DayPeriod, DeadlineRule, HourPeriod, Method, Period, Rule, Start};

@@ -5,7 +5,7 @@ ghost use Rattle.court_rules.specs.Standings.{StandsAfter};
 ghost use Rattle.docket_decisions.specs.Decisions.{UpdatesEndsBy, IsAnswer, IsChange, IsKeptReply, LeadsTo, IsSoundView, IsMatter, MovesEnds};
 ghost use Rattle.docket_history.specs.Histories.{History};
 ghost use Rattle.docket_decisions.specs.Outcomes.{IsHistory, reply_to, answer_of, shown, outcome};
-ghost use Rattle.docket_decisions.specs.Refusals.{is_there, is_full};
+ghost use Rattle.docket_decisions.specs.Refusals.{exists_already, is_full};
 ghost use Rattle.docket_decisions.specs.Tables.{action_changes};
 ghost use Rattle.docket_history.specs.Times.{standing_shown};
 
@@ -80,7 +80,7 @@ fn standing_shown(court: &Court, calendar: &Calendar, view: &View) -> Standing
 fn reply(matter: &Matter<'_>, view: &View, action: &Action) -> u32
     requires matter { IsMatter matter.now view.now action.now }
     requires rows { view.now.next_row ≤ 2 ^ 32 }
-    requires new { is_there view.now action.now ≡ false }
+    requires new { exists_already view.now action.now ≡ false }
     requires room { is_full view.now action.now ≡ false }
     ensures { result ≡ reply_to matter.now.court.now view.now action.now }
 {

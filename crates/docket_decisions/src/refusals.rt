@@ -7,7 +7,7 @@ ghost use Rattle.docket_history.specs.CalendarItems.{calendar_of};
 ghost use Rattle.docket_decisions.specs.Decisions.{IsMatter};
 ghost use Rattle.docket_history.specs.Times.{standing_shown, is_in_time};
 ghost use Rattle.docket_values.specs.Values.{first_bad, bad_values};
-ghost use Rattle.docket_decisions.specs.Refusals.{on, first_some, is_reused, is_there, is_running, is_suspended, is_awaiting, is_over, is_not_open, is_not_awaiting, is_responsive_rule, is_responsive_in, is_extendable_by, is_extendable_in, is_not_responsive, is_by_e, wants_statement, is_wrong_motion, is_past, is_after, is_served, is_short_waiver, is_late_waiver, may_not_extend, is_expired, is_not_later, has_too_many_acts, count_added, is_calendar_full, is_full, state_refusals, refusal_of};
+ghost use Rattle.docket_decisions.specs.Refusals.{on, first_some, is_reused, exists_already, is_running, is_suspended, is_awaiting, is_over, is_not_open, is_not_awaiting, is_responsive_rule, is_responsive_in, is_extendable_by, is_extendable_in, is_not_responsive, is_by_e, wants_statement, is_wrong_motion, is_after_last_day, is_late_motion, is_served, is_short_waiver, is_late_waiver, may_not_extend, is_expired, is_not_later, has_too_many_acts, count_added, is_calendar_full, is_full, state_refusals, refusal_of};
 ghost use Rattle.docket_history.specs.Views.{ViewOf, deadline_shown, last_act};
 
 use crate::lacking::{lacks_case, lacks_deadline, lacks_local_rule, lacks_party, lacks_row};
@@ -23,8 +23,8 @@ fn is_reused(kept: Kept) -> bool
     matches!(kept, Kept::Other)
 }
 
-fn is_there(view: &View, action: &Action) -> bool
-    ensures { result ≡ is_there view.now action.now }
+fn exists_already(view: &View, action: &Action) -> bool
+    ensures { result ≡ exists_already view.now action.now }
 {
     let standing = view.calendar.as_slice();
     match action {
@@ -177,9 +177,9 @@ fn last_day(court: &Court, end: End) -> Day
 }
 
 /// Whether the day is after the last day of a time that runs.
-fn is_past(court: &Court, standing: Standing, day: Day) -> bool
+fn is_after_last_day(court: &Court, standing: Standing, day: Day) -> bool
     requires { StandsAfter 100 standing }
-    ensures { result ≡ is_past court.now standing day }
+    ensures { result ≡ is_after_last_day court.now standing day }
 {
     match standing {
         Standing::Running(end) => last_day(court, end).epoch_day() < day.epoch_day(),
@@ -187,12 +187,12 @@ fn is_past(court: &Court, standing: Standing, day: Day) -> bool
     }
 }
 
-fn is_after(court: &Court, action: &Action, standing: Standing) -> bool
+fn is_late_motion(court: &Court, action: &Action, standing: Standing) -> bool
     requires { StandsAfter 100 standing }
-    ensures { (v : ViewOf) → standing ≡ standing_shown court.now v → result ≡ is_after court.now v action.now }
+    ensures { (v : ViewOf) → standing ≡ standing_shown court.now v → result ≡ is_late_motion court.now v action.now }
 {
     match action {
-        Action::RuleMotion(a) => is_past(court, standing, a.served),
+        Action::RuleMotion(a) => is_after_last_day(court, standing, a.served),
         _ => false,
     }
 }
@@ -264,7 +264,7 @@ fn is_not_later(court: &Court, action: &Action, standing: Standing) -> bool
 {
     match action {
         Action::Extend(a) => match a.until {
-            Some(day) => !is_past(court, standing, day),
+            Some(day) => !is_after_last_day(court, standing, day),
             None => false,
         },
         _ => false,
@@ -343,7 +343,7 @@ fn state_refusal(matter: &Matter<'_>, view: &View, action: &Action) -> Option<Re
         (lacks_deadline(view, action), Refusal::NoSuchDeadline),
         (lacks_row(view, action), Refusal::NoSuchCalendarRow),
         (lacks_local_rule(view, action), Refusal::NoSuchLocalRule),
-        (is_there(view, action), Refusal::Exists),
+        (exists_already(view, action), Refusal::Exists),
         (is_not_open(action, matter.standing), Refusal::NotOpen),
         (
             is_not_awaiting(action, matter.standing),
@@ -352,7 +352,7 @@ fn state_refusal(matter: &Matter<'_>, view: &View, action: &Action) -> Option<Re
         (is_not_responsive(view, action), Refusal::NotResponsive),
         (is_wrong_motion(view, action), Refusal::WrongMotion),
         (
-            is_after(court, action, matter.standing),
+            is_late_motion(court, action, matter.standing),
             Refusal::AfterDeadline,
         ),
         (view.is_served(), Refusal::AlreadyServed),

@@ -1,171 +1,35 @@
--- What each kind of command names and makes.
-use Rattle.std.specs.Prelude.{ℕ, zero, suc, Bool, true, false, if◌then◌else◌, List, [], ◌∷◌, map, Option, Some, None, unwrap_or, option_to_list, max, pos, nat_lt}
-use Rattle.std.specs.Option.{option_map}
+-- What each kind of command names, enters and makes, and what it asks about.
+use Rattle.std.specs.Prelude.{ℕ, zero, suc, Bool, true, false, ◌||◌, if◌then◌else◌, List, [], ◌∷◌, map, Option, Some, None, is_some, unwrap_or, option_to_list, pos}
+use Rattle.std.specs.Option.{option_and_then, option_map, option_map_or}
 use Rattle.court_days.specs.declared.calendar.DayKind.{DayKind}
 use Rattle.court_days.specs.declared.calendar.DayKind.TheVariants as kind
-use Rattle.court_days.specs.declared.calendar.Direction.{Direction}
-use Rattle.court_rules.specs.LocalRules.{local_adds_three}
-use Rattle.court_rules.specs.Rules.{period_of, direction_of, adds_three}
+use Rattle.court_rules.specs.Rules.{adds_three}
 use Rattle.court_rules.specs.declared.act.Act.{Act}
 use Rattle.court_rules.specs.declared.act.Act.TheVariants as act
-use Rattle.court_rules.specs.declared.act.Start.TheVariants.{Days, Hours}
-use Rattle.court_rules.specs.declared.deadline_rule.DeadlineRule.TheVariants.{Listed, Local}
-use Rattle.court_rules.specs.declared.local_rule.LocalRule as local_rule
-use Rattle.court_rules.specs.declared.method.Method.{Method}
-use Rattle.court_rules.specs.declared.method.Method.TheVariants as method
-use Rattle.court_rules.specs.declared.rule.Rule.{Rule}
-use Rattle.court_rules.specs.declared.rule.Rule.TheVariants.{AnswerToSummons, AnswerAfterWaiver, AnswerAfterWaiverAbroad, AnswerToCounterclaim, ReplyToAnswer, AnswerByUnitedStates, AnswerByOfficer, AnswerAfterStatement, MoreDefiniteStatement, MotionToStrike, MotionAndNotice, OpposingAffidavit, RenewedMotionForJudgment, LosingPartyNewTrial, AmendedFindings, NewTrial, NewTrialByCourt, AmendedJudgment, ReliefFromJudgment, Ordered}
-use Rattle.court_rules.specs.declared.table.Period.{Period}
-use Rattle.court_rules.specs.declared.table.Period.TheVariants as period
+use Rattle.court_rules.specs.declared.local_rule.LocalRule.{LocalRule}
+use Rattle.court_rules.specs.declared.rule.Rule.TheVariants.{ReplyToAnswer, AnswerAfterStatement}
 use Rattle.docket_command.specs.Conversions.{day_kind_of, method_of}
-use Rattle.docket_command.specs.declared.choice.Basis.{Basis}
-use Rattle.docket_command.specs.declared.choice.Basis.TheVariants.{Private, UnitedStates, Officer}
-use Rattle.docket_command.specs.declared.choice.PleadingKind.{PleadingKind}
-use Rattle.docket_command.specs.declared.choice.PleadingKind.TheVariants.{Unanswered}
-use Rattle.docket_command.specs.declared.choice.Ruling.{Ruling}
-use Rattle.docket_command.specs.declared.choice.Ruling.TheVariants.{Statement}
-use Rattle.docket_command.specs.declared.choice.PeriodUnit.{PeriodUnit}
-use Rattle.docket_command.specs.declared.choice.PeriodUnit.TheVariants as unit
-use Rattle.docket_command.specs.declared.choice.ServiceMethod.{ServiceMethod}
 use Rattle.docket_command.specs.declared.command.Action.{Action}
-use Rattle.docket_command.specs.declared.command.Action.TheVariants.{DeclareDay, CloseDay, CloseSpan, ShortDay, WithdrawCalendar, ImportCalendar, OpenCase, AddParty, FileEntry, ServeSummons, FileWaiver, ServePleading, OrderReply, RuleMotion, Dispose, StatementServed, NoticeHearing, OrderPeriod, EnterJudgment, Extend, Satisfy, Vacate, LocalRule, LocalPeriod}
-use Rattle.docket_command.specs.declared.local_action.LocalPeriod as local_period
+use Rattle.docket_command.specs.declared.command.Action.TheVariants as action
+use Rattle.docket_command.specs.declared.calendar_action.ShortDay.{ShortDay}
+use Rattle.docket_command.specs.declared.case_action.AddParty.{AddParty}
+use Rattle.docket_command.specs.declared.case_action.FileEntry.{FileEntry}
+use Rattle.docket_command.specs.declared.case_action.OpenCase.{OpenCase}
+use Rattle.docket_command.specs.declared.motion_action.Dispose.{Dispose}
+use Rattle.docket_command.specs.declared.motion_action.RuleMotion.{RuleMotion}
 use Rattle.docket_command.specs.declared.new_day.NewDay.{NewDay}
-use Rattle.docket_command.specs.declared.time_action.OrderPeriod as order_period
+use Rattle.docket_command.specs.declared.service_action.FileWaiver.{FileWaiver}
+use Rattle.docket_command.specs.declared.time_action.Extend.{Extend}
+use Rattle.docket_history.specs.DeadlinesMade.{timed_or_set, ordered, court_ordered, judgment_times, statement_ordered, local_time, summons_time, waiver_time, pleading_time, hearing_times, ruled, extension}
 use Rattle.docket_history.specs.declared.row.NewDeadline.{NewDeadline}
 use Rattle.docket_history.specs.declared.item.CalendarItem.TheVariants.{Day, Span, Short}
 use Rattle.docket_history.specs.declared.item.NewRow.{NewRow}
-
--- the case that an action names
-abbrev pub case_named : Action → Option ℕ
-case_named (AddParty a) = Some a.case
-case_named (FileEntry a) = Some a.case
-case_named (ServeSummons a) = Some a.case
-case_named (FileWaiver a) = Some a.case
-case_named (ServePleading a) = Some a.case
-case_named (OrderReply a) = Some a.case
-case_named (RuleMotion a) = Some a.case
-case_named (Dispose a) = Some a.case
-case_named (StatementServed a) = Some a.case
-case_named (NoticeHearing a) = Some a.case
-case_named (OrderPeriod a) = Some a.case
-case_named (EnterJudgment a) = Some a.case
-case_named (Extend a) = Some a.case
-case_named (Satisfy a) = Some a.case
-case_named (Vacate a) = Some a.case
-case_named (LocalPeriod a) = Some a.case
-case_named _ = None
+use Rattle.docket_history.specs.declared.subject.Subject.{Subject}
 
 -- every party is named by 0 where a period is ordered
 abbrev pub party_ordered : ℕ → List ℕ
 party_ordered zero = []
 party_ordered (suc n) = suc n ∷ []
-
--- the parties that it names
-abbrev pub parties_named : Action → List ℕ
-parties_named (ServeSummons a) = a.party ∷ []
-parties_named (FileWaiver a) = a.party ∷ []
-parties_named (ServePleading a) = a.party ∷ []
-parties_named (OrderReply a) = a.party ∷ []
-parties_named (Dispose a) = option_to_list a.party
-parties_named (NoticeHearing a) = a.party ∷ a.opponent ∷ []
-parties_named (OrderPeriod a) = party_ordered a.party
-parties_named (LocalPeriod a) = a.party ∷ []
-parties_named _ = []
-
--- the deadline that it names
-abbrev pub deadline_named : Action → Option ℕ
-deadline_named (RuleMotion a) = Some a.deadline
-deadline_named (Dispose a) = Some a.deadline
-deadline_named (StatementServed a) = Some a.deadline
-deadline_named (Extend a) = Some a.deadline
-deadline_named (Satisfy a) = Some a.deadline
-deadline_named (Vacate a) = Some a.deadline
-deadline_named _ = None
-
--- the calendar row that it withdraws
-abbrev pub row_withdrawn : Action → Option ℕ
-row_withdrawn (WithdrawCalendar a) = Some a.row
-row_withdrawn _ = None
-
--- the name of the local rule that it enters, or by which it sets a time
-abbrev pub local_rule_named : Action → Option (List ℕ)
-local_rule_named (LocalRule a) = Some a.name
-local_rule_named (LocalPeriod a) = Some a.rule
-local_rule_named _ = None
-
--- it enters or withdraws days or spans of the calendar, by which ends of any case may move; a short day moves none
-abbrev pub moves_all_cases : Action → Bool
-moves_all_cases (DeclareDay a) = true
-moves_all_cases (CloseDay a) = true
-moves_all_cases (CloseSpan a) = true
-moves_all_cases (WithdrawCalendar a) = true
-moves_all_cases (ImportCalendar a) = true
-moves_all_cases _ = false
-
--- it enters or withdraws rows of the calendar
-abbrev pub changes_calendar : Action → Bool
-changes_calendar (ShortDay a) = true
-changes_calendar a = moves_all_cases a
-
--- it asks about the calendar: what it enters may stand already, it is judged by the end of a time, or an end moves by what it makes
-abbrev pub asks_calendar : Action → Bool
-asks_calendar (WithdrawCalendar a) = false
-asks_calendar (OpenCase a) = false
-asks_calendar (AddParty a) = false
-asks_calendar (FileEntry a) = false
-asks_calendar (LocalRule a) = false
-asks_calendar _ = true
-
--- it asks how many cases there are: it opens one, or may move ends of any
-abbrev pub asks_cases : Action → Bool
-asks_cases (OpenCase a) = true
-asks_cases a = moves_all_cases a
-
--- it asks how many parties its case has: it adds one, or may name some
-abbrev pub asks_parties : Action → Bool
-asks_parties (AddParty a) = true
-asks_parties (ServeSummons a) = true
-asks_parties (FileWaiver a) = true
-asks_parties (ServePleading a) = true
-asks_parties (OrderReply a) = true
-asks_parties (Dispose a) = true
-asks_parties (NoticeHearing a) = true
-asks_parties (OrderPeriod a) = true
-asks_parties (LocalPeriod a) = true
-asks_parties _ = false
-
--- it asks how many entries its case has: it files one
-abbrev pub asks_entries : Action → Bool
-asks_entries (FileEntry a) = true
-asks_entries _ = false
-
--- it asks how many deadlines its case has: it may make some
-abbrev pub asks_deadlines : Action → Bool
-asks_deadlines (ServeSummons a) = true
-asks_deadlines (FileWaiver a) = true
-asks_deadlines (ServePleading a) = true
-asks_deadlines (OrderReply a) = true
-asks_deadlines (Dispose a) = true
-asks_deadlines (NoticeHearing a) = true
-asks_deadlines (OrderPeriod a) = true
-asks_deadlines (EnterJudgment a) = true
-asks_deadlines (LocalPeriod a) = true
-asks_deadlines _ = false
-
--- it asks for the number of the next calendar row: it may add some
-abbrev pub asks_next_row : Action → Bool
-asks_next_row (DeclareDay a) = true
-asks_next_row (CloseDay a) = true
-asks_next_row (CloseSpan a) = true
-asks_next_row (ShortDay a) = true
-asks_next_row (ImportCalendar a) = true
-asks_next_row _ = false
-
--- it asks how many local rules there are: it enters one
-abbrev pub asks_local_rules : Action → Bool
-asks_local_rules (LocalRule a) = true
-asks_local_rules _ = false
 
 -- a number that is told where it is asked for
 abbrev pub if_asked : Bool → ℕ → ℕ
@@ -178,181 +42,342 @@ day_row kind day name = record { item = Day kind day; name = name }
 abbrev pub imported : NewDay → NewRow
 imported new = day_row new.kind new.day new.name
 
--- the calendar rows that it asks for
-abbrev pub rows_asked : Action → List NewRow
-rows_asked (DeclareDay a) = day_row (day_kind_of a.kind) a.day a.name ∷ []
-rows_asked (CloseDay a) = day_row kind.Closed a.day a.name ∷ []
-rows_asked (CloseSpan a) = record { item = Span a.start a.end; name = [] } ∷ []
-rows_asked (ShortDay a) = record { item = Short a.day a.close; name = a.name } ∷ []
-rows_asked (ImportCalendar a) = map imported a.rows
-rows_asked _ = []
-
--- the first act of a deadline whose time runs from a day by its rule, for a party that was served by the method
-abbrev pub begun_by : Option Period → Option Direction → Bool → ℕ → Act
-begun_by (Some period) (Some direction) three day =
-    act.Start (Days (record { trigger = day; period = period; direction = direction; three_days = three }))
-begun_by _ _ three day = act.Fixed day
-
-abbrev pub begun : Rule → Method → ℕ → Act
-begun rule served_by day = begun_by (period_of rule) (direction_of rule) (adds_three rule served_by) day
-
--- a deadline of the party, by the rule, from the day
-abbrev pub timed : ℕ → Rule → Bool → Method → ℕ → NewDeadline
-timed party rule initial served_by day =
-    record { party = party; rule = Listed rule; initial = initial; first = begun rule served_by day }
-
--- the same, where the court sets no other day
-abbrev pub timed_or_set : ℕ → Rule → Method → ℕ → Option ℕ → NewDeadline
-timed_or_set party rule served_by day None = timed party rule false served_by day
-timed_or_set party rule served_by day (Some due) =
-    record { party = party; rule = Listed rule; initial = false; first = act.Fixed due }
-
--- the time of a defendant who was served: a private party (Fed. R. Civ. P. 12(a)(1)(A)(i)), the United States (12(a)(2)), or
--- its officer sued individually (12(a)(3))
-abbrev pub answer_rule : Basis → Rule
-answer_rule Private = AnswerToSummons
-answer_rule UnitedStates = AnswerByUnitedStates
-answer_rule Officer = AnswerByOfficer
-
--- the later of two days, where there is a second
-abbrev pub later_of : ℕ → Option ℕ → ℕ
-later_of day None = day
-later_of day (Some other) = max day other
-
--- the day from which it runs: for an officer the later of the services on the officer and on the United States attorney
-abbrev pub answer_from : Basis → ℕ → Option ℕ → ℕ
-answer_from Officer served attorney = later_of served attorney
-answer_from _ served attorney = served
-
--- the time of a defendant who waived service (12(a)(1)(A)(ii))
-abbrev pub waiver_rule : Bool → Rule
-waiver_rule false = AnswerAfterWaiver
-waiver_rule true = AnswerAfterWaiverAbroad
-
--- the time to answer a counterclaim or crossclaim (12(a)(1)(B)), also of the United States and of its officer; or to strike
--- a pleading that allows no response (12(f)(2))
-abbrev pub pleading_rule : PleadingKind → Basis → Rule
-pleading_rule Unanswered basis = MotionToStrike
-pleading_rule _ Private = AnswerToCounterclaim
-pleading_rule _ UnitedStates = AnswerByUnitedStates
-pleading_rule _ Officer = AnswerByOfficer
-
--- the method of the later service; where both were on one day, the officer's
-abbrev pub later_method : ℕ → ServiceMethod → Option ℕ → Option ServiceMethod → ServiceMethod
-later_method served served_by (Some attorney) (Some attorney_by) = if nat_lt served attorney then attorney_by else served_by
-later_method served served_by _ _ = served_by
-
-abbrev pub pleading_method : Basis → ℕ → ServiceMethod → Option ℕ → Option ServiceMethod → ServiceMethod
-pleading_method Officer served served_by attorney attorney_by = later_method served served_by attorney attorney_by
-pleading_method _ served served_by attorney attorney_by = served_by
-
--- whether service by the method adds three days to a time that the court ordered
-abbrev pub ordered_three : Option ServiceMethod → Bool
-ordered_three None = false
-ordered_three (Some served_by) = adds_three Ordered (method_of served_by)
-
-abbrev pub day_ordered : Option ℕ → Option Period → Option Direction → Option ServiceMethod → Option Act
-day_ordered (Some start) (Some period) (Some direction) served_by =
-    Some (act.Start (Days (record { trigger = start; period = period; direction = direction; three_days = ordered_three served_by })))
-day_ordered _ _ _ _ = None
-
-abbrev pub hours_ordered : Option ℕ → Option ℕ → Option Direction → Option Act
-hours_ordered (Some at) (Some count) (Some direction) =
-    Some (act.Start (Hours (record { at = pos at; hours = count; direction = direction })))
-hours_ordered _ _ _ = None
-
--- the first act of a time that the court orders: a period of days, months or hours, or a day that it sets
-abbrev pub ordered : PeriodUnit → order_period.OrderPeriod → Option Act
-ordered unit.Days a = day_ordered a.start (option_map period.Days a.count) a.direction a.method
-ordered unit.Months a = day_ordered a.start (option_map period.Months a.count) a.direction a.method
-ordered unit.Hours a = hours_ordered a.at a.count a.direction
-ordered unit.Fixed a = option_map act.Fixed a.until
-
--- a deadline of the party, of a time that the court ordered
-abbrev pub court_ordered : ℕ → Act → NewDeadline
-court_ordered party first = record { party = party; rule = Listed Ordered; initial = false; first = first }
-
--- a time after judgment, for every party
-abbrev pub after_judgment : ℕ → Rule → NewDeadline
-after_judgment day rule = timed 0 rule false method.Nothing day
-
--- the times after judgment: that of Fed. R. Civ. P. 50(b) runs from the jury's discharge where the clerk enters one
-abbrev pub judgment_times : ℕ → Option ℕ → List NewDeadline
-judgment_times entered discharged =
-    after_judgment (unwrap_or discharged entered) RenewedMotionForJudgment
-    ∷ after_judgment entered LosingPartyNewTrial
-    ∷ after_judgment entered AmendedFindings
-    ∷ after_judgment entered NewTrial
-    ∷ after_judgment entered NewTrialByCourt
-    ∷ after_judgment entered AmendedJudgment
-    ∷ after_judgment entered ReliefFromJudgment
-    ∷ []
-
--- a more definite statement that the court orders is due after notice of the order, or on the day set (12(e))
-abbrev pub statement_ordered : Ruling → Option ℕ → ℕ → Option ℕ → List NewDeadline
-statement_ordered Statement (Some party) notice due = timed_or_set party MoreDefiniteStatement method.Nothing notice due ∷ []
-statement_ordered _ _ notice due = []
-
--- whether service by the method, if there was any, adds three days to the time of a local rule
-abbrev pub local_three : local_rule.LocalRule → Option ServiceMethod → Bool
-local_three rule None = false
-local_three rule (Some served_by) = local_adds_three rule (method_of served_by)
-
--- the first act of a time that runs from a day by a local rule
-abbrev pub begun_locally : local_rule.LocalRule → Option ServiceMethod → ℕ → Act
-begun_locally rule served_by day =
-    act.Start (Days (record { trigger = day; period = period.Days rule.days; direction = rule.direction; three_days = local_three rule served_by }))
-
--- the deadline of a time by the local rule that is named
-abbrev pub local_time : local_period.LocalPeriod → local_rule.LocalRule → NewDeadline
-local_time a rule =
-    record { party = a.party; rule = Local a.rule; initial = false; first = begun_locally rule a.method a.start }
-
 -- a local rule, where one was found
 abbrev pub FoundRule : Type 0
-FoundRule = Option local_rule.LocalRule
+FoundRule = Option LocalRule
 
--- the deadlines that an action makes, by the local rule that it names, where that was entered
-abbrev pub deadlines_made : FoundRule → Action → List NewDeadline
-deadlines_made found (ServeSummons a) =
-    timed a.party (answer_rule a.basis) true method.Rule4 (answer_from a.basis a.served a.attorney) ∷ []
-deadlines_made found (FileWaiver a) = timed a.party (waiver_rule a.abroad) true method.Rule4 a.sent ∷ []
-deadlines_made found (ServePleading a) =
-    timed a.party (pleading_rule a.kind a.basis) false
-    (method_of (pleading_method a.basis a.served a.method a.attorney a.attorney_method))
-    (answer_from a.basis a.served a.attorney)
-    ∷ []
-deadlines_made found (OrderReply a) = timed_or_set a.party ReplyToAnswer (method_of a.method) a.served a.due ∷ []
-deadlines_made found (Dispose a) = statement_ordered a.outcome a.party a.notice a.due
-deadlines_made found (NoticeHearing a) =
-    timed a.party MotionAndNotice false method.Nothing a.hearing
-    ∷ timed a.opponent OpposingAffidavit false method.Nothing a.hearing
-    ∷ []
-deadlines_made found (OrderPeriod a) = option_to_list (option_map (court_ordered a.party) (ordered a.unit a))
-deadlines_made found (EnterJudgment a) = judgment_times a.entered a.discharged
-deadlines_made found (LocalPeriod a) = option_to_list (option_map (local_time a) found)
-deadlines_made found _ = []
+-- what a command does to the court calendar: it enters a day or a span, which may not stand already, or those days of a list that do
+-- not stand, by all of which ends of any case may move; a short day, which moves none; or it withdraws a row
+pub data CalendarWork : Type 0 where
+  enters : NewRow → CalendarWork
+  imports : List NewRow → CalendarWork
+  shortens : ShortDay → CalendarWork
+  withdraws : ℕ → CalendarWork
 
--- the time runs again after notice that the motion was denied or postponed, or to the day that the court sets (12(a)(4)(A));
--- or it awaits the more definite statement that the court orders
-abbrev pub ruled : Ruling → ℕ → Option ℕ → Act
-ruled Statement notice due = act.AwaitStatement notice
-ruled _ notice None = act.Resume notice false
-ruled _ notice (Some due) = act.Fixed due
+-- how a time has to stand for a command to act on it: it runs, it is neither done nor vacated, a motion suspends it, or it awaits a more
+-- definite statement
+pub data Wanted : Type 0 where
+  a_running_time : Wanted
+  an_open_time : Wanted
+  a_suspended_time : Wanted
+  an_awaiting_time : Wanted
 
--- an extension by days, or to a day (6(b))
-abbrev pub extension : Option ℕ → Option ℕ → List Act
-extension (Some days) None = act.ExtendBy days ∷ []
-extension None (Some until) = act.ExtendTo until ∷ []
-extension _ _ = []
+-- what a command does to a deadline: the acts that it adds, and how the time has to stand
+pub record DeadlineWork : Type 0 where
+  pub deadline : ℕ
+  pub wanted : Wanted
+  pub acts : List Act
 
--- the acts that it adds to the deadline that it names
-abbrev pub acts_made : Action → List Act
-acts_made (RuleMotion a) = act.Motion a.served a.kind ∷ []
-acts_made (Dispose a) = ruled a.outcome a.notice a.due ∷ []
+-- what a command does in a case that is there
+pub record CaseWork : Type 0 where
+  pub case : ℕ
+  -- the parties that it names, where it may name some
+  pub parties : Option (List ℕ)
+  -- the party or the entry that it adds
+  pub added : Option AddParty
+  pub filed : Option FileEntry
+  -- the deadlines that it makes, by the local rule that it names, where that was entered
+  pub deadlines : Option (FoundRule → List NewDeadline)
+  pub by_rule : Option (List ℕ)
+  -- the party whose time for a first answer it begins: it is served with a summons, or its waiver is filed
+  pub served : Option ℕ
+  pub acting : Option DeadlineWork
+  -- the waiver, the motion, the ruling or the extension, of which more is asked
+  pub waiver : Option FileWaiver
+  pub motion : Option RuleMotion
+  pub ruling : Option Dispose
+  pub extension : Option Extend
+
+-- a command does one of four things: this to the court calendar, it opens a case, it enters a local rule, or it does this in a case
+pub data Work : Type 0 where
+  on_calendar : CalendarWork → Work
+  opens : OpenCase → Work
+  enters_rule : LocalRule → Work
+  in_case : CaseWork → Work
+
+-- it does nothing in the case but what is added to this
+abbrev pub naming : ℕ → CaseWork
+naming k = record {
+  case = k;
+  parties = None;
+  added = None;
+  filed = None;
+  deadlines = None;
+  by_rule = None;
+  served = None;
+  acting = None;
+  waiver = None;
+  motion = None;
+  ruling = None;
+  extension = None;
+}
+
+-- it makes deadlines of parties of the case
+abbrev pub making : ℕ → List ℕ → List NewDeadline → CaseWork
+making k parties made = record (naming k) { parties = Some parties; deadlines = Some (λ found. made) }
+
+-- it acts on a deadline of the case that stands so
+abbrev pub acting : ℕ → ℕ → Wanted → List Act → CaseWork
+acting k n wanted acts = record (naming k) { acting = Some (record { deadline = n; wanted = wanted; acts = acts }) }
+
+-- the kinds of commands
+abbrev pub work : Action → Work
+work (action.DeclareDay a) = on_calendar (enters (day_row (day_kind_of a.kind) a.day a.name))
+work (action.CloseDay a) = on_calendar (enters (day_row kind.Closed a.day a.name))
+work (action.CloseSpan a) = on_calendar (enters (record { item = Span a.start a.end; name = [] }))
+work (action.ShortDay a) = on_calendar (shortens a)
+work (action.WithdrawCalendar a) = on_calendar (withdraws a.row)
+work (action.ImportCalendar a) = on_calendar (imports (map imported a.rows))
+work (action.OpenCase a) = opens a
+work (action.AddParty a) = in_case (record (naming a.case) { added = Some a })
+work (action.FileEntry a) = in_case (record (naming a.case) { filed = Some a })
+work (action.ServeSummons a) =
+    in_case (record (making a.case (a.party ∷ []) (summons_time a ∷ [])) { served = Some a.party })
+work (action.FileWaiver a) =
+    in_case (record (making a.case (a.party ∷ []) (waiver_time a ∷ [])) { served = Some a.party; waiver = Some a })
+work (action.ServePleading a) = in_case (making a.case (a.party ∷ []) (pleading_time a ∷ []))
+work (action.OrderReply a) =
+    in_case (making a.case (a.party ∷ []) (timed_or_set a.party ReplyToAnswer (method_of a.method) a.served a.due ∷ []))
+work (action.RuleMotion a) =
+    in_case (record (acting a.case a.deadline a_running_time (act.Motion a.served a.kind ∷ [])) { motion = Some a })
+-- a more definite statement that the court orders is a deadline of the party that is named
+work (action.Dispose a) =
+    in_case
+    (record (acting a.case a.deadline a_suspended_time (ruled a.outcome a.notice a.due ∷ [])) {
+      parties = Some (option_to_list a.party);
+      deadlines = Some (λ found. statement_ordered a.outcome a.party a.notice a.due);
+      ruling = Some a;
+    })
 -- after service of the statement, with the three days that the method of service adds (12(a)(4)(B), 6(d))
-acts_made (StatementServed a) = act.Resume a.served (adds_three AnswerAfterStatement (method_of a.method)) ∷ []
-acts_made (Extend a) = extension a.days a.until
-acts_made (Satisfy a) = act.Done (pos a.at) a.way ∷ []
-acts_made (Vacate a) = act.Vacated ∷ []
-acts_made _ = []
+work (action.StatementServed a) =
+    in_case (acting a.case a.deadline an_awaiting_time (act.Resume a.served (adds_three AnswerAfterStatement (method_of a.method)) ∷ []))
+work (action.NoticeHearing a) = in_case (making a.case (a.party ∷ a.opponent ∷ []) (hearing_times a))
+work (action.OrderPeriod a) =
+    in_case (making a.case (party_ordered a.party) (option_to_list (option_map (court_ordered a.party) (ordered a.unit a))))
+-- every party's
+work (action.EnterJudgment a) =
+    in_case (record (making a.case [] (judgment_times a.entered a.discharged)) { parties = None })
+work (action.Extend a) =
+    in_case (record (acting a.case a.deadline a_running_time (extension a.days a.until)) { extension = Some a })
+work (action.Satisfy a) = in_case (acting a.case a.deadline an_open_time (act.Done (pos a.at) a.way ∷ []))
+work (action.Vacate a) = in_case (acting a.case a.deadline an_open_time (act.Vacated ∷ []))
+work (action.LocalRule a) = enters_rule a
+work (action.LocalPeriod a) =
+    in_case
+    (record (making a.case (a.party ∷ []) []) {
+      by_rule = Some a.rule;
+      deadlines = Some (λ found. option_to_list (option_map (local_time a) found));
+    })
+
+-- which of the four it does
+
+abbrev pub calendar_in : Work → Option CalendarWork
+calendar_in (on_calendar work) = Some work
+calendar_in (opens case) = None
+calendar_in (enters_rule rule) = None
+calendar_in (in_case work) = None
+
+abbrev pub calendar_work : Action → Option CalendarWork
+calendar_work a = calendar_in (work a)
+
+abbrev pub opened_in : Work → Option OpenCase
+opened_in (on_calendar work) = None
+opened_in (opens case) = Some case
+opened_in (enters_rule rule) = None
+opened_in (in_case work) = None
+
+-- the case that it opens
+abbrev pub opened : Action → Option OpenCase
+opened a = opened_in (work a)
+
+abbrev pub rule_in : Work → FoundRule
+rule_in (on_calendar work) = None
+rule_in (opens case) = None
+rule_in (enters_rule rule) = Some rule
+rule_in (in_case work) = None
+
+-- the local rule that it enters
+abbrev pub rule_entered : Action → FoundRule
+rule_entered a = rule_in (work a)
+
+abbrev pub case_in : Work → Option CaseWork
+case_in (on_calendar work) = None
+case_in (opens case) = None
+case_in (enters_rule rule) = None
+case_in (in_case work) = Some work
+
+abbrev pub case_work : Action → Option CaseWork
+case_work a = case_in (work a)
+
+-- what it does in a case
+
+-- the case that it names
+abbrev pub case_named : Action → Option ℕ
+case_named a = option_map (λ work. work.case) (case_work a)
+
+-- the parties of the case that it names
+abbrev pub parties_named : Action → List ℕ
+parties_named a = option_map_or (λ work. unwrap_or work.parties []) (case_work a) []
+
+-- the party that it adds to the case
+abbrev pub party_entered : Action → Option AddParty
+party_entered a = option_and_then (λ work. work.added) (case_work a)
+
+-- the entry that it files in the case
+abbrev pub entry_entered : Action → Option FileEntry
+entry_entered a = option_and_then (λ work. work.filed) (case_work a)
+
+abbrev pub made_by : FoundRule → CaseWork → List NewDeadline
+made_by found work = option_map_or (λ make. make found) work.deadlines []
+
+-- the deadlines that it makes, by the local rule that it names, where that was entered
+abbrev pub deadlines_made : FoundRule → Action → List NewDeadline
+deadlines_made found a = option_map_or (made_by found) (case_work a) []
+
+abbrev pub deadline_work : Action → Option DeadlineWork
+deadline_work a = option_and_then (λ work. work.acting) (case_work a)
+
+-- the deadline that it names
+abbrev pub deadline_named : Action → Option ℕ
+deadline_named a = option_map (λ work. work.deadline) (deadline_work a)
+
+-- the acts that it adds to that deadline
+abbrev pub acts_made : Action → List Act
+acts_made a = option_map_or (λ work. work.acts) (deadline_work a) []
+
+-- the party whose time for a first answer it begins
+abbrev pub party_served : Action → Option ℕ
+party_served a = option_and_then (λ work. work.served) (case_work a)
+
+-- the local rule by which it sets a time
+abbrev pub rule_wanted : Action → Option (List ℕ)
+rule_wanted a = option_and_then (λ work. work.by_rule) (case_work a)
+
+abbrev pub rule_name_in : Work → Option (List ℕ)
+rule_name_in (on_calendar work) = None
+rule_name_in (opens case) = None
+rule_name_in (enters_rule rule) = Some rule.name
+rule_name_in (in_case work) = work.by_rule
+
+-- the name of the local rule that it enters, or by which it sets a time
+abbrev pub local_rule_named : Action → Option (List ℕ)
+local_rule_named a = rule_name_in (work a)
+
+-- how the deadline that it names has to stand
+abbrev pub time_wanted : Action → Option Wanted
+time_wanted a = option_map (λ work. work.wanted) (deadline_work a)
+
+-- the waiver, the motion, the ruling or the extension
+
+abbrev pub waiver_filed : Action → Option FileWaiver
+waiver_filed a = option_and_then (λ work. work.waiver) (case_work a)
+
+abbrev pub motion_made : Action → Option RuleMotion
+motion_made a = option_and_then (λ work. work.motion) (case_work a)
+
+abbrev pub ruling_made : Action → Option Dispose
+ruling_made a = option_and_then (λ work. work.ruling) (case_work a)
+
+abbrev pub extension_made : Action → Option Extend
+extension_made a = option_and_then (λ work. work.extension) (case_work a)
+
+-- what it does to the calendar
+
+abbrev pub short_row : ShortDay → NewRow
+short_row a = record { item = Short a.day a.close; name = a.name }
+
+abbrev pub rows_of_work : CalendarWork → List NewRow
+rows_of_work (enters row) = row ∷ []
+rows_of_work (imports rows) = rows
+rows_of_work (shortens a) = short_row a ∷ []
+rows_of_work (withdraws number) = []
+
+-- the calendar rows that it asks for
+abbrev pub rows_asked : Action → List NewRow
+rows_asked a = option_map_or rows_of_work (calendar_work a) []
+
+abbrev pub withdrawn_by : CalendarWork → Option ℕ
+withdrawn_by (enters row) = None
+withdrawn_by (imports rows) = None
+withdrawn_by (shortens a) = None
+withdrawn_by (withdraws number) = Some number
+
+-- the calendar row that it withdraws
+abbrev pub row_withdrawn : Action → Option ℕ
+row_withdrawn a = option_and_then withdrawn_by (calendar_work a)
+
+-- it enters or withdraws rows of the calendar
+abbrev pub changes_calendar : Action → Bool
+changes_calendar a = is_some (calendar_work a)
+
+abbrev pub may_move : CalendarWork → Bool
+may_move (enters row) = true
+may_move (imports rows) = true
+may_move (shortens a) = false
+may_move (withdraws number) = true
+
+-- it enters or withdraws days or spans of the calendar, by which ends of any case may move; a short day moves none
+abbrev pub moves_all_cases : Action → Bool
+moves_all_cases a = option_map_or may_move (calendar_work a) false
+
+-- what it asks about
+
+abbrev pub may_enter : CalendarWork → Bool
+may_enter (enters row) = true
+may_enter (imports rows) = true
+may_enter (shortens a) = true
+may_enter (withdraws number) = false
+
+-- for the number of the next calendar row: it may add some
+abbrev pub asks_next_row : Action → Bool
+asks_next_row a = option_map_or may_enter (calendar_work a) false
+
+-- a deadline is judged by the end of its time, or an end moves by what is made
+abbrev pub is_timed : CaseWork → Bool
+is_timed work = is_some work.acting || is_some work.deadlines
+
+-- about the calendar: what it enters may stand already, or it is about a time of a case
+abbrev pub asks_calendar : Action → Bool
+asks_calendar a = asks_next_row a || option_map_or is_timed (case_work a) false
+
+-- how many cases there are: it opens one, or may move ends of any
+abbrev pub asks_cases : Action → Bool
+asks_cases a = is_some (opened a) || moves_all_cases a
+
+-- how many parties its case has: it adds one, or may name some
+abbrev pub asks_parties : Action → Bool
+asks_parties a = option_map_or (λ work. is_some work.added || is_some work.parties) (case_work a) false
+
+-- how many entries its case has: it files one
+abbrev pub asks_entries : Action → Bool
+asks_entries a = option_map_or (λ work. is_some work.filed) (case_work a) false
+
+-- how many deadlines its case has: it may make some
+abbrev pub asks_deadlines : Action → Bool
+asks_deadlines a = option_map_or (λ work. is_some work.deadlines) (case_work a) false
+
+-- how many local rules there are: it enters one
+abbrev pub asks_local_rules : Action → Bool
+asks_local_rules a = is_some (rule_entered a)
+
+-- about the local rule of the deadline that it names: it extends the time
+abbrev pub asks_rule_of_deadline : Action → Bool
+asks_rule_of_deadline a = is_some (extension_made a)
+
+-- what it names and asks about, in one
+abbrev pub subject_of : Action → Subject
+subject_of a = record {
+  case = case_named a;
+  deadline = deadline_named a;
+  changes_calendar = changes_calendar a;
+  moves_all_cases = moves_all_cases a;
+  asks = record {
+    calendar = asks_calendar a;
+    next_row = asks_next_row a;
+    cases = asks_cases a;
+    parties = asks_parties a;
+    entries = asks_entries a;
+    deadlines = asks_deadlines a;
+    local_rules = asks_local_rules a;
+  };
+}

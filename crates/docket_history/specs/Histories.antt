@@ -1,13 +1,16 @@
 -- Histories, and what they define. A history is the list of the commands that were accepted, the newest first.
-use Rattle.std.specs.Prelude.{ℕ, ◌+◌, ◌==◌, not, ◌&&◌, List, [], ◌∷◌, ◌++◌, map, length, filter, Option, Some, None, unwrap_or}
+use Rattle.std.specs.Prelude.{ℕ, ◌+◌, ◌==◌, not, ◌&&◌, List, [], ◌∷◌, ◌++◌, map, length, filter, Option, Some, None, unwrap_or, option_to_list}
 use Rattle.std.specs.List.{find}
 use Rattle.std.specs.Option.{option_map, option_and_then}
 use Rattle.std.specs.Str.{bytes_eq}
 use Rattle.court_rules.specs.declared.act.Act.{Act}
+use Rattle.court_rules.specs.declared.local_rule.LocalRule.{LocalRule}
+use Rattle.docket_command.specs.declared.case_action.AddParty.{AddParty}
+use Rattle.docket_command.specs.declared.case_action.FileEntry.{FileEntry}
+use Rattle.docket_command.specs.declared.case_action.OpenCase.{OpenCase}
 use Rattle.docket_command.specs.declared.command.Command.{Command}
 use Rattle.docket_command.specs.declared.command.Action.{Action}
-use Rattle.docket_command.specs.declared.command.Action.TheVariants.{OpenCase, AddParty, FileEntry, LocalRule}
-use Rattle.docket_history.specs.Actions.{FoundRule, case_named, deadline_named, local_rule_named, row_withdrawn, rows_asked, deadlines_made, acts_made}
+use Rattle.docket_history.specs.Actions.{FoundRule, opened, rule_entered, party_entered, entry_entered, case_named, deadline_named, local_rule_named, row_withdrawn, rows_asked, deadlines_made, acts_made}
 use Rattle.docket_history.specs.CalendarItems.{fresh}
 use Rattle.docket_history.specs.declared.row.NewDeadline.{NewDeadline}
 use Rattle.docket_history.specs.declared.item.CalendarItem.{CalendarItem}
@@ -64,10 +67,13 @@ abbrev mutual
 
 -- cases, parties and entries
 
--- a case, after so many
+-- a case of that number
+abbrev pub case_row : ℕ → OpenCase → CaseRow
+case_row number a = record { number = number; label = a.label; caption = a.caption; filed = a.filed }
+
+-- the case that an action opens, after so many
 abbrev pub new_case : ℕ → Action → List CaseRow
-new_case count (OpenCase a) = record { number = count + 1; label = a.label; caption = a.caption; filed = a.filed } ∷ []
-new_case count _ = []
+new_case count a = option_to_list (option_map (case_row (count + 1)) (opened a))
 
 abbrev pub case_rows : History → List CaseRow
 case_rows h = rows_by (λ _ rows a. new_case (length rows) a) h
@@ -79,10 +85,13 @@ case_number a = unwrap_or (case_named a) 0
 abbrev pub parties_of_case : ℕ → List PartyRow → List PartyRow
 parties_of_case k rows = filter (λ row. row.case == k) rows
 
--- a party, after so many in its case
+-- a party of that number
+abbrev pub party_row : ℕ → AddParty → PartyRow
+party_row number a = record { case = a.case; number = number; name = a.name; role = a.role }
+
+-- the party that an action adds, after so many in its case
 abbrev pub new_party : ℕ → Action → List PartyRow
-new_party count (AddParty a) = record { case = a.case; number = count + 1; name = a.name; role = a.role } ∷ []
-new_party count _ = []
+new_party count a = option_to_list (option_map (party_row (count + 1)) (party_entered a))
 
 abbrev pub party_rows : History → List PartyRow
 party_rows h = rows_by (λ _ rows a. new_party (length (parties_of_case (case_number a) rows)) a) h
@@ -90,20 +99,26 @@ party_rows h = rows_by (λ _ rows a. new_party (length (parties_of_case (case_nu
 abbrev pub entries_of_case : ℕ → List EntryRow → List EntryRow
 entries_of_case k rows = filter (λ row. row.case == k) rows
 
--- an entry, after so many in its case
+-- an entry of that number
+abbrev pub entry_row : ℕ → FileEntry → EntryRow
+entry_row number a = record { case = a.case; number = number; day = a.day; text = a.text }
+
+-- the entry that an action files, after so many in its case
 abbrev pub new_entry : ℕ → Action → List EntryRow
-new_entry count (FileEntry a) = record { case = a.case; number = count + 1; day = a.day; text = a.text } ∷ []
-new_entry count _ = []
+new_entry count a = option_to_list (option_map (entry_row (count + 1)) (entry_entered a))
 
 abbrev pub entry_rows : History → List EntryRow
 entry_rows h = rows_by (λ _ rows a. new_entry (length (entries_of_case (case_number a) rows)) a) h
 
 -- the court's own rules
 
--- a local rule, after so many
+-- a local rule of that number
+abbrev pub local_rule_row : ℕ → LocalRule → LocalRuleRow
+local_rule_row number a = record { number = number; rule = a }
+
+-- the local rule that an action enters, after so many
 abbrev pub new_local_rule : ℕ → Action → List LocalRuleRow
-new_local_rule count (LocalRule a) = record { number = count + 1; rule = a } ∷ []
-new_local_rule count _ = []
+new_local_rule count a = option_to_list (option_map (local_rule_row (count + 1)) (rule_entered a))
 
 abbrev pub local_rule_rows : History → List LocalRuleRow
 local_rule_rows h = rows_by (λ _ rows a. new_local_rule (length rows) a) h

@@ -2,21 +2,14 @@
 use Rattle.std.specs.Prelude.{◌≡◌, ℕ, ◌+◌, ◌==◌, Bool, false, ◌&&◌, if◌then◌else◌, List, [], ◌∷◌, ◌++◌, Option, Some, None}
 use Rattle.std.specs.List.{All, Contains}
 use Rattle.court_rules.specs.declared.act.Act.{Act}
-use Rattle.court_rules.specs.declared.local_rule.LocalRule.{LocalRule}
-use Rattle.docket_command.specs.declared.case_action.OpenCase.{OpenCase}
 use Rattle.docket_command.specs.declared.case_action.AddParty.{AddParty}
 use Rattle.docket_command.specs.declared.case_action.FileEntry.{FileEntry}
 use Rattle.docket_command.specs.declared.command.Command.{Command}
 use Rattle.docket_command.specs.declared.command.Action.{Action}
-use Rattle.docket_command.specs.declared.command.Action.TheVariants as action
-use Rattle.docket_history.specs.Actions.{FoundRule, case_named, deadline_named, row_withdrawn, deadlines_made, acts_made}
+use Rattle.docket_history.specs.Actions.{FoundRule, party_entered, entry_entered, case_named, deadline_named, row_withdrawn, deadlines_made, acts_made}
 use Rattle.docket_history.specs.Histories.{History, standing_rows, next_row, items_of, numbered, rows_added, rule_found}
 use Rattle.docket_history.specs.declared.row.NewDeadline.{NewDeadline}
 use Rattle.docket_history.specs.declared.row.CalendarRow.{CalendarRow}
-use Rattle.docket_history.specs.declared.row.CaseRow.{CaseRow}
-use Rattle.docket_history.specs.declared.row.PartyRow.{PartyRow}
-use Rattle.docket_history.specs.declared.row.EntryRow.{EntryRow}
-use Rattle.docket_history.specs.declared.row.LocalRuleRow.{LocalRuleRow}
 
 -- what the commands of a history ask, the oldest first
 abbrev pub in_order : History → List Action
@@ -38,37 +31,18 @@ abbrev pub gathered : {A B : Type 0} → (A → List B) → List A → List B
 gathered give [] = []
 gathered give (x ∷ xs) = give x ++ gathered give xs
 
--- a case is opened
-abbrev pub opened : Action → Option OpenCase
-opened (action.OpenCase a) = Some a
-opened _ = None
-
-abbrev pub case_row : ℕ → OpenCase → CaseRow
-case_row number a = record { number = number; label = a.label; caption = a.caption; filed = a.filed }
+-- it is there, and of case k
+abbrev pub of_case : {A : Type 0} → ℕ → (A → ℕ) → Option A → Option A
+of_case k case None = None
+of_case k case (Some a) = if case a == k then Some a else None
 
 -- a party is added to case k
 abbrev pub party_added : ℕ → Action → Option AddParty
-party_added k (action.AddParty a) = if a.case == k then Some a else None
-party_added k _ = None
-
-abbrev pub party_row : ℕ → AddParty → PartyRow
-party_row number a = record { case = a.case; number = number; name = a.name; role = a.role }
+party_added k a = of_case k (λ party. party.case) (party_entered a)
 
 -- an entry is filed in case k
 abbrev pub entry_filed : ℕ → Action → Option FileEntry
-entry_filed k (action.FileEntry a) = if a.case == k then Some a else None
-entry_filed k _ = None
-
-abbrev pub entry_row : ℕ → FileEntry → EntryRow
-entry_row number a = record { case = a.case; number = number; day = a.day; text = a.text }
-
--- a local rule is entered
-abbrev pub rule_entered : Action → Option LocalRule
-rule_entered (action.LocalRule rule) = Some rule
-rule_entered _ = None
-
-abbrev pub local_rule_row : ℕ → LocalRule → LocalRuleRow
-local_rule_row number rule = record { number = number; rule = rule }
+entry_filed k a = of_case k (λ entry. entry.case) (entry_entered a)
 
 -- it is there, and this number
 abbrev pub is_number : Option ℕ → ℕ → Bool

@@ -1,5 +1,6 @@
 pub mod Actions
 pub mod CalendarItems
+pub mod DeadlinesMade
 pub mod Histories
 pub mod InOrder
 pub mod Limits

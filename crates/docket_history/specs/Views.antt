@@ -1,14 +1,13 @@
 -- What a view shows.
-use Rattle.std.specs.Prelude.{ℕ, zero, suc, ◌-◌, ◌==◌, Bool, true, false, not, ◌&&◌, List, [], length, Option, Some, None, slice_get}
+use Rattle.std.specs.Prelude.{ℕ, zero, suc, ◌-◌, ◌==◌, Bool, true, false, not, ◌&&◌, if◌then◌else◌, List, [], length, Option, Some, None, slice_get}
 use Rattle.std.specs.List.{list_any}
-use Rattle.std.specs.Option.{option_and_then}
+use Rattle.std.specs.Option.{option_and_then, option_map_or}
 use Rattle.court_rules.specs.declared.act.Act.{Act}
 use Rattle.court_rules.specs.declared.act.Act.TheVariants as act
 use Rattle.court_rules.specs.declared.deadline_rule.DeadlineRule.{DeadlineRule}
 use Rattle.court_rules.specs.declared.deadline_rule.DeadlineRule.TheVariants.{Listed, Local}
 use Rattle.docket_command.specs.declared.command.Action.{Action}
-use Rattle.docket_command.specs.declared.command.Action.TheVariants.{ServeSummons, FileWaiver, Extend}
-use Rattle.docket_history.specs.Actions.{deadline_named, local_rule_named, asks_parties, asks_entries, asks_deadlines, if_asked}
+use Rattle.docket_history.specs.Actions.{deadline_named, party_served, asks_rule_of_deadline, local_rule_named, asks_parties, asks_entries, asks_deadlines, if_asked}
 use Rattle.docket_history.specs.declared.view.CaseView.{CaseView}
 use Rattle.docket_history.specs.declared.view.DeadlineView.{DeadlineView}
 use Rattle.docket_history.specs.declared.view.View.{View}
@@ -53,8 +52,7 @@ local_name_in (Some deadline) = local_name deadline.rule
 
 -- the name of the local rule that an action asks about: the one that it names, or that of the deadline that it extends
 abbrev pub rule_name_asked : Option DeadlineView → Action → Option (List ℕ)
-rule_name_asked named (Extend a) = local_name_in named
-rule_name_asked named a = local_rule_named a
+rule_name_asked named a = if asks_rule_of_deadline a then local_name_in named else local_rule_named a
 
 abbrev pub served_in : Option CaseView → Bool
 served_in None = false
@@ -88,9 +86,7 @@ has_initial all party = list_any (λ d. d.party == party && (d.initial && not (i
 
 -- a party that is served with a summons, or whose waiver is filed, has one
 abbrev pub is_served_among : List DeadlineView → Action → Bool
-is_served_among all (ServeSummons a) = has_initial all a.party
-is_served_among all (FileWaiver a) = has_initial all a.party
-is_served_among all _ = false
+is_served_among all a = option_map_or (has_initial all) (party_served a) false
 
 -- a case with so many parties and entries, and these deadlines, as it is shown about an action: what the action asks about
 abbrev pub case_shown : ℕ → ℕ → ℕ → List DeadlineView → Action → CaseView

@@ -9,23 +9,23 @@
 mod calendar;
 mod item;
 mod lines;
-mod named;
 mod record;
 mod row;
 mod standing;
+mod subject;
 mod view;
 
 pub use calendar::{calendar_of, rows_added};
 pub use item::{CalendarItem, NewRow, stands_among};
 pub use lines::{close_of_end, close_of_standing, deadline_lines, line_of};
-pub use named::{
-    asks_calendar, asks_cases, asks_deadlines, asks_entries, asks_local_rules, asks_next_row,
-    asks_parties, case_named, changes_calendar, deadline_named, local_rule_named, moves_all_cases,
-};
 pub use record::{CaseRecord, DeadlineLine, DueRow, EntryRows, PartyRows};
 pub use row::{
     ActRow, CalendarRow, CaseRow, Change, DeadlineRow, EntryRow, LocalRuleRow, NewDeadline,
     PartyRow, Receipt, ShortDayRow,
 };
 pub use standing::StandingCalendar;
+pub use subject::{
+    asks_calendar, asks_cases, asks_deadlines, asks_entries, asks_local_rules, asks_next_row,
+    asks_parties, case_named, changes_calendar, deadline_named, local_rule_named, moves_all_cases,
+};
 pub use view::{Acts, CaseView, DeadlineView, Kept, View, is_served_among, rule_name_asked};

@@ -3,8 +3,10 @@ ghost use Rattle.std.specs.Prelude.{◌≡◌, ◌<◌, ◌^◌, length, option_
 ghost use Rattle.docket_history.specs.Actions.{if_asked};
 ghost use Rattle.docket_history.specs.Views.{parties_in, entries_in, count_deadlines, deadline_shown, acts_in, served_in, deadline_at, deadline_of, is_vacated, has_initial, is_served_among, case_shown, named_in, local_name, local_name_in, rule_name_asked};
 
-use crate::named::{asks_deadlines, asks_entries, asks_parties, deadline_named, local_rule_named};
 use crate::standing::StandingCalendar;
+use crate::subject::{
+    asks_deadlines, asks_entries, asks_parties, deadline_named, local_rule_named,
+};
 use court_rules::{Act, DeadlineRule};
 use docket_command::{Action, LocalRule, Reply, Text};
 use std::marker::Model;

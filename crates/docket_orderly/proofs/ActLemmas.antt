@@ -14,7 +14,8 @@ use Rattle.docket_history.specs.Histories.{History, case_number, deadline_number
 use Rattle.docket_decisions.specs.Outcomes.{IsHistory}
 use Rattle.docket_history.specs.declared.row.ActRow.{ActRow}
 use Rattle.docket_decisions.proofs.InOrderLemmas.{same_number}
-use Rattle.docket_decisions.proofs.Leading.{seen, none_acted, none_acted_in}
+use Rattle.docket_history.proofs.Asked.{none_acted, none_acted_in}
+use Rattle.docket_decisions.proofs.Leading.{seen}
 use Rattle.docket_decisions.proofs.LimitsKept.{IsPassed, passed, all_kept, there_is, named_there, within_limits}
 use Rattle.docket_decisions.proofs.Passed.{left_true, right_true}
 use Rattle.docket_wire.specs.Valid.{IsCommand}

@@ -31,7 +31,8 @@ use Rattle.docket_command.specs.declared.new_day.NewDay.{NewDay}
 use Rattle.docket_command.specs.declared.time_action.OrderPeriod as order_period
 use Rattle.docket_command.specs.Moments.{IsWholeMinute}
 use Rattle.docket_command.proofs.MomentLemmas.{moment_fits}
-use Rattle.docket_history.specs.Actions.{FoundRule, rows_asked, imported, begun_by, begun, timed, timed_or_set, answer_rule, answer_from, waiver_rule, pleading_rule, judgment_times, statement_ordered, day_ordered, hours_ordered, ordered, court_ordered, local_time, deadlines_made, ruled, extension, acts_made}
+use Rattle.docket_history.specs.Actions.{FoundRule, rows_asked, imported, deadlines_made, acts_made}
+use Rattle.docket_history.specs.DeadlinesMade.{begun_by, begun, timed, timed_or_set, answer_rule, answer_from, waiver_rule, pleading_rule, judgment_times, statement_ordered, day_ordered, hours_ordered, ordered, court_ordered, local_time, ruled, extension}
 use Rattle.docket_history.specs.Histories.{case_number, deadline_number}
 use Rattle.docket_history.specs.declared.item.CalendarItem.{CalendarItem}
 use Rattle.docket_history.specs.declared.item.CalendarItem.TheVariants.{Short}

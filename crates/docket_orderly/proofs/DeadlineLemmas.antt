@@ -12,7 +12,8 @@ use Rattle.docket_history.specs.Histories.{History, case_number, case_rows, new_
 use Rattle.docket_decisions.specs.Outcomes.{IsHistory, shown_fresh, case_of_number}
 use Rattle.docket_history.specs.declared.row.DeadlineRow.{DeadlineRow}
 use Rattle.docket_history.specs.declared.view.CaseView.{CaseView}
-use Rattle.docket_decisions.proofs.Leading.{seen, none_made, none_acted_in}
+use Rattle.docket_history.proofs.Asked.{none_made, none_acted_in}
+use Rattle.docket_decisions.proofs.Leading.{seen}
 use Rattle.docket_decisions.proofs.LimitsKept.{passed}
 use Rattle.docket_decisions.proofs.StillEnds.{MakesNothing}
 use Rattle.docket_command.specs.declared.command.Command.{Command}

@@ -9,7 +9,7 @@ use Rattle.docket_command.specs.declared.command.Action.{Action}
 use Rattle.docket_command.specs.declared.command.Action.TheVariants as action
 use Rattle.docket_history.specs.Histories.{History, case_rows, new_case}
 use Rattle.docket_decisions.specs.Outcomes.{IsHistory, shown, shown_fresh}
-use Rattle.docket_decisions.specs.Refusals.{is_there}
+use Rattle.docket_decisions.specs.Refusals.{exists_already}
 use Rattle.docket_history.specs.declared.row.CaseRow.{CaseRow}
 use Rattle.docket_decisions.proofs.Leading.{is_accepted}
 use Rattle.docket_decisions.proofs.Passed.{is_free}
@@ -35,7 +35,7 @@ one_if rows new label none few =
         subst (λ (all : List CaseRow). length (all ++ new ∷ []) ≤ 1) (sym gone) (omega arith)
     at false e = subst (λ (all : List CaseRow). length all ≤ 1) (sym (append-nil (cases_labelled label rows))) few
 
-one_more : (h : History) (a : Action) (label : List ℕ) → is_there (shown_fresh h a) a ≡ false → length (cases_labelled label (case_rows h)) ≤ 1
+one_more : (h : History) (a : Action) (label : List ℕ) → exists_already (shown_fresh h a) a ≡ false → length (cases_labelled label (case_rows h)) ≤ 1
     → length (cases_labelled label (case_rows h ++ new_case (length (case_rows h)) a)) ≤ 1
 one_more h (action.OpenCase a) label new few =
     one_if (case_rows h) (record { number = length (case_rows h) + 1; label = a.label; caption = a.caption; filed = a.filed }) label (none_labelled a.label (case_rows h) new) few

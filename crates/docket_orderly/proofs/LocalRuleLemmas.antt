@@ -9,10 +9,11 @@ use Rattle.court_days.specs.Court.{CourtSettings}
 use Rattle.court_rules.specs.LocalRules.{is_local_rule}
 use Rattle.docket_command.specs.declared.command.Action.{Action}
 use Rattle.docket_command.specs.declared.command.Action.TheVariants as action
-use Rattle.docket_history.specs.Histories.{History, local_rule_in, local_rule_rows, new_local_rule, rule_found}
-use Rattle.docket_history.specs.InOrder.{in_order, local_rule_row, rule_entered}
+use Rattle.docket_history.specs.Histories.{History, local_rule_in, local_rule_rows, new_local_rule, rule_found, local_rule_row}
+use Rattle.docket_history.specs.Actions.{rule_entered}
+use Rattle.docket_history.specs.InOrder.{in_order}
 use Rattle.docket_decisions.specs.Outcomes.{IsHistory, shown, shown_fresh}
-use Rattle.docket_decisions.specs.Refusals.{is_there}
+use Rattle.docket_decisions.specs.Refusals.{exists_already}
 use Rattle.docket_history.specs.declared.row.LocalRuleRow.{LocalRuleRow}
 use Rattle.docket_decisions.proofs.InOrderLemmas.{rules_in_order}
 use Rattle.docket_decisions.proofs.Leading.{is_accepted}
@@ -82,7 +83,7 @@ one_if rows new name none few =
         subst (λ (all : List LocalRuleRow). length (all ++ new ∷ []) ≤ 1) (sym gone) (omega arith)
     at false e = subst (λ (all : List LocalRuleRow). length all ≤ 1) (sym (append-nil (local_rules_named name rows))) few
 
-one_more : (h : History) (a : Action) (name : List ℕ) → is_there (shown_fresh h a) a ≡ false → length (local_rules_named name (local_rule_rows h)) ≤ 1
+one_more : (h : History) (a : Action) (name : List ℕ) → exists_already (shown_fresh h a) a ≡ false → length (local_rules_named name (local_rule_rows h)) ≤ 1
     → length (local_rules_named name (local_rule_rows h ++ new_local_rule (length (local_rule_rows h)) a)) ≤ 1
 one_more h (action.LocalRule r) name new few =
     one_if (local_rule_rows h) (record { number = length (local_rule_rows h) + 1; rule = r }) name (none_named r.name (local_rule_rows h) new) few

@@ -22,7 +22,8 @@ use Rattle.docket_history.specs.declared.view.View.{View}
 use Rattle.docket_decisions.specs.Outcomes.{IsHistory}
 use Rattle.docket_decisions.specs.Tables.{Tables, rows_of, changed, all_changed, withdrawal, action_changes, calendar_changes, case_changes, party_changes, entry_changes, deadline_changes, first_act_changes, act_changes, local_rule_changes}
 use Rattle.docket_history.specs.Views.{count_deadlines}
-use Rattle.docket_decisions.proofs.Leading.{seen, none_made}
+use Rattle.docket_history.proofs.Asked.{none_made}
+use Rattle.docket_decisions.proofs.Leading.{seen}
 use Rattle.docket_decisions.proofs.LimitsKept.{IsPassed, passed}
 use Rattle.docket_orderly.specs.Additions.{HasCase, HasDeadline}
 use Rattle.docket_orderly.specs.Orderly.{RunsFrom}

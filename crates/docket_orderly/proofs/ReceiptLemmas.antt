@@ -20,7 +20,7 @@ use Rattle.docket_history.specs.CalendarItems.{calendar_of}
 use Rattle.docket_history.specs.Histories.{History, case_rows, deadline_rows, act_rows, deadlines_of_case, deadlines}
 use Rattle.docket_history.specs.Limits.{IsWithinLimits}
 use Rattle.docket_decisions.specs.Outcomes.{IsHistory, accepted, answer_kept, answer_by, repeated, refused, case_of_number, kept, kept_by, receipts, reply_to, replied, shown, shown_fresh}
-use Rattle.docket_decisions.specs.Refusals.{on, on_value, first_some, is_reused, is_there, is_full, count_added, wants_statement, refusal_of, state_refusals}
+use Rattle.docket_decisions.specs.Refusals.{on, on_value, first_some, is_reused, exists_already, is_full, count_added, wants_statement, refusal_of, state_refusals}
 use Rattle.docket_history.specs.Times.{standing_shown, is_in_time}
 use Rattle.docket_history.specs.Views.{parties_in, entries_in, count_deadlines}
 use Rattle.docket_values.specs.Values.{is_word, first_bad, bad_values}
@@ -111,16 +111,16 @@ either : (b : Bool) (m n : ℕ) → IsCount m → IsCount n → IsCount (if b th
 either true m n one other = one
 either false m n one other = other
 
-reply_counts : (court : CourtSettings) (h : History) (a : Action) → IsWithinLimits court h → IsAction a → is_there (shown_fresh h a) a ≡ false → is_full (shown_fresh h a) a ≡ false → IsCount (reply_to court (shown_fresh h a) a)
+reply_counts : (court : CourtSettings) (h : History) (a : Action) → IsWithinLimits court h → IsAction a → exists_already (shown_fresh h a) a ≡ false → is_full (shown_fresh h a) a ≡ false → IsCount (reply_to court (shown_fresh h a) a)
 unfolding IsAction
 reply_counts court h (action.DeclareDay a) within is new room =
-    omega (arith, one_row (is_there (shown_fresh h (action.DeclareDay a)) (action.DeclareDay a)) (day_row (day_kind_of a.kind) a.day a.name) new, rows_fit (shown_fresh h (action.DeclareDay a)) (action.DeclareDay a) room within.next_row)
+    omega (arith, one_row (exists_already (shown_fresh h (action.DeclareDay a)) (action.DeclareDay a)) (day_row (day_kind_of a.kind) a.day a.name) new, rows_fit (shown_fresh h (action.DeclareDay a)) (action.DeclareDay a) room within.next_row)
 reply_counts court h (action.CloseDay a) within is new room =
-    omega (arith, one_row (is_there (shown_fresh h (action.CloseDay a)) (action.CloseDay a)) (day_row kind.Closed a.day a.name) new, rows_fit (shown_fresh h (action.CloseDay a)) (action.CloseDay a) room within.next_row)
+    omega (arith, one_row (exists_already (shown_fresh h (action.CloseDay a)) (action.CloseDay a)) (day_row kind.Closed a.day a.name) new, rows_fit (shown_fresh h (action.CloseDay a)) (action.CloseDay a) room within.next_row)
 reply_counts court h (action.CloseSpan a) within is new room =
-    omega (arith, one_row (is_there (shown_fresh h (action.CloseSpan a)) (action.CloseSpan a)) (record { item = Span a.start a.end; name = [] }) new, rows_fit (shown_fresh h (action.CloseSpan a)) (action.CloseSpan a) room within.next_row)
+    omega (arith, one_row (exists_already (shown_fresh h (action.CloseSpan a)) (action.CloseSpan a)) (record { item = Span a.start a.end; name = [] }) new, rows_fit (shown_fresh h (action.CloseSpan a)) (action.CloseSpan a) room within.next_row)
 reply_counts court h (action.ShortDay a) within is new room =
-    omega (arith, one_row (is_there (shown_fresh h (action.ShortDay a)) (action.ShortDay a)) (record { item = Short a.day a.close; name = a.name }) new, rows_fit (shown_fresh h (action.ShortDay a)) (action.ShortDay a) room within.next_row)
+    omega (arith, one_row (exists_already (shown_fresh h (action.ShortDay a)) (action.ShortDay a)) (record { item = Short a.day a.close; name = a.name }) new, rows_fit (shown_fresh h (action.ShortDay a)) (action.ShortDay a) room within.next_row)
 reply_counts court h (action.WithdrawCalendar a) within is new room = is.0
 reply_counts court h (action.ImportCalendar a) within is new room =
     let v = shown_fresh h (action.ImportCalendar a) in

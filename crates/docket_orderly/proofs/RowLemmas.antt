@@ -4,9 +4,9 @@ use Rattle.std.specs.List.{AllByRecursion, filter_map}
 use Rattle.court_days.specs.Court.{CourtSettings}
 use Rattle.docket_command.specs.declared.command.Action.{Action}
 use Rattle.docket_command.specs.declared.command.Action.TheVariants as action
-use Rattle.docket_history.specs.Actions.{deadlines_made}
-use Rattle.docket_history.specs.Histories.{History, case_number, case_rows, party_rows, entry_rows, deadline_rows, parties_of_case, entries_of_case, deadlines_of_case, new_case, new_party, new_entry, new_deadlines, deadline_rows_from, rule_found}
-use Rattle.docket_history.specs.InOrder.{in_order, asked_in_order, gathered, opened, case_row, party_added, party_row, entry_filed, entry_row, made_in}
+use Rattle.docket_history.specs.Actions.{deadlines_made, opened}
+use Rattle.docket_history.specs.Histories.{History, case_number, case_rows, party_rows, entry_rows, deadline_rows, parties_of_case, entries_of_case, deadlines_of_case, new_case, new_party, new_entry, new_deadlines, deadline_rows_from, rule_found, case_row, party_row, entry_row}
+use Rattle.docket_history.specs.InOrder.{in_order, asked_in_order, gathered, party_added, entry_filed, made_in}
 use Rattle.docket_decisions.specs.Outcomes.{IsHistory}
 use Rattle.docket_history.specs.declared.row.CaseRow.{CaseRow}
 use Rattle.docket_history.specs.declared.row.PartyRow.{PartyRow}

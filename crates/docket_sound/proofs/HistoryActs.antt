@@ -22,7 +22,8 @@ use Rattle.docket_command.specs.declared.choice.Ruling.{Ruling}
 use Rattle.docket_command.specs.declared.choice.Ruling.TheVariants.{Denied, Postponed, Statement}
 use Rattle.docket_command.specs.declared.command.Action.{Action}
 use Rattle.docket_command.specs.declared.command.Action.TheVariants as action
-use Rattle.docket_history.specs.Actions.{deadlines_made, acts_made, statement_ordered, timed_or_set, ruled, extension}
+use Rattle.docket_history.specs.Actions.{deadlines_made, acts_made}
+use Rattle.docket_history.specs.DeadlinesMade.{statement_ordered, timed_or_set, ruled, extension}
 use Rattle.docket_history.specs.Histories.{History, act_rows, deadline_rows, deadlines_of_case, acts_of_deadline, case_number, deadline_number, new_deadlines, deadline_rows_from, first_acts, first_acts_from, later_acts, act_rows_on, rule_found}
 use Rattle.docket_decisions.specs.Outcomes.{IsHistory}
 use Rattle.docket_values.specs.Values.{first_bad, bad_values, is_entered_at}

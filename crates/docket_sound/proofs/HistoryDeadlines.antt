@@ -25,7 +25,8 @@ use Rattle.docket_command.specs.declared.command.Action.{Action}
 use Rattle.docket_command.specs.declared.command.Action.TheVariants as action
 use Rattle.docket_command.specs.declared.command.Command.{Command}
 use Rattle.docket_command.specs.declared.local_action.LocalPeriod as local_period
-use Rattle.docket_history.specs.Actions.{FoundRule, case_named, local_rule_named, deadlines_made, asks_parties, if_asked, answer_rule, waiver_rule, pleading_rule, timed_or_set, statement_ordered, ordered, party_ordered, court_ordered, local_time}
+use Rattle.docket_history.specs.Actions.{FoundRule, case_named, local_rule_named, deadlines_made, asks_parties, if_asked, party_ordered}
+use Rattle.docket_history.specs.DeadlinesMade.{answer_rule, waiver_rule, pleading_rule, timed_or_set, statement_ordered, ordered, court_ordered, local_time}
 use Rattle.docket_history.specs.Histories.{History, case_number, case_rows, party_rows, deadline_rows, parties_of_case, deadlines_of_case, new_party, new_deadlines, deadline_rows_from, local_rule_rows, rule_found}
 use Rattle.docket_history.specs.InOrder.{asked_in_order, gathered, made_in}
 use Rattle.docket_decisions.specs.Outcomes.{IsHistory, shown, shown_fresh, case_of_number}
@@ -36,7 +37,8 @@ use Rattle.docket_history.specs.declared.row.PartyRow.{PartyRow}
 use Rattle.docket_history.specs.declared.view.View.{View}
 use Rattle.docket_decisions.proofs.GoodValues.{or_off}
 use Rattle.docket_decisions.proofs.InOrderLemmas.{deadlines_in_order}
-use Rattle.docket_decisions.proofs.Leading.{seen, none_made}
+use Rattle.docket_history.proofs.Asked.{none_made}
+use Rattle.docket_decisions.proofs.Leading.{seen}
 use Rattle.docket_decisions.proofs.LimitsKept.{within_limits}
 use Rattle.docket_decisions.proofs.Passed.{IsFree}
 use Rattle.docket_sound.specs.Deadlines.{is_sound_deadline, has_party, deadline_key, AreSoundDeadlines}

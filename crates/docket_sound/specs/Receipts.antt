@@ -4,7 +4,7 @@ use Rattle.std.specs.List.{AllByRecursion}
 use Rattle.std.specs.Ordering.{is_lt, nat_cmp}
 use Rattle.std.specs.Cmp.Lexicographic.{slice_cmp}
 use Rattle.docket_command.specs.declared.command.Action.{Action}
-use Rattle.docket_command.specs.declared.command.Action.TheVariants.{ShortDay, LocalRule, LocalPeriod}
+use Rattle.docket_command.specs.declared.command.Action.TheVariants.{DeclareDay, CloseDay, CloseSpan, ShortDay, WithdrawCalendar, ImportCalendar, OpenCase, AddParty, FileEntry, ServeSummons, FileWaiver, ServePleading, OrderReply, RuleMotion, Dispose, StatementServed, NoticeHearing, OrderPeriod, EnterJudgment, Extend, Satisfy, Vacate, LocalRule, LocalPeriod}
 use Rattle.docket_command.specs.declared.command.Command.{Command}
 use Rattle.docket_values.specs.Values.{is_word}
 use Rattle.docket_history.specs.declared.row.Receipt.{Receipt}
@@ -22,10 +22,30 @@ receipt_row receipt = record { key = key_of receipt; body = canonical receipt.co
 
 -- whether the kind of command is known: some came later than version 1 of the tables
 abbrev pub is_known_kind : (later : Bool) → Action → Bool
+is_known_kind later (DeclareDay a) = true
+is_known_kind later (CloseDay a) = true
+is_known_kind later (CloseSpan a) = true
 is_known_kind later (ShortDay a) = later
+is_known_kind later (WithdrawCalendar a) = true
+is_known_kind later (ImportCalendar a) = true
+is_known_kind later (OpenCase a) = true
+is_known_kind later (AddParty a) = true
+is_known_kind later (FileEntry a) = true
+is_known_kind later (ServeSummons a) = true
+is_known_kind later (FileWaiver a) = true
+is_known_kind later (ServePleading a) = true
+is_known_kind later (OrderReply a) = true
+is_known_kind later (RuleMotion a) = true
+is_known_kind later (Dispose a) = true
+is_known_kind later (StatementServed a) = true
+is_known_kind later (NoticeHearing a) = true
+is_known_kind later (OrderPeriod a) = true
+is_known_kind later (EnterJudgment a) = true
+is_known_kind later (Extend a) = true
+is_known_kind later (Satisfy a) = true
+is_known_kind later (Vacate a) = true
 is_known_kind later (LocalRule a) = later
 is_known_kind later (LocalPeriod a) = later
-is_known_kind later _ = true
 
 -- each command is of such a kind
 abbrev pub AreOfKnownKinds : (later : Bool) → List Command → Type 0

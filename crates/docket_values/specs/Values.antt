@@ -18,7 +18,7 @@ use Rattle.docket_command.specs.declared.choice.PeriodUnit.TheVariants as unit
 use Rattle.docket_command.specs.declared.choice.ServiceMethod.{ServiceMethod}
 use Rattle.docket_command.specs.declared.time_action.OrderPeriod as order_period
 use Rattle.docket_command.specs.declared.command.Action.{Action}
-use Rattle.docket_command.specs.declared.command.Action.TheVariants.{DeclareDay, CloseDay, CloseSpan, ShortDay, ImportCalendar, OpenCase, AddParty, FileEntry, ServeSummons, FileWaiver, ServePleading, OrderReply, RuleMotion, Dispose, StatementServed, NoticeHearing, OrderPeriod, EnterJudgment, Extend, Satisfy, LocalRule, LocalPeriod}
+use Rattle.docket_command.specs.declared.command.Action.TheVariants.{DeclareDay, CloseDay, CloseSpan, ShortDay, WithdrawCalendar, ImportCalendar, OpenCase, AddParty, FileEntry, ServeSummons, FileWaiver, ServePleading, OrderReply, RuleMotion, Dispose, StatementServed, NoticeHearing, OrderPeriod, EnterJudgment, Extend, Satisfy, Vacate, LocalRule, LocalPeriod}
 use Rattle.docket_command.specs.declared.field.Field.{Field}
 use Rattle.docket_command.specs.declared.field.Field.TheVariants as field
 use Rattle.docket_command.specs.declared.new_day.NewDay.{NewDay}
@@ -202,4 +202,6 @@ bad_values court (LocalRule a) =
     ∷ []
 -- whatever text names a local rule, another one is the name of none
 bad_values court (LocalPeriod a) = bad_day a.start field.Start ∷ []
-bad_values court _ = []
+-- numbers are no bad values: they name what is there or not
+bad_values court (WithdrawCalendar a) = []
+bad_values court (Vacate a) = []

@@ -20,12 +20,12 @@ returns c =
     (before _ c.lacks_deadline.ensures
     (before _ c.lacks_row.ensures
     (before _ c.lacks_local_rule.ensures
-    (before _ c.is_there.ensures
+    (before _ c.exists_already.ensures
     (before _ (c.is_not_open.ensures court v standing)
     (before _ (c.is_not_awaiting.ensures court v standing)
     (before _ c.is_not_responsive.ensures
     (before _ c.is_wrong_motion.ensures
-    (before _ (c.is_after.ensures v standing)
+    (before _ (c.is_late_motion.ensures v standing)
     (before _ c.is_served.ensures
     (before _ c.is_short_waiver.ensures
     (before _ (c.is_late_waiver.ensures v c.requires.matter.calendar)
