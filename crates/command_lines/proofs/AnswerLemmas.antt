@@ -8,12 +8,12 @@ use Rattle.docket_command.specs.declared.refusal.Refusal.{Refusal}
 use Rattle.docket_command.specs.declared.refusal.Reply.{Reply}
 use Rattle.docket_decisions.specs.Outcomes.{Answer, accepted, after, after_answer, outcome, refused, repeated}
 use Rattle.docket_tables.specs.Stands.{LastsAsEither}
-use Rattle.docket_changes.specs.AnyRows.{WritesAtMostOne}
-use Rattle.docket_changes.specs.Applying.{Applies, Faults, Stands, docket_rows}
-use Rattle.docket_changes.proofs.AnyLemmas.{lasting}
-use Rattle.docket_changes.specs.Dockets.{Docket as Stored}
-use Rattle.docket_changes.specs.declared.fault.Fault.{Fault}
-use Rattle.docket_changes.specs.declared.fault.Fault.TheVariants.{Refused, NoMemory, StoreFailed, Closed, Damaged}
+use Rattle.docket_applying.specs.AnyRows.{WritesAtMostOne}
+use Rattle.docket_applying.specs.Applying.{Applies, Faults, Stands, docket_rows}
+use Rattle.docket_applying.proofs.AnyLemmas.{lasting}
+use Rattle.docket_applying.specs.Dockets.{Docket as Stored}
+use Rattle.docket_applying.specs.declared.fault.Fault.{Fault}
+use Rattle.docket_applying.specs.declared.fault.Fault.TheVariants.{Refused, NoMemory, StoreFailed, Closed, Damaged}
 use Rattle.docket_wire.specs.Texts.{reply_text}
 use Rattle.command_lines.specs.Ending.{FailsAt, StandsAs}
 use Rattle.command_lines.specs.Lines.{Docket, answer_text, docket_with, is_refused, IsSaid}

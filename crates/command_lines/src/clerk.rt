@@ -4,7 +4,7 @@ ghost use Rattle.sqlite.specs.Held.{state};
 ghost use Rattle.sqlite.specs.State.{HasCleanDisk};
 ghost use Rattle.docket_decisions.specs.Outcomes.{outcome};
 ghost use Rattle.docket_wire.specs.Texts.{fault_text};
-ghost use Rattle.docket_changes.specs.AnyRows.{WritesAtMostOne};
+ghost use Rattle.docket_applying.specs.AnyRows.{WritesAtMostOne};
 ghost use Rattle.command_lines.specs.Ending.{StandsAs, FailsAt};
 ghost use Rattle.command_lines.specs.Lines.{Docket as Told, IsSaid, docket_with};
 
@@ -23,7 +23,7 @@ pub struct Clerk<S: Alter> {
 }
 
 impl<S: Alter> Model for Clerk<S> {
-    ghost use Rattle.docket_changes.specs.Dockets.{Docket, docket_code};
+    ghost use Rattle.docket_applying.specs.Dockets.{Docket, docket_code};
 
     ghost Value = { Docket S };
 
@@ -106,7 +106,7 @@ impl<S: Alter> Clerk<S> {
 impl<S: Alter> Answerer for Clerk<S> {
     ghost use Rattle.sqlite.specs.Held.{state};
     ghost use Rattle.sqlite.specs.State.{HasCleanDisk};
-    ghost use Rattle.docket_changes.specs.AnyRows.{WritesAtMostOne};
+    ghost use Rattle.docket_applying.specs.AnyRows.{WritesAtMostOne};
     ghost use Rattle.command_lines.specs.Ending.{StandsAs, FailsAt};
     ghost use Rattle.command_lines.specs.Lines.{Docket, judged, judged_long};
 

@@ -9,10 +9,11 @@ ghost use Rattle.sqlite.specs.View.{doubt};
 ghost use Rattle.docket_decisions.specs.EndRows.{calendar_in};
 ghost use Rattle.docket_history.specs.Histories.{History};
 ghost use Rattle.docket_decisions.specs.Tables.{rows_of};
-ghost use Rattle.docket_history.specs.declared.record.DueRow.{DueRow as Due};
+ghost use Rattle.docket_history.specs.declared.record.DueLine.{DueLine as Due};
+ghost use Rattle.docket_tables.specs.Asking.{OnlyAsks};
 ghost use Rattle.docket_tables.specs.Causes.{IsCausedFault};
 ghost use Rattle.docket_tables.specs.Layouts.{Rows as Stored};
-ghost use Rattle.docket_tables.specs.Readings.{Gives, Stays};
+ghost use Rattle.docket_tables.specs.Readings.{Gives};
 ghost use Rattle.docket_tables.specs.Stands.{HoldsRows};
 ghost use Rattle.docket_calendar.specs.Asked.{Lists, OfAsked, RemainsAfter};
 ghost use Rattle.docket_calendar.specs.Calendar.{calendar_rows};
@@ -24,7 +25,7 @@ ghost use Rattle.docket_calendar.specs.Telling.{IsHistoryOf, history_rows};
 use crate::next::next_due;
 use crate::telling::question;
 use court_days::{Calendar, Court, Day};
-use docket_history::DueRow;
+use docket_history::DueLine;
 use docket_tables::ReadFault;
 use sqlite::types::ValueRef;
 use sqlite::{Alter, Connection, Rows, params};
@@ -36,7 +37,7 @@ fn gather_all<S: Alter>(
     court: &Court,
     entered: &Calendar,
     rows: &mut Rows<'_, S>,
-) -> Result<Vec<DueRow>, ReadFault>
+) -> Result<Vec<DueLine>, ReadFault>
     ensures same_reference { rows.new.conn.ghost_name ≡ rows.old.conn.ghost_name }
     ensures mode { rows.old.conn.now.in_transaction ≡ false → rows.new.conn.now.in_transaction ≡ false }
     ensures survives { Survives (state S.Store rows.old.conn.now) (state S.Store rows.new.conn.now) (λ _. ⊥) }
@@ -65,7 +66,7 @@ fn gather<S: Alter>(
     entered: &Calendar,
     sql: &str,
     values: &[ValueRef<'_>],
-) -> Result<Vec<DueRow>, ReadFault>
+) -> Result<Vec<DueLine>, ReadFault>
     ensures mode { conn.old.in_transaction ≡ false → conn.new.in_transaction ≡ false }
     ensures clean { doubt (state S.Store conn.old).is_clean ≤ doubt (state S.Store conn.new).is_clean }
     ensures counts { (state S.Store conn.old).faults ≤ (state S.Store conn.new).faults }
@@ -92,7 +93,7 @@ fn gather_days<S: Alter>(
     entered: &Calendar,
     from: Day,
     to: Day,
-) -> Result<Vec<DueRow>, ReadFault>
+) -> Result<Vec<DueLine>, ReadFault>
     ensures mode { conn.old.in_transaction ≡ false → conn.new.in_transaction ≡ false }
     ensures clean { doubt (state S.Store conn.old).is_clean ≤ doubt (state S.Store conn.new).is_clean }
     ensures counts { (state S.Store conn.old).faults ≤ (state S.Store conn.new).faults }
@@ -120,15 +121,8 @@ pub fn due_rows<S: Alter>(
     entered: &Calendar,
     from: Day,
     to: Day,
-) -> Result<Vec<DueRow>, ReadFault>
-    ensures mode { conn.old.in_transaction ≡ false → conn.new.in_transaction ≡ false }
-    ensures clean { doubt (state S.Store conn.old).is_clean ≤ doubt (state S.Store conn.new).is_clean }
-    ensures counts { (state S.Store conn.old).faults ≤ (state S.Store conn.new).faults }
-    ensures limit { (state S.Store conn.new).step_limit ≡ (state S.Store conn.old).step_limit }
-    // The store fails only for a cause.
-    ensures cause { (rows : Stored) → HoldsRows S.Store conn.old rows → HasCleanDisk (state S.Store conn.new)
-        → IfErr result (IsCausedFault (state S.Store conn.old) (state S.Store conn.new)) }
-    ensures stays { (rows : Stored) → HoldsRows S.Store conn.old rows → Stays S.Store conn.new rows result }
+) -> Result<Vec<DueLine>, ReadFault>
+    ensures only { OnlyAsks S.Store conn.old conn.new result }
     ensures gives { (h : History) → IsHistoryOf court.now h → HoldsRows S.Store conn.old (history_rows court.now h)
         → (HasCleanDisk (state S.Store conn.new) → entered.now ≡ calendar_in (rows_of court.now h))
         → Gives S.Store conn.new (history_rows court.now h) (λ found. found.items ≡ calendar_rows court.now h from to) result }

@@ -3,13 +3,13 @@ ghost use Rattle.std.specs.Prelude.{◌≡◌, ℕ, List, Some, option_copied, I
 ghost use Rattle.std.specs.Str.{IsUtf8};
 ghost use Rattle.sqlite_value.specs.Order.{column};
 ghost use Rattle.sqlite_value.specs.declared.value.Value.TheVariants.{Text as Words};
-ghost use Rattle.docket_history.specs.declared.record.DueRow.{DueRow as Due};
+ghost use Rattle.docket_history.specs.declared.record.DueLine.{DueLine as Due};
 ghost use Rattle.docket_calendar.specs.DueCells.{due_cells, IsDue};
 
 use court_days::{Calendar, Court};
 use docket_columns::{count_at, end_time_at};
 use docket_command::Text;
-use docket_history::{DueRow, close_of_end};
+use docket_history::{DueLine, close_of_end};
 use sqlite::Row;
 use sqlite::types::ValueRef;
 use std::alloc::{AllocError, Global};
@@ -36,7 +36,7 @@ pub(crate) fn due_of(
     court: &Court,
     entered: &Calendar,
     row: &Row,
-) -> Result<Option<DueRow>, AllocError>
+) -> Result<Option<DueLine>, AllocError>
     ensures { (d : Due) → IsDue court.now entered.now d → row.now ≡ due_cells court.now d
         → IfOk result (λ found. found ≡ Some d) }
 {
@@ -56,7 +56,7 @@ pub(crate) fn due_of(
         return Ok(None);
     };
     let end = stored.end();
-    Ok(Some(DueRow {
+    Ok(Some(DueLine {
         end,
         close: close_of_end(court, entered, end),
         case,

@@ -6,7 +6,7 @@ use Rattle.sqlite_value.specs.declared.value.Value.TheVariants.{Int, Text}
 use Rattle.sqlite_value.specs.Order.{Row, column}
 use Rattle.court_days.specs.Court.{CourtSettings}
 use Rattle.court_rules.specs.LocalRules.{deadline_rule_name, is_local_name}
-use Rattle.docket_decisions.specs.declared.end_row.EndRow.{EndRow}
+use Rattle.docket_decisions.specs.declared.end_row.StoredEnd.{StoredEnd}
 use Rattle.docket_history.specs.declared.row.CalendarRow.{CalendarRow}
 use Rattle.docket_history.specs.declared.row.CaseRow.{CaseRow}
 use Rattle.docket_history.specs.declared.row.ShortDayRow.{ShortDayRow}
@@ -16,8 +16,8 @@ use Rattle.docket_history.specs.declared.row.DeadlineRow.{DeadlineRow}
 use Rattle.docket_history.specs.declared.row.ActRow.{ActRow}
 use Rattle.docket_history.specs.declared.row.LocalRuleRow.{LocalRuleRow}
 use Rattle.docket_history.specs.declared.row.Receipt.{Receipt}
-use Rattle.docket_history.specs.declared.view.Kept.{Kept}
-use Rattle.docket_history.specs.declared.view.Kept.TheVariants.{Same, Other}
+use Rattle.docket_history.specs.declared.view.UnderKey.{UnderKey}
+use Rattle.docket_history.specs.declared.view.UnderKey.TheVariants.{Same, Other}
 use Rattle.docket_decisions.specs.Outcomes.{replied}
 use Rattle.docket_columns.specs.declared.court.CourtRow.{CourtRow}
 use Rattle.docket_columns.specs.declared.version.Version.{Version}
@@ -92,7 +92,7 @@ moment_cell None = whole_day
 moment_cell (Some at) = at
 
 -- due: case_no, deadline_no, day, moment
-abbrev pub end_cells : EndRow → Row
+abbrev pub end_cells : StoredEnd → Row
 end_cells r = Int (pos r.case) ∷ Int (pos r.deadline) ∷ Int (pos r.end.day) ∷ Int (moment_cell r.end.moment) ∷ []
 
 -- local_rule: number, name, days, direction, three, extendable
@@ -117,5 +117,5 @@ abbrev pub receipt_cells : Receipt → Row
 receipt_cells r = stored_cells r.command.key (canonical r.command) r.reply.number
 
 -- what is kept under a key, for a command with this body
-abbrev pub kept_as : List ℕ → ℕ → List ℕ → Kept
+abbrev pub kept_as : List ℕ → ℕ → List ℕ → UnderKey
 kept_as stored reply body = if bytes_eq stored body then Same (replied reply) else Other

@@ -12,7 +12,7 @@ use Rattle.court_rules.specs.declared.act.Start.TheVariants as start
 use Rattle.docket_command.specs.Moments.{IsWholeMinute}
 use Rattle.docket_history.specs.declared.item.CalendarItem.{CalendarItem}
 use Rattle.docket_history.specs.declared.item.CalendarItem.TheVariants as item
-use Rattle.docket_decisions.specs.declared.end_row.EndRow.{EndRow}
+use Rattle.docket_decisions.specs.declared.end_row.StoredEnd.{StoredEnd}
 use Rattle.docket_decisions.specs.declared.end_row.EndTime.{EndTime}
 use Rattle.docket_history.specs.declared.row.CalendarRow.{CalendarRow}
 use Rattle.docket_history.specs.declared.row.CaseRow.{CaseRow}
@@ -97,7 +97,7 @@ IsStoredMoment (Some at) = IsSeconds at × (at ≢ whole_day)
 abbrev pub IsEndTime : EndTime → Type 0
 IsEndTime end = IsDayNumber end.day × IsStoredMoment end.moment
 
-abbrev pub IsEndRow : EndRow → Type 0
+abbrev pub IsEndRow : StoredEnd → Type 0
 IsEndRow r = IsCount r.case × IsCount r.deadline × IsEndTime r.end
 
 abbrev pub IsReceipt : Receipt → Type 0

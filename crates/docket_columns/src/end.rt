@@ -3,14 +3,14 @@ ghost use Rattle.std.specs.Prelude.{◌≡◌, ℤ, pos, Option as Optional, Som
 ghost use Rattle.sqlite.specs.Values.{bound};
 ghost use Rattle.sqlite_value.specs.Order.{column};
 ghost use Rattle.sqlite_value.specs.declared.value.Value.TheVariants.{Int};
-ghost use Rattle.docket_decisions.specs.declared.end_row.EndRow.{EndRow as Ended};
+ghost use Rattle.docket_decisions.specs.declared.end_row.StoredEnd.{StoredEnd as Ended};
 ghost use Rattle.docket_decisions.specs.declared.end_row.EndTime.{EndTime as Time};
 ghost use Rattle.docket_columns.specs.Cells.{end_cells, moment_cell};
 ghost use Rattle.docket_columns.specs.Fits.{IsStoredMoment, IsEndTime, IsEndRow};
 
 use crate::cell::{count_at, day_at, has_values, number_at};
 use crate::stored::StoredRow;
-use docket_decisions::{EndRow, EndTime};
+use docket_decisions::{EndTime, StoredEnd};
 use sqlite::Row;
 use sqlite::types::{ToSql, ValueRef};
 use std::alloc::{AllocError, Global};
@@ -41,7 +41,7 @@ fn moment_of(number: i64) -> Option<i64>
 }
 
 /// The columns of an end: case_no, deadline_no, day, moment.
-pub fn end_values(row: &EndRow) -> [ValueRef<'static>; 4]
+pub fn end_values(row: &StoredEnd) -> [ValueRef<'static>; 4]
     ensures { bound result ≡ end_cells row.now }
 {
     [
@@ -65,12 +65,12 @@ pub fn end_time_at(row: &Row, day: usize, moment: usize) -> Option<EndTime>
 }
 
 /// The end of a row. `None`: it is no row of an end.
-pub fn end_of(row: &Row) -> Option<EndRow>
+pub fn end_of(row: &Row) -> Option<StoredEnd>
     ensures reads { (e : Ended) → IsEndRow e → row.now ≡ end_cells e → result ≡ Some e }
     ensures sound { IfSome result (λ e. row.now ≡ end_cells e) }
     ensures fits { IfSome result IsEndRow }
 {
-    let found = EndRow {
+    let found = StoredEnd {
         case: count_at(row, 0)?,
         deadline: count_at(row, 1)?,
         end: end_time_at(row, 2, 3)?,
@@ -82,7 +82,7 @@ pub fn end_of(row: &Row) -> Option<EndRow>
     }
 }
 
-impl StoredRow for EndRow {
+impl StoredRow for StoredEnd {
     ghost use Rattle.docket_columns.specs.Cells.{end_cells};
     ghost use Rattle.docket_columns.specs.Fits.{IsEndRow};
 
@@ -90,7 +90,7 @@ impl StoredRow for EndRow {
 
     ghost Is = { IsEndRow };
 
-    fn read(_alloc: Global, row: &Row) -> Result<Option<EndRow>, AllocError> {
+    fn read(_alloc: Global, row: &Row) -> Result<Option<StoredEnd>, AllocError> {
         Ok(end_of(row))
     }
 }

@@ -19,7 +19,7 @@ use Rattle.docket_decisions.specs.Tables.{rows_of}
 use Rattle.docket_history.specs.declared.row.NewDeadline.{NewDeadline}
 use Rattle.docket_decisions.specs.declared.end_row.EndChange.{EndChange}
 use Rattle.docket_decisions.specs.declared.end_row.EndChange.TheVariants.{Add, Remove, Move}
-use Rattle.docket_decisions.specs.declared.end_row.EndRow.{EndRow}
+use Rattle.docket_decisions.specs.declared.end_row.StoredEnd.{StoredEnd}
 use Rattle.docket_decisions.specs.declared.end_row.EndTime.{EndTime}
 use Rattle.docket_history.specs.declared.row.ActRow.{ActRow}
 use Rattle.docket_history.specs.declared.row.Change.{Change}
@@ -34,19 +34,19 @@ use Rattle.docket_decisions.proofs.OneDeadline.{AreOthers, both_append, is_deadl
 
 module _ (k n : ℕ) where
   -- rows that go leave none
-  none_left : (p : EndRow → Bool) (rows : List EndRow) → AreOthers k n rows → AreOthers k n (filter p rows)
+  none_left : (p : StoredEnd → Bool) (rows : List StoredEnd) → AreOthers k n rows → AreOthers k n (filter p rows)
   none_left p [] all = tt
   none_left p (row ∷ rows) all =
       elim (p row) as (λ b. AreOthers k n (cond b (row ∷ filter p rows) (filter p rows))) [ true ↦ (all.0, none_left p rows all.1) | false ↦ none_left p rows all.1 ]
 
   -- nor does an end that moves make one
-  none_moved : (to : EndRow) (rows : List EndRow) → AreOthers k n rows → AreOthers k n (map (moved_end to) rows)
+  none_moved : (to : StoredEnd) (rows : List StoredEnd) → AreOthers k n rows → AreOthers k n (map (moved_end to) rows)
   none_moved to [] all = tt
   none_moved to (row ∷ rows) all =
       (elim (is_of to.case to.deadline row) as (λ b. is_of k n (cond b (record row { end = to.end }) row) ≡ false) [ true ↦ all.0 | false ↦ all.0 ], none_moved to rows all.1)
 
   -- what is done about another deadline gives this one no row
-  still_none : (j m : ℕ) (first next : Option EndTime) (rows : List EndRow) → (j == k && m == n) ≡ false → AreOthers k n rows → AreOthers k n (all_changed_ends (end_changes j m first next) rows)
+  still_none : (j m : ℕ) (first next : Option EndTime) (rows : List StoredEnd) → (j == k && m == n) ≡ false → AreOthers k n rows → AreOthers k n (all_changed_ends (end_changes j m first next) rows)
   still_none j m None None rows off all = all
   still_none j m None (Some e) rows off all = both_append (λ row. is_of k n row ≡ false) rows (record { case = j; deadline = m; end = e } ∷ []) all (off, tt)
   still_none j m (Some stored) None rows off all = none_left (λ row. not (is_of j m row)) rows all
@@ -57,7 +57,7 @@ module _ (k n : ℕ) where
       ]
 
   -- it adds the row of this one only where there is none
-  once_at : (stored next : Option EndTime) (rows : List EndRow) → (stored ≡ None → AreOthers k n rows) → AddsOnce (end_changes k n stored next) rows
+  once_at : (stored next : Option EndTime) (rows : List StoredEnd) → (stored ≡ None → AreOthers k n rows) → AddsOnce (end_changes k n stored next) rows
   once_at None None rows none = tt
   once_at None (Some e) rows none = (none refl, tt)
   once_at (Some stored) None rows none = tt
@@ -75,7 +75,7 @@ module _ (k n : ℕ) where
 -- changes after others
 
 -- the later ones add to the rows that the earlier ones leave
-once_both : (xs ys : List EndChange) (rows : List EndRow) → AddsOnce xs rows → AddsOnce ys (all_changed_ends xs rows) → AddsOnce (xs ++ ys) rows
+once_both : (xs ys : List EndChange) (rows : List StoredEnd) → AddsOnce xs rows → AddsOnce ys (all_changed_ends xs rows) → AddsOnce (xs ++ ys) rows
 once_both [] ys rows a b = b
 once_both (Add row ∷ xs) ys rows a b = (a.0, once_both xs ys (changed_ends (Add row) rows) a.1 b)
 once_both (Remove j m ∷ xs) ys rows a b = once_both xs ys (changed_ends (Remove j m) rows) a b
@@ -98,22 +98,22 @@ among_more P Q wider (Move to ∷ xs) a = among_more P Q wider xs a
 -- the changes of a case, deadline by deadline
 
 -- removals add none
-once_swept : (stored rows : List EndRow) → AddsOnce (map (λ row. Remove row.case row.deadline) stored) rows
+once_swept : (stored rows : List StoredEnd) → AddsOnce (map (λ row. Remove row.case row.deadline) stored) rows
 once_swept [] rows = tt
 once_swept (row ∷ stored) rows = once_swept stored (changed_ends (Remove row.case row.deadline) rows)
 
 -- of any deadlines
-among_swept : (P : ℕ → ℕ → Type 0) (stored : List EndRow) → AddsAmong P (map (λ row. Remove row.case row.deadline) stored)
+among_swept : (P : ℕ → ℕ → Type 0) (stored : List StoredEnd) → AddsAmong P (map (λ row. Remove row.case row.deadline) stored)
 among_swept P [] = tt
 among_swept P (row ∷ stored) = among_swept P stored
 
 module _ (k : ℕ) where
   -- a deadline from n on that has no row among those stored of the case has none at all
-  abbrev Covers : ℕ → List EndRow → List EndRow → Type 0
+  abbrev Covers : ℕ → List StoredEnd → List StoredEnd → Type 0
   Covers n stored rows = (m : ℕ) → n ≤ m → AreOthers k m stored → AreOthers k m rows
 
   -- where the row of deadline n does not come first, there is none
-  none_first : (n : ℕ) (stored : List EndRow) → AreRowsFrom k n stored → first_end n stored ≡ None → AreOthers k n stored
+  none_first : (n : ℕ) (stored : List StoredEnd) → AreRowsFrom k n stored → first_end n stored ≡ None → AreOthers k n stored
   none_first n stored are none =
       elim (split k n stored are) [
         | inl it ↦ later k n (n + 1) stored (omega arith) it.2
@@ -121,7 +121,7 @@ module _ (k : ℕ) where
       ]
 
   -- the row of deadline n is of no later one
-  none_later : (n m : ℕ) (stored : List EndRow) → AreRowsFrom k n stored → n < m → AreOthers k m (after_first n stored) → AreOthers k m stored
+  none_later : (n m : ℕ) (stored : List StoredEnd) → AreRowsFrom k n stored → n < m → AreOthers k m (after_first n stored) → AreOthers k m stored
   none_later n m stored are low none =
       elim (split k n stored are) [
         | inl it ↦ subst (AreOthers k m) it.1 none
@@ -129,7 +129,7 @@ module _ (k : ℕ) where
       ]
 
   -- by these changes no row is added beside one of its deadline
-  once_from : (n : ℕ) (ends : List (Option EndTime)) (stored rows : List EndRow) → AreRowsFrom k n stored → Covers n stored rows → AddsOnce (changes_from k n ends stored) rows
+  once_from : (n : ℕ) (ends : List (Option EndTime)) (stored rows : List StoredEnd) → AreRowsFrom k n stored → Covers n stored rows → AddsOnce (changes_from k n ends stored) rows
   once_from n [] stored rows are covers = once_swept stored rows
   once_from n (next ∷ ends) stored rows are covers =
       let first = first_end n stored in
@@ -144,7 +144,7 @@ module _ (k : ℕ) where
   IsAmong many j m = (j ≡ k) × (1 ≤ m) × (m ≤ many)
 
   -- each row that they add is of one
-  among_from : (many n : ℕ) (ends : List (Option EndTime)) (stored : List EndRow) → 1 ≤ n → n + length ends ≤ many + 1 → AddsAmong (IsAmong many) (changes_from k n ends stored)
+  among_from : (many n : ℕ) (ends : List (Option EndTime)) (stored : List StoredEnd) → 1 ≤ n → n + length ends ≤ many + 1 → AddsAmong (IsAmong many) (changes_from k n ends stored)
   among_from many n [] stored low high = among_swept (IsAmong many) stored
   among_from many n (next ∷ ends) stored low high =
       among_both (IsAmong many) (end_changes k n (first_end n stored) next) (changes_from k (n + 1) ends (after_first n stored))
@@ -152,7 +152,7 @@ module _ (k : ℕ) where
       (among_from many (n + 1) ends (after_first n stored) (omega arith) (omega (arith, high)))
 
   -- both, with rows of other cases before those of the case
-  pub added_beside : (many : ℕ) (ends : List (Option EndTime)) (stored others : List EndRow) → length ends ≡ many → AreRowsFrom k 1 stored → AllByRecursion (IsElsewhere k 1) others
+  pub added_beside : (many : ℕ) (ends : List (Option EndTime)) (stored others : List StoredEnd) → length ends ≡ many → AreRowsFrom k 1 stored → AllByRecursion (IsElsewhere k 1) others
       → AddsOnce (changes_from k 1 ends stored) (others ++ stored) × AddsAmong (IsAmong many) (changes_from k 1 ends stored)
   added_beside many ends stored others counts are apart =
       (once_from 1 ends stored (others ++ stored) are (λ m high none. both_append (λ row. is_of k m row ≡ false) others stored (are_not k 1 m others high apart) none), among_from many 1 ends stored (omega arith) (omega (arith, counts)))
@@ -174,7 +174,7 @@ module _ (zone : ZoneRules) (entered : Entered) where
       at false e = row_off zone entered k n d.case d.number _ e
 
   -- the first acts of new deadlines add no row beside one of its deadline
-  once_firsts : (named : List Act) (k m : ℕ) (made : List NewDeadline) (stored : List EndRow) → ((j : ℕ) → m ≤ j → AreOthers k j stored)
+  once_firsts : (named : List Act) (k m : ℕ) (made : List NewDeadline) (stored : List StoredEnd) → ((j : ℕ) → m ≤ j → AreOthers k j stored)
       → AddsOnce (flat_map (moves_by_act zone entered named) (first_acts_from k m made)) stored
   once_firsts named k m [] stored none = tt
   once_firsts named k m (d ∷ made) stored none =
@@ -219,7 +219,7 @@ module _ (court : CourtSettings) (h : History) (c : Command) (is : IsHistory cou
   abbrev moves : List ActRow → List EndChange
   moves made = flat_map (moves_by_act zone entered its_acts) made
 
-  abbrev stored : List EndRow
+  abbrev stored : List StoredEnd
   stored = rows zone entered acts (deadline_rows h)
 
   abbrev next : ℕ
@@ -228,7 +228,7 @@ module _ (court : CourtSettings) (h : History) (c : Command) (is : IsHistory cou
   abbrev made : List NewDeadline
   made = deadlines_made (rule_found h c.action) c.action
 
-  abbrev grown : List EndRow
+  abbrev grown : List StoredEnd
   grown = first_ends zone entered k next made
 
   abbrev LaterOnce : List Act → Type 0

@@ -27,7 +27,7 @@ use Rattle.docket_decisions.specs.declared.decision.Decision.{Decision}
 use Rattle.docket_decisions.specs.declared.decision.Decision.TheVariants as decision
 use Rattle.docket_decisions.specs.declared.decision.DecideFault.{DecideFault}
 use Rattle.docket_decisions.specs.declared.end_row.EndChange.{EndChange}
-use Rattle.docket_decisions.specs.declared.end_row.EndRow.{EndRow}
+use Rattle.docket_decisions.specs.declared.end_row.StoredEnd.{StoredEnd}
 use Rattle.docket_decisions.specs.declared.moving.EndUpdate.{EndUpdate}
 use Rattle.docket_decisions.specs.declared.moving.EndUpdate.TheVariants.{Moves, Calendar}
 use Rattle.docket_decisions.proofs.AddedActs.{acts_added, acts_are}
@@ -48,7 +48,7 @@ module _ (court : CourtSettings) (h : History) (c : Command) (is : IsHistory cou
   abbrev named : List Act
   named = acts_in (deadline_shown v)
 
-  abbrev ends : List EndRow
+  abbrev ends : List StoredEnd
   ends = end_rows court (rows_of court h)
 
   abbrev moves : List EndChange
@@ -90,8 +90,8 @@ module _ (court : CourtSettings) (h : History) (c : Command) (is : IsHistory cou
 
 pub ends_moved : (court : CourtSettings) (h : History) (c : Command) (v : View) (r : Result Decision DecideFault) → IsHistory court h → v ≡ shown court h c → IsAnswer r (answer_of court v c)
     → IfOk r (LeadsTo court h c) → IfOk r (UpdatesEndsBy court v c.action) → IfOk r (MovesEnds court h c)
-ends_moved court h c v (Err fault) is seen answer leads ends = tt
-ends_moved court h c v (Ok (decision.Repeat reply)) is seen answer leads ends = tt
-ends_moved court h c v (Ok (decision.Change changes)) is seen answer leads ends =
+ends_moved court h c v (Err fault) is seen answer leads updates = tt
+ends_moved court h c v (Ok (decision.Repeat reply)) is seen answer leads updates = tt
+ends_moved court h c v (Ok (decision.Change changes)) is seen answer leads updates =
     let history : IsHistory court (c ∷ h) = ((changes.reply, ap (λ w. answer_of court w c) (sym seen) ∙ answer), is) in
-    update_right court h c history v seen changes.rows.items changes.reply leads changes.ends ends
+    update_right court h c history v seen changes.rows.items changes.reply leads changes.ends updates

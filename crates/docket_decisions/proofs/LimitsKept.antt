@@ -437,14 +437,14 @@ pub lawful_deadlines : (court : CourtSettings) (h : History) → IsWithinLimits 
 lawful_deadlines court h within k = all_deadlines h (AreActs (zone_of court)) within.acts k
 
 -- the acts of a deadline that is shown are lawful, and there is room for one more where its time is not over
-lawful_acts : (zone : ZoneRules) (o : Option DeadlineView) → IfSome o (λ (d : DeadlineView). AreSound zone d.acts) → IfSome o (λ (d : DeadlineView). AreActs zone d.acts)
-lawful_acts zone None sound = tt
-lawful_acts zone (Some d) sound = sound.lawful
+lawful_acts : (rules : ZoneRules) (o : Option DeadlineView) → IfSome o (λ (d : DeadlineView). AreSound rules d.acts) → IfSome o (λ (d : DeadlineView). AreActs rules d.acts)
+lawful_acts rules None sound = tt
+lawful_acts rules (Some d) sound = sound.lawful
 
-room_left : (zone : ZoneRules) (entered : Entered) (o : Option DeadlineView) → IfSome o (λ (d : DeadlineView). AreSound zone d.acts)
-    → is_over (standing_by_acts zone entered (acts_in o)) ≡ false → length (acts_in o) < 100
-room_left zone entered None sound going = omega arith
-room_left zone entered (Some d) sound going = sound.room entered going
+room_left : (rules : ZoneRules) (entered : Entered) (o : Option DeadlineView) → IfSome o (λ (d : DeadlineView). AreSound rules d.acts)
+    → is_over (standing_by_acts rules entered (acts_in o)) ≡ false → length (acts_in o) < 100
+room_left rules entered None sound going = omega arith
+room_left rules entered (Some d) sound going = sound.room entered going
 
 pub sound_view : (court : CourtSettings) (h : History) → IsHistory court h → (c : Command) → IsSoundView court (shown court h c)
 sound_view court h is c =

@@ -27,7 +27,7 @@ use Rattle.docket_history.specs.Records.{calendar}
 use Rattle.docket_history.specs.Views.{deadline_at, deadline_shown, named_in, acts_in}
 use Rattle.docket_history.specs.declared.row.NewDeadline.{NewDeadline}
 use Rattle.docket_decisions.specs.declared.end_row.EndChange.{EndChange}
-use Rattle.docket_decisions.specs.declared.end_row.EndRow.{EndRow}
+use Rattle.docket_decisions.specs.declared.end_row.StoredEnd.{StoredEnd}
 use Rattle.docket_decisions.specs.declared.end_row.EndTime.{EndTime}
 use Rattle.docket_history.specs.declared.row.ActRow.{ActRow}
 use Rattle.docket_history.specs.declared.row.Change.{Change}
@@ -46,7 +46,7 @@ module _ (zone : ZoneRules) (entered : Entered) where
   abbrev pub end : List Act → Option EndTime
   end acts = end_running zone (standing zone entered acts)
 
-  abbrev pub rows : List ActRow → List DeadlineRow → List EndRow
+  abbrev pub rows : List ActRow → List DeadlineRow → List StoredEnd
   rows acts ds = flat_map (row_of_deadline zone entered acts) ds
 
   abbrev KeepsActs : List ActRow → List ActRow → DeadlineRow → Type 0
@@ -66,7 +66,7 @@ module _ (zone : ZoneRules) (entered : Entered) where
 
   -- new deadlines
 
-  abbrev pub first_ends : ℕ → ℕ → List NewDeadline → List EndRow
+  abbrev pub first_ends : ℕ → ℕ → List NewDeadline → List StoredEnd
   first_ends k m [] = []
   first_ends k m (d ∷ made) = end_row k m (end (d.first ∷ [])) ++ first_ends k (m + 1) made
 
@@ -75,12 +75,12 @@ module _ (zone : ZoneRules) (entered : Entered) where
   first_off k n m (d ∷ made) low =
       both_append (λ row. is_of k n row ≡ false) (end_row k m (end (d.first ∷ []))) (first_ends k (m + 1) made) (row_off k n k m (end (d.first ∷ [])) (is_earlier k n k m (inr low))) (first_off k n (m + 1) made (omega (arith, low)))
 
-  added : (k m : ℕ) (at : Option EndTime) (ends : List EndRow) → all_changed_ends (end_changes k m None at) ends ≡ ends ++ end_row k m at
+  added : (k m : ℕ) (at : Option EndTime) (ends : List StoredEnd) → all_changed_ends (end_changes k m None at) ends ≡ ends ++ end_row k m at
   added k m None ends = sym (append-nil ends)
   added k m (Some e) ends = refl
 
   -- their first acts add their ends
-  pub firsts_added : (named : List Act) (k m : ℕ) (made : List NewDeadline) (ends : List EndRow)
+  pub firsts_added : (named : List Act) (k m : ℕ) (made : List NewDeadline) (ends : List StoredEnd)
       → all_changed_ends (flat_map (moves_by_act zone entered named) (first_acts_from k m made)) ends ≡ ends ++ first_ends k m made
   firsts_added named k m [] ends = sym (append-nil ends)
   firsts_added named k m (d ∷ made) ends =
@@ -146,7 +146,7 @@ module _ (zone : ZoneRules) (entered : Entered) where
     same_rows some all off = rows_kept acts more some (kept_all some all off)
 
     -- one of them gets an act
-    module _ (n : ℕ) (once : IsOnce (is_deadline k n) ds) (low : n ≤ count) (act : Act) (are : acts_of_deadline k n later ≡ act ∷ []) (off : (d : DeadlineRow) → is_deadline k n d ≡ false → HasNone d) (ends : List EndRow) (apart : AreOthers k n ends) where
+    module _ (n : ℕ) (once : IsOnce (is_deadline k n) ds) (low : n ≤ count) (act : Act) (are : acts_of_deadline k n later ≡ act ∷ []) (off : (d : DeadlineRow) → is_deadline k n d ≡ false → HasNone d) (ends : List StoredEnd) (apart : AreOthers k n ends) where
       offs : (some : List DeadlineRow) → AreNot (is_deadline k n) some → AllByRecursion HasNone some
       offs [] all = tt
       offs (d ∷ some) all = (off d all.0, offs some all.1)
@@ -195,7 +195,7 @@ module _ (zone : ZoneRules) (entered : Entered) where
 
     -- all deadlines, with the new ones
     module _ (none : (j : ℕ) → count + 1 ≤ j → acts_of_deadline k j acts ≡ []) (after : (j : ℕ) → count + 1 ≤ j → acts_of_deadline k j later ≡ []) (named : List Act) where
-      abbrev grown : List EndRow
+      abbrev grown : List StoredEnd
       grown = first_ends k (count + 1) made
 
       abbrev moves : List ActRow → List EndChange

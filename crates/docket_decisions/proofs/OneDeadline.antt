@@ -12,7 +12,7 @@ use Rattle.docket_history.specs.InOrder.{asked_in_order, gathered, made_in}
 use Rattle.docket_history.specs.declared.row.NewDeadline.{NewDeadline}
 use Rattle.docket_decisions.specs.declared.end_row.EndChange.{EndChange}
 use Rattle.docket_decisions.specs.declared.end_row.EndChange.TheVariants.{Remove, Move}
-use Rattle.docket_decisions.specs.declared.end_row.EndRow.{EndRow}
+use Rattle.docket_decisions.specs.declared.end_row.StoredEnd.{StoredEnd}
 use Rattle.docket_decisions.specs.declared.end_row.EndTime.{EndTime}
 use Rattle.docket_history.specs.declared.row.DeadlineRow.{DeadlineRow}
 use Rattle.docket_decisions.proofs.ActsKept.{no_fewer}
@@ -22,24 +22,24 @@ use Rattle.docket_decisions.proofs.InOrderLemmas.{deadlines_in_order, length-fro
 -- one deadline, among those of others
 
 module _ (k n : ℕ) where
-  abbrev pub AreOthers : List EndRow → Type 0
+  abbrev pub AreOthers : List StoredEnd → Type 0
   AreOthers rows = AllByRecursion (λ row. is_of k n row ≡ false) rows
 
-  abbrev new : EndTime → EndRow
+  abbrev new : EndTime → StoredEnd
   new end = record { case = k; deadline = n; end = end }
 
   here : (k == k && n == n) ≡ true
   here = let a : (k == k) ≡ true = grind (arith, nat_tests) in let b : (n == n) ≡ true = grind (arith, nat_tests) in ap₂ (λ x y. x && y) a b
 
-  left : (rows : List EndRow) → AreOthers rows → filter (λ row. not (is_of k n row)) rows ≡ rows
+  left : (rows : List StoredEnd) → AreOthers rows → filter (λ row. not (is_of k n row)) rows ≡ rows
   left [] all = refl
   left (row ∷ rows) all = ap (λ b. cond (not b) (row ∷ filter (λ r. not (is_of k n r)) rows) (filter (λ r. not (is_of k n r)) rows)) all.0 ∙ ap (λ more. row ∷ more) (left rows all.1)
 
-  stay : (end : EndTime) (rows : List EndRow) → AreOthers rows → map (moved_end (new end)) rows ≡ rows
+  stay : (end : EndTime) (rows : List StoredEnd) → AreOthers rows → map (moved_end (new end)) rows ≡ rows
   stay end [] all = refl
   stay end (row ∷ rows) all = ap₂ (λ r more. r ∷ more) (ap (λ b. cond b (record row { end = end }) row) all.0) (stay end rows all.1)
 
-  module _ (front back : List EndRow) (off_front : AreOthers front) (off_back : AreOthers back) where
+  module _ (front back : List StoredEnd) (off_front : AreOthers front) (off_back : AreOthers back) where
     removed : (stored : EndTime) → changed_ends (Remove k n) (front ++ new stored ∷ back) ≡ front ++ back
     removed stored =
         filter-append (λ row. not (is_of k n row)) front (new stored ∷ back)

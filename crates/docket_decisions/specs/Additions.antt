@@ -4,12 +4,12 @@ use Rattle.std.specs.List.{AllByRecursion}
 use Rattle.docket_decisions.specs.EndRows.{is_of, changed_ends}
 use Rattle.docket_decisions.specs.declared.end_row.EndChange.{EndChange}
 use Rattle.docket_decisions.specs.declared.end_row.EndChange.TheVariants.{Add}
-use Rattle.docket_decisions.specs.declared.end_row.EndRow.{EndRow}
+use Rattle.docket_decisions.specs.declared.end_row.StoredEnd.{StoredEnd}
 use Rattle.docket_history.specs.declared.row.Change.{Change}
 use Rattle.docket_history.specs.declared.row.Change.TheVariants.{AddAct}
 
 -- each row that is added is of a deadline that has no row then
-abbrev pub AddsOnce : List EndChange → List EndRow → Type 0
+abbrev pub AddsOnce : List EndChange → List StoredEnd → Type 0
 AddsOnce [] rows = Unit {0}
 AddsOnce (Add row ∷ more) rows =
     AllByRecursion (λ other. is_of row.case row.deadline other ≡ false) rows × AddsOnce more (changed_ends (Add row) rows)

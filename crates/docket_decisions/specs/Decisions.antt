@@ -20,14 +20,14 @@ use Rattle.docket_decisions.specs.Refusals.{count_added, is_over}
 use Rattle.docket_decisions.specs.Tables.{rows_of, all_changed, with_receipt}
 use Rattle.docket_decisions.specs.declared.moving.EndUpdate.{EndUpdate}
 use Rattle.docket_decisions.specs.declared.moving.EndUpdate.TheVariants.{Moves, Calendar}
-use Rattle.docket_decisions.specs.declared.refusals.Matter.{Matter}
+use Rattle.docket_decisions.specs.declared.refusals.Circumstances.{Circumstances}
 use Rattle.docket_history.specs.declared.row.Change.{Change}
 use Rattle.docket_decisions.specs.declared.decision.Decision.{Decision}
 use Rattle.docket_decisions.specs.declared.decision.Decision.TheVariants as decision
 use Rattle.docket_decisions.specs.declared.decision.DecideFault.{DecideFault}
 use Rattle.docket_decisions.specs.declared.decision.DecideFault.TheVariants.{Refused, NoMemory}
 use Rattle.docket_history.specs.declared.view.DeadlineView.{DeadlineView}
-use Rattle.docket_history.specs.declared.view.Kept.TheVariants.{Same}
+use Rattle.docket_history.specs.declared.view.UnderKey.TheVariants.{Same}
 use Rattle.docket_history.specs.declared.view.View.{View}
 
 -- a view that a history can show: its calendar holds what a court may enter, at most 4,000 rows, rows have numbers up to
@@ -42,12 +42,12 @@ pub record IsSoundView (court : CourtSettings) (v : View) : Type 0 where
   pub local : IfSome v.local (λ (rule : LocalRule). is_local_rule rule ≡ true)
 
 -- what an action is judged by beside its view
-pub record IsMatter (matter : Matter) (v : View) (a : Action) : Type 0 where
-  pub calendar : matter.calendar.now ≡ calendar_of v.calendar
-  pub standing : matter.standing ≡ standing_shown matter.court.now v
-  pub near : StandsAfter 100 matter.standing
-  pub added : matter.added ≡ count_added v a
-  pub made : matter.made ≡ length (deadlines_made v.local a)
+pub record AreCircumstances (circumstances : Circumstances) (v : View) (a : Action) : Type 0 where
+  pub calendar : circumstances.calendar.now ≡ calendar_of v.calendar
+  pub standing : circumstances.standing ≡ standing_shown circumstances.court.now v
+  pub near : StandsAfter 100 circumstances.standing
+  pub added : circumstances.added ≡ count_added v a
+  pub made : circumstances.made ≡ length (deadlines_made v.local a)
 
 -- the decision is this answer, unless memory is short
 abbrev pub IsAnswer : Result Decision DecideFault → Answer → Type 0
@@ -58,7 +58,7 @@ IsAnswer (Err NoMemory) answer = Unit {0}
 
 -- a repeat has the reply that is kept under the command's key
 abbrev pub IsKeptReply : View → Decision → Type 0
-IsKeptReply v (decision.Repeat reply) = v.kept ≡ Same reply
+IsKeptReply v (decision.Repeat reply) = v.under_key ≡ Same reply
 IsKeptReply v (decision.Change changes) = Unit {0}
 
 -- the changes are these, if there are any

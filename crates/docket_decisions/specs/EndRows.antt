@@ -19,7 +19,7 @@ use Rattle.docket_history.specs.Histories.{items_of, acts_of_deadline}
 use Rattle.docket_decisions.specs.Tables.{Tables}
 use Rattle.docket_decisions.specs.declared.end_row.EndChange.{EndChange}
 use Rattle.docket_decisions.specs.declared.end_row.EndChange.TheVariants.{Add, Remove, Move}
-use Rattle.docket_decisions.specs.declared.end_row.EndRow.{EndRow}
+use Rattle.docket_decisions.specs.declared.end_row.StoredEnd.{StoredEnd}
 use Rattle.docket_decisions.specs.declared.end_row.EndTime.{EndTime}
 use Rattle.docket_history.specs.declared.row.ActRow.{ActRow}
 use Rattle.docket_history.specs.declared.row.DeadlineRow.{DeadlineRow}
@@ -50,12 +50,12 @@ end_running zone (Running end) = Some (time_of zone end)
 end_running zone _ = None
 
 -- the row of deadline n of case k, where its time runs
-abbrev pub end_row : ℕ → ℕ → Option EndTime → List EndRow
+abbrev pub end_row : ℕ → ℕ → Option EndTime → List StoredEnd
 end_row k n None = []
 end_row k n (Some end) = record { case = k; deadline = n; end = end } ∷ []
 
 -- the row of a deadline, by its acts among those of all deadlines
-abbrev pub row_of_deadline : ZoneRules → Entered → List ActRow → DeadlineRow → List EndRow
+abbrev pub row_of_deadline : ZoneRules → Entered → List ActRow → DeadlineRow → List StoredEnd
 row_of_deadline zone entered acts d =
     end_row d.case d.number (end_running zone (standing zone entered (acts_of_deadline d.case d.number acts)))
 
@@ -64,7 +64,7 @@ abbrev pub calendar_in : Tables → Entered
 calendar_in t = calendar_of (items_of t.calendar)
 
 -- the rows of all deadlines of the tables
-unfoldable pub end_rows : CourtSettings → Tables → List EndRow
+unfoldable pub end_rows : CourtSettings → Tables → List StoredEnd
 end_rows court t = flat_map (row_of_deadline (zone_of court) (calendar_in t) t.acts) t.deadlines
 
 -- the same of a case
@@ -74,39 +74,39 @@ abbrev pub ends_running : ZoneRules → Entered → List DeadlineView → List (
 ends_running zone entered deadlines = map (λ d. end_running zone (standing zone entered d.acts)) deadlines
 
 -- the rows of deadlines with these ends, numbered from a number on
-abbrev pub end_rows_from : ℕ → ℕ → List (Option EndTime) → List EndRow
+abbrev pub end_rows_from : ℕ → ℕ → List (Option EndTime) → List StoredEnd
 end_rows_from k n [] = []
 end_rows_from k n (end ∷ ends) = end_row k n end ++ end_rows_from k (n + 1) ends
 
-abbrev pub end_rows_of : ZoneRules → Entered → ℕ → List DeadlineView → List EndRow
+abbrev pub end_rows_of : ZoneRules → Entered → ℕ → List DeadlineView → List StoredEnd
 end_rows_of zone entered k deadlines = end_rows_from k 1 (ends_running zone entered deadlines)
 
 -- changes of these rows
 
 -- the row is that of deadline n of case k
-abbrev pub is_of : ℕ → ℕ → EndRow → Bool
+abbrev pub is_of : ℕ → ℕ → StoredEnd → Bool
 is_of k n row = row.case == k && row.deadline == n
 
 -- the row of the same deadline has the end of the other
-abbrev pub moved_end : EndRow → EndRow → EndRow
+abbrev pub moved_end : StoredEnd → StoredEnd → StoredEnd
 moved_end to row = if is_of to.case to.deadline row then record row { end = to.end } else row
 
-abbrev pub changed_ends : EndChange → List EndRow → List EndRow
+abbrev pub changed_ends : EndChange → List StoredEnd → List StoredEnd
 changed_ends (Add row) rows = rows ++ row ∷ []
 changed_ends (Remove k n) rows = filter (λ row. not (is_of k n row)) rows
 changed_ends (Move to) rows = map (moved_end to) rows
 
 -- the changes, one after another
-abbrev pub all_changed_ends : List EndChange → List EndRow → List EndRow
+abbrev pub all_changed_ends : List EndChange → List StoredEnd → List StoredEnd
 all_changed_ends [] rows = rows
 all_changed_ends (x ∷ xs) rows = all_changed_ends xs (changed_ends x rows)
 
 -- the rows of other cases, and of other deadlines before n
-abbrev pub IsElsewhere : ℕ → ℕ → EndRow → Type 0
+abbrev pub IsElsewhere : ℕ → ℕ → StoredEnd → Type 0
 IsElsewhere k n row = (m : ℕ) → n ≤ m → is_of k m row ≡ false
 
 -- rows of deadlines of case k from n on, in their order
-abbrev pub AreRowsFrom : ℕ → ℕ → List EndRow → Type 0
+abbrev pub AreRowsFrom : ℕ → ℕ → List StoredEnd → Type 0
 AreRowsFrom k n [] = Unit {0}
 AreRowsFrom k n (row ∷ rows) = (row.case ≡ k) × (n ≤ row.deadline) × AreRowsFrom k (row.deadline + 1) rows
 
@@ -125,22 +125,22 @@ end_changes k n (Some stored) (Some end) =
     else Move (record { case = k; deadline = n; end = end }) ∷ []
 
 -- the end of deadline n, where its row comes first, and the rows after it
-abbrev pub first_end : ℕ → List EndRow → Option EndTime
+abbrev pub first_end : ℕ → List StoredEnd → Option EndTime
 first_end n [] = None
 first_end n (row ∷ rows) = if row.deadline == n then Some row.end else None
 
-abbrev pub after_first : ℕ → List EndRow → List EndRow
+abbrev pub after_first : ℕ → List StoredEnd → List StoredEnd
 after_first n [] = []
 after_first n (row ∷ rows) = if row.deadline == n then rows else row ∷ rows
 
 -- the changes that lead from stored rows to those of deadlines with these ends; rows of no deadline go
-abbrev pub changes_from : ℕ → ℕ → List (Option EndTime) → List EndRow → List EndChange
+abbrev pub changes_from : ℕ → ℕ → List (Option EndTime) → List StoredEnd → List EndChange
 changes_from k n [] stored = map (λ row. Remove row.case row.deadline) stored
 changes_from k n (end ∷ ends) stored =
     end_changes k n (first_end n stored) end ++ changes_from k (n + 1) ends (after_first n stored)
 
 -- the change takes, adds or moves the row of that deadline
-abbrev pub touches : EndChange → EndRow → Bool
+abbrev pub touches : EndChange → StoredEnd → Bool
 touches (Add new) row = is_of new.case new.deadline row
 touches (Remove k n) row = is_of k n row
 touches (Move to) row = is_of to.case to.deadline row

@@ -19,8 +19,8 @@ use Rattle.docket_history.specs.Views.{parties_in, entries_in, count_deadlines, 
 use Rattle.docket_history.specs.declared.row.CalendarRow.{CalendarRow}
 use Rattle.docket_history.specs.declared.row.CaseRow.{CaseRow}
 use Rattle.docket_history.specs.declared.row.Receipt.{Receipt}
-use Rattle.docket_history.specs.declared.view.Kept.{Kept}
-use Rattle.docket_history.specs.declared.view.Kept.TheVariants.{Fresh, Same, Other}
+use Rattle.docket_history.specs.declared.view.UnderKey.{UnderKey}
+use Rattle.docket_history.specs.declared.view.UnderKey.TheVariants.{Fresh, Same, Other}
 use Rattle.docket_history.specs.declared.view.View.{View}
 use Rattle.docket_history.specs.declared.view.CaseView.{CaseView}
 
@@ -46,7 +46,7 @@ case_of h a = option_and_then (case_of_number h a) (case_named a)
 -- what a history shows about an action, under a key that is fresh: what the action asks about
 abbrev pub shown_fresh : History → Action → View
 shown_fresh h a = record {
-  kept = Fresh;
+  under_key = Fresh;
   cases = if_asked (asks_cases a) (length (case_rows h));
   label_taken = is_label_taken a (case_rows h);
   case = case_of h a;
@@ -97,16 +97,16 @@ receipts court (c ∷ before) =
     ++ record { command = c; reply = replied (reply_to court (shown_fresh before c.action) c.action) } ∷ []
 
 -- what stands under a command's key: the command under it is the same or another
-abbrev pub kept_by : Option Receipt → Command → Kept
+abbrev pub kept_by : Option Receipt → Command → UnderKey
 kept_by None c = Fresh
 kept_by (Some r) c = if is_same_command r.command c then Same r.reply else Other
 
-abbrev pub kept : List Receipt → Command → Kept
-kept rs c = kept_by (find (λ r. bytes_eq r.command.key c.key) rs) c
+abbrev pub under_key : List Receipt → Command → UnderKey
+under_key rs c = kept_by (find (λ r. bytes_eq r.command.key c.key) rs) c
 
 -- what a history shows about a command
 abbrev pub shown : CourtSettings → History → Command → View
-shown court h c = record (shown_fresh h c.action) { kept = kept (receipts court h) c }
+shown court h c = record (shown_fresh h c.action) { under_key = under_key (receipts court h) c }
 
 -- the answer to a command: the reply that it had before, a refusal, or the reply to a new one
 pub data Answer : Type 0 where
@@ -118,13 +118,13 @@ abbrev pub answer_by : CourtSettings → View → Action → Option Refusal → 
 answer_by court v a (Some r) = refused r
 answer_by court v a None = accepted (replied (reply_to court v a))
 
-abbrev pub answer_kept : CourtSettings → Kept → View → Command → Answer
+abbrev pub answer_kept : CourtSettings → UnderKey → View → Command → Answer
 answer_kept court (Same reply) v c = repeated reply
 answer_kept court _ v c = answer_by court v c.action (refusal_of court v c)
 
 -- the answer to a command, by what is shown about it
 abbrev pub answer_of : CourtSettings → View → Command → Answer
-answer_of court v c = answer_kept court v.kept v c
+answer_of court v c = answer_kept court v.under_key v c
 
 -- the answer to a command, after a history
 abbrev pub outcome : CourtSettings → History → Command → Answer

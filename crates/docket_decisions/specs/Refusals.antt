@@ -34,12 +34,12 @@ use Rattle.docket_history.specs.Views.{parties_in, entries_in, count_deadlines, 
 use Rattle.docket_history.specs.declared.item.CalendarItem.{CalendarItem}
 use Rattle.docket_history.specs.declared.item.CalendarItem.TheVariants.{Short}
 use Rattle.docket_history.specs.declared.view.DeadlineView.{DeadlineView}
-use Rattle.docket_history.specs.declared.view.Kept.{Kept}
-use Rattle.docket_history.specs.declared.view.Kept.TheVariants.{Other}
+use Rattle.docket_history.specs.declared.view.UnderKey.{UnderKey}
+use Rattle.docket_history.specs.declared.view.UnderKey.TheVariants.{Other}
 use Rattle.docket_history.specs.declared.view.View.{View}
 
 -- the key has a receipt for another command
-abbrev pub is_reused : Kept → Bool
+abbrev pub is_reused : UnderKey → Bool
 is_reused Other = true
 is_reused _ = false
 
@@ -297,7 +297,7 @@ state_refusals court v a =
 abbrev pub refusals : CourtSettings → View → Command → List (Option Refusal)
 refusals court v c =
     on (not (is_word 64 c.key)) refusal.BadKey
-    ∷ on (is_reused v.kept) refusal.KeyReused
+    ∷ on (is_reused v.under_key) refusal.KeyReused
     ∷ on_value (first_bad (bad_values court c.action))
     ∷ state_refusals court v c.action
 

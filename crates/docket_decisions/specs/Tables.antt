@@ -7,7 +7,7 @@ use Rattle.docket_command.specs.declared.command.Action.{Action}
 use Rattle.docket_command.specs.declared.refusal.Reply.{Reply}
 use Rattle.docket_history.specs.Actions.{case_named, row_withdrawn, asks_calendar, asks_cases, asks_next_row, asks_local_rules, if_asked}
 use Rattle.docket_history.specs.Histories.{History, standing_rows, next_row, items_of, numbered, rows_added, case_rows, party_rows, entry_rows, deadline_rows, act_rows, new_case, new_party, new_entry, new_deadlines, first_acts, later_acts, parties_of_case, entries_of_case, deadlines_of_case, deadlines_from, local_rule_rows, new_local_rule, local_rule_in}
-use Rattle.docket_decisions.specs.Outcomes.{receipts, kept, is_label_taken, is_row_standing}
+use Rattle.docket_decisions.specs.Outcomes.{receipts, under_key, is_label_taken, is_row_standing}
 use Rattle.docket_history.specs.Views.{parties_in, entries_in, count_deadlines, deadline_shown, acts_in, named_in, rule_name_asked, case_shown}
 use Rattle.docket_history.specs.declared.row.Change.{Change}
 use Rattle.docket_history.specs.declared.row.Change.TheVariants.{AddCalendar, RemoveCalendar, AddCase, AddParty, AddEntry, AddDeadline, AddAct, AddLocalRule}
@@ -135,7 +135,7 @@ case_named_in t a = option_and_then (case_in t a) (case_named a)
 
 abbrev pub view_in : Tables → Command → View
 view_in t c = record {
-  kept = kept t.receipts c;
+  under_key = under_key t.receipts c;
   cases = if_asked (asks_cases c.action) (length t.cases);
   label_taken = is_label_taken c.action t.cases;
   case = case_named_in t c.action;

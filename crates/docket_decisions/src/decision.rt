@@ -2,7 +2,7 @@
 ghost use Rattle.std.specs.Prelude.{◌≡◌, ◌+◌, ◌≤◌, ◌^◌, false, IfOk, if◌then◌else◌};
 ghost use Rattle.docket_history.specs.CalendarItems.{calendar_of};
 ghost use Rattle.court_rules.specs.Standings.{StandsAfter};
-ghost use Rattle.docket_decisions.specs.Decisions.{UpdatesEndsBy, IsAnswer, IsChange, IsKeptReply, LeadsTo, IsSoundView, IsMatter, MovesEnds};
+ghost use Rattle.docket_decisions.specs.Decisions.{UpdatesEndsBy, IsAnswer, IsChange, IsKeptReply, LeadsTo, IsSoundView, AreCircumstances, MovesEnds};
 ghost use Rattle.docket_history.specs.Histories.{History};
 ghost use Rattle.docket_decisions.specs.Outcomes.{IsHistory, reply_to, answer_of, shown, outcome};
 ghost use Rattle.docket_decisions.specs.Refusals.{exists_already, is_full};
@@ -12,11 +12,11 @@ ghost use Rattle.docket_history.specs.Times.{standing_shown};
 use crate::changes::changes_of_action;
 use crate::deadline::deadlines_made;
 use crate::moving::{EndUpdate, end_update};
-use crate::refusals::{Matter, is_in_time, refusal};
+use crate::refusals::{Circumstances, is_in_time, refusal};
 use court_days::{Calendar, Court};
-use court_rules::{Standing, due};
+use court_rules::{Standing, standing_of};
 use docket_command::{Action, Command, Refusal, Reply, Ruling};
-use docket_history::{Change, Kept, View, rows_added};
+use docket_history::{Change, UnderKey, View, rows_added};
 use std::alloc::{AllocError, AllocFailed, Global};
 
 /// The rows that a command adds and removes, one after another, what is done about the stored ends of
@@ -71,24 +71,24 @@ fn standing_shown(court: &Court, calendar: &Calendar, view: &View) -> Standing
     ensures near { StandsAfter 100 result }
 {
     match view.deadline_named() {
-        Some(deadline) => due(court, calendar, deadline.acts.as_slice()),
+        Some(deadline) => standing_of(court, calendar, deadline.acts.as_slice()),
         None => Standing::Vacated,
     }
 }
 
 /// The reply to an action that no refusal meets.
-fn reply(matter: &Matter<'_>, view: &View, action: &Action) -> u32
-    requires matter { IsMatter matter.now view.now action.now }
+fn reply(circumstances: &Circumstances<'_>, view: &View, action: &Action) -> u32
+    requires circumstances { AreCircumstances circumstances.now view.now action.now }
     requires rows { view.now.next_row ≤ 2 ^ 32 }
     requires new { exists_already view.now action.now ≡ false }
     requires room { is_full view.now action.now ≡ false }
-    ensures { result ≡ reply_to matter.now.court.now view.now action.now }
+    ensures { result ≡ reply_to circumstances.now.court.now view.now action.now }
 {
     match action {
         Action::DeclareDay(_) | Action::CloseDay(_) => view.next_row as u32,
         Action::CloseSpan(_) | Action::ShortDay(_) => view.next_row as u32,
         Action::WithdrawCalendar(a) => a.row,
-        Action::ImportCalendar(_) => matter.added as u32,
+        Action::ImportCalendar(_) => circumstances.added as u32,
         Action::OpenCase(_) => view.cases + 1,
         Action::AddParty(_) => view.parties() + 1,
         Action::FileEntry(_) => view.entries() + 1,
@@ -100,8 +100,14 @@ fn reply(matter: &Matter<'_>, view: &View, action: &Action) -> u32
         Action::StatementServed(a) => a.deadline,
         Action::Extend(a) => a.deadline,
         Action::Satisfy(a) => {
-            let standing = matter.standing;
-            let is_in_time = is_in_time(matter.court, matter.calendar, standing, a.at, a.way);
+            let standing = circumstances.standing;
+            let is_in_time = is_in_time(
+                circumstances.court,
+                circumstances.calendar,
+                standing,
+                a.at,
+                a.way,
+            );
             u32::from(is_in_time)
         }
         Action::Vacate(a) => a.deadline,
@@ -146,26 +152,26 @@ fn decide_by_view(
     ensures changes { IfOk result (IsChange (action_changes view.now command.now.action)) }
     ensures repeats { IfOk result (IsKeptReply view.now) }
 {
-    if let Kept::Same(reply) = view.kept {
+    if let UnderKey::Same(reply) = view.under_key {
         return Ok(Decision::Repeat(reply));
     }
     let action = &command.action;
     let calendar = view.calendar.calendar();
     let added = rows_added(alloc, view.calendar.as_slice(), action)?;
     let made = deadlines_made(alloc, &view.local, action)?;
-    let matter = Matter {
+    let circumstances = Circumstances {
         court,
         calendar,
         standing: standing_shown(court, calendar, view),
         added: added.len(),
         made: made.len(),
     };
-    match refusal(&matter, view, command) {
+    match refusal(&circumstances, view, command) {
         Some(refusal) => return Err(DecideFault::Refused(refusal)),
         None => {}
     }
     let reply = Reply {
-        number: reply(&matter, view, action),
+        number: reply(&circumstances, view, action),
     };
     let rows = changes_of_action(alloc, view, added, made, action)?;
     let ends = end_update(alloc, court, view, action, rows.as_slice())?;

@@ -8,11 +8,11 @@ ghost use Rattle.court_days.specs.declared.filing.End.{End as Limit};
 ghost use Rattle.court_rules.specs.Standings.{AreActs, IsEndAfter, StandsAfter};
 ghost use Rattle.docket_decisions.specs.Additions.{AddsOnce, AddsAmong};
 ghost use Rattle.docket_decisions.specs.EndRows.{time_of, end_of_time, end_running, end_rows_of, ends_running, all_changed_ends, IsElsewhere, AreRowsFrom, is_same_end, end_changes, first_end, after_first, changes_from, touches};
-ghost use Rattle.docket_decisions.specs.declared.end_row.EndRow.{EndRow as Stored};
+ghost use Rattle.docket_decisions.specs.declared.end_row.StoredEnd.{StoredEnd as Stored};
 ghost use Rattle.docket_decisions.specs.declared.end_row.EndChange.TheVariants as change;
 
 use court_days::{Calendar, Court, Day, End};
-use court_rules::{Standing, due};
+use court_rules::{Standing, standing_of};
 use docket_history::DeadlineView;
 use std::alloc::{AllocError, Global};
 
@@ -39,7 +39,7 @@ impl EndTime {
 
 /// The end of a deadline whose time runs.
 #[derive(Clone, Copy)]
-pub struct EndRow {
+pub struct StoredEnd {
     pub case: u32,
     pub deadline: u32,
     pub end: EndTime,
@@ -49,9 +49,9 @@ pub struct EndRow {
 /// moves, with its new end.
 #[derive(Clone, Copy)]
 pub enum EndChange {
-    Add(EndRow),
+    Add(StoredEnd),
     Remove(u32, u32),
-    Move(EndRow),
+    Move(StoredEnd),
 }
 
 fn time_of(court: &Court, end: End) -> EndTime
@@ -85,7 +85,7 @@ fn is_same_end(end: &EndTime, other: &EndTime) -> bool
 }
 
 /// The end of a deadline, where its row comes first.
-pub fn first_end(rows: &[EndRow], deadline: u32) -> Option<EndTime>
+pub fn first_end(rows: &[StoredEnd], deadline: u32) -> Option<EndTime>
     ensures { result ≡ first_end deadline rows.now }
 {
     match rows.first() {
@@ -95,7 +95,7 @@ pub fn first_end(rows: &[EndRow], deadline: u32) -> Option<EndTime>
 }
 
 /// The rows after that of a deadline, where it comes first.
-pub fn after_first(rows: &[EndRow], deadline: u32) -> &[EndRow]
+pub fn after_first(rows: &[StoredEnd], deadline: u32) -> &[StoredEnd]
     ensures { result.now ≡ after_first deadline rows.now }
 {
     match rows {
@@ -113,7 +113,7 @@ fn add_end(
 ) -> Result<(), AllocError>
     ensures { OnOk result (changes.new.items ≡ changes.old.items ++ end_changes case deadline None (Some end)) }
 {
-    changes.extend_from_slice(&[EndChange::Add(EndRow {
+    changes.extend_from_slice(&[EndChange::Add(StoredEnd {
         case,
         deadline,
         end,
@@ -147,7 +147,7 @@ fn move_end(
     if is_same_end(&stored, end) {
         return Ok(());
     }
-    changes.extend_from_slice(&[EndChange::Move(EndRow {
+    changes.extend_from_slice(&[EndChange::Move(StoredEnd {
         case,
         deadline,
         end: *end,
@@ -179,7 +179,7 @@ pub(crate) fn change_end(
 }
 
 /// Adds the removals of these rows.
-fn remove_ends(changes: &mut Vec<EndChange>, rows: &[EndRow]) -> Result<(), AllocError>
+fn remove_ends(changes: &mut Vec<EndChange>, rows: &[StoredEnd]) -> Result<(), AllocError>
     ensures { OnOk result (changes.new.items ≡ changes.old.items ++ map (λ row. change.Remove row.case row.deadline) rows.now) }
 {
     for row in rows {
@@ -195,7 +195,7 @@ fn changes_of_case(
     calendar: &Calendar,
     case: u32,
     deadlines: &[DeadlineView],
-    stored: &[EndRow],
+    stored: &[StoredEnd],
 ) -> Result<Vec<EndChange>, AllocError>
     requires few { length deadlines.now ≤ 1000 }
     requires acts { All (λ d. AreActs (zone_of court.now) d.acts) deadlines.now }
@@ -205,7 +205,8 @@ fn changes_of_case(
     let mut rest = stored;
     let mut number = 1;
     for deadline in deadlines {
-        let end = end_running(court, due(court, calendar, deadline.acts.as_slice()));
+        let standing = standing_of(court, calendar, deadline.acts.as_slice());
+        let end = end_running(court, standing);
         change_end(&mut changes, case, number, first_end(rest, number), end)?;
         rest = after_first(rest, number);
         number += 1;
@@ -222,7 +223,7 @@ pub fn due_changes(
     calendar: &Calendar,
     case: u32,
     deadlines: &[DeadlineView],
-    stored: &[EndRow],
+    stored: &[StoredEnd],
 ) -> Result<Vec<EndChange>, AllocError>
     requires few { length deadlines.now ≤ 1000 }
     requires acts { All (λ d. AreActs (zone_of court.now) d.acts) deadlines.now }

@@ -9,7 +9,7 @@ ghost use Rattle.docket_history.specs.Views.{deadline_shown, acts_in};
 
 use crate::end_row::{EndChange, EndTime, change_end, end_running};
 use court_days::{Calendar, Court};
-use court_rules::{Act, due};
+use court_rules::{Act, standing_of};
 use docket_command::Action;
 use docket_history::{ActRow, Change, View, moves_all_cases};
 use std::alloc::{AllocError, Global};
@@ -48,7 +48,7 @@ fn end_by(court: &Court, calendar: &Calendar, acts: &[Act]) -> Option<EndTime>
     if acts.is_empty() {
         return None;
     }
-    end_running(court, due(court, calendar, acts))
+    end_running(court, standing_of(court, calendar, acts))
 }
 
 /// Adds the change that the act of the row makes.

@@ -4,7 +4,7 @@ ghost use Rattle.court_days.specs.Court.{CourtSettings, zone_of};
 ghost use Rattle.court_rules.specs.Standings.{IsEndAfter, StandsAfter, last_day};
 ghost use Rattle.docket_history.specs.Actions.{deadlines_made};
 ghost use Rattle.docket_history.specs.CalendarItems.{calendar_of};
-ghost use Rattle.docket_decisions.specs.Decisions.{IsMatter};
+ghost use Rattle.docket_decisions.specs.Decisions.{AreCircumstances};
 ghost use Rattle.docket_history.specs.Times.{standing_shown, is_in_time};
 ghost use Rattle.docket_values.specs.Values.{first_bad, bad_values};
 ghost use Rattle.docket_decisions.specs.Refusals.{on, first_some, is_reused, exists_already, is_running, is_suspended, is_awaiting, is_over, is_not_open, is_not_awaiting, is_responsive_rule, is_responsive_in, is_extendable_by, is_extendable_in, is_not_responsive, is_by_e, wants_statement, is_wrong_motion, is_after_last_day, is_late_motion, is_served, is_short_waiver, is_late_waiver, may_not_extend, is_expired, is_not_later, has_too_many_acts, count_added, is_calendar_full, is_full, state_refusals, refusal_of};
@@ -14,13 +14,13 @@ use crate::lacking::{lacks_case, lacks_deadline, lacks_local_rule, lacks_party, 
 use court_days::{Calendar, Court, Day, DayKind, Direction, End, Way, count_days, timely};
 use court_rules::{Act, DeadlineRule, MotionKind, Standing};
 use docket_command::{Action, Command, LocalRule, Moment, Refusal, Ruling};
-use docket_history::{CalendarItem, Kept, View, deadline_named, stands_among};
+use docket_history::{CalendarItem, UnderKey, View, deadline_named, stands_among};
 use docket_values::{bad_field, is_word};
 
-fn is_reused(kept: Kept) -> bool
-    ensures { result ≡ is_reused kept }
+fn is_reused(found: UnderKey) -> bool
+    ensures { result ≡ is_reused found }
 {
-    matches!(kept, Kept::Other)
+    matches!(found, UnderKey::Other)
 }
 
 fn exists_already(view: &View, action: &Action) -> bool
@@ -322,7 +322,7 @@ fn first_met(checks: &[(bool, Refusal)]) -> Option<Refusal>
 /// What a command is judged by beside its view: the court and the calendar that is shown, where the
 /// deadline that it names stands, and how many calendar rows and deadlines it would make.
 #[derive(Drop)]
-pub(crate) struct Matter<'a> {
+pub(crate) struct Circumstances<'a> {
     pub(crate) court: &'a Court,
     pub(crate) calendar: &'a Calendar,
     pub(crate) standing: Standing,
@@ -331,12 +331,12 @@ pub(crate) struct Matter<'a> {
 }
 
 /// The first refusal that applies of those that look at the docket, in their order.
-fn state_refusal(matter: &Matter<'_>, view: &View, action: &Action) -> Option<Refusal>
-    requires matter { IsMatter matter.now view.now action.now }
-    requires good { first_bad (bad_values matter.now.court.now action.now) ≡ None }
-    ensures { result ≡ first_some (state_refusals matter.now.court.now view.now action.now) }
+fn state_refusal(circumstances: &Circumstances<'_>, view: &View, action: &Action) -> Option<Refusal>
+    requires circumstances { AreCircumstances circumstances.now view.now action.now }
+    requires good { first_bad (bad_values circumstances.now.court.now action.now) ≡ None }
+    ensures { result ≡ first_some (state_refusals circumstances.now.court.now view.now action.now) }
 {
-    let court = matter.court;
+    let court = circumstances.court;
     first_met(&[
         (lacks_case(view, action), Refusal::NoSuchCase),
         (lacks_party(view, action), Refusal::NoSuchParty),
@@ -344,49 +344,64 @@ fn state_refusal(matter: &Matter<'_>, view: &View, action: &Action) -> Option<Re
         (lacks_row(view, action), Refusal::NoSuchCalendarRow),
         (lacks_local_rule(view, action), Refusal::NoSuchLocalRule),
         (exists_already(view, action), Refusal::Exists),
-        (is_not_open(action, matter.standing), Refusal::NotOpen),
         (
-            is_not_awaiting(action, matter.standing),
+            is_not_open(action, circumstances.standing),
+            Refusal::NotOpen,
+        ),
+        (
+            is_not_awaiting(action, circumstances.standing),
             Refusal::NotAwaiting,
         ),
         (is_not_responsive(view, action), Refusal::NotResponsive),
         (is_wrong_motion(view, action), Refusal::WrongMotion),
         (
-            is_late_motion(court, action, matter.standing),
+            is_late_motion(court, action, circumstances.standing),
             Refusal::AfterDeadline,
         ),
         (view.is_served(), Refusal::AlreadyServed),
         (is_short_waiver(action), Refusal::ShortWaiver),
-        (is_late_waiver(matter.calendar, action), Refusal::LateWaiver),
+        (
+            is_late_waiver(circumstances.calendar, action),
+            Refusal::LateWaiver,
+        ),
         (may_not_extend(view, action), Refusal::MayNotExtend),
         (
-            is_expired(court, matter.calendar, action, matter.standing),
+            is_expired(
+                court,
+                circumstances.calendar,
+                action,
+                circumstances.standing,
+            ),
             Refusal::Expired,
         ),
         (
-            is_not_later(court, action, matter.standing),
+            is_not_later(court, action, circumstances.standing),
             Refusal::NotLater,
         ),
         (
-            is_full(view, matter.added, matter.made, action),
+            is_full(view, circumstances.added, circumstances.made, action),
             Refusal::Full,
         ),
     ])
 }
 
 /// The first refusal that applies.
-pub(crate) fn refusal(matter: &Matter<'_>, view: &View, command: &Command) -> Option<Refusal>
-    requires { IsMatter matter.now view.now command.now.action }
-    ensures { result ≡ refusal_of matter.now.court.now view.now command.now }
+pub(crate) fn refusal(
+    circumstances: &Circumstances<'_>,
+    view: &View,
+    command: &Command,
+) -> Option<Refusal>
+    requires { AreCircumstances circumstances.now view.now command.now.action }
+    ensures { result ≡ refusal_of circumstances.now.court.now view.now command.now }
 {
     if !is_word(64, &command.key) {
         return Some(Refusal::BadKey);
     }
-    if is_reused(view.kept) {
+    if is_reused(view.under_key) {
         return Some(Refusal::KeyReused);
     }
-    match bad_field(matter.court, &command.action) {
+    match bad_field(circumstances.court, &command.action) {
         Some(field) => Some(Refusal::BadValue(field)),
-        None => state_refusal(matter, view, &command.action),
+        None => state_refusal(circumstances, view, &command.action),
     }
 }

@@ -61,43 +61,39 @@ next_asked n items a = at (calendar_work a)
     at None = refl
     at (Some work) = by_work work
 
--- an action that names no case makes no deadline
-pub none_made : (found : FoundRule) (a : Action) → case_named a ≡ None → deadlines_made found a ≡ []
-none_made found a e = at (case_work a) e
+-- an action that names no case does nothing in one
+no_work : (a : Action) → case_named a ≡ None → case_work a ≡ None
+no_work a e = at (case_work a) e
   where
-    at : (o : Option CaseWork) → option_map (λ work. work.case) o ≡ None → option_map_or (made_by found) o [] ≡ []
+    at : (o : Option CaseWork) → option_map (λ work. work.case) o ≡ None → o ≡ None
     at None e = refl
     at (Some work) e = absurd (cc)
+
+-- so it makes no deadline and no later act, adds no party and files no entry
+
+pub none_made : (found : FoundRule) (a : Action) → case_named a ≡ None → deadlines_made found a ≡ []
+none_made found a e = ap (λ o. option_map_or (made_by found) o []) (no_work a e)
+
+pub none_acted_in : (a : Action) → case_named a ≡ None → acts_made a ≡ []
+none_acted_in a e = ap (λ (o : Option CaseWork). option_map_or (λ (work : DeadlineWork). work.acts) (option_and_then (λ work. work.acting) o) []) (no_work a e)
+
+pub no_party : (a : Action) (m n : ℕ) → case_named a ≡ None → new_party m a ≡ new_party n a
+no_party a m n e = none m ∙ sym (none n)
+  where
+    none : (n : ℕ) → new_party n a ≡ []
+    none n = ap (λ (o : Option CaseWork). option_to_list (option_map (party_row (n + 1)) (option_and_then (λ work. work.added) o))) (no_work a e)
+
+pub no_entry : (a : Action) (m n : ℕ) → case_named a ≡ None → new_entry m a ≡ new_entry n a
+no_entry a m n e = none m ∙ sym (none n)
+  where
+    none : (n : ℕ) → new_entry n a ≡ []
+    none n = ap (λ (o : Option CaseWork). option_to_list (option_map (entry_row (n + 1)) (option_and_then (λ work. work.filed) o))) (no_work a e)
 
 -- an action that names no deadline makes no later act
 pub none_acted : (a : Action) → deadline_named a ≡ None → acts_made a ≡ []
 none_acted a e = at (deadline_work a) e
   where
     at : (o : Option DeadlineWork) → option_map (λ work. work.deadline) o ≡ None → option_map_or (λ work. work.acts) o [] ≡ []
-    at None e = refl
-    at (Some work) e = absurd (cc)
-
--- nor does one that names no case
-pub none_acted_in : (a : Action) → case_named a ≡ None → acts_made a ≡ []
-none_acted_in a e = at (case_work a) e
-  where
-    at : (o : Option CaseWork) → option_map (λ work. work.case) o ≡ None → option_map_or (λ work. work.acts) (option_and_then (λ work. work.acting) o) [] ≡ []
-    at None e = refl
-    at (Some work) e = absurd (cc)
-
--- nor does it add a party or file an entry
-
-pub no_party : (a : Action) (m n : ℕ) → case_named a ≡ None → new_party m a ≡ new_party n a
-no_party a m n e = at (case_work a) e
-  where
-    at : (o : Option CaseWork) → option_map (λ work. work.case) o ≡ None → option_to_list (option_map (party_row (m + 1)) (option_and_then (λ work. work.added) o)) ≡ option_to_list (option_map (party_row (n + 1)) (option_and_then (λ work. work.added) o))
-    at None e = refl
-    at (Some work) e = absurd (cc)
-
-pub no_entry : (a : Action) (m n : ℕ) → case_named a ≡ None → new_entry m a ≡ new_entry n a
-no_entry a m n e = at (case_work a) e
-  where
-    at : (o : Option CaseWork) → option_map (λ work. work.case) o ≡ None → option_to_list (option_map (entry_row (m + 1)) (option_and_then (λ work. work.filed) o)) ≡ option_to_list (option_map (entry_row (n + 1)) (option_and_then (λ work. work.filed) o))
     at None e = refl
     at (Some work) e = absurd (cc)
 

@@ -18,7 +18,7 @@ mod view;
 pub use calendar::{calendar_of, rows_added};
 pub use item::{CalendarItem, NewRow, stands_among};
 pub use lines::{close_of_end, close_of_standing, deadline_lines, line_of};
-pub use record::{CaseRecord, DeadlineLine, DueRow, EntryRows, PartyRows};
+pub use record::{CaseRecord, DeadlineLine, DueLine, EntryRows, PartyRows};
 pub use row::{
     ActRow, CalendarRow, CaseRow, Change, DeadlineRow, EntryRow, LocalRuleRow, NewDeadline,
     PartyRow, Receipt, ShortDayRow,
@@ -28,4 +28,4 @@ pub use subject::{
     asks_calendar, asks_cases, asks_deadlines, asks_entries, asks_local_rules, asks_next_row,
     asks_parties, case_named, changes_calendar, deadline_named, local_rule_named, moves_all_cases,
 };
-pub use view::{Acts, CaseView, DeadlineView, Kept, View, is_served_among, rule_name_asked};
+pub use view::{Acts, CaseView, DeadlineView, UnderKey, View, is_served_among, rule_name_asked};

@@ -14,7 +14,7 @@ use std::marker::Model;
 /// What stands under a command's key: nothing, the same command with the reply that it had, or
 /// another command.
 #[derive(Clone, Copy)]
-pub enum Kept {
+pub enum UnderKey {
     Fresh,
     Same(Reply),
     Other,
@@ -194,7 +194,7 @@ pub fn rule_name_asked<'a>(case: &'a Option<CaseView>, action: &'a Action) -> Op
 /// there are (0 where it enters none).
 #[derive(Drop)]
 pub struct View {
-    pub kept: Kept,
+    pub under_key: UnderKey,
     pub cases: u32,
     pub label_taken: bool,
     pub case: Option<CaseView>,

@@ -12,11 +12,11 @@ use Rattle.docket_decisions.specs.Outcomes.{Answer, outcome}
 use Rattle.docket_history.specs.Records.{case_record, deadline_lines}
 use Rattle.docket_history.specs.declared.record.CaseRecord.{CaseRecord}
 use Rattle.docket_history.specs.declared.record.DeadlineLine.{DeadlineLine}
-use Rattle.docket_changes.specs.Applying.{Stands, Asks, docket_rows}
-use Rattle.docket_changes.specs.Dockets.{Docket}
+use Rattle.docket_applying.specs.Applying.{Stands, Asks, docket_rows}
+use Rattle.docket_applying.specs.Dockets.{Docket}
 use Rattle.docket_store.specs.Sequence.{Answers, Halts, IsSaid}
-use Rattle.docket_changes.specs.declared.fault.Fault.{Fault}
-use Rattle.docket_changes.specs.declared.fault.Fault.TheVariants as fault
+use Rattle.docket_applying.specs.declared.fault.Fault.{Fault}
+use Rattle.docket_applying.specs.declared.fault.Fault.TheVariants as fault
 use Rattle.docket_tables.specs.Stands.{Lasts, LastsAsEither}
 use Rattle.docket_text.specs.CaseTexts.{deadlines_text}
 use Rattle.docket_wire.specs.Reading.{command_in}

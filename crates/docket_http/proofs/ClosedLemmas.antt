@@ -1,10 +1,10 @@
 -- What a closed docket answers.
 use Rattle.std.proofs.Common.{◌≡◌, ◌∙◌, IfOk, IfErr, inl, ℕ, List, Option, Result, Ok, Err, refl, sym, ap, subst}
 use Rattle.std.specs.Io.KnownBytes.{Appends}
-use Rattle.docket_changes.specs.declared.fault.Fault.{Fault}
-use Rattle.docket_changes.specs.declared.fault.Fault.TheVariants as fault
-use Rattle.docket_changes.specs.declared.listing.ListingEnd.{ListingEnd}
-use Rattle.docket_changes.specs.declared.listing.ListingEnd.TheVariants as listing
+use Rattle.docket_applying.specs.declared.fault.Fault.{Fault}
+use Rattle.docket_applying.specs.declared.fault.Fault.TheVariants as fault
+use Rattle.docket_applying.specs.declared.listing.ListingEnd.{ListingEnd}
+use Rattle.docket_applying.specs.declared.listing.ListingEnd.TheVariants as listing
 use Rattle.docket_wire.specs.Reading.{command_in}
 use Rattle.docket_wire.specs.Texts.{fault_text}
 use Rattle.docket_wire.specs.declared.fault.WireFault.{WireFault}

@@ -9,8 +9,8 @@ use Rattle.docket_history.specs.Records.{case_record, deadline_lines}
 use Rattle.docket_history.specs.declared.record.CaseRecord.{CaseRecord}
 use Rattle.docket_history.specs.declared.record.DeadlineLine.{DeadlineLine}
 use Rattle.docket_tables.specs.Stands.{LastsAsEither}
-use Rattle.docket_changes.specs.Applying.{Stands, docket_rows}
-use Rattle.docket_changes.specs.Dockets.{Docket}
+use Rattle.docket_applying.specs.Applying.{Stands, docket_rows}
+use Rattle.docket_applying.specs.Dockets.{Docket}
 use Rattle.docket_wire.specs.Reading.{command_in}
 use Rattle.docket_wire.specs.declared.fault.WireFault.{WireFault}
 use Rattle.http_request.specs.declared.fields.Rejection.{Rejection}

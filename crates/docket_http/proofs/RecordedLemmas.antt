@@ -7,10 +7,10 @@ use Rattle.docket_command.specs.declared.command.Command.{Command}
 use Rattle.docket_command.specs.declared.refusal.Refusal.{Refusal}
 use Rattle.docket_command.specs.declared.refusal.Reply.{Reply as Number}
 use Rattle.docket_tables.specs.Layouts.{Rows}
-use Rattle.docket_changes.specs.AnyRows.{AnswersWhole}
-use Rattle.docket_changes.specs.Dockets.{Docket}
-use Rattle.docket_changes.specs.declared.fault.Fault.{Fault}
-use Rattle.docket_changes.proofs.AnyLemmas.{whole_recorded}
+use Rattle.docket_applying.specs.AnyRows.{AnswersWhole}
+use Rattle.docket_applying.specs.Dockets.{Docket}
+use Rattle.docket_applying.specs.declared.fault.Fault.{Fault}
+use Rattle.docket_applying.proofs.AnyLemmas.{whole_recorded}
 use Rattle.docket_wire.specs.Reading.{command_in}
 use Rattle.docket_wire.specs.Texts.{reply_text, fault_text}
 use Rattle.docket_wire.specs.declared.fault.WireFault.{WireFault}

@@ -8,12 +8,12 @@ use Rattle.court_days.specs.Court.{CourtSettings}
 use Rattle.docket_calendar.specs.Calendar.{text_of_calendar}
 use Rattle.docket_calendar.specs.Sending.{HasBegun}
 use Rattle.docket_history.specs.Histories.{History}
-use Rattle.docket_changes.specs.Applying.{Stands}
-use Rattle.docket_changes.specs.Dockets.{Docket}
-use Rattle.docket_changes.specs.Listing.{Lists}
-use Rattle.docket_changes.specs.declared.fault.Fault.{Fault}
-use Rattle.docket_changes.specs.declared.fault.Fault.TheVariants as fault
-use Rattle.docket_changes.specs.declared.listing.ListingEnd.TheVariants as listing
+use Rattle.docket_applying.specs.Applying.{Stands}
+use Rattle.docket_applying.specs.Dockets.{Docket}
+use Rattle.docket_applying.specs.Listing.{Lists}
+use Rattle.docket_applying.specs.declared.fault.Fault.{Fault}
+use Rattle.docket_applying.specs.declared.fault.Fault.TheVariants as fault
+use Rattle.docket_applying.specs.declared.listing.ListingEnd.TheVariants as listing
 use Rattle.line_io.specs.Output.{AppendsFront, HasFront}
 use Rattle.http_request.specs.declared.page.Routes.{Routes}
 use Rattle.http_request.specs.declared.wish.Wish.{Wish}

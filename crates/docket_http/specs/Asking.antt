@@ -12,10 +12,10 @@ use Rattle.docket_decisions.specs.Outcomes.{Answer, accepted, repeated, refused,
 use Rattle.docket_history.specs.Records.{deadline_lines}
 use Rattle.docket_history.specs.declared.record.DeadlineLine.{DeadlineLine}
 use Rattle.docket_tables.specs.Stands.{LastsAsEither}
-use Rattle.docket_changes.specs.Applying.{Stands, docket_rows}
-use Rattle.docket_changes.specs.Dockets.{Docket}
-use Rattle.docket_changes.specs.declared.fault.Fault.{Fault}
-use Rattle.docket_changes.specs.declared.fault.Fault.TheVariants as fault
+use Rattle.docket_applying.specs.Applying.{Stands, docket_rows}
+use Rattle.docket_applying.specs.Dockets.{Docket}
+use Rattle.docket_applying.specs.declared.fault.Fault.{Fault}
+use Rattle.docket_applying.specs.declared.fault.Fault.TheVariants as fault
 use Rattle.docket_calendar.specs.Calendar.{text_of_calendar}
 use Rattle.docket_text.specs.CaseTexts.{deadlines_text}
 use Rattle.docket_text.specs.HolidayTexts.{holiday_text}

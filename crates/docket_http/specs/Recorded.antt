@@ -3,8 +3,8 @@ use Rattle.std.specs.Prelude.{◌≡◌, ◌⊎◌, ℕ, List, Option, Result, O
 use Rattle.sqlite.specs.Store.{Ghosts}
 use Rattle.docket_command.specs.declared.command.Command.{Command}
 use Rattle.docket_command.specs.declared.refusal.Reply.{Reply as Number}
-use Rattle.docket_changes.specs.AnyRows.{IsRecorded}
-use Rattle.docket_changes.specs.Dockets.{Docket}
+use Rattle.docket_applying.specs.AnyRows.{IsRecorded}
+use Rattle.docket_applying.specs.Dockets.{Docket}
 use Rattle.docket_wire.specs.Reading.{command_in}
 use Rattle.docket_wire.specs.Texts.{reply_text}
 use Rattle.http_request.specs.declared.page.Routes.{Routes}

@@ -3,9 +3,9 @@ use Rattle.std.specs.Prelude.{◌≡◌, ◌≤◌, ◌⊎◌, ℕ, false, List,
 use Rattle.std.specs.Io.KnownBytes.{Appends, Keeps}
 use Rattle.sqlite.specs.Store.{Ghosts}
 use Rattle.docket_history.specs.Histories.{History}
-use Rattle.docket_changes.specs.Dockets.{Docket}
-use Rattle.docket_changes.specs.declared.fault.Fault.{Fault}
-use Rattle.docket_changes.specs.declared.fault.Fault.TheVariants as fault
+use Rattle.docket_applying.specs.Dockets.{Docket}
+use Rattle.docket_applying.specs.declared.fault.Fault.{Fault}
+use Rattle.docket_applying.specs.declared.fault.Fault.TheVariants as fault
 use Rattle.line_io.specs.Output.{AppendsFront}
 use Rattle.http_request.specs.Request.{IsRequest, EndsEarly}
 use Rattle.http_request.specs.declared.page.Routes.{Routes}

@@ -6,7 +6,7 @@ ghost use Rattle.sqlite.specs.View.{doubt};
 ghost use Rattle.docket_history.specs.Histories.{History};
 ghost use Rattle.docket_tables.specs.Layouts.{Rows};
 ghost use Rattle.docket_tables.specs.Stands.{HoldsRows, Lasts};
-ghost use Rattle.docket_changes.specs.Applying.{Stands};
+ghost use Rattle.docket_applying.specs.Applying.{Stands};
 ghost use Rattle.http_request.specs.declared.wish.Wish.TheVariants.{Calendar};
 ghost use Rattle.docket_http.specs.Answer.{problem_response};
 ghost use Rattle.docket_http.specs.Serve.{IsServed, IsBroken, Sends, fault_of_broken};

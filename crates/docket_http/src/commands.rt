@@ -3,10 +3,10 @@ ghost use Rattle.std.specs.Prelude.{◌≡◌, ◌≤◌, ℕ, List, IfOk, IfErr
 ghost use Rattle.sqlite.specs.Held.{state};
 ghost use Rattle.sqlite.specs.View.{doubt};
 ghost use Rattle.docket_history.specs.Histories.{History};
-ghost use Rattle.docket_changes.specs.AnyRows.{HoldsDocketRows, WritesAtMostOne};
-ghost use Rattle.docket_changes.specs.Applying.{Stands};
+ghost use Rattle.docket_applying.specs.AnyRows.{HoldsDocketRows, WritesAtMostOne};
+ghost use Rattle.docket_applying.specs.Applying.{Stands};
 ghost use Rattle.http_request.specs.declared.wish.Wish.TheVariants.{Command as CommandWish};
-ghost use Rattle.docket_changes.specs.declared.fault.Fault.TheVariants as fault;
+ghost use Rattle.docket_applying.specs.declared.fault.Fault.TheVariants as fault;
 ghost use Rattle.docket_wire.specs.Reading.{command_in};
 ghost use Rattle.docket_wire.specs.Texts.{fault_text};
 ghost use Rattle.docket_http.specs.Answer.{json};

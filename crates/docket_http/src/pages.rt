@@ -10,9 +10,9 @@ ghost use Rattle.docket_calendar.specs.Calendar.{calendar_rows};
 ghost use Rattle.docket_history.specs.Histories.{History};
 ghost use Rattle.docket_tables.specs.Layouts.{Rows};
 ghost use Rattle.docket_tables.specs.Stands.{HoldsRows};
-ghost use Rattle.docket_changes.specs.AnyRows.{Preserves};
-ghost use Rattle.docket_changes.specs.Applying.{Asks, Stands};
-ghost use Rattle.docket_changes.specs.declared.fault.Fault.TheVariants as fault;
+ghost use Rattle.docket_applying.specs.AnyRows.{Preserves};
+ghost use Rattle.docket_applying.specs.Applying.{Asks, Stands};
+ghost use Rattle.docket_applying.specs.declared.fault.Fault.TheVariants as fault;
 ghost use Rattle.http_request.specs.Pages.{IsPageWithinLimits};
 ghost use Rattle.http_request.specs.declared.page.Page.TheVariants.{Cases, Days};
 ghost use Rattle.http_request.specs.declared.wish.Wish.TheVariants.{Page as PageWish};
@@ -22,7 +22,7 @@ ghost use Rattle.docket_http.specs.Pages.{caption_of, cases_from, days_page, due
 use crate::asking::{Telling, case_reply};
 use crate::reply::{Reply, html_reply};
 use court_days::Day;
-use docket_history::{CaseRow, DueRow};
+use docket_history::{CaseRow, DueLine};
 use docket_store::{Docket, Fault};
 use html_sheets::{Links, cases_page, days_page_foot, days_page_head, due_row};
 use http_request::Page;
@@ -113,7 +113,7 @@ fn push_due<S: Alter>(
     alloc: Global,
     docket: &mut Docket<S>,
     page: &mut String,
-    due: &DueRow,
+    due: &DueLine,
 ) -> Result<(), Fault>
     ensures court { docket.new.court ≡ docket.old.court }
     ensures clean { doubt (state S.Store docket.old.conn).is_clean ≤ doubt (state S.Store docket.new.conn).is_clean }
@@ -139,7 +139,7 @@ fn push_dues<S: Alter>(
     alloc: Global,
     docket: &mut Docket<S>,
     page: &mut String,
-    dues: &[DueRow],
+    dues: &[DueLine],
 ) -> Result<(), Fault>
     ensures court { docket.new.court ≡ docket.old.court }
     ensures clean { doubt (state S.Store docket.old.conn).is_clean ≤ doubt (state S.Store docket.new.conn).is_clean }
@@ -160,7 +160,7 @@ fn days_told<S: Alter>(
     docket: &mut Docket<S>,
     from: Day,
     to: Day,
-    dues: &[DueRow],
+    dues: &[DueLine],
 ) -> Result<String, Fault>
     ensures court { docket.new.court ≡ docket.old.court }
     ensures clean { doubt (state S.Store docket.old.conn).is_clean ≤ doubt (state S.Store docket.new.conn).is_clean }

@@ -19,15 +19,15 @@ use Rattle.docket_history.specs.Actions.{case_named, asks_deadlines, if_asked, d
 use Rattle.docket_history.specs.CalendarItems.{calendar_of}
 use Rattle.docket_history.specs.Histories.{History, case_rows, deadline_rows, act_rows, deadlines_of_case, deadlines}
 use Rattle.docket_history.specs.Limits.{IsWithinLimits}
-use Rattle.docket_decisions.specs.Outcomes.{IsHistory, accepted, answer_kept, answer_by, repeated, refused, case_of_number, kept, kept_by, receipts, reply_to, replied, shown, shown_fresh}
+use Rattle.docket_decisions.specs.Outcomes.{IsHistory, accepted, answer_kept, answer_by, repeated, refused, case_of_number, under_key, kept_by, receipts, reply_to, replied, shown, shown_fresh}
 use Rattle.docket_decisions.specs.Refusals.{on, on_value, first_some, is_reused, exists_already, is_full, count_added, wants_statement, refusal_of, state_refusals}
 use Rattle.docket_history.specs.Times.{standing_shown, is_in_time}
 use Rattle.docket_history.specs.Views.{parties_in, entries_in, count_deadlines}
 use Rattle.docket_values.specs.Values.{is_word, first_bad, bad_values}
 use Rattle.docket_history.specs.declared.item.CalendarItem.TheVariants.{Span, Short}
 use Rattle.docket_history.specs.declared.row.Receipt.{Receipt}
-use Rattle.docket_history.specs.declared.view.Kept.{Kept}
-use Rattle.docket_history.specs.declared.view.Kept.TheVariants.{Fresh, Same, Other}
+use Rattle.docket_history.specs.declared.view.UnderKey.{UnderKey}
+use Rattle.docket_history.specs.declared.view.UnderKey.TheVariants.{Fresh, Same, Other}
 use Rattle.docket_history.specs.declared.view.View.{View}
 use Rattle.docket_decisions.proofs.GoodValues.{or_off}
 use Rattle.docket_decisions.proofs.Leading.{is_accepted, case_numbered, length-deadlines_from}
@@ -49,11 +49,11 @@ accepts : (court : CourtSettings) (o : Option Refusal) (v : View) (c : Command) 
 accepts court None v c reply e = refl
 accepts court (Some r) v c reply e = absurd (let clash : refused r ≡ accepted reply = e in cc)
 
-pub fresh_by : (court : CourtSettings) (k : Kept) (v : View) (c : Command) (reply : Reply) → v.kept ≡ k → answer_kept court k v c ≡ accepted reply → k ≡ Fresh
+pub fresh_by : (court : CourtSettings) (k : UnderKey) (v : View) (c : Command) (reply : Reply) → v.under_key ≡ k → answer_kept court k v c ≡ accepted reply → k ≡ Fresh
 fresh_by court Fresh v c reply is e = refl
 fresh_by court (Same old) v c reply is e = absurd (let clash : repeated old ≡ accepted reply = e in cc)
 fresh_by court Other v c reply is e =
-    let off : is_reused v.kept ≡ false = not_reused (not (is_word 64 c.key)) (is_reused v.kept) refusal.BadKey refusal.KeyReused (on_value (first_bad (bad_values court c.action)) ∷ state_refusals court v c.action) (accepts court (refusal_of court v c) v c reply e) in
+    let off : is_reused v.under_key ≡ false = not_reused (not (is_word 64 c.key)) (is_reused v.under_key) refusal.BadKey refusal.KeyReused (on_value (first_bad (bad_values court c.action)) ∷ state_refusals court v c.action) (accepts court (refusal_of court v c) v c reply e) in
     absurd (let clash : true ≡ false = sym (ap is_reused is) ∙ off in cc)
 
 pub none_found : (o : Option Receipt) (c : Command) → kept_by o c ≡ Fresh → o ≡ None
@@ -85,7 +85,7 @@ pub one_receipt : (court : CourtSettings) (h : History) → IsHistory court h �
 one_receipt court [] is key = omega arith
 one_receipt court (c ∷ h) is key =
     let v = shown court h c in
-    let fresh : kept (receipts court h) c ≡ Fresh = fresh_by court v.kept v c is.0.0 refl is.0.1 in
+    let fresh : under_key (receipts court h) c ≡ Fresh = fresh_by court v.under_key v c is.0.0 refl is.0.1 in
     one_if (receipts court h) (record { command = c; reply = replied (reply_to court (shown_fresh h c.action) c.action) }) key
     (none_under c.key (receipts court h) (none_found _ c fresh)) (one_receipt court h is.1 key)
 

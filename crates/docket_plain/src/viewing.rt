@@ -6,7 +6,7 @@ ghost use Rattle.std.specs.Str.{bytes_eq};
 ghost use Rattle.docket_history.specs.Actions.{case_named, asks_calendar, asks_cases, asks_next_row, asks_local_rules, if_asked};
 ghost use Rattle.docket_history.specs.CalendarItems.{IsEnteredItem};
 ghost use Rattle.docket_history.specs.Histories.{local_rule_in, acts_of_deadline, deadlines_of_case, deadlines_from, parties_of_case, entries_of_case, items_of};
-ghost use Rattle.docket_decisions.specs.Outcomes.{kept, is_label_taken, is_row_standing};
+ghost use Rattle.docket_decisions.specs.Outcomes.{under_key, is_label_taken, is_row_standing};
 ghost use Rattle.docket_decisions.specs.Tables.{case_in, view_in};
 ghost use Rattle.docket_history.specs.Views.{named_in, rule_name_asked};
 ghost use Rattle.docket_plain.specs.Vectors.{lists_of, AreSmall};
@@ -15,8 +15,8 @@ use crate::vectors::Vectors;
 use court_rules::Act;
 use docket_command::{Action, Command, LocalRule, Text};
 use docket_history::{
-    ActRow, Acts, CalendarItem, CalendarRow, CaseRow, CaseView, DeadlineView, EntryRow, Kept,
-    LocalRuleRow, PartyRow, Receipt, StandingCalendar, View, asks_calendar, asks_cases,
+    ActRow, Acts, CalendarItem, CalendarRow, CaseRow, CaseView, DeadlineView, EntryRow,
+    LocalRuleRow, PartyRow, Receipt, StandingCalendar, UnderKey, View, asks_calendar, asks_cases,
     asks_local_rules, asks_next_row, case_named, rule_name_asked,
 };
 use std::alloc::{AllocError, Global};
@@ -30,13 +30,13 @@ fn receipt_of<'a>(receipts: &'a [Receipt], key: &Text) -> Option<&'a Receipt>
         .find(|receipt| receipt.command.key.same(key))
 }
 
-fn kept(receipts: &[Receipt], command: &Command) -> Kept
-    ensures { result ≡ kept receipts.now command.now }
+fn under_key(receipts: &[Receipt], command: &Command) -> UnderKey
+    ensures { result ≡ under_key receipts.now command.now }
 {
     match receipt_of(receipts, &command.key) {
-        Some(receipt) if receipt.command.same(command) => Kept::Same(receipt.reply),
-        Some(_) => Kept::Other,
-        None => Kept::Fresh,
+        Some(receipt) if receipt.command.same(command) => UnderKey::Same(receipt.reply),
+        Some(_) => UnderKey::Other,
+        None => UnderKey::Fresh,
     }
 }
 
@@ -257,7 +257,7 @@ pub(crate) fn view_of(
     let case = case_for(alloc, tables, action)?;
     let rules = tables.local_rules.as_slice();
     Ok(View {
-        kept: kept(tables.receipts.as_slice(), command),
+        under_key: under_key(tables.receipts.as_slice(), command),
         cases: cases_for(tables.cases.as_slice(), action),
         label_taken: is_label_taken(tables.cases.as_slice(), action),
         local: rule_for(rules, &case, action)?,

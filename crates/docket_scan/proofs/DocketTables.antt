@@ -11,7 +11,7 @@ use Rattle.docket_history.specs.Histories.{History, items_of, standing_rows, nex
 use Rattle.docket_decisions.specs.Outcomes.{IsHistory, receipts}
 use Rattle.docket_history.specs.ShortDays.{day_and_span_rows, short_day_rows}
 use Rattle.docket_decisions.specs.Tables.{rows_of}
-use Rattle.docket_decisions.specs.declared.end_row.EndRow.{EndRow}
+use Rattle.docket_decisions.specs.declared.end_row.StoredEnd.{StoredEnd}
 use Rattle.docket_history.specs.declared.row.ActRow.{ActRow}
 use Rattle.docket_history.specs.declared.row.CalendarRow.{CalendarRow}
 use Rattle.docket_history.specs.declared.row.DeadlineRow.{DeadlineRow}
@@ -120,7 +120,7 @@ module _ (court : CourtSettings) (h : History) (is : IsHistory court h) (command
       }
 
   module _ (days : List CalendarRow) (acts : List ActRow) (of_days : AreSorted table.Calendar (map calendar_cells (day_and_span_rows (standing_rows h))) (map calendar_cells days)) (of_acts : AreSorted table.Acts (map act_cells (act_rows h)) (map act_cells acts)) where
-    ends_expected : (ends : List EndRow) → AreInOrder end_order (end_rows court (rows_of court h)) ends → ends ≡ dues_of (zone_of court) (calendar_of (items_of days)) acts
+    ends_expected : (ends : List StoredEnd) → AreInOrder end_order (end_rows court (rows_of court h)) ends → ends ≡ dues_of (zone_of court) (calendar_of (items_of days)) acts
     ends_expected ends order =
         let d = typed table.Calendar calendar_cells calendar_order calendar_by_key (day_and_span_rows (standing_rows h)) (map calendar_cells days) of_days in
         let a = typed table.Acts act_cells act_order acts_by_key (act_rows h) (map act_cells acts) of_acts in

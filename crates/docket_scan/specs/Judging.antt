@@ -9,7 +9,7 @@ use Rattle.sqlite.specs.declared.error.ErrorCode.TheVariants.{TypeMismatch, Inte
 use Rattle.court_days.specs.Court.{CourtSettings, zone_of}
 use Rattle.docket_history.specs.CalendarItems.{calendar_of}
 use Rattle.docket_history.specs.Histories.{items_of}
-use Rattle.docket_decisions.specs.declared.end_row.EndRow.{EndRow}
+use Rattle.docket_decisions.specs.declared.end_row.StoredEnd.{StoredEnd}
 use Rattle.docket_history.specs.declared.row.ActRow.{ActRow}
 use Rattle.docket_history.specs.declared.row.CalendarRow.{CalendarRow}
 use Rattle.docket_history.specs.declared.row.CaseRow.{CaseRow}
@@ -86,7 +86,7 @@ pub record Rows : Type 0 where
   pub deadlines : List DeadlineRow
   pub acts : List ActRow
   pub receipts : List StoredReceipt
-  pub ends : List EndRow
+  pub ends : List StoredEnd
   pub short_days : List ShortDayRow
   pub local_rules : List LocalRuleRow
   pub names : List (List ℕ)

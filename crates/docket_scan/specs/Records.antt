@@ -4,7 +4,7 @@ use Rattle.std.specs.List.{AllByRecursion}
 use Rattle.std.specs.Str.{IsUtf8}
 use Rattle.sqlite.specs.Order.{Row}
 use Rattle.court_days.specs.Court.{CourtSettings}
-use Rattle.docket_decisions.specs.declared.end_row.EndRow.{EndRow}
+use Rattle.docket_decisions.specs.declared.end_row.StoredEnd.{StoredEnd}
 use Rattle.docket_columns.specs.Cells.{calendar_cells, short_day_cells, case_cells, party_cells, entry_cells, deadline_cells, act_cells, end_cells, local_rule_cells, stored_cells}
 use Rattle.docket_columns.specs.Fits.{IsCount, IsCalendarRow, IsShortDayRow, IsCaseRow, IsPartyRow, IsEntryRow, IsDeadlineRow, IsActRow, IsEndRow, IsLocalRuleRow}
 use Rattle.docket_sound.specs.Acts.{AreSoundActs}
@@ -72,7 +72,7 @@ AreShortDayRows court next_row calendar =
     IsTable IsShortDayRow short_day_cells (AreSoundShortDays court.close_minute next_row calendar)
 
 -- the ends are these, in this order
-abbrev pub AreEndRows : List EndRow → List Row → Type 0
+abbrev pub AreEndRows : List StoredEnd → List Row → Type 0
 AreEndRows expected = IsTable IsEndRow end_cells (λ records. records ≡ expected)
 
 abbrev pub AreLocalRuleRows : List Row → Type 0

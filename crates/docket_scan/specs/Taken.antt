@@ -3,7 +3,7 @@ use Rattle.std.specs.Prelude.{◌≡◌, ◌↔◌, ℕ, Bool, IsTrue, List, [],
 use Rattle.sqlite.specs.Order.{Row}
 use Rattle.court_days.specs.Calendar.{Entered}
 use Rattle.court_days.specs.Court.{CourtSettings}
-use Rattle.docket_decisions.specs.declared.end_row.EndRow.{EndRow}
+use Rattle.docket_decisions.specs.declared.end_row.StoredEnd.{StoredEnd}
 use Rattle.docket_columns.specs.Cells.{HasWord, IsOfVersion, court_cells_of}
 use Rattle.docket_columns.specs.Fits.{IsCourtRow}
 use Rattle.docket_columns.specs.declared.version.Version.{Version}
@@ -61,7 +61,7 @@ ShortDayContext = ℕ × ℕ × List ℕ
 abbrev pub short_day_context : ShortDayCheck → ShortDayContext
 short_day_context check = (check.close, check.next_row, check.calendar.items)
 
-abbrev pub ends_expected : DueCheck → List EndRow
+abbrev pub ends_expected : DueCheck → List StoredEnd
 ends_expected check = check.expected.items
 
 abbrev pub HasTakenStored : ReceiptCheck → List StoredReceipt → Type 0

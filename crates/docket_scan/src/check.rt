@@ -24,8 +24,8 @@ pub(crate) trait RecordCheck: Drop {
     ghost AreSound: { Context → List Self.Record → Type 0 };
 
     /// Takes the next record. `false`: the table is unsound by it, whatever records follow.
-    fn take(&mut self, alloc: Global, record: &Self::Record) -> Result<bool, AllocError>
-        ensures taken { (before : List Self.Record) → HasTaken self.old before → result ≡ Ok true → HasTaken self.new (before ++ record.now ∷ []) }
-        ensures refused { (before more : List Self.Record) → HasTaken self.old before → result ≡ Ok false → AreSound (context self.old) (before ++ record.now ∷ more) → ⊥ }
+    fn take(&mut self, alloc: Global, next: &Self::Record) -> Result<bool, AllocError>
+        ensures taken { (before : List Self.Record) → HasTaken self.old before → result ≡ Ok true → HasTaken self.new (before ++ next.now ∷ []) }
+        ensures refused { (before more : List Self.Record) → HasTaken self.old before → result ≡ Ok false → AreSound (context self.old) (before ++ next.now ∷ more) → ⊥ }
         ensures same { context self.new ≡ context self.old };
 }

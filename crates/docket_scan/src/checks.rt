@@ -2,7 +2,7 @@
 
 use crate::check::RecordCheck;
 use crate::receipt::StoredReceipt;
-use docket_decisions::EndRow;
+use docket_decisions::StoredEnd;
 use docket_history::{
     ActRow, CalendarRow, CaseRow, DeadlineRow, EntryRow, LocalRuleRow, PartyRow, ShortDayRow,
 };
@@ -26,8 +26,8 @@ impl RecordCheck for CalendarCheck {
 
     ghost AreSound = { λ c. AreSoundCalendarRows c.0 c.1 };
 
-    fn take(&mut self, _alloc: Global, record: &CalendarRow) -> Result<bool, AllocError> {
-        self.take(record)
+    fn take(&mut self, _alloc: Global, next: &CalendarRow) -> Result<bool, AllocError> {
+        self.take(next)
     }
 }
 
@@ -45,8 +45,8 @@ impl RecordCheck for ShortDayCheck {
 
     ghost AreSound = { λ c. AreSoundShortDays c.0 c.1 c.2 };
 
-    fn take(&mut self, _alloc: Global, record: &ShortDayRow) -> Result<bool, AllocError> {
-        self.take(record)
+    fn take(&mut self, _alloc: Global, next: &ShortDayRow) -> Result<bool, AllocError> {
+        self.take(next)
     }
 }
 
@@ -64,8 +64,8 @@ impl RecordCheck for CaseCheck {
 
     ghost AreSound = { λ _. AreSoundCases };
 
-    fn take(&mut self, alloc: Global, record: &CaseRow) -> Result<bool, AllocError> {
-        self.take(alloc, record)
+    fn take(&mut self, alloc: Global, next: &CaseRow) -> Result<bool, AllocError> {
+        self.take(alloc, next)
     }
 }
 
@@ -83,8 +83,8 @@ impl RecordCheck for PartyCheck {
 
     ghost AreSound = { AreSoundParties };
 
-    fn take(&mut self, _alloc: Global, record: &PartyRow) -> Result<bool, AllocError> {
-        Ok(self.take(record))
+    fn take(&mut self, _alloc: Global, next: &PartyRow) -> Result<bool, AllocError> {
+        Ok(self.take(next))
     }
 }
 
@@ -102,8 +102,8 @@ impl RecordCheck for EntryCheck {
 
     ghost AreSound = { AreSoundEntries };
 
-    fn take(&mut self, _alloc: Global, record: &EntryRow) -> Result<bool, AllocError> {
-        Ok(self.take(record))
+    fn take(&mut self, _alloc: Global, next: &EntryRow) -> Result<bool, AllocError> {
+        Ok(self.take(next))
     }
 }
 
@@ -121,8 +121,8 @@ impl RecordCheck for DeadlineCheck {
 
     ghost AreSound = { λ c. AreSoundDeadlines c.0 c.1 c.2 };
 
-    fn take(&mut self, _alloc: Global, record: &DeadlineRow) -> Result<bool, AllocError> {
-        Ok(self.take(record))
+    fn take(&mut self, _alloc: Global, next: &DeadlineRow) -> Result<bool, AllocError> {
+        Ok(self.take(next))
     }
 }
 
@@ -140,8 +140,8 @@ impl RecordCheck for ActCheck {
 
     ghost AreSound = { λ c. AreSoundActs c.0 c.1 c.2 };
 
-    fn take(&mut self, _alloc: Global, record: &ActRow) -> Result<bool, AllocError> {
-        self.take(record)
+    fn take(&mut self, _alloc: Global, next: &ActRow) -> Result<bool, AllocError> {
+        self.take(next)
     }
 }
 
@@ -160,18 +160,18 @@ impl RecordCheck for ReceiptCheck {
 
     ghost AreSound = { AreSoundStored };
 
-    fn take(&mut self, alloc: Global, record: &StoredReceipt) -> Result<bool, AllocError> {
-        self.take(alloc, &record.receipt)
+    fn take(&mut self, alloc: Global, next: &StoredReceipt) -> Result<bool, AllocError> {
+        self.take(alloc, &next.receipt)
     }
 }
 
 impl RecordCheck for DueCheck {
     ghost use Rattle.std.specs.Prelude.{◌≡◌, List};
-    ghost use Rattle.docket_decisions.specs.declared.end_row.EndRow.{EndRow as Stored};
+    ghost use Rattle.docket_decisions.specs.declared.end_row.StoredEnd.{StoredEnd as Stored};
     ghost use Rattle.docket_sound.specs.Dues.{HasTakenDues};
     ghost use Rattle.docket_scan.specs.Taken.{ends_expected};
 
-    type Record = EndRow;
+    type Record = StoredEnd;
 
     ghost HasTaken = { HasTakenDues };
 
@@ -181,8 +181,8 @@ impl RecordCheck for DueCheck {
 
     ghost AreSound = { λ expected ends. ends ≡ expected };
 
-    fn take(&mut self, _alloc: Global, record: &EndRow) -> Result<bool, AllocError> {
-        Ok(self.take(*record))
+    fn take(&mut self, _alloc: Global, next: &StoredEnd) -> Result<bool, AllocError> {
+        Ok(self.take(*next))
     }
 }
 
@@ -200,7 +200,7 @@ impl RecordCheck for LocalRuleCheck {
 
     ghost AreSound = { λ _. AreSoundLocalRules };
 
-    fn take(&mut self, alloc: Global, record: &LocalRuleRow) -> Result<bool, AllocError> {
-        self.take(alloc, record)
+    fn take(&mut self, alloc: Global, next: &LocalRuleRow) -> Result<bool, AllocError> {
+        self.take(alloc, next)
     }
 }

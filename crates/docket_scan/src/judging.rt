@@ -30,7 +30,7 @@ use crate::taker::{Records, Taker};
 use crate::watch::Watch;
 use court_days::Court;
 use docket_columns::Version;
-use docket_decisions::EndRow;
+use docket_decisions::StoredEnd;
 use docket_sound::{
     ActCheck, CalendarCheck, CaseCheck, DeadlineCheck, DueCheck, EntryCheck, KnownTexts,
     LocalRuleCheck, PartyCheck, ReceiptCheck, Standings,
@@ -246,7 +246,7 @@ fn judge_deadlines<S: Alter, W: Watch>(
 
 /// The ends of the deadlines whose time runs, and how many deadlines stand where. `None`: the acts that
 /// were taken are unsound.
-fn finish(check: ActCheck) -> Result<Option<(Vec<EndRow>, Standings)>, AllocError>
+fn finish(check: ActCheck) -> Result<Option<(Vec<StoredEnd>, Standings)>, AllocError>
     ensures ends { (rows : List OnDeadline) → HasTakenActs check rows
         → IfOk result (λ found. IfSome found (λ both. both.0.items ≡ dues_of (zone_of check.court) check.calendar rows)) }
     ensures standings { (rows : List OnDeadline) → HasTakenActs check rows → length rows < 2 ^ 64

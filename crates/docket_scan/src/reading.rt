@@ -9,7 +9,7 @@ ghost use Rattle.docket_scan.specs.Reading.{IsReady, Says};
 
 use crate::holdings::Holdings;
 use court_days::{Calendar, Court};
-use docket_decisions::EndRow;
+use docket_decisions::StoredEnd;
 use docket_sound::{KnownTexts, Numbering, ShortDayCheck};
 use std::alloc::{AllocError, Global};
 
@@ -75,7 +75,7 @@ pub(crate) struct ActsRead {
 pub(crate) struct EndsRead {
     /// The ends of the deadlines whose time runs, by their acts and the days and spans of the table of the
     /// calendar.
-    pub(crate) ends: Vec<EndRow>,
+    pub(crate) ends: Vec<StoredEnd>,
     pub(crate) short_days: ShortDayCheck,
     pub(crate) held: Holdings,
 }

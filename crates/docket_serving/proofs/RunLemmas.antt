@@ -8,9 +8,9 @@ use Rattle.sqlite.specs.Held.{state}
 use Rattle.sqlite.specs.State.{HasCleanDisk}
 use Rattle.sqlite.specs.View.{doubt}
 use Rattle.docket_history.specs.Histories.{History}
-use Rattle.docket_changes.specs.AnyRows.{HoldsDocketRows, WritesAtMostOne}
-use Rattle.docket_changes.specs.Applying.{Stands}
-use Rattle.docket_changes.specs.Dockets.{Docket}
+use Rattle.docket_applying.specs.AnyRows.{HoldsDocketRows, WritesAtMostOne}
+use Rattle.docket_applying.specs.Applying.{Stands}
+use Rattle.docket_applying.specs.Dockets.{Docket}
 use Rattle.http_request.specs.declared.page.Routes.{Routes}
 use Rattle.http_request.specs.declared.wish.Wish.TheVariants.{Copy}
 use Rattle.docket_http.specs.Recorded.{ServesBacked}

@@ -2,7 +2,7 @@
 use Rattle.std.specs.Prelude.{◌≡◌, refl}
 use Rattle.std.specs.Coded.{Coded, code_by, coded×}
 use Rattle.sqlite.specs.Store.{Ghosts}
-use Rattle.docket_changes.specs.Dockets.{Docket, docket_code}
+use Rattle.docket_applying.specs.Dockets.{Docket, docket_code}
 use Rattle.http_request.specs.contracts.page.Routes as routes
 use Rattle.http_request.specs.declared.page.Routes.{Routes}
 use Rattle.docket_serving.specs.Exchanges.{Exchange}

@@ -9,9 +9,9 @@ use Rattle.sqlite.specs.View.{doubt}
 use Rattle.court_days.specs.Court.{CourtSettings}
 use Rattle.docket_history.specs.Histories.{History}
 use Rattle.docket_tables.specs.Stands.{LastsAsEither}
-use Rattle.docket_changes.specs.AnyRows.{HoldsDocketRows, WritesAtMostOne}
-use Rattle.docket_changes.specs.Applying.{Stands, docket_rows}
-use Rattle.docket_changes.specs.Dockets.{Docket}
+use Rattle.docket_applying.specs.AnyRows.{HoldsDocketRows, WritesAtMostOne}
+use Rattle.docket_applying.specs.Applying.{Stands, docket_rows}
+use Rattle.docket_applying.specs.Dockets.{Docket}
 use Rattle.docket_copies.specs.Copies.{IsSoundFile}
 use Rattle.http_request.specs.declared.page.Routes.{Routes}
 use Rattle.http_request.specs.declared.wish.Wish.{Wish}

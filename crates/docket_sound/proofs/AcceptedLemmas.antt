@@ -13,7 +13,7 @@ use Rattle.docket_decisions.specs.Outcomes.{outcome, answer_kept, accepted, repe
 use Rattle.docket_decisions.specs.Refusals.{on, on_value, first_some, refusal_of, is_reused, lacks_case, lacks_party}
 use Rattle.docket_values.specs.Values.{is_word, first_bad, bad_values}
 use Rattle.docket_history.specs.declared.row.Receipt.{Receipt}
-use Rattle.docket_history.specs.declared.view.Kept.TheVariants.{Same, Other}
+use Rattle.docket_history.specs.declared.view.UnderKey.TheVariants.{Same, Other}
 use Rattle.docket_history.specs.declared.view.View.{View}
 use Rattle.docket_decisions.proofs.GoodValues.{not_false}
 use Rattle.docket_decisions.proofs.Leading.{is_accepted}
@@ -34,13 +34,13 @@ value_first (Some f) rest e = absurd cc
 -- its key is lawful and is no other command's, and its parties are there
 pub record IsLawful (v : View) (c : Command) : Type 0 where
   pub key : is_word 64 c.key ≡ true
-  pub reused : is_reused v.kept ≡ false
+  pub reused : is_reused v.under_key ≡ false
   pub parties : lacks_party v c.action ≡ false
 
 lawful : (court : CourtSettings) (v : View) (c : Command) → refusal_of court v c ≡ None → IsLawful v c
 lawful court v c e =
     let key = on_first (not (is_word 64 c.key)) refusal.BadKey _ e in
-    let reused = on_first (is_reused v.kept) refusal.KeyReused _ key.1 in
+    let reused = on_first (is_reused v.under_key) refusal.KeyReused _ key.1 in
     let values = value_first (first_bad (bad_values court c.action)) _ reused.1 in
     let case = on_first (lacks_case v c.action) refusal.NoSuchCase _ values in
     let parties = on_first (lacks_party v c.action) refusal.NoSuchParty _ case.1 in
@@ -53,11 +53,11 @@ is_lawful court h c reply answer = lawful court (shown court h c) c (is_accepted
 not_same : (court : CourtSettings) (v : View) (c : Command) (reply old : Reply) → answer_kept court (Same old) v c ≡ accepted reply → ⊥
 not_same court v c reply old e = let clash : repeated old ≡ accepted reply = e in cc
 
-none_kept : (court : CourtSettings) (v : View) (c : Command) (reply : Reply) (o : Option Receipt) → v.kept ≡ kept_by o c → is_reused v.kept ≡ false → answer_kept court v.kept v c ≡ accepted reply → o ≡ None
+none_kept : (court : CourtSettings) (v : View) (c : Command) (reply : Reply) (o : Option Receipt) → v.under_key ≡ kept_by o c → is_reused v.under_key ≡ false → answer_kept court v.under_key v c ≡ accepted reply → o ≡ None
 none_kept court v c reply None is fresh answer = refl
 none_kept court v c reply (Some r) is fresh answer = at (is_same_command r.command c) is
   where
-    at : (b : Bool) → v.kept ≡ (if b then Same r.reply else Other) → Some r ≡ None
+    at : (b : Bool) → v.under_key ≡ (if b then Same r.reply else Other) → Some r ≡ None
     at true same = absurd (not_same court v c reply r.reply (ap (λ k. answer_kept court k v c) (sym same) ∙ answer))
     at false other = absurd (let clash : true ≡ false = sym (ap is_reused other) ∙ fresh in cc)
 

@@ -21,7 +21,7 @@ use Rattle.court_rules.specs.declared.act.Standing.{Standing}
 use Rattle.court_days.specs.Calendar.{Entered}
 use Rattle.std.specs.Prelude.{Vec}
 use Rattle.std.specs.declared.alloc.Global.{Global}
-use Rattle.docket_decisions.specs.declared.end_row.EndRow.{EndRow}
+use Rattle.docket_decisions.specs.declared.end_row.StoredEnd.{StoredEnd}
 use Rattle.docket_sound.specs.Numbers.{RunsFrom, AreNumbered}
 use Rattle.docket_sound.specs.declared.act.ActCheck.{ActCheck}
 use Rattle.docket_sound.specs.declared.numbering.Key.{Key}
@@ -249,7 +249,7 @@ module _ (check : ActCheck) (r : ActRow) (rs : List ActRow) (row : ActRow) (has 
         runs = subst (λ n. HasNumbered n (map run_key (runs_from (alone r) (rs ++ row ∷ [])))) (sym runs) (subst (HasNumbered check.runs) (sym keys) has.runs);
         lawful = subst (λ (k : CourtSettings). AllByRecursion (IsSoundRun (zone_of k)) (closed_after (alone r) (rs ++ row ∷ []))) (sym court)
             (subst (AllByRecursion (IsSoundRun (zone_of check.court))) (sym shut) has.lawful);
-        dues = ap (λ (v : Vec EndRow Global). v.items) dues ∙ has.dues ∙ ap (dues_of_runs (zone_of check.court) check.calendar) (sym shut)
+        dues = ap (λ (v : Vec StoredEnd Global). v.items) dues ∙ has.dues ∙ ap (dues_of_runs (zone_of check.court) check.calendar) (sym shut)
             ∙ ap (λ (k : CourtSettings). dues_of_runs (zone_of k) check.calendar (closed_after (alone r) (rs ++ row ∷ []))) (sym court)
             ∙ ap (λ (e : Entered). dues_of_runs (zone_of new.court) e (closed_after (alone r) (rs ++ row ∷ []))) (sym calendar);
         standings = λ few. standings ∙ has.standings (omega (arith, few, length-append rs (row ∷ [])))

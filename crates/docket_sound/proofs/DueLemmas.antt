@@ -15,7 +15,7 @@ use Rattle.docket_decisions.proofs.Passed.{left_true, right_true}
 use Rattle.docket_sound.specs.Acts.{are_lawful, is_on_entered_day}
 use Rattle.docket_sound.specs.Dues.{HasTakenDues}
 use Rattle.docket_sound.specs.declared.due.DueCheck.{DueCheck}
-use Rattle.docket_decisions.specs.declared.end_row.EndRow.{EndRow}
+use Rattle.docket_decisions.specs.declared.end_row.StoredEnd.{StoredEnd}
 
 begins_so : (zone : ZoneRules) (a : Act) → is_on_entered_day zone a ≡ true → begins_on_entered_day zone a ≡ true
 begins_so zone (act.Start (start.Hours hours)) on = right_true (is_instant hours.at) (is_entered_day (local_day zone (seconds hours.at))) on
@@ -41,22 +41,22 @@ pub lawful_acts : (zone : ZoneRules) (acts : List Act) → are_lawful zone acts 
 lawful_acts zone acts lawful =
     (left_true (acts_ok acts) (list_all (is_on_entered_day zone) acts) lawful, all_begin zone acts (right_true (acts_ok acts) (list_all (is_on_entered_day zone) acts) lawful))
 
-record Next (rest : List EndRow) (x : EndRow) : Type 0 where
-  more : List EndRow
+record Next (rest : List StoredEnd) (x : StoredEnd) : Type 0 where
+  more : List StoredEnd
   is : rest ≡ x ∷ more
 
-next_of : (rows rest : List EndRow) (x : EndRow) → slice_get (rows ++ rest) (length rows) ≡ Some x → Next rest x
+next_of : (rows rest : List StoredEnd) (x : StoredEnd) → slice_get (rows ++ rest) (length rows) ≡ Some x → Next rest x
 next_of [] [] x e = absurd cc
 next_of [] (y ∷ ys) x e = let same : y ≡ x = cc in record { more = ys; is = ap (λ z. z ∷ ys) same }
 next_of (r ∷ rs) rest x e = next_of rs rest x e
 
-pub due_taken : (check new : DueCheck) (rows : List EndRow) (row : EndRow) → HasTakenDues check rows → slice_get check.expected.items check.at ≡ Some row → new.expected ≡ check.expected → new.at ≡ check.at + 1
+pub due_taken : (check new : DueCheck) (rows : List StoredEnd) (row : StoredEnd) → HasTakenDues check rows → slice_get check.expected.items check.at ≡ Some row → new.expected ≡ check.expected → new.at ≡ check.at + 1
     → HasTakenDues new (rows ++ row ∷ [])
 due_taken check new rows row has found expected at =
-    let here : slice_get (rows ++ has.rest) (length rows) ≡ Some row = subst (λ (n : ℕ). slice_get (rows ++ has.rest) n ≡ Some row) has.counted (subst (λ (l : List EndRow). slice_get l check.at ≡ Some row) has.begins found) in
+    let here : slice_get (rows ++ has.rest) (length rows) ≡ Some row = subst (λ (n : ℕ). slice_get (rows ++ has.rest) n ≡ Some row) has.counted (subst (λ (l : List StoredEnd). slice_get l check.at ≡ Some row) has.begins found) in
     let next = next_of rows has.rest row here in
     record {
       rest = next.more;
-      begins = ap (λ (v : Vec EndRow Global). v.items) expected ∙ has.begins ∙ ap (λ l. rows ++ l) next.is ∙ sym (append_assoc rows (row ∷ []) next.more);
+      begins = ap (λ (v : Vec StoredEnd Global). v.items) expected ∙ has.begins ∙ ap (λ l. rows ++ l) next.is ∙ sym (append_assoc rows (row ∷ []) next.more);
       counted = omega (arith, at, has.counted, length-append rows (row ∷ []));
     }

@@ -15,7 +15,7 @@ use Rattle.docket_history.specs.Histories.{History, items_of, standing_rows, dea
 use Rattle.docket_decisions.specs.Outcomes.{IsHistory}
 use Rattle.docket_history.specs.ShortDays.{day_and_span_rows}
 use Rattle.docket_decisions.specs.Tables.{rows_of}
-use Rattle.docket_decisions.specs.declared.end_row.EndRow.{EndRow}
+use Rattle.docket_decisions.specs.declared.end_row.StoredEnd.{StoredEnd}
 use Rattle.docket_decisions.specs.declared.end_row.EndTime.{EndTime}
 use Rattle.docket_history.specs.declared.row.ActRow.{ActRow}
 use Rattle.docket_history.specs.declared.row.CalendarRow.{CalendarRow}
@@ -41,7 +41,7 @@ end_alone k n None = tt
 end_alone k n (Some end) = (tt, tt)
 
 module _ (zone : ZoneRules) (entered : Entered) (acts : List ActRow) where
-  abbrev ends_at : DeadlineRow → List EndRow
+  abbrev ends_at : DeadlineRow → List StoredEnd
   ends_at d = row_of_deadline zone entered acts d
 
   dues_by : (ds : List DeadlineRow) → dues_of_runs zone entered (map (run_at acts) ds) ≡ flat_map ends_at ds
@@ -63,7 +63,7 @@ module _ (court : CourtSettings) (h : History) (is : IsHistory court h) (days : 
   abbrev entered : Entered
   entered = calendar_of (items_of (standing_rows h))
 
-  abbrev by_deadline : List EndRow
+  abbrev by_deadline : List StoredEnd
   by_deadline = flat_map (ends_at (zone_of court) entered (act_rows h)) (listed court h is)
 
   expected : dues_of (zone_of court) (calendar_of (items_of days)) acts ≡ by_deadline
@@ -83,5 +83,5 @@ module _ (court : CourtSettings) (h : History) (is : IsHistory court h) (days : 
   pub ends_expected : AreInOrder end_order (end_rows court (rows_of court h)) (dues_of (zone_of court) (calendar_of (items_of days)) acts)
   ends_expected = subst (AreInOrder end_order (end_rows court (rows_of court h))) (sym expected) (record { same = same_ends; sorted = sorted_up end_order end_total by_deadline up })
 
-  pub ends_stored : (ends : List EndRow) → AreInOrder end_order (end_rows court (rows_of court h)) ends → ends ≡ dues_of (zone_of court) (calendar_of (items_of days)) acts
+  pub ends_stored : (ends : List StoredEnd) → AreInOrder end_order (end_rows court (rows_of court h)) ends → ends ≡ dues_of (zone_of court) (calendar_of (items_of days)) acts
   ends_stored ends order = only_order end_order end_total (end_rows court (rows_of court h)) by_deadline ends up same_ends order ∙ sym expected

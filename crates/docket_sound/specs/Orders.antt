@@ -3,7 +3,7 @@ use Rattle.std.specs.Prelude.{List, IsPermutation, IsSorted}
 use Rattle.std.specs.Cmp.Lexicographic.{slice_cmp}
 use Rattle.std.specs.Ordering.{nat_cmp, on, then_cmp}
 use Rattle.std.specs.declared.cmp.Ordering.{Ordering}
-use Rattle.docket_decisions.specs.declared.end_row.EndRow.{EndRow}
+use Rattle.docket_decisions.specs.declared.end_row.StoredEnd.{StoredEnd}
 use Rattle.docket_history.specs.Histories.{History, act_rows, local_rule_rows, standing_rows}
 use Rattle.docket_history.specs.ShortDays.{day_and_span_rows}
 use Rattle.docket_history.specs.declared.row.ActRow.{ActRow}
@@ -60,10 +60,10 @@ abbrev pub act_order : ActRow → ActRow → Ordering
 act_order = then_cmp (on deadline_of key_order) (on (λ row. row.number) nat_cmp)
 
 -- the deadline of an end
-abbrev pub end_key : EndRow → Key
+abbrev pub end_key : StoredEnd → Key
 end_key row = record { case = row.case; number = row.deadline }
 
-abbrev pub end_order : EndRow → EndRow → Ordering
+abbrev pub end_order : StoredEnd → StoredEnd → Ordering
 end_order = on end_key key_order
 
 -- by the key, byte by byte

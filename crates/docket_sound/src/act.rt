@@ -12,13 +12,13 @@ ghost use Rattle.docket_sound.specs.Runs.{run_key, alone};
 ghost use Rattle.docket_sound.specs.Standings.{counts_of_standings, last_standings, standings_of};
 ghost use Rattle.docket_sound.specs.declared.numbering.Key.{Key as Place};
 
-use crate::due::{push_due, standing_of};
+use crate::due::{deadline_standing, push_due};
 use crate::numbering::{Key, Numbering};
 use crate::standings::Standings;
 use crate::text::is_entered;
 use court_days::{Calendar, Court};
 use court_rules::{Act, Standing, Start, acts_ok};
-use docket_decisions::EndRow;
+use docket_decisions::StoredEnd;
 use docket_history::ActRow;
 use std::alloc::{AllocError, Global};
 
@@ -80,7 +80,7 @@ pub struct ActCheck {
     pub(crate) deadline: u32,
     pub(crate) acts: Vec<Act>,
     /// The ends of those before it.
-    pub(crate) dues: Vec<EndRow>,
+    pub(crate) dues: Vec<StoredEnd>,
     /// How many of those before it stand where.
     pub(crate) standings: Standings,
 }
@@ -170,7 +170,7 @@ impl ActCheck {
         if self.acts.is_empty() {
             return Ok(());
         }
-        let standing = standing_of(&self.court, &self.calendar, self.acts.as_slice());
+        let standing = deadline_standing(&self.court, &self.calendar, self.acts.as_slice());
         push_due(
             &mut self.dues,
             &self.court,
@@ -237,13 +237,13 @@ impl ActCheck {
         if self.acts.is_empty() {
             return Some(counts);
         }
-        let standing = standing_of(&self.court, &self.calendar, self.acts.as_slice());
+        let standing = deadline_standing(&self.court, &self.calendar, self.acts.as_slice());
         counts.count(&standing);
         Some(counts)
     }
 
     /// The rows of the running deadlines. `None`: the acts are unsound.
-    pub fn dues(mut self) -> Result<Option<Vec<EndRow>>, AllocError>
+    pub fn dues(mut self) -> Result<Option<Vec<StoredEnd>>, AllocError>
         ensures some { (rows : List OnDeadline) → HasTakenActs self rows
             → IfOk result (λ found. IfSome found (λ dues. dues.items ≡ dues_of (zone_of self.court) self.calendar rows)) }
         ensures sound { (rows : List OnDeadline) → HasTakenActs self rows

@@ -3,27 +3,27 @@ ghost use Rattle.std.specs.Prelude.{◌≡◌, ◌↔◌, ◌++◌, ◌∷◌, [
 ghost use Rattle.court_days.specs.Court.{zone_of};
 ghost use Rattle.court_rules.specs.Standings.{StandsAfter, standing};
 ghost use Rattle.docket_decisions.specs.EndRows.{end_row, end_running};
-ghost use Rattle.docket_decisions.specs.declared.end_row.EndRow.{EndRow as Stored};
+ghost use Rattle.docket_decisions.specs.declared.end_row.StoredEnd.{StoredEnd as Stored};
 ghost use Rattle.docket_sound.specs.Acts.{are_lawful};
 ghost use Rattle.docket_sound.specs.Dues.{HasTakenDues};
 
 use court_days::{Calendar, Court};
-use court_rules::{Act, Standing, due};
-use docket_decisions::{EndRow, end_running};
+use court_rules::{Act, Standing, standing_of};
+use docket_decisions::{StoredEnd, end_running};
 use std::alloc::AllocError;
 
 /// Where a deadline with these acts stands by the calendar.
-pub(crate) fn standing_of(court: &Court, calendar: &Calendar, acts: &[Act]) -> Standing
+pub(crate) fn deadline_standing(court: &Court, calendar: &Calendar, acts: &[Act]) -> Standing
     requires lawful { are_lawful (zone_of court.now) acts.now ≡ true }
     ensures value { result ≡ standing (zone_of court.now) calendar.now acts.now }
     ensures near { StandsAfter 100 result }
 {
-    due(court, calendar, acts)
+    standing_of(court, calendar, acts)
 }
 
 /// Adds the row of a deadline that stands so, if its time runs.
 pub(crate) fn push_due(
-    dues: &mut Vec<EndRow>,
+    dues: &mut Vec<StoredEnd>,
     court: &Court,
     case: u32,
     deadline: u32,
@@ -35,7 +35,7 @@ pub(crate) fn push_due(
     let Some(end) = end_running(court, *standing) else {
         return Ok(());
     };
-    dues.extend_from_slice(&[EndRow {
+    dues.extend_from_slice(&[StoredEnd {
         case,
         deadline,
         end,
@@ -43,7 +43,7 @@ pub(crate) fn push_due(
     Ok(())
 }
 
-fn is_same_due(due: EndRow, other: EndRow) -> bool
+fn is_same_due(due: StoredEnd, other: StoredEnd) -> bool
     ensures { IsTrue result ↔ (due ≡ other) }
 {
     due.case == other.case
@@ -55,12 +55,12 @@ fn is_same_due(due: EndRow, other: EndRow) -> bool
 /// The check of these rows, which are those of the running deadlines in the order of their keys.
 #[derive(Drop)]
 pub struct DueCheck {
-    pub(crate) expected: Vec<EndRow>,
+    pub(crate) expected: Vec<StoredEnd>,
     pub(crate) at: usize,
 }
 
 impl DueCheck {
-    pub fn new(expected: Vec<EndRow>) -> DueCheck
+    pub fn new(expected: Vec<StoredEnd>) -> DueCheck
         ensures none { HasTakenDues result [] }
         ensures expected { result.expected ≡ expected }
     {
@@ -68,14 +68,14 @@ impl DueCheck {
     }
 
     /// The row that comes next.
-    fn next_row(&self) -> Option<EndRow>
+    fn next_row(&self) -> Option<StoredEnd>
         ensures { result ≡ slice_get self.now.expected.items self.now.at }
     {
         self.expected.get(self.at).copied()
     }
 
     /// Takes the next row, unless the table is unsound by it.
-    pub fn take(&mut self, row: EndRow) -> bool
+    pub fn take(&mut self, row: StoredEnd) -> bool
         ensures taken { (rows : List Stored) → HasTakenDues self.old rows → result ≡ true → HasTakenDues self.new (rows ++ row ∷ []) }
         ensures refused { (rows more : List Stored) → HasTakenDues self.old rows → result ≡ false
             → rows ++ row ∷ more ≡ self.old.expected.items → ⊥ }

@@ -9,7 +9,7 @@ ghost use Rattle.docket_history.specs.Histories.{History, items_of, standing_row
 ghost use Rattle.docket_decisions.specs.Outcomes.{IsHistory, receipts};
 ghost use Rattle.docket_history.specs.ShortDays.{day_and_span_rows, short_day_rows};
 ghost use Rattle.docket_decisions.specs.Tables.{rows_of};
-ghost use Rattle.docket_decisions.specs.declared.end_row.EndRow.{EndRow};
+ghost use Rattle.docket_decisions.specs.declared.end_row.StoredEnd.{StoredEnd};
 ghost use Rattle.docket_history.specs.declared.row.ActRow.{ActRow};
 ghost use Rattle.docket_history.specs.declared.row.CalendarRow.{CalendarRow};
 ghost use Rattle.docket_history.specs.declared.row.CaseRow.{CaseRow};
@@ -107,7 +107,7 @@ pub fn stored_ends_are_expected()
         → IsHistory court h → AreDaysOf h days → AreActsOf h acts
         → AreInOrder end_order (end_rows court (rows_of court h))
         (dues_of (zone_of court) (calendar_of (items_of days)) acts) }
-    ensures stored { (court : CourtSettings) (h : History) (days : List CalendarRow) (acts : List ActRow) (ends : List EndRow)
+    ensures stored { (court : CourtSettings) (h : History) (days : List CalendarRow) (acts : List ActRow) (ends : List StoredEnd)
         → IsHistory court h → AreDaysOf h days → AreActsOf h acts
         → AreInOrder end_order (end_rows court (rows_of court h)) ends
         → ends ≡ dues_of (zone_of court) (calendar_of (items_of days)) acts }

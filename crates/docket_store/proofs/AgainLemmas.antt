@@ -13,21 +13,21 @@ use Rattle.docket_command.specs.declared.command.Command.{Command}
 use Rattle.docket_command.specs.declared.refusal.Reply.{Reply}
 use Rattle.docket_command.proofs.SamenessLemmas.{same_command}
 use Rattle.docket_history.specs.Histories.{History}
-use Rattle.docket_decisions.specs.Outcomes.{Answer, accepted, repeated, refused, answer_kept, kept, kept_by, receipts, reply_to, replied, shown, shown_fresh, outcome, after, after_answer}
+use Rattle.docket_decisions.specs.Outcomes.{Answer, accepted, repeated, refused, answer_kept, under_key, kept_by, receipts, reply_to, replied, shown, shown_fresh, outcome, after, after_answer}
 use Rattle.docket_history.specs.declared.row.Receipt.{Receipt}
-use Rattle.docket_history.specs.declared.view.Kept.{Kept}
-use Rattle.docket_history.specs.declared.view.Kept.TheVariants.{Same, Other}
+use Rattle.docket_history.specs.declared.view.UnderKey.{UnderKey}
+use Rattle.docket_history.specs.declared.view.UnderKey.TheVariants.{Same, Other}
 use Rattle.docket_history.specs.declared.view.View.{View}
 use Rattle.docket_decisions.proofs.Leading.{is_accepted}
 use Rattle.docket_orderly.proofs.ReceiptLemmas.{fresh_by, none_found}
-use Rattle.docket_changes.specs.Applying.{Applies, Stands}
-use Rattle.docket_changes.specs.Dockets.{Docket}
+use Rattle.docket_applying.specs.Applying.{Applies, Stands}
+use Rattle.docket_applying.specs.Dockets.{Docket}
 use Rattle.docket_store.specs.Reopening.{AppliesOnce}
-use Rattle.docket_changes.specs.declared.fault.Fault.{Fault}
-use Rattle.docket_changes.proofs.ApplyLemmas.{after_repeated}
+use Rattle.docket_applying.specs.declared.fault.Fault.{Fault}
+use Rattle.docket_applying.proofs.ApplyLemmas.{after_repeated}
 
 -- the reply to an action does not tell what stands under the key
-reply_kept : (court : CourtSettings) (v : View) (k : Kept) (a : Action) → reply_to court (record v { kept = k }) a ≡ reply_to court v a
+reply_kept : (court : CourtSettings) (v : View) (k : UnderKey) (a : Action) → reply_to court (record v { under_key = k }) a ≡ reply_to court v a
 reply_kept court v k (action.DeclareDay a) = refl
 reply_kept court v k a = refl
 
@@ -46,9 +46,9 @@ repeats court h c n e =
     let new : Receipt = record { command = c; reply = replied (reply_to court (shown_fresh h c.action) c.action) } in
     let met = is_accepted court v c n e in
     let test = λ (r : Receipt). bytes_eq r.command.key c.key in
-    let none : find test (receipts court h) ≡ None = none_found _ c (fresh_by court v.kept v c n refl e) in
-    let found : kept (receipts court (c ∷ h)) c ≡ Same new.reply = ap (λ o. kept_by o c) (find-append test (receipts court h) (new ∷ [])) ∙ kept_alone (find test (receipts court h)) new none in
-    let due : new.reply ≡ n = sym (met.due ∙ ap replied (reply_kept court (shown_fresh h c.action) v.kept c.action)) in
+    let none : find test (receipts court h) ≡ None = none_found _ c (fresh_by court v.under_key v c n refl e) in
+    let found : under_key (receipts court (c ∷ h)) c ≡ Same new.reply = ap (λ o. kept_by o c) (find-append test (receipts court h) (new ∷ [])) ∙ kept_alone (find test (receipts court h)) new none in
+    let due : new.reply ≡ n = sym (met.due ∙ ap replied (reply_kept court (shown_fresh h c.action) v.under_key c.action)) in
     ap (λ k. answer_kept court k (shown court (c ∷ h) c) c) found ∙ ap repeated due
 
 -- what is given again changes nothing more

@@ -1,6 +1,7 @@
 pub mod AgainLemmas
 pub mod JudgedLemmas
 pub mod LeftLemmas
+pub mod OnlyLemmas
 pub mod OpeningLemmas
 pub mod QuestionLemmas
 pub mod ReopeningLemmas

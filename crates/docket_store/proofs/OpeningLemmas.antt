@@ -22,7 +22,7 @@ use Rattle.docket_tables.specs.Schema.{docket_schema}
 use Rattle.docket_tables.specs.Stands.{IsSettled, Lasts}
 use Rattle.docket_tables.specs.declared.table.Table.TheVariants as table
 use Rattle.docket_tables.proofs.StandsLemmas.{unchanged_settled, undone_lasting}
-use Rattle.docket_changes.specs.Applying.{StandsFor, docket_rows}
+use Rattle.docket_applying.specs.Applying.{StandsFor, docket_rows}
 use Rattle.docket_store.specs.Causes.{IsCausedOpening, IsShort}
 use Rattle.docket_store.specs.Opening.{Finds}
 

@@ -12,11 +12,11 @@ use Rattle.docket_history.specs.declared.item.CalendarItem.{CalendarItem}
 use Rattle.docket_tables.specs.Layouts.{Rows}
 use Rattle.docket_tables.specs.Readings.{Fails, Gives}
 use Rattle.docket_tables.specs.declared.fault.ReadFault.{ReadFault}
-use Rattle.docket_changes.specs.Applying.{Asks, FailsAs, IsDocket, Keeps, docket_rows}
-use Rattle.docket_changes.specs.Dockets.{Docket, serving}
-use Rattle.docket_changes.specs.declared.fault.Fault.{Fault}
-use Rattle.docket_changes.specs.declared.fault.Fault.TheVariants.{StoreFailed}
-use Rattle.docket_changes.proofs.AskLemmas.{asks_failed, asks_kept}
+use Rattle.docket_applying.specs.Applying.{Asks, FailsAs, IsDocket, Keeps, docket_rows}
+use Rattle.docket_applying.specs.Dockets.{Docket, serving}
+use Rattle.docket_applying.specs.declared.fault.Fault.{Fault}
+use Rattle.docket_applying.specs.declared.fault.Fault.TheVariants.{StoreFailed}
+use Rattle.docket_applying.proofs.AskLemmas.{asks_failed, asks_kept}
 
 abbrev error_in : {X E : Type 0} → E → Result X E → E
 error_in other (Ok x) = other

@@ -28,7 +28,7 @@ use Rattle.docket_tables.specs.Schema.{docket_schema, schema_of}
 use Rattle.docket_tables.specs.Layouts.{AreRowsIn, Rows}
 use Rattle.docket_tables.specs.Stands.{HoldsRowsIn, IsEither, IsImage, IsImageIn, IsSettled, IsSettledIn}
 use Rattle.docket_tables.proofs.CommitLemmas.{LeavesCommit}
-use Rattle.docket_changes.specs.Applying.{StandsFor, docket_rows}
+use Rattle.docket_applying.specs.Applying.{StandsFor, docket_rows}
 use Rattle.docket_store.specs.Reopening.{HoldDocket, HoldEither, HoldRows, LeavesEither, MayLeave, StandsForEither}
 
 -- what three clauses say of a value

@@ -12,11 +12,11 @@ use Rattle.sqlite.specs.Store.{Ghosts}
 use Rattle.sqlite.specs.State.{HasCleanDisk}
 use Rattle.sqlite.specs.Held.{state}
 use Rattle.docket_tables.specs.Stands.{LastsAsEither}
-use Rattle.docket_changes.specs.Applying.{docket_rows}
-use Rattle.docket_changes.specs.Dockets.{Docket}
+use Rattle.docket_applying.specs.Applying.{docket_rows}
+use Rattle.docket_applying.specs.Dockets.{Docket}
 use Rattle.docket_store.specs.Sequence.{AreReplies, BreaksOff, Halts, HaltsAfter, IsSaid}
-use Rattle.docket_changes.specs.declared.fault.Fault.{Fault}
-use Rattle.docket_changes.specs.declared.fault.Fault.TheVariants.{Refused, NoMemory, StoreFailed, Closed, Damaged}
+use Rattle.docket_applying.specs.declared.fault.Fault.{Fault}
+use Rattle.docket_applying.specs.declared.fault.Fault.TheVariants.{Refused, NoMemory, StoreFailed, Closed, Damaged}
 
 replies-push : (rs : List (Result Reply Refusal)) (all : List Answer) (r : Result Reply Refusal) (a : Answer) → AreReplies rs all → IsSaid r a → AreReplies (rs ++ r ∷ []) (all ++ a ∷ [])
 replies-push [] [] r a all one = (one, tt)

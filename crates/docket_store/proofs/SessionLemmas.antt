@@ -11,13 +11,13 @@ use Rattle.docket_command.specs.declared.refusal.Reply.{Reply}
 use Rattle.docket_history.specs.Histories.{History}
 use Rattle.docket_decisions.specs.Outcomes.{Answer, outcome, after, run, answers}
 use Rattle.docket_tables.specs.Stands.{IsSettled}
-use Rattle.docket_changes.specs.Applying.{IsDocket, Stands, docket_rows}
-use Rattle.docket_changes.specs.Dockets.{Docket}
+use Rattle.docket_applying.specs.Applying.{IsDocket, Stands, docket_rows}
+use Rattle.docket_applying.specs.Dockets.{Docket}
 use Rattle.docket_store.specs.Opening.{IsAdopted}
 use Rattle.docket_store.specs.Sequence.{AreReplies, HaltsAfter}
 use Rattle.docket_store.specs.Sessions.{AnswersFirst, HoldsDocket, LeftAt, LeftBy}
-use Rattle.docket_changes.specs.declared.fault.Fault.{Fault}
-use Rattle.docket_changes.specs.declared.fault.Fault.TheVariants.{Refused, NoMemory, StoreFailed, Closed, Damaged}
+use Rattle.docket_applying.specs.declared.fault.Fault.{Fault}
+use Rattle.docket_applying.specs.declared.fault.Fault.TheVariants.{Refused, NoMemory, StoreFailed, Closed, Damaged}
 
 -- the first answers are those of the first commands
 answers_take : (court : CourtSettings) (n : ℕ) (h : History) (cs : List Command) → take n (answers court h cs) ≡ answers court h (take n cs)

@@ -7,11 +7,11 @@ use Rattle.sqlite.specs.Store.{Ghosts}
 use Rattle.sqlite.specs.declared.error.Error.{Error}
 use Rattle.docket_tables.specs.Causes.{IsLater}
 use Rattle.docket_command.specs.declared.command.Command.{Command}
-use Rattle.docket_changes.specs.Causes.{IsClosedByWrite}
+use Rattle.docket_applying.specs.Causes.{IsClosedByWrite}
 use Rattle.docket_store.specs.Causes.{IsCausedAt, StopsForCause}
-use Rattle.docket_changes.specs.Dockets.{Docket}
-use Rattle.docket_changes.specs.declared.fault.Fault.{Fault}
-use Rattle.docket_changes.proofs.FailureLemmas.{write_caused_after}
+use Rattle.docket_applying.specs.Dockets.{Docket}
+use Rattle.docket_applying.specs.declared.fault.Fault.{Fault}
+use Rattle.docket_applying.proofs.FailureLemmas.{write_caused_after}
 
 -- the command of this place closed the docket, which was on the same connection when the first of them came
 pub caused_at : {S : Type 0} (g : Ghosts S) (cs : List Command) (i place : ℕ) (c : Command) (first : State) (old new : Docket S) → i < length cs → c ≡ get_or cs i c → place ≡ i

@@ -11,9 +11,9 @@ use Rattle.docket_tables.specs.Schema.{no_schema}
 use Rattle.docket_tables.specs.declared.fault.StoreFault.TheVariants as making
 use Rattle.docket_store.specs.declared.creating.CreateFault.{CreateFault}
 use Rattle.docket_store.specs.declared.creating.CreateFault.TheVariants as create
-use Rattle.docket_changes.specs.declared.fault.Fault.{Fault}
-use Rattle.docket_changes.specs.declared.fault.Fault.TheVariants.{StoreFailed}
-use Rattle.docket_changes.specs.Causes.{IsCausedWrite}
+use Rattle.docket_applying.specs.declared.fault.Fault.{Fault}
+use Rattle.docket_applying.specs.declared.fault.Fault.TheVariants.{StoreFailed}
+use Rattle.docket_applying.specs.Causes.{IsCausedWrite}
 
 -- memory was refused, and this is told
 abbrev pub IsShort : Option Error → Type 0

@@ -18,8 +18,8 @@ use Rattle.docket_scan.specs.declared.holdings.Holdings.{Holdings}
 use Rattle.docket_tables.specs.Recognition.{has_docket_table}
 use Rattle.docket_tables.specs.Layouts.{Rows}
 use Rattle.docket_tables.specs.Stands.{HoldsRows, IsImage, Lasts}
-use Rattle.docket_changes.specs.Applying.{StandsFor, Stands, docket_rows}
-use Rattle.docket_changes.specs.Dockets.{Docket}
+use Rattle.docket_applying.specs.Applying.{StandsFor, Stands, docket_rows}
+use Rattle.docket_applying.specs.Dockets.{Docket}
 use Rattle.docket_store.specs.declared.creating.CreateFault.{CreateFault}
 use Rattle.docket_store.specs.declared.creating.CreateFault.TheVariants as create
 

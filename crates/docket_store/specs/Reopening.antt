@@ -20,11 +20,11 @@ use Rattle.docket_history.specs.Histories.{History}
 use Rattle.docket_decisions.specs.Outcomes.{after}
 use Rattle.docket_tables.specs.Layouts.{Rows}
 use Rattle.docket_tables.specs.Stands.{IsImage, IsImageIn}
-use Rattle.docket_changes.specs.Applying.{StandsFor, Stands, docket_rows, Applies, Faults}
-use Rattle.docket_changes.specs.Dockets.{Docket}
+use Rattle.docket_applying.specs.Applying.{StandsFor, Stands, docket_rows, Applies, Faults}
+use Rattle.docket_applying.specs.Dockets.{Docket}
 use Rattle.docket_store.specs.Left.{HoldSome}
 use Rattle.docket_store.specs.Opening.{IsNotAdopted}
-use Rattle.docket_changes.specs.declared.fault.Fault.{Fault}
+use Rattle.docket_applying.specs.declared.fault.Fault.{Fault}
 use Rattle.docket_store.specs.declared.recovering.RecoverFault.{RecoverFault}
 use Rattle.docket_store.specs.declared.recovering.RecoverFault.TheVariants.{NotOpened, NotAdopted}
 

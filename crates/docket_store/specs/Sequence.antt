@@ -9,10 +9,10 @@ use Rattle.docket_command.specs.declared.refusal.Reply.{Reply}
 use Rattle.docket_history.specs.Histories.{History}
 use Rattle.docket_decisions.specs.Outcomes.{Answer, repeated, refused, accepted, outcome, after, run, answers}
 use Rattle.docket_tables.specs.Stands.{LastsAsEither}
-use Rattle.docket_changes.specs.Applying.{Stands, docket_rows}
-use Rattle.docket_changes.specs.Dockets.{Docket}
-use Rattle.docket_changes.specs.declared.fault.Fault.{Fault}
-use Rattle.docket_changes.specs.declared.fault.Fault.TheVariants.{NoMemory, StoreFailed, Damaged}
+use Rattle.docket_applying.specs.Applying.{Stands, docket_rows}
+use Rattle.docket_applying.specs.Dockets.{Docket}
+use Rattle.docket_applying.specs.declared.fault.Fault.{Fault}
+use Rattle.docket_applying.specs.declared.fault.Fault.TheVariants.{NoMemory, StoreFailed, Damaged}
 
 -- what is said is this answer
 abbrev pub IsSaid : Result Reply Refusal → Answer → Type 0

@@ -10,10 +10,10 @@ use Rattle.docket_command.specs.declared.refusal.Reply.{Reply}
 use Rattle.docket_history.specs.Histories.{History}
 use Rattle.docket_decisions.specs.Outcomes.{run, answers}
 use Rattle.docket_tables.specs.Stands.{LastsAsEither}
-use Rattle.docket_changes.specs.Applying.{IsDocket, StandsFor, docket_rows}
+use Rattle.docket_applying.specs.Applying.{IsDocket, StandsFor, docket_rows}
 use Rattle.docket_store.specs.Sequence.{AreReplies}
-use Rattle.docket_changes.specs.declared.fault.Fault.{Fault}
-use Rattle.docket_changes.specs.declared.fault.Fault.TheVariants.{NoMemory, StoreFailed}
+use Rattle.docket_applying.specs.declared.fault.Fault.{Fault}
+use Rattle.docket_applying.specs.declared.fault.Fault.TheVariants.{NoMemory, StoreFailed}
 
 -- so many commands were answered, in order: the replies are the first of their answers
 abbrev pub AnswersFirst : CourtSettings → History → List Command → List (Result Reply Refusal) → Type 0

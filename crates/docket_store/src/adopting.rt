@@ -11,7 +11,7 @@ ghost use Rattle.docket_tables.specs.Layouts.{Rows};
 ghost use Rattle.docket_tables.specs.Stands.{HoldsRows, Lasts};
 ghost use Rattle.docket_tables.specs.declared.table.Table.TheVariants as table;
 ghost use Rattle.docket_store.specs.Opening.{PreservesJudged};
-ghost use Rattle.docket_changes.specs.Applying.{IsDocket, StandsFor};
+ghost use Rattle.docket_applying.specs.Applying.{IsDocket, StandsFor};
 ghost use Rattle.docket_store.specs.Causes.{IsCausedOpening, IsShort};
 ghost use Rattle.docket_store.specs.Opening.{Finds, IsNotAdopted, IsToldOf};
 

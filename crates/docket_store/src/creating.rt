@@ -4,7 +4,7 @@ ghost use Rattle.sqlite.specs.Held.{state};
 ghost use Rattle.sqlite.specs.State.{HasCleanDisk};
 ghost use Rattle.sqlite.specs.View.{doubt};
 ghost use Rattle.docket_tables.specs.Recognition.{has_docket_table};
-ghost use Rattle.docket_changes.specs.Applying.{StandsFor};
+ghost use Rattle.docket_applying.specs.Applying.{StandsFor};
 ghost use Rattle.docket_store.specs.Causes.{IsCausedCreating};
 ghost use Rattle.docket_store.specs.Opening.{IsNotMade};
 ghost use Rattle.docket_store.specs.declared.creating.CreateFault.TheVariants as fault;

@@ -13,21 +13,21 @@ ghost use Rattle.docket_scan.specs.Shapes.{has_named};
 ghost use Rattle.docket_scan.specs.declared.fault.AdoptFault.TheVariants.{Empty};
 ghost use Rattle.docket_tables.specs.Contents.{rows_by};
 ghost use Rattle.docket_tables.specs.Recognition.{has_docket_table};
-ghost use Rattle.docket_decisions.specs.declared.end_row.EndRow.{EndRow};
+ghost use Rattle.docket_decisions.specs.declared.end_row.StoredEnd.{StoredEnd};
 ghost use Rattle.docket_tables.specs.AnyRows.{AreDocketRows};
 ghost use Rattle.docket_tables.specs.Causes.{IsLater};
 ghost use Rattle.docket_tables.specs.Layouts.{Rows};
 ghost use Rattle.docket_tables.specs.Stands.{HoldsRows, HoldsRowsIn};
 ghost use Rattle.docket_tables.specs.declared.table.Table.TheVariants as table;
-ghost use Rattle.docket_changes.specs.AnyRows.{WritesWhole};
+ghost use Rattle.docket_applying.specs.AnyRows.{WritesWhole};
 ghost use Rattle.docket_store.specs.Opening.{PreservesRejected};
-ghost use Rattle.docket_changes.specs.Applying.{IsDocket, StandsFor, Stands, Applies, docket_rows};
-ghost use Rattle.docket_changes.specs.Causes.{IsClosedByWrite, IsClosedForCause, IsNotAccepted};
+ghost use Rattle.docket_applying.specs.Applying.{IsDocket, StandsFor, Stands, Applies, docket_rows};
+ghost use Rattle.docket_applying.specs.Causes.{IsClosedByWrite, IsClosedForCause, IsNotAccepted};
 ghost use Rattle.docket_store.specs.Causes.{IsCausedCreating, IsCausedOpening};
 ghost use Rattle.docket_store.specs.Migrating.{cause_of};
 ghost use Rattle.docket_store.specs.Opening.{IsAdopted, IsNotAdopted, IsNotMade, IsRejected, IsSoundDocket, IsSoundWith};
 ghost use Rattle.docket_store.specs.declared.creating.CreateFault.TheVariants.{NotEmpty};
-ghost use Rattle.docket_changes.specs.declared.fault.Fault.TheVariants as fault;
+ghost use Rattle.docket_applying.specs.declared.fault.Fault.TheVariants as fault;
 
 use crate::adopting::adopt_from;
 use crate::creating::{CreateFault, make_docket};
@@ -35,7 +35,7 @@ use crate::laws::courts_begin_without_a_record;
 use crate::migrating::MigrateFault;
 use crate::returned::Returned;
 use court_days::Court;
-use docket_changes::{Fault, apply_to, closing_error};
+use docket_applying::{Fault, apply_to, closing_error};
 use docket_command::{Command, Reply};
 use docket_history::StandingCalendar;
 use docket_migration::migrate;
@@ -58,7 +58,7 @@ pub struct Docket<S: Alter> {
 
 impl<S: Alter> Model for Docket<S> {
     ghost use Rattle.std.specs.Prelude.{◌≡◌, false, is_some};
-    ghost use Rattle.docket_changes.specs.Dockets.{Docket, docket_code};
+    ghost use Rattle.docket_applying.specs.Dockets.{Docket, docket_code};
 
     ghost Value = { Docket S };
 
@@ -261,7 +261,7 @@ impl<S: Alter> Docket<S> {
         // A closed docket takes no memory and touches no disk.
         ensures closed { self.old.closed ≡ true → (result ≡ Err fault.Closed) × (self.new ≡ self.old) }
         // Of any docket, the command is written whole, with its receipt, or not at all.
-        ensures any { (rows : Rows) (n : ℕ) (stored : List EndRow) → AreDocketRows self.old.court n stored rows → n < 2 ^ 62 → HoldsRows S.Store self.old.conn rows
+        ensures any { (rows : Rows) (n : ℕ) (stored : List StoredEnd) → AreDocketRows self.old.court n stored rows → n < 2 ^ 62 → HoldsRows S.Store self.old.conn rows
             → WritesWhole S.Store self.new.conn self.new.court n rows command.now result }
         ensures clean { doubt (state S.Store self.old.conn).is_clean ≤ doubt (state S.Store self.new.conn).is_clean }
         ensures closes { self.old.closed ≡ false → (self.new.closed ≡ true) ↔ (result ≡ Err fault.StoreFailed) }

@@ -1,6 +1,6 @@
 //! What the definitions of specs/ say, with nothing to run.
 ghost use Rattle.std.specs.Prelude.{[]};
-ghost use Rattle.docket_changes.specs.Applying.{IsDocket};
+ghost use Rattle.docket_applying.specs.Applying.{IsDocket};
 
 use court_days::Court;
 

@@ -1,6 +1,6 @@
 //! The docket of a court in a database, from its making or its adoption to its end. `Docket` has the
 //! connection, what is kept of the court calendar, and why it closed; each command and question is that of
-//! `docket_changes`. What a power failure leaves of the database is a docket. Any database is adopted, if
+//! `docket_applying`. What a power failure leaves of the database is a docket. Any database is adopted, if
 //! all its tables are sound; one of the first version of the tables is migrated to the second.
 #![tactic(auto)]
 
@@ -18,7 +18,7 @@ mod sessions;
 
 pub use creating::CreateFault;
 pub use docket::Docket;
-pub use docket_changes::{CalendarEnd, Fault, Grounds, ListingEnd};
+pub use docket_applying::{CalendarEnd, Fault, Grounds, ListingEnd};
 pub use docket_columns::Version;
 pub use docket_scan::{AdoptFault, Holdings, Unwatched, Watch};
 pub use laws::courts_begin_without_a_record;

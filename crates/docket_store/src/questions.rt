@@ -16,23 +16,24 @@ ghost use Rattle.docket_tables.specs.Readings.{Fails, Stays};
 ghost use Rattle.docket_tables.specs.Stands.{HoldsRows};
 ghost use Rattle.docket_tables.specs.declared.fault.ReadFault.{ReadFault as Unread};
 ghost use Rattle.docket_tables.specs.declared.fault.ReadFault.TheVariants.{Store};
-ghost use Rattle.docket_changes.specs.AnyRows.{Preserves, PreservesCalendar, PreservesListing};
-ghost use Rattle.docket_changes.specs.Applying.{Asks, FailsAs, Stands};
-ghost use Rattle.docket_changes.specs.Causes.{IsClosedForCause};
-ghost use Rattle.docket_changes.specs.Grounds.{AreGrounds};
-ghost use Rattle.docket_changes.specs.Listing.{HasBroken, Lists, ListsCalendar};
-ghost use Rattle.docket_changes.specs.declared.fault.Fault.TheVariants as fault;
-ghost use Rattle.docket_changes.specs.declared.listing.CalendarEnd.TheVariants as calendar_end;
-ghost use Rattle.docket_changes.specs.declared.listing.ListingEnd.TheVariants as listing_end;
+ghost use Rattle.docket_applying.specs.AnyRows.{Preserves, PreservesCalendar, PreservesListing};
+ghost use Rattle.docket_applying.specs.Applying.{Asks, FailsAs, Stands};
+ghost use Rattle.docket_applying.specs.Causes.{IsClosedForCause};
+ghost use Rattle.docket_applying.specs.Grounds.{AreGrounds};
+ghost use Rattle.docket_applying.specs.Listing.{HasBroken, Lists, ListsCalendar};
+ghost use Rattle.docket_applying.specs.declared.fault.Fault.TheVariants as fault;
+ghost use Rattle.docket_applying.specs.declared.listing.CalendarEnd.TheVariants as calendar_end;
+ghost use Rattle.docket_applying.specs.declared.listing.ListingEnd.TheVariants as listing_end;
+ghost use Rattle.docket_store.specs.Asking.{OnlyAnswers};
 
 use crate::docket::Docket;
 use court_days::Day;
-use docket_changes::{
+use docket_applying::{
     CalendarEnd, Fault, Grounds, ListingEnd, breaking_error, case_record, closing_error, due_days,
     grounds_of, lines_numbered, list_days, read_fault,
 };
 use docket_history::{
-    CalendarRow, CaseRecord, CaseRow, DeadlineLine, DueRow, LocalRuleRow, PartyRow,
+    CalendarRow, CaseRecord, CaseRow, DeadlineLine, DueLine, LocalRuleRow, PartyRow,
 };
 use docket_tables::{ReadFault, calendar, case, case_labelled, local_rules, parties};
 use sqlite::{Alter, Connection, Error};
@@ -70,17 +71,9 @@ fn told<S: Alter, T>(
 impl<S: Alter> Docket<S> {
     /// The case of a number, with its parties and its entries.
     pub fn case(&mut self, number: u32) -> Result<Option<CaseRecord>, Fault>
-        ensures court { self.new.court ≡ self.old.court }
         ensures answer { (h : History) → Stands S.Store self.old h
             → Asks S.Store self.new h (λ found. found ≡ case_record h number) result }
-        ensures closed { self.old.closed ≡ true → (result ≡ Err fault.Closed) × (self.new ≡ self.old) }
-        // Of any docket, no row changes.
-        ensures stays { (rows : Rows) → HoldsRows S.Store self.old.conn rows → Preserves S.Store self.new.conn rows result }
-        ensures clean { doubt (state S.Store self.old.conn).is_clean ≤ doubt (state S.Store self.new.conn).is_clean }
-        ensures closes { self.old.closed ≡ false → (self.new.closed ≡ true) ↔ (result ≡ Err fault.StoreFailed) }
-        // The database fails only for a cause.
-        ensures cause { (rows : Rows) → HoldsRows S.Store self.old.conn rows → HasCleanDisk (state S.Store self.new.conn)
-            → result ≡ Err fault.StoreFailed → IsClosedForCause S.Store self.old self.new }
+        ensures only { OnlyAnswers S.Store self.old self.new result }
     {
         if self.closed_by.is_some() {
             return Err(Fault::Closed);
@@ -91,17 +84,9 @@ impl<S: Alter> Docket<S> {
 
     /// The deadlines of the case of a number, and where each stands by the calendar of the docket.
     pub fn deadlines(&mut self, number: u32) -> Result<Option<Vec<DeadlineLine>>, Fault>
-        ensures court { self.new.court ≡ self.old.court }
         ensures answer { (h : History) → Stands S.Store self.old h
             → Asks S.Store self.new h (λ found. option_map (λ lines. lines.items) found ≡ deadline_lines self.old.court h number) result }
-        ensures closed { self.old.closed ≡ true → (result ≡ Err fault.Closed) × (self.new ≡ self.old) }
-        // Of any docket, no row changes.
-        ensures stays { (rows : Rows) → HoldsRows S.Store self.old.conn rows → Preserves S.Store self.new.conn rows result }
-        ensures clean { doubt (state S.Store self.old.conn).is_clean ≤ doubt (state S.Store self.new.conn).is_clean }
-        ensures closes { self.old.closed ≡ false → (self.new.closed ≡ true) ↔ (result ≡ Err fault.StoreFailed) }
-        // The database fails only for a cause.
-        ensures cause { (rows : Rows) → HoldsRows S.Store self.old.conn rows → HasCleanDisk (state S.Store self.new.conn)
-            → result ≡ Err fault.StoreFailed → IsClosedForCause S.Store self.old self.new }
+        ensures only { OnlyAnswers S.Store self.old self.new result }
     {
         if self.closed_by.is_some() {
             return Err(Fault::Closed);
@@ -117,18 +102,10 @@ impl<S: Alter> Docket<S> {
     /// What decides where the deadline of a number, from 1, of a case stands: its rule, its acts, and the
     /// calendar of the docket. The acts are ones that a docket has.
     pub fn grounds(&mut self, case: u32, deadline: u32) -> Result<Option<Grounds>, Fault>
-        ensures court { self.new.court ≡ self.old.court }
         ensures answer { (h : History) → Stands S.Store self.old h
             → Asks S.Store self.new h (AreGrounds h case deadline) result }
         ensures acts { IfOk result (λ found. IfSome found (λ grounds. AreActs (zone_of self.old.court) grounds.deadline.acts)) }
-        ensures closed { self.old.closed ≡ true → (result ≡ Err fault.Closed) × (self.new ≡ self.old) }
-        // Of any docket, no row changes.
-        ensures stays { (rows : Rows) → HoldsRows S.Store self.old.conn rows → Preserves S.Store self.new.conn rows result }
-        ensures clean { doubt (state S.Store self.old.conn).is_clean ≤ doubt (state S.Store self.new.conn).is_clean }
-        ensures closes { self.old.closed ≡ false → (self.new.closed ≡ true) ↔ (result ≡ Err fault.StoreFailed) }
-        // The database fails only for a cause.
-        ensures cause { (rows : Rows) → HoldsRows S.Store self.old.conn rows → HasCleanDisk (state S.Store self.new.conn)
-            → result ≡ Err fault.StoreFailed → IsClosedForCause S.Store self.old self.new }
+        ensures only { OnlyAnswers S.Store self.old self.new result }
     {
         if self.closed_by.is_some() {
             return Err(Fault::Closed);
@@ -144,17 +121,9 @@ impl<S: Alter> Docket<S> {
 
     /// The court's local rules, in the order in which they were entered.
     pub fn local_rules(&mut self) -> Result<Vec<LocalRuleRow>, Fault>
-        ensures court { self.new.court ≡ self.old.court }
         ensures answer { (h : History) → Stands S.Store self.old h
             → Asks S.Store self.new h (λ found. found.items ≡ local_rule_rows h) result }
-        ensures closed { self.old.closed ≡ true → (result ≡ Err fault.Closed) × (self.new ≡ self.old) }
-        // Of any docket, no row changes.
-        ensures stays { (rows : Rows) → HoldsRows S.Store self.old.conn rows → Preserves S.Store self.new.conn rows result }
-        ensures clean { doubt (state S.Store self.old.conn).is_clean ≤ doubt (state S.Store self.new.conn).is_clean }
-        ensures closes { self.old.closed ≡ false → (self.new.closed ≡ true) ↔ (result ≡ Err fault.StoreFailed) }
-        // The database fails only for a cause.
-        ensures cause { (rows : Rows) → HoldsRows S.Store self.old.conn rows → HasCleanDisk (state S.Store self.new.conn)
-            → result ≡ Err fault.StoreFailed → IsClosedForCause S.Store self.old self.new }
+        ensures only { OnlyAnswers S.Store self.old self.new result }
     {
         if self.closed_by.is_some() {
             return Err(Fault::Closed);
@@ -165,17 +134,9 @@ impl<S: Alter> Docket<S> {
 
     /// The case of a number, without its parties and entries.
     pub fn case_row(&mut self, number: u32) -> Result<Option<CaseRow>, Fault>
-        ensures court { self.new.court ≡ self.old.court }
         ensures answer { (h : History) → Stands S.Store self.old h
             → Asks S.Store self.new h (λ found. found ≡ case_at (case_rows h) number) result }
-        ensures closed { self.old.closed ≡ true → (result ≡ Err fault.Closed) × (self.new ≡ self.old) }
-        // Of any docket, no row changes.
-        ensures stays { (rows : Rows) → HoldsRows S.Store self.old.conn rows → Preserves S.Store self.new.conn rows result }
-        ensures clean { doubt (state S.Store self.old.conn).is_clean ≤ doubt (state S.Store self.new.conn).is_clean }
-        ensures closes { self.old.closed ≡ false → (self.new.closed ≡ true) ↔ (result ≡ Err fault.StoreFailed) }
-        // The database fails only for a cause.
-        ensures cause { (rows : Rows) → HoldsRows S.Store self.old.conn rows → HasCleanDisk (state S.Store self.new.conn)
-            → result ≡ Err fault.StoreFailed → IsClosedForCause S.Store self.old self.new }
+        ensures only { OnlyAnswers S.Store self.old self.new result }
     {
         if self.closed_by.is_some() {
             return Err(Fault::Closed);
@@ -186,17 +147,9 @@ impl<S: Alter> Docket<S> {
 
     /// The case that has the label, without its parties and entries.
     pub fn case_labelled(&mut self, label: &str) -> Result<Option<CaseRow>, Fault>
-        ensures court { self.new.court ≡ self.old.court }
         ensures answer { (h : History) → Stands S.Store self.old h
             → Asks S.Store self.new h (λ found. found ≡ case_labelled (case_rows h) label.now) result }
-        ensures closed { self.old.closed ≡ true → (result ≡ Err fault.Closed) × (self.new ≡ self.old) }
-        // Of any docket, no row changes.
-        ensures stays { (rows : Rows) → HoldsRows S.Store self.old.conn rows → Preserves S.Store self.new.conn rows result }
-        ensures clean { doubt (state S.Store self.old.conn).is_clean ≤ doubt (state S.Store self.new.conn).is_clean }
-        ensures closes { self.old.closed ≡ false → (self.new.closed ≡ true) ↔ (result ≡ Err fault.StoreFailed) }
-        // The database fails only for a cause.
-        ensures cause { (rows : Rows) → HoldsRows S.Store self.old.conn rows → HasCleanDisk (state S.Store self.new.conn)
-            → result ≡ Err fault.StoreFailed → IsClosedForCause S.Store self.old self.new }
+        ensures only { OnlyAnswers S.Store self.old self.new result }
     {
         if self.closed_by.is_some() {
             return Err(Fault::Closed);
@@ -207,17 +160,9 @@ impl<S: Alter> Docket<S> {
 
     /// The parties of a case, in the order of their numbers.
     pub fn parties(&mut self, case: u32) -> Result<Vec<PartyRow>, Fault>
-        ensures court { self.new.court ≡ self.old.court }
         ensures answer { (h : History) → Stands S.Store self.old h
             → Asks S.Store self.new h (λ found. found.items ≡ parties_of_case case (party_rows h)) result }
-        ensures closed { self.old.closed ≡ true → (result ≡ Err fault.Closed) × (self.new ≡ self.old) }
-        // Of any docket, no row changes.
-        ensures stays { (rows : Rows) → HoldsRows S.Store self.old.conn rows → Preserves S.Store self.new.conn rows result }
-        ensures clean { doubt (state S.Store self.old.conn).is_clean ≤ doubt (state S.Store self.new.conn).is_clean }
-        ensures closes { self.old.closed ≡ false → (self.new.closed ≡ true) ↔ (result ≡ Err fault.StoreFailed) }
-        // The database fails only for a cause.
-        ensures cause { (rows : Rows) → HoldsRows S.Store self.old.conn rows → HasCleanDisk (state S.Store self.new.conn)
-            → result ≡ Err fault.StoreFailed → IsClosedForCause S.Store self.old self.new }
+        ensures only { OnlyAnswers S.Store self.old self.new result }
     {
         if self.closed_by.is_some() {
             return Err(Fault::Closed);
@@ -228,17 +173,9 @@ impl<S: Alter> Docket<S> {
 
     /// The rows of the court calendar, in the order of their numbers.
     pub fn calendar_rows(&mut self) -> Result<Vec<CalendarRow>, Fault>
-        ensures court { self.new.court ≡ self.old.court }
         ensures answer { (h : History) → Stands S.Store self.old h
             → Asks S.Store self.new h (λ found. found.items ≡ standing_rows h) result }
-        ensures closed { self.old.closed ≡ true → (result ≡ Err fault.Closed) × (self.new ≡ self.old) }
-        // Of any docket, no row changes.
-        ensures stays { (rows : Rows) → HoldsRows S.Store self.old.conn rows → Preserves S.Store self.new.conn rows result }
-        ensures clean { doubt (state S.Store self.old.conn).is_clean ≤ doubt (state S.Store self.new.conn).is_clean }
-        ensures closes { self.old.closed ≡ false → (self.new.closed ≡ true) ↔ (result ≡ Err fault.StoreFailed) }
-        // The database fails only for a cause.
-        ensures cause { (rows : Rows) → HoldsRows S.Store self.old.conn rows → HasCleanDisk (state S.Store self.new.conn)
-            → result ≡ Err fault.StoreFailed → IsClosedForCause S.Store self.old self.new }
+        ensures only { OnlyAnswers S.Store self.old self.new result }
     {
         if self.closed_by.is_some() {
             return Err(Fault::Closed);
@@ -249,18 +186,10 @@ impl<S: Alter> Docket<S> {
 
     /// The deadlines of the docket whose time runs to a day from one to another, both included, in the order
     /// of the calendar. All of them are held at once.
-    pub fn due_rows(&mut self, from: Day, to: Day) -> Result<Vec<DueRow>, Fault>
-        ensures court { self.new.court ≡ self.old.court }
+    pub fn due_rows(&mut self, from: Day, to: Day) -> Result<Vec<DueLine>, Fault>
         ensures answer { (h : History) → Stands S.Store self.old h
             → Asks S.Store self.new h (λ found. found.items ≡ due_rows self.old.court h from to) result }
-        ensures closed { self.old.closed ≡ true → (result ≡ Err fault.Closed) × (self.new ≡ self.old) }
-        // Of any docket, no row changes.
-        ensures stays { (rows : Rows) → HoldsRows S.Store self.old.conn rows → Preserves S.Store self.new.conn rows result }
-        ensures clean { doubt (state S.Store self.old.conn).is_clean ≤ doubt (state S.Store self.new.conn).is_clean }
-        ensures closes { self.old.closed ≡ false → (self.new.closed ≡ true) ↔ (result ≡ Err fault.StoreFailed) }
-        // The database fails only for a cause.
-        ensures cause { (rows : Rows) → HoldsRows S.Store self.old.conn rows → HasCleanDisk (state S.Store self.new.conn)
-            → result ≡ Err fault.StoreFailed → IsClosedForCause S.Store self.old self.new }
+        ensures only { OnlyAnswers S.Store self.old self.new result }
     {
         if self.closed_by.is_some() {
             return Err(Fault::Closed);

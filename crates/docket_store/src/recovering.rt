@@ -5,13 +5,13 @@ ghost use Rattle.sqlite.specs.Files.{over_files, image_of};
 ghost use Rattle.court_days.specs.Court.{CourtSettings};
 ghost use Rattle.docket_history.specs.Histories.{History};
 ghost use Rattle.docket_decisions.specs.Outcomes.{after};
-ghost use Rattle.docket_changes.specs.Applying.{IsDocket};
+ghost use Rattle.docket_applying.specs.Applying.{IsDocket};
 ghost use Rattle.docket_store.specs.Reopening.{GoesOn, IsEither, IsNotOpened, IsNotRecovered, LeavesEither, MayLeave};
 
 use crate::docket::Docket;
 use crate::reopening::reopen;
 use crate::returned::Returned;
-use docket_changes::Fault;
+use docket_applying::Fault;
 use docket_command::{Command, Reply};
 use docket_scan::AdoptFault;
 use sqlite::{Error, FileStore, Files, Leftover, Options};

@@ -17,7 +17,7 @@ ghost use Rattle.docket_columns.specs.declared.version.Version.{Version};
 ghost use Rattle.docket_history.specs.Histories.{History};
 ghost use Rattle.docket_tables.specs.Layouts.{Rows};
 ghost use Rattle.docket_tables.specs.Stands.{HoldsRowsIn, IsImage, IsImageIn, LastsAsEither};
-ghost use Rattle.docket_changes.specs.Applying.{StandsFor, docket_rows};
+ghost use Rattle.docket_applying.specs.Applying.{StandsFor, docket_rows};
 ghost use Rattle.docket_store.specs.Left.{HaveSums, IsUnharmed};
 ghost use Rattle.docket_store.specs.Reopening.{HoldDocket, HoldEither, HoldRows, LeavesEither, MayLeave, StandsForEither};
 

@@ -4,19 +4,19 @@ ghost use Rattle.sqlite.specs.Held.{state};
 ghost use Rattle.sqlite.specs.State.{HasCleanDisk};
 ghost use Rattle.sqlite.specs.View.{doubt};
 ghost use Rattle.docket_history.specs.Histories.{History};
-ghost use Rattle.docket_decisions.specs.declared.end_row.EndRow.{EndRow};
+ghost use Rattle.docket_decisions.specs.declared.end_row.StoredEnd.{StoredEnd};
 ghost use Rattle.docket_tables.specs.AnyRows.{AreDocketRows};
 ghost use Rattle.docket_tables.specs.Causes.{IsLater};
 ghost use Rattle.docket_tables.specs.Layouts.{Rows};
 ghost use Rattle.docket_tables.specs.Stands.{HoldsRows};
-ghost use Rattle.docket_changes.specs.AnyRows.{AnswersWhole};
-ghost use Rattle.docket_changes.specs.Applying.{Stands};
-ghost use Rattle.docket_changes.specs.Causes.{IsClosedByWrite};
+ghost use Rattle.docket_applying.specs.AnyRows.{AnswersWhole};
+ghost use Rattle.docket_applying.specs.Applying.{Stands};
+ghost use Rattle.docket_applying.specs.Causes.{IsClosedByWrite};
 ghost use Rattle.docket_store.specs.Sequence.{Answers, AnswersAll, Halts, BreaksOff};
-ghost use Rattle.docket_changes.specs.declared.fault.Fault.TheVariants as fault;
+ghost use Rattle.docket_applying.specs.declared.fault.Fault.TheVariants as fault;
 
 use crate::docket::Docket;
-use docket_changes::Fault;
+use docket_applying::Fault;
 use docket_command::{Command, Refusal, Reply};
 use sqlite::Alter;
 use std::alloc::Global;
@@ -29,7 +29,7 @@ pub fn answer<S: Alter>(
     ensures court { docket.new.court ≡ docket.old.court }
     ensures closed { docket.old.closed ≡ true → (result ≡ Err fault.Closed) × (docket.new ≡ docket.old) }
     ensures clean { doubt (state S.Store docket.old.conn).is_clean ≤ doubt (state S.Store docket.new.conn).is_clean }
-    ensures any { (rows : Rows) (n : ℕ) (stored : List EndRow) → AreDocketRows docket.old.court n stored rows → n < 2 ^ 62 → HoldsRows S.Store docket.old.conn rows
+    ensures any { (rows : Rows) (n : ℕ) (stored : List StoredEnd) → AreDocketRows docket.old.court n stored rows → n < 2 ^ 62 → HoldsRows S.Store docket.old.conn rows
         → AnswersWhole S.Store docket.new.conn docket.new.court n rows command.now result }
     ensures answer { (h : History) → Stands S.Store docket.old h → IfOk result (Answers S.Store docket.new h command.now) }
     ensures halts { (h : History) → Stands S.Store docket.old h → IfErr result (Halts S.Store docket.new h command.now) }

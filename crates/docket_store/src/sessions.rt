@@ -11,18 +11,18 @@ ghost use Rattle.docket_scan.specs.declared.fault.AdoptFault.TheVariants.{Empty}
 ghost use Rattle.docket_tables.specs.declared.table.Table.TheVariants as table;
 ghost use Rattle.docket_tables.specs.Layouts.{Rows};
 ghost use Rattle.docket_tables.specs.Stands.{HoldsRows};
-ghost use Rattle.docket_changes.specs.AnyRows.{WritesAtMostOne};
+ghost use Rattle.docket_applying.specs.AnyRows.{WritesAtMostOne};
 ghost use Rattle.docket_store.specs.Opening.{PreservesRejected};
-ghost use Rattle.docket_changes.specs.Applying.{IsDocket, StandsFor, Stands, docket_rows};
+ghost use Rattle.docket_applying.specs.Applying.{IsDocket, StandsFor, Stands, docket_rows};
 ghost use Rattle.docket_store.specs.Causes.{IsCausedOpening, StopsForCause, IsUnfailed};
-ghost use Rattle.docket_changes.specs.Dockets.{Docket as Kept};
+ghost use Rattle.docket_applying.specs.Dockets.{Docket as Kept};
 ghost use Rattle.docket_store.specs.Opening.{IsNotAdopted, IsRejected, WasSound};
 ghost use Rattle.docket_store.specs.Sessions.{EndsSession};
 
 use crate::docket::Docket;
 use crate::returned::Returned;
 use crate::sequence::answer;
-use docket_changes::Fault;
+use docket_applying::Fault;
 use docket_command::{Command, Refusal, Reply};
 use docket_scan::AdoptFault;
 use sqlite::{Alter, Connection, Error};

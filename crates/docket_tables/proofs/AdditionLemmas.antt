@@ -25,7 +25,7 @@ use Rattle.docket_history.specs.declared.row.PartyRow.{PartyRow}
 use Rattle.docket_history.specs.declared.row.ShortDayRow.{ShortDayRow}
 use Rattle.docket_decisions.specs.EndRows.{is_of}
 use Rattle.docket_decisions.specs.Tables.{Tables}
-use Rattle.docket_decisions.specs.declared.end_row.EndRow.{EndRow}
+use Rattle.docket_decisions.specs.declared.end_row.StoredEnd.{StoredEnd}
 use Rattle.docket_orderly.specs.Additions.{MayAdd, MayReceive, HasCase, HasDeadline}
 use Rattle.docket_columns.specs.Cells.{calendar_cells, short_day_cells, case_cells, party_cells, entry_cells, deadline_cells, act_cells, receipt_cells, end_cells, local_rule_cells}
 use Rattle.docket_columns.specs.Codes.{day_kind_number, item_code}
@@ -103,7 +103,7 @@ triple_apart h i j k m n other =
     ]
 
 -- nor are ends of other deadlines
-end_apart : (row other : EndRow) → is_of row.case row.deadline other ≡ false
+end_apart : (row other : StoredEnd) → is_of row.case row.deadline other ≡ false
     → (equal Binary (Int (pos other.case)) (Int (pos row.case)) && (equal Binary (Int (pos other.deadline)) (Int (pos row.deadline)) && true)) ≡ false
 end_apart row other apart =
     elim (and_cases _ _ apart) [
@@ -172,19 +172,19 @@ short_days_apart number day close (row ∷ rows) all = at row.item all.0.1 (shor
 -- parents
 
 -- the case stands, by the values of its row
-has_case : (court : CourtSettings) (t : Tables) (ends : List EndRow) (k : ℕ)
+has_case : (court : CourtSettings) (t : Tables) (ends : List StoredEnd) (k : ℕ)
     → HasCase t k → list_any (λ other. equal Binary (column other 0) (Int (pos k)) && true) (rows_with court t ends Cases) ≡ true
 has_case court t ends k has =
     any_cells case_cells (λ (r : CaseRow). r.number == k) (λ other. equal Binary (column other 0) (Int (pos k)) && true) (λ r e. and_from _ _ (number_same r.number k e) refl) t.cases has
 
 -- the deadline stands, by the values of its row
-has_deadline : (court : CourtSettings) (t : Tables) (ends : List EndRow) (k n : ℕ)
+has_deadline : (court : CourtSettings) (t : Tables) (ends : List StoredEnd) (k n : ℕ)
     → HasDeadline t k n → list_any (λ other. equal Binary (column other 0) (Int (pos k)) && (equal Binary (column other 1) (Int (pos n)) && true)) (rows_with court t ends Deadlines) ≡ true
 has_deadline court t ends k n has =
     any_cells deadline_cells (λ (r : DeadlineRow). r.case == k && r.number == n) (λ other. equal Binary (column other 0) (Int (pos k)) && (equal Binary (column other 1) (Int (pos n)) && true))
     (λ r e. let both = and_parts _ _ e in and_from _ _ (number_same r.case k both.0) (and_from _ _ (number_same r.number n both.1) refl)) t.deadlines has
 
-module _ (court : CourtSettings) (t : Tables) (ends : List EndRow) where
+module _ (court : CourtSettings) (t : Tables) (ends : List StoredEnd) where
   -- a case
   pub case_may : (row : CaseRow) → MayAdd (AddCase row) t → AreStorable (case_cells row) → MayStand Cases (case_cells row) (rows_with court t ends)
   case_may row may storable = record {
@@ -249,7 +249,7 @@ module _ (court : CourtSettings) (t : Tables) (ends : List EndRow) where
   }
 
   -- the end of a deadline that stands
-  pub end_may : (row : EndRow) → AllByRecursion (λ (other : EndRow). is_of row.case row.deadline other ≡ false) ends → HasDeadline t row.case row.deadline → AreStorable (end_cells row)
+  pub end_may : (row : StoredEnd) → AllByRecursion (λ (other : StoredEnd). is_of row.case row.deadline other ≡ false) ends → HasDeadline t row.case row.deadline → AreStorable (end_cells row)
       → MayStand Ends (end_cells row) (rows_with court t ends)
   end_may row may has storable = record {
     storable = storable;

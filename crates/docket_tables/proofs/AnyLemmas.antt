@@ -8,7 +8,7 @@ use Rattle.court_days.specs.Court.{CourtSettings}
 use Rattle.docket_command.specs.declared.command.Command.{Command}
 use Rattle.docket_command.specs.declared.refusal.Reply.{Reply}
 use Rattle.docket_decisions.specs.Tables.{Tables, changed, all_changed, with_receipt}
-use Rattle.docket_decisions.specs.declared.end_row.EndRow.{EndRow}
+use Rattle.docket_decisions.specs.declared.end_row.StoredEnd.{StoredEnd}
 use Rattle.docket_history.specs.declared.item.CalendarItem.{CalendarItem}
 use Rattle.docket_history.specs.declared.item.CalendarItem.TheVariants as item
 use Rattle.docket_history.specs.declared.row.Change.{Change}
@@ -51,7 +51,7 @@ receipts_apart number name (item.Short day close) rows = refl
 
 -- a docket's rows are such rows after each change
 
-calendar_kept : (settings : CourtSettings) (n : ℕ) (stored : List EndRow) (number : ℕ) (name : List ℕ) (entered : CalendarItem) (rows : Rows) → AreDocketRows settings n stored rows
+calendar_kept : (settings : CourtSettings) (n : ℕ) (stored : List StoredEnd) (number : ℕ) (name : List ℕ) (entered : CalendarItem) (rows : Rows) → AreDocketRows settings n stored rows
     → AreDocketRows settings (n + 1) stored (with_rows Court (court_cells settings (n + 1) ∷ []) (with_calendar_row number name entered rows))
 calendar_kept settings n stored number name (item.Day kind day) rows are =
     record { court = refl; keyed = keyed_more _ (rows Calendar) (pos number, refl) are.keyed; keyed_short = are.keyed_short; ends = are.ends }
@@ -60,7 +60,7 @@ calendar_kept settings n stored number name (item.Span start end) rows are =
 calendar_kept settings n stored number name (item.Short day close) rows are =
     record { court = refl; keyed = are.keyed; keyed_short = keyed_more _ (rows ShortDays) (pos number, refl) are.keyed_short; ends = are.ends }
 
-one_kept : (settings : CourtSettings) (n : ℕ) (stored : List EndRow) (x : Change) (rows : Rows) → AreDocketRows settings n stored rows → AreDocketRows settings (next_after x n) stored (row_changed settings n x rows)
+one_kept : (settings : CourtSettings) (n : ℕ) (stored : List StoredEnd) (x : Change) (rows : Rows) → AreDocketRows settings n stored rows → AreDocketRows settings (next_after x n) stored (row_changed settings n x rows)
 one_kept settings n stored (AddCalendar row) rows are = calendar_kept settings n stored row.number row.name row.item rows are
 one_kept settings n stored (RemoveCalendar number) rows are =
     let keeps : Row → Bool = λ r. not (has_key (0 ∷ []) (Int (pos number) ∷ []) r) in
@@ -72,11 +72,11 @@ one_kept settings n stored (AddDeadline row) rows are = record { court = are.cou
 one_kept settings n stored (AddAct row) rows are = record { court = are.court; keyed = are.keyed; keyed_short = are.keyed_short; ends = are.ends }
 one_kept settings n stored (AddLocalRule row) rows are = record { court = are.court; keyed = are.keyed; keyed_short = are.keyed_short; ends = are.ends }
 
-pub all_kept : (settings : CourtSettings) (n : ℕ) (stored : List EndRow) (xs : List Change) (rows : Rows) → AreDocketRows settings n stored rows → AreDocketRows settings (next_after_all xs n) stored (all_rows_changed settings n xs rows)
+pub all_kept : (settings : CourtSettings) (n : ℕ) (stored : List StoredEnd) (xs : List Change) (rows : Rows) → AreDocketRows settings n stored rows → AreDocketRows settings (next_after_all xs n) stored (all_rows_changed settings n xs rows)
 all_kept settings n stored [] rows are = are
 all_kept settings n stored (x ∷ xs) rows are = all_kept settings (next_after x n) stored xs (row_changed settings n x rows) (one_kept settings n stored x rows are)
 
-pub recorded_kept : (settings : CourtSettings) (n : ℕ) (stored next : List EndRow) (command : Command) (reply : Reply) (xs : List Change) (rows : Rows) → AreDocketRows settings n stored rows
+pub recorded_kept : (settings : CourtSettings) (n : ℕ) (stored next : List StoredEnd) (command : Command) (reply : Reply) (xs : List Change) (rows : Rows) → AreDocketRows settings n stored rows
     → AreDocketRows settings (next_after_all xs n) next (with_stored next (recorded settings n command reply xs rows))
 recorded_kept settings n stored next command reply xs rows are =
     let changed = all_kept settings n stored xs rows are in
@@ -98,13 +98,13 @@ without_receipt : (settings : CourtSettings) (n : ℕ) (xs : List Change) (rows 
 without_receipt settings n [] rows = refl
 without_receipt settings n (x ∷ xs) rows = without_receipt settings (next_after x n) xs (row_changed settings n x rows) ∙ one_without_receipt settings n x rows
 
-pub receipt_behind : (settings : CourtSettings) (n : ℕ) (next : List EndRow) (command : Command) (reply : Reply) (xs : List Change) (rows : Rows)
+pub receipt_behind : (settings : CourtSettings) (n : ℕ) (next : List StoredEnd) (command : Command) (reply : Reply) (xs : List Change) (rows : Rows)
     → with_stored next (recorded settings n command reply xs rows) Receipts ≡ rows Receipts ++ receipt_cells (record { command = command; reply = reply }) ∷ []
 receipt_behind settings n next command reply xs rows =
     let receipt : Receipt = record { command = command; reply = reply } in
     ap (λ rs. rs ++ receipt_cells receipt ∷ []) (without_receipt settings n xs rows)
 
-pub recorded_stored : (settings : CourtSettings) (n : ℕ) (stored : List EndRow) (command : Command) (reply : Reply) (xs : List Change) (rows : Rows) → AreDocketRows settings n stored rows
+pub recorded_stored : (settings : CourtSettings) (n : ℕ) (stored : List StoredEnd) (command : Command) (reply : Reply) (xs : List Change) (rows : Rows) → AreDocketRows settings n stored rows
     → (table : Table) → recorded settings n command reply xs rows table ≡ with_stored stored (recorded settings n command reply xs rows) table
 recorded_stored settings n stored command reply xs rows are Ends = (all_kept settings n stored xs rows are).ends
 recorded_stored settings n stored command reply xs rows are other = refl
@@ -141,7 +141,7 @@ next_within xs n i inside = omega (arith, all_next (take i xs) n, length-take i 
 
 -- of the tables of a history they make the tables that the history has next
 
-one_as_changed : (settings : CourtSettings) (t : Tables) (stored : List EndRow) (x : Change) → row_changed settings t.next_row x (rows_with settings t stored) ≡ rows_with settings (changed x t) stored
+one_as_changed : (settings : CourtSettings) (t : Tables) (stored : List StoredEnd) (x : Change) → row_changed settings t.next_row x (rows_with settings t stored) ≡ rows_with settings (changed x t) stored
 one_as_changed settings t stored (AddCalendar row) = λ i table. calendar_added settings t stored row table i
 one_as_changed settings t stored (RemoveCalendar number) = λ i table. calendar_removed settings t stored number table i
 one_as_changed settings t stored (AddCase row) = λ i table. case_added settings t stored row table i
@@ -161,13 +161,13 @@ next_as_changed (AddDeadline row) t = refl
 next_as_changed (AddAct row) t = refl
 next_as_changed (AddLocalRule row) t = refl
 
-all_as_changed : (settings : CourtSettings) (t : Tables) (stored : List EndRow) (xs : List Change) → all_rows_changed settings t.next_row xs (rows_with settings t stored) ≡ rows_with settings (all_changed xs t) stored
+all_as_changed : (settings : CourtSettings) (t : Tables) (stored : List StoredEnd) (xs : List Change) → all_rows_changed settings t.next_row xs (rows_with settings t stored) ≡ rows_with settings (all_changed xs t) stored
 all_as_changed settings t stored [] = refl
 all_as_changed settings t stored (x ∷ xs) =
     ap (λ n. all_rows_changed settings n xs (row_changed settings t.next_row x (rows_with settings t stored))) (next_as_changed x t)
     ∙ ap (all_rows_changed settings (changed x t).next_row xs) (one_as_changed settings t stored x) ∙ all_as_changed settings (changed x t) stored xs
 
-pub as_recorded : (settings : CourtSettings) (t : Tables) (stored : List EndRow) (command : Command) (reply : Reply) (xs : List Change) (table : Table)
+pub as_recorded : (settings : CourtSettings) (t : Tables) (stored : List StoredEnd) (command : Command) (reply : Reply) (xs : List Change) (table : Table)
     → recorded settings t.next_row command reply xs (rows_with settings t stored) table ≡ rows_with settings (with_receipt command reply (all_changed xs t)) stored table
 as_recorded settings t stored command reply xs table =
     let receipt : Receipt = record { command = command; reply = reply } in
@@ -175,11 +175,11 @@ as_recorded settings t stored command reply xs table =
 
 -- the stored ends
 
-pub stored_added : (row : EndRow) (stored : List EndRow) (rows : Rows) → (table : Table) → with_row Ends (end_cells row) (with_stored stored rows) table ≡ with_stored (stored ++ row ∷ []) rows table
+pub stored_added : (row : StoredEnd) (stored : List StoredEnd) (rows : Rows) → (table : Table) → with_row Ends (end_cells row) (with_stored stored rows) table ≡ with_stored (stored ++ row ∷ []) rows table
 stored_added row stored rows Ends = sym (map-append end_cells stored (row ∷ []))
 stored_added row stored rows other = refl
 
-pub stored_anew : (stored next : List EndRow) (cells : List Row) (rows : Rows) → map end_cells next ≡ cells → (table : Table) → with_rows Ends cells (with_stored stored rows) table ≡ with_stored next rows table
+pub stored_anew : (stored next : List StoredEnd) (cells : List Row) (rows : Rows) → map end_cells next ≡ cells → (table : Table) → with_rows Ends cells (with_stored stored rows) table ≡ with_stored next rows table
 stored_anew stored next cells rows is Ends = sym is
 stored_anew stored next cells rows is other = refl
 

@@ -12,7 +12,7 @@ use Rattle.docket_decisions.specs.Additions.{AddsOnce, AddsAmong}
 use Rattle.docket_decisions.specs.EndRows.{changed_ends, all_changed_ends}
 use Rattle.docket_decisions.specs.declared.end_row.EndChange.{EndChange}
 use Rattle.docket_decisions.specs.declared.end_row.EndChange.TheVariants.{Add, Remove, Move}
-use Rattle.docket_decisions.specs.declared.end_row.EndRow.{EndRow}
+use Rattle.docket_decisions.specs.declared.end_row.StoredEnd.{StoredEnd}
 use Rattle.docket_tables.specs.Additions.{MayStand}
 use Rattle.docket_tables.specs.Causes.{HasAddCause, HasChangeCause, IsCaused, IsChangeFault, IsReadingFault}
 use Rattle.docket_tables.specs.Layouts.{Rows, Fits}
@@ -100,7 +100,7 @@ fault_read old new answer (Err Damaged) read = absurd read
 
 -- so may each change of an end
 
-first_once : (y : EndChange) (all : List EndChange) (ends : List EndRow) → AddsOnce (y ∷ all) ends → AddsOnce (y ∷ []) ends × AddsOnce all (changed_ends y ends)
+first_once : (y : EndChange) (all : List EndChange) (ends : List StoredEnd) → AddsOnce (y ∷ all) ends → AddsOnce (y ∷ []) ends × AddsOnce all (changed_ends y ends)
 first_once (Add row) all ends once = ((once.0, tt), once.1)
 first_once (Remove k n) all ends once = (tt, once)
 first_once (Move row) all ends once = (tt, once)
@@ -110,7 +110,7 @@ first_among IsThere (Add row) all among = ((among.0, tt), among.1)
 first_among IsThere (Remove k n) all among = (tt, among)
 first_among IsThere (Move row) all among = (tt, among)
 
-pub once_at : (all : List EndChange) (i : ℕ) (other : EndChange) (ends : List EndRow) → i < length all → AddsOnce all ends → AddsOnce (get_or all i other ∷ []) (all_changed_ends (take i all) ends)
+pub once_at : (all : List EndChange) (i : ℕ) (other : EndChange) (ends : List StoredEnd) → i < length all → AddsOnce all ends → AddsOnce (get_or all i other ∷ []) (all_changed_ends (take i all) ends)
 once_at [] i other ends low once = absurd (omega (arith, low))
 once_at (y ∷ all) zero other ends low once = (first_once y all ends once).0
 once_at (y ∷ all) (suc i) other ends low once = once_at all i other (changed_ends y ends) (omega (arith, low)) (first_once y all ends once).1

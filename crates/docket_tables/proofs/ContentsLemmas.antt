@@ -25,7 +25,7 @@ use Rattle.docket_history.specs.declared.row.Receipt.{Receipt}
 use Rattle.docket_columns.specs.Cells.{court_cells, calendar_cells, short_day_cells, case_cells, party_cells, entry_cells, deadline_cells, act_cells, receipt_cells, end_cells, local_rule_cells}
 use Rattle.docket_tables.specs.declared.table.Table.{Table}
 use Rattle.docket_tables.specs.declared.table.Table.TheVariants.{Court, Calendar, Cases, Parties, Entries, Deadlines, Acts, Receipts, Ends, ShortDays, LocalRules}
-use Rattle.docket_decisions.specs.declared.end_row.EndRow.{EndRow}
+use Rattle.docket_decisions.specs.declared.end_row.StoredEnd.{StoredEnd}
 use Rattle.docket_tables.specs.AnyRows.{with_calendar_row, without_calendar_row}
 use Rattle.docket_tables.specs.Contents.{rows_with, rows_in}
 use Rattle.docket_tables.specs.Creation.{no_rows}
@@ -67,7 +67,7 @@ module _ {X : Type 0} (cells : X → Row) (number : X → ℕ) (first : (x : X) 
       filter-map _ cells xs
       ∙ ap (map cells) (filter_same _ _ xs (all_of _ (λ x. ap not (keyed_as (pos n) (pos (number x)) (cells x) (first x) ∙ same_number (number x) n)) xs))
 
-module _ (court : CourtSettings) (t : Tables) (ends : List EndRow) where
+module _ (court : CourtSettings) (t : Tables) (ends : List StoredEnd) where
   pub case_added : (row : CaseRow) → (table : Table) → with_row Cases (case_cells row) (rows_with court t ends) table ≡ rows_with court (changed (AddCase row) t) ends table
   case_added row Cases = sym (map-append case_cells t.cases (row ∷ []))
   case_added row other = refl
@@ -123,11 +123,11 @@ module _ (court : CourtSettings) (t : Tables) (ends : List EndRow) where
   calendar_removed n ShortDays = kept_rows short_day_cells (λ row. row.number) (λ row. refl) n (short_day_rows t.calendar) ∙ ap (map short_day_cells) (short_days_without n t.calendar)
   calendar_removed n other = refl
 
-  pub end_added : (row : EndRow) → (table : Table) → with_row Ends (end_cells row) (rows_with court t ends) table ≡ rows_with court t (ends ++ row ∷ []) table
+  pub end_added : (row : StoredEnd) → (table : Table) → with_row Ends (end_cells row) (rows_with court t ends) table ≡ rows_with court t (ends ++ row ∷ []) table
   end_added row Ends = sym (map-append end_cells ends (row ∷ []))
   end_added row other = refl
 
-  pub with_ends : (others : List EndRow) (rows : List Row) → map end_cells others ≡ rows → (table : Table) → with_rows Ends rows (rows_with court t ends) table ≡ rows_with court t others table
+  pub with_ends : (others : List StoredEnd) (rows : List Row) → map end_cells others ≡ rows → (table : Table) → with_rows Ends rows (rows_with court t ends) table ≡ rows_with court t others table
   with_ends others rows is Ends = sym is
   with_ends others rows is other = refl
 

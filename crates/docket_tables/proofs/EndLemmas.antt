@@ -12,7 +12,7 @@ use Rattle.docket_decisions.proofs.EndChanges.{all_changed_ends-append}
 use Rattle.std.proofs.Common.{length, take, get_or}
 use Rattle.std.proofs.lemmas.List.{take_more}
 use Rattle.docket_decisions.specs.Tables.{Tables}
-use Rattle.docket_decisions.specs.declared.end_row.EndRow.{EndRow}
+use Rattle.docket_decisions.specs.declared.end_row.StoredEnd.{StoredEnd}
 use Rattle.docket_decisions.specs.declared.end_row.EndChange.TheVariants.{Remove, Move}
 use Rattle.docket_columns.specs.Cells.{end_cells, moment_cell}
 use Rattle.docket_tables.specs.Contents.{rows_with, ends_of}
@@ -87,7 +87,7 @@ moved_cells params c = cast Integer (column c 0) ∷ cast Integer (column c 1) �
 abbrev end_shown : Row → Row → Row
 end_shown params r = column r 0 ∷ column r 0 ∷ column r 1 ∷ column r 2 ∷ column params 2 ∷ column params 3 ∷ []
 
-move_cells : (to : EndRow) (ends : List EndRow)
+move_cells : (to : StoredEnd) (ends : List StoredEnd)
     → map (λ c. cond (has_key (0 ∷ 1 ∷ []) (end_cells to) c) (moved_cells (end_cells to) c) c) (map end_cells ends) ≡ map end_cells (changed_ends (Move to) ends)
 move_cells to [] = refl
 move_cells to (row ∷ ends) = ap₂ (λ c more. c ∷ more) (at (is_of to.case to.deadline row) refl) (move_cells to ends)
@@ -107,7 +107,7 @@ move_cells to (row ∷ ends) = ap₂ (λ c more. c ∷ more) (at (is_of to.case 
     at b is = ap (λ x. cond x (moved_cells (end_cells to) (end_cells row)) (end_cells row)) (found ∙ is) ∙ by b ∙ ap (λ x. end_cells (cond x (record row { end = to.end }) row)) (sym is)
 
 -- the end of a deadline moves
-pub end_moved : (to : EndRow) (ends : List EndRow) (rows : Rows) (old new : State) (count : ℕ) → rows Ends ≡ map end_cells ends → Sees old rows → Executes move_end_text (end_cells to) old new (Ok count)
+pub end_moved : (to : StoredEnd) (ends : List StoredEnd) (rows : Rows) (old new : State) (count : ℕ) → rows Ends ≡ map end_cells ends → Sees old rows → Executes move_end_text (end_cells to) old new (Ok count)
     → Turns old new new.now old.committed true → Sees new (with_rows Ends (map end_cells (changed_ends (Move to) ends)) rows)
 end_moved to ends rows old new count are sees ran turns =
     let params = end_cells to in
@@ -133,32 +133,32 @@ end_moved to ends rows old new count are sees ran turns =
     }
 
 -- the ends but for that of deadline n of case k
-pub kept_ends : (k n : ℕ) (ends : List EndRow) → map end_cells (changed_ends (Remove k n) ends) ≡ without_key (0 ∷ 1 ∷ []) (Int (pos k) ∷ Int (pos n) ∷ []) (map end_cells ends)
+pub kept_ends : (k n : ℕ) (ends : List StoredEnd) → map end_cells (changed_ends (Remove k n) ends) ≡ without_key (0 ∷ 1 ∷ []) (Int (pos k) ∷ Int (pos n) ∷ []) (map end_cells ends)
 kept_ends k n ends =
     let params = Int (pos k) ∷ Int (pos n) ∷ [] in
-    let same = λ (row : EndRow). ap (λ b. b && (equal Binary (Int (pos row.deadline)) (Int (pos n)) && true)) (equal_number row.case k) ∙ ap (λ b. (row.case == k) && b) (and_yes _ ∙ equal_number row.deadline n) in
+    let same = λ (row : StoredEnd). ap (λ b. b && (equal Binary (Int (pos row.deadline)) (Int (pos n)) && true)) (equal_number row.case k) ∙ ap (λ b. (row.case == k) && b) (and_yes _ ∙ equal_number row.deadline n) in
     sym (filter-map (λ r. not (has_key (0 ∷ 1 ∷ []) params r)) end_cells ends ∙ ap (map end_cells) (filter_same _ _ ends (all_of _ (λ row. ap not (same row)) ends)))
 
 -- rows in the order of their deadlines
-rises_above : (k n : ℕ) (rows : List EndRow) → AreRowsFrom k (n + 1) rows → AllByRecursion (λ m. n < m) (map (λ (row : EndRow). row.deadline) rows)
+rises_above : (k n : ℕ) (rows : List StoredEnd) → AreRowsFrom k (n + 1) rows → AllByRecursion (λ m. n < m) (map (λ (row : StoredEnd). row.deadline) rows)
 rises_above k n [] are = tt
 rises_above k n (row ∷ rows) are = (omega (arith, are.1), above_more rows (rises_above k row.deadline rows are.2))
   where
-    above_more : (xs : List EndRow) → AllByRecursion (λ m. row.deadline < m) (map (λ (r : EndRow). r.deadline) xs) → AllByRecursion (λ m. n < m) (map (λ (r : EndRow). r.deadline) xs)
+    above_more : (xs : List StoredEnd) → AllByRecursion (λ m. row.deadline < m) (map (λ (r : StoredEnd). r.deadline) xs) → AllByRecursion (λ m. n < m) (map (λ (r : StoredEnd). r.deadline) xs)
     above_more [] h = tt
     above_more (x ∷ xs) h = (omega (arith, h.0, are.1), above_more xs h.1)
 
-pub rises_from : (k n : ℕ) (rows : List EndRow) → AreRowsFrom k n rows → Rises (map (λ (row : EndRow). row.deadline) rows)
+pub rises_from : (k n : ℕ) (rows : List StoredEnd) → AreRowsFrom k n rows → Rises (map (λ (row : StoredEnd). row.deadline) rows)
 rises_from k n [] are = tt
 rises_from k n (row ∷ rows) are = (rises_above k row.deadline rows are.2, rises_from k (row.deadline + 1) rows are.2)
 
 -- the ends of a case, as a question shows them
-pub ends_shown : (k : ℕ) (ends : List EndRow) (found : List Row) → AreRowsFrom k 1 (ends_of k ends) → IsAnswer ask.Ends (Int (pos k) ∷ []) (map end_cells ends) found → found ≡ map end_cells (ends_of k ends)
+pub ends_shown : (k : ℕ) (ends : List StoredEnd) (found : List Row) → AreRowsFrom k 1 (ends_of k ends) → IsAnswer ask.Ends (Int (pos k) ∷ []) (map end_cells ends) found → found ≡ map end_cells (ends_of k ends)
 ends_shown k ends found are answer =
     in_order ask.Ends (Int (pos k) ∷ []) end_cells (λ row. row.case == k) (λ row. and_yes _ ∙ equal_number row.case k) ends found (λ row. row.deadline) (λ row. refl) refl refl (rises_from k 1 _ are) answer
 
 -- the same ends in another order
-pub sees_permuted : (s : State) (court : CourtSettings) (t : Tables) (ends others : List EndRow) → IsPermutation ends others → Sees s (rows_with court t ends) → Sees s (rows_with court t others)
+pub sees_permuted : (s : State) (court : CourtSettings) (t : Tables) (ends others : List StoredEnd) → IsPermutation ends others → Sees s (rows_with court t ends) → Sees s (rows_with court t others)
 sees_permuted s court t ends others same sees = record {
   begun = sees.begun;
   shows = record { is_open = sees.shows.is_open; schema = sees.shows.schema; live = sees.shows.live; holds = holds };
@@ -168,6 +168,6 @@ sees_permuted s court t ends others same sees = record {
     holds Ends = ∥∥₁_map (sees.shows.holds Ends) (λ was. (IsPermutation-trans _ _ _ was.0 (IsPermutation-map end_cells ends others same), was.1))
     holds other = sees.shows.holds other
 
-pub changed_next_end : (xs : List EndChange) (ends : List EndRow) (i : ℕ) (d : EndChange) → i < length xs → changed_ends (get_or xs i d) (all_changed_ends (take i xs) ends) ≡ all_changed_ends (take (i + 1) xs) ends
+pub changed_next_end : (xs : List EndChange) (ends : List StoredEnd) (i : ℕ) (d : EndChange) → i < length xs → changed_ends (get_or xs i d) (all_changed_ends (take i xs) ends) ≡ all_changed_ends (take (i + 1) xs) ends
 changed_next_end xs ends i d inside =
     sym (all_changed_ends-append (take i xs) (get_or xs i d ∷ []) ends) ∙ ap (λ ys. all_changed_ends ys ends) (sym (take_more xs i d inside))

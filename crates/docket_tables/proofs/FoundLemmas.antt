@@ -10,15 +10,15 @@ use Rattle.sqlite_schema.specs.Rules.{equal}
 use Rattle.sqlite_trees.proofs.ListLemmas.{all-filter}
 use Rattle.court_rules.specs.declared.local_rule.LocalRule.{LocalRule}
 use Rattle.docket_command.specs.declared.command.Command.{Command}
-use Rattle.docket_decisions.specs.Outcomes.{kept, kept_by}
+use Rattle.docket_decisions.specs.Outcomes.{under_key, kept_by}
 use Rattle.docket_history.specs.Records.{case_at, case_labelled}
 use Rattle.docket_history.specs.Histories.{deadlines_of_case, local_rule_in}
 use Rattle.docket_history.specs.declared.row.CaseRow.{CaseRow}
 use Rattle.docket_history.specs.declared.row.DeadlineRow.{DeadlineRow}
 use Rattle.docket_history.specs.declared.row.LocalRuleRow.{LocalRuleRow}
 use Rattle.docket_history.specs.declared.row.Receipt.{Receipt}
-use Rattle.docket_history.specs.declared.view.Kept.{Kept}
-use Rattle.docket_history.specs.declared.view.Kept.TheVariants.{Fresh}
+use Rattle.docket_history.specs.declared.view.UnderKey.{UnderKey}
+use Rattle.docket_history.specs.declared.view.UnderKey.TheVariants.{Fresh}
 use Rattle.docket_columns.specs.Cells.{case_cells, deadline_cells, local_rule_cells, receipt_cells}
 use Rattle.docket_columns.specs.Fits.{IsCaseRow, IsDeadlineRow, IsLocalRuleRow, IsReceipt}
 use Rattle.docket_orderly.specs.Orderly.{RunsFrom, cases_labelled, local_rules_named, receipts_under}
@@ -86,14 +86,14 @@ alone : {X : Type 0} (x : X) (rest : List X) → length (x ∷ rest) ≤ 1 → x
 alone x [] few = refl
 alone x (y ∷ rest) few = absurd (omega (arith, few))
 
-pub kept_read : (c : Command) (result : Result Kept ReadFault) (found : List Row) (receipts : List Receipt) → AllByRecursion IsReceipt receipts → length (receipts_under c.key receipts) ≤ 1
+pub kept_read : (c : Command) (result : Result UnderKey ReadFault) (found : List Row) (receipts : List Receipt) → AllByRecursion IsReceipt receipts → length (receipts_under c.key receipts) ≤ 1
     → IsAnswer ask.Receipt (Text c.key ∷ []) (map receipt_cells receipts) found
     → (found ≡ [] → result ≡ Ok Fresh) → ((r : Receipt) → IsReceipt r → found ≡ receipt_cells r ∷ [] → result ≡ Ok (kept_by (Some r) c))
-    → IsReadAs (λ k. k ≡ kept receipts c) result
+    → IsReadAs (λ k. k ≡ under_key receipts c) result
 kept_read c result found receipts each few answer none one =
     elim (first_kept (λ r. bytes_eq r.command.key c.key) receipts) [
-      | inl absent ↦ read_ok (λ k. k ≡ kept receipts c) result Fresh (none (is ∙ ap (map receipt_cells) absent.1)) (sym (ap (λ o. kept_by o c) absent.0))
-      | inr it ↦ read_ok (λ k. k ≡ kept receipts c) result (kept_by (Some it.0) c)
+      | inl absent ↦ read_ok (λ k. k ≡ under_key receipts c) result Fresh (none (is ∙ ap (map receipt_cells) absent.1)) (sym (ap (λ o. kept_by o c) absent.0))
+      | inr it ↦ read_ok (λ k. k ≡ under_key receipts c) result (kept_by (Some it.0) c)
           (one it.0 (subst (AllByRecursion IsReceipt) it.3 (all-filter _ _ receipts each)).0 (is ∙ ap (map receipt_cells) (it.3 ∙ alone it.0 it.1 (omega (arith, few, ap length it.3)))))
           (sym (ap (λ o. kept_by o c) it.2))
     ]

@@ -2,6 +2,7 @@ mod AddingCauses
 mod AdditionLemmas
 pub mod AnswerLemmas
 pub mod AnyLemmas
+pub mod AskLemmas
 mod CalendarLemmas
 mod CauseLemmas
 pub mod CaseActs

@@ -1,15 +1,10 @@
 -- A failure that came of a part has the cause that it had there.
-use Rattle.std.proofs.Common.{◌≡◌, ◌≤◌, IsErrAnd, Result, Ok, Err, sym, subst}
+use Rattle.std.proofs.Common.{◌≡◌, ◌≤◌, Result, Ok, Err}
 use Rattle.sqlite.specs.State.{State}
 use Rattle.docket_tables.specs.Causes.{IsCausedFault, FailsForCause}
 use Rattle.docket_tables.specs.declared.fault.ReadFault.{ReadFault}
 use Rattle.docket_tables.specs.declared.fault.ReadFault.TheVariants.{Store, NoMemory, Damaged}
 use Rattle.docket_tables.proofs.CauseLemmas.{caused_after}
-
--- the fault of a part is that of the whole
-pub err_fails : {X : Type 0} (old new : State) (f : ReadFault) (result : Result X ReadFault) → IsErrAnd result (λ other. other ≡ f) → IsCausedFault old new f → FailsForCause old new result
-err_fails old new f (Ok x) same cause = absurd same
-err_fails old new f (Err other) same cause = subst (IsCausedFault old new) (sym same) cause
 
 -- the part began later
 pub fault_after : (first old new : State) (f : ReadFault) → first.faults ≤ old.faults → old.step_limit ≡ first.step_limit → IsCausedFault old new f → IsCausedFault first new f

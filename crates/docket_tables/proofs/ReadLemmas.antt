@@ -32,10 +32,6 @@ pub err_stays : {S : Type 0} (g : Ghosts S) {X : Type 0} (new : Held S) (rows : 
 err_stays g new rows e (Ok x) same left = absurd same
 err_stays g new rows e (Err f) same left = subst (StaysAt g new rows) (sym same) left
 
--- want of memory
-pub short_stays : {S : Type 0} (g : Ghosts S) {X : Type 0} (new : Held S) (rows : Rows) (res : Result X ReadFault) → IsErrAnd res (λ f. f ≡ NoMemory) → HoldsRows g new rows → Stays g new rows res
-short_stays g new rows = err_stays g new rows NoMemory
-
 -- a failure of one question is a failure of the whole
 pub err_given : {S : Type 0} (g : Ghosts S) {X : Type 0} (new : Held S) (rows : Rows) (Q : X → Type 0) (e : ReadFault) (res : Result X ReadFault) → IsErrAnd res (λ f. f ≡ e)
     → Fails g new rows e → Gives g new rows Q res

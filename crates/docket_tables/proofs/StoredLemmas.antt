@@ -10,7 +10,7 @@ use Rattle.court_rules.specs.Standings.{standing}
 use Rattle.docket_decisions.specs.EndRows.{AreRowsFrom, end_running, end_row, row_of_deadline, calendar_in, end_rows, ends_running, end_rows_from}
 use Rattle.docket_history.specs.Histories.{acts_of_deadline, deadlines_of_case, deadlines_from}
 use Rattle.docket_decisions.specs.Tables.{Tables}
-use Rattle.docket_decisions.specs.declared.end_row.EndRow.{EndRow}
+use Rattle.docket_decisions.specs.declared.end_row.StoredEnd.{StoredEnd}
 use Rattle.docket_decisions.specs.declared.end_row.EndTime.{EndTime}
 use Rattle.docket_history.specs.declared.row.ActRow.{ActRow}
 use Rattle.docket_history.specs.declared.row.DeadlineRow.{DeadlineRow}
@@ -20,7 +20,7 @@ use Rattle.docket_orderly.specs.Orderly.{IsOrderly, RunsFrom}
 -- the ends of a case among all
 
 module _ (court : CourtSettings) (entered : Entered) (acts : List ActRow) where
-  abbrev rows_by : List DeadlineRow → List EndRow
+  abbrev rows_by : List DeadlineRow → List StoredEnd
   rows_by ds = flat_map (row_of_deadline (zone_of court) entered acts) ds
 
   own_row : (k c n : ℕ) (end : Option EndTime) (b : Bool) → (c == k) ≡ b → ends_of k (end_row c n end) ≡ cond b (end_row c n end) []
@@ -32,7 +32,7 @@ module _ (court : CourtSettings) (entered : Entered) (acts : List ActRow) where
   own_rows : (k : ℕ) (ds : List DeadlineRow) → ends_of k (rows_by ds) ≡ rows_by (deadlines_of_case k ds)
   own_rows k [] = refl
   own_rows k (d ∷ ds) =
-      filter-append (λ (row : EndRow). row.case == k) (row_of_deadline (zone_of court) entered acts d) (rows_by ds)
+      filter-append (λ (row : StoredEnd). row.case == k) (row_of_deadline (zone_of court) entered acts d) (rows_by ds)
       ∙ at (d.case == k) refl (own_rows k ds)
     where
       at : (b : Bool) → (d.case == k) ≡ b → ends_of k (rows_by ds) ≡ rows_by (deadlines_of_case k ds)
@@ -66,7 +66,7 @@ ends_of_all court t k orderly =
     own_rows court (calendar_in t) t.acts k t.deadlines
     ∙ numbered_rows court (calendar_in t) t.acts k 1 (deadlines_of_case k t.deadlines) (cases_same court (calendar_in t) t.acts k t.deadlines) (orderly.deadlines_run k)
 
-rows_higher : (k n m : ℕ) (rows : List EndRow) → m ≤ n → AreRowsFrom k n rows → AreRowsFrom k m rows
+rows_higher : (k n m : ℕ) (rows : List StoredEnd) → m ≤ n → AreRowsFrom k n rows → AreRowsFrom k m rows
 rows_higher k n m [] low are = tt
 rows_higher k n m (row ∷ rows) low are = (are.0, omega (arith, low, are.1), are.2)
 

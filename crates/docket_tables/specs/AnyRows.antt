@@ -4,7 +4,7 @@ use Rattle.std.specs.List.{AllByRecursion, Contains}
 use Rattle.court_days.specs.Court.{CourtSettings}
 use Rattle.docket_command.specs.declared.command.Command.{Command}
 use Rattle.docket_command.specs.declared.refusal.Reply.{Reply}
-use Rattle.docket_decisions.specs.declared.end_row.EndRow.{EndRow}
+use Rattle.docket_decisions.specs.declared.end_row.StoredEnd.{StoredEnd}
 use Rattle.docket_history.specs.declared.item.CalendarItem.{CalendarItem}
 use Rattle.docket_history.specs.declared.item.CalendarItem.TheVariants.{Short}
 use Rattle.docket_history.specs.declared.row.Change.{Change}
@@ -16,14 +16,14 @@ use Rattle.docket_tables.specs.Layouts.{Rows, with_row, with_rows}
 
 -- the court has its one row, which tells the number of the next row of the calendar; each row of the calendar has a number, in
 -- whichever of its two tables it stands; and the stored ends are these
-pub record AreDocketRows (settings : CourtSettings) (next_row : ℕ) (stored : List EndRow) (rows : Rows) : Type 0 where
+pub record AreDocketRows (settings : CourtSettings) (next_row : ℕ) (stored : List StoredEnd) (rows : Rows) : Type 0 where
   pub court : rows Court ≡ court_cells settings next_row ∷ []
   pub keyed : AllByRecursion IsKeyed (rows Calendar)
   pub keyed_short : AllByRecursion IsKeyed (rows ShortDays)
   pub ends : rows Ends ≡ map end_cells stored
 
 -- the rows, but with these stored ends
-abbrev pub with_stored : List EndRow → Rows → Rows
+abbrev pub with_stored : List StoredEnd → Rows → Rows
 with_stored stored rows = with_rows Ends (map end_cells stored) rows
 
 -- with one more row of the calendar: a short day stands in a table of its own

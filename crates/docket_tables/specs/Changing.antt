@@ -11,7 +11,7 @@ use Rattle.docket_decisions.specs.Additions.{AddsAmong, AddsOnce}
 use Rattle.docket_decisions.specs.Tables.{Tables, all_changed, with_receipt}
 use Rattle.docket_decisions.specs.declared.decision.Changes.{Changes}
 use Rattle.docket_decisions.specs.declared.end_row.EndChange.{EndChange}
-use Rattle.docket_decisions.specs.declared.end_row.EndRow.{EndRow}
+use Rattle.docket_decisions.specs.declared.end_row.StoredEnd.{StoredEnd}
 use Rattle.docket_history.specs.declared.row.Change.{Change}
 use Rattle.docket_orderly.specs.Additions.{HasDeadline, MayAdd, MayAddAll, MayReceive}
 use Rattle.docket_tables.specs.Additions.{AreStorable, values_added}
@@ -61,5 +61,5 @@ FailsForCommand c changes t rows old new result =
     → AreStorable (receipt_cells (record { command = c; reply = changes.reply })) → IfErr result (HasChangeCause old new)
 
 -- and changes of ends, each of a deadline that stands, which add none beside another
-abbrev pub FailsForEnds : List EndChange → Tables → List EndRow → Rows → State → State → Result (Unit {0}) ReadFault → Type 0
+abbrev pub FailsForEnds : List EndChange → Tables → List StoredEnd → Rows → State → State → Result (Unit {0}) ReadFault → Type 0
 FailsForEnds xs t ends rows old new result = Sees old rows → AddsOnce xs ends → AddsAmong (HasDeadline t) xs → IfErr result (IsChangeFault old new)

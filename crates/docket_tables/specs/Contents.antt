@@ -7,7 +7,7 @@ use Rattle.docket_decisions.specs.EndRows.{AreRowsFrom, end_rows, end_rows_from,
 use Rattle.docket_history.specs.Histories.{deadlines_of_case, deadlines_from}
 use Rattle.docket_history.specs.ShortDays.{day_and_span_rows, short_day_rows}
 use Rattle.docket_decisions.specs.Tables.{Tables}
-use Rattle.docket_decisions.specs.declared.end_row.EndRow.{EndRow}
+use Rattle.docket_decisions.specs.declared.end_row.StoredEnd.{StoredEnd}
 use Rattle.docket_columns.specs.Cells.{court_cells, court_cells_of, calendar_cells, short_day_cells, case_cells, party_cells, entry_cells, deadline_cells, act_cells, receipt_cells, end_cells, local_rule_cells}
 use Rattle.docket_columns.specs.Fits.{IsEndRow}
 use Rattle.docket_columns.specs.declared.version.Version.{Version}
@@ -16,7 +16,7 @@ use Rattle.docket_tables.specs.declared.table.Table.TheVariants.{Court, Calendar
 use Rattle.docket_tables.specs.Layouts.{Rows, with_rows}
 
 -- these tables, with these rows of ends
-abbrev pub rows_with : CourtSettings → Tables → List EndRow → Rows
+abbrev pub rows_with : CourtSettings → Tables → List StoredEnd → Rows
 rows_with court t ends Court = court_cells court t.next_row ∷ []
 rows_with court t ends Calendar = map calendar_cells (day_and_span_rows t.calendar)
 rows_with court t ends Cases = map case_cells t.cases
@@ -39,15 +39,15 @@ rows_by First court t = with_rows Court (court_cells_of First court t.next_row �
 rows_by Second court t = rows_in court t
 
 -- the ends of a case
-abbrev pub ends_of : ℕ → List EndRow → List EndRow
+abbrev pub ends_of : ℕ → List StoredEnd → List StoredEnd
 ends_of k ends = filter (λ row. row.case == k) ends
 
 -- the ends of case k are rows of it, one for a deadline at most, and a question shows them
-pub record AreStored (k : ℕ) (ends : List EndRow) : Type 0 where
+pub record AreStored (k : ℕ) (ends : List StoredEnd) : Type 0 where
   pub fit : AllByRecursion IsEndRow (ends_of k ends)
   pub rows : AreRowsFrom k 1 (ends_of k ends)
 
 -- the ends of case k by the calendar, as its deadlines and acts stand in the tables
-abbrev pub ends_in_case : CourtSettings → Entered → Tables → ℕ → List EndRow
+abbrev pub ends_in_case : CourtSettings → Entered → Tables → ℕ → List StoredEnd
 ends_in_case court entered t k =
     end_rows_from k 1 (ends_running (zone_of court) entered (deadlines_from k 1 t.acts (deadlines_of_case k t.deadlines)))

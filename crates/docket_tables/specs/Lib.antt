@@ -1,5 +1,6 @@
 pub mod Additions
 pub mod AnyRows
+pub mod Asking
 pub mod Causes
 pub mod Changing
 pub mod Contents

@@ -8,7 +8,7 @@ ghost use Rattle.docket_wire.specs.Writing.{canonical};
 ghost use Rattle.sqlite.specs.Held.{state};
 ghost use Rattle.sqlite.specs.State.{HasCleanDisk};
 ghost use Rattle.sqlite.specs.View.{doubt};
-ghost use Rattle.docket_decisions.specs.declared.end_row.EndRow.{EndRow as Ended};
+ghost use Rattle.docket_decisions.specs.declared.end_row.StoredEnd.{StoredEnd as Ended};
 ghost use Rattle.docket_columns.specs.Cells.{end_cells};
 ghost use Rattle.docket_tables.specs.Additions.{AreStorable};
 ghost use Rattle.docket_tables.specs.Causes.{IsCaused};
@@ -31,7 +31,7 @@ use docket_columns::{
     local_rule_values, party_values, receipt_values, short_day_values,
 };
 use docket_command::Command;
-use docket_decisions::{Changes, EndChange, EndRow};
+use docket_decisions::{Changes, EndChange, StoredEnd};
 use docket_history::{CalendarItem, CalendarRow, Change};
 use sqlite::{Alter, Error, Transaction};
 
@@ -127,7 +127,7 @@ fn change_all<S: Alter>(tx: &mut Transaction<'_, S>, changes: &[Change]) -> Resu
 }
 
 /// Makes the changes of a command, and adds its receipt.
-pub fn record<S: Alter>(
+pub fn change_with_receipt<S: Alter>(
     tx: &mut Transaction<'_, S>,
     command: &Command,
     body: &str,
@@ -153,7 +153,7 @@ pub fn record<S: Alter>(
 }
 
 /// Each number of an end has at most 64 bits, as the program keeps it, so that the table takes it.
-fn end_fits(row: EndRow)
+fn end_fits(row: StoredEnd)
     ensures { AreStorable (end_cells row) }
 {}
 

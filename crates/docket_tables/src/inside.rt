@@ -5,7 +5,7 @@ ghost use Rattle.sqlite.specs.View.{doubt};
 ghost use Rattle.court_days.specs.Court.{CourtSettings};
 ghost use Rattle.docket_history.specs.Histories.{deadlines_of_case};
 ghost use Rattle.docket_decisions.specs.Tables.{Tables};
-ghost use Rattle.docket_decisions.specs.declared.end_row.EndRow.{EndRow as Ended};
+ghost use Rattle.docket_decisions.specs.declared.end_row.StoredEnd.{StoredEnd as Ended};
 ghost use Rattle.sqlite.specs.State.{HasCleanDisk};
 ghost use Rattle.docket_tables.specs.Causes.{IsReadingFault};
 ghost use Rattle.docket_tables.specs.Contents.{AreStored, ends_of, rows_with};
@@ -18,7 +18,7 @@ use crate::fault::ReadFault;
 use crate::query::Query;
 use crate::rows::{all_in, calendar_in};
 use crate::store::ask_inside;
-use docket_decisions::EndRow;
+use docket_decisions::StoredEnd;
 use docket_history::{ActRow, CalendarRow, DeadlineRow};
 use sqlite::types::ToSql;
 use sqlite::{Alter, Transaction};
@@ -47,7 +47,7 @@ pub fn ends_of_case<S: Alter>(
     tx: &mut Transaction<'_, S>,
     alloc: Global,
     case: u32,
-) -> Result<Vec<EndRow>, ReadFault>
+) -> Result<Vec<StoredEnd>, ReadFault>
     ensures same_reference { tx.new.conn.ghost_name ≡ tx.old.conn.ghost_name }
     ensures clean { doubt (state S.Store tx.old.conn.now).is_clean ≤ doubt (state S.Store tx.new.conn.now).is_clean }
     ensures inside { (court : CourtSettings) (t : Tables) (ends : List Ended) → AreStored case ends

@@ -4,7 +4,7 @@ ghost use Rattle.court_days.specs.Court.{CourtSettings};
 ghost use Rattle.docket_command.specs.declared.command.Command.{Command};
 ghost use Rattle.docket_command.specs.declared.refusal.Reply.{Reply};
 ghost use Rattle.docket_decisions.specs.Tables.{Tables, all_changed, with_receipt};
-ghost use Rattle.docket_decisions.specs.declared.end_row.EndRow.{EndRow};
+ghost use Rattle.docket_decisions.specs.declared.end_row.StoredEnd.{StoredEnd};
 ghost use Rattle.docket_history.specs.declared.row.Change.{Change};
 ghost use Rattle.docket_columns.specs.Cells.{receipt_cells};
 ghost use Rattle.docket_tables.specs.AnyRows.{AreDocketRows, next_after_all, recorded, with_stored};
@@ -25,10 +25,10 @@ pub fn dockets_are_recognized()
 /// What a command makes of any rows of a docket: they are a docket's rows, with one receipt more, behind the
 /// others; and those of a history's tables are the tables that the history has next.
 pub fn commands_keep_docket_rows()
-    ensures kept { (court : CourtSettings) (n : ℕ) (stored next : List EndRow) (rows : Rows) (command : Command) (reply : Reply) (changes : List Change) → AreDocketRows court n stored rows
+    ensures kept { (court : CourtSettings) (n : ℕ) (stored next : List StoredEnd) (rows : Rows) (command : Command) (reply : Reply) (changes : List Change) → AreDocketRows court n stored rows
         → AreDocketRows court (next_after_all changes n) next (with_stored next (recorded court n command reply changes rows)) }
-    ensures one_more { (court : CourtSettings) (n : ℕ) (next : List EndRow) (rows : Rows) (command : Command) (reply : Reply) (changes : List Change)
+    ensures one_more { (court : CourtSettings) (n : ℕ) (next : List StoredEnd) (rows : Rows) (command : Command) (reply : Reply) (changes : List Change)
         → with_stored next (recorded court n command reply changes rows) table.Receipts ≡ rows table.Receipts ++ receipt_cells (record { command = command; reply = reply }) ∷ [] }
-    ensures tables { (court : CourtSettings) (t : Tables) (stored : List EndRow) (command : Command) (reply : Reply) (changes : List Change) (of : Table)
+    ensures tables { (court : CourtSettings) (t : Tables) (stored : List StoredEnd) (command : Command) (reply : Reply) (changes : List Change) (of : Table)
         → recorded court t.next_row command reply changes (rows_with court t stored) of ≡ rows_with court (with_receipt command reply (all_changed changes t)) stored of }
 {}

@@ -3,7 +3,7 @@
 //!
 //! `is_bare` and `has_docket_table` tell by a schema whether the tables are there. `make` makes them, in
 //! one transaction. The questions read them outside a transaction, and those of `inside` within one;
-//! there `record` and `change_ends` change rows, which stand once the transaction is committed.
+//! there `change_with_receipt` and `change_ends` change rows, which stand once the transaction is committed.
 //! `fault_of` tells why a question or a transaction failed. Every call works over any store of `sqlite`.
 //! A contract sees a connection as the rows that it holds, and that each database holds which a power
 //! failure may leave (`HoldsRows`), and a step of a transaction as the rows that it saw and sees then
@@ -28,7 +28,7 @@ mod statement;
 mod store;
 mod table;
 
-pub use changing::{change_ends, record};
+pub use changing::{change_ends, change_with_receipt};
 pub use creation::{make, undone_fault};
 pub use fault::{ReadFault, StoreFault};
 pub use laws::{commands_keep_docket_rows, dockets_are_recognized};
@@ -36,7 +36,7 @@ pub use probe::fault_of;
 pub use reading::{
     acts_of_case, acts_of_deadline, calendar, case, case_labelled, cases, count_deadlines,
     count_entries, count_local_rules, count_parties, court, deadline, deadlines, ends_of_case,
-    entries, is_label_taken, is_row_standing, kept, local_rule, local_rules, parties,
+    entries, is_label_taken, is_row_standing, local_rule, local_rules, parties, under_key,
 };
 pub use recognition::{has_docket_table, is_bare};
 pub use statement::{create_text, scan_text};

@@ -1,23 +1,22 @@
 //! Questions to a docket's tables.
-ghost use Rattle.std.specs.Prelude.{◌≡◌, ◌≤◌, ◌==◌, false, length, Ok};
+ghost use Rattle.std.specs.Prelude.{◌≡◌, ◌==◌, length, Ok};
 ghost use Rattle.std.specs.List.{list_any};
 ghost use Rattle.std.specs.Str.{bytes_eq};
 ghost use Rattle.sqlite.specs.Held.{state};
 ghost use Rattle.sqlite.specs.State.{HasCleanDisk};
-ghost use Rattle.sqlite.specs.View.{doubt};
 ghost use Rattle.docket_command.specs.declared.refusal.Reply.{Reply};
 ghost use Rattle.docket_decisions.specs.EndRows.{end_rows};
 ghost use Rattle.docket_history.specs.Histories.{parties_of_case, entries_of_case, deadlines_of_case, acts_of_deadline, local_rule_in};
-ghost use Rattle.docket_decisions.specs.Outcomes.{kept};
+ghost use Rattle.docket_decisions.specs.Outcomes.{under_key};
 ghost use Rattle.docket_history.specs.Records.{case_at, case_labelled};
-ghost use Rattle.docket_history.specs.declared.view.Kept.TheVariants.{Same};
+ghost use Rattle.docket_history.specs.declared.view.UnderKey.TheVariants.{Same};
 ghost use Rattle.docket_wire.specs.Valid.{IsCommand};
 ghost use Rattle.docket_wire.specs.Writing.{canonical};
+ghost use Rattle.docket_tables.specs.Asking.{OnlyAsks};
 ghost use Rattle.docket_tables.specs.AnyRows.{HasReceipt};
-ghost use Rattle.docket_tables.specs.Causes.{FailsForCause};
 ghost use Rattle.docket_tables.specs.Contents.{ends_of};
 ghost use Rattle.docket_tables.specs.Layouts.{Rows};
-ghost use Rattle.docket_tables.specs.Readings.{AreActsOf, Reads, Stays, row_at};
+ghost use Rattle.docket_tables.specs.Readings.{AreActsOf, Reads, row_at};
 ghost use Rattle.docket_tables.specs.Stands.{HoldsRows};
 
 use crate::fault::ReadFault;
@@ -29,9 +28,9 @@ use crate::store::ask;
 use court_rules::Act;
 use docket_columns::CourtRow;
 use docket_command::{Command, LocalRule};
-use docket_decisions::EndRow;
+use docket_decisions::StoredEnd;
 use docket_history::{
-    ActRow, CalendarRow, CaseRow, DeadlineRow, EntryRow, Kept, LocalRuleRow, PartyRow,
+    ActRow, CalendarRow, CaseRow, DeadlineRow, EntryRow, LocalRuleRow, PartyRow, UnderKey,
 };
 use sqlite::types::ToSql;
 use sqlite::{Alter, Connection};
@@ -40,12 +39,7 @@ use std::alloc::Global;
 /// The court, with the number of the next calendar row.
 pub fn court<S: Alter>(conn: &mut Connection<S>, alloc: Global) -> Result<CourtRow, ReadFault>
     ensures read { Reads S.Store conn.old conn.new result (λ court t found. found ≡ record { zone = court.zone_text; close = court.close_minute; next_row = t.next_row }) }
-    ensures stays { (rows : Rows) → HoldsRows S.Store conn.old rows → Stays S.Store conn.new rows result }
-    ensures clean { doubt (state S.Store conn.old).is_clean ≤ doubt (state S.Store conn.new).is_clean }
-    ensures mode { conn.old.in_transaction ≡ false → conn.new.in_transaction ≡ false }
-    ensures counts { (state S.Store conn.old).faults ≤ (state S.Store conn.new).faults }
-    ensures limit { (state S.Store conn.new).step_limit ≡ (state S.Store conn.old).step_limit }
-    ensures cause { (rows : Rows) → HoldsRows S.Store conn.old rows → HasCleanDisk (state S.Store conn.new) → FailsForCause (state S.Store conn.old) (state S.Store conn.new) result }
+    ensures only { OnlyAsks S.Store conn.old conn.new result }
 {
     let rows = ask(conn, Query::Court, &[])?;
     court_in(alloc, rows.as_slice())
@@ -57,12 +51,7 @@ pub fn calendar<S: Alter>(
     alloc: Global,
 ) -> Result<Vec<CalendarRow>, ReadFault>
     ensures read { Reads S.Store conn.old conn.new result (λ _ t found. found.items ≡ t.calendar) }
-    ensures stays { (rows : Rows) → HoldsRows S.Store conn.old rows → Stays S.Store conn.new rows result }
-    ensures clean { doubt (state S.Store conn.old).is_clean ≤ doubt (state S.Store conn.new).is_clean }
-    ensures mode { conn.old.in_transaction ≡ false → conn.new.in_transaction ≡ false }
-    ensures counts { (state S.Store conn.old).faults ≤ (state S.Store conn.new).faults }
-    ensures limit { (state S.Store conn.new).step_limit ≡ (state S.Store conn.old).step_limit }
-    ensures cause { (rows : Rows) → HoldsRows S.Store conn.old rows → HasCleanDisk (state S.Store conn.new) → FailsForCause (state S.Store conn.old) (state S.Store conn.new) result }
+    ensures only { OnlyAsks S.Store conn.old conn.new result }
 {
     let rows = ask(conn, Query::Calendar, &[])?;
     let short_rows = ask(conn, Query::ShortDays, &[])?;
@@ -72,12 +61,7 @@ pub fn calendar<S: Alter>(
 /// Whether the calendar row of a number stands.
 pub fn is_row_standing<S: Alter>(conn: &mut Connection<S>, number: u32) -> Result<bool, ReadFault>
     ensures read { Reads S.Store conn.old conn.new result (λ _ t found. found ≡ list_any (λ row. row.number == number) t.calendar) }
-    ensures stays { (rows : Rows) → HoldsRows S.Store conn.old rows → Stays S.Store conn.new rows result }
-    ensures clean { doubt (state S.Store conn.old).is_clean ≤ doubt (state S.Store conn.new).is_clean }
-    ensures mode { conn.old.in_transaction ≡ false → conn.new.in_transaction ≡ false }
-    ensures counts { (state S.Store conn.old).faults ≤ (state S.Store conn.new).faults }
-    ensures limit { (state S.Store conn.new).step_limit ≡ (state S.Store conn.old).step_limit }
-    ensures cause { (rows : Rows) → HoldsRows S.Store conn.old rows → HasCleanDisk (state S.Store conn.new) → FailsForCause (state S.Store conn.old) (state S.Store conn.new) result }
+    ensures only { OnlyAsks S.Store conn.old conn.new result }
 {
     let rows = ask(conn, Query::CalendarRow, &[number.to_sql()])?;
     if rows.as_slice().len() > 0 {
@@ -90,12 +74,7 @@ pub fn is_row_standing<S: Alter>(conn: &mut Connection<S>, number: u32) -> Resul
 /// How many cases there are.
 pub fn cases<S: Alter>(conn: &mut Connection<S>) -> Result<u32, ReadFault>
     ensures read { Reads S.Store conn.old conn.new result (λ _ t found. found ≡ length t.cases) }
-    ensures stays { (rows : Rows) → HoldsRows S.Store conn.old rows → Stays S.Store conn.new rows result }
-    ensures clean { doubt (state S.Store conn.old).is_clean ≤ doubt (state S.Store conn.new).is_clean }
-    ensures mode { conn.old.in_transaction ≡ false → conn.new.in_transaction ≡ false }
-    ensures counts { (state S.Store conn.old).faults ≤ (state S.Store conn.new).faults }
-    ensures limit { (state S.Store conn.new).step_limit ≡ (state S.Store conn.old).step_limit }
-    ensures cause { (rows : Rows) → HoldsRows S.Store conn.old rows → HasCleanDisk (state S.Store conn.new) → FailsForCause (state S.Store conn.old) (state S.Store conn.new) result }
+    ensures only { OnlyAsks S.Store conn.old conn.new result }
 {
     let rows = ask(conn, Query::LastCase, &[])?;
     number_in(rows.as_slice(), 0)
@@ -104,12 +83,7 @@ pub fn cases<S: Alter>(conn: &mut Connection<S>) -> Result<u32, ReadFault>
 /// Whether a case has the label.
 pub fn is_label_taken<S: Alter>(conn: &mut Connection<S>, label: &str) -> Result<bool, ReadFault>
     ensures read { Reads S.Store conn.old conn.new result (λ _ t found. found ≡ list_any (λ row. bytes_eq row.label label.now) t.cases) }
-    ensures stays { (rows : Rows) → HoldsRows S.Store conn.old rows → Stays S.Store conn.new rows result }
-    ensures clean { doubt (state S.Store conn.old).is_clean ≤ doubt (state S.Store conn.new).is_clean }
-    ensures mode { conn.old.in_transaction ≡ false → conn.new.in_transaction ≡ false }
-    ensures counts { (state S.Store conn.old).faults ≤ (state S.Store conn.new).faults }
-    ensures limit { (state S.Store conn.new).step_limit ≡ (state S.Store conn.old).step_limit }
-    ensures cause { (rows : Rows) → HoldsRows S.Store conn.old rows → HasCleanDisk (state S.Store conn.new) → FailsForCause (state S.Store conn.old) (state S.Store conn.new) result }
+    ensures only { OnlyAsks S.Store conn.old conn.new result }
 {
     let rows = ask(conn, Query::CaseLabelled, &[label.to_sql()])?;
     Ok(rows.as_slice().len() > 0)
@@ -122,12 +96,7 @@ pub fn case<S: Alter>(
     number: u32,
 ) -> Result<Option<CaseRow>, ReadFault>
     ensures read { Reads S.Store conn.old conn.new result (λ _ t found. found ≡ case_at t.cases number) }
-    ensures stays { (rows : Rows) → HoldsRows S.Store conn.old rows → Stays S.Store conn.new rows result }
-    ensures clean { doubt (state S.Store conn.old).is_clean ≤ doubt (state S.Store conn.new).is_clean }
-    ensures mode { conn.old.in_transaction ≡ false → conn.new.in_transaction ≡ false }
-    ensures counts { (state S.Store conn.old).faults ≤ (state S.Store conn.new).faults }
-    ensures limit { (state S.Store conn.new).step_limit ≡ (state S.Store conn.old).step_limit }
-    ensures cause { (rows : Rows) → HoldsRows S.Store conn.old rows → HasCleanDisk (state S.Store conn.new) → FailsForCause (state S.Store conn.old) (state S.Store conn.new) result }
+    ensures only { OnlyAsks S.Store conn.old conn.new result }
 {
     let rows = ask(conn, Query::CaseNumbered, &[number.to_sql()])?;
     first_in(alloc, rows.as_slice())
@@ -140,12 +109,7 @@ pub fn case_labelled<S: Alter>(
     label: &str,
 ) -> Result<Option<CaseRow>, ReadFault>
     ensures read { Reads S.Store conn.old conn.new result (λ _ t found. found ≡ case_labelled t.cases label.now) }
-    ensures stays { (rows : Rows) → HoldsRows S.Store conn.old rows → Stays S.Store conn.new rows result }
-    ensures clean { doubt (state S.Store conn.old).is_clean ≤ doubt (state S.Store conn.new).is_clean }
-    ensures mode { conn.old.in_transaction ≡ false → conn.new.in_transaction ≡ false }
-    ensures counts { (state S.Store conn.old).faults ≤ (state S.Store conn.new).faults }
-    ensures limit { (state S.Store conn.new).step_limit ≡ (state S.Store conn.old).step_limit }
-    ensures cause { (rows : Rows) → HoldsRows S.Store conn.old rows → HasCleanDisk (state S.Store conn.new) → FailsForCause (state S.Store conn.old) (state S.Store conn.new) result }
+    ensures only { OnlyAsks S.Store conn.old conn.new result }
 {
     let rows = ask(conn, Query::CaseLabelled, &[label.to_sql()])?;
     first_in(alloc, rows.as_slice())
@@ -154,12 +118,7 @@ pub fn case_labelled<S: Alter>(
 /// How many parties a case has.
 pub fn count_parties<S: Alter>(conn: &mut Connection<S>, case: u32) -> Result<u32, ReadFault>
     ensures read { Reads S.Store conn.old conn.new result (λ _ t found. found ≡ length (parties_of_case case t.parties)) }
-    ensures stays { (rows : Rows) → HoldsRows S.Store conn.old rows → Stays S.Store conn.new rows result }
-    ensures clean { doubt (state S.Store conn.old).is_clean ≤ doubt (state S.Store conn.new).is_clean }
-    ensures mode { conn.old.in_transaction ≡ false → conn.new.in_transaction ≡ false }
-    ensures counts { (state S.Store conn.old).faults ≤ (state S.Store conn.new).faults }
-    ensures limit { (state S.Store conn.new).step_limit ≡ (state S.Store conn.old).step_limit }
-    ensures cause { (rows : Rows) → HoldsRows S.Store conn.old rows → HasCleanDisk (state S.Store conn.new) → FailsForCause (state S.Store conn.old) (state S.Store conn.new) result }
+    ensures only { OnlyAsks S.Store conn.old conn.new result }
 {
     let rows = ask(conn, Query::LastParty, &[case.to_sql()])?;
     number_in(rows.as_slice(), 1)
@@ -172,12 +131,7 @@ pub fn parties<S: Alter>(
     case: u32,
 ) -> Result<Vec<PartyRow>, ReadFault>
     ensures read { Reads S.Store conn.old conn.new result (λ _ t found. found.items ≡ parties_of_case case t.parties) }
-    ensures stays { (rows : Rows) → HoldsRows S.Store conn.old rows → Stays S.Store conn.new rows result }
-    ensures clean { doubt (state S.Store conn.old).is_clean ≤ doubt (state S.Store conn.new).is_clean }
-    ensures mode { conn.old.in_transaction ≡ false → conn.new.in_transaction ≡ false }
-    ensures counts { (state S.Store conn.old).faults ≤ (state S.Store conn.new).faults }
-    ensures limit { (state S.Store conn.new).step_limit ≡ (state S.Store conn.old).step_limit }
-    ensures cause { (rows : Rows) → HoldsRows S.Store conn.old rows → HasCleanDisk (state S.Store conn.new) → FailsForCause (state S.Store conn.old) (state S.Store conn.new) result }
+    ensures only { OnlyAsks S.Store conn.old conn.new result }
 {
     let rows = ask(conn, Query::Parties, &[case.to_sql()])?;
     all_in(alloc, rows.as_slice())
@@ -186,12 +140,7 @@ pub fn parties<S: Alter>(
 /// How many entries a case has.
 pub fn count_entries<S: Alter>(conn: &mut Connection<S>, case: u32) -> Result<u32, ReadFault>
     ensures read { Reads S.Store conn.old conn.new result (λ _ t found. found ≡ length (entries_of_case case t.entries)) }
-    ensures stays { (rows : Rows) → HoldsRows S.Store conn.old rows → Stays S.Store conn.new rows result }
-    ensures clean { doubt (state S.Store conn.old).is_clean ≤ doubt (state S.Store conn.new).is_clean }
-    ensures mode { conn.old.in_transaction ≡ false → conn.new.in_transaction ≡ false }
-    ensures counts { (state S.Store conn.old).faults ≤ (state S.Store conn.new).faults }
-    ensures limit { (state S.Store conn.new).step_limit ≡ (state S.Store conn.old).step_limit }
-    ensures cause { (rows : Rows) → HoldsRows S.Store conn.old rows → HasCleanDisk (state S.Store conn.new) → FailsForCause (state S.Store conn.old) (state S.Store conn.new) result }
+    ensures only { OnlyAsks S.Store conn.old conn.new result }
 {
     let rows = ask(conn, Query::LastEntry, &[case.to_sql()])?;
     number_in(rows.as_slice(), 1)
@@ -204,12 +153,7 @@ pub fn entries<S: Alter>(
     case: u32,
 ) -> Result<Vec<EntryRow>, ReadFault>
     ensures read { Reads S.Store conn.old conn.new result (λ _ t found. found.items ≡ entries_of_case case t.entries) }
-    ensures stays { (rows : Rows) → HoldsRows S.Store conn.old rows → Stays S.Store conn.new rows result }
-    ensures clean { doubt (state S.Store conn.old).is_clean ≤ doubt (state S.Store conn.new).is_clean }
-    ensures mode { conn.old.in_transaction ≡ false → conn.new.in_transaction ≡ false }
-    ensures counts { (state S.Store conn.old).faults ≤ (state S.Store conn.new).faults }
-    ensures limit { (state S.Store conn.new).step_limit ≡ (state S.Store conn.old).step_limit }
-    ensures cause { (rows : Rows) → HoldsRows S.Store conn.old rows → HasCleanDisk (state S.Store conn.new) → FailsForCause (state S.Store conn.old) (state S.Store conn.new) result }
+    ensures only { OnlyAsks S.Store conn.old conn.new result }
 {
     let rows = ask(conn, Query::Entries, &[case.to_sql()])?;
     all_in(alloc, rows.as_slice())
@@ -218,12 +162,7 @@ pub fn entries<S: Alter>(
 /// How many deadlines a case has.
 pub fn count_deadlines<S: Alter>(conn: &mut Connection<S>, case: u32) -> Result<u32, ReadFault>
     ensures read { Reads S.Store conn.old conn.new result (λ _ t found. found ≡ length (deadlines_of_case case t.deadlines)) }
-    ensures stays { (rows : Rows) → HoldsRows S.Store conn.old rows → Stays S.Store conn.new rows result }
-    ensures clean { doubt (state S.Store conn.old).is_clean ≤ doubt (state S.Store conn.new).is_clean }
-    ensures mode { conn.old.in_transaction ≡ false → conn.new.in_transaction ≡ false }
-    ensures counts { (state S.Store conn.old).faults ≤ (state S.Store conn.new).faults }
-    ensures limit { (state S.Store conn.new).step_limit ≡ (state S.Store conn.old).step_limit }
-    ensures cause { (rows : Rows) → HoldsRows S.Store conn.old rows → HasCleanDisk (state S.Store conn.new) → FailsForCause (state S.Store conn.old) (state S.Store conn.new) result }
+    ensures only { OnlyAsks S.Store conn.old conn.new result }
 {
     let rows = ask(conn, Query::LastDeadline, &[case.to_sql()])?;
     number_in(rows.as_slice(), 1)
@@ -237,12 +176,7 @@ pub fn deadline<S: Alter>(
     number: u32,
 ) -> Result<Option<DeadlineRow>, ReadFault>
     ensures read { Reads S.Store conn.old conn.new result (λ _ t found. found ≡ row_at (deadlines_of_case case t.deadlines) number) }
-    ensures stays { (rows : Rows) → HoldsRows S.Store conn.old rows → Stays S.Store conn.new rows result }
-    ensures clean { doubt (state S.Store conn.old).is_clean ≤ doubt (state S.Store conn.new).is_clean }
-    ensures mode { conn.old.in_transaction ≡ false → conn.new.in_transaction ≡ false }
-    ensures counts { (state S.Store conn.old).faults ≤ (state S.Store conn.new).faults }
-    ensures limit { (state S.Store conn.new).step_limit ≡ (state S.Store conn.old).step_limit }
-    ensures cause { (rows : Rows) → HoldsRows S.Store conn.old rows → HasCleanDisk (state S.Store conn.new) → FailsForCause (state S.Store conn.old) (state S.Store conn.new) result }
+    ensures only { OnlyAsks S.Store conn.old conn.new result }
 {
     let rows = ask(conn, Query::Deadline, &[case.to_sql(), number.to_sql()])?;
     first_in(alloc, rows.as_slice())
@@ -256,12 +190,7 @@ pub fn acts_of_deadline<S: Alter>(
     deadline: u32,
 ) -> Result<Vec<Act>, ReadFault>
     ensures read { Reads S.Store conn.old conn.new result (λ _ t found. found.items ≡ acts_of_deadline case deadline t.acts) }
-    ensures stays { (rows : Rows) → HoldsRows S.Store conn.old rows → Stays S.Store conn.new rows result }
-    ensures clean { doubt (state S.Store conn.old).is_clean ≤ doubt (state S.Store conn.new).is_clean }
-    ensures mode { conn.old.in_transaction ≡ false → conn.new.in_transaction ≡ false }
-    ensures counts { (state S.Store conn.old).faults ≤ (state S.Store conn.new).faults }
-    ensures limit { (state S.Store conn.new).step_limit ≡ (state S.Store conn.old).step_limit }
-    ensures cause { (rows : Rows) → HoldsRows S.Store conn.old rows → HasCleanDisk (state S.Store conn.new) → FailsForCause (state S.Store conn.old) (state S.Store conn.new) result }
+    ensures only { OnlyAsks S.Store conn.old conn.new result }
 {
     let rows = ask(
         conn,
@@ -278,12 +207,7 @@ pub fn deadlines<S: Alter>(
     case: u32,
 ) -> Result<Vec<DeadlineRow>, ReadFault>
     ensures read { Reads S.Store conn.old conn.new result (λ _ t found. found.items ≡ deadlines_of_case case t.deadlines) }
-    ensures stays { (rows : Rows) → HoldsRows S.Store conn.old rows → Stays S.Store conn.new rows result }
-    ensures clean { doubt (state S.Store conn.old).is_clean ≤ doubt (state S.Store conn.new).is_clean }
-    ensures mode { conn.old.in_transaction ≡ false → conn.new.in_transaction ≡ false }
-    ensures counts { (state S.Store conn.old).faults ≤ (state S.Store conn.new).faults }
-    ensures limit { (state S.Store conn.new).step_limit ≡ (state S.Store conn.old).step_limit }
-    ensures cause { (rows : Rows) → HoldsRows S.Store conn.old rows → HasCleanDisk (state S.Store conn.new) → FailsForCause (state S.Store conn.old) (state S.Store conn.new) result }
+    ensures only { OnlyAsks S.Store conn.old conn.new result }
 {
     let rows = ask(conn, Query::Deadlines, &[case.to_sql()])?;
     all_in(alloc, rows.as_slice())
@@ -296,12 +220,7 @@ pub fn acts_of_case<S: Alter>(
     case: u32,
 ) -> Result<Vec<ActRow>, ReadFault>
     ensures read { Reads S.Store conn.old conn.new result (λ _ t found. AreActsOf case t.acts found.items) }
-    ensures stays { (rows : Rows) → HoldsRows S.Store conn.old rows → Stays S.Store conn.new rows result }
-    ensures clean { doubt (state S.Store conn.old).is_clean ≤ doubt (state S.Store conn.new).is_clean }
-    ensures mode { conn.old.in_transaction ≡ false → conn.new.in_transaction ≡ false }
-    ensures counts { (state S.Store conn.old).faults ≤ (state S.Store conn.new).faults }
-    ensures limit { (state S.Store conn.new).step_limit ≡ (state S.Store conn.old).step_limit }
-    ensures cause { (rows : Rows) → HoldsRows S.Store conn.old rows → HasCleanDisk (state S.Store conn.new) → FailsForCause (state S.Store conn.old) (state S.Store conn.new) result }
+    ensures only { OnlyAsks S.Store conn.old conn.new result }
 {
     let rows = ask(conn, Query::Acts, &[case.to_sql()])?;
     all_in(alloc, rows.as_slice())
@@ -312,14 +231,9 @@ pub fn ends_of_case<S: Alter>(
     conn: &mut Connection<S>,
     alloc: Global,
     case: u32,
-) -> Result<Vec<EndRow>, ReadFault>
+) -> Result<Vec<StoredEnd>, ReadFault>
     ensures read { Reads S.Store conn.old conn.new result (λ court t found. found.items ≡ ends_of case (end_rows court t)) }
-    ensures stays { (rows : Rows) → HoldsRows S.Store conn.old rows → Stays S.Store conn.new rows result }
-    ensures clean { doubt (state S.Store conn.old).is_clean ≤ doubt (state S.Store conn.new).is_clean }
-    ensures mode { conn.old.in_transaction ≡ false → conn.new.in_transaction ≡ false }
-    ensures counts { (state S.Store conn.old).faults ≤ (state S.Store conn.new).faults }
-    ensures limit { (state S.Store conn.new).step_limit ≡ (state S.Store conn.old).step_limit }
-    ensures cause { (rows : Rows) → HoldsRows S.Store conn.old rows → HasCleanDisk (state S.Store conn.new) → FailsForCause (state S.Store conn.old) (state S.Store conn.new) result }
+    ensures only { OnlyAsks S.Store conn.old conn.new result }
 {
     let rows = ask(conn, Query::Ends, &[case.to_sql()])?;
     all_in(alloc, rows.as_slice())
@@ -328,12 +242,7 @@ pub fn ends_of_case<S: Alter>(
 /// How many local rules there are.
 pub fn count_local_rules<S: Alter>(conn: &mut Connection<S>) -> Result<u32, ReadFault>
     ensures read { Reads S.Store conn.old conn.new result (λ _ t found. found ≡ length t.local_rules) }
-    ensures stays { (rows : Rows) → HoldsRows S.Store conn.old rows → Stays S.Store conn.new rows result }
-    ensures clean { doubt (state S.Store conn.old).is_clean ≤ doubt (state S.Store conn.new).is_clean }
-    ensures mode { conn.old.in_transaction ≡ false → conn.new.in_transaction ≡ false }
-    ensures counts { (state S.Store conn.old).faults ≤ (state S.Store conn.new).faults }
-    ensures limit { (state S.Store conn.new).step_limit ≡ (state S.Store conn.old).step_limit }
-    ensures cause { (rows : Rows) → HoldsRows S.Store conn.old rows → HasCleanDisk (state S.Store conn.new) → FailsForCause (state S.Store conn.old) (state S.Store conn.new) result }
+    ensures only { OnlyAsks S.Store conn.old conn.new result }
 {
     let rows = ask(conn, Query::LastLocalRule, &[])?;
     number_in(rows.as_slice(), 0)
@@ -346,12 +255,7 @@ pub fn local_rule<S: Alter>(
     name: &str,
 ) -> Result<Option<LocalRule>, ReadFault>
     ensures read { Reads S.Store conn.old conn.new result (λ _ t found. found ≡ local_rule_in t.local_rules name.now) }
-    ensures stays { (rows : Rows) → HoldsRows S.Store conn.old rows → Stays S.Store conn.new rows result }
-    ensures clean { doubt (state S.Store conn.old).is_clean ≤ doubt (state S.Store conn.new).is_clean }
-    ensures mode { conn.old.in_transaction ≡ false → conn.new.in_transaction ≡ false }
-    ensures counts { (state S.Store conn.old).faults ≤ (state S.Store conn.new).faults }
-    ensures limit { (state S.Store conn.new).step_limit ≡ (state S.Store conn.old).step_limit }
-    ensures cause { (rows : Rows) → HoldsRows S.Store conn.old rows → HasCleanDisk (state S.Store conn.new) → FailsForCause (state S.Store conn.old) (state S.Store conn.new) result }
+    ensures only { OnlyAsks S.Store conn.old conn.new result }
 {
     let rows = ask(conn, Query::LocalRuleNamed, &[name.to_sql()])?;
     local_rule_in(alloc, rows.as_slice())
@@ -363,33 +267,23 @@ pub fn local_rules<S: Alter>(
     alloc: Global,
 ) -> Result<Vec<LocalRuleRow>, ReadFault>
     ensures read { Reads S.Store conn.old conn.new result (λ _ t found. found.items ≡ t.local_rules) }
-    ensures stays { (rows : Rows) → HoldsRows S.Store conn.old rows → Stays S.Store conn.new rows result }
-    ensures clean { doubt (state S.Store conn.old).is_clean ≤ doubt (state S.Store conn.new).is_clean }
-    ensures mode { conn.old.in_transaction ≡ false → conn.new.in_transaction ≡ false }
-    ensures counts { (state S.Store conn.old).faults ≤ (state S.Store conn.new).faults }
-    ensures limit { (state S.Store conn.new).step_limit ≡ (state S.Store conn.old).step_limit }
-    ensures cause { (rows : Rows) → HoldsRows S.Store conn.old rows → HasCleanDisk (state S.Store conn.new) → FailsForCause (state S.Store conn.old) (state S.Store conn.new) result }
+    ensures only { OnlyAsks S.Store conn.old conn.new result }
 {
     let rows = ask(conn, Query::LocalRules, &[])?;
     all_in(alloc, rows.as_slice())
 }
 
 /// What stands under a command's key. `body` is the canonical text of the command.
-pub fn kept<S: Alter>(
+pub fn under_key<S: Alter>(
     conn: &mut Connection<S>,
     command: &Command,
     body: &str,
-) -> Result<Kept, ReadFault>
+) -> Result<UnderKey, ReadFault>
     requires body { body.now ≡ canonical command.now }
     requires lawful { IsCommand command.now }
-    ensures read { Reads S.Store conn.old conn.new result (λ _ t found. found ≡ kept t.receipts command.now) }
+    ensures read { Reads S.Store conn.old conn.new result (λ _ t found. found ≡ under_key t.receipts command.now) }
     ensures found { (rows : Rows) → HoldsRows S.Store conn.old rows → HasCleanDisk (state S.Store conn.new) → (reply : Reply) → result ≡ Ok (Same reply) → HasReceipt command.now reply rows }
-    ensures stays { (rows : Rows) → HoldsRows S.Store conn.old rows → Stays S.Store conn.new rows result }
-    ensures clean { doubt (state S.Store conn.old).is_clean ≤ doubt (state S.Store conn.new).is_clean }
-    ensures mode { conn.old.in_transaction ≡ false → conn.new.in_transaction ≡ false }
-    ensures counts { (state S.Store conn.old).faults ≤ (state S.Store conn.new).faults }
-    ensures limit { (state S.Store conn.new).step_limit ≡ (state S.Store conn.old).step_limit }
-    ensures cause { (rows : Rows) → HoldsRows S.Store conn.old rows → HasCleanDisk (state S.Store conn.new) → FailsForCause (state S.Store conn.old) (state S.Store conn.new) result }
+    ensures only { OnlyAsks S.Store conn.old conn.new result }
 {
     let rows = ask(conn, Query::Receipt, &[command.key.as_str().to_sql()])?;
     kept_in(rows.as_slice(), body)

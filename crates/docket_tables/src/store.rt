@@ -10,7 +10,7 @@ ghost use Rattle.court_days.specs.Court.{CourtSettings};
 ghost use Rattle.docket_columns.specs.Cells.{court_cells, end_cells};
 ghost use Rattle.docket_decisions.specs.EndRows.{changed_ends};
 ghost use Rattle.docket_decisions.specs.declared.end_row.EndChange.TheVariants as end_change;
-ghost use Rattle.docket_decisions.specs.declared.end_row.EndRow.{EndRow as Ended};
+ghost use Rattle.docket_decisions.specs.declared.end_row.StoredEnd.{StoredEnd as Ended};
 ghost use Rattle.docket_tables.specs.Additions.{MayStand};
 ghost use Rattle.docket_tables.specs.Causes.{HasAddCause, HasChangeCause, IsCaused, Suits};
 ghost use Rattle.docket_tables.specs.Changing.{Ran};
@@ -29,7 +29,7 @@ use crate::statement::{
 };
 use crate::table::Table;
 use docket_columns::end_values;
-use docket_decisions::EndRow;
+use docket_decisions::StoredEnd;
 use sqlite::types::ValueRef;
 use sqlite::{Alter, Connection, Error, Row, Transaction, params};
 
@@ -150,7 +150,7 @@ pub(crate) fn remove_end<S: Alter>(
 }
 
 /// Moves the end of the deadline of the row to that of the row.
-pub(crate) fn move_end<S: Alter>(tx: &mut Transaction<'_, S>, row: &EndRow) -> Result<(), Error>
+pub(crate) fn move_end<S: Alter>(tx: &mut Transaction<'_, S>, row: &StoredEnd) -> Result<(), Error>
     ensures same_reference { tx.new.conn.ghost_name ≡ tx.old.conn.ghost_name }
     ensures inside { StaysInside (state S.Store tx.old.conn.now) (state S.Store tx.new.conn.now) }
     ensures ok { HasCleanDisk (state S.Store tx.new.conn.now) → (ends : List Ended) (rows : Rows) → rows table.Ends ≡ map end_cells ends → Sees (state S.Store tx.old.conn.now) rows

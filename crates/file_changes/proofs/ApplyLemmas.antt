@@ -8,10 +8,10 @@ use Rattle.docket_command.specs.declared.command.Command.{Command}
 use Rattle.docket_command.specs.declared.refusal.Reply.{Reply}
 use Rattle.docket_decisions.specs.Outcomes.{accepted, after, outcome, refused, repeated}
 use Rattle.docket_tables.specs.Layouts.{Rows}
-use Rattle.docket_changes.specs.Applying.{Applies, Stands}
-use Rattle.docket_changes.specs.Dockets.{Docket as Stored}
-use Rattle.docket_changes.specs.declared.fault.Fault.{Fault}
-use Rattle.docket_changes.specs.declared.fault.Fault.TheVariants.{Refused, NoMemory, StoreFailed, Closed, Damaged}
+use Rattle.docket_applying.specs.Applying.{Applies, Stands}
+use Rattle.docket_applying.specs.Dockets.{Docket as Stored}
+use Rattle.docket_applying.specs.declared.fault.Fault.{Fault}
+use Rattle.docket_applying.specs.declared.fault.Fault.TheVariants.{Refused, NoMemory, StoreFailed, Closed, Damaged}
 use Rattle.command_lines.specs.Lines.{Docket, docket_with}
 use Rattle.file_changes.specs.Commands.{AppliesTo}
 use Rattle.file_dockets.specs.Keeping.{HoldsBetween, Keeps, rows_told}

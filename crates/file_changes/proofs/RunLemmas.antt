@@ -8,8 +8,8 @@ use Rattle.sqlite.specs.Held.{Held, state}
 use Rattle.sqlite.specs.State.{HasCleanDisk}
 use Rattle.docket_scan.specs.declared.fault.AdoptFault.{AdoptFault}
 use Rattle.docket_tables.specs.Layouts.{Rows}
-use Rattle.docket_changes.specs.Dockets.{Docket as Stored}
-use Rattle.docket_changes.specs.declared.fault.Fault.TheVariants.{Refused, NoMemory, StoreFailed, Closed, Damaged}
+use Rattle.docket_applying.specs.Dockets.{Docket as Stored}
+use Rattle.docket_applying.specs.declared.fault.Fault.TheVariants.{Refused, NoMemory, StoreFailed, Closed, Damaged}
 use Rattle.line_io.specs.Ending.{BreaksOff}
 use Rattle.line_io.specs.Lines.{lines_of}
 use Rattle.line_io.specs.Output.{HasFront}

@@ -3,7 +3,7 @@ use Rattle.std.proofs.Common.{◌≡◌, subst, sym}
 use Rattle.sqlite.specs.Store.{Ghosts}
 use Rattle.sqlite.specs.Held.{Held}
 use Rattle.court_days.specs.Court.{CourtSettings}
-use Rattle.docket_changes.specs.Dockets.{Docket as Stored}
+use Rattle.docket_applying.specs.Dockets.{Docket as Stored}
 use Rattle.command_lines.specs.Ending.{StandsAs}
 use Rattle.command_lines.specs.Lines.{Docket}
 use Rattle.file_dockets.specs.Keeping.{HoldsBetween, Keeps}

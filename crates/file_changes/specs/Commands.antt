@@ -4,8 +4,8 @@ use Rattle.docket_command.specs.declared.command.Command.{Command}
 use Rattle.docket_command.specs.declared.refusal.Reply.{Reply}
 use Rattle.docket_decisions.specs.Outcomes.{accepted, outcome, refused, repeated}
 use Rattle.docket_tables.specs.Layouts.{Rows}
-use Rattle.docket_changes.specs.declared.fault.Fault.{Fault}
-use Rattle.docket_changes.specs.declared.fault.Fault.TheVariants.{NoMemory, Refused, StoreFailed}
+use Rattle.docket_applying.specs.declared.fault.Fault.{Fault}
+use Rattle.docket_applying.specs.declared.fault.Fault.TheVariants.{NoMemory, Refused, StoreFailed}
 use Rattle.command_lines.specs.Lines.{Docket, docket_with}
 use Rattle.file_dockets.specs.Keeping.{Keeps, rows_told}
 

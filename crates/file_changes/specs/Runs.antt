@@ -3,7 +3,7 @@ use Rattle.std.specs.Prelude.{◌≡◌, ◌⊎◌, ◌≤◌, ℕ, List, ◌++�
 use Rattle.std.specs.Io.KnownBytes.{Appends}
 use Rattle.docket_scan.specs.declared.fault.AdoptFault.{AdoptFault}
 use Rattle.docket_tables.specs.Layouts.{Rows}
-use Rattle.docket_changes.specs.declared.fault.Fault.TheVariants.{StoreFailed}
+use Rattle.docket_applying.specs.declared.fault.Fault.TheVariants.{StoreFailed}
 use Rattle.line_io.specs.Ending.{BreaksOff}
 use Rattle.line_io.specs.Lines.{lines_of}
 use Rattle.line_io.specs.Output.{HasFront}

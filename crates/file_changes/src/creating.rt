@@ -1,6 +1,6 @@
 //! A new docket in a database.
 ghost use Rattle.std.specs.Prelude.{[], OnOk};
-ghost use Rattle.docket_changes.specs.Applying.{IsDocket, docket_rows};
+ghost use Rattle.docket_applying.specs.Applying.{IsDocket, docket_rows};
 ghost use Rattle.file_dockets.specs.Keeping.{HoldsBetween};
 
 use court_days::Court;

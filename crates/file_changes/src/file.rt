@@ -9,7 +9,7 @@ ghost use Rattle.sqlite.specs.Files.{IsCleanLeft};
 ghost use Rattle.docket_columns.specs.declared.version.Version.TheVariants.{First};
 ghost use Rattle.docket_scan.specs.Dockets.{MayHold};
 ghost use Rattle.docket_tables.specs.Stands.{IsImage};
-ghost use Rattle.docket_changes.specs.Applying.{IsDocket, docket_rows};
+ghost use Rattle.docket_applying.specs.Applying.{IsDocket, docket_rows};
 ghost use Rattle.docket_store.specs.Left.{IsUnharmed, LeavesRows};
 ghost use Rattle.docket_store.specs.Migrating.{HoldFirst};
 ghost use Rattle.docket_store.specs.Reopening.{HoldDocket};

@@ -3,7 +3,7 @@ ghost use Rattle.std.specs.Prelude.{IfErr, OnOk};
 ghost use Rattle.docket_columns.specs.declared.version.Version.TheVariants.{First};
 ghost use Rattle.docket_scan.specs.Dockets.{MayHold};
 ghost use Rattle.docket_tables.specs.Stands.{HoldsRowsIn};
-ghost use Rattle.docket_changes.specs.Applying.{IsDocket};
+ghost use Rattle.docket_applying.specs.Applying.{IsDocket};
 ghost use Rattle.docket_store.specs.Migrating.{first_rows};
 ghost use Rattle.command_lines.specs.Lines.{Docket as Told};
 ghost use Rattle.file_dockets.specs.Keeping.{HoldsBetween, rows_told};

@@ -15,7 +15,7 @@ use Rattle.docket_decisions.proofs.LimitsKept.{within_limits}
 use Rattle.docket_orderly.proofs.LabelLemmas.{one_case}
 use Rattle.docket_history.specs.Records.{case_at, case_labelled}
 use Rattle.docket_history.specs.declared.row.CaseRow.{CaseRow}
-use Rattle.docket_changes.specs.declared.listing.CalendarEnd.{CalendarEnd}
+use Rattle.docket_applying.specs.declared.listing.CalendarEnd.{CalendarEnd}
 use Rattle.docket_text.specs.CaseLists.{case_list_line}
 use Rattle.line_io.specs.Output.{AppendsFront, HasFront}
 use Rattle.file_questions.specs.CaseLists.{GoesOut, case_lines, cases_told, has_party}

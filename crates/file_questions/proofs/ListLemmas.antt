@@ -7,13 +7,13 @@ use Rattle.docket_history.specs.Histories.{History}
 use Rattle.docket_history.specs.declared.row.CaseRow.{CaseRow}
 use Rattle.docket_tables.specs.Layouts.{Rows}
 use Rattle.docket_tables.specs.Stands.{HoldsRows}
-use Rattle.docket_changes.specs.AnyRows.{PreservesCalendar}
-use Rattle.docket_changes.specs.Applying.{Asks, Stands}
-use Rattle.docket_changes.specs.Dockets.{Docket}
-use Rattle.docket_changes.specs.declared.fault.Fault.{Fault}
-use Rattle.docket_changes.specs.declared.fault.Fault.TheVariants.{Refused, NoMemory, StoreFailed, Closed, Damaged}
-use Rattle.docket_changes.specs.declared.listing.CalendarEnd.{CalendarEnd}
-use Rattle.docket_changes.specs.declared.listing.CalendarEnd.TheVariants.{Store, WriteFailed}
+use Rattle.docket_applying.specs.AnyRows.{PreservesCalendar}
+use Rattle.docket_applying.specs.Applying.{Asks, Stands}
+use Rattle.docket_applying.specs.Dockets.{Docket}
+use Rattle.docket_applying.specs.declared.fault.Fault.{Fault}
+use Rattle.docket_applying.specs.declared.fault.Fault.TheVariants.{Refused, NoMemory, StoreFailed, Closed, Damaged}
+use Rattle.docket_applying.specs.declared.listing.CalendarEnd.{CalendarEnd}
+use Rattle.docket_applying.specs.declared.listing.CalendarEnd.TheVariants.{Store, WriteFailed}
 use Rattle.file_questions.proofs.CaseLemmas.{front_out, nothing_out}
 use Rattle.file_questions.specs.CaseLists.{IsAsked, IsEarlyEnd, IsEarlyWrite, Lists, ListsCases}
 

@@ -5,14 +5,14 @@ use Rattle.sqlite.specs.Held.{Held, state}
 use Rattle.sqlite.specs.State.{HasCleanDisk}
 use Rattle.docket_history.specs.Histories.{History}
 use Rattle.docket_tables.specs.Layouts.{Rows}
-use Rattle.docket_changes.specs.AnyRows.{Preserves, PreservesAt, PreservesCalendar}
-use Rattle.docket_changes.specs.Applying.{Asks}
-use Rattle.docket_changes.specs.Dockets.{Docket as Stored}
-use Rattle.docket_changes.specs.Listing.{ListsCalendar}
-use Rattle.docket_changes.specs.declared.fault.Fault.{Fault}
-use Rattle.docket_changes.specs.declared.fault.Fault.TheVariants.{Refused, NoMemory, StoreFailed, Closed, Damaged}
-use Rattle.docket_changes.specs.declared.listing.CalendarEnd.{CalendarEnd}
-use Rattle.docket_changes.specs.declared.listing.CalendarEnd.TheVariants as calendar_end
+use Rattle.docket_applying.specs.AnyRows.{Preserves, PreservesAt, PreservesCalendar}
+use Rattle.docket_applying.specs.Applying.{Asks}
+use Rattle.docket_applying.specs.Dockets.{Docket as Stored}
+use Rattle.docket_applying.specs.Listing.{ListsCalendar}
+use Rattle.docket_applying.specs.declared.fault.Fault.{Fault}
+use Rattle.docket_applying.specs.declared.fault.Fault.TheVariants.{Refused, NoMemory, StoreFailed, Closed, Damaged}
+use Rattle.docket_applying.specs.declared.listing.CalendarEnd.{CalendarEnd}
+use Rattle.docket_applying.specs.declared.listing.CalendarEnd.TheVariants as calendar_end
 use Rattle.docket_calendar.specs.Calendar.{text_of_calendar}
 use Rattle.line_io.specs.Output.{HasFront}
 use Rattle.file_dockets.specs.Keeping.{HoldsBetween}

@@ -7,11 +7,11 @@ use Rattle.sqlite.specs.State.{HasCleanDisk}
 use Rattle.sqlite.specs.Store.{Ghosts}
 use Rattle.docket_history.specs.Histories.{History, case_rows, parties_of_case, party_rows}
 use Rattle.docket_history.specs.declared.row.CaseRow.{CaseRow}
-use Rattle.docket_changes.specs.Applying.{Asks, Stands}
-use Rattle.docket_changes.specs.Dockets.{Docket}
-use Rattle.docket_changes.specs.declared.fault.Fault.TheVariants.{NoMemory, StoreFailed}
-use Rattle.docket_changes.specs.declared.listing.CalendarEnd.{CalendarEnd}
-use Rattle.docket_changes.specs.declared.listing.CalendarEnd.TheVariants.{Store, WriteFailed}
+use Rattle.docket_applying.specs.Applying.{Asks, Stands}
+use Rattle.docket_applying.specs.Dockets.{Docket}
+use Rattle.docket_applying.specs.declared.fault.Fault.TheVariants.{NoMemory, StoreFailed}
+use Rattle.docket_applying.specs.declared.listing.CalendarEnd.{CalendarEnd}
+use Rattle.docket_applying.specs.declared.listing.CalendarEnd.TheVariants.{Store, WriteFailed}
 use Rattle.docket_text.specs.CaseLists.{case_list_line}
 use Rattle.file_questions.specs.declared.listing.Wanted.{Wanted}
 use Rattle.line_io.specs.Output.{HasFront}

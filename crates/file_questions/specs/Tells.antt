@@ -12,10 +12,10 @@ use Rattle.docket_history.specs.declared.view.DeadlineView.{DeadlineView}
 use Rattle.docket_history.specs.declared.record.CaseRecord.{CaseRecord}
 use Rattle.docket_history.specs.declared.record.DeadlineLine.{DeadlineLine}
 use Rattle.docket_calendar.specs.Calendar.{calendar_rows, text_of_calendar}
-use Rattle.docket_changes.specs.declared.fault.Fault.{Fault}
-use Rattle.docket_changes.specs.declared.fault.Fault.TheVariants.{NoMemory, StoreFailed}
-use Rattle.docket_changes.specs.declared.listing.CalendarEnd.{CalendarEnd}
-use Rattle.docket_changes.specs.declared.listing.CalendarEnd.TheVariants as calendar_end
+use Rattle.docket_applying.specs.declared.fault.Fault.{Fault}
+use Rattle.docket_applying.specs.declared.fault.Fault.TheVariants.{NoMemory, StoreFailed}
+use Rattle.docket_applying.specs.declared.listing.CalendarEnd.{CalendarEnd}
+use Rattle.docket_applying.specs.declared.listing.CalendarEnd.TheVariants as calendar_end
 use Rattle.docket_text.specs.CaseTexts.{case_text}
 use Rattle.line_io.specs.Output.{HasFront}
 use Rattle.reason_lines.specs.Lines.{reasons_text}

@@ -7,8 +7,8 @@ ghost use Rattle.sqlite.specs.View.{doubt};
 ghost use Rattle.docket_history.specs.Histories.{History, case_rows};
 ghost use Rattle.docket_tables.specs.Layouts.{Rows};
 ghost use Rattle.docket_tables.specs.Stands.{HoldsRows};
-ghost use Rattle.docket_changes.specs.AnyRows.{Preserves, PreservesCalendar};
-ghost use Rattle.docket_changes.specs.Applying.{Asks, IsDocket, Stands, StandsFor};
+ghost use Rattle.docket_applying.specs.AnyRows.{Preserves, PreservesCalendar};
+ghost use Rattle.docket_applying.specs.Applying.{Asks, IsDocket, Stands, StandsFor};
 ghost use Rattle.due_exports.specs.Exports.{export_foot, export_head};
 ghost use Rattle.command_lines.specs.Lines.{Docket as Told};
 ghost use Rattle.file_questions.specs.CaseLists.{IsEarlyWrite};
@@ -18,7 +18,7 @@ ghost use Rattle.file_dockets.specs.Works.{WorksTo};
 
 use crate::explaining::text_of_reasons;
 use court_days::Day;
-use docket_history::DueRow;
+use docket_history::DueLine;
 use docket_store::{AdoptFault, CalendarEnd, Docket, Fault, Watch};
 use due_exports::{Entry, Form, export_entry, export_foot, export_head, tells_reasons};
 use file_dockets::{Worked, adopt};
@@ -44,7 +44,7 @@ fn reasons_in<S: Alter>(
     alloc: Global,
     docket: &mut Docket<S>,
     export: &Export,
-    due: &DueRow,
+    due: &DueLine,
 ) -> Result<String, Fault>
     ensures court { docket.new.court ≡ docket.old.court }
     ensures answer { (h : History) → Stands S.Store docket.old h
@@ -67,7 +67,7 @@ fn entry_of<S: Alter>(
     docket: &mut Docket<S>,
     export: &Export,
     place: usize,
-    due: &DueRow,
+    due: &DueLine,
 ) -> Result<String, Fault>
     ensures court { docket.new.court ≡ docket.old.court }
     ensures answer { (h : History) → Stands S.Store docket.old h
@@ -108,7 +108,7 @@ fn write_entry<S: Alter, W: Write>(
     docket: &mut Docket<S>,
     export: &Export,
     place: usize,
-    due: &DueRow,
+    due: &DueLine,
     writer: &mut W,
 ) -> Result<usize, CalendarEnd>
     ensures court { docket.new.court ≡ docket.old.court }
@@ -129,7 +129,7 @@ fn write_entries<S: Alter, W: Write>(
     alloc: Global,
     docket: &mut Docket<S>,
     export: &Export,
-    dues: &[DueRow],
+    dues: &[DueLine],
     writer: &mut W,
 ) -> Result<usize, CalendarEnd>
     ensures court { docket.new.court ≡ docket.old.court }
@@ -153,7 +153,7 @@ fn write_rest<S: Alter, W: Write>(
     alloc: Global,
     docket: &mut Docket<S>,
     export: &Export,
-    dues: &[DueRow],
+    dues: &[DueLine],
     writer: &mut W,
 ) -> Result<usize, CalendarEnd>
     ensures puts { (h : History) → Stands S.Store docket.old h
@@ -177,7 +177,7 @@ fn write_text<S: Alter, W: Write>(
     alloc: Global,
     docket: &mut Docket<S>,
     export: &Export,
-    dues: &[DueRow],
+    dues: &[DueLine],
     writer: &mut W,
 ) -> Result<usize, CalendarEnd>
     ensures puts { (h : History) → Stands S.Store docket.old h → (HasCleanDisk (state S.Store docket.old.conn) → dues.now ≡ rows_of_export export.now docket.old.court h)

@@ -12,7 +12,7 @@ ghost use Rattle.docket_scan.specs.Dockets.{holdings_in};
 ghost use Rattle.docket_tables.specs.Stands.{IsImage};
 ghost use Rattle.docket_text.specs.CourtCalendar.{court_calendar_text};
 ghost use Rattle.docket_text.specs.RuleTexts.{rules_text};
-ghost use Rattle.docket_changes.specs.Applying.{IsDocket};
+ghost use Rattle.docket_applying.specs.Applying.{IsDocket};
 ghost use Rattle.docket_store.specs.Left.{IsUnharmed, LeavesRows};
 ghost use Rattle.docket_store.specs.Reopening.{HoldDocket};
 ghost use Rattle.command_lines.specs.Lines.{Docket as Told};

@@ -21,10 +21,10 @@ use Rattle.docket_jobs.specs.declared.job.Job.{Job}
 use Rattle.docket_jobs.specs.declared.job.Job.TheVariants as job
 use Rattle.docket_columns.specs.declared.version.Version.TheVariants.{First}
 use Rattle.docket_scan.specs.Dockets.{MayHold, holdings_in}
-use Rattle.docket_changes.specs.Applying.{IsDocket, docket_rows}
+use Rattle.docket_applying.specs.Applying.{IsDocket, docket_rows}
 use Rattle.docket_store.specs.Migrating.{HoldFirst}
 use Rattle.docket_store.specs.Reopening.{HoldDocket}
-use Rattle.docket_changes.specs.declared.fault.Fault.{Fault}
+use Rattle.docket_applying.specs.declared.fault.Fault.{Fault}
 use Rattle.docket_store.specs.declared.migrating.MigrateFault.{MigrateFault}
 use Rattle.docket_tables.specs.Layouts.{Rows}
 use Rattle.docket_text.specs.CourtCalendar.{court_calendar_text}

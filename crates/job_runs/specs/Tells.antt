@@ -3,7 +3,7 @@ use Rattle.std.specs.Prelude.{◌≡◌, ◌≢◌, ℕ, List, [], Option, Some,
 use Rattle.std.specs.Io.KnownBytes.{Appends}
 use Rattle.line_io.specs.Output.{AppendsFront, HasFront}
 use Rattle.docket_history.specs.declared.row.CaseRow.{CaseRow}
-use Rattle.docket_changes.specs.declared.fault.Fault.TheVariants.{Closed, Damaged}
+use Rattle.docket_applying.specs.declared.fault.Fault.TheVariants.{Closed, Damaged}
 use Rattle.command_lines.specs.declared.fault.RunFault.{RunFault}
 use Rattle.command_lines.specs.declared.fault.RunFault.TheVariants as run
 use Rattle.file_questions.specs.CaseLists.{case_lines}

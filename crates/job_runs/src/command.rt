@@ -4,7 +4,7 @@ ghost use Rattle.std.specs.Cow.{cow_str_bytes};
 ghost use Rattle.std.specs.Io.KnownBytes.{Appends};
 ghost use Rattle.sqlite_wal.specs.Files.{image_at};
 ghost use Rattle.sqlite.specs.Files.{IsCleanLeft};
-ghost use Rattle.docket_changes.specs.Applying.{IsDocket};
+ghost use Rattle.docket_applying.specs.Applying.{IsDocket};
 ghost use Rattle.docket_store.specs.Reopening.{HoldDocket};
 ghost use Rattle.line_io.specs.Output.{HasFront};
 ghost use Rattle.command_lines.specs.Ending.{StandsAs};

@@ -3,7 +3,7 @@ ghost use Rattle.std.specs.Cow.{cow_str_bytes};
 ghost use Rattle.sqlite_wal.specs.Files.{image_at};
 ghost use Rattle.docket_columns.specs.declared.version.Version.TheVariants.{First};
 ghost use Rattle.docket_scan.specs.Dockets.{MayHold};
-ghost use Rattle.docket_changes.specs.Applying.{IsDocket};
+ghost use Rattle.docket_applying.specs.Applying.{IsDocket};
 ghost use Rattle.docket_store.specs.Migrating.{HoldFirst};
 ghost use Rattle.command_lines.specs.Lines.{Docket as Told};
 ghost use Rattle.job_runs.specs.Jobs.{FailsOr, Migrates};

@@ -12,11 +12,11 @@ use Rattle.docket_history.specs.Histories.{History}
 use Rattle.docket_decisions.specs.Outcomes.{Answer, repeated, refused, accepted, outcome, after, after_answer, run}
 use Rattle.docket_tables.specs.Stands.{LastsAsEither}
 use Rattle.docket_wire.specs.Valid.{IsCommand}
-use Rattle.docket_changes.specs.Applying.{IsDocket, StandsFor, docket_rows}
+use Rattle.docket_applying.specs.Applying.{IsDocket, StandsFor, docket_rows}
 use Rattle.docket_store.specs.Reopening.{HoldDocket, HoldEither}
 use Rattle.docket_store.specs.Sessions.{LeftBy}
-use Rattle.docket_changes.specs.declared.fault.Fault.{Fault}
-use Rattle.docket_changes.specs.declared.fault.Fault.TheVariants.{Refused, NoMemory, StoreFailed, Closed, Damaged}
+use Rattle.docket_applying.specs.declared.fault.Fault.{Fault}
+use Rattle.docket_applying.specs.declared.fault.Fault.TheVariants.{Refused, NoMemory, StoreFailed, Closed, Damaged}
 use Rattle.power_failure.specs.Headline.{IsPrefix, OfPrefix, StopsAt, Tells}
 use Rattle.power_failure.specs.declared.telling.Question.{Question}
 use Rattle.power_failure.specs.declared.telling.Told.{Told}

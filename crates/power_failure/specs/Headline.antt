@@ -23,13 +23,13 @@ use Rattle.docket_history.specs.Histories.{History}
 use Rattle.docket_decisions.specs.Outcomes.{run}
 use Rattle.docket_history.specs.Records.{case_record, deadline_lines}
 use Rattle.docket_calendar.specs.Calendar.{calendar_rows, text_of_calendar}
-use Rattle.docket_changes.specs.Applying.{Asks, IsDocket, Stands, docket_rows}
-use Rattle.docket_changes.specs.Dockets.{Docket}
+use Rattle.docket_applying.specs.Applying.{Asks, IsDocket, Stands, docket_rows}
+use Rattle.docket_applying.specs.Dockets.{Docket}
 use Rattle.docket_store.specs.Opening.{IsNotAdopted}
 use Rattle.docket_store.specs.Reopening.{HoldDocket, IsNotOpened, IsNotRecovered, MayLeave}
 use Rattle.docket_store.specs.Sessions.{AnswersFirst}
-use Rattle.docket_changes.specs.declared.fault.Fault.{Fault}
-use Rattle.docket_changes.specs.declared.listing.CalendarEnd.TheVariants.{Store, WriteFailed}
+use Rattle.docket_applying.specs.declared.fault.Fault.{Fault}
+use Rattle.docket_applying.specs.declared.listing.CalendarEnd.TheVariants.{Store, WriteFailed}
 use Rattle.docket_store.specs.declared.recovering.RecoverFault.TheVariants.{NotOpened, NotAdopted}
 use Rattle.power_failure.specs.PowerFailures.{IsLeftOf}
 use Rattle.power_failure.specs.declared.running.Interrupted.{Interrupted}

@@ -10,7 +10,7 @@ use Rattle.sqlite.specs.Held.{Held}
 use Rattle.court_days.specs.Court.{CourtSettings}
 use Rattle.docket_history.specs.Histories.{History}
 use Rattle.docket_tables.specs.Stands.{LastsAsEither}
-use Rattle.docket_changes.specs.Applying.{StandsFor, docket_rows}
+use Rattle.docket_applying.specs.Applying.{StandsFor, docket_rows}
 use Rattle.docket_store.specs.Reopening.{HoldDocket, HoldEither, MayLeave}
 
 module _ {D : Type 0} {g : Disk D} where

@@ -8,7 +8,7 @@ ghost use Rattle.sqlite.specs.State.{HasCleanDisk};
 ghost use Rattle.court_days.specs.Court.{CourtSettings};
 ghost use Rattle.docket_history.specs.Histories.{History};
 ghost use Rattle.docket_tables.specs.Stands.{LastsAsEither};
-ghost use Rattle.docket_changes.specs.Applying.{StandsFor, docket_rows};
+ghost use Rattle.docket_applying.specs.Applying.{StandsFor, docket_rows};
 ghost use Rattle.docket_store.specs.Reopening.{HoldDocket, HoldEither};
 ghost use Rattle.power_failure.specs.PowerFailures.{IsStopOf};
 

@@ -5,7 +5,7 @@ ghost use Rattle.sqlite.specs.Files.{image_of};
 ghost use Rattle.court_days.specs.Court.{CourtSettings};
 ghost use Rattle.docket_history.specs.Histories.{History};
 ghost use Rattle.docket_wire.specs.Valid.{IsCommand};
-ghost use Rattle.docket_changes.specs.Applying.{IsDocket};
+ghost use Rattle.docket_applying.specs.Applying.{IsDocket};
 ghost use Rattle.docket_store.specs.Reopening.{HoldDocket, IsNotOpened, IsNotRecovered};
 ghost use Rattle.power_failure.specs.Headline.{LeavesOnlyPrefixes, LeavesPrefix, IsPrefixReopened, KeepsFiles, KeepsPrefix};
 

@@ -8,7 +8,7 @@ ghost use Rattle.sqlite.specs.View.{doubt};
 ghost use Rattle.court_days.specs.Court.{CourtSettings};
 ghost use Rattle.docket_history.specs.Histories.{History};
 ghost use Rattle.docket_wire.specs.Valid.{IsCommand};
-ghost use Rattle.docket_changes.specs.Applying.{IsDocket, Stands};
+ghost use Rattle.docket_applying.specs.Applying.{IsDocket, Stands};
 ghost use Rattle.docket_store.specs.Reopening.{HoldDocket};
 ghost use Rattle.power_failure.specs.Headline.{IsPrefixTold, KeepsFilesUntold, KeepsUntold, StaysUntold, Tells};
 

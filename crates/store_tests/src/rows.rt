@@ -6,7 +6,7 @@ mod layout;
 
 use self::changes::{acts, of_each};
 use crate::asking::court;
-use docket_changes::write;
+use docket_applying::write;
 use docket_command::{Action, Command, Reply, Text, Vacate};
 use docket_decisions::{Changes, EndUpdate};
 use docket_history::Change;

@@ -3,7 +3,7 @@ use crate::plays::eastern_court;
 use anyhow::{Error, anyhow};
 use court_days::{Day, End};
 use docket_command::Text;
-use docket_history::DueRow;
+use docket_history::DueLine;
 use docket_text::calendar_text;
 use std::alloc::Global;
 use std::time::Instant;
@@ -36,9 +36,9 @@ fn close_of(end: End) -> u32 {
     }
 }
 
-fn row(alloc: Global, number: u32) -> Result<DueRow, Error> {
+fn row(alloc: Global, number: u32) -> Result<DueLine, Error> {
     let end = end_of(number)?;
-    Ok(DueRow {
+    Ok(DueLine {
         end,
         close: close_of(end),
         case: 1 + number % 100_000,

@@ -1,7 +1,7 @@
 //! Entries of exports worked out by hand.
 use court_days::{Court, End, read_day};
 use docket_command::Text;
-use docket_history::{CaseRow, DueRow};
+use docket_history::{CaseRow, DueLine};
 use due_exports::*;
 use std::alloc::{AllocError, Global};
 use std::test::Fail;
@@ -44,8 +44,8 @@ fn case(alloc: Global) -> Result<CaseRow, Fail> {
 }
 
 /// A deadline of that case.
-fn due(alloc: Global, end: End) -> Result<DueRow, AllocError> {
-    Ok(DueRow {
+fn due(alloc: Global, end: End) -> Result<DueLine, AllocError> {
+    Ok(DueLine {
         end,
         close: 17 * 60,
         case: 12,

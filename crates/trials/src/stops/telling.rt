@@ -2,7 +2,7 @@
 //! calendar of all days.
 use anyhow::{Error, anyhow};
 use court_days::{Court, Day, read_day};
-use docket_history::DueRow;
+use docket_history::DueLine;
 use docket_plain::Plain;
 use docket_store::Docket;
 use docket_text::{calendar_text, case_text, due_rows, sort_calendar};
@@ -56,7 +56,7 @@ fn push_plain_case(
     court: &Court,
     number: u32,
     text: &mut Vec<u8>,
-    rows: &mut Vec<DueRow>,
+    rows: &mut Vec<DueLine>,
 ) -> Result<(), Error> {
     let (Some(case), Some(lines)) = (docket.case(number)?, docket.deadlines(number)?) else {
         return Ok(());

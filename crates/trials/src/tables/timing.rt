@@ -2,7 +2,7 @@
 use crate::tables::commands::{joining, key_of, opening, scattered};
 use anyhow::{Error, anyhow};
 use court_days::Court;
-use docket_changes::write;
+use docket_applying::write;
 use docket_command::Command;
 use docket_decisions::Changes;
 use docket_wire::command_text;

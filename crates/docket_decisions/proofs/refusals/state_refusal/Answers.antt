@@ -10,9 +10,9 @@ before r one more = ap₂ (λ (b : Bool) (rest : List (Option Refusal)). on b r 
 -- each check is met where its sentence is true
 pub returns : goal.returns
 returns c =
-    let court = c.args.matter.now.court.now in
+    let court = c.args.circumstances.now.court.now in
     let v = c.args.view.now in
-    let standing = c.requires.matter.standing in
+    let standing = c.requires.circumstances.standing in
     c.first_met.ensures
     ∙ ap first_some (
     before _ c.lacks_case.ensures
@@ -28,9 +28,9 @@ returns c =
     (before _ (c.is_late_motion.ensures v standing)
     (before _ c.is_served.ensures
     (before _ c.is_short_waiver.ensures
-    (before _ (c.is_late_waiver.ensures v c.requires.matter.calendar)
+    (before _ (c.is_late_waiver.ensures v c.requires.circumstances.calendar)
     (before _ c.may_not_extend.ensures
-    (before _ (c.is_expired.ensures v c.requires.matter.calendar standing)
+    (before _ (c.is_expired.ensures v c.requires.circumstances.calendar standing)
     (before _ (c.is_not_later.ensures v standing)
     (before _ c.is_full.ensures refl)))))))))))))))))
     )

@@ -11,7 +11,7 @@ use Rattle.docket_http.proofs.AskingLemmas.{replies_as}
 use Rattle.docket_http.proofs.ClosedLemmas.{closed_as}
 use Rattle.docket_http.proofs.RecordedLemmas.{any_ok, backed_as, problem_backed}
 use Rattle.std.proofs.Common.{inl as left}
-use Rattle.docket_changes.proofs.AnyLemmas.{lasts_after}
+use Rattle.docket_applying.proofs.AnyLemmas.{lasts_after}
 use Rattle.docket_http.proofs.answering.reply_to.Goals as goal
 
 pub returns-in-Command-clause-replies : goal.returns-in-Command-clause-replies

@@ -1,7 +1,7 @@
 use Rattle.std.proofs.Common.{◌∙◌, ℕ, ap, sym, subst, Err, inl, inr}
-use Rattle.docket_changes.specs.Listing.{Lists}
-use Rattle.docket_changes.specs.declared.listing.ListingEnd.{ListingEnd}
-use Rattle.docket_changes.specs.declared.listing.ListingEnd.TheVariants.{NotBegun, Broken}
+use Rattle.docket_applying.specs.Listing.{Lists}
+use Rattle.docket_applying.specs.declared.listing.ListingEnd.{ListingEnd}
+use Rattle.docket_applying.specs.declared.listing.ListingEnd.TheVariants.{NotBegun, Broken}
 use Rattle.http_request.specs.declared.wish.Wish.TheVariants.{Calendar}
 use Rattle.docket_http.specs.Asking.{problem_of_fault}
 use Rattle.docket_http.specs.Serve.{IsServed, IsBroken, fault_of_broken}
@@ -10,8 +10,8 @@ use Rattle.docket_http.specs.declared.fault.ServeFault.{ServeFault}
 use Rattle.docket_http.proofs.ClosedLemmas.{closed_sent}
 use Rattle.docket_http.proofs.ServeLemmas.{sent_whole, sent_cut, calendar_told, calendar_served, calendar_cut, calendar_broken}
 use Rattle.std.proofs.Common.{Err as Failed, subst as over}
-use Rattle.docket_changes.specs.AnyRows.{PreservesListing}
-use Rattle.docket_changes.proofs.AnyLemmas.{lasting, lasts_at}
+use Rattle.docket_applying.specs.AnyRows.{PreservesListing}
+use Rattle.docket_applying.proofs.AnyLemmas.{lasting, lasts_at}
 use Rattle.docket_http.proofs.calendar.serve_calendar.Goals as goal
 
 pub returns-in-Ok-clause-served : goal.returns-in-Ok-clause-served

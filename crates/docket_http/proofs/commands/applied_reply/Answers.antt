@@ -1,7 +1,7 @@
 use Rattle.std.proofs.Common.{Err, ap}
 use Rattle.http_request.specs.declared.wish.Wish.TheVariants.{Command}
 use Rattle.docket_http.proofs.AskingLemmas.{said_replied, halted_replied, passed_on}
-use Rattle.docket_changes.proofs.AnyLemmas.{answered_one, err_ok}
+use Rattle.docket_applying.proofs.AnyLemmas.{answered_one, err_ok}
 use Rattle.docket_http.proofs.RecordedLemmas.{said_backed}
 use Rattle.docket_http.proofs.commands.applied_reply.Goals as goal
 

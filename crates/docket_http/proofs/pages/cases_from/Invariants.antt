@@ -5,7 +5,7 @@ use Rattle.sqlite.specs.View.{doubt}
 use Rattle.docket_history.specs.Histories.{History, case_rows}
 use Rattle.docket_tables.specs.Layouts.{Rows}
 use Rattle.docket_tables.specs.Stands.{HoldsRows}
-use Rattle.docket_changes.specs.Applying.{Stands}
+use Rattle.docket_applying.specs.Applying.{Stands}
 use Rattle.docket_http.proofs.pages.cases_from.Given as goal
 
 -- the cases before this one were found

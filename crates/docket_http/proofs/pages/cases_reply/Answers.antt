@@ -4,7 +4,7 @@ use Rattle.std.specs.Prelude.{string_bytes}
 use Rattle.sqlite.specs.Held.{state}
 use Rattle.sqlite.specs.State.{HasCleanDisk}
 use Rattle.docket_history.specs.declared.row.CaseRow.{CaseRow}
-use Rattle.docket_changes.proofs.AnyLemmas.{err_preserves, short_preserves}
+use Rattle.docket_applying.proofs.AnyLemmas.{err_preserves, short_preserves}
 use Rattle.html_sheets.specs.Sites.{cases_page}
 use Rattle.http_request.specs.declared.page.Page.TheVariants.{Cases}
 use Rattle.http_request.specs.declared.wish.Wish.TheVariants.{Page}
@@ -15,25 +15,25 @@ use Rattle.docket_http.proofs.pages.cases_reply.Goals as goal
 
 pub returns-in_err-behind-clause-stays : goal.returns-in_err-behind-clause-stays
 returns-in_err-behind-clause-stays g c rows holds =
-    err_preserves g.S.Store c.case_row.new.self.conn rows c.in_err-behind.field-0.0 c.from_residual.result c.from_residual.ensures.1 (c.in_err-behind.ensures.stays rows holds)
+    err_preserves g.S.Store c.case_row.new.self.conn rows c.in_err-behind.field-0.0 c.from_residual.result c.from_residual.ensures.1 (c.in_err-behind.ensures.only.stays rows holds)
 
 pub returns-in_err-cases-clause-stays : goal.returns-in_err-cases-clause-stays
 returns-in_err-cases-clause-stays g c rows holds =
     err_preserves g.S.Store c.cases_from.new.docket.conn rows c.in_err-cases.field-0.0 c.from_residual-in_err-cases.result c.from_residual-in_err-cases.ensures.1
-    (c.in_err-cases.ensures.stays rows (c.in_ok-behind.ensures.stays rows holds))
+    (c.in_err-cases.ensures.stays rows (c.in_ok-behind.ensures.only.stays rows holds))
 
 pub returns-in_err-page-clause-stays : goal.returns-in_err-page-clause-stays
 returns-in_err-page-clause-stays g c rows holds =
     short_preserves g.S.Store c.cases_from.new.docket.conn rows c.from_residual-in_err-page.result c.from_residual-in_err-page.ensures.1
-    (c.in_ok-cases.ensures.stays rows (c.in_ok-behind.ensures.stays rows holds))
+    (c.in_ok-cases.ensures.stays rows (c.in_ok-behind.ensures.only.stays rows holds))
 
 pub returns-in_err-html_reply-clause-stays : goal.returns-in_err-html_reply-clause-stays
 returns-in_err-html_reply-clause-stays g c rows holds =
     short_preserves g.S.Store c.cases_from.new.docket.conn rows c.from_residual-in_err-html_reply.result c.from_residual-in_err-html_reply.ensures.1
-    (c.in_ok-cases.ensures.stays rows (c.in_ok-behind.ensures.stays rows holds))
+    (c.in_ok-cases.ensures.stays rows (c.in_ok-behind.ensures.only.stays rows holds))
 
 pub returns-clause-stays : goal.returns-clause-stays
-returns-clause-stays g c rows holds = c.in_ok-cases.ensures.stays rows (c.in_ok-behind.ensures.stays rows holds)
+returns-clause-stays g c rows holds = c.in_ok-cases.ensures.stays rows (c.in_ok-behind.ensures.only.stays rows holds)
 
 pub returns-in_err-cases-clause-replies : goal.returns-in_err-cases-clause-replies
 returns-in_err-cases-clause-replies g c h body stands =

@@ -1,6 +1,6 @@
 use Rattle.std.proofs.Common.{Err, ap}
-use Rattle.docket_changes.specs.declared.fault.Fault.TheVariants as fault
-use Rattle.docket_changes.proofs.AnyLemmas.{err_preserves, short_preserves}
+use Rattle.docket_applying.specs.declared.fault.Fault.TheVariants as fault
+use Rattle.docket_applying.proofs.AnyLemmas.{err_preserves, short_preserves}
 use Rattle.docket_http.proofs.PageLemmas.{same_fault}
 use Rattle.docket_http.proofs.pages.days_told.Goals as goal
 

@@ -3,8 +3,8 @@ use Rattle.std.specs.List.{flat_map}
 use Rattle.sqlite.specs.Held.{state}
 use Rattle.sqlite.specs.State.{HasCleanDisk}
 use Rattle.court_days.specs.Court.{CourtSettings}
-use Rattle.docket_changes.specs.declared.fault.Fault.TheVariants as fault
-use Rattle.docket_changes.proofs.AnyLemmas.{err_preserves}
+use Rattle.docket_applying.specs.declared.fault.Fault.TheVariants as fault
+use Rattle.docket_applying.proofs.AnyLemmas.{err_preserves}
 use Rattle.docket_http.specs.Pages.{due_told}
 use Rattle.docket_http.proofs.PageLemmas.{added, all_added, same_fault}
 use Rattle.docket_http.proofs.pages.push_dues.Goals as goal

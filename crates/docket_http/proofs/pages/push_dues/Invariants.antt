@@ -6,7 +6,7 @@ use Rattle.sqlite.specs.View.{doubt}
 use Rattle.docket_history.specs.Histories.{History}
 use Rattle.docket_tables.specs.Layouts.{Rows}
 use Rattle.docket_tables.specs.Stands.{HoldsRows}
-use Rattle.docket_changes.specs.Applying.{Stands}
+use Rattle.docket_applying.specs.Applying.{Stands}
 use Rattle.docket_http.specs.Pages.{due_told}
 use Rattle.docket_http.proofs.pages.push_dues.Given as goal
 

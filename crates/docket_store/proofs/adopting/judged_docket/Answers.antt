@@ -1,7 +1,7 @@
 use Rattle.std.proofs.Common.{◌≡◌, rules}
 use Rattle.sqlite.specs.Held.{state}
 use Rattle.docket_scan.specs.declared.fault.AdoptFault.TheVariants.{NoMemory}
-use Rattle.docket_changes.specs.Applying.{docket_rows}
+use Rattle.docket_applying.specs.Applying.{docket_rows}
 use Rattle.docket_store.proofs.OpeningLemmas.{failed_opening, found_docket, lacks_memory, not_found, short_opening}
 use Rattle.docket_store.proofs.JudgedLemmas.{rejected_preserves, short_lasts, short_rejected, taken_preserves}
 use Rattle.docket_store.proofs.adopting.judged_docket.Goals as goal

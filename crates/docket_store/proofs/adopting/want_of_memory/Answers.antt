@@ -1,4 +1,4 @@
-use Rattle.docket_changes.proofs.ApplyLemmas.{either_from_lasts, lasts_from_either}
+use Rattle.docket_applying.proofs.ApplyLemmas.{either_from_lasts, lasts_from_either}
 use Rattle.docket_store.proofs.adopting.want_of_memory.Goals as goal
 
 pub returns-in-NoMemory-clause-left : goal.returns-in-NoMemory-clause-left

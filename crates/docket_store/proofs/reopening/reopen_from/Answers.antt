@@ -5,7 +5,7 @@ use Rattle.sqlite_wal.specs.Recovery.{Image}
 use Rattle.sqlite_store.specs.Laws.{settled_at}
 use Rattle.docket_columns.specs.declared.version.Version.TheVariants.{Second}
 use Rattle.docket_tables.specs.Stands.{IsImageIn}
-use Rattle.docket_changes.specs.Applying.{docket_rows}
+use Rattle.docket_applying.specs.Applying.{docket_rows}
 use Rattle.docket_store.specs.Left.{HoldSome, StillHolds}
 use Rattle.docket_store.proofs.LeftLemmas.{fresh_file, still_holds}
 use Rattle.docket_store.proofs.ReopeningLemmas.{err_either, holds_again, if_left, if_ok, image_known, stands_again, stands_for_either}

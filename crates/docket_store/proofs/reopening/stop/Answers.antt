@@ -1,5 +1,5 @@
 use Rattle.std.proofs.Common.{arith}
-use Rattle.docket_changes.specs.Applying.{docket_rows}
+use Rattle.docket_applying.specs.Applying.{docket_rows}
 use Rattle.docket_store.proofs.ReopeningLemmas.{leaves_both, either_of_settled}
 use Rattle.docket_store.proofs.reopening.stop.Goals as goal
 

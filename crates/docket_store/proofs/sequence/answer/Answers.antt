@@ -1,11 +1,11 @@
 use Rattle.std.proofs.Common.{refl, sym, ap, subst, ◌∙◌, Err}
 use Rattle.docket_history.specs.Histories.{History}
 use Rattle.docket_decisions.specs.Outcomes.{after_answer}
-use Rattle.docket_changes.specs.Applying.{Faults, Stands}
-use Rattle.docket_changes.specs.declared.fault.Fault.{Fault}
-use Rattle.docket_changes.specs.AnyRows.{WritesWhole}
-use Rattle.docket_changes.specs.declared.fault.Fault.TheVariants.{StoreFailed}
-use Rattle.docket_changes.proofs.FailureLemmas.{failed_closes, same_fault, stays_open}
+use Rattle.docket_applying.specs.Applying.{Faults, Stands}
+use Rattle.docket_applying.specs.declared.fault.Fault.{Fault}
+use Rattle.docket_applying.specs.AnyRows.{WritesWhole}
+use Rattle.docket_applying.specs.declared.fault.Fault.TheVariants.{StoreFailed}
+use Rattle.docket_applying.proofs.FailureLemmas.{failed_closes, same_fault, stays_open}
 use Rattle.docket_store.proofs.sequence.answer.Goals as goal
 
 pub returns-in-Err-Refused-clause-answer : goal.returns-in-Err-Refused-clause-answer

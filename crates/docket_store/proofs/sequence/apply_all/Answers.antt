@@ -2,9 +2,9 @@ use Rattle.std.proofs.Common.{◌+◌, refl, ◌<◌, ◌∙◌, length, take, s
 use Rattle.court_days.specs.Court.{CourtSettings}
 use Rattle.docket_history.specs.Histories.{History}
 use Rattle.docket_decisions.specs.Outcomes.{run, answers}
-use Rattle.docket_changes.specs.Applying.{Stands}
+use Rattle.docket_applying.specs.Applying.{Stands}
 use Rattle.docket_store.specs.Sequence.{AreReplies, BreaksOff}
-use Rattle.docket_changes.specs.declared.fault.Fault.TheVariants.{NoMemory}
+use Rattle.docket_applying.specs.declared.fault.Fault.TheVariants.{NoMemory}
 use Rattle.docket_store.proofs.RunLemmas.{run_more, replies_more, breaks_at, broken_off}
 use Rattle.docket_store.proofs.sequence.apply_all.Goals as goal
 

@@ -2,7 +2,7 @@ use Rattle.std.proofs.Common.{◌≡◌, ◌≤◌, take}
 use Rattle.sqlite.specs.Held.{state}
 use Rattle.sqlite.specs.View.{doubt}
 use Rattle.docket_history.specs.Histories.{History}
-use Rattle.docket_changes.specs.Applying.{Stands}
+use Rattle.docket_applying.specs.Applying.{Stands}
 use Rattle.docket_store.specs.Sequence.{AnswersAll}
 use Rattle.docket_store.proofs.sequence.apply_all.Given as goal
 

@@ -3,18 +3,18 @@ use Rattle.std.proofs.lemmas.List.{length-append}
 use Rattle.court_days.specs.Court.{CourtSettings}
 use Rattle.docket_history.specs.Histories.{History}
 use Rattle.docket_decisions.specs.Outcomes.{run, answers}
-use Rattle.docket_changes.specs.Applying.{IsDocket, Stands}
+use Rattle.docket_applying.specs.Applying.{IsDocket, Stands}
 use Rattle.docket_store.specs.Sequence.{AreReplies}
 use Rattle.docket_store.proofs.RunLemmas.{run_more, replies_more, halts_more}
 use Rattle.sqlite.specs.State.{HasCleanDisk}
 use Rattle.sqlite.specs.Held.{state}
-use Rattle.docket_changes.specs.declared.fault.Fault.TheVariants.{StoreFailed}
-use Rattle.docket_changes.proofs.FailureLemmas.{later_then, same_fault}
+use Rattle.docket_applying.specs.declared.fault.Fault.TheVariants.{StoreFailed}
+use Rattle.docket_applying.proofs.FailureLemmas.{later_then, same_fault}
 use Rattle.docket_store.proofs.StopLemmas.{caused_at}
 use Rattle.docket_store.proofs.SessionLemmas.{answered, stopped}
 use Rattle.line_io.proofs.StepLemmas.{here, one_step, steps_then}
-use Rattle.docket_changes.specs.AnyRows.{WritesAtMostOne}
-use Rattle.docket_changes.proofs.AnyLemmas.{answered_one}
+use Rattle.docket_applying.specs.AnyRows.{WritesAtMostOne}
+use Rattle.docket_applying.proofs.AnyLemmas.{answered_one}
 use Rattle.docket_store.proofs.sessions.answer_until.Goals as goal
 
 pub returns-in-Err-clause-ends : goal.returns-in-Err-clause-ends

@@ -5,8 +5,8 @@ use Rattle.sqlite.specs.View.{doubt}
 use Rattle.docket_history.specs.Histories.{History}
 use Rattle.line_io.specs.Steps.{Reaches}
 use Rattle.docket_tables.specs.Causes.{IsLater}
-use Rattle.docket_changes.specs.AnyRows.{WritesAtMostOne}
-use Rattle.docket_changes.specs.Applying.{Stands}
+use Rattle.docket_applying.specs.AnyRows.{WritesAtMostOne}
+use Rattle.docket_applying.specs.Applying.{Stands}
 use Rattle.docket_store.specs.Sequence.{AnswersAll}
 use Rattle.docket_store.proofs.sessions.answer_until.Given as goal
 

@@ -5,7 +5,7 @@ use Rattle.docket_store.proofs.SessionLemmas.{ended, not_begun}
 use Rattle.docket_tables.specs.Stands.{HoldsRows}
 use Rattle.docket_store.specs.Opening.{PreservesRejected}
 use Rattle.docket_store.specs.Causes.{IsCausedOpening, StopsForCause}
-use Rattle.docket_changes.proofs.AnyLemmas.{err_if}
+use Rattle.docket_applying.proofs.AnyLemmas.{err_if}
 use Rattle.docket_store.proofs.StopLemmas.{stop_caused_after}
 use Rattle.docket_store.proofs.sessions.session.Goals as goal
 

@@ -9,9 +9,9 @@ use Rattle.docket_orderly.specs.Orderly.{acts_on}
 use Rattle.docket_tables.specs.declared.query.Query.TheVariants as ask
 use Rattle.docket_tables.proofs.AnswerLemmas.{in_order, rises_running}
 use Rattle.docket_tables.proofs.FoundLemmas.{equal_numbers}
-use Rattle.sqlite.specs.Held.{state}
-use Rattle.docket_tables.proofs.CauseLemmas.{err_caused, numbers_suit}
-use Rattle.docket_tables.proofs.ReadLemmas.{gives, stays}
+use Rattle.docket_tables.proofs.CauseLemmas.{numbers_suit}
+use Rattle.docket_tables.proofs.ReadLemmas.{gives}
+use Rattle.docket_tables.proofs.AskLemmas.{rows_read, rows_unread}
 use Rattle.docket_tables.proofs.reading.acts_of_deadline.Goals as goal
 
 pub returns-clause-read : goal.returns-clause-read
@@ -26,9 +26,10 @@ returns-clause-read g c court t orderly holds =
     (rises_running 1 _ (orderly.acts_run k n)) answer in
     c.acts_alone_in.ensures.read (acts_on k n t.acts) (all-filter IsActRow _ t.acts orderly.acts) (c.as_slice.ensures.value ∙ are))
 
-pub returns-clause-stays : goal.returns-clause-stays
-returns-clause-stays g c rows holds = stays g.S.Store c.ask.new.conn rows c.acts_alone_in.result (c.in_ok-rows.ensures.ok rows holds).0
+pub returns-in_err-rows-clause-only : goal.returns-in_err-rows-clause-only
+returns-in_err-rows-clause-only g c =
+    rows_unread g.S.Store _ _ c.from_residual.result c.ask.ensures.clean c.ask.ensures.mode c.ask.ensures.counts c.ask.ensures.limit c.in_err-rows.field-0.0 c.from_residual.ensures.1 c.in_err-rows.ensures.err
+    (λ rows holds clean. c.in_err-rows.ensures.cause rows holds (numbers_suit c.to_sql.ensures c.to_sql-2.ensures) clean)
 
-pub returns-in_err-rows-clause-cause : goal.returns-in_err-rows-clause-cause
-returns-in_err-rows-clause-cause g c rows holds clean =
-    err_caused (state g.S.Store c.args.conn.now) (state g.S.Store c.ask.new.conn) c.in_err-rows.field-0.0 c.from_residual.result c.from_residual.ensures.1 (c.in_err-rows.ensures.cause rows holds (numbers_suit c.to_sql.ensures c.to_sql-2.ensures) clean)
+pub returns-clause-only : goal.returns-clause-only
+returns-clause-only g c = rows_read g.S.Store _ _ c.acts_alone_in.result c.ask.ensures.clean c.ask.ensures.mode c.ask.ensures.counts c.ask.ensures.limit (λ rows holds. (c.in_ok-rows.ensures.ok rows holds).0) c.acts_alone_in.ensures.own

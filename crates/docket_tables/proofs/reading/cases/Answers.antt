@@ -4,12 +4,11 @@ use Rattle.docket_columns.specs.Cells.{case_cells}
 use Rattle.docket_tables.specs.Contents.{rows_in}
 use Rattle.docket_tables.specs.declared.query.Query.TheVariants as ask
 use Rattle.docket_tables.proofs.AnswerLemmas.{the_last}
-use Rattle.sqlite.specs.Held.{state}
-use Rattle.docket_tables.proofs.CauseLemmas.{err_caused}
-use Rattle.docket_tables.proofs.ReadLemmas.{gives, read_ok, stays}
+use Rattle.docket_tables.proofs.ReadLemmas.{gives, read_ok}
 use Rattle.std.specs.List.{AllByRecursion}
 use Rattle.docket_columns.specs.Fits.{IsCaseRow}
 use Rattle.docket_orderly.specs.Orderly.{RunsFrom}
+use Rattle.docket_tables.proofs.AskLemmas.{rows_read, rows_unread}
 use Rattle.docket_tables.proofs.reading.cases.Goals as goal
 
 pub returns-clause-read : goal.returns-clause-read
@@ -25,9 +24,10 @@ returns-clause-read g c court t orderly holds =
       | inr one ↦ read_ok _ c.number_in.result one.0.number (c.number_in.ensures.first (case_cells one.0) one.0.number one.2.0 (c.as_slice.ensures.value ∙ one.3) refl) (one.1 ∙ ap length all)
     ])
 
-pub returns-clause-stays : goal.returns-clause-stays
-returns-clause-stays g c rows holds = stays g.S.Store c.ask.new.conn rows c.number_in.result (c.in_ok-rows.ensures.ok rows holds).0
+pub returns-in_err-rows-clause-only : goal.returns-in_err-rows-clause-only
+returns-in_err-rows-clause-only g c =
+    rows_unread g.S.Store _ _ c.from_residual.result c.ask.ensures.clean c.ask.ensures.mode c.ask.ensures.counts c.ask.ensures.limit c.in_err-rows.field-0.0 c.from_residual.ensures.1 c.in_err-rows.ensures.err
+    (λ rows holds clean. c.in_err-rows.ensures.cause rows holds refl clean)
 
-pub returns-in_err-rows-clause-cause : goal.returns-in_err-rows-clause-cause
-returns-in_err-rows-clause-cause g c rows holds clean =
-    err_caused (state g.S.Store c.args.conn.now) (state g.S.Store c.ask.new.conn) c.in_err-rows.field-0.0 c.from_residual.result c.from_residual.ensures.1 (c.in_err-rows.ensures.cause rows holds refl clean)
+pub returns-clause-only : goal.returns-clause-only
+returns-clause-only g c = rows_read g.S.Store _ _ c.number_in.result c.ask.ensures.clean c.ask.ensures.mode c.ask.ensures.counts c.ask.ensures.limit (λ rows holds. (c.in_ok-rows.ensures.ok rows holds).0) c.number_in.ensures.own

@@ -6,10 +6,10 @@ use Rattle.docket_tables.specs.Contents.{rows_in}
 use Rattle.docket_tables.specs.declared.query.Query.TheVariants as ask
 use Rattle.docket_tables.proofs.AnswerLemmas.{in_order, rises_running, equal_number}
 use Rattle.docket_tables.proofs.HoldsLemmas.{and_yes}
-use Rattle.sqlite.specs.Held.{state}
-use Rattle.docket_tables.proofs.CauseLemmas.{err_caused, number_suits}
-use Rattle.docket_tables.proofs.ReadLemmas.{gives, stays}
+use Rattle.docket_tables.proofs.CauseLemmas.{number_suits}
+use Rattle.docket_tables.proofs.ReadLemmas.{gives}
 use Rattle.docket_history.specs.Histories.{deadlines_of_case}
+use Rattle.docket_tables.proofs.AskLemmas.{rows_read, rows_unread}
 use Rattle.docket_tables.proofs.reading.deadlines.Goals as goal
 
 pub returns-clause-read : goal.returns-clause-read
@@ -23,9 +23,10 @@ returns-clause-read g c court t orderly holds =
     (rises_running 1 _ (orderly.deadlines_run k)) answer in
     c.all_in.ensures.read (deadlines_of_case k t.deadlines) (all-filter _ _ t.deadlines orderly.deadlines) (c.as_slice.ensures.value ∙ are))
 
-pub returns-clause-stays : goal.returns-clause-stays
-returns-clause-stays g c rows holds = stays g.S.Store c.ask.new.conn rows c.all_in.result (c.in_ok-rows.ensures.ok rows holds).0
+pub returns-in_err-rows-clause-only : goal.returns-in_err-rows-clause-only
+returns-in_err-rows-clause-only g c =
+    rows_unread g.S.Store _ _ c.from_residual.result c.ask.ensures.clean c.ask.ensures.mode c.ask.ensures.counts c.ask.ensures.limit c.in_err-rows.field-0.0 c.from_residual.ensures.1 c.in_err-rows.ensures.err
+    (λ rows holds clean. c.in_err-rows.ensures.cause rows holds (number_suits c.to_sql.ensures) clean)
 
-pub returns-in_err-rows-clause-cause : goal.returns-in_err-rows-clause-cause
-returns-in_err-rows-clause-cause g c rows holds clean =
-    err_caused (state g.S.Store c.args.conn.now) (state g.S.Store c.ask.new.conn) c.in_err-rows.field-0.0 c.from_residual.result c.from_residual.ensures.1 (c.in_err-rows.ensures.cause rows holds (number_suits c.to_sql.ensures) clean)
+pub returns-clause-only : goal.returns-clause-only
+returns-clause-only g c = rows_read g.S.Store _ _ c.all_in.result c.ask.ensures.clean c.ask.ensures.mode c.ask.ensures.counts c.ask.ensures.limit (λ rows holds. (c.in_ok-rows.ensures.ok rows holds).0) c.all_in.ensures.own

@@ -6,10 +6,10 @@ use Rattle.docket_tables.specs.declared.query.Query.TheVariants as ask
 use Rattle.docket_tables.proofs.AnswerLemmas.{so_many}
 use Rattle.docket_tables.proofs.CellLemmas.{equal_text}
 use Rattle.docket_tables.proofs.HoldsLemmas.{and_yes}
-use Rattle.sqlite.specs.Held.{state}
-use Rattle.docket_tables.proofs.CauseLemmas.{err_caused, text_suits}
+use Rattle.docket_tables.proofs.CauseLemmas.{text_suits}
 use Rattle.docket_tables.proofs.ReadLemmas.{any_kept}
 use Rattle.std.specs.Str.{bytes_eq}
+use Rattle.docket_tables.proofs.AskLemmas.{rows_read, rows_unread}
 use Rattle.docket_tables.proofs.reading.is_label_taken.Goals as goal
 
 pub returns-clause-read : goal.returns-clause-read
@@ -24,9 +24,10 @@ returns-clause-read g c court t orderly holds =
           ap (nat_lt 0) (ap length c.as_slice.ensures.value ∙ many) ∙ any_kept (λ row. bytes_eq row.label label) t.cases,
     )
 
-pub returns-clause-stays : goal.returns-clause-stays
-returns-clause-stays g c rows holds = (c.in_ok-rows.ensures.ok rows holds).0
+pub returns-in_err-rows-clause-only : goal.returns-in_err-rows-clause-only
+returns-in_err-rows-clause-only g c =
+    rows_unread g.S.Store _ _ c.from_residual.result c.ask.ensures.clean c.ask.ensures.mode c.ask.ensures.counts c.ask.ensures.limit c.in_err-rows.field-0.0 c.from_residual.ensures.1 c.in_err-rows.ensures.err
+    (λ rows holds clean. c.in_err-rows.ensures.cause rows holds (text_suits c.to_sql.ensures) clean)
 
-pub returns-in_err-rows-clause-cause : goal.returns-in_err-rows-clause-cause
-returns-in_err-rows-clause-cause g c rows holds clean =
-    err_caused (state g.S.Store c.args.conn.now) (state g.S.Store c.ask.new.conn) c.in_err-rows.field-0.0 c.from_residual.result c.from_residual.ensures.1 (c.in_err-rows.ensures.cause rows holds (text_suits c.to_sql.ensures) clean)
+pub returns-clause-only : goal.returns-clause-only
+returns-clause-only g c = rows_read g.S.Store _ _ _ c.ask.ensures.clean c.ask.ensures.mode c.ask.ensures.counts c.ask.ensures.limit (λ rows holds. (c.in_ok-rows.ensures.ok rows holds).0) tt

@@ -1,7 +1,7 @@
 use Rattle.std.proofs.Common.{◌≡◌, ◌∙◌, IfSome, sym, ap, subst}
 use Rattle.sqlite.specs.Held.{Held, state}
 use Rattle.sqlite.specs.State.{HasCleanDisk}
-use Rattle.docket_changes.specs.Dockets.{Docket as Stored}
+use Rattle.docket_applying.specs.Dockets.{Docket as Stored}
 use Rattle.command_lines.specs.Ending.{StandsAs}
 use Rattle.file_dockets.specs.Keeping.{HoldsBetween}
 use Rattle.file_changes.specs.Runs.{Answers}

@@ -3,9 +3,9 @@ use Rattle.std.specs.Option.{option_map}
 use Rattle.court_days.specs.Court.{CourtSettings}
 use Rattle.docket_history.specs.Histories.{History}
 use Rattle.docket_history.specs.Records.{calendar}
-use Rattle.docket_changes.specs.Grounds.{AreGrounds}
-use Rattle.docket_changes.specs.declared.explaining.Grounds.{Grounds}
-use Rattle.docket_changes.proofs.AnyLemmas.{err_preserves, short_preserves}
+use Rattle.docket_applying.specs.Grounds.{AreGrounds}
+use Rattle.docket_applying.specs.declared.explaining.Grounds.{Grounds}
+use Rattle.docket_applying.proofs.AnyLemmas.{err_preserves, short_preserves}
 use Rattle.file_questions.specs.Tells.{reasons_of, text_of_reasons}
 use Rattle.file_questions.proofs.explaining.text_of_reasons.Goals as goal
 
@@ -19,16 +19,16 @@ pub returns-clause-answer : goal.returns-clause-answer
 returns-clause-answer g c h stands =
     let asked = c.in_ok-grounds.ensures.answer h stands in (
       asked.0,
-      λ clean. told_reasons c.args.docket.now.court c.court.result.now h c.args.case c.args.deadline c.in-Some.grounds _ (c.court.ensures ∙ c.grounds.ensures.court) c.in_ok-text.ensures (subst (AreGrounds h c.args.case c.args.deadline) c.in-Some.is (asked.1 clean)),
+      λ clean. told_reasons c.args.docket.now.court c.court.result.now h c.args.case c.args.deadline c.in-Some.grounds _ (c.court.ensures ∙ c.grounds.ensures.only.court) c.in_ok-text.ensures (subst (AreGrounds h c.args.case c.args.deadline) c.in-Some.is (asked.1 clean)),
     )
 
 pub returns-in_err-grounds-clause-stays : goal.returns-in_err-grounds-clause-stays
 returns-in_err-grounds-clause-stays g c rows holds =
-    err_preserves g.S.Store c.grounds.new.self.conn rows c.in_err-grounds.field-0.0 c.from_residual.result c.from_residual.ensures.1 (c.in_err-grounds.ensures.stays rows holds)
+    err_preserves g.S.Store c.grounds.new.self.conn rows c.in_err-grounds.field-0.0 c.from_residual.result c.from_residual.ensures.1 (c.in_err-grounds.ensures.only.stays rows holds)
 
 pub returns-in_err-text-clause-stays : goal.returns-in_err-text-clause-stays
 returns-in_err-text-clause-stays g c rows holds =
-    short_preserves g.S.Store c.grounds.new.self.conn rows c.from_residual-in_err-text.result c.from_residual-in_err-text.ensures.1 (c.in_ok-grounds.ensures.stays rows holds)
+    short_preserves g.S.Store c.grounds.new.self.conn rows c.from_residual-in_err-text.result c.from_residual-in_err-text.ensures.1 (c.in_ok-grounds.ensures.only.stays rows holds)
 
 pub returns-clause-stays : goal.returns-clause-stays
-returns-clause-stays g c rows holds = c.in_ok-grounds.ensures.stays rows holds
+returns-clause-stays g c rows holds = c.in_ok-grounds.ensures.only.stays rows holds

@@ -1,4 +1,4 @@
-use Rattle.docket_changes.proofs.AnyLemmas.{err_preserves}
+use Rattle.docket_applying.proofs.AnyLemmas.{err_preserves}
 use Rattle.file_questions.proofs.exporting.reasons_in.Goals as goal
 
 pub returns-in_err-text-clause-stays : goal.returns-in_err-text-clause-stays

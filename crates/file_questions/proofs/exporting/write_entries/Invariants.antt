@@ -5,7 +5,7 @@ use Rattle.sqlite.specs.View.{doubt}
 use Rattle.docket_history.specs.Histories.{History}
 use Rattle.docket_tables.specs.Layouts.{Rows}
 use Rattle.docket_tables.specs.Stands.{HoldsRows}
-use Rattle.docket_changes.specs.Applying.{Stands}
+use Rattle.docket_applying.specs.Applying.{Stands}
 use Rattle.file_questions.specs.Exports.{HaveCases, PutsOut}
 use Rattle.file_questions.proofs.ExportLemmas.{entries_to}
 use Rattle.file_questions.proofs.exporting.write_entries.Given as goal

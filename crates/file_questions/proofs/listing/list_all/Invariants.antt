@@ -4,7 +4,7 @@ use Rattle.sqlite.specs.View.{doubt}
 use Rattle.docket_history.specs.Histories.{History, case_rows}
 use Rattle.docket_tables.specs.Layouts.{Rows}
 use Rattle.docket_tables.specs.Stands.{HoldsRows}
-use Rattle.docket_changes.specs.Applying.{Stands}
+use Rattle.docket_applying.specs.Applying.{Stands}
 use Rattle.file_questions.specs.CaseLists.{Lists}
 use Rattle.file_questions.proofs.CaseLemmas.{with_party}
 use Rattle.file_questions.proofs.listing.list_all.Given as goal

@@ -21,7 +21,7 @@ returns-in-Ok-Some-clause-lists g c h stands =
     )
 
 pub returns-in-Ok-Some-clause-stays : goal.returns-in-Ok-Some-clause-stays
-returns-in-Ok-Some-clause-stays g c rows holds = c.list_one.ensures.stays rows (c.in-Ok-Some.ensures.stays rows holds)
+returns-in-Ok-Some-clause-stays g c rows holds = c.list_one.ensures.stays rows (c.in-Ok-Some.ensures.only.stays rows holds)
 
 pub returns-in-Ok-None-clause-lists : goal.returns-in-Ok-None-clause-lists
 returns-in-Ok-None-clause-lists g c h stands =

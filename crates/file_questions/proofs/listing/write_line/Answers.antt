@@ -1,5 +1,5 @@
 use Rattle.std.proofs.Common.{◌∙◌}
-use Rattle.docket_changes.specs.declared.listing.CalendarEnd.TheVariants.{WriteFailed}
+use Rattle.docket_applying.specs.declared.listing.CalendarEnd.TheVariants.{WriteFailed}
 use Rattle.file_questions.proofs.CaseLemmas.{front_of_line}
 use Rattle.file_questions.proofs.listing.write_line.Goals as goal
 

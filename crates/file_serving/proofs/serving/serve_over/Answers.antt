@@ -6,7 +6,7 @@ use Rattle.docket_scan.specs.declared.fault.AdoptFault.{AdoptFault}
 use Rattle.docket_tables.specs.Layouts.{Rows}
 use Rattle.docket_tables.specs.Stands.{HoldsRows}
 use Rattle.docket_serving.specs.Desks.{Desk}
-use Rattle.docket_changes.specs.Dockets.{Docket as Stored}
+use Rattle.docket_applying.specs.Dockets.{Docket as Stored}
 use Rattle.command_lines.specs.Ending.{StandsAs}
 use Rattle.file_dockets.specs.Keeping.{HoldsBetween}
 use Rattle.file_serving.specs.Serves.{IfUnserved, ServesPort}

@@ -1,6 +1,6 @@
 use Rattle.std.proofs.Common.{[], refl}
 use Rattle.sqlite.specs.Files.{IsCleanLeft}
-use Rattle.docket_changes.specs.Applying.{IsDocket, docket_rows}
+use Rattle.docket_applying.specs.Applying.{IsDocket, docket_rows}
 use Rattle.docket_store.specs.Left.{LeavesRows}
 use Rattle.job_runs.proofs.EndLemmas.{made_left}
 use Rattle.job_runs.proofs.create.create_docket.Goals as goal

@@ -2,7 +2,7 @@ use Rattle.std.proofs.Common.{Err, sym, subst₂}
 use Rattle.std.proofs.lemmas.Result.{IfOk-weaker}
 use Rattle.std.specs.Cow.{cow_str_bytes}
 use Rattle.sqlite.specs.Files.{IsCleanLeft}
-use Rattle.docket_changes.specs.declared.fault.Fault.TheVariants.{NoMemory}
+use Rattle.docket_applying.specs.declared.fault.Fault.TheVariants.{NoMemory}
 use Rattle.file_changes.specs.Commands.{AppliesTo}
 use Rattle.docket_store.specs.Left.{LeavesRows}
 use Rattle.file_dockets.specs.Works.{WorksTo}

@@ -1,9 +1,9 @@
 use Rattle.std.proofs.Common.{◌∙◌, IfErr, sym, subst}
 use Rattle.sqlite.specs.Held.{state}
 use Rattle.sqlite.specs.State.{HasCleanDisk}
-use Rattle.docket_changes.specs.Applying.{Faults, Stands}
-use Rattle.docket_changes.specs.declared.fault.Fault.{Fault}
-use Rattle.docket_changes.specs.declared.fault.Fault.TheVariants.{NoMemory, StoreFailed, Closed, Damaged}
+use Rattle.docket_applying.specs.Applying.{Faults, Stands}
+use Rattle.docket_applying.specs.declared.fault.Fault.{Fault}
+use Rattle.docket_applying.specs.declared.fault.Fault.TheVariants.{NoMemory, StoreFailed, Closed, Damaged}
 use Rattle.command_lines.specs.Ending.{StandsAs, FailsAt}
 use Rattle.command_lines.specs.Lines.{Docket, docket_with}
 use Rattle.command_lines.proofs.AnswerLemmas.{IsNoRefusal, left_by}
@@ -12,10 +12,10 @@ use Rattle.std.proofs.Common.{IfOk, Result}
 use Rattle.docket_command.specs.declared.refusal.Refusal.{Refusal}
 use Rattle.docket_command.specs.declared.refusal.Reply.{Reply}
 use Rattle.docket_decisions.specs.Outcomes.{outcome}
-use Rattle.docket_changes.specs.Dockets.{Docket as Stored}
+use Rattle.docket_applying.specs.Dockets.{Docket as Stored}
 use Rattle.docket_tables.specs.AnyRows.{AreDocketRows}
 use Rattle.docket_tables.specs.Stands.{HoldsRows}
-use Rattle.docket_changes.proofs.AnyLemmas.{one_at_most}
+use Rattle.docket_applying.proofs.AnyLemmas.{one_at_most}
 use Rattle.command_lines.specs.Lines.{IsSaid}
 use Rattle.command_lines.proofs.AnswerLemmas.{refuses, says}
 use Rattle.command_lines.proofs.clerk.Clerk.apply.Goals as goal

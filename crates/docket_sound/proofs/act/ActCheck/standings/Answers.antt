@@ -17,9 +17,9 @@ pub returns-clause-some : goal.returns-clause-some
 returns-clause-some c rows has few =
     let self = c.args.self.now in
     let some : nat_eq (length self.acts.items) 0 ≡ false = search rules in
-    let stands : c.standing_of-standing.result ≡ standing (zone_of self.court) self.calendar self.acts.items =
-    c.standing_of-standing.ensures.value ∙ ap (standing (zone_of self.court) self.calendar) c.as_slice.ensures.value in
-    let one : last_standings self ≡ c.standing_of-standing.result ∷ [] =
+    let stands : c.deadline_standing-standing.result ≡ standing (zone_of self.court) self.calendar self.acts.items =
+    c.deadline_standing-standing.ensures.value ∙ ap (standing (zone_of self.court) self.calendar) c.as_slice.ensures.value in
+    let one : last_standings self ≡ c.deadline_standing-standing.result ∷ [] =
     ap (λ b. cond b [] (standing (zone_of self.court) self.calendar self.acts.items ∷ [])) some
     ∙ ap (λ s. s ∷ []) (sym stands) in
     all_standings self rows has few c.count.new.self (λ l is short. c.count.ensures l is short ∙ ap (λ m. counts_of_standings (l ++ m)) (sym one))

@@ -7,7 +7,7 @@ use Rattle.docket_sound.specs.declared.numbering.Numbering.{Numbering}
 use Rattle.std.specs.Prelude.{Vec}
 use Rattle.std.specs.declared.alloc.Global.{Global}
 use Rattle.docket_sound.specs.declared.act.ActCheck.{ActCheck}
-use Rattle.docket_decisions.specs.declared.end_row.EndRow.{EndRow}
+use Rattle.docket_decisions.specs.declared.end_row.StoredEnd.{StoredEnd}
 use Rattle.docket_sound.proofs.ActLemmas.{go_refused, begin_refused, key_refused, go_taken, new_taken}
 use Rattle.docket_sound.proofs.act.ActCheck.take.Goals as goal
 
@@ -44,5 +44,5 @@ returns-clause-taken c rows has taken =
     let runs = subst (λ (n : Numbering). HasNumbered n (old ++ run_key (alone c.args.row.now) ∷ [])) (sym same) keyed in
     new_taken c.args.self.now rows c.args.row.now c.begin.new.self has (begun.court ∙ ap (λ (k : ActCheck). k.court) closed.same) (begun.deadlines ∙ ap (λ (k : ActCheck). k.deadlines) closed.same)
     (ap most_of same ∙ c.take.ensures.most) (ap cases_of same ∙ c.take.ensures.cases) runs begun.case begun.deadline (begun.calendar ∙ ap (λ (k : ActCheck). k.calendar) closed.same)
-    (ap (λ (v : Vec EndRow Global). v.items) begun.dues ∙ closed.dues) (λ l is few. begun.standings ∙ closed.standings l is few) begun.acts
+    (ap (λ (v : Vec StoredEnd Global). v.items) begun.dues ∙ closed.dues) (λ l is few. begun.standings ∙ closed.standings l is few) begun.acts
     (sym c.continues.ensures ∙ c.if-continues.false) (sym c.may_begin.ensures ∙ c.if-not-may_begin.false)

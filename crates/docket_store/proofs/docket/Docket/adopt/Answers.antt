@@ -1,7 +1,7 @@
 use Rattle.sqlite.specs.Held.{state}
 use Rattle.sqlite.specs.State.{HasCleanDisk}
 use Rattle.docket_store.specs.Causes.{IsCausedOpening}
-use Rattle.docket_changes.proofs.AnyLemmas.{err_if, err_match}
+use Rattle.docket_applying.proofs.AnyLemmas.{err_if, err_match}
 use Rattle.docket_store.specs.Opening.{PreservesRejected}
 use Rattle.docket_store.proofs.docket.Docket.adopt.Goals as goal
 

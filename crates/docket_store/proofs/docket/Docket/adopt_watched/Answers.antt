@@ -1,7 +1,7 @@
 use Rattle.std.proofs.Common.{None, refl, sym, subst}
 use Rattle.court_days.specs.Court.{CourtSettings}
-use Rattle.docket_changes.specs.Applying.{Stands}
-use Rattle.docket_changes.specs.Dockets.{serving}
+use Rattle.docket_applying.specs.Applying.{Stands}
+use Rattle.docket_applying.specs.Dockets.{serving}
 use Rattle.docket_store.proofs.docket.Docket.adopt_watched.Goals as goal
 
 pub returns-in-Ok-clause-adopted : goal.returns-in-Ok-clause-adopted

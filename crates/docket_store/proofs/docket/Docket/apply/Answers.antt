@@ -1,14 +1,14 @@
 use Rattle.docket_tables.specs.Stands.{HoldsRows}
 use Rattle.std.proofs.Common.{sym, subst, ◌≡◌, ◌∙◌, Some, refl}
 use Rattle.docket_tables.specs.AnyRows.{AreDocketRows}
-use Rattle.docket_changes.specs.Dockets.{Docket, serving}
+use Rattle.docket_applying.specs.Dockets.{Docket, serving}
 use Rattle.sqlite.specs.Held.{state}
 use Rattle.sqlite.specs.declared.error.Error.{Error}
 use Rattle.docket_tables.specs.Causes.{IsCaused, IsLater}
-use Rattle.docket_changes.specs.Applying.{Stands}
-use Rattle.docket_changes.specs.Causes.{HasWriteCause, IsNotAccepted}
-use Rattle.docket_changes.proofs.FailureLemmas.{failed_caused, failed_write}
-use Rattle.docket_changes.proofs.AskLemmas.{applies_kept}
+use Rattle.docket_applying.specs.Applying.{Stands}
+use Rattle.docket_applying.specs.Causes.{HasWriteCause, IsNotAccepted}
+use Rattle.docket_applying.proofs.FailureLemmas.{failed_caused, failed_write}
+use Rattle.docket_applying.proofs.AskLemmas.{applies_kept}
 use Rattle.docket_store.proofs.docket.Docket.apply.Goals as goal
 
 pub returns-clause-any : goal.returns-clause-any

@@ -1,7 +1,7 @@
 use Rattle.std.proofs.Common.{Err, subst}
-use Rattle.docket_changes.specs.AnyRows.{PreservesListing}
-use Rattle.docket_changes.specs.declared.listing.ListingEnd.{ListingEnd}
-use Rattle.docket_changes.proofs.ListingLemmas.{none_broken, part_broken}
+use Rattle.docket_applying.specs.AnyRows.{PreservesListing}
+use Rattle.docket_applying.specs.declared.listing.ListingEnd.{ListingEnd}
+use Rattle.docket_applying.proofs.ListingLemmas.{none_broken, part_broken}
 use Rattle.docket_store.proofs.docket.Docket.calendar.Goals as goal
 
 pub returns-in-Err-NotBegun-clause-stays : goal.returns-in-Err-NotBegun-clause-stays

@@ -2,10 +2,10 @@ use Rattle.std.proofs.Common.{◌≡◌, ◌∙◌, Some, refl, sym, subst}
 use Rattle.sqlite.specs.Held.{state}
 use Rattle.sqlite.specs.declared.error.Error.{Error}
 use Rattle.docket_tables.specs.Causes.{IsCaused}
-use Rattle.docket_changes.proofs.FailureLemmas.{broken_caused}
-use Rattle.docket_changes.specs.Applying.{Stands}
-use Rattle.docket_changes.specs.Dockets.{Docket, serving}
-use Rattle.docket_changes.proofs.ListingLemmas.{lists_kept}
+use Rattle.docket_applying.proofs.FailureLemmas.{broken_caused}
+use Rattle.docket_applying.specs.Applying.{Stands}
+use Rattle.docket_applying.specs.Dockets.{Docket, serving}
+use Rattle.docket_applying.proofs.ListingLemmas.{lists_kept}
 use Rattle.docket_tables.specs.Stands.{HoldsRows}
 use Rattle.docket_store.proofs.docket.Docket.calendar_after.Goals as goal
 

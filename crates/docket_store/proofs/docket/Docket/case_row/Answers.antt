@@ -1,17 +1,15 @@
-use Rattle.std.proofs.Common.{◌≡◌, Option, Some, sym, subst, arith}
+use Rattle.std.proofs.Common.{◌≡◌, Option, sym, subst, arith, false, rules}
 use Rattle.docket_history.specs.Histories.{case_rows}
 use Rattle.docket_history.specs.Records.{case_at}
 use Rattle.docket_history.specs.declared.row.CaseRow.{CaseRow}
 use Rattle.docket_decisions.specs.Tables.{rows_of}
-use Rattle.docket_changes.specs.Applying.{Stands}
-use Rattle.docket_changes.specs.Dockets.{Docket}
-use Rattle.docket_changes.proofs.ApplyLemmas.{docket_orderly}
-use Rattle.docket_changes.proofs.FailureLemmas.{told_cause}
+use Rattle.docket_applying.specs.Applying.{Stands}
+use Rattle.docket_applying.specs.Dockets.{Docket}
+use Rattle.docket_applying.proofs.ApplyLemmas.{docket_orderly}
 use Rattle.docket_store.proofs.QuestionLemmas.{question_asks}
-use Rattle.docket_tables.specs.Causes.{IsCaused}
-use Rattle.docket_tables.specs.Stands.{HoldsRows}
-use Rattle.sqlite.specs.Held.{state}
-use Rattle.sqlite.specs.declared.error.Error.{Error}
+use Rattle.docket_store.proofs.OnlyLemmas.{told_only}
+use Rattle.docket_store.specs.Asking.{OnlyAnswers}
+use Rattle.std.specs.Prelude.{is_some}
 use Rattle.docket_store.proofs.docket.Docket.case_row.Goals as goal
 
 pub returns-clause-answer : goal.returns-clause-answer
@@ -20,14 +18,15 @@ returns-clause-answer g c h stands =
     let court = c.self.inside.court in
     let here = subst (λ (d : Docket g.row.S.Denot). Stands g.S.Store d h) (sym c.self.view_is) stands in
     question_asks g.S.Store court c.self.inside.calendar h {X = Option CaseRow} conn c.told.new.conn (λ found. found ≡ case_at (case_rows h) c.args.number) c.case-found.result c.told.new.closed_by c.told.result here.docket
-    (λ clean. here.calendar (omega (arith, c.case-found.ensures.clean, clean))) c.told.ensures.clean (c.case-found.ensures.read court (rows_of court h) (docket_orderly court h here.docket) here.rows)
+    (λ clean. here.calendar (omega (arith, c.case-found.ensures.only.clean, clean))) c.told.ensures.clean (c.case-found.ensures.read court (rows_of court h) (docket_orderly court h here.docket) here.rows)
     c.told.ensures.ok c.told.ensures.left c.told.ensures.closes
 
-pub returns-clause-stays : goal.returns-clause-stays
-returns-clause-stays g c rows holds = c.told.ensures.stays rows (c.case-found.ensures.stays rows (subst (λ (d : Docket g.row.S.Denot). HoldsRows g.S.Store d.conn rows) (sym c.self.view_is) holds))
-
-pub returns-clause-cause : goal.returns-clause-cause
-returns-clause-cause g c rows holds clean failed =
-    let before = subst (λ (d : Docket g.row.S.Denot). HoldsRows g.S.Store d.conn rows) (sym c.self.view_is) holds in
-    let cause = told_cause (state g.S.Store c.self.inside.conn) (state g.S.Store c.case-found.new.conn) (state g.S.Store c.told.new.conn) c.case-found.result c.told.new.closed_by c.told.ensures.counts (c.told.ensures.blames failed) (c.case-found.ensures.cause rows before (omega (arith, c.told.ensures.clean, clean))) in
-    subst (λ (d : Docket g.row.S.Denot). (e : Error) × (c.told.new.closed_by ≡ Some e) × IsCaused (state g.S.Store d.conn) (state g.S.Store c.told.new.conn) e) c.self.view_is cause
+pub returns-clause-only : goal.returns-clause-only
+returns-clause-only g c =
+    let inside = c.self.inside in
+    let by = c.told.new.closed_by in
+    let new = c.told.new.conn in
+    let unclosed : is_some inside.closed_by ≡ false = search rules in
+    subst (λ (d : Docket g.row.S.Denot). OnlyAnswers g.S.Store d (record { conn = new; court = inside.court; closed = is_some by; closed_by = by; calendar = inside.calendar }) c.told.result) c.self.view_is
+    (told_only g.S.Store (record { conn = inside.conn; court = inside.court; closed = is_some inside.closed_by; closed_by = inside.closed_by; calendar = inside.calendar }) new inside.calendar by c.told.result unclosed
+    c.told.ensures.closes c.case-found.new.conn c.case-found.result c.case-found.ensures.only c.told.ensures.clean c.told.ensures.stays c.told.ensures.counts c.told.ensures.blames)

@@ -1,0 +1,11 @@
+pub mod AnyRows
+pub mod Applying
+pub mod Asking
+pub mod Causes
+pub mod Dockets
+pub mod Grounds
+pub mod Listing
+pub mod Settling
+pub mod Sound
+pub mod Told
+pub mod Writing

@@ -1,0 +1,157 @@
+//! What is done with a command, by the docket that the tables hold.
+ghost use Rattle.std.specs.Prelude.{◌≡◌, [], false, if◌then◌else◌, IfOk};
+ghost use Rattle.sqlite.specs.Held.{state};
+ghost use Rattle.sqlite.specs.State.{HasCleanDisk};
+ghost use Rattle.court_days.specs.Court.{CourtSettings};
+ghost use Rattle.docket_history.specs.Actions.{asks_calendar};
+ghost use Rattle.docket_history.specs.Histories.{History, items_of, standing_rows};
+ghost use Rattle.docket_decisions.specs.Outcomes.{shown};
+ghost use Rattle.docket_wire.specs.Valid.{IsCommand};
+ghost use Rattle.docket_wire.specs.Writing.{canonical};
+ghost use Rattle.docket_tables.specs.Asking.{OnlyAsks};
+ghost use Rattle.docket_tables.specs.Layouts.{Rows};
+ghost use Rattle.docket_tables.specs.Readings.{Gives};
+ghost use Rattle.docket_tables.specs.Stands.{HoldsRows};
+ghost use Rattle.docket_applying.specs.Asking.{LeavesIdle};
+ghost use Rattle.docket_applying.specs.AnyRows.{RepeatsReceipt, ShowsReceipt};
+ghost use Rattle.docket_applying.specs.Applying.{IsDocket, StandsFor, Keeps, Stands, Shows, Judges, docket_rows};
+ghost use Rattle.docket_applying.specs.Dockets.{serving};
+
+use crate::fault::{Fault, read_fault};
+use crate::sound::{is_sound, is_sound_calendar};
+use crate::viewing::{calendar_items, view};
+use court_days::Court;
+use docket_command::{Action, Command};
+use docket_decisions::{DecideFault, Decision, decide};
+use docket_history::{StandingCalendar, View, asks_calendar};
+use docket_tables::ReadFault;
+use sqlite::{Alter, Connection, Error};
+use std::alloc::Global;
+
+/// The calendar that the tables hold, which is tested and built once.
+fn read_calendar<S: Alter>(
+    conn: &mut Connection<S>,
+    alloc: Global,
+) -> Result<StandingCalendar, ReadFault>
+    ensures only { OnlyAsks S.Store conn.old conn.new result }
+    ensures read { (court : CourtSettings) (h : History) → IsDocket court h → StandsFor S.Store conn.old court h
+        → Gives S.Store conn.new (docket_rows court h) (λ items. items ≡ items_of (standing_rows h)) result }
+{
+    let items = calendar_items(conn, alloc)?;
+    if !is_sound_calendar(items.as_slice()) {
+        return Err(ReadFault::Damaged);
+    }
+    Ok(StandingCalendar::new(alloc, items)?)
+}
+
+/// The calendar: what is kept of it is taken, and else the tables are asked.
+pub(crate) fn take_calendar<S: Alter>(
+    conn: &mut Connection<S>,
+    alloc: Global,
+    kept: &mut Option<StandingCalendar>,
+) -> Result<StandingCalendar, ReadFault>
+    ensures only { OnlyAsks S.Store conn.old conn.new result }
+    ensures kept { (h : History) → Keeps kept.old h → Keeps kept.new h }
+    ensures read { (court : CourtSettings) (h : History) → Stands S.Store (serving conn.old court kept.old) h
+        → Gives S.Store conn.new (docket_rows court h) (λ items. items ≡ items_of (standing_rows h)) result }
+{
+    match kept.take() {
+        Some(standing) => Ok(standing),
+        None => read_calendar(conn, alloc),
+    }
+}
+
+/// The calendar, where the action asks for it. What is kept of it is taken.
+fn calendar_asked<S: Alter>(
+    conn: &mut Connection<S>,
+    alloc: Global,
+    kept: &mut Option<StandingCalendar>,
+    action: &Action,
+) -> Result<StandingCalendar, ReadFault>
+    ensures only { OnlyAsks S.Store conn.old conn.new result }
+    ensures kept { (h : History) → Keeps kept.old h → Keeps kept.new h }
+    ensures read { (court : CourtSettings) (h : History) → Stands S.Store (serving conn.old court kept.old) h
+        → Gives S.Store conn.new (docket_rows court h) (λ items. items ≡ (if asks_calendar action.now then items_of (standing_rows h) else [])) result }
+{
+    if !asks_calendar(action) {
+        return Ok(StandingCalendar::empty(alloc));
+    }
+    take_calendar(conn, alloc, kept)
+}
+
+/// What the tables show about the command.
+fn shown<S: Alter>(
+    conn: &mut Connection<S>,
+    alloc: Global,
+    kept: &mut Option<StandingCalendar>,
+    command: &Command,
+    body: &str,
+) -> Result<View, ReadFault>
+    requires body { body.now ≡ canonical command.now }
+    requires lawful { IsCommand command.now }
+    ensures only { OnlyAsks S.Store conn.old conn.new result }
+    ensures kept { (h : History) → Keeps kept.old h → Keeps kept.new h }
+    ensures read { (court : CourtSettings) (h : History) → Stands S.Store (serving conn.old court kept.old) h
+        → Gives S.Store conn.new (docket_rows court h) (λ view. view ≡ shown court h command.now) result }
+    ensures receipt { (rows : Rows) → HoldsRows S.Store conn.old rows → HasCleanDisk (state S.Store conn.new) → IfOk result (ShowsReceipt rows command.now) }
+{
+    let calendar = calendar_asked(conn, alloc, kept, &command.action)?;
+    view(conn, alloc, command, body, calendar)
+}
+
+/// What the docket shows about the command.
+fn look<S: Alter>(
+    conn: &mut Connection<S>,
+    alloc: Global,
+    kept: &mut Option<StandingCalendar>,
+    command: &Command,
+    body: &str,
+    failure: &mut Option<Error>,
+) -> Result<View, Fault>
+    requires idle { conn.old.in_transaction ≡ false }
+    requires body { body.now ≡ canonical command.now }
+    requires lawful { IsCommand command.now }
+    ensures leaves { LeavesIdle S.Store conn.old conn.new failure.new result }
+    ensures shown { (court : CourtSettings) (h : History) → Stands S.Store (serving conn.old court kept.old) h
+        → Shows S.Store (serving conn.new court kept.new) h command.now result }
+    ensures receipt { (rows : Rows) → HoldsRows S.Store conn.old rows → HasCleanDisk (state S.Store conn.new) → IfOk result (ShowsReceipt rows command.now) }
+{
+    match shown(conn, alloc, kept, command, body) {
+        Ok(view) => Ok(view),
+        Err(fault) => Err(read_fault(conn, fault, failure)),
+    }
+}
+
+/// What is done with the command. Nothing is written yet.
+pub(crate) fn judge<S: Alter>(
+    conn: &mut Connection<S>,
+    alloc: Global,
+    court: &Court,
+    kept: &mut Option<StandingCalendar>,
+    command: &Command,
+    body: &str,
+    failure: &mut Option<Error>,
+) -> Result<Decision, Fault>
+    requires idle { conn.old.in_transaction ≡ false }
+    requires body { body.now ≡ canonical command.now }
+    requires lawful { IsCommand command.now }
+    ensures leaves { LeavesIdle S.Store conn.old conn.new failure.new result }
+    ensures judged { (h : History) → Stands S.Store (serving conn.old court.now kept.old) h
+        → Judges S.Store (serving conn.new court.now kept.new) h command.now result }
+    ensures repeats { (rows : Rows) → HoldsRows S.Store conn.old rows → HasCleanDisk (state S.Store conn.new)
+        → IfOk result (RepeatsReceipt rows command.now) }
+{
+    let view = look(conn, alloc, kept, command, body, failure)?;
+    if !is_sound(court, &view) {
+        return Err(Fault::Damaged);
+    }
+    let decided = decide(alloc, &view, court, command);
+    if asks_calendar(&command.action) {
+        *kept = Some(view.calendar);
+    }
+    match decided {
+        Ok(decision) => Ok(decision),
+        Err(DecideFault::Refused(refusal)) => Err(Fault::Refused(refusal)),
+        Err(DecideFault::NoMemory) => Err(Fault::NoMemory),
+    }
+}

@@ -1,0 +1,348 @@
+//! What a docket's tables show about a command.
+ghost use Rattle.std.specs.Prelude.{◌≡◌, length, false, ◌&&◌, nat_le, IfOk};
+ghost use Rattle.std.specs.Option.{option_and_then, option_map};
+ghost use Rattle.sqlite.specs.Held.{state};
+ghost use Rattle.sqlite.specs.State.{HasCleanDisk};
+ghost use Rattle.docket_command.specs.declared.refusal.Reply.{Reply};
+ghost use Rattle.docket_history.specs.Actions.{case_named, asks_cases, asks_parties, asks_entries, asks_deadlines, asks_next_row, asks_local_rules, if_asked};
+ghost use Rattle.docket_history.specs.Histories.{parties_of_case, entries_of_case, deadlines_of_case, deadlines_from, items_of, local_rule_in};
+ghost use Rattle.docket_decisions.specs.Outcomes.{is_label_taken, is_row_standing};
+ghost use Rattle.docket_decisions.specs.Tables.{case_in, case_deadlines, deadlines_in, view_in};
+ghost use Rattle.docket_history.specs.Views.{deadline_at, deadline_of, is_served_among, named_in, rule_name_asked};
+ghost use Rattle.docket_history.specs.declared.view.UnderKey.TheVariants.{Same};
+ghost use Rattle.docket_wire.specs.Valid.{IsCommand};
+ghost use Rattle.docket_wire.specs.Writing.{canonical};
+ghost use Rattle.docket_tables.specs.Asking.{OnlyAsks};
+ghost use Rattle.docket_tables.specs.AnyRows.{HasReceipt};
+ghost use Rattle.docket_tables.specs.Layouts.{Rows};
+ghost use Rattle.docket_tables.specs.Readings.{Reads};
+ghost use Rattle.docket_tables.specs.Stands.{HoldsRows};
+
+use crate::gathering::{items_of, with_acts};
+use docket_command::{Action, Command, LocalRule};
+use docket_history::{
+    Acts, CalendarItem, CaseView, DeadlineView, StandingCalendar, View, asks_cases, asks_deadlines,
+    asks_entries, asks_local_rules, asks_next_row, asks_parties, case_named, deadline_named,
+    is_served_among, rule_name_asked,
+};
+use docket_tables::{
+    ReadFault, acts_of_case, acts_of_deadline, calendar, cases, count_deadlines, count_entries,
+    count_local_rules, count_parties, court, deadline, deadlines, is_label_taken, is_row_standing,
+    local_rule, under_key,
+};
+use sqlite::{Alter, Connection};
+use std::alloc::Global;
+
+/// How many cases there are, if the action asks.
+fn cases_if_asked<S: Alter>(conn: &mut Connection<S>, action: &Action) -> Result<u32, ReadFault>
+    ensures read { Reads S.Store conn.old conn.new result (λ _ t found. found ≡ if_asked (asks_cases action.now) (length t.cases)) }
+    ensures only { OnlyAsks S.Store conn.old conn.new result }
+{
+    if !asks_cases(action) {
+        return Ok(0);
+    }
+    cases(conn)
+}
+
+/// The number of the next calendar row, if the action asks.
+fn next_row_if_asked<S: Alter>(
+    conn: &mut Connection<S>,
+    alloc: Global,
+    action: &Action,
+) -> Result<u64, ReadFault>
+    ensures read { Reads S.Store conn.old conn.new result (λ _ t found. found ≡ if_asked (asks_next_row action.now) t.next_row) }
+    ensures only { OnlyAsks S.Store conn.old conn.new result }
+{
+    if !asks_next_row(action) {
+        return Ok(0);
+    }
+    Ok(court(conn, alloc)?.next_row)
+}
+
+/// Whether the label of the case that the action opens is in use.
+fn is_asked_label_taken<S: Alter>(
+    conn: &mut Connection<S>,
+    action: &Action,
+) -> Result<bool, ReadFault>
+    ensures read { Reads S.Store conn.old conn.new result (λ _ t found. found ≡ is_label_taken action.now t.cases) }
+    ensures only { OnlyAsks S.Store conn.old conn.new result }
+{
+    match action {
+        Action::OpenCase(a) => is_label_taken(conn, a.label.as_str()),
+        _ => Ok(false),
+    }
+}
+
+fn is_asked_row_standing<S: Alter>(
+    conn: &mut Connection<S>,
+    action: &Action,
+) -> Result<bool, ReadFault>
+    ensures read { Reads S.Store conn.old conn.new result (λ _ t found. found ≡ is_row_standing action.now t.calendar) }
+    ensures only { OnlyAsks S.Store conn.old conn.new result }
+{
+    match action {
+        Action::WithdrawCalendar(a) => is_row_standing(conn, a.row),
+        _ => Ok(false),
+    }
+}
+
+/// The items of the calendar, in the order of the numbers of their rows.
+pub(crate) fn calendar_items<S: Alter>(
+    conn: &mut Connection<S>,
+    alloc: Global,
+) -> Result<Vec<CalendarItem>, ReadFault>
+    ensures read { Reads S.Store conn.old conn.new result (λ _ t found. found.items ≡ items_of t.calendar) }
+    ensures only { OnlyAsks S.Store conn.old conn.new result }
+{
+    let rows = calendar(conn, alloc)?;
+    Ok(items_of(alloc, rows.as_slice())?)
+}
+
+/// The deadlines of a case, each with its acts.
+fn deadline_views<S: Alter>(
+    conn: &mut Connection<S>,
+    alloc: Global,
+    case: u32,
+) -> Result<Vec<DeadlineView>, ReadFault>
+    ensures read { Reads S.Store conn.old conn.new result (λ _ t found. found.items ≡ deadlines_from case 1 t.acts (deadlines_of_case case t.deadlines)) }
+    ensures only { OnlyAsks S.Store conn.old conn.new result }
+{
+    let rows = deadlines(conn, alloc, case)?;
+    let acts = acts_of_case(conn, alloc, case)?;
+    Ok(with_acts(alloc, rows.as_slice(), acts.as_slice())?)
+}
+
+fn is_among(number: u32, count: u32) -> bool
+    ensures { result ≡ (nat_le 1 number && nat_le number count) }
+{
+    1 <= number && number <= count
+}
+
+/// The deadline of a number, from 1, of a case, with its acts.
+pub(crate) fn deadline_view<S: Alter>(
+    conn: &mut Connection<S>,
+    alloc: Global,
+    case: u32,
+    number: u32,
+) -> Result<Option<DeadlineView>, ReadFault>
+    ensures read { Reads S.Store conn.old conn.new result (λ _ t found. found ≡ deadline_at (deadlines_in t case) number) }
+    ensures only { OnlyAsks S.Store conn.old conn.new result }
+{
+    let Some(row) = deadline(conn, alloc, case, number)? else {
+        return Ok(None);
+    };
+    let acts = acts_of_deadline(conn, alloc, case, number)?;
+    Ok(Some(DeadlineView {
+        party: row.party,
+        rule: row.rule,
+        initial: row.initial,
+        acts: Acts::new(acts),
+    }))
+}
+
+/// The deadline that an action names, in a case.
+fn deadline_asked<S: Alter>(
+    conn: &mut Connection<S>,
+    alloc: Global,
+    case: u32,
+    action: &Action,
+) -> Result<Option<DeadlineView>, ReadFault>
+    ensures read { Reads S.Store conn.old conn.new result (λ _ t found. found ≡ deadline_of (deadlines_in t case) action.now) }
+    ensures only { OnlyAsks S.Store conn.old conn.new result }
+{
+    match deadline_named(action) {
+        Some(number) => deadline_view(conn, alloc, case, number),
+        None => Ok(None),
+    }
+}
+
+/// How many parties a case has, if the action asks.
+fn parties_if_asked<S: Alter>(
+    conn: &mut Connection<S>,
+    case: u32,
+    action: &Action,
+) -> Result<u32, ReadFault>
+    ensures read { Reads S.Store conn.old conn.new result (λ _ t found. found ≡ if_asked (asks_parties action.now) (length (parties_of_case case t.parties))) }
+    ensures only { OnlyAsks S.Store conn.old conn.new result }
+{
+    if !asks_parties(action) {
+        return Ok(0);
+    }
+    count_parties(conn, case)
+}
+
+/// How many entries a case has, if the action asks.
+fn entries_if_asked<S: Alter>(
+    conn: &mut Connection<S>,
+    case: u32,
+    action: &Action,
+) -> Result<u32, ReadFault>
+    ensures read { Reads S.Store conn.old conn.new result (λ _ t found. found ≡ if_asked (asks_entries action.now) (length (entries_of_case case t.entries))) }
+    ensures only { OnlyAsks S.Store conn.old conn.new result }
+{
+    if !asks_entries(action) {
+        return Ok(0);
+    }
+    count_entries(conn, case)
+}
+
+/// How many deadlines a case has, if the action asks.
+fn deadlines_if_asked<S: Alter>(
+    conn: &mut Connection<S>,
+    case: u32,
+    action: &Action,
+) -> Result<u32, ReadFault>
+    ensures read { Reads S.Store conn.old conn.new result (λ _ t found. found ≡ if_asked (asks_deadlines action.now) (length (deadlines_of_case case t.deadlines))) }
+    ensures only { OnlyAsks S.Store conn.old conn.new result }
+{
+    if !asks_deadlines(action) {
+        return Ok(0);
+    }
+    count_deadlines(conn, case)
+}
+
+/// Whether the party that an action serves with a summons, or whose waiver it files, has an initial
+/// deadline that is not vacated. No other action has a deadline looked at.
+fn is_served<S: Alter>(
+    conn: &mut Connection<S>,
+    alloc: Global,
+    case: u32,
+    action: &Action,
+) -> Result<bool, ReadFault>
+    ensures read { Reads S.Store conn.old conn.new result (λ _ t found. found ≡ is_served_among (deadlines_in t case) action.now) }
+    ensures only { OnlyAsks S.Store conn.old conn.new result }
+{
+    match action {
+        Action::ServeSummons(_) | Action::FileWaiver(_) => {}
+        _ => return Ok(false),
+    }
+    let deadlines = deadline_views(conn, alloc, case)?;
+    Ok(is_served_among(deadlines.as_slice(), action))
+}
+
+/// The case of a number, if there is one, as it is shown about an action.
+fn case_view<S: Alter>(
+    conn: &mut Connection<S>,
+    alloc: Global,
+    number: u32,
+    action: &Action,
+) -> Result<Option<CaseView>, ReadFault>
+    ensures read { Reads S.Store conn.old conn.new result (λ _ t found. found ≡ case_in t action.now number) }
+    ensures only { OnlyAsks S.Store conn.old conn.new result }
+{
+    let count = cases(conn)?;
+    if !is_among(number, count) {
+        return Ok(None);
+    }
+    let parties = parties_if_asked(conn, number, action)?;
+    let entries = entries_if_asked(conn, number, action)?;
+    let deadlines = deadlines_if_asked(conn, number, action)?;
+    let named = deadline_asked(conn, alloc, number, action)?;
+    let is_served = is_served(conn, alloc, number, action)?;
+    Ok(Some(CaseView {
+        number,
+        parties,
+        entries,
+        deadlines,
+        named,
+        is_served,
+    }))
+}
+
+fn case_asked<S: Alter>(
+    conn: &mut Connection<S>,
+    alloc: Global,
+    action: &Action,
+) -> Result<Option<CaseView>, ReadFault>
+    ensures read { Reads S.Store conn.old conn.new result (λ _ t found. found ≡ option_and_then (case_in t action.now) (case_named action.now)) }
+    ensures only { OnlyAsks S.Store conn.old conn.new result }
+{
+    match case_named(action) {
+        Some(number) => case_view(conn, alloc, number, action),
+        None => Ok(None),
+    }
+}
+
+/// The local rule that an action asks about, the case that it names being shown.
+fn local_rule_asked<S: Alter>(
+    conn: &mut Connection<S>,
+    alloc: Global,
+    case: &Option<CaseView>,
+    action: &Action,
+) -> Result<Option<LocalRule>, ReadFault>
+    ensures read { Reads S.Store conn.old conn.new result (λ _ t found. found ≡ option_and_then (local_rule_in t.local_rules) (rule_name_asked (named_in case.now) action.now)) }
+    ensures only { OnlyAsks S.Store conn.old conn.new result }
+{
+    match rule_name_asked(case, action) {
+        Some(name) => local_rule(conn, alloc, name.as_str()),
+        None => Ok(None),
+    }
+}
+
+/// How many local rules there are, if the action asks.
+fn local_rules_if_asked<S: Alter>(
+    conn: &mut Connection<S>,
+    action: &Action,
+) -> Result<u32, ReadFault>
+    ensures read { Reads S.Store conn.old conn.new result (λ _ t found. found ≡ if_asked (asks_local_rules action.now) (length t.local_rules)) }
+    ensures only { OnlyAsks S.Store conn.old conn.new result }
+{
+    if !asks_local_rules(action) {
+        return Ok(0);
+    }
+    count_local_rules(conn)
+}
+
+/// The deadlines of the case of a number, if there is one, each with its acts.
+pub(crate) fn case_deadlines<S: Alter>(
+    conn: &mut Connection<S>,
+    alloc: Global,
+    number: u32,
+) -> Result<Option<Vec<DeadlineView>>, ReadFault>
+    ensures read { Reads S.Store conn.old conn.new result (λ _ t found. option_map (λ deadlines. deadlines.items) found ≡ case_deadlines t number) }
+    ensures only { OnlyAsks S.Store conn.old conn.new result }
+{
+    let count = cases(conn)?;
+    if !is_among(number, count) {
+        return Ok(None);
+    }
+    Ok(Some(deadline_views(conn, alloc, number)?))
+}
+
+/// What a docket's tables show about a command, beside the calendar, which the caller gives. `body` is
+/// the canonical text of the command.
+pub(crate) fn view<S: Alter>(
+    conn: &mut Connection<S>,
+    alloc: Global,
+    command: &Command,
+    body: &str,
+    calendar: StandingCalendar,
+) -> Result<View, ReadFault>
+    requires body { body.now ≡ canonical command.now }
+    requires lawful { IsCommand command.now }
+    ensures read { Reads S.Store conn.old conn.new result (λ _ t found. found ≡ record (view_in t command.now) { calendar = calendar }) }
+    ensures kept { (rows : Rows) → HoldsRows S.Store conn.old rows → HasCleanDisk (state S.Store conn.new)
+        → IfOk result (λ view. (reply : Reply) → view.under_key ≡ Same reply → HasReceipt command.now reply rows) }
+    ensures only { OnlyAsks S.Store conn.old conn.new result }
+{
+    let action = &command.action;
+    let under_key = under_key(conn, command, body)?;
+    let cases = cases_if_asked(conn, action)?;
+    let label_taken = is_asked_label_taken(conn, action)?;
+    let case = case_asked(conn, alloc, action)?;
+    let row_stands = is_asked_row_standing(conn, action)?;
+    let next_row = next_row_if_asked(conn, alloc, action)?;
+    let local = local_rule_asked(conn, alloc, &case, action)?;
+    let local_rules = local_rules_if_asked(conn, action)?;
+    Ok(View {
+        under_key,
+        cases,
+        label_taken,
+        case,
+        row_stands,
+        calendar,
+        next_row,
+        local,
+        local_rules,
+    })
+}
