@@ -15,8 +15,10 @@ use Rattle.docket_applying.specs.Dockets.{Docket as Stored}
 use Rattle.docket_applying.specs.declared.fault.Fault.{Fault}
 use Rattle.docket_applying.specs.declared.fault.Fault.TheVariants.{Refused, NoMemory, StoreFailed, Closed, Damaged}
 use Rattle.docket_wire.specs.Texts.{reply_text}
-use Rattle.command_lines.specs.Ending.{FailsAt, StandsAs}
-use Rattle.command_lines.specs.Lines.{Docket, answer_text, docket_with, is_refused, IsSaid}
+use Rattle.docket_applying.specs.CourtDockets.{StandsAs}
+use Rattle.command_lines.specs.Ending.{FailsAt}
+use Rattle.docket_applying.specs.CourtDockets.{CourtDocket as Docket}
+use Rattle.command_lines.specs.Lines.{answer_text, docket_with, is_refused, IsSaid}
 
 -- its text, and whether it is a refusal
 pub said_is : (said : Result Reply Refusal) (answer : Answer) → IsSaid said answer → (reply_text said ≡ answer_text answer) × (is_err said ≡ is_refused answer)

@@ -5,8 +5,10 @@ ghost use Rattle.sqlite.specs.State.{HasCleanDisk};
 ghost use Rattle.docket_decisions.specs.Outcomes.{outcome};
 ghost use Rattle.docket_wire.specs.Texts.{fault_text};
 ghost use Rattle.docket_applying.specs.AnyRows.{WritesAtMostOne};
-ghost use Rattle.command_lines.specs.Ending.{StandsAs, FailsAt};
-ghost use Rattle.command_lines.specs.Lines.{Docket as Told, IsSaid, docket_with};
+ghost use Rattle.docket_applying.specs.CourtDockets.{StandsAs};
+ghost use Rattle.command_lines.specs.Ending.{FailsAt};
+ghost use Rattle.docket_applying.specs.CourtDockets.{CourtDocket as Told};
+ghost use Rattle.command_lines.specs.Lines.{IsSaid, docket_with};
 
 use docket_command::{Command, Refusal, Reply};
 use docket_store::{Docket, Fault};
@@ -107,8 +109,10 @@ impl<S: Alter> Answerer for Clerk<S> {
     ghost use Rattle.sqlite.specs.Held.{state};
     ghost use Rattle.sqlite.specs.State.{HasCleanDisk};
     ghost use Rattle.docket_applying.specs.AnyRows.{WritesAtMostOne};
-    ghost use Rattle.command_lines.specs.Ending.{StandsAs, FailsAt};
-    ghost use Rattle.command_lines.specs.Lines.{Docket, judged, judged_long};
+    ghost use Rattle.docket_applying.specs.CourtDockets.{StandsAs};
+    ghost use Rattle.command_lines.specs.Ending.{FailsAt};
+    ghost use Rattle.docket_applying.specs.CourtDockets.{CourtDocket as Docket};
+    ghost use Rattle.command_lines.specs.Lines.{line_answer, long_line_answer};
 
     type Fault = Fault;
 
@@ -131,9 +135,9 @@ impl<S: Alter> Answerer for Clerk<S> {
 
     ghost Steps = { λ before next. WritesAtMostOne S.Store before next };
 
-    ghost judge = { judged };
+    ghost answer_to = { line_answer };
 
-    ghost judge_long = { judged_long };
+    ghost too_long = { long_line_answer };
 
     fn answer(&mut self, line: &[u8], out: &mut Vec<u8>) -> Result<bool, Fault> {
         match read_command(self.alloc, line) {

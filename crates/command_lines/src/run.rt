@@ -9,9 +9,11 @@ ghost use Rattle.line_io.specs.Report.{TellsAll};
 ghost use Rattle.line_io.specs.Steps.{Reaches};
 ghost use Rattle.docket_applying.specs.AnyRows.{WritesAtMostOne};
 ghost use Rattle.docket_applying.specs.declared.fault.Fault.TheVariants as fault;
-ghost use Rattle.command_lines.specs.Ending.{StandsAs, Leaves};
+ghost use Rattle.docket_applying.specs.CourtDockets.{StandsAs};
+ghost use Rattle.command_lines.specs.Ending.{Leaves};
 ghost use Rattle.command_lines.specs.declared.fault.RunFault.TheVariants as run;
-ghost use Rattle.command_lines.specs.Lines.{Docket, run_text, line_judged};
+ghost use Rattle.docket_applying.specs.CourtDockets.{CourtDocket as Docket};
+ghost use Rattle.command_lines.specs.Lines.{run_text, answer_to_line};
 
 use crate::clerk::Clerk;
 use crate::fault::RunFault;
@@ -37,7 +39,7 @@ pub fn command_run<R: Read, W: Write, S: Alter>(
 ) -> Result<CountEnd, RunFault>
     ensures whole { IfOk result (λ end. (docket : Docket) → StandsAs S.Store clerk.old docket
         → HasCleanDisk (state S.Store clerk.new.conn) → IfSome (R.remaining reader.old) (λ input.
-        TellsAll line_judged (StandsAs S.Store clerk.new) docket (lines_of input) (W.contents writer.old) (W.contents writer.new) end)) }
+        TellsAll answer_to_line (StandsAs S.Store clerk.new) docket (lines_of input) (W.contents writer.old) (W.contents writer.new) end)) }
     ensures trust { HasCleanDisk (state S.Store clerk.new.conn) → HasCleanDisk (state S.Store clerk.old.conn) }
     ensures front { OnErr result ((docket : Docket) → StandsAs S.Store clerk.old docket
         → HasCleanDisk (state S.Store clerk.new.conn) → IfSome (R.remaining reader.old) (λ input.
@@ -45,7 +47,7 @@ pub fn command_run<R: Read, W: Write, S: Alter>(
     // The docket stands for the lines answered, and at most for one line more.
     ensures left { IfErr result (λ fault. (docket : Docket) → StandsAs S.Store clerk.old docket
         → HasCleanDisk (state S.Store clerk.new.conn) → IfSome (R.remaining reader.old) (λ input.
-        BreaksOff line_judged (Leaves S.Store clerk.new fault) 0 docket (lines_of input)
+        BreaksOff answer_to_line (Leaves S.Store clerk.new fault) 0 docket (lines_of input)
         (W.contents writer.old) (W.contents writer.new))) }
     // Whatever docket it was: each line wrote nothing, or one command whole, with its receipt.
     ensures steps { Reaches (WritesAtMostOne S.Store) clerk.old clerk.new }

@@ -13,7 +13,7 @@ use Rattle.court_days.specs.Timely.{closing}
 use Rattle.court_days.specs.declared.calendar.Direction.{Direction}
 use Rattle.court_rules.specs.Ends.{end_by_rule}
 use Rattle.court_days.specs.declared.calendar.DayKind.{DayKind}
-use Rattle.line_io.specs.Report.{Judged}
+use Rattle.line_io.specs.Report.{LineAnswer}
 use Rattle.count_lines.specs.Requests.{request_of}
 use Rattle.count_lines.specs.declared.request.Request.{Request}
 use Rattle.count_lines.specs.declared.request.Request.TheVariants.{Enter, Span, Short, Zone, CountDays, CountMonths, CountHours, ByRule, Closing}
@@ -111,13 +111,13 @@ counts_as_bad Bad = true
 counts_as_bad _ = false
 
 -- an outcome as the engine of lines reports it: each answer is a line
-abbrev pub reported : Outcome → Judged CourtState
+abbrev pub reported : Outcome → LineAnswer CourtState
 reported (answer, after) =
     record { text = answer_text answer ++ 10 ∷ []; bad = counts_as_bad answer; after = after }
 
-abbrev pub judged : CourtState → List ℕ → Judged CourtState
-judged state line = reported (outcome state line)
+abbrev pub line_answer : CourtState → List ℕ → LineAnswer CourtState
+line_answer state line = reported (outcome state line)
 
 -- a line of over 256 bytes
-abbrev pub judged_long : CourtState → Judged CourtState
-judged_long state = reported (Bad, state)
+abbrev pub long_line_answer : CourtState → LineAnswer CourtState
+long_line_answer state = reported (Bad, state)

@@ -32,7 +32,7 @@ pub struct Counter {
 
 impl Answerer for Counter {
     ghost use Rattle.std.specs.Prelude.{◌≡◌, ⊤};
-    ghost use Rattle.count_lines.specs.Answers.{CourtState, state_of, judged, judged_long};
+    ghost use Rattle.count_lines.specs.Answers.{CourtState, state_of, line_answer, long_line_answer};
 
     type Fault = AllocError;
 
@@ -55,9 +55,9 @@ impl Answerer for Counter {
 
     ghost Steps = { λ _ _. ⊤ };
 
-    ghost judge = { judged };
+    ghost answer_to = { line_answer };
 
-    ghost judge_long = { judged_long };
+    ghost too_long = { long_line_answer };
 
     fn answer(&mut self, line: &[u8], out: &mut Vec<u8>) -> Result<bool, AllocError> {
         let answer = self.answer_to(line)?;

@@ -1,8 +1,8 @@
 -- Where a deadline stands, and until when.
 use Rattle.std.specs.Prelude.{◌≡◌, ℕ, ◌+◌, ◌*◌, ◌≤◌, Bool, true, is_some, List, [], ◌∷◌, pos}
 use Rattle.std.specs.List.{list_all}
-use Rattle.civil_time.specs.LocalTime.{local_day, seconds}
-use Rattle.civil_time.specs.Zone.{ZoneRules}
+use Rattle.court_days.specs.LocalTime.{local_day, seconds}
+use Rattle.court_days.specs.Zone.{ZoneRules}
 use Rattle.court_days.specs.Calendar.{Entered}
 use Rattle.court_days.specs.Ends.{end_of_days}
 use Rattle.court_days.specs.HourEnds.{end_of_hours}

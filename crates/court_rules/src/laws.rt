@@ -1,7 +1,7 @@
 //! What the names and the chains of acts of specs/ say, with nothing to run.
 ghost use Rattle.std.specs.Prelude.{◌≡◌, ◌<◌, List, [], ◌∷◌, ◌++◌, length, ℕ, true, Some, None};
 ghost use Rattle.court_rules.specs.Methods.{method_name, method_named};
-ghost use Rattle.civil_time.specs.Zone.{ZoneRules};
+ghost use Rattle.court_days.specs.Zone.{ZoneRules};
 ghost use Rattle.court_days.specs.Calendar.{Entered};
 ghost use Rattle.court_rules.specs.Acts.{is_within, phase_through, acts_ok};
 ghost use Rattle.court_rules.specs.Standings.{begins_on_entered_day, AreActs, standing, standing_after, phase_of, may_come, may_begin};

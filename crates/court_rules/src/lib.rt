@@ -14,6 +14,7 @@ mod table;
 mod text;
 
 pub use act::{Act, DayPeriod, HourPeriod, MotionKind, Standing, Start};
+pub use court_days::{DayKind, Direction, Way};
 pub use deadline_rule::DeadlineRule;
 pub use laws::{
     acts_go_on, deadline_rules_read_back, method_names_read_back, rule_names_read_back,

@@ -1,6 +1,6 @@
 //! When a deadline is due: where it stands by its acts, and until when.
 ghost use Rattle.std.specs.Prelude.{◌≡◌, ℕ, ◌+◌, ◌*◌, ◌≤◌, true};
-ghost use Rattle.civil_time.specs.LocalTime.{local_day, seconds};
+ghost use Rattle.court_days.specs.LocalTime.{local_day, seconds};
 ghost use Rattle.court_days.specs.Hours.{IsNearEntered};
 ghost use Rattle.court_days.specs.Court.{zone_of};
 ghost use Rattle.court_rules.specs.Acts.{is_start, is_within};

@@ -104,22 +104,22 @@ fn day_of(alloc: Global, n: u32, row: &ByteRecord) -> Result<NewDay, CsvFault>
     requires { n ≤ 1000 }
     ensures { GivesRow result (row_at n (fields_of row.now)) }
 {
-    let kind = text_at(row, 0)
+    let kind = text_field(row, 0)
         .and_then(DayKind::from_word)
         .ok_or(CsvFault::BadRow(n))?;
-    let day = day_at(row, 1).ok_or(CsvFault::BadRow(n))?;
-    let name = text_at(row, 2).ok_or(CsvFault::BadRow(n))?;
+    let day = day_field(row, 1).ok_or(CsvFault::BadRow(n))?;
+    let name = text_field(row, 2).ok_or(CsvFault::BadRow(n))?;
     let name = Text::from_str(alloc, name)?;
     Ok(NewDay { kind, day, name })
 }
 
-fn day_at(row: &ByteRecord, i: usize) -> Option<Day>
+fn day_field(row: &ByteRecord, i: usize) -> Option<Day>
     ensures { result ≡ option_and_then day_of_text (field_at (fields_of row.now) i) }
 {
     read_day(row.get(i)?)
 }
 
-fn text_at(row: &ByteRecord, i: usize) -> Option<&str>
+fn text_field(row: &ByteRecord, i: usize) -> Option<&str>
     ensures { option_map (λ s. s.now) result ≡ option_and_then text_of (field_at (fields_of row.now) i) }
 {
     text_in(row.get(i)?)

@@ -17,3 +17,5 @@ pub mod ViewLemmas
 pub mod WholeLemmas
 pub mod WriteLemmas
 pub mod WritingCauses
+-- lemmas on the receipts of histories, for the crates above
+pub use Rattle.docket_orderly.proofs.ReceiptLemmas

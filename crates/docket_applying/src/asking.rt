@@ -12,10 +12,10 @@ ghost use Rattle.docket_applying.specs.Writing.{IfClean};
 ghost use Rattle.docket_applying.specs.Applying.{Stands, Asks};
 ghost use Rattle.docket_applying.specs.Dockets.{serving};
 
+use crate::cases::case_record;
 use crate::fault::{Fault, read_fault};
 use crate::judging::take_calendar;
-use crate::lines::lines_told;
-use crate::telling::case_record;
+use crate::stored_lines::lines_told;
 use crate::viewing::case_deadlines;
 use court_days::{Calendar, Court};
 use docket_decisions::StoredEnd;

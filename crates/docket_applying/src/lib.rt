@@ -14,24 +14,24 @@
 
 mod applying;
 mod asking;
+mod cases;
 mod due;
 mod explaining;
 mod fault;
 mod gathering;
 mod judging;
-mod lines;
 mod listing;
 mod settling;
 mod sound;
-mod telling;
+mod stored_lines;
 mod viewing;
 mod writing;
 
 pub use applying::apply_to;
 pub use asking::lines_numbered;
+pub use cases::case_record;
 pub use due::due_days;
 pub use explaining::{Grounds, grounds_of};
 pub use fault::{Fault, closing_error, read_fault};
 pub use listing::{CalendarEnd, ListingEnd, breaking_error, list_days};
-pub use telling::case_record;
 pub use writing::write;

@@ -22,10 +22,10 @@ use Rattle.docket_columns.proofs.RuleLemmas.{name_utf8}
 use Rattle.docket_text.specs.CalendarOrder.{calendar_cmp, IsCalendar}
 use Rattle.docket_text.proofs.OrderLemmas.{calendar_cmp_total}
 use Rattle.docket_wire.specs.Valid.{IsCommand}
-use Rattle.docket_orderly.specs.Orderly.{IsCourtSettings}
-use Rattle.docket_orderly.proofs.DeadlineLemmas.{no_deadlines}
-use Rattle.docket_orderly.proofs.DocketLemmas.{orderly}
-use Rattle.docket_orderly.proofs.EndLemmas.{ends_due}
+use Rattle.docket_tables.specs.Orderly.{IsCourtSettings}
+use Rattle.docket_tables.proofs.Orderly.DeadlineLemmas.{no_deadlines}
+use Rattle.docket_tables.proofs.Orderly.DocketLemmas.{orderly}
+use Rattle.docket_tables.proofs.Orderly.EndLemmas.{ends_due}
 use Rattle.docket_calendar.specs.Calendar.{row_where, due_of, running, due_within, calendar_rows}
 use Rattle.docket_calendar.specs.DueCells.{IsDue}
 use Rattle.docket_calendar.proofs.DueLemmas.{HaveEnds, all_two, few_listed}

@@ -13,12 +13,12 @@ use Rattle.sqlite.specs.Given.{IsPlain}
 use Rattle.sqlite_tied.specs.Compute.{everything}
 use Rattle.docket_calendar.specs.Asked.{command_of}
 use Rattle.docket_tables.specs.Schema.{docket_schema, places_of}
-use Rattle.docket_tables.specs.declared.table.Table.TheVariants.{Deadlines, Ends}
+use Rattle.docket_tables.specs.declared.table.Table.TheVariants.{Deadlines, Due}
 use Rattle.docket_calendar.specs.Question.{question}
 
 -- where the columns of the two tables stand in a stored row
 abbrev pub due_places : List ℕ
-due_places = places_of Ends
+due_places = places_of Due
 
 abbrev pub deadline_places : List ℕ
 deadline_places = places_of Deadlines

@@ -6,7 +6,7 @@ use Rattle.std.proofs.lemmas.List.Filters.{length-filter_both}
 use Rattle.sqlite_keyed.proofs.ListLemmas.{all_weaker}
 use Rattle.docket_history.specs.Histories.{deadlines_of_case}
 use Rattle.docket_history.specs.declared.row.DeadlineRow.{DeadlineRow}
-use Rattle.docket_orderly.specs.Orderly.{RunsFrom}
+use Rattle.docket_tables.specs.Orderly.{RunsFrom}
 
 -- it has the case and the number of that deadline
 abbrev pub is_same : DeadlineRow → DeadlineRow → Bool

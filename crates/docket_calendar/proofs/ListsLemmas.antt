@@ -22,7 +22,7 @@ use Rattle.docket_text.specs.CalendarOrder.{IsCalendar}
 use Rattle.docket_tables.specs.Contents.{rows_in}
 use Rattle.docket_tables.specs.Layouts.{AreRows}
 use Rattle.docket_tables.specs.Schema.{docket_schema}
-use Rattle.docket_tables.specs.declared.table.Table.TheVariants.{Deadlines, Ends}
+use Rattle.docket_tables.specs.declared.table.Table.TheVariants.{Deadlines, Due}
 use Rattle.docket_calendar.specs.Asked.{Lists, command_of}
 use Rattle.docket_calendar.specs.Calendar.{due_within}
 use Rattle.docket_calendar.specs.DueCells.{due_cells, IsDue}
@@ -59,7 +59,7 @@ lists court from to t listed db can schema holds calendar =
     let due = listed_due court from to t can listed calendar in
     let rows_are : (rows : List Row) → IsAnswerAs Null asked (overlay db.trees []) params rows → rows ≡ map (due_cells court) listed = λ rows a.
     let it = answered db.trees params rows a in
-    ∥∥₁_elim (holds Ends) (rows_set _ _) (λ ds. ∥∥₁_elim (holds Deadlines) (rows_set _ _) (λ ls.
+    ∥∥₁_elim (holds Due) (rows_set _ _) (λ ds. ∥∥₁_elim (holds Deadlines) (rows_set _ _) (λ ls.
     the_rows court from to t listed _ _ rows can.apart can.ends (λ k d inside. (due k d inside).0) ds.0 ls.0 calendar it.same it.sorted)) in
     record {
       command = Select (record { lets = []; body = asked }) names;

@@ -12,7 +12,7 @@ use Rattle.court_days.specs.Court.{CourtSettings}
 use Rattle.docket_history.specs.declared.record.DueLine.{DueLine}
 use Rattle.docket_text.specs.CalendarTexts.{calendar_line, calendar_text, end_columns, end_line}
 use Rattle.line_io.specs.Output.{HasFront}
-use Rattle.docket_calendar.specs.Sending.{text_at, IsAt, opening, sent, HasBegun}
+use Rattle.docket_calendar.specs.Sending.{line_text, IsAt, opening, sent, HasBegun}
 
 -- a line is not empty
 line_some : (text part rest : List ℕ) → text ≡ part ++ (32 ∷ rest) → 1 ≤ length text
@@ -62,7 +62,7 @@ module _ (court : CourtSettings) (listed : List DueLine) where
       ∙ ap (λ (k : ℕ). flat_map (calendar_line court) (take n listed) ++ end_line k) is
 
   -- what follows the first n lines begins with the text at n
-  pub follows : (n : ℕ) (due : Option DueLine) → IsAt listed n due → (rest : List ℕ) × (calendar_text court listed ≡ lines n ++ (text_at court n due ++ rest))
+  pub follows : (n : ℕ) (due : Option DueLine) → IsAt listed n due → (rest : List ℕ) × (calendar_text court listed ≡ lines n ++ (line_text court n due ++ rest))
   follows n (Some due) at = line_follows n due at
   follows n None at = ([], end_follows n at ∙ ap (λ (t : List ℕ). lines n ++ t) (sym (append-nil (end_line n))))
 
@@ -106,10 +106,10 @@ module _ (court : CourtSettings) (listed : List DueLine) where
 
     -- a front of what goes out next did
     pub stopped_in : (n : ℕ) (due : Option DueLine) (u v w : Option (List ℕ)) → IsAt listed n due → Appends u v (sent court front listed n)
-        → HasFront v w (opening front n ++ text_at court n due) → HasFront u w (front ++ calendar_text court listed)
+        → HasFront v w (opening front n ++ line_text court n due) → HasFront u w (front ++ calendar_text court listed)
     stopped_in n due u v w at h k =
         let rest = follows n due at in
-        let part = text_at court n due in
+        let part = line_text court n due in
         let before = sent court front listed n in
         record {
           out = before ++ k.out;

@@ -16,7 +16,7 @@ use Rattle.line_io.specs.Output.{HasFront}
 use Rattle.docket_tables.specs.declared.fault.ReadFault.{ReadFault}
 use Rattle.docket_tables.specs.declared.fault.ReadFault.TheVariants.{Store, NoMemory, Damaged}
 use Rattle.docket_calendar.specs.Asked.{Lists, Gave, Next, RemainsAt, RemainsAfter}
-use Rattle.docket_calendar.specs.Sending.{text_at, IsAt, opening, sent, LeavesAt, Remains, RemainsStopped, SendsNext, SendsAll}
+use Rattle.docket_calendar.specs.Sending.{line_text, IsAt, opening, sent, LeavesAt, Remains, RemainsStopped, SendsNext, SendsAll}
 use Rattle.docket_calendar.specs.Stops.{IsStopAt}
 use Rattle.docket_calendar.specs.declared.stop.Stop.{Stop}
 use Rattle.docket_calendar.specs.declared.stop.Stop.TheVariants.{NotBegun, Broken, WriteFailed}
@@ -79,7 +79,7 @@ module _ {S : Type 0} (g : Ghosts S) (court : CourtSettings) (listed : List DueL
   next_same sql params n old new None next = (next.0, next.1)
 
   pub write_stops : (sql : List ℕ) (params : Row) (n : ℕ) (front text : List ℕ) (u v : Option (List ℕ)) (old new : Held S) (due : Option DueLine) (res : Result Bool Stop) (stop : Stop)
-      → Next g sql params court listed n old new (Ok due) → text ≡ text_at court n due → HasFront u v (front ++ text) → stop ≡ WriteFailed → IsErrAnd res (λ f. f ≡ stop)
+      → Next g sql params court listed n old new (Ok due) → text ≡ line_text court n due → HasFront u v (front ++ text) → stop ≡ WriteFailed → IsErrAnd res (λ f. f ≡ stop)
       → SendsNext g sql params court listed n front u v old new res
   write_stops sql params n front text u v old new due (Ok x) stop next is h failed same = absurd same
   write_stops sql params n front text u v old new due (Err f) stop next is h failed same =
@@ -88,7 +88,7 @@ module _ {S : Type 0} (g : Ghosts S) (court : CourtSettings) (listed : List DueL
 
   -- and one that was
   pub line_sent : (sql : List ℕ) (params : Row) (n : ℕ) (front text : List ℕ) (u v : Option (List ℕ)) (old new : Held S) (due : Option DueLine) (more : Bool)
-      → Next g sql params court listed n old new (Ok due) → text ≡ text_at court n due → Appends u v (front ++ text) → more ≡ is_some due
+      → Next g sql params court listed n old new (Ok due) → text ≡ line_text court n due → Appends u v (front ++ text) → more ≡ is_some due
       → SendsNext g sql params court listed n front u v old new (Ok more)
   line_sent sql params n front text u v old new (Some d) more next is went some =
       subst (λ b. SendsNext g sql params court listed n front u v old new (Ok b)) (sym some) (next.0, (d, next.1, subst (λ (t : List ℕ). Appends u v (front ++ t)) is went), next.2)

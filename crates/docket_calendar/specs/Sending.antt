@@ -17,9 +17,9 @@ use Rattle.docket_calendar.specs.declared.stop.Stop.{Stop}
 use Rattle.docket_calendar.specs.declared.stop.Stop.TheVariants.{NotBegun, Broken, WriteFailed}
 
 -- the line of a deadline; where there is none, the last line
-abbrev pub text_at : CourtSettings → ℕ → Option DueLine → List ℕ
-text_at court lines (Some due) = calendar_line court due
-text_at court lines None = end_line lines
+abbrev pub line_text : CourtSettings → ℕ → Option DueLine → List ℕ
+line_text court lines (Some due) = calendar_line court due
+line_text court lines None = end_line lines
 
 -- the deadline of line n; none where there are n
 abbrev pub IsAt : List DueLine → ℕ → Option DueLine → Type 0
@@ -55,7 +55,7 @@ module _ {S : Type 0} (g : Ghosts S) where
   SendsNext sql params court listed n front before after old new (Err (NotBegun fault)) = (n ≡ 0) × Appends before after [] × LeavesAt old new fault
   SendsNext sql params court listed n front before after old new (Err (Broken fault)) = (1 ≤ n) × Appends before after [] × LeavesAt old new fault
   SendsNext sql params court listed n front before after old new (Err WriteFailed) =
-      IsUnchanged (state g old) (state g new) × ((due : Option DueLine) × IsAt listed n due × HasFront before after (front ++ text_at court n due))
+      IsUnchanged (state g old) (state g new) × ((due : Option DueLine) × IsAt listed n due × HasFront before after (front ++ line_text court n due))
 
   -- the text went out whole behind the front, with so many lines; or nothing did, or a front of it all
   abbrev pub SendsAll : CourtSettings → List DueLine → List ℕ → Option (List ℕ) → Option (List ℕ) → Held S → Held S → Result ℕ Stop → Type 0

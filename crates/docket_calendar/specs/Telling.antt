@@ -12,7 +12,7 @@ use Rattle.docket_decisions.specs.Tables.{rows_of}
 use Rattle.docket_wire.specs.Valid.{IsCommand}
 use Rattle.docket_tables.specs.Contents.{rows_in}
 use Rattle.docket_tables.specs.Layouts.{Rows}
-use Rattle.docket_orderly.specs.Orderly.{IsCourtSettings}
+use Rattle.docket_tables.specs.Orderly.{IsCourtSettings}
 use Rattle.docket_tables.specs.Readings.{Fails, StaysAt}
 use Rattle.docket_tables.specs.Stands.{HoldsRows}
 use Rattle.line_io.specs.Output.{HasFront}

@@ -22,8 +22,8 @@ ghost use Rattle.docket_calendar.specs.Question.{question, days_asked};
 ghost use Rattle.docket_calendar.specs.Stops.{IsUnderWay};
 ghost use Rattle.docket_calendar.specs.Telling.{IsHistoryOf, history_rows};
 
+use crate::calendar_of_days::question;
 use crate::next::next_due;
-use crate::telling::question;
 use court_days::{Calendar, Court, Day};
 use docket_history::DueLine;
 use docket_tables::ReadFault;

@@ -7,15 +7,15 @@
 //! `due_rows` gives the same deadlines as values.
 #![tactic(auto)]
 
+mod calendar_of_days;
 mod gathering;
 mod laws;
 mod next;
 mod row;
 mod sending;
 mod stop;
-mod telling;
 
+pub use calendar_of_days::calendar;
 pub use gathering::due_rows;
 pub use laws::calendars_are_in_order;
 pub use stop::Stop;
-pub use telling::calendar;

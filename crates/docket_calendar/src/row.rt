@@ -1,33 +1,14 @@
 //! Deadlines whose time runs, as rows of SQL.
-ghost use Rattle.std.specs.Prelude.{◌≡◌, ℕ, List, Some, option_copied, IfOk};
-ghost use Rattle.std.specs.Str.{IsUtf8};
-ghost use Rattle.sqlite_value.specs.Order.{column};
-ghost use Rattle.sqlite_value.specs.declared.value.Value.TheVariants.{Text as Words};
+ghost use Rattle.std.specs.Prelude.{◌≡◌, Some, IfOk};
 ghost use Rattle.docket_history.specs.declared.record.DueLine.{DueLine as Due};
 ghost use Rattle.docket_calendar.specs.DueCells.{due_cells, IsDue};
 
 use court_days::{Calendar, Court};
-use docket_columns::{count_at, end_time_at};
+use docket_columns::{count_at, end_time_at, text_at};
 use docket_command::Text;
 use docket_history::{DueLine, close_of_end};
 use sqlite::Row;
-use sqlite::types::ValueRef;
 use std::alloc::{AllocError, Global};
-
-fn bytes_at(row: &Row, at: usize) -> Option<&[u8]>
-    ensures { (t : List ℕ) → column row.now at ≡ Words t → option_copied result ≡ Some t }
-{
-    match row.get_ref(at) {
-        Ok(ValueRef::Text(text)) => Some(text),
-        _ => None,
-    }
-}
-
-fn text_at(row: &Row, at: usize) -> Option<&str>
-    ensures { (t : List ℕ) → IsUtf8 t → column row.now at ≡ Words t → option_copied result ≡ Some t }
-{
-    str::from_utf8(bytes_at(row, at)?).ok()
-}
 
 /// The deadline of a row: day, moment, case, deadline, party, rule. When the clerk's office closes on
 /// its last day is told by the calendar. `None`: it is none.

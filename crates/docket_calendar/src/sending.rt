@@ -5,7 +5,7 @@ ghost use Rattle.sqlite.specs.Held.{state};
 ghost use Rattle.sqlite.specs.State.{HasCleanDisk, Survives};
 ghost use Rattle.line_io.specs.Output.{HasFront};
 ghost use Rattle.docket_calendar.specs.Asked.{OfAsked};
-ghost use Rattle.docket_calendar.specs.Sending.{opening, text_at, Remains, SendsNext, SendsAll};
+ghost use Rattle.docket_calendar.specs.Sending.{opening, line_text, Remains, SendsNext, SendsAll};
 ghost use Rattle.docket_calendar.specs.Stops.{IsCausedStop, IsStopAt, IsUnderWay};
 
 use crate::next::next_due;
@@ -38,13 +38,13 @@ fn opening(front: &[u8], lines: u32) -> &[u8]
 }
 
 /// The line of a deadline; where there is none, the last line.
-fn text_at(
+fn line_text(
     alloc: Global,
     court: &Court,
     lines: u32,
     due: Option<DueLine>,
 ) -> Result<String, AllocError>
-    ensures { IfOk result (λ text. string_bytes text ≡ text_at court.now lines due) }
+    ensures { IfOk result (λ text. string_bytes text ≡ line_text court.now lines due) }
 {
     match due {
         Some(due) => calendar_line(alloc, court, &due),
@@ -92,7 +92,7 @@ fn send_next<S: Alter, W: Write>(
         Err(fault) => return Err(stop_at(lines, fault)),
     };
     let more = due.is_some();
-    let text = match text_at(alloc, court, lines, due) {
+    let text = match line_text(alloc, court, lines, due) {
         Ok(text) => text,
         Err(_) => return Err(stop_at(lines, ReadFault::NoMemory)),
     };

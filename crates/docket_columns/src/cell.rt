@@ -72,7 +72,7 @@ pub(crate) fn flag_at(row: &Row, at: usize) -> Option<bool>
 }
 
 /// The text in a column.
-pub(crate) fn text_at(row: &Row, at: usize) -> Option<&str>
+pub fn text_at(row: &Row, at: usize) -> Option<&str>
     ensures reads { (t : List ℕ) → IsUtf8 t → column row.now at ≡ Text t → option_copied result ≡ Some t }
     ensures utf8 { IfSome result (λ text. IsUtf8 text.now) }
     ensures sound { IfSome result (λ text. column row.now at ≡ Text text.now) }

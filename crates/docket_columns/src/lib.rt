@@ -20,7 +20,7 @@ mod version;
 pub use act::{act_of, act_values};
 pub use calendar::{calendar_of, calendar_values};
 pub use cases::{case_of, case_values};
-pub use cell::count_at;
+pub use cell::{count_at, text_at};
 pub use court::{CourtRow, court_of, court_values, has_word, is_of_version};
 pub use deadline::{deadline_of, deadline_values};
 pub use end::{end_of, end_time_at, end_values};

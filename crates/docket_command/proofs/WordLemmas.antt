@@ -2,8 +2,8 @@
 use Rattle.std.proofs.Common.{◌≡◌, Some, refl}
 use Rattle.docket_command.specs.declared.choice.Sovereign.{Sovereign}
 use Rattle.docket_command.specs.declared.choice.Sovereign.TheVariants as sovereign
-use Rattle.court_days.specs.declared.calendar.DayKind.{DayKind}
-use Rattle.court_days.specs.declared.calendar.DayKind.TheVariants as day_kind
+use Rattle.court_rules.specs.calendar.DayKind.{DayKind}
+use Rattle.court_rules.specs.calendar.DayKind.TheVariants as day_kind
 use Rattle.docket_command.specs.declared.choice.Role.{Role}
 use Rattle.docket_command.specs.declared.choice.Role.TheVariants as role
 use Rattle.docket_command.specs.declared.choice.Basis.{Basis}
@@ -14,10 +14,10 @@ use Rattle.docket_command.specs.declared.choice.Ruling.{Ruling}
 use Rattle.docket_command.specs.declared.choice.Ruling.TheVariants as ruling
 use Rattle.docket_command.specs.declared.choice.PeriodUnit.{PeriodUnit}
 use Rattle.docket_command.specs.declared.choice.PeriodUnit.TheVariants as period_unit
-use Rattle.court_days.specs.declared.calendar.Direction.{Direction}
-use Rattle.court_days.specs.declared.calendar.Direction.TheVariants as direction
-use Rattle.court_days.specs.declared.filing.Way.{Way}
-use Rattle.court_days.specs.declared.filing.Way.TheVariants as way
+use Rattle.court_rules.specs.calendar.Direction.{Direction}
+use Rattle.court_rules.specs.calendar.Direction.TheVariants as direction
+use Rattle.court_rules.specs.filing.Way.{Way}
+use Rattle.court_rules.specs.filing.Way.TheVariants as way
 use Rattle.court_rules.specs.declared.act.MotionKind.{MotionKind}
 use Rattle.court_rules.specs.declared.act.MotionKind.TheVariants as motion_kind
 use Rattle.docket_command.specs.declared.choice.ServiceMethod.{ServiceMethod}

@@ -1,6 +1,6 @@
 -- What a word of a command is to the rules of counting.
-use Rattle.court_days.specs.declared.calendar.DayKind.{DayKind}
-use Rattle.court_days.specs.declared.calendar.DayKind.TheVariants as day_kind
+use Rattle.court_rules.specs.calendar.DayKind.{DayKind}
+use Rattle.court_rules.specs.calendar.DayKind.TheVariants as day_kind
 use Rattle.court_rules.specs.declared.method.Method.{Method}
 use Rattle.court_rules.specs.declared.method.Method.TheVariants as method
 use Rattle.docket_command.specs.declared.choice.Sovereign.{Sovereign}

@@ -1,7 +1,7 @@
 -- The types of fields, and the values of each.
 use Rattle.std.specs.Prelude.{ℕ, List, Bool}
-use Rattle.court_days.specs.declared.calendar.Direction as direction
-use Rattle.court_days.specs.declared.filing.Way as way
+use Rattle.court_rules.specs.calendar.Direction as direction
+use Rattle.court_rules.specs.filing.Way as way
 use Rattle.court_rules.specs.declared.act.MotionKind as motion_kind
 use Rattle.docket_command.specs.declared.choice.Basis as basis
 use Rattle.docket_command.specs.declared.choice.PeriodUnit as period_unit

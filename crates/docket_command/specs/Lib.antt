@@ -7,3 +7,9 @@ pub mod Refusals
 pub mod Sameness
 pub mod Schema
 pub mod Words
+-- of the crates below, what contracts above speak of
+pub use Rattle.court_rules.specs.Acts
+pub use Rattle.court_rules.specs.LocalRules
+pub use Rattle.court_rules.specs.calendar
+pub use Rattle.court_rules.specs.filing
+pub use Rattle.court_rules.specs.declared.act

@@ -1,6 +1,5 @@
 //! What a command chooses among, where the rules of counting have no type for it.
-use court_days::DayKind;
-use court_rules::Method;
+use court_rules::{DayKind, Method};
 
 /// Who declared a legal holiday: the President or Congress (Fed. R. Civ. P. 6(a)(6)(B)), or the state
 /// (6(a)(6)(C)).

@@ -1,8 +1,8 @@
 //! What the functions of specs/ say, with nothing to run.
 ghost use Rattle.std.specs.Prelude.{◌≡◌, ◌↔◌, Some, true};
-ghost use Rattle.court_days.specs.declared.calendar.DayKind.{DayKind};
-ghost use Rattle.court_days.specs.declared.calendar.Direction.{Direction};
-ghost use Rattle.court_days.specs.declared.filing.Way.{Way};
+ghost use Rattle.court_rules.specs.calendar.DayKind.{DayKind};
+ghost use Rattle.court_rules.specs.calendar.Direction.{Direction};
+ghost use Rattle.court_rules.specs.filing.Way.{Way};
 ghost use Rattle.docket_command.specs.declared.choice.Basis.{Basis};
 ghost use Rattle.docket_command.specs.declared.choice.PeriodUnit.{PeriodUnit};
 ghost use Rattle.docket_command.specs.declared.choice.PleadingKind.{PleadingKind};

@@ -27,7 +27,7 @@ pub use case_action::{AddParty, FileEntry, OpenCase};
 pub use choice::{Basis, PeriodUnit, PleadingKind, Role, Ruling, ServiceMethod, Sovereign};
 pub use command::{Action, Command};
 pub use command_name::CommandName;
-pub use court_rules::{LocalRule, Text};
+pub use court_rules::{LocalRule, Text, is_local_name};
 pub use field::Field;
 pub use laws::{commands_are_told_apart, words_are_read_back};
 pub use local_action::LocalPeriod;

@@ -4,8 +4,7 @@ ghost use Rattle.docket_command.specs.Sameness.{is_same_new_day, are_same_new_da
 
 use crate::same::is_same_word;
 use civil_time::Day;
-use court_days::DayKind;
-use court_rules::Text;
+use court_rules::{DayKind, Text};
 use std::alloc::{AllocError, Global};
 use std::marker::Model;
 

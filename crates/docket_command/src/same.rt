@@ -7,7 +7,7 @@ use crate::choice::ServiceMethod;
 use crate::moment::Moment;
 use crate::word::Word;
 use civil_time::Day;
-use court_days::Direction;
+use court_rules::Direction;
 
 pub(crate) fn is_same_word<W: Word>(a: W, b: W) -> bool
     ensures { result ≡ is_same_word W.word_of a b }

@@ -9,7 +9,7 @@ use crate::same::{
     is_same_day, is_same_direction, is_same_method, is_same_moment, is_same_number, is_same_word,
 };
 use civil_time::Day;
-use court_days::{Direction, Way};
+use court_rules::{Direction, Way};
 
 /// A hearing is noticed (Fed. R. Civ. P. 6(c)).
 #[derive(Clone, Copy, PartialEq)]

@@ -2,8 +2,7 @@
 ghost use Rattle.std.specs.Prelude.{◌≡◌, List, ℕ, Option};
 
 use crate::choice::{Basis, PeriodUnit, PleadingKind, Role, Ruling, ServiceMethod, Sovereign};
-use court_days::{DayKind, Direction, Way};
-use court_rules::MotionKind;
+use court_rules::{DayKind, Direction, MotionKind, Way};
 
 /// A type each of whose values has a word.
 pub trait Word: Copy {

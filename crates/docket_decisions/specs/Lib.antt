@@ -5,3 +5,5 @@ pub mod EndRows
 pub mod Outcomes
 pub mod Refusals
 pub mod Tables
+-- of the crates below, what contracts above speak of
+pub use Rattle.docket_values.specs.Values

@@ -2,8 +2,8 @@
 use Rattle.std.proofs.Common.{◌≡◌, ◌∙◌, ℕ, Bool, true, false, cond, not, List, [], ◌∷◌, ◌++◌, pos, refl, sym, ap}
 use Rattle.std.specs.FinMap as map
 use Rattle.std.specs.Ordering.{nat_cmp}
-use Rattle.civil_time.specs.LocalTime.{seconds}
-use Rattle.civil_time.specs.Zone.{ZoneRules}
+use Rattle.court_days.specs.LocalTime.{seconds}
+use Rattle.court_days.specs.Zone.{ZoneRules}
 use Rattle.court_days.specs.Calendar.{Entered, no_days, with_day, with_span, with_short}
 use Rattle.court_days.specs.Ends.{first_open, last_business, open_from, end_from, end_of_days}
 use Rattle.court_days.specs.HourEnds.{is_accessible, is_accessible_day, forward_end, moved_end, end_of_hours}

@@ -6,18 +6,18 @@
 //! of a case's deadlines.
 #![tactic(auto)]
 
-mod calendar;
+mod calendar_rows;
+mod case_lines;
 mod item;
-mod lines;
 mod record;
 mod row;
 mod standing;
 mod subject;
 mod view;
 
-pub use calendar::{calendar_of, rows_added};
+pub use calendar_rows::{calendar_of, rows_added};
+pub use case_lines::{close_of_end, close_of_standing, deadline_lines, line_of};
 pub use item::{CalendarItem, NewRow, stands_among};
-pub use lines::{close_of_end, close_of_standing, deadline_lines, line_of};
 pub use record::{CaseRecord, DeadlineLine, DueLine, EntryRows, PartyRows};
 pub use row::{
     ActRow, CalendarRow, CaseRow, Change, DeadlineRow, EntryRow, LocalRuleRow, NewDeadline,

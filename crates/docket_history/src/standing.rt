@@ -3,7 +3,7 @@ ghost use Rattle.std.specs.Prelude.{◌≡◌, ◌≤◌, [], length, IfOk};
 ghost use Rattle.std.specs.List.{All};
 ghost use Rattle.docket_history.specs.CalendarItems.{calendar_of, IsEnteredItem};
 
-use crate::calendar::calendar_of;
+use crate::calendar_rows::calendar_of;
 use crate::item::CalendarItem;
 use court_days::Calendar;
 use std::alloc::{AllocError, Global};

@@ -19,6 +19,7 @@ mod sending;
 mod serve;
 
 pub use copies::send_copy;
+pub use docket_store::Docket;
 pub use fault::ServeFault;
 pub use http_request::Routes;
 pub use sending::Served;

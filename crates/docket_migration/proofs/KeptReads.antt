@@ -32,7 +32,7 @@ use Rattle.docket_scan.specs.Shapes.{columns_of, has_columns, has_table, name_of
 use Rattle.docket_tables.specs.Texts.{scan_text}
 use Rattle.docket_scan.proofs.AnySchema.{understood_plain}
 use Rattle.docket_tables.specs.declared.table.Table.{Table}
-use Rattle.docket_tables.specs.declared.table.Table.TheVariants.{Court, Calendar, Cases, Parties, Entries, Deadlines, Acts, Receipts, Ends, ShortDays, LocalRules}
+use Rattle.docket_tables.specs.declared.table.Table.TheVariants.{Court, Calendar, Cases, Parties, Entries, Deadlines, Acts, Receipts, Due, ShortDays, LocalRules}
 use Rattle.docket_migration.proofs.ListLemmas.{found_on, placed, placed_on, slice_has, slice_on}
 use Rattle.docket_migration.proofs.PlainSelects.{Enough, IsPlain, ShowsColumns, SortsColumns, accepts_same, answers_kept, budget_after, IsWhole, find_by_tree, one_answer, outs, query_of_it, read_is}
 use Rattle.docket_migration.proofs.ScanTexts.{IsTextOf, OnParsed, ShowsNames, SortsNames, key_width, keys_of, text_is}
@@ -154,10 +154,10 @@ there_on t a b more on it = record {
 -- what the statement of the table means under the schema
 
 few_columns : (t : Table) → length (columns_of t) ≤ 9
-few_columns t = elim t as (λ t. length (columns_of t) ≤ 9) [ Court ↦ omega arith | Calendar ↦ omega arith | Cases ↦ omega arith | Parties ↦ omega arith | Entries ↦ omega arith | Deadlines ↦ omega arith | Acts ↦ omega arith | Receipts ↦ omega arith | Ends ↦ omega arith | ShortDays ↦ omega arith | LocalRules ↦ omega arith ]
+few_columns t = elim t as (λ t. length (columns_of t) ≤ 9) [ Court ↦ omega arith | Calendar ↦ omega arith | Cases ↦ omega arith | Parties ↦ omega arith | Entries ↦ omega arith | Deadlines ↦ omega arith | Acts ↦ omega arith | Receipts ↦ omega arith | Due ↦ omega arith | ShortDays ↦ omega arith | LocalRules ↦ omega arith ]
 
 few_keys : (t : Table) → length (keys_of t) ≤ 9
-few_keys t = elim t as (λ t. length (keys_of t) ≤ 9) [ Court ↦ omega arith | Calendar ↦ omega arith | Cases ↦ omega arith | Parties ↦ omega arith | Entries ↦ omega arith | Deadlines ↦ omega arith | Acts ↦ omega arith | Receipts ↦ omega arith | Ends ↦ omega arith | ShortDays ↦ omega arith | LocalRules ↦ omega arith ]
+few_keys t = elim t as (λ t. length (keys_of t) ≤ 9) [ Court ↦ omega arith | Calendar ↦ omega arith | Cases ↦ omega arith | Parties ↦ omega arith | Entries ↦ omega arith | Deadlines ↦ omega arith | Acts ↦ omega arith | Receipts ↦ omega arith | Due ↦ omega arith | ShortDays ↦ omega arith | LocalRules ↦ omega arith ]
 
 -- a query is the command of its text, and nothing comes back beside its rows
 flattened : (p : Parsed) (r : Checked Command) → and_then (and_then (and_then r (λ k. Ok (k, None))) (λ found. Ok ([], found))) (λ plan. Ok (with_command p plan)) ≡ and_then r (λ k. Ok (with_command p ([], (k, None))))

@@ -21,7 +21,7 @@ use Rattle.docket_tables.specs.Layouts.{Rows, AreRowsIn}
 use Rattle.docket_tables.specs.Schema.{schema_of}
 use Rattle.docket_tables.specs.Stands.{HoldsRowsIn, IsSettledIn, MakesNothing}
 use Rattle.docket_tables.specs.declared.table.Table.{Table}
-use Rattle.docket_tables.specs.declared.table.Table.TheVariants.{Court, Calendar, Cases, Parties, Entries, Deadlines, Acts, Receipts, Ends, ShortDays, LocalRules}
+use Rattle.docket_tables.specs.declared.table.Table.TheVariants.{Court, Calendar, Cases, Parties, Entries, Deadlines, Acts, Receipts, Due, ShortDays, LocalRules}
 use Rattle.docket_scan.specs.Dockets.{IsFoundOfDocket, MayHold}
 use Rattle.docket_scan.specs.Finding.{AreSound, HasCourt, IsTaken}
 use Rattle.docket_scan.specs.Judging.{Holds, Rows as SoundRows, cells_in}
@@ -105,7 +105,7 @@ module _ (old new : State) (gone : HasGone old new) (court : CourtSettings) (row
           has_court = has_court_still n was.has_court;
           only = tt;
           named = inr ([], gone.empty LocalRules (λ none. none), was.named);
-          behind = (holds_still n Calendar (λ e. cc) b.0, (holds_still n Cases (λ e. cc) b.1.0, (holds_still n Parties (λ e. cc) b.1.1.0, (holds_still n Entries (λ e. cc) b.1.1.1.0, (holds_still n Deadlines (λ e. cc) b.1.1.1.1.0, (holds_still n Acts (λ e. cc) b.1.1.1.1.1.0, (holds_still n Receipts (λ e. cc) b.1.1.1.1.1.1.0, (holds_still n Ends (λ e. cc) b.1.1.1.1.1.1.1.0, (no_short_days new court n rows was.only.0 b.0.2 (new_one ShortDays (λ none. none)) (gone.empty ShortDays (λ none. none)), (no_local_rules new court n rows was.only.1 (new_one LocalRules (λ none. none)) (gone.empty LocalRules (λ none. none)), tt))))))))));
+          behind = (holds_still n Calendar (λ e. cc) b.0, (holds_still n Cases (λ e. cc) b.1.0, (holds_still n Parties (λ e. cc) b.1.1.0, (holds_still n Entries (λ e. cc) b.1.1.1.0, (holds_still n Deadlines (λ e. cc) b.1.1.1.1.0, (holds_still n Acts (λ e. cc) b.1.1.1.1.1.0, (holds_still n Receipts (λ e. cc) b.1.1.1.1.1.1.0, (holds_still n Due (λ e. cc) b.1.1.1.1.1.1.1.0, (no_short_days new court n rows was.only.0 b.0.2 (new_one ShortDays (λ none. none)) (gone.empty ShortDays (λ none. none)), (no_local_rules new court n rows was.only.1 (new_one LocalRules (λ none. none)) (gone.empty LocalRules (λ none. none)), tt))))))))));
         };
         next_row = refl;
         live = gone.tables.live;

@@ -17,7 +17,7 @@ use Rattle.docket_scan.specs.Shapes.{columns_of, name_of}
 use Rattle.docket_tables.specs.Tables.{layout_of}
 use Rattle.docket_tables.specs.Texts.{scan_text}
 use Rattle.docket_tables.specs.declared.table.Table.{Table}
-use Rattle.docket_tables.specs.declared.table.Table.TheVariants.{Court, Calendar, Cases, Parties, Entries, Deadlines, Acts, Receipts, Ends, ShortDays, LocalRules}
+use Rattle.docket_tables.specs.declared.table.Table.TheVariants.{Court, Calendar, Cases, Parties, Entries, Deadlines, Acts, Receipts, Due, ShortDays, LocalRules}
 
 abbrev Name : Type 0
 Name = List ℕ
@@ -189,7 +189,7 @@ text_is Receipts = (
     orders = ((refl, refl, refl), tt);
   },
 )
-text_is Ends = (
+text_is Due = (
   refl,
   record {
     select = _;

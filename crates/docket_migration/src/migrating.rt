@@ -8,7 +8,7 @@ ghost use Rattle.docket_history.specs.Histories.{History};
 ghost use Rattle.docket_decisions.specs.Outcomes.{IsHistory};
 ghost use Rattle.docket_decisions.specs.Tables.{rows_of};
 ghost use Rattle.docket_wire.specs.Valid.{IsCommand};
-ghost use Rattle.docket_orderly.specs.Orderly.{IsCourtSettings};
+ghost use Rattle.docket_tables.specs.Orderly.{IsCourtSettings};
 ghost use Rattle.sqlite.specs.Held.{state};
 ghost use Rattle.sqlite.specs.State.{HasCleanDisk};
 ghost use Rattle.sqlite.specs.Tree.{Trees};

@@ -23,7 +23,7 @@ use Rattle.docket_decisions.specs.Outcomes.{IsHistory, accepted, answer_kept, an
 use Rattle.docket_decisions.specs.Refusals.{on, on_value, first_some, is_reused, exists_already, is_full, count_added, wants_statement, refusal_of, state_refusals}
 use Rattle.docket_history.specs.Times.{standing_shown, is_in_time}
 use Rattle.docket_history.specs.Views.{parties_in, entries_in, count_deadlines}
-use Rattle.docket_values.specs.Values.{is_word, first_bad, bad_values}
+use Rattle.docket_decisions.specs.Values.{is_word, first_bad, bad_values}
 use Rattle.docket_history.specs.declared.item.CalendarItem.TheVariants.{Span, Short}
 use Rattle.docket_history.specs.declared.row.Receipt.{Receipt}
 use Rattle.docket_history.specs.declared.view.UnderKey.{UnderKey}

@@ -24,7 +24,7 @@ use Rattle.docket_columns.specs.declared.version.Version.{Version}
 use Rattle.docket_columns.specs.declared.version.Version.TheVariants.{First, Second}
 use Rattle.docket_wire.specs.Valid.{IsCommand}
 use Rattle.docket_tables.specs.Contents.{rows_by}
-use Rattle.docket_orderly.specs.Orderly.{IsCourtSettings}
+use Rattle.docket_tables.specs.Orderly.{IsCourtSettings}
 use Rattle.docket_tables.specs.Schema.{schema_of}
 use Rattle.docket_tables.specs.Stands.{ShowsIn, HoldsRowsIn}
 use Rattle.docket_tables.specs.Tables.{IsTableOf}
@@ -34,7 +34,7 @@ use Rattle.docket_scan.specs.Courts.{AreMarked, IsCourtsRow, IsRowOf}
 use Rattle.docket_scan.specs.Dockets.{IsFoundOfDocket, IsToldOfDocket, MayHold}
 use Rattle.docket_scan.specs.Finding.{HasCourtRow, IsDamaged, IsFirstUnsound, IsEmpty, IsNoDocket, IsOfOtherVersion, IsTaken}
 use Rattle.docket_scan.specs.Holdings.{holdings_of}
-use Rattle.docket_scan.specs.Judging.{IsBehindCourt, JudgedAll, StaysOpen}
+use Rattle.docket_scan.specs.Judging.{IsBehindCourt, AreJudged, StaysOpen}
 use Rattle.docket_scan.specs.Scans.{AreRowsOf}
 use Rattle.docket_scan.specs.Shapes.{has_named, has_table}
 use Rattle.docket_scan.specs.declared.fault.AdoptFault.{AdoptFault}
@@ -137,9 +137,9 @@ docket_found g v old new result clean taken court h settings zone is commands on
     shows = shows_docket v s court h (holds.1 clean).shows
 
     told : (found : CourtSettings) (next : ℕ) (judged : Result Holdings AdoptFault) → found ≡ court → next ≡ next_row h
-        → JudgedAll v found next s new (λ r held. held ≡ holdings_of found r) judged → IsToldOfDocket court h judged
+        → AreJudged v found next s new (λ r held. held ≡ holdings_of found r) judged → IsToldOfDocket court h judged
     told found next judged same numbered it =
-        docket_told g v old new court next judged clean (subst (λ k. JudgedAll v k next s new (λ r held. held ≡ holdings_of k r) judged) same it) h is commands only numbered holds
+        docket_told g v old new court next judged clean (subst (λ k. AreJudged v k next s new (λ r held. held ≡ holdings_of k r) judged) same it) h is commands only numbered holds
 
     behind : (t : Table) → IsBehindCourt v t → StaysOpen s new → IsFirstUnsound v t s → ⊥
     behind t is_behind stays (found, next, (row, has, row_of), r, named, all, unsound) =

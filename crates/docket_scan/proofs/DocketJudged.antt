@@ -39,7 +39,7 @@ use Rattle.docket_tables.specs.declared.table.Table.{Table}
 use Rattle.docket_tables.specs.declared.table.Table.TheVariants as table
 use Rattle.docket_scan.specs.Dockets.{IsToldOfDocket, MayHold, holdings_in, standings_in}
 use Rattle.docket_scan.specs.Holdings.{holdings_of}
-use Rattle.docket_scan.specs.Judging.{AreRowsFor, IsBehindCourt, IsUnsoundIn, AreSoundBy, Holds, Rows, JudgedAll, before, behind_court, cells_in, knows_later_kinds}
+use Rattle.docket_scan.specs.Judging.{AreRowsFor, IsBehindCourt, IsUnsoundIn, AreSoundBy, Holds, Rows, AreJudged, before, behind_court, cells_in, knows_later_kinds}
 use Rattle.docket_scan.specs.Names.{AreNamesFor, names_of}
 use Rattle.docket_scan.specs.Records.{receipt_cells as stored_receipt_cells, ArePartyRows, AreEntryRows, AreDeadlineRows, AreActRows}
 use Rattle.docket_scan.specs.Scans.{AreRowsOf}
@@ -158,11 +158,11 @@ module _ (v : Version) (s : State) (court : CourtSettings) (h : History) (is : I
       in_order v s all shows table.Calendar (each_has v table.Calendar tt) (map calendar_cells r.calendar) stand.0.1 (λ days.
       never_unsound v s all shows table.ShortDays has _ (short_days_sound court h is commands r.calendar days) unsound)
 
-  ends_never : Stand table.Ends → IsUnsound table.Ends → ⊥
+  ends_never : Stand table.Due → IsUnsound table.Due → ⊥
   ends_never stand unsound =
       in_order v s all shows table.Calendar (each_has v table.Calendar tt) (map calendar_cells r.calendar) stand.0.1 (λ days.
       in_order v s all shows table.Acts (each_has v table.Acts tt) (map act_cells r.acts) stand.1.1.1.1.1.0.1 (λ acts.
-      never_unsound v s all shows table.Ends (each_has v table.Ends tt) _ (ends_sound court h is commands r.calendar r.acts days acts) unsound))
+      never_unsound v s all shows table.Due (each_has v table.Due tt) _ (ends_sound court h is commands r.calendar r.acts days acts) unsound))
 
   never : (t : Table) → IsTableOf v t → AreNamesFor v s r.names → Stand t → IsUnsound t → ⊥
   never table.Court has named stand = never_unsound v s all shows table.Court has _ (λ found sorted. tt)
@@ -173,7 +173,7 @@ module _ (v : Version) (s : State) (court : CourtSettings) (h : History) (is : I
   never table.Deadlines has named stand = deadlines_never named stand
   never table.Acts has named stand = acts_never stand
   never table.Receipts has named stand = never_unsound v s all shows table.Receipts has _ (receipts_sound court h is commands (knows_later_kinds v) (kinds_known v h may))
-  never table.Ends has named stand = ends_never stand
+  never table.Due has named stand = ends_never stand
   never table.ShortDays has named stand = short_days_never has stand
   never table.LocalRules has named stand = never_unsound v s all shows table.LocalRules has _ (local_rules_sound court h is commands)
 
@@ -228,7 +228,7 @@ front Second Is all = all_front Is (before table.ShortDays) (table.ShortDays ∷
 
 -- so the docket of a history is told to hold what the history has, and no table of it to be unsound
 pub docket_told : {S : Type 0} (g : Ghosts S) (v : Version) (old : Held S) (new : State) (court : CourtSettings) (next : ℕ) (result : Result Holdings AdoptFault)
-    → HasCleanDisk (state g old) → JudgedAll v court next (state g old) new (λ r held. held ≡ holdings_of court r) result
+    → HasCleanDisk (state g old) → AreJudged v court next (state g old) new (λ r held. held ≡ holdings_of court r) result
     → (h : History) → IsHistory court h → AllByRecursion IsCommand h → MayHold v h → next ≡ next_row h → HoldsRowsIn g v old (rows_by v court (rows_of court h))
     → IsToldOfDocket court h result
 docket_told g v old new court next result clean told h is commands may numbered holds = at result (subst (λ n. Told n result) numbered told)
@@ -237,7 +237,7 @@ docket_told g v old new court next result clean told h is commands may numbered 
     s = state g old
 
     Told : ℕ → Result Holdings AdoptFault → Type 0
-    Told n = JudgedAll v court n s new (λ r held. held ≡ holdings_of court r)
+    Told n = AreJudged v court n s new (λ r held. held ≡ holdings_of court r)
 
     shows : ShowsIn v s (rows_of_docket v court h)
     shows = shows_docket v s court h (holds.1 clean).shows

@@ -79,5 +79,5 @@ acts_by_key a b =
 pub receipts_by_key : IsOrderOf table.Receipts receipt_cells receipt_order
 receipts_by_key a b = then-Equal _ ∙ value_cmp-Text a.command.key b.command.key
 
-pub ends_by_key : IsOrderOf table.Ends end_cells end_order
+pub ends_by_key : IsOrderOf table.Due end_cells end_order
 ends_by_key a b = two_values a.case b.case a.deadline b.deadline

@@ -35,12 +35,12 @@ use Rattle.docket_sound.proofs.SortedReceipts.{sorted_receipts}
 use Rattle.docket_sound.proofs.SortedRows.{sorted_calendar, sorted_short_days, sorted_cases, sorted_parties, party_counts, sorted_entries, sorted_deadlines, deadline_counts, sorted_local_rules}
 use Rattle.docket_tables.specs.declared.table.Table.{Table}
 use Rattle.docket_tables.specs.declared.table.Table.TheVariants as table
-use Rattle.docket_orderly.proofs.ActLemmas.{acts_held}
-use Rattle.docket_orderly.proofs.CalendarLemmas.{calendar_held, short_days_held}
-use Rattle.docket_orderly.proofs.EndLemmas.{ends_held}
-use Rattle.docket_orderly.proofs.LocalRuleLemmas.{local_rules_held}
-use Rattle.docket_orderly.proofs.ReceiptLemmas.{receipts_held}
-use Rattle.docket_orderly.proofs.RowLemmas.{cases_held, parties_held, entries_held, deadlines_held}
+use Rattle.docket_tables.proofs.Orderly.ActLemmas.{acts_held}
+use Rattle.docket_tables.proofs.Orderly.CalendarLemmas.{calendar_held, short_days_held}
+use Rattle.docket_tables.proofs.Orderly.EndLemmas.{ends_held}
+use Rattle.docket_tables.proofs.Orderly.LocalRuleLemmas.{local_rules_held}
+use Rattle.docket_tables.proofs.Orderly.ReceiptLemmas.{receipts_held}
+use Rattle.docket_tables.proofs.Orderly.RowLemmas.{cases_held, parties_held, entries_held, deadlines_held}
 use Rattle.docket_scan.specs.Records.{IsTable, IsStoredReceipt, receipt_cells as stored_receipt_cells, count_in, AreCalendarRows, AreShortDayRows, AreCaseRows, ArePartyRows, AreEntryRows, AreDeadlineRows, AreActRows, AreReceiptRows, AreEndRows, AreLocalRuleRows}
 use Rattle.docket_scan.specs.declared.receipt.StoredReceipt.{StoredReceipt}
 use Rattle.docket_scan.proofs.DocketCells.{party_keys, deadline_keys, calendar_items, calendar_numbers, act_rows_alike}
@@ -127,5 +127,5 @@ module _ (court : CourtSettings) (h : History) (is : IsHistory court h) (command
         ends_stored court h is d.0 a.0 d.2 a.2 ends order
         ∙ ap₂ (λ items rows. dues_of (zone_of court) (calendar_of items) rows) (sym (calendar_items days d.0 d.1)) (sym (act_rows_alike acts a.0 a.1))
 
-    pub ends_sound : (found : List Row) → AreSorted table.Ends (map end_cells (end_rows court (rows_of court h))) found → AreEndRows (dues_of (zone_of court) (calendar_of (items_of days)) acts) found
-    ends_sound = sound_records table.Ends IsEndRow end_cells end_order _ (end_rows court (rows_of court h)) ends_by_key (ends_held court h is commands) ends_expected
+    pub ends_sound : (found : List Row) → AreSorted table.Due (map end_cells (end_rows court (rows_of court h))) found → AreEndRows (dues_of (zone_of court) (calendar_of (items_of days)) acts) found
+    ends_sound = sound_records table.Due IsEndRow end_cells end_order _ (end_rows court (rows_of court h)) ends_by_key (ends_held court h is commands) ends_expected

@@ -17,7 +17,7 @@ use Rattle.docket_tables.specs.declared.table.Table.TheVariants as table
 use Rattle.docket_scan.specs.Courts.{IsCourtsRow, record_of}
 use Rattle.docket_scan.specs.Finding.{AreSound, HasCourt, IsDamaged, IsNotTaken, IsTaken, ReadsCourt, court_fault}
 use Rattle.docket_scan.specs.Holdings.{holdings_of}
-use Rattle.docket_scan.specs.Judging.{AreSoundBy, FailsAt, Holds, IsBehindCourt, IsUnsoundIn, JudgedAll, Rows, before, behind_court}
+use Rattle.docket_scan.specs.Judging.{AreSoundBy, FailsAt, Holds, IsBehindCourt, IsUnsoundIn, AreJudged, Rows, before, behind_court}
 use Rattle.docket_scan.specs.Names.{AreNamesFor}
 use Rattle.docket_scan.specs.Scans.{AreRowsOf, FailsToScan}
 use Rattle.docket_scan.specs.Shapes.{has_named, has_table}
@@ -66,7 +66,7 @@ module _ (first old : State) (same : IsUnchanged first old) where
     judged_fault new StoreFailed left = (stays_then first old new same left, tt)
     judged_fault new _ never = absurd never
 
-    pub judged_sound : (new : State) (found : FoundDocket) → found.court ≡ court → JudgedAll v court next old new (λ r held. held ≡ holdings_of court r) (Ok found.held) → IsTaken v first new (Ok found)
+    pub judged_sound : (new : State) (found : FoundDocket) → found.court ≡ court → AreJudged v court next old new (λ r held. held ≡ holdings_of court r) (Ok found.held) → IsTaken v first new (Ok found)
     judged_sound new found is (still, r, only, named, all, held) = (
       unchanged_then first old new same still,
       r,

@@ -17,7 +17,7 @@ use Rattle.docket_columns.specs.declared.version.Version.TheVariants.{First, Sec
 use Rattle.docket_tables.specs.Tables.{IsTableOf}
 use Rattle.docket_tables.specs.declared.table.Table.{Table}
 use Rattle.docket_tables.specs.declared.table.Table.TheVariants as table
-use Rattle.docket_scan.specs.Judging.{fault_in, IsSoundIn, IsUnsoundIn, IsTold, Judged, JudgedAll, FailsAt, Holds, IsBehindCourt, Rows, AreSoundBy, StaysOpen, before}
+use Rattle.docket_scan.specs.Judging.{fault_in, IsSoundIn, IsUnsoundIn, IsTold, IsJudged, AreJudged, FailsAt, Holds, IsBehindCourt, Rows, AreSoundBy, StaysOpen, before}
 use Rattle.docket_scan.specs.Holdings.{holdings_of}
 use Rattle.docket_scan.specs.Names.{AreNamesFor, AreNamesIn}
 use Rattle.docket_scan.specs.Reading.{AreRead, IsStill, SaysLast}
@@ -80,13 +80,13 @@ handed (Err f) fault Fails same told = subst Fails (sym same) told
 
 -- the same of what the reading of one table comes to
 pub told_on : {X : Type 0} (t : Table) (old new : State) (found : X → Type 0) (AreSound : List Row → Type 0) (r : Result X AdoptFault) (fault : AdoptFault)
-    → IsErrAnd r (λ f. f ≡ fault) → IsTold t old new AreSound fault → Judged t old new found AreSound r
+    → IsErrAnd r (λ f. f ≡ fault) → IsTold t old new AreSound fault → IsJudged t old new found AreSound r
 told_on t old new found AreSound (Ok x) fault same told = absurd same
 told_on t old new found AreSound (Err f) fault same told = subst (IsTold t old new AreSound) (sym same) told
 
 -- and of what all tables come to
 pub told_of : {X : Type 0} (v : Version) (court : CourtSettings) (next : ℕ) (old new : State) (says : Rows → X → Type 0) (r : Result X AdoptFault) (fault : AdoptFault)
-    → IsErrAnd r (λ f. f ≡ fault) → FailsAt v court next old new fault → JudgedAll v court next old new says r
+    → IsErrAnd r (λ f. f ≡ fault) → FailsAt v court next old new fault → AreJudged v court next old new says r
 told_of v court next old new says (Ok x) fault same told = absurd same
 told_of v court next old new says (Err f) fault same told = subst (FailsAt v court next old new) (sym same) told
 
@@ -149,7 +149,7 @@ module _ {S : Type 0} (g : Ghosts S) (first old : Held S) where
 
 -- behind the ends nothing is left in the first version
 pub first_judged : (v : Version) → v ≡ First → (court : CourtSettings) (next : ℕ) (first new : State) (read : LastRead) → AreRead v table.ShortDays first court next new (λ r. SaysLast court next r read)
-    → JudgedAll v court next first new (λ r held. held ≡ holdings_of court r) (Ok read.held)
+    → AreJudged v court next first new (λ r held. held ≡ holdings_of court r) (Ok read.held)
 first_judged First is court next first new read was = (was.same, was.rows, (was.said.short_days.unread, was.said.unread), was.named, was.sound, was.said.held)
 first_judged Second is court next first new read was = absurd cc
 

@@ -34,7 +34,7 @@ use Rattle.docket_scan.specs.declared.fault.AdoptFault.TheVariants.{Damaged, NoM
 use Rattle.docket_scan.specs.declared.receipt.StoredReceipt.{StoredReceipt}
 use Rattle.docket_tables.specs.Tables.{IsTableOf, layout_of, tables, tables_of}
 use Rattle.docket_tables.specs.declared.table.Table.{Table}
-use Rattle.docket_tables.specs.declared.table.Table.TheVariants.{Court, Calendar, Cases, Parties, Entries, Deadlines, Acts, Receipts, Ends, ShortDays, LocalRules}
+use Rattle.docket_tables.specs.declared.table.Table.TheVariants.{Court, Calendar, Cases, Parties, Entries, Deadlines, Acts, Receipts, Due, ShortDays, LocalRules}
 
 abbrev pub fault_in : Table → Error → AdoptFault
 fault_in t (SqlInputError why) = Damaged t
@@ -71,9 +71,9 @@ IsTold t old new AreSound StoreFailed = StaysOrRollsBack old new
 IsTold t old new AreSound _ = ⊥
 
 -- the reading of one table
-abbrev pub Judged : {X : Type 0} → Table → State → State → (X → Type 0) → (List Row → Type 0) → Result X AdoptFault → Type 0
-Judged t old new found AreSound (Ok x) = IsUnchanged old new × found x
-Judged t old new found AreSound (Err fault) = IsTold t old new AreSound fault
+abbrev pub IsJudged : {X : Type 0} → Table → State → State → (X → Type 0) → (List Row → Type 0) → Result X AdoptFault → Type 0
+IsJudged t old new found AreSound (Ok x) = IsUnchanged old new × found x
+IsJudged t old new found AreSound (Err fault) = IsTold t old new AreSound fault
 
 -- all tables
 
@@ -116,7 +116,7 @@ cells_in Entries r = map entry_cells r.entries
 cells_in Deadlines r = map deadline_cells r.deadlines
 cells_in Acts r = map act_cells r.acts
 cells_in Receipts r = map receipt_cells r.receipts
-cells_in Ends r = map end_cells r.ends
+cells_in Due r = map end_cells r.ends
 cells_in ShortDays r = map short_day_cells r.short_days
 cells_in LocalRules r = map local_rule_cells r.local_rules
 
@@ -136,7 +136,7 @@ AreSoundBy v Entries court next r = AreEntryRows (length r.cases)
 AreSoundBy v Deadlines court next r = AreDeadlineRows (length r.cases) (count_in (map party_key r.parties)) (is_one_of r.names)
 AreSoundBy v Acts court next r = AreActRows court (length r.cases) (count_in (map deadline_key r.deadlines))
 AreSoundBy v Receipts court next r = AreReceiptRows (knows_later_kinds v)
-AreSoundBy v Ends court next r = AreEndRows (dues_of (zone_of court) (calendar_of (items_of r.calendar)) r.acts)
+AreSoundBy v Due court next r = AreEndRows (dues_of (zone_of court) (calendar_of (items_of r.calendar)) r.acts)
 AreSoundBy v ShortDays court next r = AreShortDayRows court next (map (λ row. row.number) r.calendar)
 AreSoundBy v LocalRules court next r = AreLocalRuleRows
 
@@ -173,7 +173,7 @@ AreRowsFor First r = (r.short_days ≡ []) × (r.local_rules ≡ [])
 AreRowsFor Second r = Unit {0}
 
 -- all of them are sound and hold these rows, or the first that is unsound is told
-abbrev pub JudgedAll : {X : Type 0} → Version → CourtSettings → ℕ → State → State → (Rows → X → Type 0) → Result X AdoptFault → Type 0
-JudgedAll v court next old new says (Ok x) =
+abbrev pub AreJudged : {X : Type 0} → Version → CourtSettings → ℕ → State → State → (Rows → X → Type 0) → Result X AdoptFault → Type 0
+AreJudged v court next old new says (Ok x) =
     IsUnchanged old new × (r : Rows) × AreRowsFor v r × AreNamesFor v old r.names × AllByRecursion (Holds v old court next r) (behind_court v) × says r x
-JudgedAll v court next old new says (Err fault) = FailsAt v court next old new fault
+AreJudged v court next old new says (Err fault) = FailsAt v court next old new fault

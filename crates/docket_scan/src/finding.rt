@@ -11,7 +11,7 @@ ghost use Rattle.docket_decisions.specs.Tables.{rows_of};
 ghost use Rattle.docket_wire.specs.Valid.{IsCommand};
 ghost use Rattle.docket_sound.specs.Courts.{IsSoundCourt, settings_of as court_of};
 ghost use Rattle.docket_tables.specs.Contents.{rows_by};
-ghost use Rattle.docket_orderly.specs.Orderly.{IsCourtSettings};
+ghost use Rattle.docket_tables.specs.Orderly.{IsCourtSettings};
 ghost use Rattle.docket_tables.specs.Stands.{HoldsRowsIn};
 ghost use Rattle.docket_tables.specs.declared.table.Table.TheVariants as table;
 ghost use Rattle.docket_scan.specs.Causes.{IsCausedFault};

@@ -12,7 +12,7 @@ ghost use Rattle.docket_sound.specs.Dues.{dues_of};
 ghost use Rattle.docket_sound.specs.Standings.{counts_of_standings, standings_of};
 ghost use Rattle.docket_scan.specs.Causes.{IsCausedFault};
 ghost use Rattle.docket_scan.specs.Holdings.{holdings_of};
-ghost use Rattle.docket_scan.specs.Judging.{IsSoundIn, Judged, JudgedAll, knows_later_kinds};
+ghost use Rattle.docket_scan.specs.Judging.{IsSoundIn, IsJudged, AreJudged, knows_later_kinds};
 ghost use Rattle.docket_scan.specs.Reading.{ActsBefore, EndsBefore, FailsOver, HeldBefore, LastBefore, NamesBefore, ReadBefore};
 ghost use Rattle.docket_scan.specs.Records.{IsTable};
 ghost use Rattle.docket_scan.specs.Scans.{OfSoMany};
@@ -53,7 +53,7 @@ fn judge_rows<S: Alter, T: Taker, W: Watch>(
     ensures context { T.context taker.new ≡ T.context taker.old }
     ensures limit { IfOk result (λ count. count < 2 ^ 64) }
     ensures told { HasCleanDisk (state S.Store conn.new) → T.HasTaken taker.old []
-        → Judged table (state S.Store conn.old) (state S.Store conn.new)
+        → IsJudged table (state S.Store conn.old) (state S.Store conn.new)
         (λ count. IsSoundIn table (state S.Store conn.old) (OfSoMany count (T.HasTaken taker.new)))
         (T.IsSound (T.context taker.old)) result }
 {
@@ -69,7 +69,7 @@ fn judge_rows<S: Alter, T: Taker, W: Watch>(
 
 /// Has the check take the rows of its table, if the table is there. The check then, and how many rows
 /// it took.
-fn judge<S: Alter, C: RecordCheck, W: Watch>(
+fn judge_table<S: Alter, C: RecordCheck, W: Watch>(
     conn: &mut Connection<S>,
     alloc: Global,
     table: Table,
@@ -82,7 +82,7 @@ fn judge<S: Alter, C: RecordCheck, W: Watch>(
     ensures context { IfOk result (λ taken. C.context taken.0 ≡ C.context check) }
     ensures limit { IfOk result (λ taken. taken.1 < 2 ^ 64) }
     ensures told { HasCleanDisk (state S.Store conn.new) → C.HasTaken check []
-        → Judged table (state S.Store conn.old) (state S.Store conn.new)
+        → IsJudged table (state S.Store conn.old) (state S.Store conn.new)
         (λ taken. IsSoundIn table (state S.Store conn.old) (OfSoMany taken.1 (IsRead C.Record.Is C.Record.cells (C.HasTaken taken.0))))
         (IsTable C.Record.Is C.Record.cells (C.AreSound (C.context check))) result }
 {
@@ -119,7 +119,7 @@ fn judge_calendar<S: Alter, W: Watch>(
         → IfErr result (FailsOver version (state S.Store first) court next_row (state S.Store conn.new)) }
 {
     let check = CalendarCheck::new(alloc, court, next_row);
-    let (check, count) = judge(conn, alloc, Table::Calendar, check, watch)?;
+    let (check, count) = judge_table(conn, alloc, Table::Calendar, check, watch)?;
     let (court, calendar, short_days) = check.finish(alloc);
     let read = TablesRead::begin(alloc, court, calendar, short_days, names, count)?;
     Ok(read)
@@ -141,7 +141,7 @@ fn judge_cases<S: Alter, W: Watch>(
         → IfErr result (FailsOver version (state S.Store first) court next (state S.Store conn.new)) }
 {
     let check = CaseCheck::new(alloc);
-    let (check, count) = judge(conn, alloc, Table::Cases, check, watch)?;
+    let (check, count) = judge_table(conn, alloc, Table::Cases, check, watch)?;
     let held = Holdings {
         cases: count,
         ..read.held
@@ -169,7 +169,7 @@ fn judge_parties<S: Alter, W: Watch>(
         → IfErr result (FailsOver version (state S.Store first) court next (state S.Store conn.new)) }
 {
     let check = PartyCheck::new(alloc, read.cases)?;
-    let (check, count) = judge(conn, alloc, Table::Parties, check, watch)?;
+    let (check, count) = judge_table(conn, alloc, Table::Parties, check, watch)?;
     let held = Holdings {
         parties: count,
         ..read.held
@@ -197,7 +197,7 @@ fn judge_entries<S: Alter, W: Watch>(
         → IfErr result (FailsOver version (state S.Store first) court next (state S.Store conn.new)) }
 {
     let check = EntryCheck::new(alloc, read.cases)?;
-    let (_, count) = judge(conn, alloc, Table::Entries, check, watch)?;
+    let (_, count) = judge_table(conn, alloc, Table::Entries, check, watch)?;
     let held = Holdings {
         entries: count,
         ..read.held
@@ -230,7 +230,7 @@ fn judge_deadlines<S: Alter, W: Watch>(
         held,
     } = read;
     let check = DeadlineCheck::new(alloc, cases, parties, names)?;
-    let (check, count) = judge(conn, alloc, Table::Deadlines, check, watch)?;
+    let (check, count) = judge_table(conn, alloc, Table::Deadlines, check, watch)?;
     let (_, deadlines) = check.finish();
     Ok(ActsRead {
         court,
@@ -287,7 +287,7 @@ fn judge_acts<S: Alter, W: Watch>(
         held,
     } = read;
     let check = ActCheck::new(alloc, court, calendar, deadlines)?;
-    let (check, _) = judge(conn, alloc, Table::Acts, check, watch)?;
+    let (check, _) = judge_table(conn, alloc, Table::Acts, check, watch)?;
     match finish(check)? {
         Some((ends, standings)) => Ok(EndsRead {
             ends,
@@ -310,12 +310,12 @@ fn judge_receipts<S: Alter, W: Watch>(
     ensures mode { conn.old.in_transaction ≡ false → conn.new.in_transaction ≡ false }
     ensures cause { HasCleanDisk (state S.Store conn.new) → IfErr result (IsCausedFault (state S.Store conn.old) (state S.Store conn.new)) }
     ensures ok { (first : Held S) (court : CourtSettings) (next : ℕ) → EndsBefore version table.Receipts (state S.Store first) court next (state S.Store conn.old) read
-        → IfOk result (λ now. EndsBefore version table.Ends (state S.Store first) court next (state S.Store conn.new) now) }
+        → IfOk result (λ now. EndsBefore version table.Due (state S.Store first) court next (state S.Store conn.new) now) }
     ensures err { (first : Held S) (court : CourtSettings) (next : ℕ) → EndsBefore version table.Receipts (state S.Store first) court next (state S.Store conn.old) read
         → IfErr result (FailsOver version (state S.Store first) court next (state S.Store conn.new)) }
 {
     let check = ReceiptCheck::new(knows_later_kinds(version));
-    let (_, count) = judge(conn, alloc, Table::Receipts, check, watch)?;
+    let (_, count) = judge_table(conn, alloc, Table::Receipts, check, watch)?;
     let held = Holdings {
         receipts: count,
         ..read.held
@@ -324,7 +324,7 @@ fn judge_receipts<S: Alter, W: Watch>(
 }
 
 /// Judges the table of ends, the last of the first version.
-fn judge_ends<S: Alter, W: Watch>(
+fn judge_due<S: Alter, W: Watch>(
     conn: &mut Connection<S>,
     alloc: Global,
     read: EndsRead,
@@ -333,9 +333,9 @@ fn judge_ends<S: Alter, W: Watch>(
     ensures writes_nothing { Survives (state S.Store conn.old) (state S.Store conn.new) (λ _. ⊥) }
     ensures mode { conn.old.in_transaction ≡ false → conn.new.in_transaction ≡ false }
     ensures cause { HasCleanDisk (state S.Store conn.new) → IfErr result (IsCausedFault (state S.Store conn.old) (state S.Store conn.new)) }
-    ensures ok { (version : Version) (first : Held S) (court : CourtSettings) (next : ℕ) → EndsBefore version table.Ends (state S.Store first) court next (state S.Store conn.old) read
+    ensures ok { (version : Version) (first : Held S) (court : CourtSettings) (next : ℕ) → EndsBefore version table.Due (state S.Store first) court next (state S.Store conn.old) read
         → IfOk result (λ now. LastBefore version (state S.Store first) court next (state S.Store conn.new) now) }
-    ensures err { (version : Version) (first : Held S) (court : CourtSettings) (next : ℕ) → EndsBefore version table.Ends (state S.Store first) court next (state S.Store conn.old) read
+    ensures err { (version : Version) (first : Held S) (court : CourtSettings) (next : ℕ) → EndsBefore version table.Due (state S.Store first) court next (state S.Store conn.old) read
         → IfErr result (FailsOver version (state S.Store first) court next (state S.Store conn.new)) }
 {
     let EndsRead {
@@ -343,11 +343,11 @@ fn judge_ends<S: Alter, W: Watch>(
         short_days,
         held,
     } = read;
-    let (check, _) = judge(conn, alloc, Table::Ends, DueCheck::new(ends), watch)?;
+    let (check, _) = judge_table(conn, alloc, Table::Due, DueCheck::new(ends), watch)?;
     if check.is_sound() {
         Ok(LastRead { short_days, held })
     } else {
-        Err(AdoptFault::Damaged(Table::Ends))
+        Err(AdoptFault::Damaged(Table::Due))
     }
 }
 
@@ -374,7 +374,7 @@ fn judge_short_days<S: Alter, W: Watch>(
         → IfErr result (FailsOver Second (state S.Store first) court next (state S.Store conn.new)) }
 {
     let LastRead { short_days, held } = read;
-    let (_, count) = judge(conn, alloc, Table::ShortDays, short_days, watch)?;
+    let (_, count) = judge_table(conn, alloc, Table::ShortDays, short_days, watch)?;
     Ok(Holdings {
         calendar_rows: with_more(held.calendar_rows, count),
         ..held
@@ -392,10 +392,10 @@ fn judge_local_rules<S: Alter, W: Watch>(
     ensures mode { conn.old.in_transaction ≡ false → conn.new.in_transaction ≡ false }
     ensures cause { HasCleanDisk (state S.Store conn.new) → IfErr result (IsCausedFault (state S.Store conn.old) (state S.Store conn.new)) }
     ensures told { (first : Held S) (court : CourtSettings) (next : ℕ) → HeldBefore (state S.Store first) court next (state S.Store conn.old) held
-        → HasCleanDisk (state S.Store conn.new) → JudgedAll Second court next (state S.Store first) (state S.Store conn.new) (λ r held. held ≡ holdings_of court r) result }
+        → HasCleanDisk (state S.Store conn.new) → AreJudged Second court next (state S.Store first) (state S.Store conn.new) (λ r held. held ≡ holdings_of court r) result }
 {
     let check = LocalRuleCheck::new(alloc);
-    let (_, count) = judge(conn, alloc, Table::LocalRules, check, watch)?;
+    let (_, count) = judge_table(conn, alloc, Table::LocalRules, check, watch)?;
     Ok(Holdings {
         local_rules: count,
         ..held
@@ -415,7 +415,7 @@ fn judge_more<S: Alter, W: Watch>(
     ensures mode { conn.old.in_transaction ≡ false → conn.new.in_transaction ≡ false }
     ensures cause { HasCleanDisk (state S.Store conn.new) → IfErr result (IsCausedFault (state S.Store conn.old) (state S.Store conn.new)) }
     ensures told { (first : Held S) (court : CourtSettings) (next : ℕ) → LastBefore version (state S.Store first) court next (state S.Store conn.old) read
-        → HasCleanDisk (state S.Store conn.new) → JudgedAll version court next (state S.Store first) (state S.Store conn.new) (λ r held. held ≡ holdings_of court r) result }
+        → HasCleanDisk (state S.Store conn.new) → AreJudged version court next (state S.Store first) (state S.Store conn.new) (λ r held. held ≡ holdings_of court r) result }
 {
     match version {
         Version::First => Ok(read.held),
@@ -443,7 +443,7 @@ pub(crate) fn judge_tables<S: Alter, W: Watch>(
     ensures mode { conn.old.in_transaction ≡ false → conn.new.in_transaction ≡ false }
     ensures cause { HasCleanDisk (state S.Store conn.new) → IfErr result (IsCausedFault (state S.Store conn.old) (state S.Store conn.new)) }
     ensures told { HasCleanDisk (state S.Store conn.new)
-        → JudgedAll version court next_row (state S.Store conn.old) (state S.Store conn.new) (λ r held. held ≡ holdings_of court r) result }
+        → AreJudged version court next_row (state S.Store conn.old) (state S.Store conn.new) (λ r held. held ≡ holdings_of court r) result }
 {
     let names = read_names(conn, alloc, version, watch)?;
     let read = judge_calendar(conn, alloc, court, next_row, names, watch)?;
@@ -453,6 +453,6 @@ pub(crate) fn judge_tables<S: Alter, W: Watch>(
     let acts = judge_deadlines(conn, alloc, read, watch)?;
     let ends = judge_acts(conn, alloc, acts, watch)?;
     let ends = judge_receipts(conn, alloc, version, ends, watch)?;
-    let last = judge_ends(conn, alloc, ends, watch)?;
+    let last = judge_due(conn, alloc, ends, watch)?;
     judge_more(conn, alloc, version, last, watch)
 }

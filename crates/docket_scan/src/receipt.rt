@@ -1,16 +1,12 @@
 //! Rows of the table of receipts, whatever their bodies say.
-ghost use Rattle.std.specs.Prelude.{◌≡◌, List, ℕ, Some, option_copied, IfOk, IfSome};
-ghost use Rattle.std.specs.Str.{IsUtf8};
-ghost use Rattle.sqlite_value.specs.Order.{column};
-ghost use Rattle.sqlite_value.specs.declared.value.Value.TheVariants.{Text as Words};
+ghost use Rattle.std.specs.Prelude.{◌≡◌, Some, IfOk, IfSome};
 ghost use Rattle.docket_scan.specs.Records.{IsStoredReceipt, receipt_cells};
 ghost use Rattle.docket_scan.specs.declared.receipt.StoredReceipt.{StoredReceipt as Stored};
 
-use docket_columns::{StoredRow, reply_of};
+use docket_columns::{StoredRow, reply_of, text_at};
 use docket_command::{Reply, Text};
 use docket_sound::ReceiptRecord;
 use sqlite::Row;
-use sqlite::types::ValueRef;
 use std::alloc::{AllocError, Global};
 
 /// A receipt, and the reply of its command.
@@ -18,17 +14,6 @@ use std::alloc::{AllocError, Global};
 pub struct StoredReceipt {
     pub receipt: ReceiptRecord,
     pub reply: Reply,
-}
-
-fn text_at(row: &Row, at: usize) -> Option<&str>
-    ensures reads { (t : List ℕ) → IsUtf8 t → column row.now at ≡ Words t → option_copied result ≡ Some t }
-    ensures sound { IfSome result (λ text. column row.now at ≡ Words text.now) }
-    ensures utf8 { IfSome result (λ text. IsUtf8 text.now) }
-{
-    match row.get_ref(at) {
-        Ok(ValueRef::Text(text)) => str::from_utf8(text).ok(),
-        _ => None,
-    }
 }
 
 /// The receipt of a row. `None`: it is no row of a receipt.

@@ -19,7 +19,7 @@ use Rattle.docket_history.specs.declared.view.UnderKey.{UnderKey}
 use Rattle.docket_history.specs.declared.view.UnderKey.TheVariants.{Same, Other}
 use Rattle.docket_history.specs.declared.view.View.{View}
 use Rattle.docket_decisions.proofs.Leading.{is_accepted}
-use Rattle.docket_orderly.proofs.ReceiptLemmas.{fresh_by, none_found}
+use Rattle.docket_applying.proofs.ReceiptLemmas.{fresh_by, none_found}
 use Rattle.docket_applying.specs.Applying.{Applies, Stands}
 use Rattle.docket_applying.specs.Dockets.{Docket}
 use Rattle.docket_store.specs.Reopening.{AppliesOnce}

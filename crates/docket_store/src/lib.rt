@@ -7,6 +7,7 @@
 mod adopting;
 mod creating;
 mod docket;
+mod files;
 mod laws;
 mod migrating;
 mod questions;

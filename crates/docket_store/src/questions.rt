@@ -8,7 +8,7 @@ ghost use Rattle.sqlite.specs.View.{doubt};
 ghost use Rattle.sqlite.specs.declared.error.Error.{Error as Failure};
 ghost use Rattle.court_days.specs.Court.{zone_of};
 ghost use Rattle.court_rules.specs.Standings.{AreActs};
-ghost use Rattle.docket_calendar.specs.Calendar.{calendar_rows as due_rows};
+ghost use Rattle.docket_applying.specs.Calendar.{calendar_rows as due_rows};
 ghost use Rattle.docket_history.specs.Histories.{History, case_rows, local_rule_rows, parties_of_case, party_rows, standing_rows};
 ghost use Rattle.docket_history.specs.Records.{case_at, case_labelled, case_record, deadline_lines};
 ghost use Rattle.docket_tables.specs.Layouts.{Rows};

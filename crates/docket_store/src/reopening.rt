@@ -21,6 +21,7 @@ ghost use Rattle.docket_applying.specs.Applying.{StandsFor, docket_rows};
 ghost use Rattle.docket_store.specs.Left.{HaveSums, IsUnharmed};
 ghost use Rattle.docket_store.specs.Reopening.{HoldDocket, HoldEither, HoldRows, LeavesEither, MayLeave, StandsForEither};
 
+use crate::files::open_at;
 use sqlite::{Connection, Error, FileFrom, FileStore, Files, Leftover, Options, Start};
 use sqlite_disk::Disk;
 use std::alloc::Global;
@@ -90,5 +91,5 @@ pub fn reopen_from<S: Start>(
         → IfErr result (λ failed. ∥ IsUnharmed (image_at S.Start) (IsImage (docket_rows court h)) failed
         ⊎ IsUnharmed (image_at S.Start) (IsImage (docket_rows court next)) failed ∥₁) }
 {
-    Connection::open_from(rt, path, false, start)
+    open_at(rt, path, start)
 }

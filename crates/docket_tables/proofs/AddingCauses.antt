@@ -47,7 +47,7 @@ use Rattle.docket_tables.specs.Stands.{Sees}
 use Rattle.docket_tables.specs.Tables.{Field, layout_of}
 use Rattle.docket_tables.specs.Texts.{counted, insert_text}
 use Rattle.docket_tables.specs.declared.table.Table.{Table}
-use Rattle.docket_tables.specs.declared.table.Table.TheVariants.{Court, Calendar, Cases, Parties, Entries, Deadlines, Acts, Receipts, Ends, ShortDays, LocalRules}
+use Rattle.docket_tables.specs.declared.table.Table.TheVariants.{Court, Calendar, Cases, Parties, Entries, Deadlines, Acts, Receipts, Due, ShortDays, LocalRules}
 use Rattle.docket_tables.proofs.CauseLemmas.{so_many}
 use Rattle.docket_tables.proofs.InsertCauses.{opened, stored, entry, entered, refusals, sized, refers_after}
 use Rattle.docket_tables.proofs.InsertLemmas.{puts}
@@ -111,7 +111,7 @@ hides_rowid Entries given rows fits storable none = refl
 hides_rowid Deadlines given rows fits storable none = refl
 hides_rowid Acts given rows fits storable none = refl
 hides_rowid Receipts given rows fits storable none = refl
-hides_rowid Ends given rows fits storable none = refl
+hides_rowid Due given rows fits storable none = refl
 hides_rowid _ given rows fits storable none = absurd (let no = fits in cc)
 
 -- what is left: a limit on steps was set, and came, or no rowid was left in a table that hides them

@@ -36,7 +36,7 @@ use Rattle.sqlite_schema.specs.Rules.{equal}
 use Rattle.sqlite_trees.proofs.ListLemmas.{all-filter}
 use Rattle.docket_tables.specs.Additions.{AreStorable, MayStand}
 use Rattle.docket_tables.specs.Contents.{rows_with}
-use Rattle.docket_tables.specs.declared.table.Table.TheVariants.{Calendar, Cases, Parties, Entries, Deadlines, Acts, Receipts, Ends, ShortDays, LocalRules}
+use Rattle.docket_tables.specs.declared.table.Table.TheVariants.{Calendar, Cases, Parties, Entries, Deadlines, Acts, Receipts, Due, ShortDays, LocalRules}
 use Rattle.docket_tables.proofs.CellLemmas.{equal_text}
 use Rattle.docket_tables.proofs.HoldsLemmas.{equal_int, same_int}
 
@@ -250,7 +250,7 @@ module _ (court : CourtSettings) (t : Tables) (ends : List StoredEnd) where
 
   -- the end of a deadline that stands
   pub end_may : (row : StoredEnd) → AllByRecursion (λ (other : StoredEnd). is_of row.case row.deadline other ≡ false) ends → HasDeadline t row.case row.deadline → AreStorable (end_cells row)
-      → MayStand Ends (end_cells row) (rows_with court t ends)
+      → MayStand Due (end_cells row) (rows_with court t ends)
   end_may row may has storable = record {
     storable = storable;
     alone = (

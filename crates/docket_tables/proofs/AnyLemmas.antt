@@ -20,7 +20,7 @@ use Rattle.docket_tables.specs.Contents.{rows_with}
 use Rattle.docket_tables.specs.Holds.{IsKeyed, has_key}
 use Rattle.docket_tables.specs.Layouts.{Rows, with_row, with_rows}
 use Rattle.docket_tables.specs.declared.table.Table.{Table}
-use Rattle.docket_tables.specs.declared.table.Table.TheVariants.{Court, Calendar, Receipts, Ends, ShortDays}
+use Rattle.docket_tables.specs.declared.table.Table.TheVariants.{Court, Calendar, Receipts, Due, ShortDays}
 use Rattle.docket_tables.proofs.ContentsLemmas.{act_added, calendar_added, calendar_removed, case_added, deadline_added, entry_added, local_rule_added, party_added, receipt_added}
 
 -- rows with numbers
@@ -106,7 +106,7 @@ receipt_behind settings n next command reply xs rows =
 
 pub recorded_stored : (settings : CourtSettings) (n : ℕ) (stored : List StoredEnd) (command : Command) (reply : Reply) (xs : List Change) (rows : Rows) → AreDocketRows settings n stored rows
     → (table : Table) → recorded settings n command reply xs rows table ≡ with_stored stored (recorded settings n command reply xs rows) table
-recorded_stored settings n stored command reply xs rows are Ends = (all_kept settings n stored xs rows are).ends
+recorded_stored settings n stored command reply xs rows are Due = (all_kept settings n stored xs rows are).ends
 recorded_stored settings n stored command reply xs rows are other = refl
 
 -- changes, one after another
@@ -175,12 +175,12 @@ as_recorded settings t stored command reply xs table =
 
 -- the stored ends
 
-pub stored_added : (row : StoredEnd) (stored : List StoredEnd) (rows : Rows) → (table : Table) → with_row Ends (end_cells row) (with_stored stored rows) table ≡ with_stored (stored ++ row ∷ []) rows table
-stored_added row stored rows Ends = sym (map-append end_cells stored (row ∷ []))
+pub stored_added : (row : StoredEnd) (stored : List StoredEnd) (rows : Rows) → (table : Table) → with_row Due (end_cells row) (with_stored stored rows) table ≡ with_stored (stored ++ row ∷ []) rows table
+stored_added row stored rows Due = sym (map-append end_cells stored (row ∷ []))
 stored_added row stored rows other = refl
 
-pub stored_anew : (stored next : List StoredEnd) (cells : List Row) (rows : Rows) → map end_cells next ≡ cells → (table : Table) → with_rows Ends cells (with_stored stored rows) table ≡ with_stored next rows table
-stored_anew stored next cells rows is Ends = sym is
+pub stored_anew : (stored next : List StoredEnd) (cells : List Row) (rows : Rows) → map end_cells next ≡ cells → (table : Table) → with_rows Due cells (with_stored stored rows) table ≡ with_stored next rows table
+stored_anew stored next cells rows is Due = sym is
 stored_anew stored next cells rows is other = refl
 
 -- what was read inside a transaction, of any rows

@@ -24,7 +24,7 @@ use Rattle.docket_history.specs.declared.row.LocalRuleRow.{LocalRuleRow}
 use Rattle.docket_history.specs.declared.row.Receipt.{Receipt}
 use Rattle.docket_columns.specs.Cells.{court_cells, calendar_cells, short_day_cells, case_cells, party_cells, entry_cells, deadline_cells, act_cells, receipt_cells, end_cells, local_rule_cells}
 use Rattle.docket_tables.specs.declared.table.Table.{Table}
-use Rattle.docket_tables.specs.declared.table.Table.TheVariants.{Court, Calendar, Cases, Parties, Entries, Deadlines, Acts, Receipts, Ends, ShortDays, LocalRules}
+use Rattle.docket_tables.specs.declared.table.Table.TheVariants.{Court, Calendar, Cases, Parties, Entries, Deadlines, Acts, Receipts, Due, ShortDays, LocalRules}
 use Rattle.docket_decisions.specs.declared.end_row.StoredEnd.{StoredEnd}
 use Rattle.docket_tables.specs.AnyRows.{with_calendar_row, without_calendar_row}
 use Rattle.docket_tables.specs.Contents.{rows_with, rows_in}
@@ -123,12 +123,12 @@ module _ (court : CourtSettings) (t : Tables) (ends : List StoredEnd) where
   calendar_removed n ShortDays = kept_rows short_day_cells (λ row. row.number) (λ row. refl) n (short_day_rows t.calendar) ∙ ap (map short_day_cells) (short_days_without n t.calendar)
   calendar_removed n other = refl
 
-  pub end_added : (row : StoredEnd) → (table : Table) → with_row Ends (end_cells row) (rows_with court t ends) table ≡ rows_with court t (ends ++ row ∷ []) table
-  end_added row Ends = sym (map-append end_cells ends (row ∷ []))
+  pub end_added : (row : StoredEnd) → (table : Table) → with_row Due (end_cells row) (rows_with court t ends) table ≡ rows_with court t (ends ++ row ∷ []) table
+  end_added row Due = sym (map-append end_cells ends (row ∷ []))
   end_added row other = refl
 
-  pub with_ends : (others : List StoredEnd) (rows : List Row) → map end_cells others ≡ rows → (table : Table) → with_rows Ends rows (rows_with court t ends) table ≡ rows_with court t others table
-  with_ends others rows is Ends = sym is
+  pub with_ends : (others : List StoredEnd) (rows : List Row) → map end_cells others ≡ rows → (table : Table) → with_rows Due rows (rows_with court t ends) table ≡ rows_with court t others table
+  with_ends others rows is Due = sym is
   with_ends others rows is other = refl
 
 -- the tables of a docket without any record

@@ -41,7 +41,7 @@ use Rattle.docket_tables.specs.Schema.{docket_schema, shape_of, tree_of}
 use Rattle.docket_tables.specs.Stands.{Sees}
 use Rattle.docket_tables.specs.Statements.{delete_text, delete_short_day_text, delete_end_text}
 use Rattle.docket_tables.specs.Tables.{layout_of}
-use Rattle.docket_tables.specs.declared.table.Table.TheVariants.{Calendar, ShortDays, Ends}
+use Rattle.docket_tables.specs.declared.table.Table.TheVariants.{Calendar, ShortDays, Due}
 use Rattle.docket_tables.proofs.DeleteLemmas.{numbered_in}
 use Rattle.docket_tables.proofs.HoldsLemmas.{all_both, all_each}
 use Rattle.docket_tables.proofs.InsertLemmas.{went, same_value}
@@ -289,16 +289,16 @@ short_day_free n = record {
 
 -- the row of the end of a deadline
 abbrev pub end_keyed : Program
-end_keyed = record { lets = []; body = plain_query (tree_of Ends) (keeps_from Ends 0 (0 ∷ 1 ∷ [])) (col 1 0 ∷ []) [] [] (lit (Int (negsuc 0))) }
+end_keyed = record { lets = []; body = plain_query (tree_of Due) (keeps_from Due 0 (0 ∷ 1 ∷ [])) (col 1 0 ∷ []) [] [] (lit (Int (negsuc 0))) }
 
-end_free : (k n : ℕ) → IsFreeDelete docket_schema delete_end_text (layout_of Ends).at (shape_of Ends) end_keyed (Int (pos k) ∷ Int (pos n) ∷ [])
+end_free : (k n : ℕ) → IsFreeDelete docket_schema delete_end_text (layout_of Due).at (shape_of Due) end_keyed (Int (pos k) ∷ Int (pos n) ∷ [])
 unfolding understood everything
 end_free k n = record {
   one = (refl, refl, refl, (refl, refl));
   place = refl;
   typed = refl;
-  bounded = λ db. unsummed (tree_of Ends) (keeps_from Ends 0 (0 ∷ 1 ∷ [])) db (Int (pos k) ∷ Int (pos n) ∷ []);
-  fit = either (λ b. references_fit docket_schema (shape_of Ends) false b ≡ true) refl refl;
+  bounded = λ db. unsummed (tree_of Due) (keeps_from Due 0 (0 ∷ 1 ∷ [])) db (Int (pos k) ∷ Int (pos n) ∷ []);
+  fit = either (λ b. references_fit docket_schema (shape_of Due) false b ≡ true) refl refl;
   no_work = λ olds. refl;
   unreferred = refl;
 }
@@ -316,4 +316,4 @@ delete_short_day_caused n rows old new e sees =
 -- and that of the end of a deadline
 pub delete_end_caused : (k n : ℕ) (rows : Rows) (old new : State) (e : Error) → Sees old rows → ExecutesInside 0 delete_end_text (Int (pos k) ∷ Int (pos n) ∷ []) old new (Err e) → HasMakingCause old new e
 delete_end_caused k n rows old new e sees =
-    delete_caused docket_schema delete_end_text (layout_of Ends).at (shape_of Ends) end_keyed (Int (pos k) ∷ Int (pos n) ∷ []) (end_free k n) old new e sees.shows.schema sees.shows.live
+    delete_caused docket_schema delete_end_text (layout_of Due).at (shape_of Due) end_keyed (Int (pos k) ∷ Int (pos n) ∷ []) (end_free k n) old new e sees.shows.schema sees.shows.live

@@ -42,7 +42,7 @@ use Rattle.docket_tables.specs.Holds.{cells, has_key, without_key, plain_query, 
 use Rattle.docket_tables.specs.Layouts.{Rows, with_rows}
 use Rattle.docket_tables.specs.Tables.{layout_of}
 use Rattle.docket_tables.specs.Stands.{Sees}
-use Rattle.docket_tables.specs.declared.table.Table.TheVariants.{Ends}
+use Rattle.docket_tables.specs.declared.table.Table.TheVariants.{Due}
 use Rattle.docket_tables.proofs.CourtLemmas.{found_by}
 use Rattle.docket_tables.proofs.CellLemmas.{cast_int}
 use Rattle.docket_tables.proofs.DeleteLemmas.{DeletesFrom, deletes}
@@ -51,18 +51,18 @@ use Rattle.docket_tables.proofs.UpdateLemmas.{UpdatesIn, updates, no_actions_on_
 use Rattle.docket_tables.proofs.LayoutLemmas.{rows_changed}
 use Rattle.docket_tables.proofs.RowidLemmas.{holds_unmatched}
 
-end_delete : DeletesFrom docket_schema delete_end_text (shape_of Ends)
-    (record { lets = []; body = plain_query (tree_of Ends) (op2 (Compare Eq Binary) (col 1 1) (col 0 0) ∷ op2 (Compare Eq Binary) (col 1 2) (col 0 1) ∷ []) (col 1 0 ∷ []) [] [] (lit (Int (negsuc 0))) })
+end_delete : DeletesFrom docket_schema delete_end_text (shape_of Due)
+    (record { lets = []; body = plain_query (tree_of Due) (op2 (Compare Eq Binary) (col 1 1) (col 0 0) ∷ op2 (Compare Eq Binary) (col 1 2) (col 0 1) ∷ []) (col 1 0 ∷ []) [] [] (lit (Int (negsuc 0))) })
 unfolding understood everything
-end_delete = record { at = (layout_of Ends).at; is = refl; plain = (refl, refl); place = refl; no_work = λ olds. refl }
+end_delete = record { at = (layout_of Due).at; is = refl; plain = (refl, refl); place = refl; no_work = λ olds. refl }
 
 pub end_removed : (k n : ℕ) (rows : Rows) (old new : State) (count : ℕ) → Sees old rows → Executes delete_end_text (Int (pos k) ∷ Int (pos n) ∷ []) old new (Ok count)
-    → Turns old new new.now old.committed true → Sees new (with_rows Ends (without_key (0 ∷ 1 ∷ []) (Int (pos k) ∷ Int (pos n) ∷ []) (rows Ends)) rows)
+    → Turns old new new.now old.committed true → Sees new (with_rows Due (without_key (0 ∷ 1 ∷ []) (Int (pos k) ∷ Int (pos n) ∷ []) (rows Due)) rows)
 end_removed k n rows old new count sees ran turns =
     let params = Int (pos k) ∷ Int (pos n) ∷ [] in
-    let it = deletes docket_schema delete_end_text (shape_of Ends) _ end_delete params old new count sees.shows.schema ran in
+    let it = deletes docket_schema delete_end_text (shape_of Due) _ end_delete params old new count sees.shows.schema ran in
     let took = it.2 in
-    let same = found_by old.now.trees (tree_of Ends) (λ ps row. has_key (0 ∷ 1 ∷ []) ps (cells (places_of Ends) row)) (λ ps row. column row 0 ∷ [])
+    let same = found_by old.now.trees (tree_of Due) (λ ps row. has_key (0 ∷ 1 ∷ []) ps (cells (places_of Due) row)) (λ ps row. column row 0 ∷ [])
     (op2 (Compare Eq Binary) (col 1 1) (col 0 0) ∷ op2 (Compare Eq Binary) (col 1 2) (col 0 1) ∷ []) (col 1 0 ∷ []) (λ ps row. refl) (λ ps row. refl) params took.found (took.answer.answer Null) in
     record {
       begun = turns.mode;
@@ -70,15 +70,15 @@ end_removed k n rows old new count sees ran turns =
         is_open = turns.is_open;
         schema = it.0;
         live = it.1;
-        holds = rows_changed Ends _ rows old.now.trees new.now.trees sees.shows.holds
-            (holds_unmatched (tree_of Ends) (places_of Ends) (rows Ends) (has_key (0 ∷ 1 ∷ []) params) took.found old.now.trees new.now.trees (sees.shows.holds Ends) same took.rows) took.others;
+        holds = rows_changed Due _ rows old.now.trees new.now.trees sees.shows.holds
+            (holds_unmatched (tree_of Due) (places_of Due) (rows Due) (has_key (0 ∷ 1 ∷ []) params) took.found old.now.trees new.now.trees (sees.shows.holds Due) same took.rows) took.others;
       };
     }
 
-end_update : UpdatesIn docket_schema move_end_text (shape_of Ends)
-    (record { lets = []; body = plain_query (tree_of Ends) (op2 (Compare Eq Binary) (col 1 1) (col 0 0) ∷ op2 (Compare Eq Binary) (col 1 2) (col 0 1) ∷ []) (col 1 0 ∷ col 1 0 ∷ col 1 1 ∷ col 1 2 ∷ col 0 2 ∷ col 0 3 ∷ []) [] [] (lit (Int (negsuc 0))) })
+end_update : UpdatesIn docket_schema move_end_text (shape_of Due)
+    (record { lets = []; body = plain_query (tree_of Due) (op2 (Compare Eq Binary) (col 1 1) (col 0 0) ∷ op2 (Compare Eq Binary) (col 1 2) (col 0 1) ∷ []) (col 1 0 ∷ col 1 0 ∷ col 1 1 ∷ col 1 2 ∷ col 0 2 ∷ col 0 3 ∷ []) [] [] (lit (Int (negsuc 0))) })
 unfolding understood everything
-end_update = record { at = (layout_of Ends).at; is = refl; plain = (refl, refl); place = refl; no_work = no_actions_on_ends }
+end_update = record { at = (layout_of Due).at; is = refl; plain = (refl, refl); place = refl; no_work = no_actions_on_ends }
 
 -- the cells of a row whose end moves, as they are written anew
 abbrev moved_cells : Row → Row → Row
@@ -107,20 +107,20 @@ move_cells to (row ∷ ends) = ap₂ (λ c more. c ∷ more) (at (is_of to.case 
     at b is = ap (λ x. cond x (moved_cells (end_cells to) (end_cells row)) (end_cells row)) (found ∙ is) ∙ by b ∙ ap (λ x. end_cells (cond x (record row { end = to.end }) row)) (sym is)
 
 -- the end of a deadline moves
-pub end_moved : (to : StoredEnd) (ends : List StoredEnd) (rows : Rows) (old new : State) (count : ℕ) → rows Ends ≡ map end_cells ends → Sees old rows → Executes move_end_text (end_cells to) old new (Ok count)
-    → Turns old new new.now old.committed true → Sees new (with_rows Ends (map end_cells (changed_ends (Move to) ends)) rows)
+pub end_moved : (to : StoredEnd) (ends : List StoredEnd) (rows : Rows) (old new : State) (count : ℕ) → rows Due ≡ map end_cells ends → Sees old rows → Executes move_end_text (end_cells to) old new (Ok count)
+    → Turns old new new.now old.committed true → Sees new (with_rows Due (map end_cells (changed_ends (Move to) ends)) rows)
 end_moved to ends rows old new count are sees ran turns =
     let params = end_cells to in
-    let table = shape_of Ends in
+    let table = shape_of Due in
     let it = updates docket_schema move_end_text table _ end_update params old new count sees.shows.schema ran in
     let moved = it.2 in
     let made : Row → Row = λ s. cast_row table (drop 1 s) in
-    let same = found_by old.now.trees (tree_of Ends) (λ ps row. has_key (0 ∷ 1 ∷ []) ps (cells (places_of Ends) row)) end_shown
+    let same = found_by old.now.trees (tree_of Due) (λ ps row. has_key (0 ∷ 1 ∷ []) ps (cells (places_of Due) row)) end_shown
     (op2 (Compare Eq Binary) (col 1 1) (col 0 0) ∷ op2 (Compare Eq Binary) (col 1 2) (col 0 1) ∷ []) (col 1 0 ∷ col 1 0 ∷ col 1 1 ∷ col 1 2 ∷ col 0 2 ∷ col 0 3 ∷ []) (λ ps row. refl) (λ ps row. refl) params moved.found (moved.answer.answer Null) in
-    let news = numbered_given (without_all (old.now.trees (tree_of Ends)) (ids_of moved.found)) (map made moved.found) in
-    let holds = holds_moved (tree_of Ends) (places_of Ends) (has_key (0 ∷ 1 ∷ []) params) (moved_cells params) made (end_shown params) (λ r. refl) (λ r. refl) moved.found old.now.trees new.now.trees same (rows Ends) (sees.shows.holds Ends)
-    (subst (λ ns. have_rowids ns ≡ true) news moved.keyed) (subst (λ ns. are_fresh (without_all (old.now.trees (tree_of Ends)) (ids_of moved.found)) ns ≡ true) news moved.fresh)
-    (moved.rows ∙ ap (put_all (without_all (old.now.trees (tree_of Ends)) (ids_of moved.found))) news) in
+    let news = numbered_given (without_all (old.now.trees (tree_of Due)) (ids_of moved.found)) (map made moved.found) in
+    let holds = holds_moved (tree_of Due) (places_of Due) (has_key (0 ∷ 1 ∷ []) params) (moved_cells params) made (end_shown params) (λ r. refl) (λ r. refl) moved.found old.now.trees new.now.trees same (rows Due) (sees.shows.holds Due)
+    (subst (λ ns. have_rowids ns ≡ true) news moved.keyed) (subst (λ ns. are_fresh (without_all (old.now.trees (tree_of Due)) (ids_of moved.found)) ns ≡ true) news moved.fresh)
+    (moved.rows ∙ ap (put_all (without_all (old.now.trees (tree_of Due)) (ids_of moved.found))) news) in
     let shown = ap (map (λ c. cond (has_key (0 ∷ 1 ∷ []) params c) (moved_cells params c) c)) are ∙ move_cells to ends in
     record {
       begun = turns.mode;
@@ -128,7 +128,7 @@ end_moved to ends rows old new count are sees ran turns =
         is_open = turns.is_open;
         schema = it.0;
         live = it.1;
-        holds = rows_changed Ends _ rows old.now.trees new.now.trees sees.shows.holds (subst (λ cs. Holds (tree_of Ends) (places_of Ends) cs new.now.trees) shown holds) moved.others;
+        holds = rows_changed Due _ rows old.now.trees new.now.trees sees.shows.holds (subst (λ cs. Holds (tree_of Due) (places_of Due) cs new.now.trees) shown holds) moved.others;
       };
     }
 
@@ -153,9 +153,9 @@ rises_from k n [] are = tt
 rises_from k n (row ∷ rows) are = (rises_above k row.deadline rows are.2, rises_from k (row.deadline + 1) rows are.2)
 
 -- the ends of a case, as a question shows them
-pub ends_shown : (k : ℕ) (ends : List StoredEnd) (found : List Row) → AreRowsFrom k 1 (ends_of k ends) → IsAnswer ask.Ends (Int (pos k) ∷ []) (map end_cells ends) found → found ≡ map end_cells (ends_of k ends)
+pub ends_shown : (k : ℕ) (ends : List StoredEnd) (found : List Row) → AreRowsFrom k 1 (ends_of k ends) → IsAnswer ask.Due (Int (pos k) ∷ []) (map end_cells ends) found → found ≡ map end_cells (ends_of k ends)
 ends_shown k ends found are answer =
-    in_order ask.Ends (Int (pos k) ∷ []) end_cells (λ row. row.case == k) (λ row. and_yes _ ∙ equal_number row.case k) ends found (λ row. row.deadline) (λ row. refl) refl refl (rises_from k 1 _ are) answer
+    in_order ask.Due (Int (pos k) ∷ []) end_cells (λ row. row.case == k) (λ row. and_yes _ ∙ equal_number row.case k) ends found (λ row. row.deadline) (λ row. refl) refl refl (rises_from k 1 _ are) answer
 
 -- the same ends in another order
 pub sees_permuted : (s : State) (court : CourtSettings) (t : Tables) (ends others : List StoredEnd) → IsPermutation ends others → Sees s (rows_with court t ends) → Sees s (rows_with court t others)
@@ -165,7 +165,7 @@ sees_permuted s court t ends others same sees = record {
 }
   where
     holds : (table : Table) → Holds (tree_of table) (places_of table) (rows_with court t others table) s.now.trees
-    holds Ends = ∥∥₁_map (sees.shows.holds Ends) (λ was. (IsPermutation-trans _ _ _ was.0 (IsPermutation-map end_cells ends others same), was.1))
+    holds Due = ∥∥₁_map (sees.shows.holds Due) (λ was. (IsPermutation-trans _ _ _ was.0 (IsPermutation-map end_cells ends others same), was.1))
     holds other = sees.shows.holds other
 
 pub changed_next_end : (xs : List EndChange) (ends : List StoredEnd) (i : ℕ) (d : EndChange) → i < length xs → changed_ends (get_or xs i d) (all_changed_ends (take i xs) ends) ≡ all_changed_ends (take (i + 1) xs) ends

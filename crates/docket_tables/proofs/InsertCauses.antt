@@ -29,7 +29,7 @@ use Rattle.docket_tables.specs.Layouts.{Rows, AreRows, Fits}
 use Rattle.docket_tables.specs.Schema.{docket_schema, shape_of, tree_of, places_of, key_places, uniques_of, kinds_of}
 use Rattle.docket_tables.specs.Tables.{layout_of, tables, Layout}
 use Rattle.docket_tables.specs.declared.table.Table.{Table}
-use Rattle.docket_tables.specs.declared.table.Table.TheVariants.{Court, Calendar, Cases, Parties, Entries, Deadlines, Acts, Receipts, Ends, ShortDays, LocalRules}
+use Rattle.docket_tables.specs.declared.table.Table.TheVariants.{Court, Calendar, Cases, Parties, Entries, Deadlines, Acts, Receipts, Due, ShortDays, LocalRules}
 use Rattle.docket_tables.proofs.LayoutLemmas.{terms_of, all_at, shown, numbered, apart, of_each}
 use Rattle.docket_tables.proofs.StoredRows.{stored_by, stored_is, IsLight, stored_typed, stored_present, stored_light, light_stored, light_entry, light_at, stored_long}
 use Rattle.std.proofs.lemmas.List.Elements.{All-from_recursion, recursion_from_All}
@@ -77,7 +77,7 @@ unique_means Entries db row = refl
 unique_means Deadlines db row = refl
 unique_means Acts db row = refl
 unique_means Receipts db row = refl
-unique_means Ends db row = refl
+unique_means Due db row = refl
 unique_means ShortDays db row = refl
 unique_means LocalRules db row = refl
 
@@ -95,7 +95,7 @@ alike_means Entries a b = refl
 alike_means Deadlines a b = refl
 alike_means Acts a b = refl
 alike_means Receipts a b = refl
-alike_means Ends a b = refl
+alike_means Due a b = refl
 alike_means ShortDays a b = refl
 alike_means LocalRules a b = refl
 
@@ -107,7 +107,7 @@ parents_mean Parties a b = refl
 parents_mean Entries a b = refl
 parents_mean Deadlines a b = refl
 parents_mean Acts a b = refl
-parents_mean Ends a b = refl
+parents_mean Due a b = refl
 parents_mean Court a b = refl
 parents_mean Calendar a b = refl
 parents_mean Cases a b = refl
@@ -131,7 +131,7 @@ refers_means Entries db row = refl
 refers_means Deadlines db row = refl
 refers_means Acts db row = refl
 refers_means Receipts db row = refl
-refers_means Ends db row = refl
+refers_means Due db row = refl
 refers_means ShortDays db row = refl
 refers_means LocalRules db row = refl
 
@@ -230,7 +230,7 @@ free Entries given rows fits shaped alone = next_is_free Chosen rows given shape
 free Deadlines given rows fits shaped alone = next_is_free Chosen rows given shaped.0 shaped.1
 free Acts given rows fits shaped alone = next_is_free Chosen rows given shaped.0 shaped.1
 free Receipts given rows fits shaped alone = next_is_free Chosen rows given shaped.0 shaped.1
-free Ends given rows fits shaped alone = next_is_free Chosen rows given shaped.0 shaped.1
+free Due given rows fits shaped alone = next_is_free Chosen rows given shaped.0 shaped.1
 free _ given rows fits shaped alone = absurd (let no = fits in cc)
 
 -- what is computed of each table
@@ -242,7 +242,7 @@ well_referred Parties row = refl
 well_referred Entries row = refl
 well_referred Deadlines row = refl
 well_referred Acts row = refl
-well_referred Ends row = refl
+well_referred Due row = refl
 well_referred table row = refl
 
 no_reals : (table : Table) → table_reals (shape_of table) ≡ 0

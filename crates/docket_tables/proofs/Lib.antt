@@ -43,3 +43,5 @@ pub mod TwoTables
 mod UpdateCauses
 pub mod UpdateLemmas
 pub mod ZoneLengths
+-- the lemmas on the rows of dockets, for the crates above
+pub use Rattle.docket_orderly.proofs as Orderly

@@ -22,7 +22,7 @@ use Rattle.docket_tables.specs.Schema.{docket_schema, tree_of, shape_of, places_
 use Rattle.docket_tables.proofs.MakingCauses.{IsOne}
 use Rattle.std.specs.List.{AllByRecursion, list_all, list_any}
 use Rattle.docket_tables.specs.Holds.{plain_query, cells, has_key}
-use Rattle.docket_tables.specs.declared.table.Table.TheVariants.{Cases, Deadlines, Ends}
+use Rattle.docket_tables.specs.declared.table.Table.TheVariants.{Cases, Deadlines, Due}
 use Rattle.sqlite_schema.specs.declared.schema.Constraint.TheVariants.{Unique, ForeignKey, Datatype, NotNull, Check, PrimaryKey}
 use Rattle.docket_tables.proofs.LayoutLemmas.{apart, others_same, of_each}
 use Rattle.sqlite_trees.specs.Tree.{with_tree, rowid, has_rowid}
@@ -64,14 +64,14 @@ use Rattle.docket_tables.proofs.UpdateCauses.{IsSafe, IsFound, edit_by, update_c
 use Rattle.docket_tables.proofs.RowidCounts.{int_is, count, once, count_permuted, count_append, fresh_of}
 
 abbrev ends : Shape
-ends = shape_of Ends
+ends = shape_of Due
 
 abbrev due : ℕ
-due = tree_of Ends
+due = tree_of Due
 
 -- the rowids of the ends are numbers of 64 bits, of which the specs of the store say nothing
 abbrev pub HasFitIds : Trees → Type 0
-HasFitIds db = AllByRecursion (λ r. fits_i64 (id_in (rowid r)) ≡ true) (db (tree_of Ends))
+HasFitIds db = AllByRecursion (λ r. fits_i64 (id_in (rowid r)) ≡ true) (db (tree_of Due))
 
 abbrev move_keeps : List Term
 move_keeps = op2 (Compare Eq Binary) (col 1 1) (col 0 0) ∷ op2 (Compare Eq Binary) (col 1 2) (col 0 1) ∷ []
@@ -172,7 +172,7 @@ module _ (k d : ℕ) (day moment : ℤ) where
   params_of = Int (pos k) ∷ Int (pos d) ∷ Int day ∷ Int moment ∷ []
 
   abbrev matches : Row → Bool
-  matches r = has_key (0 ∷ 1 ∷ []) params_of (cells (places_of Ends) r)
+  matches r = has_key (0 ∷ 1 ∷ []) params_of (cells (places_of Due) r)
 
   abbrev end_shown : Row → Row → Row
   end_shown ps r = column r 0 ∷ column r 0 ∷ column r 1 ∷ column r 2 ∷ column ps 2 ∷ column ps 3 ∷ []
@@ -222,8 +222,8 @@ module _ (k d : ℕ) (day moment : ℤ) where
 
     numbered_rows : AllByRecursion IsNumbered due_rows
     numbered_rows =
-        let typed = of_each (λ (t : Shape). AllByRecursion (λ row. passes Datatype docket_schema db t row ≡ true) (db t.tree)) (obeyed.rules Datatype) Ends in
-        let present = of_each (λ (t : Shape). AllByRecursion (λ row. passes NotNull docket_schema db t row ≡ true) (db t.tree)) (obeyed.rules NotNull) Ends in
+        let typed = of_each (λ (t : Shape). AllByRecursion (λ row. passes Datatype docket_schema db t row ≡ true) (db t.tree)) (obeyed.rules Datatype) Due in
+        let present = of_each (λ (t : Shape). AllByRecursion (λ row. passes NotNull docket_schema db t row ≡ true) (db t.tree)) (obeyed.rules NotNull) Due in
         go due_rows shaped.1 typed present
       where
         go : (rs : List Row) → AllByRecursion (λ r. is_int (rowid r) ≡ true) rs → AllByRecursion (λ r. passes Datatype docket_schema db ends r ≡ true) rs
@@ -232,7 +232,7 @@ module _ (k d : ℕ) (day moment : ℤ) where
         go (r ∷ rs) a b c = (numbered_row db r a.0 b.0 c.0, go rs a.1 b.1 c.1)
 
     same : IsPermutation (map (end_shown params_of) hits) found
-    same = found_by db due (λ ps row. has_key (0 ∷ 1 ∷ []) ps (cells (places_of Ends) row)) end_shown move_keeps move_shows (λ ps row. refl) (λ ps row. refl) params_of found (answer.answer Null)
+    same = found_by db due (λ ps row. has_key (0 ∷ 1 ∷ []) ps (cells (places_of Due) row)) end_shown move_keeps move_shows (λ ps row. refl) (λ ps row. refl) params_of found (answer.answer Null)
 
     news_same : IsPermutation (map moved hits) (map made found)
     news_same = subst (λ xs. IsPermutation xs (map made found)) (map-map made (end_shown params_of) hits ∙ all_made hits (all-filter IsNumbered matches due_rows numbered_rows)) (IsPermutation-map made _ _ same)
@@ -280,7 +280,7 @@ module _ (k d : ℕ) (day moment : ℤ) where
 
     unique_after : Keeps Unique docket_schema (with_tree db due (edited db edit))
     unique_after =
-        let was = of_each (λ (t : Shape). AllByRecursion (λ row. passes Unique docket_schema db t row ≡ true) (db t.tree)) (obeyed.rules Unique) Ends in
+        let was = of_each (λ (t : Shape). AllByRecursion (λ row. passes Unique docket_schema db t row ≡ true) (db t.tree)) (obeyed.rules Unique) Due in
         keeps_unique ends db (edited db edit) ends_apart (obeyed.rules Unique)
         (lifted (λ row. passes Unique docket_schema (with_tree db due (edited db edit)) ends row ≡ true) (all_each (λ r. passes Unique docket_schema db ends r ≡ true) _ passes_after due_rows was))
       where
@@ -295,7 +295,7 @@ module _ (k d : ℕ) (day moment : ℤ) where
     parents_after : (next : Trees) → next due ≡ edited db edit → next (tree_of Deadlines) ≡ db (tree_of Deadlines) → AllByRecursion (λ row. passes ForeignKey docket_schema next ends row ≡ true) (next due)
     unfolding Rattle.sqlite_schema.specs.Names.same_name Rattle.sqlite_value.specs.Keys.joined
     parents_after next is deadlines =
-        let was = of_each (λ (t : Shape). AllByRecursion (λ row. passes ForeignKey docket_schema db t row ≡ true) (db t.tree)) (obeyed.rules ForeignKey) Ends in
+        let was = of_each (λ (t : Shape). AllByRecursion (λ row. passes ForeignKey docket_schema db t row ≡ true) (db t.tree)) (obeyed.rules ForeignKey) Due in
         subst (AllByRecursion (λ row. passes ForeignKey docket_schema next ends row ≡ true)) (sym is)
         (lifted (λ row. passes ForeignKey docket_schema next ends row ≡ true) (all_each (λ r. passes ForeignKey docket_schema db ends r ≡ true) _ referred_after due_rows was))
       where
@@ -370,7 +370,7 @@ pub move_end_caused : (k d : ℕ) (day moment : ℤ) (rows : Rows) (old new : St
     → ExecutesInside 0 move_end_text (Int (pos k) ∷ Int (pos d) ∷ Int day ∷ Int moment ∷ []) old new (Err e) → HasMakingCause old new e
 move_end_caused k d day moment rows old new e sees wide ran =
     let obeyed : Obeys docket_schema old.now.trees = subst (λ s. Obeys s old.now.trees) sees.shows.schema sees.shows.live.obeys in
-    let there : (IsShaped shape.Table (old.now.trees due) → ⊥) → ⊥ = λ absent. ∥∥₁_elim (sees.shows.holds Ends) ⊥_prop (λ was. absent was.1) in
+    let there : (IsShaped shape.Table (old.now.trees due) → ⊥) → ⊥ = λ absent. ∥∥₁_elim (sees.shows.holds Due) ⊥_prop (λ was. absent was.1) in
     update_caused ends move_query 8 move_end_text (Int (pos k) ∷ Int (pos d) ∷ Int day ∷ Int moment ∷ []) (¬ HasFitIds old.now.trees) old new e refl move_one sees.shows.schema (move_safe k d day moment old.now.trees there obeyed)
     (λ is unfit. unfit (wide is)) ran
 

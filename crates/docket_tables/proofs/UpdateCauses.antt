@@ -36,7 +36,7 @@ use Rattle.docket_tables.proofs.InsertLemmas.{went, same_value}
 use Rattle.docket_tables.proofs.MakingCauses.{IsOne, write_caused}
 use Rattle.std.specs.List.{AllByRecursion, list_all}
 use Rattle.docket_tables.specs.Holds.{KeepsOthers, plain_query}
-use Rattle.docket_tables.specs.declared.table.Table.TheVariants.{Cases, Parties, Entries, Deadlines, Acts, Ends}
+use Rattle.docket_tables.specs.declared.table.Table.TheVariants.{Cases, Parties, Entries, Deadlines, Acts, Due}
 use Rattle.sqlite_schema.specs.declared.schema.Constraint.TheVariants.{Unique, ForeignKey}
 use Rattle.docket_tables.proofs.LayoutLemmas.{apart, others_same}
 use Rattle.sqlite_trees.proofs.ListLemmas.{all_of}
@@ -193,7 +193,7 @@ keeps_parents table old new parted kept cases_apart deadlines_apart was here =
                   (
                     λ same row h. refl,
                     (
-                      λ same row h. subst (λ (rows : List Row). list_all (has_parent docket_schema.tables (λ _. rows) row) (shape_of Ends).references ≡ true) (sym deadlines) h,
+                      λ same row h. subst (λ (rows : List Row). list_all (has_parent docket_schema.tables (λ _. rows) row) (shape_of Due).references ≡ true) (sym deadlines) h,
                       (λ same row h. refl, (λ same row h. refl, tt)),
                     ),
                   ),

@@ -30,7 +30,7 @@ use Rattle.sqlite_schema.specs.Rules.{parent_key}
 use Rattle.sqlite_tied.specs.Compute.{everything}
 use Rattle.docket_tables.specs.Schema.{docket_schema, shape_of, tree_of}
 use Rattle.docket_tables.specs.Statements.{count_text}
-use Rattle.docket_tables.specs.declared.table.Table.TheVariants.{Court, Ends}
+use Rattle.docket_tables.specs.declared.table.Table.TheVariants.{Court, Due}
 use Rattle.docket_tables.specs.Holds.{KeepsOthers, plain_query}
 use Rattle.docket_tables.proofs.InsertLemmas.{went, same_value, concludes}
 
@@ -85,9 +85,9 @@ no_actions olds news =
     elim (length news == 0) as (λ b. flat_map (λ child. filter_map (λ ref. work_by 0 0 (pairs olds news) child ref (deed_for Enforced b ref) (parent_key docket_schema.tables ref)) child.references) docket_schema.tables ≡ [])
     [ true ↦ refl | false ↦ refl ]
 
-pub no_actions_on_ends : (olds news : List Row) → works docket_schema Enforced 0 (tree_of Ends) olds news ≡ []
+pub no_actions_on_ends : (olds news : List Row) → works docket_schema Enforced 0 (tree_of Due) olds news ≡ []
 no_actions_on_ends olds news =
-    elim (length news == 0) as (λ b. flat_map (λ child. filter_map (λ ref. work_by 0 (tree_of Ends) (pairs olds news) child ref (deed_for Enforced b ref) (parent_key docket_schema.tables ref)) child.references) docket_schema.tables ≡ [])
+    elim (length news == 0) as (λ b. flat_map (λ child. filter_map (λ ref. work_by 0 (tree_of Due) (pairs olds news) child ref (deed_for Enforced b ref) (parent_key docket_schema.tables ref)) child.references) docket_schema.tables ≡ [])
     [ true ↦ refl | false ↦ refl ]
 
 pub court_update : UpdatesIn docket_schema count_text (shape_of Court)

@@ -10,7 +10,7 @@ use Rattle.docket_history.specs.declared.item.CalendarItem.TheVariants.{Short}
 use Rattle.docket_history.specs.declared.row.Change.{Change}
 use Rattle.docket_history.specs.declared.row.Change.TheVariants.{AddCalendar, RemoveCalendar, AddCase, AddParty, AddEntry, AddDeadline, AddAct, AddLocalRule}
 use Rattle.docket_columns.specs.Cells.{court_cells, calendar_cells, short_day_cells, case_cells, party_cells, entry_cells, deadline_cells, act_cells, receipt_cells, end_cells, local_rule_cells}
-use Rattle.docket_tables.specs.declared.table.Table.TheVariants.{Court, Calendar, Cases, Parties, Entries, Deadlines, Acts, Receipts, Ends, ShortDays, LocalRules}
+use Rattle.docket_tables.specs.declared.table.Table.TheVariants.{Court, Calendar, Cases, Parties, Entries, Deadlines, Acts, Receipts, Due, ShortDays, LocalRules}
 use Rattle.docket_tables.specs.Holds.{IsKeyed, without_number}
 use Rattle.docket_tables.specs.Layouts.{Rows, with_row, with_rows}
 
@@ -20,11 +20,11 @@ pub record AreDocketRows (settings : CourtSettings) (next_row : ℕ) (stored : L
   pub court : rows Court ≡ court_cells settings next_row ∷ []
   pub keyed : AllByRecursion IsKeyed (rows Calendar)
   pub keyed_short : AllByRecursion IsKeyed (rows ShortDays)
-  pub ends : rows Ends ≡ map end_cells stored
+  pub ends : rows Due ≡ map end_cells stored
 
 -- the rows, but with these stored ends
 abbrev pub with_stored : List StoredEnd → Rows → Rows
-with_stored stored rows = with_rows Ends (map end_cells stored) rows
+with_stored stored rows = with_rows Due (map end_cells stored) rows
 
 -- with one more row of the calendar: a short day stands in a table of its own
 abbrev pub with_calendar_row : ℕ → List ℕ → CalendarItem → Rows → Rows

@@ -12,7 +12,7 @@ use Rattle.docket_columns.specs.Cells.{court_cells, court_cells_of, calendar_cel
 use Rattle.docket_columns.specs.Fits.{IsEndRow}
 use Rattle.docket_columns.specs.declared.version.Version.{Version}
 use Rattle.docket_columns.specs.declared.version.Version.TheVariants.{First, Second}
-use Rattle.docket_tables.specs.declared.table.Table.TheVariants.{Court, Calendar, Cases, Parties, Entries, Deadlines, Acts, Receipts, Ends, ShortDays, LocalRules}
+use Rattle.docket_tables.specs.declared.table.Table.TheVariants.{Court, Calendar, Cases, Parties, Entries, Deadlines, Acts, Receipts, Due, ShortDays, LocalRules}
 use Rattle.docket_tables.specs.Layouts.{Rows, with_rows}
 
 -- these tables, with these rows of ends
@@ -25,7 +25,7 @@ rows_with court t ends Entries = map entry_cells t.entries
 rows_with court t ends Deadlines = map deadline_cells t.deadlines
 rows_with court t ends Acts = map act_cells t.acts
 rows_with court t ends Receipts = map receipt_cells t.receipts
-rows_with court t ends Ends = map end_cells ends
+rows_with court t ends Due = map end_cells ends
 rows_with court t ends ShortDays = map short_day_cells (short_day_rows t.calendar)
 rows_with court t ends LocalRules = map local_rule_cells t.local_rules
 

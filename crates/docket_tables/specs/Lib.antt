@@ -15,3 +15,5 @@ pub mod Stands
 pub mod Statements
 pub mod Tables
 pub mod Texts
+-- of the crates below, what contracts above speak of
+pub use Rattle.docket_orderly.specs.Orderly

@@ -6,7 +6,7 @@ use Rattle.sqlite.specs.Kind.TheVariants.{Integer, Text}
 use Rattle.docket_columns.specs.declared.version.Version.{Version}
 use Rattle.docket_columns.specs.declared.version.Version.TheVariants.{First, Second}
 use Rattle.docket_tables.specs.declared.table.Table.{Table}
-use Rattle.docket_tables.specs.declared.table.Table.TheVariants.{Court, Calendar, Cases, Parties, Entries, Deadlines, Acts, Receipts, Ends, ShortDays, LocalRules}
+use Rattle.docket_tables.specs.declared.table.Table.TheVariants.{Court, Calendar, Cases, Parties, Entries, Deadlines, Acts, Receipts, Due, ShortDays, LocalRules}
 
 -- a column: its name, and what it holds. No column takes NULL.
 pub record Field : Type 0 where
@@ -105,7 +105,7 @@ layout_of Receipts = record {
   uniques = [];
   parents = [];
 }
-layout_of Ends = record {
+layout_of Due = record {
   at = 8;
   name = codes "due";
   fields = number (codes "case_no") ∷ number (codes "deadline_no") ∷ number (codes "day") ∷ number (codes "moment") ∷ [];
@@ -134,7 +134,7 @@ layout_of LocalRules = record {
 }
 
 abbrev pub first_tables : List Table
-first_tables = Court ∷ Calendar ∷ Cases ∷ Parties ∷ Entries ∷ Deadlines ∷ Acts ∷ Receipts ∷ Ends ∷ []
+first_tables = Court ∷ Calendar ∷ Cases ∷ Parties ∷ Entries ∷ Deadlines ∷ Acts ∷ Receipts ∷ Due ∷ []
 
 -- the tables of a version, in the order in which they are made
 abbrev pub tables_of : Version → List Table

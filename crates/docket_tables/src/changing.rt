@@ -171,7 +171,7 @@ fn change_end<S: Alter>(tx: &mut Transaction<'_, S>, change: &EndChange) -> Resu
     match change {
         EndChange::Add(row) => {
             end_fits(*row);
-            insert(tx, Table::Ends, &end_values(row))?;
+            insert(tx, Table::Due, &end_values(row))?;
         }
         EndChange::Remove(case, deadline) => remove_end(tx, *case, *deadline)?,
         EndChange::Move(row) => move_end(tx, row)?,

@@ -56,7 +56,7 @@ pub fn ends_of_case<S: Alter>(
     ensures cause { HasCleanDisk (state S.Store tx.new.conn.now) → (court : CourtSettings) (t : Tables) (ends : List Ended) → AreStored case ends
         → Sees (state S.Store tx.old.conn.now) (rows_with court t ends) → IfErr result (IsReadingFault (state S.Store tx.old.conn.now) (state S.Store tx.new.conn.now)) }
 {
-    let rows = ask_inside(tx, Query::Ends, &[case.to_sql()])?;
+    let rows = ask_inside(tx, Query::Due, &[case.to_sql()])?;
     all_in(alloc, rows.as_slice())
 }
 

@@ -42,7 +42,7 @@ pub enum Query {
     /// The receipt under a key.
     Receipt,
     /// The ends of the deadlines of a case, in the order of the deadlines.
-    Ends,
+    Due,
     /// The local rule with the highest number.
     LastLocalRule,
     /// The local rule of a name.
@@ -97,7 +97,7 @@ pub(crate) fn select_text(query: Query) -> &'static str
         Query::DeadlineActs => {
             "SELECT case_no, deadline_no, number, kind, p1, p2, p3, p4, p5 FROM act WHERE case_no = ?1 AND deadline_no = ?2 ORDER BY number"
         }
-        Query::Ends => {
+        Query::Due => {
             "SELECT case_no, deadline_no, day, moment FROM due WHERE case_no = ?1 ORDER BY deadline_no"
         }
         Query::Receipt => { "SELECT command_key, body, reply FROM receipt WHERE command_key = ?1" }

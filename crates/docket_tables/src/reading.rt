@@ -235,7 +235,7 @@ pub fn ends_of_case<S: Alter>(
     ensures read { Reads S.Store conn.old conn.new result (λ court t found. found.items ≡ ends_of case (end_rows court t)) }
     ensures only { OnlyAsks S.Store conn.old conn.new result }
 {
-    let rows = ask(conn, Query::Ends, &[case.to_sql()])?;
+    let rows = ask(conn, Query::Due, &[case.to_sql()])?;
     all_in(alloc, rows.as_slice())
 }
 

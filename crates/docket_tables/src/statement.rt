@@ -26,7 +26,7 @@ pub fn create_text(table: Table) -> &'static str
             "CREATE TABLE act (case_no INTEGER NOT NULL, deadline_no INTEGER NOT NULL, number INTEGER NOT NULL, kind INTEGER NOT NULL, p1 INTEGER NOT NULL, p2 INTEGER NOT NULL, p3 INTEGER NOT NULL, p4 INTEGER NOT NULL, p5 INTEGER NOT NULL, PRIMARY KEY (case_no, deadline_no, number), FOREIGN KEY (case_no, deadline_no) REFERENCES deadline (case_no, number)) STRICT",
         Table::Receipts =>
             "CREATE TABLE receipt (command_key TEXT NOT NULL PRIMARY KEY, body TEXT NOT NULL, reply INTEGER NOT NULL) STRICT",
-        Table::Ends =>
+        Table::Due =>
             "CREATE TABLE due (case_no INTEGER NOT NULL, deadline_no INTEGER NOT NULL, day INTEGER NOT NULL, moment INTEGER NOT NULL, PRIMARY KEY (case_no, deadline_no), UNIQUE (day, moment, case_no, deadline_no), FOREIGN KEY (case_no, deadline_no) REFERENCES deadline (case_no, number)) STRICT",
         Table::ShortDays =>
             "CREATE TABLE short_day (row_no INTEGER PRIMARY KEY, day INTEGER NOT NULL UNIQUE, close INTEGER NOT NULL, name TEXT NOT NULL) STRICT",
@@ -62,7 +62,7 @@ pub(crate) fn insert_text(table: Table) -> &'static str
             "INSERT INTO act (case_no, deadline_no, number, kind, p1, p2, p3, p4, p5) VALUES (?1, ?2, ?3, ?4, ?5, ?6, ?7, ?8, ?9)"
         }
         Table::Receipts => { "INSERT INTO receipt (command_key, body, reply) VALUES (?1, ?2, ?3)" }
-        Table::Ends => {
+        Table::Due => {
             "INSERT INTO due (case_no, deadline_no, day, moment) VALUES (?1, ?2, ?3, ?4)"
         }
         Table::ShortDays => {
@@ -89,7 +89,7 @@ pub fn scan_text(table: Table) -> &'static str
         Table::Acts =>
             "SELECT case_no, deadline_no, number, kind, p1, p2, p3, p4, p5 FROM act ORDER BY case_no, deadline_no, number",
         Table::Receipts => "SELECT command_key, body, reply FROM receipt ORDER BY command_key",
-        Table::Ends =>
+        Table::Due =>
             "SELECT case_no, deadline_no, day, moment FROM due ORDER BY case_no, deadline_no",
         Table::ShortDays => "SELECT row_no, day, close, name FROM short_day ORDER BY row_no",
         Table::LocalRules =>

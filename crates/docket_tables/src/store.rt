@@ -142,7 +142,7 @@ pub(crate) fn remove_end<S: Alter>(
     ensures same_reference { tx.new.conn.ghost_name ≡ tx.old.conn.ghost_name }
     ensures inside { StaysInside (state S.Store tx.old.conn.now) (state S.Store tx.new.conn.now) }
     ensures ok { HasCleanDisk (state S.Store tx.new.conn.now) → (rows : Rows) → Sees (state S.Store tx.old.conn.now) rows
-        → OnOk result (Sees (state S.Store tx.new.conn.now) (with_rows table.Ends (without_key (0 ∷ 1 ∷ []) (Int (pos case) ∷ Int (pos deadline) ∷ []) (rows table.Ends)) rows)) }
+        → OnOk result (Sees (state S.Store tx.new.conn.now) (with_rows table.Due (without_key (0 ∷ 1 ∷ []) (Int (pos case) ∷ Int (pos deadline) ∷ []) (rows table.Due)) rows)) }
     ensures cause { HasCleanDisk (state S.Store tx.new.conn.now) → (rows : Rows) → Sees (state S.Store tx.old.conn.now) rows
         → IfErr result (IsCaused (state S.Store tx.old.conn.now) (state S.Store tx.new.conn.now)) }
 {
@@ -153,8 +153,8 @@ pub(crate) fn remove_end<S: Alter>(
 pub(crate) fn move_end<S: Alter>(tx: &mut Transaction<'_, S>, row: &StoredEnd) -> Result<(), Error>
     ensures same_reference { tx.new.conn.ghost_name ≡ tx.old.conn.ghost_name }
     ensures inside { StaysInside (state S.Store tx.old.conn.now) (state S.Store tx.new.conn.now) }
-    ensures ok { HasCleanDisk (state S.Store tx.new.conn.now) → (ends : List Ended) (rows : Rows) → rows table.Ends ≡ map end_cells ends → Sees (state S.Store tx.old.conn.now) rows
-        → OnOk result (Sees (state S.Store tx.new.conn.now) (with_rows table.Ends (map end_cells (changed_ends (end_change.Move row.now) ends)) rows)) }
+    ensures ok { HasCleanDisk (state S.Store tx.new.conn.now) → (ends : List Ended) (rows : Rows) → rows table.Due ≡ map end_cells ends → Sees (state S.Store tx.old.conn.now) rows
+        → OnOk result (Sees (state S.Store tx.new.conn.now) (with_rows table.Due (map end_cells (changed_ends (end_change.Move row.now) ends)) rows)) }
     ensures cause { HasCleanDisk (state S.Store tx.new.conn.now) → (rows : Rows) → Sees (state S.Store tx.old.conn.now) rows
         → IfErr result (HasChangeCause (state S.Store tx.old.conn.now) (state S.Store tx.new.conn.now)) }
 {

@@ -17,7 +17,7 @@ pub enum Table {
     Acts,
     Receipts,
     /// The ends of the deadlines whose time runs.
-    Ends,
+    Due,
     /// The days on which the office is scheduled to close earlier than the court closes.
     ShortDays,
     /// The court's local rules.
@@ -34,7 +34,7 @@ pub(crate) const TABLES: [Table; 11] = [
     Table::Deadlines,
     Table::Acts,
     Table::Receipts,
-    Table::Ends,
+    Table::Due,
     Table::ShortDays,
     Table::LocalRules,
 ];
@@ -52,7 +52,7 @@ pub fn table_name(table: Table) -> &'static str
         Table::Deadlines => "deadline",
         Table::Acts => "act",
         Table::Receipts => "receipt",
-        Table::Ends => "due",
+        Table::Due => "due",
         Table::ShortDays => "short_day",
         Table::LocalRules => "local_rule",
     }
@@ -81,7 +81,7 @@ pub fn table_columns(table: Table) -> &'static [&'static str]
             "p5",
         ],
         Table::Receipts => &["command_key", "body", "reply"],
-        Table::Ends => &["case_no", "deadline_no", "day", "moment"],
+        Table::Due => &["case_no", "deadline_no", "day", "moment"],
         Table::ShortDays => &["row_no", "day", "close", "name"],
         Table::LocalRules => &["number", "name", "days", "direction", "three", "extendable"],
     }

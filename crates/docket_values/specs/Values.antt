@@ -1,12 +1,12 @@
 -- The limits of a command's values.
 use Rattle.std.specs.Prelude.{ℕ, Bool, true, false, not, ◌&&◌, ◌||◌, if◌then◌else◌, List, [], ◌∷◌, length, nat_le, nat_lt, nat_eq, Option, Some, None, is_some, is_none}
 use Rattle.std.specs.List.{list_all}
-use Rattle.civil_time.specs.LocalTime.{local_day}
+use Rattle.court_days.specs.LocalTime.{local_day}
 use Rattle.court_days.specs.Court.{CourtSettings, zone_of}
 use Rattle.court_days.specs.declared.calendar.Direction.{Direction}
 use Rattle.court_days.specs.declared.calendar.Direction.TheVariants.{Forward}
-use Rattle.court_rules.specs.Acts.{is_forward}
-use Rattle.court_rules.specs.LocalRules.{is_local_name}
+use Rattle.docket_command.specs.Acts.{is_forward}
+use Rattle.docket_command.specs.LocalRules.{is_local_name}
 use Rattle.docket_command.specs.declared.choice.Basis.{Basis}
 use Rattle.docket_command.specs.declared.choice.Basis.TheVariants.{Private, Officer}
 use Rattle.docket_command.specs.declared.choice.PleadingKind.{PleadingKind}

@@ -7,11 +7,10 @@ ghost use Rattle.docket_command.specs.declared.field.Field as field_name;
 ghost use Rattle.docket_values.specs.Values.{is_entered, is_entered_at, is_plain, is_visible, is_short, is_text, is_word, first_bad, bad_values, bad_attorney, bad_attorney_method, bad_basis, bad_party, bad_until, bad_days, bad_choice, bad_day, bad_close, bad_text, bad_if, in_days, in_hours, is_fixed, most, bad_method, bad_order, is_new_day};
 
 use court_days::{Court, Day, Direction};
-use court_rules::is_local_name;
 use docket_command::{
     Action, Basis, CloseSpan, Dispose, Extend, Field, FileWaiver, LocalRule, Moment, NewDay,
     OpenCase, OrderPeriod, PeriodUnit, PleadingKind, Ruling, ServePleading, ServiceMethod,
-    ShortDay, Text, TimeOfDay,
+    ShortDay, Text, TimeOfDay, is_local_name,
 };
 
 /// Whether a court may enter the day.

@@ -21,12 +21,12 @@ use Rattle.docket_command.specs.declared.command_name.CommandName.TheVariants as
 use Rattle.docket_command.specs.declared.new_day.NewDay.{NewDay}
 use Rattle.docket_command.specs.declared.choice.Basis.{Basis}
 use Rattle.docket_command.specs.declared.choice.Basis.TheVariants as basis
-use Rattle.court_days.specs.declared.calendar.DayKind.{DayKind}
-use Rattle.court_days.specs.declared.calendar.DayKind.TheVariants as day_kind
-use Rattle.court_days.specs.declared.calendar.Direction.{Direction}
-use Rattle.court_days.specs.declared.calendar.Direction.TheVariants as direction
-use Rattle.court_rules.specs.declared.act.MotionKind.{MotionKind}
-use Rattle.court_rules.specs.declared.act.MotionKind.TheVariants as motion_kind
+use Rattle.docket_command.specs.calendar.DayKind.{DayKind}
+use Rattle.docket_command.specs.calendar.DayKind.TheVariants as day_kind
+use Rattle.docket_command.specs.calendar.Direction.{Direction}
+use Rattle.docket_command.specs.calendar.Direction.TheVariants as direction
+use Rattle.docket_command.specs.act.MotionKind.{MotionKind}
+use Rattle.docket_command.specs.act.MotionKind.TheVariants as motion_kind
 use Rattle.docket_command.specs.declared.choice.PeriodUnit.{PeriodUnit}
 use Rattle.docket_command.specs.declared.choice.PeriodUnit.TheVariants as period_unit
 use Rattle.docket_command.specs.declared.choice.PleadingKind.{PleadingKind}
@@ -39,8 +39,8 @@ use Rattle.docket_command.specs.declared.choice.ServiceMethod.{ServiceMethod}
 use Rattle.docket_command.specs.declared.choice.ServiceMethod.TheVariants as service_method
 use Rattle.docket_command.specs.declared.choice.Sovereign.{Sovereign}
 use Rattle.docket_command.specs.declared.choice.Sovereign.TheVariants as sovereign
-use Rattle.court_days.specs.declared.filing.Way.{Way}
-use Rattle.court_days.specs.declared.filing.Way.TheVariants as way
+use Rattle.docket_command.specs.filing.Way.{Way}
+use Rattle.docket_command.specs.filing.Way.TheVariants as way
 use Rattle.docket_command.specs.Fields.{field_name}
 use Rattle.docket_command.specs.Moments.{IsWholeMinute, moment_named, utc, utc_text}
 use Rattle.docket_command.specs.Names.{command_word}

@@ -2,7 +2,7 @@
 use Rattle.std.proofs.Common.{◌≡◌, ℕ, Bool, true, false, List, [], ◌∷◌, ℤ, length, nat_le, nat_lt, ◌==◌, Option, Some, None, IfSome, option_map, refl, ap, ◌∙◌, subst, if◌then◌else◌}
 use Rattle.civil_time.specs.LocalTime.{local_day, seconds}
 use Rattle.civil_time.specs.MomentText.{moment_text}
-use Rattle.count_lines.specs.Answers.{CourtState, Outcome as Answered, judged, judged_long, last_day, outcome_of, entered_as, is_entered_span, with_calendar}
+use Rattle.count_lines.specs.Answers.{CourtState, Outcome as Answered, line_answer, long_line_answer, last_day, outcome_of, entered_as, is_entered_span, with_calendar}
 use Rattle.count_lines.specs.Requests.{value_if}
 use Rattle.count_lines.specs.declared.answer.Answer.TheVariants as answer
 use Rattle.count_lines.specs.declared.request.Request.{Request}
@@ -26,22 +26,22 @@ use Rattle.line_io.specs.Report.{within, bad_of}
 use Rattle.reason_lines.specs.Lines.{reasons_text}
 
 -- a line is bad, and leaves what it leaves, as in `count`
-same_bad : (state : CourtState) (line : List ℕ) → (within 256 explained judged_long state line).bad ≡ (within 256 judged judged_long state line).bad
+same_bad : (state : CourtState) (line : List ℕ) → (within 256 explained long_line_answer state line).bad ≡ (within 256 line_answer long_line_answer state line).bad
 same_bad state line = go (nat_le (length line) 256) where
-  go : (fits : Bool) → (if fits then explained state line else judged_long state).bad ≡ (if fits then judged state line else judged_long state).bad
+  go : (fits : Bool) → (if fits then explained state line else long_line_answer state).bad ≡ (if fits then line_answer state line else long_line_answer state).bad
   go true = refl
   go false = refl
 
-same_after : (state : CourtState) (line : List ℕ) → (within 256 explained judged_long state line).after ≡ (within 256 judged judged_long state line).after
+same_after : (state : CourtState) (line : List ℕ) → (within 256 explained long_line_answer state line).after ≡ (within 256 line_answer long_line_answer state line).after
 same_after state line = go (nat_le (length line) 256) where
-  go : (fits : Bool) → (if fits then explained state line else judged_long state).after ≡ (if fits then judged state line else judged_long state).after
+  go : (fits : Bool) → (if fits then explained state line else long_line_answer state).after ≡ (if fits then line_answer state line else long_line_answer state).after
   go true = refl
   go false = refl
 
-pub same_bad_of : (state : CourtState) (lines : List (List ℕ)) → bad_of (within 256 explained judged_long) state lines ≡ bad_of (within 256 judged judged_long) state lines
+pub same_bad_of : (state : CourtState) (lines : List (List ℕ)) → bad_of (within 256 explained long_line_answer) state lines ≡ bad_of (within 256 line_answer long_line_answer) state lines
 same_bad_of state [] = refl
 same_bad_of state (line ∷ lines) =
-    rw (same_bad state line, same_after state line, same_bad_of (within 256 judged judged_long state line).after lines) refl
+    rw (same_bad state line, same_after state line, same_bad_of (within 256 line_answer long_line_answer state line).after lines) refl
 
 -- where a request has a period, `count` answers its end, and nothing is entered
 abbrev pub EndsIn : CourtState → Answered → Start → Type 0

@@ -3,7 +3,7 @@
 use Rattle.std.specs.Prelude.{ℕ, ℤ, Bool, false, List, [], ◌∷◌, Option, None, Some, option_map, option_and_then}
 use Rattle.civil_time.specs.LocalTime.{local_day, seconds}
 use Rattle.civil_time.specs.Zone.{ZoneRules}
-use Rattle.count_lines.specs.Answers.{CourtState, judged}
+use Rattle.count_lines.specs.Answers.{CourtState, line_answer}
 use Rattle.count_lines.specs.Requests.{value_if, request_of}
 use Rattle.count_lines.specs.declared.request.Request.{Request}
 use Rattle.count_lines.specs.declared.request.Request.TheVariants.{CountDays, CountMonths, CountHours, ByRule}
@@ -19,7 +19,7 @@ use Rattle.court_rules.specs.declared.deadline_rule.DeadlineRule.{DeadlineRule}
 use Rattle.court_rules.specs.declared.deadline_rule.DeadlineRule.TheVariants.{Listed}
 use Rattle.court_rules.specs.declared.table.Period.{Period}
 use Rattle.court_rules.specs.declared.table.Period.TheVariants as period
-use Rattle.line_io.specs.Report.{Judged}
+use Rattle.line_io.specs.Report.{LineAnswer}
 use Rattle.reason_lines.specs.Lines.{reasons_text}
 
 -- a period of days or months from the day of an event (Fed. R. Civ. P. 6(a)(1)), and whether service adds three days (6(d))
@@ -69,5 +69,5 @@ reasons_or (Some reasons) answer = reasons
 reasons_or None answer = answer
 
 -- what a line comes to: whether it is bad, and what the next line finds, as in `count`
-abbrev pub explained : CourtState → List ℕ → Judged CourtState
-explained state line = record (judged state line) { text = reasons_or (reasons_at state line) (judged state line).text }
+abbrev pub explained : CourtState → List ℕ → LineAnswer CourtState
+explained state line = record (line_answer state line) { text = reasons_or (reasons_at state line) (line_answer state line).text }

@@ -32,7 +32,7 @@ struct Explainer {
 
 impl Answerer for Explainer {
     ghost use Rattle.std.specs.Prelude.{◌≡◌, ⊤};
-    ghost use Rattle.count_lines.specs.Answers.{CourtState, state_of, judged_long};
+    ghost use Rattle.count_lines.specs.Answers.{CourtState, state_of, long_line_answer};
     ghost use Rattle.explain_lines.specs.Explained.{explained};
 
     type Fault = AllocError;
@@ -56,9 +56,9 @@ impl Answerer for Explainer {
 
     ghost Steps = { λ _ _. ⊤ };
 
-    ghost judge = { explained };
+    ghost answer_to = { explained };
 
-    ghost judge_long = { judged_long };
+    ghost too_long = { long_line_answer };
 
     fn answer(&mut self, line: &[u8], out: &mut Vec<u8>) -> Result<bool, AllocError> {
         match self.reasons_at(line)? {

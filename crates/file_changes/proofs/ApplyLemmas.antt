@@ -12,7 +12,8 @@ use Rattle.docket_applying.specs.Applying.{Applies, Stands}
 use Rattle.docket_applying.specs.Dockets.{Docket as Stored}
 use Rattle.docket_applying.specs.declared.fault.Fault.{Fault}
 use Rattle.docket_applying.specs.declared.fault.Fault.TheVariants.{Refused, NoMemory, StoreFailed, Closed, Damaged}
-use Rattle.command_lines.specs.Lines.{Docket, docket_with}
+use Rattle.docket_applying.specs.CourtDockets.{CourtDocket as Docket}
+use Rattle.command_lines.specs.Lines.{docket_with}
 use Rattle.file_changes.specs.Commands.{AppliesTo}
 use Rattle.file_dockets.specs.Keeping.{HoldsBetween, Keeps, rows_told}
 use Rattle.file_dockets.proofs.KeepLemmas.{held, either}

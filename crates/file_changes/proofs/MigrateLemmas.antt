@@ -15,7 +15,7 @@ use Rattle.docket_store.specs.Left.{Leaves, LeavesRows}
 use Rattle.docket_store.specs.Migrating.{cause_of, first_rows}
 use Rattle.docket_store.specs.declared.migrating.MigrateFault.{MigrateFault}
 use Rattle.docket_store.specs.declared.migrating.MigrateFault.TheVariants as migrate
-use Rattle.command_lines.specs.Lines.{Docket}
+use Rattle.docket_applying.specs.CourtDockets.{CourtDocket as Docket}
 use Rattle.file_dockets.specs.Keeping.{rows_told}
 use Rattle.file_changes.specs.Migrates.{MigratesTo, Stays, StaysIn}
 

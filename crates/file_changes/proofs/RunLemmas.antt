@@ -13,10 +13,12 @@ use Rattle.docket_applying.specs.declared.fault.Fault.TheVariants.{Refused, NoMe
 use Rattle.line_io.specs.Ending.{BreaksOff}
 use Rattle.line_io.specs.Lines.{lines_of}
 use Rattle.line_io.specs.Output.{HasFront}
-use Rattle.line_io.specs.Report.{Judged, after_of, text_of}
+use Rattle.line_io.specs.Report.{LineAnswer, after_of, text_of}
 use Rattle.line_io.specs.declared.ending.CountEnd.{CountEnd}
-use Rattle.command_lines.specs.Ending.{Leaves, StandsAs}
-use Rattle.command_lines.specs.Lines.{Docket, bad_answers, docket_after, line_judged, run_text}
+use Rattle.docket_applying.specs.CourtDockets.{StandsAs}
+use Rattle.command_lines.specs.Ending.{Leaves}
+use Rattle.docket_applying.specs.CourtDockets.{CourtDocket as Docket}
+use Rattle.command_lines.specs.Lines.{bad_answers, docket_after, answer_to_line, run_text}
 use Rattle.command_lines.specs.declared.fault.RunFault.{RunFault}
 use Rattle.command_lines.specs.declared.fault.RunFault.TheVariants as run
 use Rattle.file_dockets.specs.Keeping.{HoldsBetween, Keeps, rows_told}
@@ -38,10 +40,10 @@ some_both None P Q R then p q = tt
 some_both (Some x) P Q R then p q = then x p q
 
 -- the answers to lines and to those behind them
-text_append : (s : Docket) (xs ys : List (List ℕ)) → text_of line_judged s (xs ++ ys) ≡ text_of line_judged s xs ++ text_of line_judged (after_of line_judged s xs) ys
+text_append : (s : Docket) (xs ys : List (List ℕ)) → text_of answer_to_line s (xs ++ ys) ≡ text_of answer_to_line s xs ++ text_of answer_to_line (after_of answer_to_line s xs) ys
 text_append s [] ys = refl
 text_append s (x ∷ xs) ys =
-    ap (λ rest. (line_judged s x).text ++ rest) (text_append (line_judged s x).after xs ys) ∙ sym (append_assoc (line_judged s x).text _ _)
+    ap (λ rest. (answer_to_line s x).text ++ rest) (text_append (answer_to_line s x).after xs ys) ∙ sym (append_assoc (answer_to_line s x).text _ _)
 
 -- bytes that begin two ways begin with the shorter one
 front : (a ys out lost : List ℕ) → a ++ ys ≡ out ++ lost → length a ≤ length out → out ≡ a ++ drop (length a) out
@@ -53,8 +55,8 @@ appends_none : (known : Option (List ℕ)) → Appends known known []
 appends_none None = tt
 appends_none (Some xs) = sym (append-nil xs)
 
-breaks_map : {S : Type 0} {judge : S → List ℕ → Judged S} (L M : S → S → Type 0) → ((before next : S) → L before next → M before next)
-    → (most : ℕ) (s : S) (lines : List (List ℕ)) (old new : Option (List ℕ)) → BreaksOff judge L most s lines old new → BreaksOff judge M most s lines old new
+breaks_map : {S : Type 0} {answer_to : S → List ℕ → LineAnswer S} (L M : S → S → Type 0) → ((before next : S) → L before next → M before next)
+    → (most : ℕ) (s : S) (lines : List (List ℕ)) (old new : Option (List ℕ)) → BreaksOff answer_to L most s lines old new → BreaksOff answer_to M most s lines old new
 breaks_map L M more most s lines old new b = record {
   answered = b.answered;
   more = b.more;
@@ -88,7 +90,7 @@ module _ {S : Type 0} (g : Ghosts S) (stored : Stored S) where
         Appends before after (run_text docket input) × (end.lines ≡ length (lines_of input)) × (end.bad ≡ bad_answers docket input) × StandsAs g stored (docket_after docket input)))
         → OnErr r ((docket : Docket) → StandsAs g old docket → HasCleanDisk (state g stored.conn) → IfSome known (λ input. HasFront before after (run_text docket input)))
         → IfErr r (λ fault. (docket : Docket) → StandsAs g old docket → HasCleanDisk (state g stored.conn) → IfSome known (λ input.
-        BreaksOff line_judged (Leaves g stored fault) 0 docket (lines_of input) before after))
+        BreaksOff answer_to_line (Leaves g stored fault) 0 docket (lines_of input) before after))
         → (docket : Docket) → StandsAs g old docket → HasCleanDisk (state g stored.conn)
         → IfSome known (λ input. Answers (HoldsBetween g stored.conn) docket input before after r)
     answers_of (Ok end) whole part left docket stands clean =
@@ -158,7 +160,7 @@ module _ {S : Type 0} (g : Ghosts S) (conn : Held S) where
     prefix_of : (r : Result CountEnd RunFault) → Answers (HoldsBetween g conn) docket input before after r
         → LeavesPrefix (HoldsBetween g conn) docket input before after
     prefix_of (Ok end) all =
-        let nothing_more : List (List ℕ) → Type 0 = λ lines. HoldsBetween g conn (rows_told (docket_after docket input)) (rows_told (after_of line_judged docket lines)) in
+        let nothing_more : List (List ℕ) → Type 0 = λ lines. HoldsBetween g conn (rows_told (docket_after docket input)) (rows_told (after_of answer_to_line docket lines)) in
         record {
           answered = lines_of input;
           more = [];
@@ -170,7 +172,7 @@ module _ {S : Type 0} (g : Ghosts S) (conn : Held S) where
           begun = [];
           acknowledged = sym (append-nil _);
           lost = [];
-          no_further = ap (text_of line_judged docket) (append-nil (lines_of input)) ∙ sym (append-nil _);
+          no_further = ap (text_of answer_to_line docket) (append-nil (lines_of input)) ∙ sym (append-nil _);
           left = subst nothing_more (sym (append-nil (lines_of input))) all.left.1;
         }
     prefix_of (Err fault) part =
@@ -183,7 +185,7 @@ module _ {S : Type 0} (g : Ghosts S) (conn : Held S) where
           one_more = b.one_more;
           out = b.out;
           appends = b.appends;
-          begun = drop (length (text_of line_judged docket b.answered)) b.out;
+          begun = drop (length (text_of answer_to_line docket b.answered)) b.out;
           acknowledged = front _ _ b.out b.lost (sym (text_append docket b.answered b.more) ∙ b.text) (omega (arith, b.missing));
           lost = b.lost;
           no_further = b.text;

@@ -4,8 +4,7 @@ use Rattle.sqlite.specs.Store.{Ghosts}
 use Rattle.sqlite.specs.Held.{Held}
 use Rattle.court_days.specs.Court.{CourtSettings}
 use Rattle.docket_applying.specs.Dockets.{Docket as Stored}
-use Rattle.command_lines.specs.Ending.{StandsAs}
-use Rattle.command_lines.specs.Lines.{Docket}
+use Rattle.docket_applying.specs.CourtDockets.{CourtDocket as Docket, StandsAs}
 use Rattle.file_dockets.specs.Keeping.{HoldsBetween, Keeps}
 use Rattle.file_dockets.proofs.KeepLemmas.{held}
 

@@ -6,7 +6,8 @@ use Rattle.docket_decisions.specs.Outcomes.{accepted, outcome, refused, repeated
 use Rattle.docket_tables.specs.Layouts.{Rows}
 use Rattle.docket_applying.specs.declared.fault.Fault.{Fault}
 use Rattle.docket_applying.specs.declared.fault.Fault.TheVariants.{NoMemory, Refused, StoreFailed}
-use Rattle.command_lines.specs.Lines.{Docket, docket_with}
+use Rattle.docket_applying.specs.CourtDockets.{CourtDocket as Docket}
+use Rattle.command_lines.specs.Lines.{docket_with}
 use Rattle.file_dockets.specs.Keeping.{Keeps, rows_told}
 
 -- a reply leaves the docket after the command; a refusal and want of memory the docket as it was; where the database failed one of them is left

@@ -12,7 +12,7 @@ use Rattle.docket_store.specs.Left.{Leaves, LeavesRows}
 use Rattle.docket_store.specs.Migrating.{first_rows}
 use Rattle.docket_store.specs.declared.migrating.MigrateFault.{MigrateFault}
 use Rattle.docket_store.specs.declared.migrating.MigrateFault.TheVariants.{NoMemory, StoreFailed}
-use Rattle.command_lines.specs.Lines.{Docket}
+use Rattle.docket_applying.specs.CourtDockets.{CourtDocket as Docket}
 use Rattle.file_dockets.specs.Keeping.{rows_told}
 
 -- a database has the docket in tables of the first version

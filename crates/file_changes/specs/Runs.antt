@@ -9,7 +9,8 @@ use Rattle.line_io.specs.Lines.{lines_of}
 use Rattle.line_io.specs.Output.{HasFront}
 use Rattle.line_io.specs.Report.{after_of, text_of}
 use Rattle.line_io.specs.declared.ending.CountEnd.{CountEnd}
-use Rattle.command_lines.specs.Lines.{Docket, bad_answers, docket_after, line_judged, run_text}
+use Rattle.docket_applying.specs.CourtDockets.{CourtDocket as Docket}
+use Rattle.command_lines.specs.Lines.{bad_answers, docket_after, answer_to_line, run_text}
 use Rattle.command_lines.specs.declared.fault.RunFault.{RunFault}
 use Rattle.command_lines.specs.declared.fault.RunFault.TheVariants as run
 use Rattle.file_dockets.specs.Keeping.{Keeps, rows_told}
@@ -35,7 +36,7 @@ module _ (Left : Rows → Rows → Type 0) where
   -- a front of the answers went out
   pub record AnswersFront (docket : Docket) (input : List ℕ) (before after : Option (List ℕ)) (fault : RunFault) : Type 0 where
     pub text : HasFront before after (run_text docket input)
-    pub left : BreaksOff line_judged (LeftBetween fault) 0 docket (lines_of input) before after
+    pub left : BreaksOff answer_to_line (LeftBetween fault) 0 docket (lines_of input) before after
 
   abbrev pub Answers : Docket → List ℕ → Option (List ℕ) → Option (List ℕ) → Result CountEnd RunFault → Type 0
   Answers docket input before after (Ok end) = AnswersAll docket input before after end
@@ -56,7 +57,7 @@ module _ (Left : Rows → Rows → Type 0) where
     pub out : List ℕ
     pub appends : Appends before after out
     pub begun : List ℕ
-    pub acknowledged : out ≡ text_of line_judged docket answered ++ begun
+    pub acknowledged : out ≡ text_of answer_to_line docket answered ++ begun
     pub lost : List ℕ
-    pub no_further : text_of line_judged docket (answered ++ more) ≡ out ++ lost
-    pub left : Left (rows_told (after_of line_judged docket answered)) (rows_told (after_of line_judged docket (answered ++ more)))
+    pub no_further : text_of answer_to_line docket (answered ++ more) ≡ out ++ lost
+    pub left : Left (rows_told (after_of answer_to_line docket answered)) (rows_told (after_of answer_to_line docket (answered ++ more)))

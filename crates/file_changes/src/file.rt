@@ -13,7 +13,7 @@ ghost use Rattle.docket_applying.specs.Applying.{IsDocket, docket_rows};
 ghost use Rattle.docket_store.specs.Left.{IsUnharmed, LeavesRows};
 ghost use Rattle.docket_store.specs.Migrating.{HoldFirst};
 ghost use Rattle.docket_store.specs.Reopening.{HoldDocket};
-ghost use Rattle.command_lines.specs.Lines.{Docket as Told};
+ghost use Rattle.docket_applying.specs.CourtDockets.{CourtDocket as Told};
 ghost use Rattle.file_dockets.specs.Keeping.{rows_told};
 ghost use Rattle.file_dockets.specs.Works.{WorksTo};
 ghost use Rattle.file_changes.specs.Commands.{AppliesTo};

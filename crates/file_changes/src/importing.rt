@@ -3,7 +3,7 @@ ghost use Rattle.std.specs.Prelude.{IfErr};
 ghost use Rattle.sqlite.specs.Held.{state};
 ghost use Rattle.sqlite.specs.State.{HasCleanDisk};
 ghost use Rattle.docket_applying.specs.Applying.{IsDocket, StandsFor};
-ghost use Rattle.command_lines.specs.Lines.{Docket as Told};
+ghost use Rattle.docket_applying.specs.CourtDockets.{CourtDocket as Told};
 ghost use Rattle.file_changes.specs.Commands.{AppliesTo};
 ghost use Rattle.file_dockets.specs.Keeping.{HoldsBetween, rows_told};
 ghost use Rattle.file_dockets.specs.Works.{WorksTo};

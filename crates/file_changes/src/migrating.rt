@@ -5,7 +5,7 @@ ghost use Rattle.docket_scan.specs.Dockets.{MayHold};
 ghost use Rattle.docket_tables.specs.Stands.{HoldsRowsIn};
 ghost use Rattle.docket_applying.specs.Applying.{IsDocket};
 ghost use Rattle.docket_store.specs.Migrating.{first_rows};
-ghost use Rattle.command_lines.specs.Lines.{Docket as Told};
+ghost use Rattle.docket_applying.specs.CourtDockets.{CourtDocket as Told};
 ghost use Rattle.file_dockets.specs.Keeping.{HoldsBetween, rows_told};
 ghost use Rattle.file_changes.specs.Migrates.{StaysIn};
 

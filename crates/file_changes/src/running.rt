@@ -4,8 +4,7 @@ ghost use Rattle.sqlite.specs.Held.{state};
 ghost use Rattle.sqlite.specs.State.{HasCleanDisk};
 ghost use Rattle.file_dockets.specs.Keeping.{HoldsBetween};
 ghost use Rattle.docket_applying.specs.Applying.{IsDocket, StandsFor};
-ghost use Rattle.command_lines.specs.Ending.{StandsAs};
-ghost use Rattle.command_lines.specs.Lines.{Docket as Told};
+ghost use Rattle.docket_applying.specs.CourtDockets.{CourtDocket as Told, StandsAs};
 ghost use Rattle.file_changes.specs.Runs.{Answers, LeavesPrefix, RunsTo};
 
 use command_lines::{Clerk, CountEnd, RunFault, command_run};

@@ -6,8 +6,8 @@ use Rattle.sqlite.specs.Held.{Held, state}
 use Rattle.sqlite.specs.State.{HasCleanDisk, State}
 use Rattle.docket_tables.specs.Layouts.{Rows}
 use Rattle.docket_tables.specs.Stands.{IsImage, IsSettled}
-use Rattle.docket_applying.specs.Applying.{IsDocket, docket_rows}
-use Rattle.command_lines.specs.Lines.{Docket}
+use Rattle.docket_store.specs.Applying.{IsDocket, docket_rows}
+use Rattle.docket_store.specs.CourtDockets.{CourtDocket as Docket}
 
 -- each database that a power failure may leave has the rows or the next ones; so has the last commit, unless the connection is shut
 pub record IsBetween (s : State) (rows next : Rows) : Type 0 where

@@ -8,7 +8,7 @@ ghost use Rattle.docket_scan.specs.Dockets.{holdings_in};
 ghost use Rattle.docket_tables.specs.Layouts.{Rows};
 ghost use Rattle.docket_tables.specs.Stands.{HoldsRows};
 ghost use Rattle.docket_store.specs.Opening.{PreservesRejected};
-ghost use Rattle.docket_applying.specs.Applying.{IsDocket, StandsFor, docket_rows};
+ghost use Rattle.docket_store.specs.Applying.{IsDocket, StandsFor, docket_rows};
 ghost use Rattle.docket_store.specs.Opening.{IsAdopted, IsNotAdopted};
 
 use docket_store::{AdoptFault, Docket, Holdings, Returned, Watch};

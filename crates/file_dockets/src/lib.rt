@@ -6,5 +6,6 @@ mod ended;
 mod leaving;
 
 pub use adopting::adopt;
+pub use docket_store::AdoptFault;
 pub use ended::{Ended, OnFile, Worked};
 pub use leaving::leave;

@@ -5,7 +5,7 @@ ghost use Rattle.docket_scan.specs.Dockets.{holdings_in};
 ghost use Rattle.docket_tables.specs.Layouts.{Rows};
 ghost use Rattle.docket_tables.specs.Stands.{HoldsRows};
 ghost use Rattle.docket_applying.specs.Applying.{IsDocket, StandsFor};
-ghost use Rattle.command_lines.specs.Lines.{Docket as Told};
+ghost use Rattle.docket_applying.specs.CourtDockets.{CourtDocket as Told};
 ghost use Rattle.file_questions.specs.Checks.{IsSoundDocket};
 ghost use Rattle.file_dockets.specs.Keeping.{HoldsBetween};
 ghost use Rattle.file_dockets.specs.Works.{WorksTo};

@@ -11,7 +11,7 @@ ghost use Rattle.docket_tables.specs.Layouts.{Rows};
 ghost use Rattle.docket_tables.specs.Stands.{HoldsRows};
 ghost use Rattle.docket_applying.specs.AnyRows.{Preserves};
 ghost use Rattle.docket_applying.specs.Applying.{Asks, IsDocket, Stands, StandsFor};
-ghost use Rattle.command_lines.specs.Lines.{Docket as Told};
+ghost use Rattle.docket_applying.specs.CourtDockets.{CourtDocket as Told};
 ghost use Rattle.file_dockets.specs.Keeping.{HoldsBetween};
 ghost use Rattle.file_dockets.specs.Works.{WorksTo};
 ghost use Rattle.file_questions.specs.Tells.{AnswersTo, reasons_of, text_of_reasons};

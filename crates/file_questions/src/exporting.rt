@@ -10,7 +10,7 @@ ghost use Rattle.docket_tables.specs.Stands.{HoldsRows};
 ghost use Rattle.docket_applying.specs.AnyRows.{Preserves, PreservesCalendar};
 ghost use Rattle.docket_applying.specs.Applying.{Asks, IsDocket, Stands, StandsFor};
 ghost use Rattle.due_exports.specs.Exports.{export_foot, export_head};
-ghost use Rattle.command_lines.specs.Lines.{Docket as Told};
+ghost use Rattle.docket_applying.specs.CourtDockets.{CourtDocket as Told};
 ghost use Rattle.file_questions.specs.CaseLists.{IsEarlyWrite};
 ghost use Rattle.file_questions.specs.Exports.{ExportsTo, HaveCases, IsCase, PutsExport, PutsOut, TextOut, entries_from, entry_of, reasons_in, rows_of_export};
 ghost use Rattle.file_dockets.specs.Keeping.{HoldsBetween};

@@ -15,7 +15,7 @@ ghost use Rattle.docket_text.specs.RuleTexts.{rules_text};
 ghost use Rattle.docket_applying.specs.Applying.{IsDocket};
 ghost use Rattle.docket_store.specs.Left.{IsUnharmed, LeavesRows};
 ghost use Rattle.docket_store.specs.Reopening.{HoldDocket};
-ghost use Rattle.command_lines.specs.Lines.{Docket as Told};
+ghost use Rattle.docket_applying.specs.CourtDockets.{CourtDocket as Told};
 ghost use Rattle.file_dockets.specs.Keeping.{rows_told};
 ghost use Rattle.file_dockets.specs.Works.{WorksTo};
 ghost use Rattle.file_questions.specs.CaseLists.{ListsCases, cases_wanted};

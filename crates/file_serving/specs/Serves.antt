@@ -5,8 +5,7 @@ use Rattle.sqlite.specs.Store.{Ghosts}
 use Rattle.docket_scan.specs.declared.fault.AdoptFault.{AdoptFault}
 use Rattle.docket_serving.specs.Desks.{Desk}
 use Rattle.docket_serving.specs.Serving.{ServesRun}
-use Rattle.command_lines.specs.Ending.{StandsAs}
-use Rattle.command_lines.specs.Lines.{Docket}
+use Rattle.docket_applying.specs.CourtDockets.{CourtDocket as Docket, StandsAs}
 use Rattle.file_serving.specs.declared.serving.ServeEnd.{ServeEnd}
 use Rattle.file_serving.specs.declared.serving.ServeEnd.TheVariants.{Stopped}
 use Rattle.file_serving.specs.declared.serving.Service.{Service}

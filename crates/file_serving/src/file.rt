@@ -9,7 +9,7 @@ ghost use Rattle.sqlite.specs.Files.{IsCleanLeft};
 ghost use Rattle.docket_tables.specs.Stands.{IsImage};
 ghost use Rattle.docket_store.specs.Left.{IsUnharmed, LeavesRows};
 ghost use Rattle.docket_store.specs.Reopening.{HoldDocket};
-ghost use Rattle.command_lines.specs.Lines.{Docket as Told};
+ghost use Rattle.docket_applying.specs.CourtDockets.{CourtDocket as Told};
 ghost use Rattle.file_dockets.specs.Keeping.{rows_told};
 ghost use Rattle.file_serving.specs.Serves.{IfUnserved};
 

@@ -6,7 +6,7 @@ ghost use Rattle.sqlite.specs.View.{doubt};
 ghost use Rattle.docket_tables.specs.Layouts.{Rows};
 ghost use Rattle.docket_tables.specs.Stands.{HoldsRows};
 ghost use Rattle.docket_applying.specs.Applying.{IsDocket, StandsFor};
-ghost use Rattle.command_lines.specs.Lines.{Docket as Told};
+ghost use Rattle.docket_applying.specs.CourtDockets.{CourtDocket as Told};
 ghost use Rattle.file_dockets.specs.Keeping.{HoldsBetween};
 ghost use Rattle.file_serving.specs.Serves.{IfUnserved, Serves, ServesPort};
 ghost use Rattle.file_dockets.specs.Works.{WorksTo};

@@ -6,8 +6,8 @@ use Rattle.std.proofs.lemmas.List.{nil_from_length}
 use Rattle.std.proofs.lemmas.Grind.{flat_map-append}
 use Rattle.std.specs.List.{flat_map, AllByRecursion}
 use Rattle.http_request.specs.declared.head.Scan.{Scan}
-use Rattle.http_request.specs.declared.head.Found.{Found}
-use Rattle.http_request.specs.declared.head.Found.TheVariants.{More, Head, TooLong}
+use Rattle.http_request.specs.declared.head.HeadSearch.{HeadSearch}
+use Rattle.http_request.specs.declared.head.HeadSearch.TheVariants.{More, Head, TooLong}
 use Rattle.http_request.specs.declared.head.Line.{Line}
 use Rattle.http_request.specs.declared.head.Line.TheVariants.{Empty, Return, Filled}
 use Rattle.http_request.specs.Head.{found_over, and_then, found_with, go_on, line_ended, grown, head_of, start}
@@ -34,7 +34,7 @@ pub record HasCome (s : Scan) (bytes : List ℕ) : Type 0 where
   pub few : s.lines < 66
 
 -- what the search says of them
-abbrev pub Tells : Found → List ℕ → Type 0
+abbrev pub Tells : HeadSearch → List ℕ → Type 0
 Tells (More s) bytes = HasCome s bytes
 Tells (Head len) bytes = IsHeadWithin bytes × (len ≡ length bytes)
 Tells TooLong bytes = Unit {0}
@@ -209,7 +209,7 @@ goes_over bytes (b ∷ rest) s len come e =
     subst (λ x. Ends x len) (append_assoc bytes (b ∷ []) rest)
     (at (λ t more later. goes_over (bytes ++ b ∷ []) rest t len more later) (found_with s b) refl) where
       at : ((t : Scan) → HasCome t (bytes ++ b ∷ []) → found_over t rest ≡ Head len → Ends ((bytes ++ b ∷ []) ++ rest) len)
-          → (f : Found) → found_with s b ≡ f → Ends ((bytes ++ b ∷ []) ++ rest) len
+          → (f : HeadSearch) → found_with s b ≡ f → Ends ((bytes ++ b ∷ []) ++ rest) len
       at go (More t) same = go t (subst (λ f. Tells f (bytes ++ b ∷ [])) same (next s bytes b come))
           (sym (ap (λ f. and_then f (λ u. found_over u rest)) same) ∙ e)
       at go (Head n) same =

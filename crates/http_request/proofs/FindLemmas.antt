@@ -4,7 +4,7 @@ use Rattle.std.proofs.lemmas.Bool.{lt-ltb, ne_eqb}
 use Rattle.std.proofs.lemmas.Bool.Decides.{eqb_tells}
 use Rattle.std.specs.List.{flat_map, AllByRecursion}
 use Rattle.http_request.specs.declared.head.Scan.{Scan}
-use Rattle.http_request.specs.declared.head.Found.TheVariants.{More, Head, TooLong}
+use Rattle.http_request.specs.declared.head.HeadSearch.TheVariants.{More, Head, TooLong}
 use Rattle.http_request.specs.declared.head.Line.{Line}
 use Rattle.http_request.specs.declared.head.Line.TheVariants.{Empty, Return, Filled}
 use Rattle.http_request.specs.Head.{found_over, and_then, found_with, go_on, line_ended, grown, head_of}

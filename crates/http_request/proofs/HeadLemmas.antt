@@ -1,18 +1,18 @@
 -- The found_over over bytes that come in pieces.
 use Rattle.std.proofs.Common.{◌≡◌, ℕ, ◌+◌, ◌≤◌, List, [], ◌∷◌, ◌++◌, length, refl, ap, sym, ◌∙◌, true, false, cond, ◌==◌, nat_lt, arith}
 use Rattle.http_request.specs.declared.head.Scan.{Scan}
-use Rattle.http_request.specs.declared.head.Found.{Found}
-use Rattle.http_request.specs.declared.head.Found.TheVariants.{More, Head, TooLong}
+use Rattle.http_request.specs.declared.head.HeadSearch.{HeadSearch}
+use Rattle.http_request.specs.declared.head.HeadSearch.TheVariants.{More, Head, TooLong}
 use Rattle.http_request.specs.declared.head.Line.{Line}
 use Rattle.http_request.specs.declared.head.Line.TheVariants.{Empty, Return, Filled}
 use Rattle.http_request.specs.Head.{found_over, and_then, found_with, go_on, line_ended, grown}
 
-pub and_then-assoc : (f : Found) (g h : Scan → Found) → and_then (and_then f g) h ≡ and_then f (λ s. and_then (g s) h)
+pub and_then-assoc : (f : HeadSearch) (g h : Scan → HeadSearch) → and_then (and_then f g) h ≡ and_then f (λ s. and_then (g s) h)
 and_then-assoc (More s) g h = refl
 and_then-assoc (Head n) g h = refl
 and_then-assoc TooLong g h = refl
 
-pub and_then-same : (f : Found) (g h : Scan → Found) → ((s : Scan) → g s ≡ h s) → and_then f g ≡ and_then f h
+pub and_then-same : (f : HeadSearch) (g h : Scan → HeadSearch) → ((s : Scan) → g s ≡ h s) → and_then f g ≡ and_then f h
 and_then-same (More s) g h e = e s
 and_then-same (Head n) g h e = refl
 and_then-same TooLong g h e = refl
@@ -36,7 +36,7 @@ pub found_over-too_long : (a : List ℕ) (s : Scan) (b : List ℕ) → found_ove
 found_over-too_long a s b e = found_over-append a s b ∙ ap (λ f. and_then f (λ u. found_over u b)) e
 
 -- a search that has come so far
-abbrev pub ComesTo : ℕ → Found → Type 0
+abbrev pub ComesTo : ℕ → HeadSearch → Type 0
 ComesTo len (More t) = t.len ≡ len
 ComesTo len (Head m) = m ≡ len
 ComesTo len TooLong = Unit {0}
@@ -61,7 +61,7 @@ found_with-len s b =
     elim (b == 10) as (λ v. ComesTo (s.len + 1) (cond v (line_ended (s.len + 1) s.lines s.line) (go_on t)))
     [ true ↦ line_ended-len (s.len + 1) s.lines s.line | false ↦ go_on-len t ]
 
-within-step : (f : Found) (k n len : ℕ) (a : List ℕ) → ComesTo (k + 1) f → len ≡ length a
+within-step : (f : HeadSearch) (k n len : ℕ) (a : List ℕ) → ComesTo (k + 1) f → len ≡ length a
     → ((t : Scan) → found_over t a ≡ Head n → n ≤ t.len + len) → and_then f (λ t. found_over t a) ≡ Head n → n ≤ k + (len + 1)
 within-step (More t) k n len a here is ih e = let below : n ≤ t.len + len = ih t e in omega arith
 within-step (Head m) k n len a here is ih e = let same : m ≡ n = cc in omega arith

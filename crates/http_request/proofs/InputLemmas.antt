@@ -2,8 +2,8 @@
 use Rattle.std.proofs.Common.{◌≡◌, ℕ, ◌+◌, ◌-◌, List, [], ◌++◌, length, take, drop, refl, ap, sym, ◌∙◌, append_assoc, length-append, length-drop, Option, Some, None, rules, arith}
 use Rattle.std.proofs.Math.Seq.{drop-append_seam}
 use Rattle.http_request.specs.declared.head.Scan.{Scan}
-use Rattle.http_request.specs.declared.head.Found.{Found}
-use Rattle.http_request.specs.declared.head.Found.TheVariants.{More}
+use Rattle.http_request.specs.declared.head.HeadSearch.{HeadSearch}
+use Rattle.http_request.specs.declared.head.HeadSearch.TheVariants.{More}
 use Rattle.std.proofs.lemmas.Grind.{common_steps}
 use Rattle.http_request.specs.Head.{head_of, found_over, start}
 use Rattle.http_request.proofs.HeadLemmas.{found_over-more}
@@ -35,7 +35,7 @@ pub slice_from : (xs : List ℕ) (at : ℕ) → take (length xs - at) (drop at x
 slice_from xs at = grind (arith, common_steps)
 
 -- a search goes on with what came since
-pub head_of-on : (old new piece view : List ℕ) (s : Scan) (found : Found) → new ≡ old ++ piece → view ≡ new
+pub head_of-on : (old new piece view : List ℕ) (s : Scan) (found : HeadSearch) → new ≡ old ++ piece → view ≡ new
     → head_of old ≡ More s → s.len ≡ length old → found ≡ found_over s (take (length view - s.len) (drop s.len view))
     → head_of new ≡ found
 head_of-on old new piece view s found grows same so_far len is =

@@ -26,7 +26,7 @@ pub struct Scan {
 
 /// What the search found: it needs more, a head of so many bytes, or no end in time.
 #[derive(Clone, Copy, Debug, PartialEq, Eq)]
-pub enum Found {
+pub enum HeadSearch {
     More(Scan),
     Head(usize),
     TooLong,
@@ -39,23 +39,23 @@ pub const START: Scan = Scan {
     line: Line::Empty,
 };
 
-fn found_without_end(scan: Scan) -> Found
+fn found_without_end(scan: Scan) -> HeadSearch
     ensures { result ≡ go_on scan }
 {
     if scan.len < MAX_HEAD {
-        Found::More(scan)
+        HeadSearch::More(scan)
     } else {
-        Found::TooLong
+        HeadSearch::TooLong
     }
 }
 
-fn with_line_end(scan: Scan) -> Found
+fn with_line_end(scan: Scan) -> HeadSearch
     requires { IsOpen scan }
     ensures { result ≡ line_ended (scan.len + 1) scan.lines scan.line }
 {
     let len = scan.len + 1;
     match scan.line {
-        Line::Filled if scan.lines + 1 == TOO_MANY_LINES => Found::TooLong,
+        Line::Filled if scan.lines + 1 == TOO_MANY_LINES => HeadSearch::TooLong,
         Line::Filled => found_without_end(Scan {
             len,
             lines: scan.lines + 1,
@@ -66,7 +66,7 @@ fn with_line_end(scan: Scan) -> Found
             lines: 0,
             line: Line::Empty,
         }),
-        Line::Empty | Line::Return => Found::Head(len),
+        Line::Empty | Line::Return => HeadSearch::Head(len),
     }
 }
 
@@ -81,7 +81,7 @@ fn grow(line: Line, byte: u8) -> Line
 
 impl Scan {
     /// The search after one more byte.
-    pub fn with(self, byte: u8) -> Found
+    pub fn with(self, byte: u8) -> HeadSearch
         requires { IsOpen self }
         ensures found { result ≡ found_with self byte }
         ensures open { IfMore result (λ t. IsOpen t × (t.len ≡ self.len + 1)) }
@@ -99,7 +99,7 @@ impl Scan {
 }
 
 /// The search over one more piece.
-pub fn search(scan: Scan, piece: &[u8]) -> Found
+pub fn search(scan: Scan, piece: &[u8]) -> HeadSearch
     requires { IsOpen scan }
     ensures found { result ≡ found_over scan piece.now }
     ensures open { IfMore result (λ t. IsOpen t × (t.len ≡ scan.len + length piece.now)) }
@@ -107,9 +107,9 @@ pub fn search(scan: Scan, piece: &[u8]) -> Found
     let mut at = scan;
     for byte in piece {
         match at.with(*byte) {
-            Found::More(next) => at = next,
+            HeadSearch::More(next) => at = next,
             found => return found,
         }
     }
-    Found::More(at)
+    HeadSearch::More(at)
 }

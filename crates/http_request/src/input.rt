@@ -4,7 +4,7 @@ ghost use Rattle.std.specs.Io.KnownBytes.{IsAtEnd};
 ghost use Rattle.http_request.specs.Head.{head_of, found_end, EndsWithin, IsUnfinished};
 ghost use Rattle.http_request.specs.Input.{Takes};
 
-use crate::head::{Found, START, search};
+use crate::head::{HeadSearch, START, search};
 use std::io::Read;
 
 /// Why no more came.
@@ -55,9 +55,9 @@ pub fn read_head<R: Read>(reader: &mut R, came: &mut Vec<u8>) -> Result<HeadEnd,
             return Err(InputFault::EndedEarly);
         }
         match search(scan, &came[scan.len..]) {
-            Found::More(next) => scan = next,
-            Found::Head(len) => return Ok(HeadEnd::At(len)),
-            Found::TooLong => return Ok(HeadEnd::TooLong),
+            HeadSearch::More(next) => scan = next,
+            HeadSearch::Head(len) => return Ok(HeadEnd::At(len)),
+            HeadSearch::TooLong => return Ok(HeadEnd::TooLong),
         }
     }
 }

@@ -2,7 +2,7 @@
 ghost use Rattle.std.specs.Prelude.{◌≡◌, ℕ, ◌≤◌, List, ◌++◌, length, take};
 ghost use Rattle.http_request.specs.Head.{head_of};
 ghost use Rattle.http_request.specs.Lines.{IsHeadWithin};
-ghost use Rattle.http_request.specs.declared.head.Found.TheVariants.{Head};
+ghost use Rattle.http_request.specs.declared.head.HeadSearch.TheVariants.{Head};
 
 /// The end that is found is that of a head, and where an input begins with a head its end is found:
 /// whatever comes behind it, if the head is within the limits.

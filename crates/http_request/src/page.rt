@@ -5,7 +5,7 @@ ghost use Rattle.http_request.specs.Pages.{pages_rest, from_of, list_page as lis
 
 use crate::days::{read_range, read_week};
 use crate::number::read_number;
-use crate::place::{Found, find};
+use crate::place::{RouteMatch, find};
 use crate::route::Route;
 use crate::target::behind;
 use civil_time::Day;
@@ -83,7 +83,7 @@ fn week_page(query: Option<&str>) -> Option<Page>
 }
 
 // The page beside a route, where it has one. Its values may be bad.
-fn found_page(found: Found<'_>) -> Option<Option<Page>>
+fn found_page(found: RouteMatch<'_>) -> Option<Option<Page>>
     ensures page { result ≡ page_at found.entry.route found.entry.first.now found.entry.second.now }
     ensures within { IfSome result (λ page. IfSome page IsPageWithinLimits) }
 {

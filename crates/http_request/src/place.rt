@@ -10,7 +10,7 @@ use matchit::{Params, Router};
 
 /// A route, and the texts in the place of its parameters. A route has up to two.
 #[derive(Clone, Copy, Debug, PartialEq, Eq)]
-pub struct Found<'p> {
+pub struct RouteMatch<'p> {
     pub route: Route,
     pub first: &'p str,
     pub second: &'p str,
@@ -30,7 +30,7 @@ fn value<'p>(params: &Params<'_, 'p>, name: &str) -> &'p str
 }
 
 /// The route with what its parameters took.
-fn found_on<'p>(route: Route, params: &Params<'_, 'p>) -> Found<'p>
+fn found_on<'p>(route: Route, params: &Params<'_, 'p>) -> RouteMatch<'p>
     ensures { (place : Place) → place.route ≡ route
         → HasValues place (walk params.now.pattern.now params.now.text.now params.now.path.now params.now.names.now 0 0)
         → (result.route ≡ place.route) × (result.first.now ≡ place.first) × (result.second.now ≡ place.second) }
@@ -41,7 +41,7 @@ fn found_on<'p>(route: Route, params: &Params<'_, 'p>) -> Found<'p>
         Route::Calendar => (value(params, "from"), value(params, "to")),
         Route::Holidays => (value(params, "year"), ""),
     };
-    Found {
+    RouteMatch {
         route,
         first,
         second,
@@ -49,7 +49,7 @@ fn found_on<'p>(route: Route, params: &Params<'_, 'p>) -> Found<'p>
 }
 
 /// What a path asks for, if it has a route.
-pub fn find<'p>(router: &Router<Route>, path: &'p str) -> Option<Found<'p>>
+pub fn find<'p>(router: &Router<Route>, path: &'p str) -> Option<RouteMatch<'p>>
     requires { router.now ≡ route_rows }
     ensures { MatchOption result (place_of path.now ≡ None) (λ found.
         place_of path.now ≡ Some (record { route = found.route; first = found.first.now; second = found.second.now })) }

@@ -11,7 +11,7 @@ use crate::fields::{Rejection, body_length};
 use crate::input::InputFault;
 use crate::number::{read_number, read_year};
 use crate::page::{Page, Routes, behind_pages, find_page};
-use crate::place::{Found, find};
+use crate::place::{RouteMatch, find};
 use crate::route::{Route, router};
 use crate::target::{path_of, query_of};
 use civil_time::Day;
@@ -59,7 +59,7 @@ fn is_method_of(route: Route, method: &[u8]) -> bool
     method == method_of(route).as_str().as_bytes()
 }
 
-fn found_wish(found: Found<'_>, head: &[u8], headers: &[HeaderSpan]) -> Wish
+fn found_wish(found: RouteMatch<'_>, head: &[u8], headers: &[HeaderSpan]) -> Wish
     requires { All (IsHeaderWithin (length head.now)) headers.now }
     ensures asks { result ≡ route_wish found.entry.route found.entry.first.now found.entry.second.now (map (header_bytes head.now) headers.now) }
     ensures within { IsWithinLimits result }

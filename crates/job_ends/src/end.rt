@@ -3,8 +3,8 @@ ghost use Rattle.std.specs.Prelude.{◌≡◌, [], None, string_bytes};
 ghost use Rattle.std.specs.Cow.{cow_str_bytes};
 ghost use Rattle.job_ends.specs.Ends.{Writes};
 
+use crate::messages::write_text;
 use crate::status::Status;
-use crate::telling::write_text;
 use sqlite::Leftover;
 use sqlite_disk::Disk;
 use std::alloc::Global;

@@ -4,12 +4,12 @@
 
 mod end;
 mod file;
+mod messages;
 mod outcome;
 mod status;
-mod telling;
 
 pub use end::JobEnd;
 pub use file::{FileFault, test_file};
+pub use messages::{failed, failed_by, no_memory, out_of_memory, write_text};
 pub use outcome::{AtPath, done, done_on_docket};
 pub use status::Status;
-pub use telling::{failed, failed_by, no_memory, out_of_memory, write_text};

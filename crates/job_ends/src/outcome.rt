@@ -5,9 +5,8 @@ ghost use Rattle.job_ends.specs.Ends.{TellsNothing};
 
 use crate::end::JobEnd;
 use crate::file::FileFault;
-use crate::telling::failed;
-use docket_store::AdoptFault;
-use file_dockets::{Ended, OnFile};
+use crate::messages::failed;
+use file_dockets::{AdoptFault, Ended, OnFile};
 use sqlite::{FileFrom, Leftover, Start};
 use std::alloc::Global;
 use std::fmt;

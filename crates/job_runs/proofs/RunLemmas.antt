@@ -6,7 +6,8 @@ use Rattle.docket_scan.specs.declared.fault.AdoptFault.{AdoptFault}
 use Rattle.docket_tables.specs.Layouts.{Rows}
 use Rattle.line_io.specs.Output.{AppendsFront, HasFront}
 use Rattle.line_io.specs.declared.ending.CountEnd.{CountEnd}
-use Rattle.command_lines.specs.Lines.{Docket, bad_answers, run_text}
+use Rattle.docket_applying.specs.CourtDockets.{CourtDocket as Docket}
+use Rattle.command_lines.specs.Lines.{bad_answers, run_text}
 use Rattle.command_lines.specs.declared.fault.RunFault.{RunFault}
 use Rattle.command_lines.specs.declared.fault.RunFault.TheVariants as run
 use Rattle.file_changes.specs.Runs.{Answers, AnswersAll, LeavesPrefix}

@@ -32,7 +32,8 @@ use Rattle.docket_text.specs.HolidayTexts.{holiday_text}
 use Rattle.docket_text.specs.RuleTexts.{rules_text}
 use Rattle.day_tables.specs.CalendarCsv.{IsTable}
 use Rattle.line_io.specs.Output.{AppendsFront, HasFront}
-use Rattle.command_lines.specs.Lines.{Docket, bad_answers, docket_after, run_text}
+use Rattle.docket_applying.specs.CourtDockets.{CourtDocket as Docket}
+use Rattle.command_lines.specs.Lines.{bad_answers, docket_after, run_text}
 use Rattle.command_lines.specs.declared.fault.RunFault.{RunFault}
 use Rattle.file_questions.specs.CaseLists.{cases_told}
 use Rattle.file_changes.specs.Commands.{AppliesTo}

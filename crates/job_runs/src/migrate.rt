@@ -5,7 +5,7 @@ ghost use Rattle.docket_columns.specs.declared.version.Version.TheVariants.{Firs
 ghost use Rattle.docket_scan.specs.Dockets.{MayHold};
 ghost use Rattle.docket_applying.specs.Applying.{IsDocket};
 ghost use Rattle.docket_store.specs.Migrating.{HoldFirst};
-ghost use Rattle.command_lines.specs.Lines.{Docket as Told};
+ghost use Rattle.docket_applying.specs.CourtDockets.{CourtDocket as Told};
 ghost use Rattle.job_runs.specs.Jobs.{FailsOr, Migrates};
 
 use crate::opening::ready;

@@ -3,7 +3,7 @@ use Rattle.std.proofs.Common.{◌≡◌, ℕ, ◌+◌, ◌≤◌, List, [], ◌�
 use Rattle.std.proofs.KnownBytes.{Appends-nil, Appends-trans}
 use Rattle.std.specs.Io.KnownBytes.{Appends}
 use Rattle.line_io.specs.Lines.{last_line}
-use Rattle.line_io.specs.Report.{Judged, text_of, after_of}
+use Rattle.line_io.specs.Report.{LineAnswer, text_of, after_of}
 use Rattle.line_io.specs.Ending.{BreaksOff}
 use Rattle.line_io.specs.Output.{AppendsFront, HasFront}
 use Rattle.line_io.specs.Progress.{Stops, Takes}
@@ -40,9 +40,9 @@ joined-missing m x y k n j most e h =
     let g = length-append k j in
     omega (arith, left, a, b, c, d, f, g, h)
 
-module _ {S : Type 0} (judge : S → List ℕ → Judged S) (Left : S → S → Type 0) (most : ℕ) where
+module _ {S : Type 0} (answer_to : S → List ℕ → LineAnswer S) (Left : S → S → Type 0) (most : ℕ) where
   -- before a line is answered
-  pub stops-here : (s : S) (lines : List (List ℕ)) (u : Option (List ℕ)) (m o : List ℕ) → Left s s → o ≡ m → length m ≤ most → Stops judge Left most s lines u u m o
+  pub stops-here : (s : S) (lines : List (List ℕ)) (u : Option (List ℕ)) (m o : List ℕ) → Left s s → o ≡ m → length m ≤ most → Stops answer_to Left most s lines u u m o
   stops-here s lines u m o left e bound =
       let none = ap length (append-nil m) in
       record {
@@ -61,7 +61,7 @@ module _ {S : Type 0} (judge : S → List ℕ → Judged S) (Left : S → S → 
 
   -- what is pending could not be written
   pub stops-unsent : (s : S) (lines : List (List ℕ)) (u v : Option (List ℕ)) (m o : List ℕ) → Left s s → AppendsFront u v m → o ≡ [] → length m ≤ most
-      → Stops judge Left most s lines u v m o
+      → Stops answer_to Left most s lines u v m o
   stops-unsent s lines u v m o left f none bound =
       let same = ap length (append-nil m) in
       record {
@@ -79,8 +79,8 @@ module _ {S : Type 0} (judge : S → List ℕ → Judged S) (Left : S → S → 
       }
 
   -- a line could not be answered
-  pub stops-line : (s : S) (line : List ℕ) (rest : List (List ℕ)) (u : Option (List ℕ)) (m o : List ℕ) → Left s (judge s line).after → o ≡ m → length m ≤ most
-      → Stops judge Left most s (line ∷ rest) u u m o
+  pub stops-line : (s : S) (line : List ℕ) (rest : List (List ℕ)) (u : Option (List ℕ)) (m o : List ℕ) → Left s (answer_to s line).after → o ≡ m → length m ≤ most
+      → Stops answer_to Left most s (line ∷ rest) u u m o
   stops-line s line rest u m o left e bound =
       let none = ap length (append-nil m) in
       record {
@@ -91,15 +91,15 @@ module _ {S : Type 0} (judge : S → List ℕ → Judged S) (Left : S → S → 
         one_more = omega arith;
         known = left;
         out = [];
-        lost = text_of judge s (line ∷ []);
+        lost = text_of answer_to s (line ∷ []);
         appends = Appends-nil u;
-        front = ap (λ z. z ++ text_of judge s (line ∷ [])) (sym e);
+        front = ap (λ z. z ++ text_of answer_to s (line ∷ [])) (sym e);
         missing = omega (arith, none, bound);
       }
 
   -- the answer to a line could not be written
-  pub stops-answer : (s : S) (line : List ℕ) (rest : List (List ℕ)) (u v : Option (List ℕ)) (m q o : List ℕ) → Left s (judge s line).after
-      → q ≡ m ++ (judge s line).text → AppendsFront u v q → o ≡ [] → length m ≤ most → Stops judge Left most s (line ∷ rest) u v m o
+  pub stops-answer : (s : S) (line : List ℕ) (rest : List (List ℕ)) (u v : Option (List ℕ)) (m q o : List ℕ) → Left s (answer_to s line).after
+      → q ≡ m ++ (answer_to s line).text → AppendsFront u v q → o ≡ [] → length m ≤ most → Stops answer_to Left most s (line ∷ rest) u v m o
   stops-answer s line rest u v m q o left e f none bound =
       let same = ap length (append-nil m) in
       record {
@@ -112,13 +112,13 @@ module _ {S : Type 0} (judge : S → List ℕ → Judged S) (Left : S → S → 
         out = take f.count q;
         lost = drop f.count q;
         appends = f.front;
-        front = ap (λ z. m ++ z) (append-nil (judge s line).text) ∙ sym e ∙ halves f.count q o none;
+        front = ap (λ z. m ++ z) (append-nil (answer_to s line).text) ∙ sym e ∙ halves f.count q o none;
         missing = omega (arith, same, bound);
       }
 
   -- bytes behind the last line feed could not be answered
-  pub stops-last : (s : S) (part : List ℕ) (u : Option (List ℕ)) (m o : List ℕ) → Left s (after_of judge s (last_line part)) → o ≡ m → length m ≤ most
-      → Stops judge Left most s (last_line part) u u m o
+  pub stops-last : (s : S) (part : List ℕ) (u : Option (List ℕ)) (m o : List ℕ) → Left s (after_of answer_to s (last_line part)) → o ≡ m → length m ≤ most
+      → Stops answer_to Left most s (last_line part) u u m o
   stops-last s part u m o left e bound =
       let none = ap length (append-nil m) in
       record {
@@ -129,52 +129,52 @@ module _ {S : Type 0} (judge : S → List ℕ → Judged S) (Left : S → S → 
         one_more = last_line-one part;
         known = left;
         out = [];
-        lost = text_of judge s (last_line part);
+        lost = text_of answer_to s (last_line part);
         appends = Appends-nil u;
-        front = ap (λ z. z ++ text_of judge s (last_line part)) (sym e);
+        front = ap (λ z. z ++ text_of answer_to s (last_line part)) (sym e);
         missing = omega (arith, none, bound);
       }
 
-  pub stops-same : (s : S) (x y : List (List ℕ)) (u v : Option (List ℕ)) (m n : List ℕ) → x ≡ y → Stops judge Left most s y u v m n → Stops judge Left most s x u v m n
-  stops-same s x y u v m n e h = subst (λ z. Stops judge Left most s z u v m n) (sym e) h
+  pub stops-same : (s : S) (x y : List (List ℕ)) (u v : Option (List ℕ)) (m n : List ℕ) → x ≡ y → Stops answer_to Left most s y u v m n → Stops answer_to Left most s x u v m n
+  stops-same s x y u v m n e h = subst (λ z. Stops answer_to Left most s z u v m n) (sym e) h
 
   -- after lines that were answered
-  pub stops-after : (s : S) (ended below lines : List (List ℕ)) (u v w : Option (List ℕ)) (m n o k : List ℕ) → Appends u v k → m ++ text_of judge s ended ≡ k ++ n
-      → lines ≡ ended ++ below → Stops judge Left most (after_of judge s ended) below v w n o → Stops judge Left most s lines u w m o
+  pub stops-after : (s : S) (ended below lines : List (List ℕ)) (u v w : Option (List ℕ)) (m n o k : List ℕ) → Appends u v k → m ++ text_of answer_to s ended ≡ k ++ n
+      → lines ≡ ended ++ below → Stops answer_to Left most (after_of answer_to s ended) below v w n o → Stops answer_to Left most s lines u w m o
   stops-after s ended below lines u v w m n o k appends e whole h =
-      let t = after_of judge s ended in
-      let on : after_of judge s (ended ++ h.answered) ≡ after_of judge t h.answered = after_of-append judge s ended h.answered in
-      let said : text_of judge s (ended ++ h.answered) ≡ text_of judge s ended ++ text_of judge t h.answered = text_of-append judge s ended h.answered in
+      let t = after_of answer_to s ended in
+      let on : after_of answer_to s (ended ++ h.answered) ≡ after_of answer_to t h.answered = after_of-append answer_to s ended h.answered in
+      let said : text_of answer_to s (ended ++ h.answered) ≡ text_of answer_to s ended ++ text_of answer_to t h.answered = text_of-append answer_to s ended h.answered in
       record {
         answered = ended ++ h.answered;
         more = h.more;
         rest = h.rest;
         whole = whole ∙ ap (λ z. ended ++ z) h.whole ∙ sym (append_assoc ended h.answered (h.more ++ h.rest));
         one_more = h.one_more;
-        known = subst (λ z. Left z (after_of judge z h.more)) (sym on) h.known;
+        known = subst (λ z. Left z (after_of answer_to z h.more)) (sym on) h.known;
         out = k ++ h.out;
         lost = h.lost;
         appends = Appends-trans u v w k h.out appends h.appends;
-        front = ap (λ z. m ++ (z ++ text_of judge (after_of judge s (ended ++ h.answered)) h.more)) said
-            ∙ ap (λ z. m ++ ((text_of judge s ended ++ text_of judge t h.answered) ++ text_of judge z h.more)) on
-            ∙ joined m (text_of judge s ended) (text_of judge t h.answered) (text_of judge (after_of judge t h.answered) h.more) k n h.out o h.lost e h.front;
+        front = ap (λ z. m ++ (z ++ text_of answer_to (after_of answer_to s (ended ++ h.answered)) h.more)) said
+            ∙ ap (λ z. m ++ ((text_of answer_to s ended ++ text_of answer_to t h.answered) ++ text_of answer_to z h.more)) on
+            ∙ joined m (text_of answer_to s ended) (text_of answer_to t h.answered) (text_of answer_to (after_of answer_to t h.answered) h.more) k n h.out o h.lost e h.front;
         missing = subst (λ z. length (m ++ z) ≤ length (k ++ h.out) + most) (sym said)
-            (joined-missing m (text_of judge s ended) (text_of judge t h.answered) k n h.out most e h.missing);
+            (joined-missing m (text_of answer_to s ended) (text_of answer_to t h.answered) k n h.out most e h.missing);
       }
 
   -- after a piece that was taken
   pub takes-stops : (F : S → Type 0) (kept_most : ℕ) (s : S) (p x k : List ℕ) (below lines : List (List ℕ)) (u v w : Option (List ℕ)) (m n o : List ℕ) (a b a₁ b₁ : ℕ)
-      → (h : Takes judge F kept_most s p x k u v m n a b a₁ b₁) → lines ≡ h.ended ++ below
-      → Stops judge Left most (after_of judge s h.ended) below v w n o → Stops judge Left most s lines u w m o
+      → (h : Takes answer_to F kept_most s p x k u v m n a b a₁ b₁) → lines ≡ h.ended ++ below
+      → Stops answer_to Left most (after_of answer_to s h.ended) below v w n o → Stops answer_to Left most s lines u w m o
   takes-stops F kept_most s p x k below lines u v w m n o a b a₁ b₁ h whole stops =
       stops-after s h.ended below lines u v w m n o h.sends.out h.sends.appends h.sends.same whole stops
 
   -- at last, what is still pending is written as far as it can be
-  pub stops-breaks : (s : S) (lines : List (List ℕ)) (u v w : Option (List ℕ)) (r : List ℕ) → Stops judge Left most s lines u v [] r → AppendsFront v w r
-      → BreaksOff judge Left most s lines u w
+  pub stops-breaks : (s : S) (lines : List (List ℕ)) (u v w : Option (List ℕ)) (r : List ℕ) → Stops answer_to Left most s lines u v [] r → AppendsFront v w r
+      → BreaksOff answer_to Left most s lines u w
   stops-breaks s lines u v w r h f =
-      let t = after_of judge s h.answered in
-      let more : after_of judge s (h.answered ++ h.more) ≡ after_of judge t h.more = after_of-append judge s h.answered h.more in
+      let t = after_of answer_to s h.answered in
+      let more : after_of answer_to s (h.answered ++ h.more) ≡ after_of answer_to t h.more = after_of-append answer_to s h.answered h.more in
       let longer = length-append h.out (take f.count r) in
       record {
         answered = h.answered;
@@ -185,7 +185,7 @@ module _ {S : Type 0} (judge : S → List ℕ → Judged S) (Left : S → S → 
         left = subst (λ z. Left t z) (sym more) h.known;
         out = h.out ++ take f.count r;
         lost = drop f.count r ++ h.lost;
-        text = text_of-append judge s h.answered h.more ∙ h.front
+        text = text_of-append answer_to s h.answered h.more ∙ h.front
             ∙ ap (λ z. (h.out ++ z) ++ h.lost) (sym (take-append-drop f.count r))
             ∙ ap (λ z. z ++ h.lost) (sym (append_assoc h.out (take f.count r) (drop f.count r)))
             ∙ append_assoc (h.out ++ take f.count r) (drop f.count r) h.lost;
@@ -194,12 +194,12 @@ module _ {S : Type 0} (judge : S → List ℕ → Judged S) (Left : S → S → 
       }
 
   -- what went out is a front of the whole text
-  pub breaks-front : (s : S) (lines : List (List ℕ)) (u w : Option (List ℕ)) → BreaksOff judge Left most s lines u w → HasFront u w (text_of judge s lines)
+  pub breaks-front : (s : S) (lines : List (List ℕ)) (u w : Option (List ℕ)) → BreaksOff answer_to Left most s lines u w → HasFront u w (text_of answer_to s lines)
   breaks-front s lines u w h =
-      let T = text_of judge (after_of judge s (h.answered ++ h.more)) h.rest in
+      let T = text_of answer_to (after_of answer_to s (h.answered ++ h.more)) h.rest in
       record {
         out = h.out;
         lost = h.lost ++ T;
         appends = h.appends;
-        whole = ap (text_of judge s) h.whole ∙ text_of-append judge s (h.answered ++ h.more) h.rest ∙ ap (λ z. z ++ T) h.text ∙ append_assoc h.out h.lost T;
+        whole = ap (text_of answer_to s) h.whole ∙ text_of-append answer_to s (h.answered ++ h.more) h.rest ∙ ap (λ z. z ++ T) h.text ∙ append_assoc h.out h.lost T;
       }

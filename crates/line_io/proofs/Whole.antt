@@ -3,14 +3,14 @@ use Rattle.std.proofs.Common.{◌≡◌, ℕ, ◌+◌, List, [], ◌++◌, lengt
 use Rattle.std.proofs.KnownBytes.{Appends-trans}
 use Rattle.std.specs.Io.KnownBytes.{Consumes, Appends, IsAtEnd}
 use Rattle.line_io.specs.Lines.{last_line, lines_from, lines_of}
-use Rattle.line_io.specs.Report.{Judged, text_of, bad_of, after_of}
+use Rattle.line_io.specs.Report.{LineAnswer, text_of, bad_of, after_of}
 use Rattle.line_io.specs.Ending.{BreaksOff}
 use Rattle.line_io.specs.Output.{AppendsFront, HasFront}
 use Rattle.line_io.specs.Progress.{Stops, Takes, Ends, Tells}
 use Rattle.line_io.proofs.Taking.{after_of-append, text_of-append, bad_of-append}
 use Rattle.line_io.proofs.Stopping.{last_line-one, takes-stops, stops-breaks, breaks-front}
 
-module _ {S : Type 0} (J : S → List ℕ → Judged S) (most : ℕ) where
+module _ {S : Type 0} (J : S → List ℕ → LineAnswer S) (most : ℕ) where
   -- a fault after what was read so far
   pub read-stops : (Left : S → S → Type 0) (held : ℕ) (i j : Option (List ℕ)) (F : S → Type 0) (s : S) (x k : List ℕ) (u v w : Option (List ℕ)) (n r : List ℕ) (a b a₁ b₁ : ℕ)
       → Consumes i j x → (h : Takes J F most s [] x k u v [] n a b a₁ b₁)
@@ -74,7 +74,7 @@ module _ {S : Type 0} (J : S → List ℕ → Judged S) (most : ℕ) where
         shows = subst G (sym (ap (after_of J s) all ∙ after_of-append J s h.ended L)) t.shows;
       }
 
-module _ {S : Type 0} (J : S → List ℕ → Judged S) (G : S → Type 0) (s : S) (u v w : Option (List ℕ)) (r : List ℕ) where
+module _ {S : Type 0} (J : S → List ℕ → LineAnswer S) (G : S → Type 0) (s : S) (u v w : Option (List ℕ)) (r : List ℕ) where
   -- the last answer went out
   pub tells-whole : (lines : List (List ℕ)) (a b : ℕ) → Tells J G s lines u v r a b → Appends v w r
       → Appends u w (text_of J s lines) × (a ≡ length lines) × (b ≡ bad_of J s lines) × G (after_of J s lines)
@@ -122,7 +122,7 @@ module _ {S : Type 0} (J : S → List ℕ → Judged S) (G : S → Type 0) (s : 
   unsent-front None a b h f = tt
   unsent-front (Some input) a b h f = breaks-front J (λ t q. G q) 0 s (lines_of input) u w (tells-breaks (λ t q. G q) 0 (lines_of input) a b (λ t q shows. shows) h f)
 
-module _ {S : Type 0} (J : S → List ℕ → Judged S) (Left : S → S → Type 0) (held : ℕ) (s : S) (u v w : Option (List ℕ)) (r : List ℕ) where
+module _ {S : Type 0} (J : S → List ℕ → LineAnswer S) (Left : S → S → Type 0) (held : ℕ) (s : S) (u v w : Option (List ℕ)) (r : List ℕ) where
   pub input-breaks : (i : Option (List ℕ)) → IfSome i (λ input. Stops J Left held s (lines_of input) u v [] r) → AppendsFront v w r
       → IfSome i (λ input. BreaksOff J Left held s (lines_of input) u w)
   input-breaks None h f = tt

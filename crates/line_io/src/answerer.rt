@@ -1,6 +1,6 @@
 //! What answers lines.
 ghost use Rattle.std.specs.Prelude.{◌≡◌, ℕ, List, IfOk, IfErr, OnErr};
-ghost use Rattle.line_io.specs.Report.{Answers, Judged};
+ghost use Rattle.line_io.specs.Report.{Answers, LineAnswer};
 
 /// Answers lines one after the other, each by what the lines before it left. What it says of its
 /// answers may rest on something that it can lose, as a disk that gives back what it took. One that
@@ -40,29 +40,29 @@ pub trait Answerer {
     ghost Steps: { Self → Self → Type 0 };
 
     // What a line within the limit comes to: its answer, whether that is bad, and the state it leaves.
-    ghost judge: { State → List ℕ → Judged State };
+    ghost answer_to: { State → List ℕ → LineAnswer State };
 
     // The same for a line past the limit.
-    ghost judge_long: { State → Judged State };
+    ghost too_long: { State → LineAnswer State };
 
     /// Appends the answer to a line of at most `LIMIT` bytes, and says whether it counts as bad.
     /// Where it fails it appends nothing.
     fn answer(&mut self, line: &[u8], out: &mut Vec<u8>) -> Result<bool, Self::Fault>
         ensures ok { IfOk result (λ bad. (s : State) → Shows self.old s → Trusts self.new
-            → Answers (Shows self.new) out.old.items out.new.items bad (judge s line.now)) }
+            → Answers (Shows self.new) out.old.items out.new.items bad (answer_to s line.now)) }
         ensures trust { Trusts self.new → Trusts self.old }
         ensures steps { Steps self.old self.new }
         ensures err { OnErr result (out.new.items ≡ out.old.items) }
         ensures fails { IfErr result (λ fault. (s : State) → Shows self.old s → Trusts self.new
-            → Fails self.new fault s (judge s line.now).after) };
+            → Fails self.new fault s (answer_to s line.now).after) };
 
     /// Does the same for a line of more than `LIMIT` bytes.
     fn answer_long(&mut self, out: &mut Vec<u8>) -> Result<bool, Self::Fault>
         ensures ok { IfOk result (λ bad. (s : State) → Shows self.old s → Trusts self.new
-            → Answers (Shows self.new) out.old.items out.new.items bad (judge_long s)) }
+            → Answers (Shows self.new) out.old.items out.new.items bad (too_long s)) }
         ensures trust { Trusts self.new → Trusts self.old }
         ensures steps { Steps self.old self.new }
         ensures err { OnErr result (out.new.items ≡ out.old.items) }
         ensures fails { IfErr result (λ fault. (s : State) → Shows self.old s → Trusts self.new
-            → Fails self.new fault s (judge_long s).after) };
+            → Fails self.new fault s (too_long s).after) };
 }

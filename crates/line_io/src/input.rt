@@ -31,7 +31,7 @@ fn take_piece<W: Write, A: Answerer>(
         × progress.old.counts.lines + length piece.now < 2 ^ 64 }
     ensures takes { OnOk result (
         FromKept (A.Trusts answerer.new) (A.Shows answerer.old) A.LIMIT progress.old (λ s part.
-        TakesPiece A.LIMIT A.judge A.judge_long (A.Shows answerer.new) s part piece.now progress.old progress.new
+        TakesPiece A.LIMIT A.answer_to A.too_long (A.Shows answerer.new) s part piece.now progress.old progress.new
         (W.contents writer.old) (W.contents writer.new))) }
     ensures trust { A.Trusts answerer.new → A.Trusts answerer.old }
     ensures steps { Reaches A.Steps answerer.old answerer.new }
@@ -41,7 +41,7 @@ fn take_piece<W: Write, A: Answerer>(
     ensures pending { OnOk result (length progress.new.pending.items ≤ A.MAX_PENDING) }
     ensures stops { IfErr result (λ why.
         FromKept (A.Trusts answerer.new) (A.Shows answerer.old) A.LIMIT progress.old (λ s part.
-        StopsIn A.LIMIT A.judge A.judge_long (Leaves (A.Shows answerer.new) (A.Fails answerer.new) why) A.MAX_PENDING s part
+        StopsIn A.LIMIT A.answer_to A.too_long (Leaves (A.Shows answerer.new) (A.Fails answerer.new) why) A.MAX_PENDING s part
         piece.now progress.old progress.new (W.contents writer.old) (W.contents writer.new))) }
 {
     let mut rest = piece;
@@ -68,13 +68,13 @@ fn answer_lines<R: Read, W: Write, A: Answerer>(
     requires counts { progress.old.counts.bad ≡ 0 × progress.old.counts.lines ≡ 0 }
     ensures whole { OnOk result ((s : A.State) → A.Shows answerer.old s → A.Trusts answerer.new
         → IfSome (R.remaining reader.old) (λ input.
-        TellsOf A.LIMIT A.judge A.judge_long (A.Shows answerer.new) s input progress.new
+        TellsOf A.LIMIT A.answer_to A.too_long (A.Shows answerer.new) s input progress.new
         (W.contents writer.old) (W.contents writer.new))) }
     ensures trust { A.Trusts answerer.new → A.Trusts answerer.old }
     ensures steps { Reaches A.Steps answerer.old answerer.new }
     ensures stops { IfErr result (λ why. (s : A.State) → A.Shows answerer.old s → A.Trusts answerer.new
         → IfSome (R.remaining reader.old) (λ input.
-        StopsOn A.LIMIT A.judge A.judge_long (Leaves (A.Shows answerer.new) (A.Fails answerer.new) why) A.MAX_PENDING s input
+        StopsOn A.LIMIT A.answer_to A.too_long (Leaves (A.Shows answerer.new) (A.Fails answerer.new) why) A.MAX_PENDING s input
         progress.new (W.contents writer.old) (W.contents writer.new))) }
 {
     let mut piece = [0u8; PIECE];
@@ -112,17 +112,17 @@ pub fn run_lines<R: Read, W: Write, A: Answerer>(
 ) -> Result<CountEnd, LineFault<A::Fault>>
     ensures whole { IfOk result (λ end. (s : A.State) → A.Shows answerer.old s → A.Trusts answerer.new
         → IfSome (R.remaining reader.old) (λ input.
-        TellsAll (within A.LIMIT A.judge A.judge_long) (A.Shows answerer.new) s (lines_of input)
+        TellsAll (within A.LIMIT A.answer_to A.too_long) (A.Shows answerer.new) s (lines_of input)
         (W.contents writer.old) (W.contents writer.new) end)) }
     ensures trust { A.Trusts answerer.new → A.Trusts answerer.old }
     ensures steps { Reaches A.Steps answerer.old answerer.new }
     ensures front { OnErr result ((s : A.State) → A.Shows answerer.old s → A.Trusts answerer.new
         → IfSome (R.remaining reader.old) (λ input.
         HasFront (W.contents writer.old) (W.contents writer.new)
-        (text_of (within A.LIMIT A.judge A.judge_long) s (lines_of input)))) }
+        (text_of (within A.LIMIT A.answer_to A.too_long) s (lines_of input)))) }
     ensures left { IfErr result (λ why. (s : A.State) → A.Shows answerer.old s → A.Trusts answerer.new
         → IfSome (R.remaining reader.old) (λ input.
-        BreaksOff (within A.LIMIT A.judge A.judge_long)
+        BreaksOff (within A.LIMIT A.answer_to A.too_long)
         (Leaves (A.Shows answerer.new) (A.Fails answerer.new) why) A.MAX_PENDING s
         (lines_of input) (W.contents writer.old) (W.contents writer.new))) }
 {

@@ -56,13 +56,13 @@ fn answer_line<A: Answerer>(
 ) -> Result<bool, LineFault<A::Fault>>
     ensures ok { IfOk result (λ bad. (s : A.State) → A.Shows answerer.old s → A.Trusts answerer.new
         → Answers (A.Shows answerer.new) pending.old.items pending.new.items bad
-        (within A.LIMIT A.judge A.judge_long s line.now)) }
+        (within A.LIMIT A.answer_to A.too_long s line.now)) }
     ensures trust { A.Trusts answerer.new → A.Trusts answerer.old }
     ensures steps { A.Steps answerer.old answerer.new }
     ensures err { OnErr result (pending.new.items ≡ pending.old.items) }
     ensures fails { IfErr result (λ fault. (s : A.State) → A.Shows answerer.old s → A.Trusts answerer.new
         → Leaves (A.Shows answerer.new) (A.Fails answerer.new) fault s
-        (within A.LIMIT A.judge A.judge_long s line.now).after) }
+        (within A.LIMIT A.answer_to A.too_long s line.now).after) }
 {
     let answered = if line.len() <= A::LIMIT as usize {
         answerer.answer(line, pending)
@@ -85,7 +85,7 @@ fn end_line<A: Answerer>(
     ensures ok { IfOk result (λ bad.
         FromKept (A.Trusts answerer.new) (A.Shows answerer.old) A.LIMIT progress.old (λ s part.
         Answers (A.Shows answerer.new) progress.old.pending.items progress.new.pending.items bad
-        (within A.LIMIT A.judge A.judge_long s (without_cr (part ++ bytes.now))))) }
+        (within A.LIMIT A.answer_to A.too_long s (without_cr (part ++ bytes.now))))) }
     ensures kept { OnOk result (progress.new.kept.items ≡ []) }
     ensures len { OnOk result (vec_len progress.new.kept ≡ 0) }
     ensures counts { progress.new.counts ≡ progress.old.counts }
@@ -95,7 +95,7 @@ fn end_line<A: Answerer>(
     ensures fails { IfErr result (λ fault.
         FromKept (A.Trusts answerer.new) (A.Shows answerer.old) A.LIMIT progress.old (λ s part.
         Leaves (A.Shows answerer.new) (A.Fails answerer.new) fault s
-        (within A.LIMIT A.judge A.judge_long s (without_cr (part ++ bytes.now))).after)) }
+        (within A.LIMIT A.answer_to A.too_long s (without_cr (part ++ bytes.now))).after)) }
 {
     if progress.kept.is_empty() {
         return answer_line(answerer, trimmed(bytes), &mut progress.pending);
@@ -134,7 +134,7 @@ pub(crate) fn take_line<W: Write, A: Answerer>(
     requires free { HasNoFeed bytes.now }
     ensures takes { OnOk result (
         FromKept (A.Trusts answerer.new) (A.Shows answerer.old) A.LIMIT progress.old (λ s part.
-        TakesPiece A.LIMIT A.judge A.judge_long (A.Shows answerer.new) s part (fed bytes.now) progress.old progress.new
+        TakesPiece A.LIMIT A.answer_to A.too_long (A.Shows answerer.new) s part (fed bytes.now) progress.old progress.new
         (W.contents writer.old) (W.contents writer.new))) }
     ensures trust { A.Trusts answerer.new → A.Trusts answerer.old }
     ensures steps { Reaches A.Steps answerer.old answerer.new }
@@ -144,7 +144,7 @@ pub(crate) fn take_line<W: Write, A: Answerer>(
     ensures pending { OnOk result (length progress.new.pending.items ≤ A.MAX_PENDING) }
     ensures stops { IfErr result (λ why.
         FromKept (A.Trusts answerer.new) (A.Shows answerer.old) A.LIMIT progress.old (λ s part.
-        StopsIn A.LIMIT A.judge A.judge_long (Leaves (A.Shows answerer.new) (A.Fails answerer.new) why) A.MAX_PENDING s part
+        StopsIn A.LIMIT A.answer_to A.too_long (Leaves (A.Shows answerer.new) (A.Fails answerer.new) why) A.MAX_PENDING s part
         (fed bytes.now) progress.old progress.new (W.contents writer.old) (W.contents writer.new))) }
 {
     let bad = end_line(answerer, progress, bytes)?;
@@ -167,14 +167,14 @@ pub(crate) fn finish<A: Answerer>(
         × progress.old.counts.lines < 2 ^ 64 - 1 }
     ensures ok { OnOk result (
         FromKept (A.Trusts answerer.new) (A.Shows answerer.old) A.LIMIT progress.old (λ s part.
-        EndsIn A.LIMIT A.judge A.judge_long (A.Shows answerer.new) s (last_line part) progress.old progress.new)) }
+        EndsIn A.LIMIT A.answer_to A.too_long (A.Shows answerer.new) s (last_line part) progress.old progress.new)) }
     ensures trust { A.Trusts answerer.new → A.Trusts answerer.old }
     ensures steps { Reaches A.Steps answerer.old answerer.new }
     ensures err { OnErr result (progress.new.pending.items ≡ progress.old.pending.items) }
     ensures fails { IfErr result (λ fault.
         FromKept (A.Trusts answerer.new) (A.Shows answerer.old) A.LIMIT progress.old (λ s part.
         Leaves (A.Shows answerer.new) (A.Fails answerer.new) fault s
-        (after_of (within A.LIMIT A.judge A.judge_long) s (last_line part)))) }
+        (after_of (within A.LIMIT A.answer_to A.too_long) s (last_line part)))) }
 {
     if progress.kept.is_empty() {
         return Ok(());

@@ -2,11 +2,11 @@
 use crate::asking::court;
 use command_lines::{Clerk, CountEnd, RunFault, command_run};
 use docket_store::Docket;
-use failing_ends::{Pieces, Taker};
 use sqlite::{Connection, MemStore};
 use std::alloc::{AllocError, Global};
 use std::io::{Read, Write};
 use std::test::Fail;
+use test_streams::{Pieces, Taker};
 
 const INPUT: &[u8] = br#"{"case":9,"deadline":1,"do":"vacate","key":"k"}
 {"do":"open_case","key":"k1","label":"1:25-cv-00001","caption":"Roe v. Doe","filed":"2025-06-02"}

@@ -5,12 +5,12 @@ mod imports;
 mod lists;
 
 use docket_jobs::read_job;
-use failing_ends::{Pieces, Taker};
 use job_runs::{Progress, Status, run_job};
 use sqlite::Unknown;
 use std::alloc::{AllocError, Global};
 use std::test::Fail;
 use std::{env, fs, process};
+use test_streams::{Pieces, Taker};
 
 /// A job, and what comes of it. In its words and in what it tells as errors, `@` is the folder.
 #[derive(Clone, Copy)]

@@ -1,93 +1,115 @@
-//! The tables in memory: a row of each written, and read back by plain SQL. Days: 20241 is 2025-06-02, 20276
-//! is 2025-07-07; moments: 1751893200 is 2025-07-07T13:00Z.
-mod cells;
-mod changes;
-mod layout;
-
-use self::changes::{acts, of_each};
-use crate::asking::court;
-use docket_applying::write;
-use docket_command::{Action, Command, Reply, Text, Vacate};
-use docket_decisions::{Changes, EndUpdate};
+//! The tables in memory: a row of each written, and read back by plain SQL.
 use docket_history::Change;
-use docket_tables::{is_bare, make};
-use docket_wire::command_text;
-use sqlite::{Alter, Connection, MemStore};
+use sample_rows::cells::{
+    ACTS, CASE, Cells, DEADLINES, ENTRIES, LOCAL_RULE, PARTIES, RECEIPTS, SHORT, SPAN, STORM,
+    court_cells, has_numbers, is_row,
+};
+use sample_rows::{filled, is_written, made};
+use sample_values::storm;
+use sqlite::types::ValueRef::{self, Int, Text};
+use sqlite::{Alter, Connection, Error};
 use std::alloc::{AllocError, Global};
 use std::test::Fail;
 
-type Database = Connection<MemStore>;
+const SHORT_DAYS: &str = "SELECT * FROM short_day ORDER BY row_no";
 
-/// Makes the tables of a court in New York, if there are none.
-fn make_tables<S: Alter>(alloc: Global, conn: &mut Connection<S>) -> bool {
-    let Some(court) = court(alloc) else {
-        return false;
-    };
-    if !conn.is_autocommit() || !is_bare(conn.schema()) {
-        return false;
+/// Whether the rows of a query are these, column by column.
+fn shows<S: Alter>(
+    conn: &mut Connection<S>,
+    sql: &str,
+    wanted: &[&[ValueRef<'_>]],
+) -> Result<bool, Error> {
+    let rows = conn.query_all(sql, &[])?;
+    for (row, cells) in rows.iter().zip(wanted) {
+        if !is_row(row, cells) {
+            return Ok(false);
+        }
     }
-    make(conn, &court, &mut None).is_ok()
+    Ok(rows.len() == wanted.len())
 }
 
-/// The tables of a court in New York, without any record.
-fn made(alloc: Global) -> Result<Database, Fail> {
-    let mut conn = Connection::open_in_memory(alloc)?;
-    if make_tables(alloc, &mut conn) {
-        Ok(conn)
-    } else {
-        Err("no tables".into())
+/// Whether these rows of the calendar stand, and the court's row has this number for the next one.
+fn has_calendar<S: Alter>(
+    conn: &mut Connection<S>,
+    rows: &[Cells],
+    next: i64,
+) -> Result<bool, Error> {
+    Ok(
+        shows(conn, "SELECT * FROM calendar ORDER BY row_no", rows)?
+            && shows(conn, "SELECT * FROM court", &[&court_cells(next)])?,
+    )
+}
+
+const SHOWN: [(&str, &[Cells]); 7] = [
+    (SHORT_DAYS, &[SHORT]),
+    ("SELECT * FROM local_rule", &[LOCAL_RULE]),
+    ("SELECT * FROM cases", &[CASE]),
+    ("SELECT * FROM party ORDER BY case_no, number", &PARTIES),
+    ("SELECT * FROM entry ORDER BY case_no, number", &ENTRIES),
+    (
+        "SELECT * FROM deadline ORDER BY case_no, number",
+        &DEADLINES,
+    ),
+    ("SELECT * FROM receipt ORDER BY command_key", &RECEIPTS),
+];
+
+/// Whether each table but that of acts holds its rows.
+fn has_rows_of_each<S: Alter>(conn: &mut Connection<S>) -> Result<bool, Error> {
+    for (sql, wanted) in SHOWN {
+        if !shows(conn, sql, wanted)? {
+            return Ok(false);
+        }
     }
+    has_calendar(conn, &[STORM, SPAN], 4)
 }
 
-/// A vacation under the key.
-fn vacation(alloc: Global, key: &str) -> Result<Command, AllocError> {
-    let vacate = Vacate {
-        case: 1,
-        deadline: 2,
-    };
-    Ok(Command {
-        key: Text::from_str(alloc, key)?,
-        action: Action::Vacate(vacate),
-    })
+/// Whether the table of acts holds its rows.
+fn has_rows_of_acts<S: Alter>(conn: &mut Connection<S>) -> Result<bool, Error> {
+    let sql = "SELECT * FROM act ORDER BY case_no, deadline_no, number";
+    let rows = conn.query_all(sql, &[])?;
+    for (row, numbers) in rows.iter().zip(&ACTS) {
+        if !has_numbers(row, numbers) {
+            return Ok(false);
+        }
+    }
+    Ok(rows.len() == ACTS.len())
 }
 
-/// Whether the changes are made, with the receipt of a vacation under the key.
-fn is_written<S: Alter>(
+#[test]
+fn rows_of_each_table(rt: HostRuntime) -> Result<(), Fail> {
+    let mut conn = filled(rt.alloc())?;
+    assert!(rt; has_rows_of_each(&mut conn) == Ok(true));
+    assert!(rt; has_rows_of_acts(&mut conn) == Ok(true));
+    Ok(())
+}
+
+/// Whether the change is made.
+fn changes<S: Alter>(
     alloc: Global,
     conn: &mut Connection<S>,
     key: &str,
-    rows: Vec<Change>,
+    change: Change,
 ) -> Result<bool, AllocError> {
-    let command = vacation(alloc, key)?;
-    let body = command_text(alloc, &command)?;
-    let Some(court) = court(alloc) else {
-        return Ok(false);
-    };
-    if !conn.is_autocommit() {
-        return Ok(false);
-    }
-    let changes = Changes {
-        rows,
-        // No end is moved.
-        ends: EndUpdate::Moves(Vec::new(alloc)),
-        reply: Reply { number: 2 },
-    };
-    Ok(write(conn, alloc, &court, &command, &body, &changes).is_ok())
+    let mut changes = Vec::new(alloc);
+    changes.push(change)?;
+    is_written(alloc, conn, key, changes)
 }
 
-/// Whether it writes a row of each table, acts of each kind, and the receipts of k1 and k2.
-fn fill<S: Alter>(alloc: Global, conn: &mut Connection<S>) -> Result<bool, Fail> {
-    let of_each = of_each(alloc)?;
-    let acts = acts(alloc)?;
-    Ok(is_written(alloc, conn, "k1", of_each)? && is_written(alloc, conn, "k2", acts)?)
-}
+const LATER: Cells = &[Int(4), Int(3), Int(20_276), Int(0), Text(b"Storm")];
 
-/// The tables with these rows.
-fn filled(alloc: Global) -> Result<Database, Fail> {
+#[test]
+fn calendar_rows_go_and_their_numbers_stay(rt: HostRuntime) -> Result<(), Fail> {
+    let alloc = rt.alloc();
+    let storm = storm(alloc, 4)?;
     let mut conn = made(alloc)?;
-    if fill(alloc, &mut conn)? {
-        Ok(conn)
-    } else {
-        Err("not filled".into())
-    }
+    assert!(rt; has_calendar(&mut conn, &[], 1) == Ok(true));
+    let mut conn = filled(alloc)?;
+    assert!(rt; changes(alloc, &mut conn, "k3", Change::RemoveCalendar(1)) == Ok(true));
+    assert!(rt; has_calendar(&mut conn, &[SPAN], 4) == Ok(true));
+    assert!(rt; changes(alloc, &mut conn, "k4", storm) == Ok(true));
+    assert!(rt; has_calendar(&mut conn, &[SPAN, LATER], 5) == Ok(true));
+    assert!(rt; shows(&mut conn, SHORT_DAYS, &[SHORT]) == Ok(true));
+    assert!(rt; changes(alloc, &mut conn, "k5", Change::RemoveCalendar(3)) == Ok(true));
+    assert!(rt; shows(&mut conn, SHORT_DAYS, &[]) == Ok(true));
+    Ok(())
 }

@@ -2,12 +2,12 @@
 use crate::asking::court;
 use docket_serving::{Desk, Listening, Routes, serve_run};
 use docket_store::Docket;
-use failing_ends::Taker;
 use sqlite::{Connection, MemStore};
 use std::alloc::Global;
 use std::io::{Read, Write};
 use std::net::{Shutdown, TcpListener, TcpStream};
 use std::test::Fail;
+use test_streams::Taker;
 
 const OPEN: &[u8] =
     b"POST /commands HTTP/1.1\r\nHost: x\r\nContent-Length: 97\r\n\r\n{\"caption\":\"Roe v. Doe\",\"do\":\"open_case\",\"filed\":\"2025-06-02\",\"key\":\"k1\",\"label\":\"1:25-cv-00001\"}";

@@ -14,7 +14,6 @@
 //! are stopped at each call of a disk, commands and a migration, and tells how many stops there were.
 #![tactic(auto)]
 
-mod disks;
 mod job;
 mod plays;
 mod stops;

@@ -10,22 +10,21 @@ mod explaining;
 mod requests;
 mod running;
 mod texts;
-pub(crate) mod vectors;
 mod worked;
 
-use crate::stops::{migrations, sessions, stopped};
 use anyhow::Error;
 pub(crate) use comparing::input;
 use comparing::is_as_stored;
 use counting::counted;
 use docket_http::Routes;
 use explaining::{explained, reasoned};
+use plain_plays::vectors;
 use running::ran;
 use std::alloc::Global;
 use std::io;
+use stopped_runs::{migrations, sessions, stopped};
 use texts::canonical;
 use worked::worked_out;
-pub(crate) use worked::{ASKED, ZONE, court_of, eastern_court};
 
 /// How an input is played.
 #[derive(Clone, Copy)]

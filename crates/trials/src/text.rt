@@ -1,10 +1,10 @@
 //! A calendar of many lines.
-use crate::plays::eastern_court;
 use anyhow::{Error, anyhow};
 use court_days::{Day, End};
 use docket_command::Text;
 use docket_history::DueLine;
 use docket_text::calendar_text;
+use plain_plays::eastern_court;
 use std::alloc::Global;
 use std::time::Instant;
 

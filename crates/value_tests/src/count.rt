@@ -2,9 +2,9 @@
 
 use count_lines::{CountEnd, RunFault, count_run};
 use court_days::{Day, day_bytes};
-use failing_ends::{Pieces, Taker};
 use std::alloc::{AllocError, Global};
 use std::test::Fail;
+use test_streams::{Pieces, Taker};
 
 /// More reads or writes than any of the tests makes.
 const MANY: u32 = 1_000_000;
@@ -305,7 +305,7 @@ fn tells_of_writes(alloc: Global, good_writes: u32) -> bool {
 }
 
 #[test]
-fn failing_ends(rt: HostRuntime) {
+fn failing_streams(rt: HostRuntime) {
     for good in 0..20 {
         assert!(rt; tells_of_reads(rt.alloc(), good), "after {good} reads");
         assert!(rt; tells_of_writes(rt.alloc(), good), "after {good} writes");

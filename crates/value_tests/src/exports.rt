@@ -1,15 +1,12 @@
 //! Entries of exports worked out by hand.
 use court_days::{Court, End, read_day};
-use docket_command::Text;
-use docket_history::{CaseRow, DueLine};
 use due_exports::*;
-use std::alloc::{AllocError, Global};
+use sample_values::{case, due};
+use std::alloc::Global;
 use std::test::Fail;
 
 /// 2025-07-07 at 15:30, where clocks are four hours behind Greenwich.
 const MOMENT: End = End::Moment(1_751_916_600);
-
-const CAPTION: &str = "Roe, \"Jr.\" v. <Doe>; & Co.";
 
 const RECORD: &str =
     "2025-07-07,24:00,17:00,12,1:25-cv-00012,\"Roe, \"\"Jr.\"\" v. <Doe>; & Co.\",3,12(a)(1)(A)(i),1\r\n";
@@ -32,28 +29,6 @@ DESCRIPTION:Case 12\\, 1:25-cv-00012\\, deadline 3\\nfiled\\nand served\r
 TRANSP:TRANSPARENT\r
 END:VEVENT\r
 ";
-
-/// A case with a caption that means something in each format.
-fn case(alloc: Global) -> Result<CaseRow, Fail> {
-    Ok(CaseRow {
-        number: 12,
-        label: Text::from_str(alloc, "1:25-cv-00012")?,
-        caption: Text::from_str(alloc, CAPTION)?,
-        filed: read_day(b"2025-06-02").ok_or("no day")?,
-    })
-}
-
-/// A deadline of that case.
-fn due(alloc: Global, end: End) -> Result<DueLine, AllocError> {
-    Ok(DueLine {
-        end,
-        close: 17 * 60,
-        case: 12,
-        number: 3,
-        party: 1,
-        rule: Text::from_str(alloc, "12(a)(1)(A)(i)")?,
-    })
-}
 
 /// Whether that is the second entry of an export, written at the beginning of 2025-06-01.
 fn is_entry(alloc: Global, form: Form, end: End, text: &str) -> Result<bool, Fail> {

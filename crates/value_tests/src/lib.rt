@@ -18,7 +18,7 @@ mod dates;
 #[cfg(test)]
 mod exports;
 #[cfg(test)]
-mod lines;
+mod line_runs;
 #[cfg(test)]
 mod listed_rules;
 #[cfg(test)]

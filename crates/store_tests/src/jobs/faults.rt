@@ -1,8 +1,8 @@
 //! Jobs that can't be done, each told in one line.
 use super::{CREATE, Step, comes_so_between, folder_with_docket, new_folder, play, taker};
-use failing_ends::Pieces;
 use std::fs;
 use std::test::Fail;
+use test_streams::Pieces;
 
 /// A job that takes no input and tells nothing on its output, what it tells as errors, and its exit
 /// status.

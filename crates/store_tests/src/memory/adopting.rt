@@ -254,7 +254,7 @@ const CHANGES: [(&str, Option<AdoptFault>); 10] = [
     ),
     (
         "UPDATE due SET day = day + 1",
-        Some(AdoptFault::Damaged(Table::Ends)),
+        Some(AdoptFault::Damaged(Table::Due)),
     ),
     (
         "INSERT INTO short_day VALUES (1, 20276, 780, 'Christmas Eve')",

@@ -2,10 +2,10 @@
 use super::created;
 use crate::asking::{OPENING, Step, answers, day};
 use docket_store::{CalendarEnd, Docket, ListingEnd};
-use failing_ends::Taker;
 use sqlite::Alter;
 use std::alloc::Global;
 use std::test::Fail;
+use test_streams::Taker;
 
 // Party 1 is to answer by Monday, 2025-07-07, the day on which 24 hours end that begin before the
 // holiday and the weekend. The answer to a counterclaim that was mailed falls due on 2025-11-28, as a

@@ -50,7 +50,7 @@ const CHANGES: [(&str, Option<MigrateFault>); 7] = [
     ),
     (
         "UPDATE due SET day = day + 1",
-        Some(MigrateFault::Damaged(Table::Ends)),
+        Some(MigrateFault::Damaged(Table::Due)),
     ),
     // what stands under the name of a table that is to be made
     (

@@ -1,10 +1,10 @@
 //! Why ends are what they are: those that lines of days ask for, and those of the deadlines of a docket.
 use crate::plays::running::{answer, clerk};
-use crate::plays::worked::{CASE, ZONE};
 use anyhow::{Error, anyhow};
 use court_reasons::reasons;
 use docket_store::Docket;
 use explain_lines::explain_run;
+use plain_plays::{CASE, ZONE};
 use reason_lines::reasons_text;
 use sqlite::MemStore;
 use std::alloc::Global;

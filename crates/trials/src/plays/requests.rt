@@ -1,13 +1,13 @@
 //! Requests of HTTP, one a connection, over a docket in SQLite's tables in memory.
 use crate::plays::running::docket;
-use crate::plays::worked::ZONE;
 use anyhow::{Error, anyhow};
 use docket_http::{Routes, ServeFault, serve_one};
 use docket_store::Docket;
-use failing_ends::{Pieces, Taker};
+use plain_plays::ZONE;
 use serde_json::Value;
 use sqlite::MemStore;
 use std::alloc::Global;
+use test_streams::{Pieces, Taker};
 
 /// The bytes of a request: the line is a string in JSON, each of whose characters is a byte.
 fn request_of(alloc: Global, line: &[u8]) -> Result<Vec<u8>, Error> {

@@ -1,8 +1,8 @@
 //! Commands of `run`, over a docket in SQLite's tables in memory.
-use crate::plays::worked::court_of;
 use anyhow::{Error, anyhow};
 use command_lines::{Clerk, command_run};
 use docket_store::{Docket, Returned};
+use plain_plays::court_of;
 use sqlite::{Connection, MemStore};
 use std::alloc::Global;
 

@@ -1,9 +1,9 @@
 //! Tables with many rows.
-use crate::plays::court_of;
 use crate::tables::commands::{FILED, key_of, label_of};
 use anyhow::{Error, anyhow};
 use court_days::Court;
 use docket_tables::{is_bare, make};
+use plain_plays::court_of;
 use sqlite::{Alter, Connection, Transaction, params};
 use std::alloc::Global;
 

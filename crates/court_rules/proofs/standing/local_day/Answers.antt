@@ -1,5 +1,5 @@
 use Rattle.std.proofs.Common.{rules}
-use Rattle.civil_time.specs.LocalTime.{seconds}
+use Rattle.court_days.specs.LocalTime.{seconds}
 use Rattle.court_days.specs.Court.{zone_of}
 use Rattle.court_days.proofs.Accessible.{near_entered_day}
 use Rattle.court_days.proofs.CourtLemmas.{zone_of-is_zone}

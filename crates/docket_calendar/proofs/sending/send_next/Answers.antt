@@ -11,7 +11,7 @@ returns-in_err-send-clause-sends g c = λ sql params listed clean lists gave.
     let new = c.next_due.new.rows.conn.now in
     let next = c.in-Ok.ensures.next c.args.lines sql params listed clean lists gave in
     write_stops g.S.Store court listed sql params c.args.lines c.args.front.now c.as_str.result.now (g.W.Write.contents c.args.writer.now) (g.W.Write.contents c.send.new.writer) old new c.in-Ok.due
-    c.from_residual.result _ next (c.as_str.ensures.value ∙ c.in-Ok-text_at.ensures) c.in_err-send.ensures.1 c.in_err-send.ensures.0 c.from_residual.ensures.1
+    c.from_residual.result _ next (c.as_str.ensures.value ∙ c.in-Ok-line_text.ensures) c.in_err-send.ensures.1 c.in_err-send.ensures.0 c.from_residual.ensures.1
 
 pub returns-in-Err-clause-remains : goal.returns-in-Err-clause-remains
 returns-in-Err-clause-remains g c = λ clean.
@@ -27,4 +27,4 @@ returns-clause-sends g c = λ sql params listed clean lists gave.
     let new = c.next_due.new.rows.conn.now in
     let next = c.in-Ok.ensures.next c.args.lines sql params listed clean lists gave in
     line_sent g.S.Store c.args.court.now listed sql params c.args.lines c.args.front.now c.as_str.result.now (g.W.Write.contents c.args.writer.now) (g.W.Write.contents c.send.new.writer) old new c.in-Ok.due
-    c.is_some-more.result next (c.as_str.ensures.value ∙ c.in-Ok-text_at.ensures) c.in_ok-send.ensures c.is_some-more.ensures
+    c.is_some-more.result next (c.as_str.ensures.value ∙ c.in-Ok-line_text.ensures) c.in_ok-send.ensures c.is_some-more.ensures

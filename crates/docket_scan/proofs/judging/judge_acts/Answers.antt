@@ -23,16 +23,16 @@ pub returns-in_err-check-2-clause-err : goal.returns-in_err-check-2-clause-err
 returns-in_err-check-2-clause-err g c v first court next prior =
     let start = state g.S.Store first in
     let old = state g.S.Store c.args.conn.now in
-    let new = state g.S.Store c.judge.new.conn in
+    let new = state g.S.Store c.judge_table.new.conn in
     let made = c.in_ok-check.ensures in
     let check = c.in_ok-check.check in
     let fault = c.in_err-check-2.field-0.0 in
     handed c.from_residual-in_err-check-2.result fault (FailsOver v start court next new) c.from_residual-in_err-check-2.ensures.1
     (λ clean.
-    let early : HasCleanDisk old = omega (arith, clean, c.judge.ensures.writes_nothing.clean) in
+    let early : HasCleanDisk old = omega (arith, clean, c.judge_table.ensures.writes_nothing.clean) in
     let was = prior early in
     let context = begun court was.rows c.args.read check next was.said made.court made.deadlines made.calendar in
-    let told = rw c.in_err-check-2.was at (c.judge.ensures.told clean (made.none (map deadline_key was.rows.deadlines) was.said.deadlines)) in
+    let told = rw c.in_err-check-2.was at (c.judge_table.ensures.told clean (made.none (map deadline_key was.rows.deadlines) was.said.deadlines)) in
     failed start old was.same v table.Acts (each_has v table.Acts tt) court next new was.rows (AreActRows check.court (cases_of check.deadlines) (counts_of check.deadlines)) fault
     (ap (λ (k : ActContext). AreActRows k.0 k.1 k.2) context) was.named was.sound told)
 
@@ -40,24 +40,24 @@ pub returns-in_err-ends-clause-err : goal.returns-in_err-ends-clause-err
 returns-in_err-ends-clause-err g c v first court next prior =
     let start = state g.S.Store first in
     let old = state g.S.Store c.args.conn.now in
-    let new = state g.S.Store c.judge.new.conn in
+    let new = state g.S.Store c.judge_table.new.conn in
     handed c.from_residual-in_err-ends.result NoMemory (FailsOver v start court next new) c.from_residual-in_err-ends.ensures.1
     (λ clean.
-    let early : HasCleanDisk old = omega (arith, clean, c.judge.ensures.writes_nothing.clean) in
+    let early : HasCleanDisk old = omega (arith, clean, c.judge_table.ensures.writes_nothing.clean) in
     let was = prior early in
-    let told = rw c.in_ok-check-2.was at (c.judge.ensures.told clean (c.in_ok-check.ensures.none (map deadline_key was.rows.deadlines) was.said.deadlines)) in
+    let told = rw c.in_ok-check-2.was at (c.judge_table.ensures.told clean (c.in_ok-check.ensures.none (map deadline_key was.rows.deadlines) was.said.deadlines)) in
     inl (unchanged_then start old new was.same told.0))
 
 pub returns-in-Some-clause-ok : goal.returns-in-Some-clause-ok
 returns-in-Some-clause-ok g c v first court next prior clean =
     let start = state g.S.Store first in
     let old = state g.S.Store c.args.conn.now in
-    let new = state g.S.Store c.judge.new.conn in
-    let early : HasCleanDisk old = omega (arith, clean, c.judge.ensures.writes_nothing.clean) in
+    let new = state g.S.Store c.judge_table.new.conn in
+    let early : HasCleanDisk old = omega (arith, clean, c.judge_table.ensures.writes_nothing.clean) in
     let was = prior early in
     let made = c.in_ok-check.ensures in
     let context = c.in_ok-check-2.ensures.context ∙ begun court was.rows c.args.read c.in_ok-check.check next was.said made.court made.deadlines made.calendar in
-    let told = rw c.in_ok-check-2.was at (c.judge.ensures.told clean (made.none (map deadline_key was.rows.deadlines) was.said.deadlines)) in
+    let told = rw c.in_ok-check-2.was at (c.judge_table.ensures.told clean (made.none (map deadline_key was.rows.deadlines) was.said.deadlines)) in
     let taken = IsRead IsActRow act_cells (HasTakenActs c.in_ok-check-2.check) in
     let held = sound_before start old was.same table.Acts (OfSoMany c.in_ok-check-2.field-0-1 taken) told.1 in
     let read = held.3.1 in
@@ -71,12 +71,12 @@ pub returns-in-None-clause-err : goal.returns-in-None-clause-err
 returns-in-None-clause-err g c v first court next prior clean =
     let start = state g.S.Store first in
     let old = state g.S.Store c.args.conn.now in
-    let new = state g.S.Store c.judge.new.conn in
-    let early : HasCleanDisk old = omega (arith, clean, c.judge.ensures.writes_nothing.clean) in
+    let new = state g.S.Store c.judge_table.new.conn in
+    let early : HasCleanDisk old = omega (arith, clean, c.judge_table.ensures.writes_nothing.clean) in
     let was = prior early in
     let made = c.in_ok-check.ensures in
     let context = c.in_ok-check-2.ensures.context ∙ begun court was.rows c.args.read c.in_ok-check.check next was.said made.court made.deadlines made.calendar in
-    let told = rw c.in_ok-check-2.was at (c.judge.ensures.told clean (made.none (map deadline_key was.rows.deadlines) was.said.deadlines)) in
+    let told = rw c.in_ok-check-2.was at (c.judge_table.ensures.told clean (made.none (map deadline_key was.rows.deadlines) was.said.deadlines)) in
     let taken = IsRead IsActRow act_cells (HasTakenActs c.in_ok-check-2.check) in
     let held = sound_before start old was.same table.Acts (OfSoMany c.in_ok-check-2.field-0-1 taken) told.1 in
     let read = held.3.1 in
@@ -86,5 +86,5 @@ returns-in-None-clause-err g c v first court next prior clean =
 pub returns-in_err-check-2-clause-cause : goal.returns-in_err-check-2-clause-cause
 returns-in_err-check-2-clause-cause g c clean =
     let old = state g.S.Store c.args.conn.now in
-    let new = state g.S.Store c.judge.new.conn in
+    let new = state g.S.Store c.judge_table.new.conn in
     err_caused old new c.in_err-check-2.field-0.0 c.from_residual-in_err-check-2.result c.from_residual-in_err-check-2.ensures.1 (c.in_err-check-2.ensures.cause clean)

@@ -20,7 +20,7 @@ pub returns-in_err-check-clause-err : goal.returns-in_err-check-clause-err
 returns-in_err-check-clause-err g c v first prior =
     let start = state g.S.Store first in
     let old = state g.S.Store c.args.conn.now in
-    let new = state g.S.Store c.judge.new.conn in
+    let new = state g.S.Store c.judge_table.new.conn in
     let court = c.args.court in
     let next = c.args.next_row in
     let made = c.new-check.ensures in
@@ -28,35 +28,35 @@ returns-in_err-check-clause-err g c v first prior =
     let fault = c.in_err-check.field-0.0 in
     handed c.from_residual.result fault (FailsOver v start court next new) c.from_residual.ensures.1
     (λ clean.
-    let early : HasCleanDisk old = omega (arith, clean, c.judge.ensures.writes_nothing.clean) in
+    let early : HasCleanDisk old = omega (arith, clean, c.judge_table.ensures.writes_nothing.clean) in
     let was = prior early in
     failed_since g.S.Store first c.args.conn.now was.still v court next new fault
     (failed_first v court next old new (record no_rows { names = was.names }) (AreCalendarRows c.new-check.result.court c.new-check.result.next_row) fault
-    (ap (λ (k : CalendarContext). AreCalendarRows k.0 k.1) given) was.named (rw c.in_err-check.was at (c.judge.ensures.told clean made.none))))
+    (ap (λ (k : CalendarContext). AreCalendarRows k.0 k.1) given) was.named (rw c.in_err-check.was at (c.judge_table.ensures.told clean made.none))))
 
 pub returns-in_err-read-clause-err : goal.returns-in_err-read-clause-err
 returns-in_err-read-clause-err g c v first prior =
     let start = state g.S.Store first in
     let old = state g.S.Store c.args.conn.now in
-    let new = state g.S.Store c.judge.new.conn in
+    let new = state g.S.Store c.judge_table.new.conn in
     handed c.from_residual-in_err-read.result NoMemory (FailsOver v start c.args.court c.args.next_row new) c.from_residual-in_err-read.ensures.1
     (λ clean.
-    let early : HasCleanDisk old = omega (arith, clean, c.judge.ensures.writes_nothing.clean) in
-    let told = rw c.in_ok-check.was at (c.judge.ensures.told clean c.new-check.ensures.none) in
+    let early : HasCleanDisk old = omega (arith, clean, c.judge_table.ensures.writes_nothing.clean) in
+    let told = rw c.in_ok-check.was at (c.judge_table.ensures.told clean c.new-check.ensures.none) in
     failed_since g.S.Store first c.args.conn.now (prior early).still v c.args.court c.args.next_row new NoMemory (inl told.0))
 
 pub returns-clause-ok : goal.returns-clause-ok
 returns-clause-ok g c v first prior clean =
     let start = state g.S.Store first in
     let old = state g.S.Store c.args.conn.now in
-    let new = state g.S.Store c.judge.new.conn in
+    let new = state g.S.Store c.judge_table.new.conn in
     let next = c.args.next_row in
-    let early : HasCleanDisk old = omega (arith, clean, c.judge.ensures.writes_nothing.clean) in
+    let early : HasCleanDisk old = omega (arith, clean, c.judge_table.ensures.writes_nothing.clean) in
     let was = prior early in
     let made = c.new-check.ensures in
     let begun : calendar_context c.new-check.result ≡ (c.args.court, next) = λ i. (made.court i, made.next_row i) in
     let given = c.in_ok-check.ensures.context ∙ begun in
-    let told = rw c.in_ok-check.was at (c.judge.ensures.told clean made.none) in
+    let told = rw c.in_ok-check.was at (c.judge_table.ensures.told clean made.none) in
     let taken = HasTakenCalendarRows c.in_ok-check.check in
     let read = told.1.3.1 in
     let count = so_many table.Calendar old IsCalendarRow calendar_cells taken c.in_ok-check.count told.1 in
@@ -82,5 +82,5 @@ returns-clause-ok g c v first prior clean =
 pub returns-in_err-check-clause-cause : goal.returns-in_err-check-clause-cause
 returns-in_err-check-clause-cause g c clean =
     let old = state g.S.Store c.args.conn.now in
-    let new = state g.S.Store c.judge.new.conn in
+    let new = state g.S.Store c.judge_table.new.conn in
     err_caused old new c.in_err-check.field-0.0 c.from_residual.result c.from_residual.ensures.1 (c.in_err-check.ensures.cause clean)

@@ -19,23 +19,23 @@ pub returns-in_err-check-clause-err : goal.returns-in_err-check-clause-err
 returns-in_err-check-clause-err g c v first court next prior =
     let start = state g.S.Store first in
     let old = state g.S.Store c.args.conn.now in
-    let new = state g.S.Store c.judge.new.conn in
+    let new = state g.S.Store c.judge_table.new.conn in
     let fault = c.in_err-check.field-0.0 in
     handed c.from_residual.result fault (FailsOver v start court next new) c.from_residual.ensures.1
     (λ clean.
-    let early : HasCleanDisk old = omega (arith, clean, c.judge.ensures.writes_nothing.clean) in
+    let early : HasCleanDisk old = omega (arith, clean, c.judge_table.ensures.writes_nothing.clean) in
     let was = prior early in
-    let told = rw c.in_err-check.was at (c.judge.ensures.told clean c.new-check.ensures) in
+    let told = rw c.in_err-check.was at (c.judge_table.ensures.told clean c.new-check.ensures) in
     failed start old was.same v table.Cases (each_has v table.Cases tt) court next new was.rows (AreCaseRows) fault (refl) was.named was.sound told)
 
 pub returns-clause-ok : goal.returns-clause-ok
 returns-clause-ok g c v first court next prior clean =
     let start = state g.S.Store first in
     let old = state g.S.Store c.args.conn.now in
-    let new = state g.S.Store c.judge.new.conn in
-    let early : HasCleanDisk old = omega (arith, clean, c.judge.ensures.writes_nothing.clean) in
+    let new = state g.S.Store c.judge_table.new.conn in
+    let early : HasCleanDisk old = omega (arith, clean, c.judge_table.ensures.writes_nothing.clean) in
     let was = prior early in
-    let told = rw c.in_ok-check.was at (c.judge.ensures.told clean c.new-check.ensures) in
+    let told = rw c.in_ok-check.was at (c.judge_table.ensures.told clean c.new-check.ensures) in
     let taken = HasTakenCases c.in_ok-check.check in
     let held = sound_before start old was.same table.Cases (OfSoMany c.in_ok-check.count (IsRead IsCaseRow case_cells taken)) told.1 in
     let read = held.3.1 in
@@ -61,5 +61,5 @@ returns-clause-ok g c v first court next prior clean =
 pub returns-in_err-check-clause-cause : goal.returns-in_err-check-clause-cause
 returns-in_err-check-clause-cause g c clean =
     let old = state g.S.Store c.args.conn.now in
-    let new = state g.S.Store c.judge.new.conn in
+    let new = state g.S.Store c.judge_table.new.conn in
     err_caused old new c.in_err-check.field-0.0 c.from_residual.result c.from_residual.ensures.1 (c.in_err-check.ensures.cause clean)

@@ -23,24 +23,24 @@ pub returns-in_err-check-2-clause-err : goal.returns-in_err-check-2-clause-err
 returns-in_err-check-2-clause-err g c v first court next prior =
     let start = state g.S.Store first in
     let old = state g.S.Store c.args.conn.now in
-    let new = state g.S.Store c.judge.new.conn in
+    let new = state g.S.Store c.judge_table.new.conn in
     let fault = c.in_err-check-2.field-0.0 in
     handed c.from_residual-in_err-check-2.result fault (FailsOver v start court next new) c.from_residual-in_err-check-2.ensures.1
     (λ clean.
-    let early : HasCleanDisk old = omega (arith, clean, c.judge.ensures.writes_nothing.clean) in
+    let early : HasCleanDisk old = omega (arith, clean, c.judge_table.ensures.writes_nothing.clean) in
     let was = prior early in
     let made = begun court next was.rows c.args.read was.said c.in_ok-check.check c.in_ok-check.ensures.cases c.in_ok-check.ensures.parties c.in_ok-check.ensures.names in
-    let told = rw c.in_err-check-2.was at (c.judge.ensures.told clean c.in_ok-check.ensures.none) in
+    let told = rw c.in_err-check-2.was at (c.judge_table.ensures.told clean c.in_ok-check.ensures.none) in
     failed start old was.same v table.Deadlines (each_has v table.Deadlines tt) court next new was.rows (AreRowsOfContext (deadline_context c.in_ok-check.check)) fault (ap AreRowsOfContext made) was.named was.sound told)
 
 pub returns-clause-ok : goal.returns-clause-ok
 returns-clause-ok g c v first court next prior clean =
     let start = state g.S.Store first in
     let old = state g.S.Store c.args.conn.now in
-    let new = state g.S.Store c.judge.new.conn in
-    let early : HasCleanDisk old = omega (arith, clean, c.judge.ensures.writes_nothing.clean) in
+    let new = state g.S.Store c.judge_table.new.conn in
+    let early : HasCleanDisk old = omega (arith, clean, c.judge_table.ensures.writes_nothing.clean) in
     let was = prior early in
-    let told = rw c.in_ok-check-2.was at (c.judge.ensures.told clean c.in_ok-check.ensures.none) in
+    let told = rw c.in_ok-check-2.was at (c.judge_table.ensures.told clean c.in_ok-check.ensures.none) in
     let taken = HasTakenDeadlines c.in_ok-check-2.check in
     let held = sound_before start old was.same table.Deadlines (OfSoMany c.in_ok-check-2.count (IsRead IsDeadlineRow deadline_cells taken)) told.1 in
     let read = held.3.1 in
@@ -67,5 +67,5 @@ returns-clause-ok g c v first court next prior clean =
 pub returns-in_err-check-2-clause-cause : goal.returns-in_err-check-2-clause-cause
 returns-in_err-check-2-clause-cause g c clean =
     let old = state g.S.Store c.args.conn.now in
-    let new = state g.S.Store c.judge.new.conn in
+    let new = state g.S.Store c.judge_table.new.conn in
     err_caused old new c.in_err-check-2.field-0.0 c.from_residual-in_err-check-2.result c.from_residual-in_err-check-2.ensures.1 (c.in_err-check-2.ensures.cause clean)

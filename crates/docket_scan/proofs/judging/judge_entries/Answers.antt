@@ -19,23 +19,23 @@ pub returns-in_err-count-clause-err : goal.returns-in_err-count-clause-err
 returns-in_err-count-clause-err g c v first court next prior =
     let start = state g.S.Store first in
     let old = state g.S.Store c.args.conn.now in
-    let new = state g.S.Store c.judge.new.conn in
+    let new = state g.S.Store c.judge_table.new.conn in
     let fault = c.in_err-count.field-0.0 in
     handed c.from_residual-in_err-count.result fault (FailsOver v start court next new) c.from_residual-in_err-count.ensures.1
     (λ clean.
-    let early : HasCleanDisk old = omega (arith, clean, c.judge.ensures.writes_nothing.clean) in
+    let early : HasCleanDisk old = omega (arith, clean, c.judge_table.ensures.writes_nothing.clean) in
     let was = prior early in
-    let told = rw c.in_err-count.was at (c.judge.ensures.told clean c.in_ok-check.ensures.none) in
+    let told = rw c.in_err-count.was at (c.judge_table.ensures.told clean c.in_ok-check.ensures.none) in
     failed start old was.same v table.Entries (each_has v table.Entries tt) court next new was.rows (AreEntryRows (entries_checked c.in_ok-check.check)) fault (ap AreEntryRows (c.in_ok-check.ensures.cases ∙ was.said.cases)) was.named was.sound told)
 
 pub returns-clause-ok : goal.returns-clause-ok
 returns-clause-ok g c v first court next prior clean =
     let start = state g.S.Store first in
     let old = state g.S.Store c.args.conn.now in
-    let new = state g.S.Store c.judge.new.conn in
-    let early : HasCleanDisk old = omega (arith, clean, c.judge.ensures.writes_nothing.clean) in
+    let new = state g.S.Store c.judge_table.new.conn in
+    let early : HasCleanDisk old = omega (arith, clean, c.judge_table.ensures.writes_nothing.clean) in
     let was = prior early in
-    let told = rw c.in_ok-count.was at (c.judge.ensures.told clean c.in_ok-check.ensures.none) in
+    let told = rw c.in_ok-count.was at (c.judge_table.ensures.told clean c.in_ok-check.ensures.none) in
     let taken = HasTakenEntries c.in_ok-count.field-0-0 in
     let held = sound_before start old was.same table.Entries (OfSoMany c.in_ok-count.count (IsRead IsEntryRow entry_cells taken)) told.1 in
     let read = held.3.1 in
@@ -62,5 +62,5 @@ returns-clause-ok g c v first court next prior clean =
 pub returns-in_err-count-clause-cause : goal.returns-in_err-count-clause-cause
 returns-in_err-count-clause-cause g c clean =
     let old = state g.S.Store c.args.conn.now in
-    let new = state g.S.Store c.judge.new.conn in
+    let new = state g.S.Store c.judge_table.new.conn in
     err_caused old new c.in_err-count.field-0.0 c.from_residual-in_err-count.result c.from_residual-in_err-count.ensures.1 (c.in_err-count.ensures.cause clean)

@@ -20,10 +20,10 @@ pub returns-in_err-count-clause-told : goal.returns-in_err-count-clause-told
 returns-in_err-count-clause-told g c first court next prior clean =
     let start = state g.S.Store first in
     let old = state g.S.Store c.args.conn.now in
-    let new = state g.S.Store c.judge.new.conn in
-    let early : HasCleanDisk old = omega (arith, clean, c.judge.ensures.writes_nothing.clean) in
+    let new = state g.S.Store c.judge_table.new.conn in
+    let early : HasCleanDisk old = omega (arith, clean, c.judge_table.ensures.writes_nothing.clean) in
     let was = prior early in
-    let told = rw c.in_err-count.was at (c.judge.ensures.told clean c.new-check.ensures) in
+    let told = rw c.in_err-count.was at (c.judge_table.ensures.told clean c.new-check.ensures) in
     let fault = c.in_err-count.field-0.0 in
     told_of Second court next start new (λ r held. held ≡ holdings_of court r) c.from_residual.result fault c.from_residual.ensures.1
     (failed start old was.same Second table.LocalRules tt court next new was.rows AreLocalRuleRows fault refl was.named was.sound told)
@@ -32,10 +32,10 @@ pub returns-clause-told : goal.returns-clause-told
 returns-clause-told g c first court next prior clean =
     let start = state g.S.Store first in
     let old = state g.S.Store c.args.conn.now in
-    let new = state g.S.Store c.judge.new.conn in
-    let early : HasCleanDisk old = omega (arith, clean, c.judge.ensures.writes_nothing.clean) in
+    let new = state g.S.Store c.judge_table.new.conn in
+    let early : HasCleanDisk old = omega (arith, clean, c.judge_table.ensures.writes_nothing.clean) in
     let was = prior early in
-    let told = rw c.in_ok-count.was at (c.judge.ensures.told clean c.new-check.ensures) in
+    let told = rw c.in_ok-count.was at (c.judge_table.ensures.told clean c.new-check.ensures) in
     let taken = HasTakenLocalRules c.in_ok-count.field-0-0 in
     let held = sound_before start old was.same table.LocalRules (OfSoMany c.in_ok-count.count (IsRead IsLocalRuleRow local_rule_cells taken)) told.1 in
     let read = held.3.1 in
@@ -53,5 +53,5 @@ returns-clause-told g c first court next prior clean =
 pub returns-in_err-count-clause-cause : goal.returns-in_err-count-clause-cause
 returns-in_err-count-clause-cause g c clean =
     let old = state g.S.Store c.args.conn.now in
-    let new = state g.S.Store c.judge.new.conn in
+    let new = state g.S.Store c.judge_table.new.conn in
     err_caused old new c.in_err-count.field-0.0 c.from_residual.result c.from_residual.ensures.1 (c.in_err-count.ensures.cause clean)

@@ -17,13 +17,13 @@ returns-in_err-count-clause-err g c first court next prior =
     let v = c.args.version in
     let start = state g.S.Store first in
     let old = state g.S.Store c.args.conn.now in
-    let new = state g.S.Store c.judge.new.conn in
+    let new = state g.S.Store c.judge_table.new.conn in
     let fault = c.in_err-count.field-0.0 in
     handed c.from_residual.result fault (FailsOver v start court next new) c.from_residual.ensures.1
     (λ clean.
-    let early : HasCleanDisk old = omega (arith, clean, c.judge.ensures.writes_nothing.clean) in
+    let early : HasCleanDisk old = omega (arith, clean, c.judge_table.ensures.writes_nothing.clean) in
     let was = prior early in
-    let told = rw c.in_err-count.was at (c.judge.ensures.told clean c.new-check.ensures.none) in
+    let told = rw c.in_err-count.was at (c.judge_table.ensures.told clean c.new-check.ensures.none) in
     failed start old was.same v table.Receipts (each_has v table.Receipts tt) court next new was.rows (AreReceiptRows c.new-check.result.later) fault (ap AreReceiptRows (c.new-check.ensures.later ∙ c.knows_later_kinds.ensures)) was.named was.sound told)
 
 pub returns-clause-ok : goal.returns-clause-ok
@@ -31,10 +31,10 @@ returns-clause-ok g c first court next prior clean =
     let v = c.args.version in
     let start = state g.S.Store first in
     let old = state g.S.Store c.args.conn.now in
-    let new = state g.S.Store c.judge.new.conn in
-    let early : HasCleanDisk old = omega (arith, clean, c.judge.ensures.writes_nothing.clean) in
+    let new = state g.S.Store c.judge_table.new.conn in
+    let early : HasCleanDisk old = omega (arith, clean, c.judge_table.ensures.writes_nothing.clean) in
     let was = prior early in
-    let told = rw c.in_ok-count.was at (c.judge.ensures.told clean c.new-check.ensures.none) in
+    let told = rw c.in_ok-count.was at (c.judge_table.ensures.told clean c.new-check.ensures.none) in
     let taken = HasTakenStored c.in_ok-count.field-0-0 in
     let held = sound_before start old was.same table.Receipts (OfSoMany c.in_ok-count.count (IsRead IsStoredReceipt receipt_cells taken)) told.1 in
     let read = held.3.1 in
@@ -57,5 +57,5 @@ returns-clause-ok g c first court next prior clean =
 pub returns-in_err-count-clause-cause : goal.returns-in_err-count-clause-cause
 returns-in_err-count-clause-cause g c clean =
     let old = state g.S.Store c.args.conn.now in
-    let new = state g.S.Store c.judge.new.conn in
+    let new = state g.S.Store c.judge_table.new.conn in
     err_caused old new c.in_err-count.field-0.0 c.from_residual.result c.from_residual.ensures.1 (c.in_err-count.ensures.cause clean)

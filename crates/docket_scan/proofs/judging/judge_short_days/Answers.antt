@@ -21,27 +21,27 @@ pub returns-in_err-count-clause-err : goal.returns-in_err-count-clause-err
 returns-in_err-count-clause-err g c first court next prior =
     let start = state g.S.Store first in
     let old = state g.S.Store c.args.conn.now in
-    let new = state g.S.Store c.judge.new.conn in
+    let new = state g.S.Store c.judge_table.new.conn in
     let check = c.args.read.short_days in
     let fault = c.in_err-count.field-0.0 in
     handed c.from_residual.result fault (FailsOver Second start court next new) c.from_residual.ensures.1
     (λ clean.
-    let early : HasCleanDisk old = omega (arith, clean, c.judge.ensures.writes_nothing.clean) in
+    let early : HasCleanDisk old = omega (arith, clean, c.judge_table.ensures.writes_nothing.clean) in
     let was = prior early in
     let context = readied court next was.rows.calendar was.rows.short_days check was.said.short_days in
-    let told = rw c.in_err-count.was at (c.judge.ensures.told clean was.said.short_days.none) in
+    let told = rw c.in_err-count.was at (c.judge_table.ensures.told clean was.said.short_days.none) in
     failed start old was.same Second table.ShortDays tt court next new was.rows (AreSoundRows (short_day_context check)) fault (ap AreSoundRows context) was.named was.sound told)
 
 pub returns-clause-ok : goal.returns-clause-ok
 returns-clause-ok g c first court next prior clean =
     let start = state g.S.Store first in
     let old = state g.S.Store c.args.conn.now in
-    let new = state g.S.Store c.judge.new.conn in
+    let new = state g.S.Store c.judge_table.new.conn in
     let check = c.args.read.short_days in
-    let early : HasCleanDisk old = omega (arith, clean, c.judge.ensures.writes_nothing.clean) in
+    let early : HasCleanDisk old = omega (arith, clean, c.judge_table.ensures.writes_nothing.clean) in
     let was = prior early in
     let context = c.in_ok-count.ensures.context ∙ readied court next was.rows.calendar was.rows.short_days check was.said.short_days in
-    let told = rw c.in_ok-count.was at (c.judge.ensures.told clean was.said.short_days.none) in
+    let told = rw c.in_ok-count.was at (c.judge_table.ensures.told clean was.said.short_days.none) in
     let taken = HasTakenShortDays c.in_ok-count.field-0-0 in
     let held = sound_before start old was.same table.ShortDays (OfSoMany c.in_ok-count.count (IsRead IsShortDayRow short_day_cells taken)) told.1 in
     let read = held.3.1 in
@@ -62,5 +62,5 @@ returns-clause-ok g c first court next prior clean =
 pub returns-in_err-count-clause-cause : goal.returns-in_err-count-clause-cause
 returns-in_err-count-clause-cause g c clean =
     let old = state g.S.Store c.args.conn.now in
-    let new = state g.S.Store c.judge.new.conn in
+    let new = state g.S.Store c.judge_table.new.conn in
     err_caused old new c.in_err-count.field-0.0 c.from_residual.result c.from_residual.ensures.1 (c.in_err-count.ensures.cause clean)

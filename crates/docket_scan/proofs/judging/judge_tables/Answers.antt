@@ -138,10 +138,10 @@ returns-in_err-ends-2-clause-told g c clean =
     (c.in_err-ends-2.ensures.err first court next ends clean)
 
 pub returns-in_err-last-clause-writes_nothing : goal.returns-in_err-last-clause-writes_nothing
-returns-in_err-last-clause-writes_nothing g c = nothing_then (nothing_then (nothing_then (nothing_then (nothing_then (nothing_then (nothing_then (nothing_then c.read_names.ensures.writes_nothing c.judge_calendar.ensures.writes_nothing) c.judge_cases.ensures.writes_nothing) c.judge_parties.ensures.writes_nothing) c.judge_entries.ensures.writes_nothing) c.judge_deadlines.ensures.writes_nothing) c.judge_acts.ensures.writes_nothing) c.judge_receipts.ensures.writes_nothing) c.judge_ends.ensures.writes_nothing
+returns-in_err-last-clause-writes_nothing g c = nothing_then (nothing_then (nothing_then (nothing_then (nothing_then (nothing_then (nothing_then (nothing_then c.read_names.ensures.writes_nothing c.judge_calendar.ensures.writes_nothing) c.judge_cases.ensures.writes_nothing) c.judge_parties.ensures.writes_nothing) c.judge_entries.ensures.writes_nothing) c.judge_deadlines.ensures.writes_nothing) c.judge_acts.ensures.writes_nothing) c.judge_receipts.ensures.writes_nothing) c.judge_due.ensures.writes_nothing
 
 pub returns-in_err-last-clause-mode : goal.returns-in_err-last-clause-mode
-returns-in_err-last-clause-mode g c idle = c.judge_ends.ensures.mode (c.judge_receipts.ensures.mode (c.judge_acts.ensures.mode (c.judge_deadlines.ensures.mode (c.judge_entries.ensures.mode (c.judge_parties.ensures.mode (c.judge_cases.ensures.mode (c.judge_calendar.ensures.mode (c.read_names.ensures.mode idle))))))))
+returns-in_err-last-clause-mode g c idle = c.judge_due.ensures.mode (c.judge_receipts.ensures.mode (c.judge_acts.ensures.mode (c.judge_deadlines.ensures.mode (c.judge_entries.ensures.mode (c.judge_parties.ensures.mode (c.judge_cases.ensures.mode (c.judge_calendar.ensures.mode (c.read_names.ensures.mode idle))))))))
 
 pub returns-in_err-last-clause-told : goal.returns-in_err-last-clause-told
 returns-in_err-last-clause-told g c clean =
@@ -158,14 +158,14 @@ returns-in_err-last-clause-told g c clean =
     let ends = c.in_ok-ends.ensures.ok version first court next acts in
     let ends = c.in_ok-ends-2.ensures.ok first court next ends in
     let fault = c.in_err-last.field-0.0 in
-    told_of version court next (state g.S.Store first) (state g.S.Store c.judge_ends.new.conn) (λ r held. held ≡ holdings_of court r) c.from_residual-in_err-last.result fault c.from_residual-in_err-last.ensures.1
+    told_of version court next (state g.S.Store first) (state g.S.Store c.judge_due.new.conn) (λ r held. held ≡ holdings_of court r) c.from_residual-in_err-last.result fault c.from_residual-in_err-last.ensures.1
     (c.in_err-last.ensures.err version first court next ends clean)
 
 pub returns-clause-writes_nothing : goal.returns-clause-writes_nothing
-returns-clause-writes_nothing g c = nothing_then (nothing_then (nothing_then (nothing_then (nothing_then (nothing_then (nothing_then (nothing_then (nothing_then c.read_names.ensures.writes_nothing c.judge_calendar.ensures.writes_nothing) c.judge_cases.ensures.writes_nothing) c.judge_parties.ensures.writes_nothing) c.judge_entries.ensures.writes_nothing) c.judge_deadlines.ensures.writes_nothing) c.judge_acts.ensures.writes_nothing) c.judge_receipts.ensures.writes_nothing) c.judge_ends.ensures.writes_nothing) c.judge_more.ensures.writes_nothing
+returns-clause-writes_nothing g c = nothing_then (nothing_then (nothing_then (nothing_then (nothing_then (nothing_then (nothing_then (nothing_then (nothing_then c.read_names.ensures.writes_nothing c.judge_calendar.ensures.writes_nothing) c.judge_cases.ensures.writes_nothing) c.judge_parties.ensures.writes_nothing) c.judge_entries.ensures.writes_nothing) c.judge_deadlines.ensures.writes_nothing) c.judge_acts.ensures.writes_nothing) c.judge_receipts.ensures.writes_nothing) c.judge_due.ensures.writes_nothing) c.judge_more.ensures.writes_nothing
 
 pub returns-clause-mode : goal.returns-clause-mode
-returns-clause-mode g c idle = c.judge_more.ensures.mode (c.judge_ends.ensures.mode (c.judge_receipts.ensures.mode (c.judge_acts.ensures.mode (c.judge_deadlines.ensures.mode (c.judge_entries.ensures.mode (c.judge_parties.ensures.mode (c.judge_cases.ensures.mode (c.judge_calendar.ensures.mode (c.read_names.ensures.mode idle)))))))))
+returns-clause-mode g c idle = c.judge_more.ensures.mode (c.judge_due.ensures.mode (c.judge_receipts.ensures.mode (c.judge_acts.ensures.mode (c.judge_deadlines.ensures.mode (c.judge_entries.ensures.mode (c.judge_parties.ensures.mode (c.judge_cases.ensures.mode (c.judge_calendar.ensures.mode (c.read_names.ensures.mode idle)))))))))
 
 pub returns-clause-told : goal.returns-clause-told
 returns-clause-told g c clean =
@@ -234,9 +234,9 @@ returns-in_err-ends-2-clause-cause g c clean =
 pub returns-in_err-last-clause-cause : goal.returns-in_err-last-clause-cause
 returns-in_err-last-clause-cause g c clean =
     let fault = c.in_err-last.field-0.0 in
-    err_caused (state g.S.Store c.args.conn.now) (state g.S.Store c.judge_ends.new.conn) fault c.from_residual-in_err-last.result c.from_residual-in_err-last.ensures.1
-    (fault_after (nothing_then (nothing_then (nothing_then (nothing_then (nothing_then (nothing_then (nothing_then c.read_names.ensures.writes_nothing c.judge_calendar.ensures.writes_nothing) c.judge_cases.ensures.writes_nothing) c.judge_parties.ensures.writes_nothing) c.judge_entries.ensures.writes_nothing) c.judge_deadlines.ensures.writes_nothing) c.judge_acts.ensures.writes_nothing) c.judge_receipts.ensures.writes_nothing) c.judge_ends.ensures.writes_nothing clean fault (c.in_err-last.ensures.cause clean))
+    err_caused (state g.S.Store c.args.conn.now) (state g.S.Store c.judge_due.new.conn) fault c.from_residual-in_err-last.result c.from_residual-in_err-last.ensures.1
+    (fault_after (nothing_then (nothing_then (nothing_then (nothing_then (nothing_then (nothing_then (nothing_then c.read_names.ensures.writes_nothing c.judge_calendar.ensures.writes_nothing) c.judge_cases.ensures.writes_nothing) c.judge_parties.ensures.writes_nothing) c.judge_entries.ensures.writes_nothing) c.judge_deadlines.ensures.writes_nothing) c.judge_acts.ensures.writes_nothing) c.judge_receipts.ensures.writes_nothing) c.judge_due.ensures.writes_nothing clean fault (c.in_err-last.ensures.cause clean))
 
 pub returns-clause-cause : goal.returns-clause-cause
 returns-clause-cause g c clean =
-    result_after (nothing_then (nothing_then (nothing_then (nothing_then (nothing_then (nothing_then (nothing_then (nothing_then c.read_names.ensures.writes_nothing c.judge_calendar.ensures.writes_nothing) c.judge_cases.ensures.writes_nothing) c.judge_parties.ensures.writes_nothing) c.judge_entries.ensures.writes_nothing) c.judge_deadlines.ensures.writes_nothing) c.judge_acts.ensures.writes_nothing) c.judge_receipts.ensures.writes_nothing) c.judge_ends.ensures.writes_nothing) c.judge_more.ensures.writes_nothing clean c.judge_more.result (c.judge_more.ensures.cause clean)
+    result_after (nothing_then (nothing_then (nothing_then (nothing_then (nothing_then (nothing_then (nothing_then (nothing_then c.read_names.ensures.writes_nothing c.judge_calendar.ensures.writes_nothing) c.judge_cases.ensures.writes_nothing) c.judge_parties.ensures.writes_nothing) c.judge_entries.ensures.writes_nothing) c.judge_deadlines.ensures.writes_nothing) c.judge_acts.ensures.writes_nothing) c.judge_receipts.ensures.writes_nothing) c.judge_due.ensures.writes_nothing) c.judge_more.ensures.writes_nothing clean c.judge_more.result (c.judge_more.ensures.cause clean)

@@ -19,21 +19,21 @@ seen log db is_log history = (replay (cond is_log log db) history).seen
 
 pub returns-clause-rows : goal.returns-clause-rows
 returns-clause-rows g c v rows held =
-    if_ok _ _ _ _ c.open_from.result
+    if_ok _ _ _ _ c.open_at.result
     (λ conn new opened found. holds_again (image_at g.S.Start) conn new opened (λ clean. (found clean).holds) (settled_at conn.store (λ _. inl refl)) v rows held)
-    c.open_from.ensures.fresh c.open_from.ensures.opened c.open_from.ensures.found
+    c.open_at.ensures.fresh c.open_at.ensures.opened c.open_at.ensures.found
 
 pub returns-clause-docket : goal.returns-clause-docket
 returns-clause-docket g c court h held =
-    if_ok _ _ _ _ c.open_from.result
+    if_ok _ _ _ _ c.open_at.result
     (λ conn new opened found. stands_again (image_at g.S.Start) conn new opened (λ clean. (found clean).holds) (settled_at conn.store (λ _. inl refl)) court h held)
-    c.open_from.ensures.fresh c.open_from.ensures.opened c.open_from.ensures.found
+    c.open_at.ensures.fresh c.open_at.ensures.opened c.open_at.ensures.found
 
 pub returns-clause-either : goal.returns-clause-either
 returns-clause-either g c court h next held =
-    if_ok _ _ _ _ c.open_from.result
+    if_ok _ _ _ _ c.open_at.result
     (λ conn new opened found. stands_for_either (image_at g.S.Start) conn new opened (λ clean. (found clean).holds) (settled_at conn.store (λ _. inl refl)) court h next held)
-    c.open_from.ensures.fresh c.open_from.ensures.opened c.open_from.ensures.found
+    c.open_at.ensures.fresh c.open_at.ensures.opened c.open_at.ensures.found
 
 pub returns-clause-unharmed : goal.returns-clause-unharmed
 returns-clause-unharmed g c v rows held =
@@ -43,8 +43,8 @@ returns-clause-unharmed g c v rows held =
     let same = ap₂ image (ap₂ (seen g.S.Start.log g.S.Start.db) log.0 log.1) (ap₂ (seen g.S.Start.log g.S.Start.db) db.0 db.1) in
     subst (λ (i : Image). StillHolds i left (IsImageIn v rows)) same
     (still_holds _ cause.0 (λ i may. ap₂ image (fresh_file _ _ _ _ _ _ _ log.0 log.1 i.log may.0) (fresh_file _ _ _ _ _ _ _ db.0 db.1 i.db may.1) ∙ sym same)
-    (IsImageIn v rows) (image_known v rows) (subst (HoldSome (IsImageIn v rows)) (sym same) held) left (cause.3 clean).1)) c.open_from.result c.open_from.ensures.cause
+    (IsImageIn v rows) (image_known v rows) (subst (HoldSome (IsImageIn v rows)) (sym same) held) left (cause.3 clean).1)) c.open_at.result c.open_at.ensures.cause
 
 pub returns-clause-either_unharmed : goal.returns-clause-either_unharmed
 returns-clause-either_unharmed g c court h next =
-    err_either _ _ _ _ c.open_from.result (returns-clause-unharmed g c Second (docket_rows court h)) (returns-clause-unharmed g c Second (docket_rows court next))
+    err_either _ _ _ _ c.open_at.result (returns-clause-unharmed g c Second (docket_rows court h)) (returns-clause-unharmed g c Second (docket_rows court next))

@@ -12,7 +12,7 @@ use Rattle.docket_decisions.specs.declared.end_row.EndChange.TheVariants.{Move}
 use Rattle.docket_tables.specs.AnyRows.{with_stored}
 use Rattle.docket_tables.specs.Contents.{rows_with}
 use Rattle.docket_tables.specs.declared.fault.ReadFault.{ReadFault}
-use Rattle.docket_tables.specs.declared.table.Table.TheVariants.{Ends}
+use Rattle.docket_tables.specs.declared.table.Table.TheVariants.{Due}
 use Rattle.docket_tables.proofs.AnyLemmas.{stored_added, stored_anew}
 use Rattle.docket_tables.proofs.ContentsLemmas.{end_added, row_inserted, sees_same, with_ends}
 use Rattle.docket_tables.proofs.EndLemmas.{kept_ends}
@@ -26,7 +26,7 @@ returns-in_ok-insert-in-Add-clause-inside g c court t ends sees =
       c.insert.ensures.inside,
       λ clean.
           let before : HasCleanDisk old = omega (arith, c.insert.ensures.inside.survives.clean) in (
-            row_inserted {E = ReadFault} (Ok c.in_ok-insert-in-Add.field-0) old new Ends _ (end_cells row) (rows_with court t ends) (rows_with court t (changed_ends c.args.change.now ends)) c.end_values.ensures refl
+            row_inserted {E = ReadFault} (Ok c.in_ok-insert-in-Add.field-0) old new Due _ (end_cells row) (rows_with court t ends) (rows_with court t (changed_ends c.args.change.now ends)) c.end_values.ensures refl
                 (λ other. end_added court t ends row other ∙ ap (λ x. rows_with court t (changed_ends x ends) other) (sym c.in-Add.is)) (c.in_ok-insert-in-Add.ensures.ok clean) (sees before),
             tt,
           ),
@@ -69,7 +69,7 @@ returns-in_ok-insert-in-Add-clause-any g c stored rows sees =
       c.insert.ensures.inside,
       λ clean.
           let before : HasCleanDisk old = omega (arith, c.insert.ensures.inside.survives.clean) in (
-            row_inserted {E = ReadFault} (Ok c.in_ok-insert-in-Add.field-0) old new Ends _ (end_cells row) (with_stored stored rows) (with_stored (changed_ends c.args.change.now stored) rows) c.end_values.ensures refl
+            row_inserted {E = ReadFault} (Ok c.in_ok-insert-in-Add.field-0) old new Due _ (end_cells row) (with_stored stored rows) (with_stored (changed_ends c.args.change.now stored) rows) c.end_values.ensures refl
                 (λ other. stored_added row stored rows other ∙ ap (λ x. with_stored (changed_ends x stored) rows other) (sym c.in-Add.is)) (c.in_ok-insert-in-Add.ensures.ok clean) (sees before),
             tt,
           ),
@@ -113,7 +113,7 @@ returns-in_err-insert-in-Add-clause-cause g c clean court t ends sees once among
     let stands = subst (λ x. AddsAmong (HasDeadline t) (x ∷ [])) c.in-Add.is among in
     let e = c.in_err-insert-in-Add.field-0.0 in
     fault_told old new e c.from_residual.result c.from_residual.ensures.1
-    (row_caused {X = Unit {0}} (Err e) old new Ends _ (end_cells row) (rows_with court t ends) c.end_values.ensures refl (end_may court t ends row alone.0 stands.0 c.end_fits.ensures) sees (c.in_err-insert-in-Add.ensures.cause clean))
+    (row_caused {X = Unit {0}} (Err e) old new Due _ (end_cells row) (rows_with court t ends) c.end_values.ensures refl (end_may court t ends row alone.0 stands.0 c.end_fits.ensures) sees (c.in_err-insert-in-Add.ensures.cause clean))
 
 pub returns-in_err-remove_end-in-Remove-clause-cause : goal.returns-in_err-remove_end-in-Remove-clause-cause
 returns-in_err-remove_end-in-Remove-clause-cause g c clean court t ends sees once among =

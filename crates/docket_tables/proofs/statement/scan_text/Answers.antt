@@ -26,8 +26,8 @@ returns-in-Acts c = ap scan_text (sym c.in-Acts.is)
 pub returns-in-Receipts : goal.returns-in-Receipts
 returns-in-Receipts c = ap scan_text (sym c.in-Receipts.is)
 
-pub returns-in-Ends : goal.returns-in-Ends
-returns-in-Ends c = ap scan_text (sym c.in-Ends.is)
+pub returns-in-Due : goal.returns-in-Due
+returns-in-Due c = ap scan_text (sym c.in-Due.is)
 
 pub returns-in-ShortDays : goal.returns-in-ShortDays
 returns-in-ShortDays c = ap scan_text (sym c.in-ShortDays.is)

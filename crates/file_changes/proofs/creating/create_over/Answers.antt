@@ -1,5 +1,5 @@
 use Rattle.std.proofs.Common.{[]}
-use Rattle.command_lines.specs.Lines.{Docket}
+use Rattle.docket_applying.specs.CourtDockets.{CourtDocket as Docket}
 use Rattle.file_changes.proofs.StandLemmas.{keeps_closed}
 use Rattle.file_changes.proofs.creating.create_over.Goals as goal
 

@@ -2,7 +2,7 @@ use Rattle.std.proofs.Common.{◌≡◌, ◌∙◌, IfSome, sym, ap, subst}
 use Rattle.sqlite.specs.Held.{Held, state}
 use Rattle.sqlite.specs.State.{HasCleanDisk}
 use Rattle.docket_applying.specs.Dockets.{Docket as Stored}
-use Rattle.command_lines.specs.Ending.{StandsAs}
+use Rattle.docket_applying.specs.CourtDockets.{StandsAs}
 use Rattle.file_dockets.specs.Keeping.{HoldsBetween}
 use Rattle.file_changes.specs.Runs.{Answers}
 use Rattle.file_changes.proofs.RunLemmas.{answers_of}

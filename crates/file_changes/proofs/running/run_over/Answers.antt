@@ -1,5 +1,5 @@
 use Rattle.std.proofs.Common.{refl}
-use Rattle.command_lines.specs.Ending.{StandsAs}
+use Rattle.docket_applying.specs.CourtDockets.{StandsAs}
 use Rattle.file_dockets.specs.Keeping.{rows_told}
 use Rattle.file_changes.proofs.RunLemmas.{prefix_done, prefix_unadopted, some_all, some_map}
 use Rattle.file_dockets.proofs.WorkLemmas.{unadopted_keeps}

@@ -7,7 +7,7 @@ use Rattle.docket_tables.specs.Layouts.{Rows}
 use Rattle.docket_tables.specs.Stands.{HoldsRows}
 use Rattle.docket_serving.specs.Desks.{Desk}
 use Rattle.docket_applying.specs.Dockets.{Docket as Stored}
-use Rattle.command_lines.specs.Ending.{StandsAs}
+use Rattle.docket_applying.specs.CourtDockets.{StandsAs}
 use Rattle.file_dockets.specs.Keeping.{HoldsBetween}
 use Rattle.file_serving.specs.Serves.{IfUnserved, ServesPort}
 use Rattle.file_serving.specs.declared.serving.ServeEnd.{ServeEnd}

@@ -1,5 +1,5 @@
 use Rattle.std.proofs.Common.{arith, ap, length}
-use Rattle.http_request.specs.declared.head.Found.TheVariants.{More, Head, TooLong}
+use Rattle.http_request.specs.declared.head.HeadSearch.TheVariants.{More, Head, TooLong}
 use Rattle.http_request.specs.Head.{start}
 use Rattle.http_request.proofs.HeadLemmas.{found_over-within}
 use Rattle.http_request.proofs.InputLemmas.{head_of-on, len-on, Takes-then}

@@ -1,5 +1,5 @@
 use Rattle.std.proofs.Common.{◌≡◌, ◌-◌, length}
-use Rattle.http_request.specs.declared.head.Found.TheVariants.{More}
+use Rattle.http_request.specs.declared.head.HeadSearch.TheVariants.{More}
 use Rattle.http_request.specs.Head.{head_of, IsOpen}
 use Rattle.http_request.specs.Input.{Takes}
 use Rattle.http_request.proofs.input.read_head.Given as goal

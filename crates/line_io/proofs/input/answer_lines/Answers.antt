@@ -18,12 +18,12 @@ reads-init g c = (
   omega (arith, c.requires.counts),
   here g.A.Answerer.Steps c.args.answerer.now,
   λ trusts. trusts,
-  λ s shows trusts. takes-start (within g.A.Answerer.LIMIT g.A.Answerer.judge g.A.Answerer.judge_long) (g.A.Answerer.LIMIT + 2) _ s _ _ _ _ _ shows c.requires.kept c.requires.pending c.requires.counts.1 c.requires.counts.0,
+  λ s shows trusts. takes-start (within g.A.Answerer.LIMIT g.A.Answerer.answer_to g.A.Answerer.too_long) (g.A.Answerer.LIMIT + 2) _ s _ _ _ _ _ shows c.requires.kept c.requires.pending c.requires.counts.1 c.requires.counts.0,
 )
 
 pub returns-in_default-clause-stops : goal.returns-in_default-clause-stops
 returns-in_default-clause-stops g c = λ s shows trusts.
-    let J = within g.A.Answerer.LIMIT g.A.Answerer.judge g.A.Answerer.judge_long in
+    let J = within g.A.Answerer.LIMIT g.A.Answerer.answer_to g.A.Answerer.too_long in
     let now = c.reads.invariant in
     let none : length c.reads.progress.pending.items ≡ 0 = ap length now.3 in
     let h = now.8 s shows trusts in
@@ -31,7 +31,7 @@ returns-in_default-clause-stops g c = λ s shows trusts.
 
 pub returns-clause-stops : goal.returns-clause-stops
 returns-clause-stops g c = λ s shows trusts.
-    let J = within g.A.Answerer.LIMIT g.A.Answerer.judge g.A.Answerer.judge_long in
+    let J = within g.A.Answerer.LIMIT g.A.Answerer.answer_to g.A.Answerer.too_long in
     let now = c.reads.invariant in
     let none : length c.reads.progress.pending.items ≡ 0 = ap length now.3 in
     let h = now.8 s shows trusts in
@@ -39,7 +39,7 @@ returns-clause-stops g c = λ s shows trusts.
 
 pub returns-then-count-eq0-clause-stops : goal.returns-then-count-eq0-clause-stops
 returns-then-count-eq0-clause-stops g c =
-    let J = within g.A.Answerer.LIMIT g.A.Answerer.judge g.A.Answerer.judge_long in
+    let J = within g.A.Answerer.LIMIT g.A.Answerer.answer_to g.A.Answerer.too_long in
     let now = c.reads.invariant in
     let none : length c.reads.progress.pending.items ≡ 0 = ap length now.3 in
     let room : 0 < length c.read.new.buf = omega (arith, c.read.auto.buf) in
@@ -58,14 +58,14 @@ returns-then-count-eq0-clause-whole g c =
     on_ok_weaker c.finish.result
     (λ ends s shows trusts.
     let h = now.8 s shows (c.finish.ensures.trust trusts) in
-    ends-tells (within g.A.Answerer.LIMIT g.A.Answerer.judge g.A.Answerer.judge_long) (g.A.Answerer.LIMIT + 2) _ _ _ _ _ s _ _ _ _ _ _ _ _ _ _ _ now.1 c.in-Ok.ensures.bytes.0
+    ends-tells (within g.A.Answerer.LIMIT g.A.Answerer.answer_to g.A.Answerer.too_long) (g.A.Answerer.LIMIT + 2) _ _ _ _ _ s _ _ _ _ _ _ _ _ _ _ _ now.1 c.in-Ok.ensures.bytes.0
     (ap (λ n. take n c.read.new.buf) c.if-count-eq0.true) (c.in-Ok.ensures.bytes.1 c.if-count-eq0.true room) h now.3 (ends _ h.open_part h.shows trusts h.keeps))
     c.finish.ensures.ok
 
 pub returns-in_err-take_piece-clause-stops : goal.returns-in_err-take_piece-clause-stops
 returns-in_err-take_piece-clause-stops g c =
     let p = err_from_is_err_and c.from_residual.result c.from_residual.ensures.1 in
-    let J = within g.A.Answerer.LIMIT g.A.Answerer.judge g.A.Answerer.judge_long in
+    let J = within g.A.Answerer.LIMIT g.A.Answerer.answer_to g.A.Answerer.too_long in
     let now = c.reads.invariant in
     rw (p.1, p.2) (λ s shows trusts.
     let h = now.8 s shows (c.in_err-take_piece.ensures.trust trusts) in
@@ -74,7 +74,7 @@ returns-in_err-take_piece-clause-stops g c =
 
 pub returns-in_default-send-clause-stops : goal.returns-in_default-send-clause-stops
 returns-in_default-send-clause-stops g c = λ s shows trusts.
-    let J = within g.A.Answerer.LIMIT g.A.Answerer.judge g.A.Answerer.judge_long in
+    let J = within g.A.Answerer.LIMIT g.A.Answerer.answer_to g.A.Answerer.too_long in
     let now = c.reads.invariant in
     let h = now.8 s shows (c.in_ok-take_piece.ensures.trust trusts) in
     let taken = takes-then J (g.A.Answerer.LIMIT + 2) _ _ s [] _ _ _ _ _ _ _ _ _ _ _ _ _ _ _ _ h (c.in_ok-take_piece.ensures.takes _ h.open_part h.shows trusts h.keeps) in
@@ -84,7 +84,7 @@ returns-in_default-send-clause-stops g c = λ s shows trusts.
 pub reads-preserved : goal.reads-preserved
 reads-preserved g c =
     let now = c.reads.invariant in
-    let J = within g.A.Answerer.LIMIT g.A.Answerer.judge g.A.Answerer.judge_long in
+    let J = within g.A.Answerer.LIMIT g.A.Answerer.answer_to g.A.Answerer.too_long in
     let counts = c.in_ok-take_piece.ensures.counts in (
       _,
       Consumes-trans _ _ _ _ _ now.1 c.in-Ok.ensures.bytes.0,

@@ -17,5 +17,5 @@ invariant-reads g l =
     × Reaches g.A.Answerer.Steps l.fn.answerer l.answerer
     × (g.A.Answerer.Trusts l.answerer → g.A.Answerer.Trusts l.fn.answerer)
     × ((s : g.A.Answerer.State) → g.A.Answerer.Shows l.fn.answerer s → g.A.Answerer.Trusts l.answerer
-    → Takes (within g.A.Answerer.LIMIT g.A.Answerer.judge g.A.Answerer.judge_long) (g.A.Answerer.Shows l.answerer) (g.A.Answerer.LIMIT + 2) s [] came now.kept.items
+    → Takes (within g.A.Answerer.LIMIT g.A.Answerer.answer_to g.A.Answerer.too_long) (g.A.Answerer.Shows l.answerer) (g.A.Answerer.LIMIT + 2) s [] came now.kept.items
     (g.W.Write.contents l.fn.writer) (g.W.Write.contents l.writer) [] now.pending.items 0 0 now.counts.lines now.counts.bad)

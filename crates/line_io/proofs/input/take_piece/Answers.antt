@@ -18,13 +18,13 @@ lines-init g c = (
   omega arith,
   here g.A.Answerer.Steps c.args.answerer.now,
   λ trusts. trusts,
-  λ s part shows trusts kept. takes-none (within g.A.Answerer.LIMIT g.A.Answerer.judge g.A.Answerer.judge_long) _ _ s part _ _ _ _ _ shows kept,
+  λ s part shows trusts kept. takes-none (within g.A.Answerer.LIMIT g.A.Answerer.answer_to g.A.Answerer.too_long) _ _ s part _ _ _ _ _ shows kept,
 )
 
 pub returns-in_err-take_line-clause-stops : goal.returns-in_err-take_line-clause-stops
 returns-in_err-take_line-clause-stops g c =
     let p = err_from_is_err_and c.from_residual.result c.from_residual.ensures.1 in
-    let J = within g.A.Answerer.LIMIT g.A.Answerer.judge g.A.Answerer.judge_long in
+    let J = within g.A.Answerer.LIMIT g.A.Answerer.answer_to g.A.Answerer.too_long in
     let now = c.lines.invariant in
     let at = c.in-Some.at in
     let left = c.lines.rest.now in
@@ -40,7 +40,7 @@ returns-in_err-take_line-clause-stops g c =
 
 pub lines-preserved : goal.lines-preserved
 lines-preserved g c =
-    let J = within g.A.Answerer.LIMIT g.A.Answerer.judge g.A.Answerer.judge_long in
+    let J = within g.A.Answerer.LIMIT g.A.Answerer.answer_to g.A.Answerer.too_long in
     let now = c.lines.invariant in
     let at = c.in-Some.at in
     let rest = c.lines.rest.now in
@@ -60,7 +60,7 @@ lines-preserved g c =
 
 pub returns-in-Ok-clause-takes : goal.returns-in-Ok-clause-takes
 returns-in-Ok-clause-takes g c = λ s part shows trusts kept.
-    let J = within g.A.Answerer.LIMIT g.A.Answerer.judge g.A.Answerer.judge_long in
+    let J = within g.A.Answerer.LIMIT g.A.Answerer.answer_to g.A.Answerer.too_long in
     let now = c.lines.invariant in
     let rest = c.lines.rest.now in
     let h = now.8 s part shows trusts kept in
@@ -74,7 +74,7 @@ returns-in-Ok-clause-takes g c = λ s part shows trusts kept.
 
 pub returns-in-Err-clause-stops : goal.returns-in-Err-clause-stops
 returns-in-Err-clause-stops g c = λ s part shows trusts kept rest.
-    let J = within g.A.Answerer.LIMIT g.A.Answerer.judge g.A.Answerer.judge_long in
+    let J = within g.A.Answerer.LIMIT g.A.Answerer.answer_to g.A.Answerer.too_long in
     let now = c.lines.invariant in
     let left = c.lines.rest.now in
     let h = now.8 s part shows trusts kept in

@@ -17,7 +17,7 @@ invariant-lines g l =
     × Reaches g.A.Answerer.Steps l.fn.answerer l.answerer
     × (g.A.Answerer.Trusts l.answerer → g.A.Answerer.Trusts l.fn.answerer)
     × ((s : g.A.Answerer.State) (part : List ℕ) → g.A.Answerer.Shows l.fn.answerer s → g.A.Answerer.Trusts l.answerer → old.kept.items ≡ take (g.A.Answerer.LIMIT + 2) part
-    → Takes (within g.A.Answerer.LIMIT g.A.Answerer.judge g.A.Answerer.judge_long) (g.A.Answerer.Shows l.answerer) (g.A.Answerer.LIMIT + 2) s part done now.kept.items
+    → Takes (within g.A.Answerer.LIMIT g.A.Answerer.answer_to g.A.Answerer.too_long) (g.A.Answerer.Shows l.answerer) (g.A.Answerer.LIMIT + 2) s part done now.kept.items
     (g.W.Write.contents l.fn.writer) (g.W.Write.contents l.writer) old.pending.items now.pending.items
     old.counts.lines old.counts.bad now.counts.lines now.counts.bad)
 

@@ -4,8 +4,10 @@ use Rattle.sqlite.specs.State.{HasCleanDisk}
 use Rattle.docket_applying.specs.Applying.{Faults, Stands}
 use Rattle.docket_applying.specs.declared.fault.Fault.{Fault}
 use Rattle.docket_applying.specs.declared.fault.Fault.TheVariants.{NoMemory, StoreFailed, Closed, Damaged}
-use Rattle.command_lines.specs.Ending.{StandsAs, FailsAt}
-use Rattle.command_lines.specs.Lines.{Docket, docket_with}
+use Rattle.docket_applying.specs.CourtDockets.{StandsAs}
+use Rattle.command_lines.specs.Ending.{FailsAt}
+use Rattle.docket_applying.specs.CourtDockets.{CourtDocket as Docket}
+use Rattle.command_lines.specs.Lines.{docket_with}
 use Rattle.command_lines.proofs.AnswerLemmas.{IsNoRefusal, left_by}
 use Rattle.command_lines.proofs.clerk.Clerk.apply.Goals.{in-Ok, in-Err-Refused, in-Err-NoMemory, in-Err-StoreFailed, in-Err-Closed, in-Err-Damaged}
 use Rattle.std.proofs.Common.{IfOk, Result}

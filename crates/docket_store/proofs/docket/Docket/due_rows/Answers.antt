@@ -1,5 +1,5 @@
 use Rattle.std.proofs.Common.{◌≡◌, is_some, refl, sym, subst, false, rules}
-use Rattle.docket_calendar.specs.Calendar.{calendar_rows}
+use Rattle.docket_applying.specs.Calendar.{calendar_rows}
 use Rattle.docket_applying.specs.Applying.{Asks, Stands}
 use Rattle.docket_applying.specs.Dockets.{Docket, serving}
 use Rattle.docket_applying.proofs.AskLemmas.{asks_kept}

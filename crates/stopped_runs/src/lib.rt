@@ -1,0 +1,30 @@
+//! Commands over two disks in memory, each of which stops at a call. The next run goes on from what is
+//! left, and what its docket tells is compared with what the docket in vectors tells. So is the migration of
+//! a docket stopped, after which the docket tells what it tells without a stop.
+#![tactic(auto)]
+
+mod disks;
+mod going_on;
+mod making;
+mod migrating;
+mod session;
+mod stopping;
+mod sweeping;
+mod trial;
+mod whole_text;
+
+pub use making::made;
+pub use migrating::migrations;
+pub use session::sessions;
+pub use stopping::{stopped, told};
+pub use sweeping::Tally;
+
+/// How many frames of the log are copied into the database at a time where a checkpoint is to be stopped
+/// too.
+const FEW: usize = 2;
+
+/// The same, and so many that no checkpoint comes.
+const FRAMES: [usize; 2] = [FEW, 1000];
+
+/// More calls than any run here asks of a disk.
+const CALLS: u64 = 100_000;

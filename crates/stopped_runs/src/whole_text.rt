@@ -1,0 +1,85 @@
+//! What a docket tells, as one text: each case with its parties, its entries and its deadlines, and the
+//! calendar of all days.
+use anyhow::{Error, anyhow};
+use court_days::{Court, Day, read_day};
+use docket_history::DueLine;
+use docket_plain::Plain;
+use docket_store::Docket;
+use docket_text::{calendar_text, case_text, due_rows, sort_calendar};
+use sqlite::Alter;
+use std::alloc::Global;
+
+/// No docket here has a case with a higher number.
+const LAST_CASE: u32 = 3;
+
+fn day(text: &str) -> Result<Day, Error> {
+    read_day(text.as_bytes()).ok_or_else(|| anyhow!("{text} is no day"))
+}
+
+/// Appends the text of the case of a number, if there is one.
+fn push_case<S: Alter>(
+    alloc: Global,
+    docket: &mut Docket<S>,
+    number: u32,
+    text: &mut Vec<u8>,
+) -> Result<(), Error> {
+    let Ok(case) = docket.case(number) else {
+        return Err(anyhow!("a case is not told"));
+    };
+    let Ok(lines) = docket.deadlines(number) else {
+        return Err(anyhow!("the deadlines of a case are not told"));
+    };
+    let (Some(case), Some(lines)) = (case, lines) else {
+        return Ok(());
+    };
+    text.extend_from_slice(case_text(alloc, docket.court(), &case, &lines)?.as_bytes())?;
+    Ok(())
+}
+
+/// What a docket in a database tells.
+pub(crate) fn told<S: Alter>(alloc: Global, docket: &mut Docket<S>) -> Result<Vec<u8>, Error> {
+    let mut text = Vec::new(alloc);
+    for number in 1..=LAST_CASE {
+        push_case(alloc, docket, number, &mut text)?;
+    }
+    match docket.calendar(day("1980-01-01")?, day("3999-12-31")?, &mut text) {
+        Ok(_) => Ok(text),
+        Err(_) => Err(anyhow!("the calendar broke off")),
+    }
+}
+
+/// Appends the text of the case of a number, if there is one, and the rows of its deadlines whose time
+/// runs.
+fn push_plain_case(
+    alloc: Global,
+    docket: &Plain,
+    court: &Court,
+    number: u32,
+    text: &mut Vec<u8>,
+    rows: &mut Vec<DueLine>,
+) -> Result<(), Error> {
+    let (Some(case), Some(lines)) = (docket.case(number)?, docket.deadlines(number)?) else {
+        return Ok(());
+    };
+    text.extend_from_slice(case_text(alloc, court, &case, &lines)?.as_bytes())?;
+    for row in due_rows(alloc, number, &lines)? {
+        rows.push(row)?;
+    }
+    Ok(())
+}
+
+/// What a docket in vectors tells.
+pub(crate) fn told_by_vectors(
+    alloc: Global,
+    docket: &Plain,
+    court: &Court,
+) -> Result<Vec<u8>, Error> {
+    let mut text = Vec::new(alloc);
+    let mut rows = Vec::new(alloc);
+    for number in 1..=LAST_CASE {
+        push_plain_case(alloc, docket, court, number, &mut text, &mut rows)?;
+    }
+    sort_calendar(court, &mut rows);
+    text.extend_from_slice(calendar_text(alloc, court, &rows)?.as_bytes())?;
+    Ok(text)
+}
