@@ -91,10 +91,20 @@ holidays_line = with_rule (with_rule (with_rule (new_app (codes "holidays")) fil
 unfoldable pub bare_line : App
 bare_line = on_top (λ top. record top { has_version = true }) (new_app (codes "docketctl"))
 
+-- with the subcommands that enter something, or take what is entered
+abbrev pub with_entering : App → App
+with_entering line = with_subcommand (with_subcommand (with_subcommand (with_subcommand line count_line.top) create_line.top) run_line.top) import_line.top
+
+-- with those that tell of cases and deadlines
+abbrev pub with_telling : App → App
+with_telling line = with_subcommand (with_subcommand (with_subcommand (with_subcommand (with_subcommand line case_line.top) cases_line.top) calendar_line.top) export_line.top) explain_line.top
+
+-- with those that keep a docket and serve it
+abbrev pub with_keeping : App → App
+with_keeping line = with_subcommand (with_subcommand (with_subcommand (with_subcommand line check_line.top) backup_line.top) migrate_line.top) serve_line.top
+
 unfoldable pub docketctl : App
-docketctl =
-    with_subcommand (with_subcommand (with_subcommand (with_subcommand (with_subcommand (with_subcommand (with_subcommand (with_subcommand (with_subcommand (with_subcommand (with_subcommand (with_subcommand (with_subcommand (with_subcommand (with_subcommand
-    bare_line count_line.top) create_line.top) run_line.top) import_line.top) case_line.top) cases_line.top) calendar_line.top) export_line.top) explain_line.top) check_line.top) backup_line.top) migrate_line.top) serve_line.top) rules_line.top) holidays_line.top
+docketctl = with_subcommand (with_subcommand (with_keeping (with_telling (with_entering bare_line))) rules_line.top) holidays_line.top
 
 -- the command has this line, and no option for its subcommands too
 abbrev pub HasLine : App → Command → Type 0

@@ -1,8 +1,8 @@
 //! The command line as clap reads it.
 ghost use Rattle.std.specs.Prelude.{◌≡◌, false, IfOk};
 ghost use Rattle.clap.specs.Walk.{rule_of};
-ghost use Rattle.clap.specs.Simple.{new_app};
-ghost use Rattle.docket_jobs.specs.CommandLine.{option_rule, flag_rule, required, optional, with_default, place_rule, HasLine, count_line, create_line, run_line, import_line, case_line, cases_line, calendar_line, export_line, explain_line, check_line, backup_line, migrate_line, serve_line, rules_line, holidays_line, bare_line, docketctl};
+ghost use Rattle.clap.specs.Simple.{App, new_app, with_subcommand};
+ghost use Rattle.docket_jobs.specs.CommandLine.{option_rule, flag_rule, required, optional, with_default, place_rule, HasLine, count_line, create_line, run_line, import_line, case_line, cases_line, calendar_line, export_line, explain_line, check_line, backup_line, migrate_line, serve_line, rules_line, holidays_line, bare_line, with_entering, with_telling, with_keeping, docketctl};
 
 use crate::help::{
     BACKUP_HELP, CALENDAR_HELP, CASE_HELP, CASES_HELP, CHECK_HELP, COUNT_HELP, CREATE_HELP,
@@ -112,256 +112,220 @@ fn count_command<'a>(alloc: Global) -> Command<'a>
 fn create_command<'a>(alloc: Global) -> Result<Command<'a>, AllocError>
     ensures { IfOk result (HasLine create_line) }
 {
-    let file = needed_option(alloc, "db", "FILE", FILE_TEXT);
-    let zone = needed_option(alloc, "zone", "ZONE", ZONE_TEXT);
-    let close = needed_option(alloc, "close", "HH:MM", CLOSE_TEXT);
     subcommand(
         alloc,
         "create",
         "Make a docket without any record in a file",
         CREATE_HELP,
     )
-    .arg(file)?
-    .arg(zone)?
-    .arg(close)
+    .arg(needed_option(alloc, "db", "FILE", FILE_TEXT))?
+    .arg(needed_option(alloc, "zone", "ZONE", ZONE_TEXT))?
+    .arg(needed_option(alloc, "close", "HH:MM", CLOSE_TEXT))
 }
 
 fn run_command<'a>(alloc: Global) -> Result<Command<'a>, AllocError>
     ensures { IfOk result (HasLine run_line) }
 {
-    let file = option(alloc, "db", "FILE", FILE_TEXT);
-    let zone = option_or(alloc, "zone", "ZONE", ZONE, ZONE_TEXT);
-    let close = option_or(alloc, "close", "HH:MM", CLOSE, CLOSE_TEXT);
     subcommand(
         alloc,
         "run",
         "Answer commands of a docket, one a line of standard input",
         RUN_HELP,
     )
-    .arg(file)?
-    .arg(zone)?
-    .arg(close)
+    .arg(option(alloc, "db", "FILE", FILE_TEXT))?
+    .arg(option_or(alloc, "zone", "ZONE", ZONE, ZONE_TEXT))?
+    .arg(option_or(alloc, "close", "HH:MM", CLOSE, CLOSE_TEXT))
 }
 
 fn import_command<'a>(alloc: Global) -> Result<Command<'a>, AllocError>
     ensures { IfOk result (HasLine import_line) }
 {
-    let file = needed_option(alloc, "db", "FILE", FILE_TEXT);
-    let key = needed_option(
-        alloc,
-        "key",
-        "KEY",
-        "The key of the command, of 1 to 64 bytes",
-    );
     subcommand(
         alloc,
         "import",
         "Enter the days of a table in the calendar of a docket",
         IMPORT_HELP,
     )
-    .arg(file)?
-    .arg(key)
+    .arg(needed_option(alloc, "db", "FILE", FILE_TEXT))?
+    .arg(needed_option(
+        alloc,
+        "key",
+        "KEY",
+        "The key of the command, of 1 to 64 bytes",
+    ))
 }
 
 fn case_command<'a>(alloc: Global) -> Result<Command<'a>, AllocError>
     ensures { IfOk result (HasLine case_line) }
 {
-    let file = needed_option(alloc, "db", "FILE", FILE_TEXT);
-    let number = place(alloc, "number", "NUMBER", "The number of the case");
     subcommand(
         alloc,
         "case",
         "Tell a case with its parties, entries and deadlines",
         CASE_HELP,
     )
-    .arg(file)?
-    .arg(number)
+    .arg(needed_option(alloc, "db", "FILE", FILE_TEXT))?
+    .arg(place(alloc, "number", "NUMBER", "The number of the case"))
 }
 
 fn cases_command<'a>(alloc: Global) -> Result<Command<'a>, AllocError>
     ensures { IfOk result (HasLine cases_line) }
 {
-    let file = needed_option(alloc, "db", "FILE", FILE_TEXT);
-    let label = option(alloc, "label", "LABEL", "Only the case with this label");
-    let party = option(
-        alloc,
-        "party",
-        "TEXT",
-        "Only cases with a party whose name holds TEXT",
-    );
     subcommand(alloc, "cases", "Tell the cases, a line each", CASES_HELP)
-        .arg(file)?
-        .arg(label)?
-        .arg(party)
+        .arg(needed_option(alloc, "db", "FILE", FILE_TEXT))?
+        .arg(option(alloc, "label", "LABEL", "Only the case with this label"))?
+        .arg(option(
+            alloc,
+            "party",
+            "TEXT",
+            "Only cases with a party whose name holds TEXT",
+        ))
 }
 
 fn calendar_command<'a>(alloc: Global) -> Result<Command<'a>, AllocError>
     ensures { IfOk result (HasLine calendar_line) }
 {
-    let file = needed_option(alloc, "db", "FILE", FILE_TEXT);
-    let from = place(alloc, "from", "FROM", "The first day, as 2027-01-01");
-    let to = place(alloc, "to", "TO", "The last day");
     subcommand(
         alloc,
         "calendar",
         "Tell the deadlines that fall due from one day to another",
         CALENDAR_HELP,
     )
-    .arg(file)?
-    .arg(from)?
-    .arg(to)
+    .arg(needed_option(alloc, "db", "FILE", FILE_TEXT))?
+    .arg(place(alloc, "from", "FROM", "The first day, as 2027-01-01"))?
+    .arg(place(alloc, "to", "TO", "The last day"))
 }
 
 fn export_command<'a>(alloc: Global) -> Result<Command<'a>, AllocError>
     ensures { IfOk result (HasLine export_line) }
 {
-    let file = needed_option(alloc, "db", "FILE", FILE_TEXT);
-    let form = needed_option(alloc, "as", "FORM", "The format: ics, html, csv or json");
-    let case = option(
-        alloc,
-        "case",
-        "NUMBER",
-        "Instead of days, the docket sheet of the case with this number",
-    );
-    let from = optional_place(alloc, "from", "FROM", "The first day, as 2027-01-01");
-    let to = optional_place(alloc, "to", "TO", "The last day");
     subcommand(
         alloc,
         "export",
         "Tell what falls due, or a docket sheet, in a format of other programs",
         EXPORT_HELP,
     )
-    .arg(file)?
-    .arg(form)?
-    .arg(case)?
-    .arg(from)?
-    .arg(to)
+    .arg(needed_option(alloc, "db", "FILE", FILE_TEXT))?
+    .arg(needed_option(alloc, "as", "FORM", "The format: ics, html, csv or json"))?
+    .arg(option(
+        alloc,
+        "case",
+        "NUMBER",
+        "Instead of days, the docket sheet of the case with this number",
+    ))?
+    .arg(optional_place(alloc, "from", "FROM", "The first day, as 2027-01-01"))?
+    .arg(optional_place(alloc, "to", "TO", "The last day"))
 }
 
 fn explain_command<'a>(alloc: Global) -> Result<Command<'a>, AllocError>
     ensures { IfOk result (HasLine explain_line) }
 {
-    let file = option(alloc, "db", "FILE", FILE_TEXT);
-    let case = optional_place(alloc, "case", "CASE", "The number of the case");
-    let deadline = optional_place(alloc, "deadline", "DEADLINE", "The number of its deadline");
     subcommand(
         alloc,
         "explain",
         "Tell the steps by which the end of a deadline was found",
         EXPLAIN_HELP,
     )
-    .arg(file)?
-    .arg(case)?
-    .arg(deadline)
+    .arg(option(alloc, "db", "FILE", FILE_TEXT))?
+    .arg(optional_place(alloc, "case", "CASE", "The number of the case"))?
+    .arg(optional_place(alloc, "deadline", "DEADLINE", "The number of its deadline"))
 }
 
 fn check_command<'a>(alloc: Global) -> Result<Command<'a>, AllocError>
     ensures { IfOk result (HasLine check_line) }
 {
-    let file = needed_option(alloc, "db", "FILE", FILE_TEXT);
     subcommand(
         alloc,
         "check",
         "Tell whether the tables of a docket are sound",
         CHECK_HELP,
     )
-    .arg(file)
+    .arg(needed_option(alloc, "db", "FILE", FILE_TEXT))
 }
 
 fn backup_command<'a>(alloc: Global) -> Result<Command<'a>, AllocError>
     ensures { IfOk result (HasLine backup_line) }
 {
-    let file = needed_option(alloc, "db", "FILE", FILE_TEXT);
-    let to = needed_option(
-        alloc,
-        "to",
-        "COPY",
-        "The file of the copy, which must not be there yet",
-    );
     subcommand(
         alloc,
         "backup",
         "Copy a docket to another file",
         BACKUP_HELP,
     )
-    .arg(file)?
-    .arg(to)
+    .arg(needed_option(alloc, "db", "FILE", FILE_TEXT))?
+    .arg(needed_option(
+        alloc,
+        "to",
+        "COPY",
+        "The file of the copy, which must not be there yet",
+    ))
 }
 
 fn migrate_command<'a>(alloc: Global) -> Result<Command<'a>, AllocError>
     ensures { IfOk result (HasLine migrate_line) }
 {
-    let file = needed_option(alloc, "db", "FILE", FILE_TEXT);
     subcommand(
         alloc,
         "migrate",
         "Take a docket from version 1 of its tables to version 2",
         MIGRATE_HELP,
     )
-    .arg(file)
+    .arg(needed_option(alloc, "db", "FILE", FILE_TEXT))
 }
 
 fn serve_command<'a>(alloc: Global) -> Result<Command<'a>, AllocError>
     ensures { IfOk result (HasLine serve_line) }
 {
-    let file = needed_option(alloc, "db", "FILE", FILE_TEXT);
-    let port = needed_option(
-        alloc,
-        "port",
-        "P",
-        "The port at 127.0.0.1, or 0 for one that is free",
-    );
-    let count = needed_option(alloc, "count", "N", "How many connections are served");
-    let pages = flag(
-        alloc,
-        "pages",
-        "Show pages of the docket to a browser as well, under /pages",
-    );
     subcommand(
         alloc,
         "serve",
         "Answer requests of HTTP from this machine, one a connection",
         SERVE_HELP,
     )
-    .arg(file)?
-    .arg(port)?
-    .arg(count)?
-    .arg(pages)
+    .arg(needed_option(alloc, "db", "FILE", FILE_TEXT))?
+    .arg(needed_option(
+        alloc,
+        "port",
+        "P",
+        "The port at 127.0.0.1, or 0 for one that is free",
+    ))?
+    .arg(needed_option(alloc, "count", "N", "How many connections are served"))?
+    .arg(flag(
+        alloc,
+        "pages",
+        "Show pages of the docket to a browser as well, under /pages",
+    ))
 }
 
 fn rules_command<'a>(alloc: Global) -> Result<Command<'a>, AllocError>
     ensures { IfOk result (HasLine rules_line) }
 {
-    let file = option(alloc, "db", "FILE", FILE_TEXT);
     subcommand(
         alloc,
         "rules",
         "Tell the rules by which deadlines run",
         RULES_HELP,
     )
-    .arg(file)
+    .arg(option(alloc, "db", "FILE", FILE_TEXT))
 }
 
 fn holidays_command<'a>(alloc: Global) -> Result<Command<'a>, AllocError>
     ensures { IfOk result (HasLine holidays_line) }
 {
-    let file = option(alloc, "db", "FILE", FILE_TEXT);
-    let year = place(
-        alloc,
-        "year",
-        "YEAR",
-        "A year from 2000 to 2099; with --db the first day, FROM",
-    );
-    let to = optional_place(alloc, "to", "TO", "With --db, the last day");
     subcommand(
         alloc,
         "holidays",
         "Tell the statutory holidays of a year, or the court calendar of some days",
         HOLIDAYS_HELP,
     )
-    .arg(file)?
-    .arg(year)?
-    .arg(to)
+    .arg(option(alloc, "db", "FILE", FILE_TEXT))?
+    .arg(place(
+        alloc,
+        "year",
+        "YEAR",
+        "A year from 2000 to 2099; with --db the first day, FROM",
+    ))?
+    .arg(optional_place(alloc, "to", "TO", "With --db, the last day"))
 }
 
 fn bare_command<'a>(alloc: Global) -> Result<Command<'a>, AllocError>
@@ -378,24 +342,51 @@ fn bare_command<'a>(alloc: Global) -> Result<Command<'a>, AllocError>
     )
 }
 
-/// The program's command line.
+/// The program with one subcommand more, once that is made.
+fn add<'a>(
+    program: Command<'a>,
+    made: Result<Command<'a>, AllocError>,
+) -> Result<Command<'a>, AllocError>
+    ensures { (line : App) (more : App) → HasLine line program.entry → IfOk made.entry (HasLine more) → IfOk result (HasLine (with_subcommand line more.top)) }
+{
+    program.subcommand(made?)
+}
+
+fn add_entering<'a>(alloc: Global, program: Command<'a>) -> Result<Command<'a>, AllocError>
+    ensures { (line : App) → HasLine line program.entry → IfOk result (HasLine (with_entering line)) }
+{
+    let program = add(program, Ok(count_command(alloc)))?;
+    let program = add(program, create_command(alloc))?;
+    let program = add(program, run_command(alloc))?;
+    add(program, import_command(alloc))
+}
+
+fn add_telling<'a>(alloc: Global, program: Command<'a>) -> Result<Command<'a>, AllocError>
+    ensures { (line : App) → HasLine line program.entry → IfOk result (HasLine (with_telling line)) }
+{
+    let program = add(program, case_command(alloc))?;
+    let program = add(program, cases_command(alloc))?;
+    let program = add(program, calendar_command(alloc))?;
+    let program = add(program, export_command(alloc))?;
+    add(program, explain_command(alloc))
+}
+
+fn add_keeping<'a>(alloc: Global, program: Command<'a>) -> Result<Command<'a>, AllocError>
+    ensures { (line : App) → HasLine line program.entry → IfOk result (HasLine (with_keeping line)) }
+{
+    let program = add(program, check_command(alloc))?;
+    let program = add(program, backup_command(alloc))?;
+    let program = add(program, migrate_command(alloc))?;
+    add(program, serve_command(alloc))
+}
+
+/// The program's command line, with its subcommands in the order in which help tells them.
 pub(crate) fn command<'a>(alloc: Global) -> Result<Command<'a>, AllocError>
     ensures { IfOk result (HasLine docketctl) }
 {
-    bare_command(alloc)?
-        .subcommand(count_command(alloc))?
-        .subcommand(create_command(alloc)?)?
-        .subcommand(run_command(alloc)?)?
-        .subcommand(import_command(alloc)?)?
-        .subcommand(case_command(alloc)?)?
-        .subcommand(cases_command(alloc)?)?
-        .subcommand(calendar_command(alloc)?)?
-        .subcommand(export_command(alloc)?)?
-        .subcommand(explain_command(alloc)?)?
-        .subcommand(check_command(alloc)?)?
-        .subcommand(backup_command(alloc)?)?
-        .subcommand(migrate_command(alloc)?)?
-        .subcommand(serve_command(alloc)?)?
-        .subcommand(rules_command(alloc)?)?
-        .subcommand(holidays_command(alloc)?)
+    let program = add_entering(alloc, bare_command(alloc)?)?;
+    let program = add_telling(alloc, program)?;
+    let program = add_keeping(alloc, program)?;
+    let program = add(program, rules_command(alloc))?;
+    add(program, holidays_command(alloc))
 }

@@ -6,6 +6,6 @@ use Rattle.docket_jobs.proofs.command_line.calendar_command.Goals as goal
 pub returns : goal.returns
 unfolding calendar_line
 returns c =
-    let one = arg_added _ _ _ _ _ c.subcommand.ensures c.needed_option-file.ensures.rule c.needed_option-file.ensures.local c.in_ok-arg.ensures in
-    let two = arg_added _ _ _ _ _ one c.place-from.ensures.rule c.place-from.ensures.local c.in_ok-arg-2.ensures in
-    IfOk-weaker c.arg-3.result _ _ (λ _ adds. arg_added _ _ _ _ _ two c.place-to.ensures.rule c.place-to.ensures.local adds) c.arg-3.ensures
+    let one = arg_added _ _ _ _ _ c.subcommand.ensures c.needed_option.ensures.rule c.needed_option.ensures.local c.in_ok-arg.ensures in
+    let two = arg_added _ _ _ _ _ one c.place.ensures.rule c.place.ensures.local c.in_ok-arg-2.ensures in
+    IfOk-weaker c.arg-3.result _ _ (λ _ adds. arg_added _ _ _ _ _ two c.place-2.ensures.rule c.place-2.ensures.local adds) c.arg-3.ensures

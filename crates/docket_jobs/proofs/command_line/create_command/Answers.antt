@@ -6,6 +6,6 @@ use Rattle.docket_jobs.proofs.command_line.create_command.Goals as goal
 pub returns : goal.returns
 unfolding create_line
 returns c =
-    let one = arg_added _ _ _ _ _ c.subcommand.ensures c.needed_option-file.ensures.rule c.needed_option-file.ensures.local c.in_ok-arg.ensures in
-    let two = arg_added _ _ _ _ _ one c.needed_option-zone.ensures.rule c.needed_option-zone.ensures.local c.in_ok-arg-2.ensures in
-    IfOk-weaker c.arg-3.result _ _ (λ _ adds. arg_added _ _ _ _ _ two c.needed_option-close.ensures.rule c.needed_option-close.ensures.local adds) c.arg-3.ensures
+    let one = arg_added _ _ _ _ _ c.subcommand.ensures c.needed_option.ensures.rule c.needed_option.ensures.local c.in_ok-arg.ensures in
+    let two = arg_added _ _ _ _ _ one c.needed_option-2.ensures.rule c.needed_option-2.ensures.local c.in_ok-arg-2.ensures in
+    IfOk-weaker c.arg-3.result _ _ (λ _ adds. arg_added _ _ _ _ _ two c.needed_option-3.ensures.rule c.needed_option-3.ensures.local adds) c.arg-3.ensures

@@ -6,8 +6,8 @@ use Rattle.docket_jobs.proofs.command_line.export_command.Goals as goal
 pub returns : goal.returns
 unfolding export_line
 returns c =
-    let one = arg_added _ _ _ _ _ c.subcommand.ensures c.needed_option-file.ensures.rule c.needed_option-file.ensures.local c.in_ok-arg.ensures in
-    let two = arg_added _ _ _ _ _ one c.needed_option-form.ensures.rule c.needed_option-form.ensures.local c.in_ok-arg-2.ensures in
-    let three = arg_added _ _ _ _ _ two c.option-case.ensures.rule c.option-case.ensures.local c.in_ok-arg-3.ensures in
-    let four = arg_added _ _ _ _ _ three c.optional_place-from.ensures.rule c.optional_place-from.ensures.local c.in_ok-arg-4.ensures in
-    IfOk-weaker c.arg-5.result _ _ (λ _ adds. arg_added _ _ _ _ _ four c.optional_place-to.ensures.rule c.optional_place-to.ensures.local adds) c.arg-5.ensures
+    let one = arg_added _ _ _ _ _ c.subcommand.ensures c.needed_option.ensures.rule c.needed_option.ensures.local c.in_ok-arg.ensures in
+    let two = arg_added _ _ _ _ _ one c.needed_option-2.ensures.rule c.needed_option-2.ensures.local c.in_ok-arg-2.ensures in
+    let three = arg_added _ _ _ _ _ two c.option.ensures.rule c.option.ensures.local c.in_ok-arg-3.ensures in
+    let four = arg_added _ _ _ _ _ three c.optional_place.ensures.rule c.optional_place.ensures.local c.in_ok-arg-4.ensures in
+    IfOk-weaker c.arg-5.result _ _ (λ _ adds. arg_added _ _ _ _ _ four c.optional_place-2.ensures.rule c.optional_place-2.ensures.local adds) c.arg-5.ensures

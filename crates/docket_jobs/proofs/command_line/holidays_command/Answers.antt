@@ -6,6 +6,6 @@ use Rattle.docket_jobs.proofs.command_line.holidays_command.Goals as goal
 pub returns : goal.returns
 unfolding holidays_line
 returns c =
-    let one = arg_added _ _ _ _ _ c.subcommand.ensures c.option-file.ensures.rule c.option-file.ensures.local c.in_ok-arg.ensures in
-    let two = arg_added _ _ _ _ _ one c.place-year.ensures.rule c.place-year.ensures.local c.in_ok-arg-2.ensures in
-    IfOk-weaker c.arg-3.result _ _ (λ _ adds. arg_added _ _ _ _ _ two c.optional_place-to.ensures.rule c.optional_place-to.ensures.local adds) c.arg-3.ensures
+    let one = arg_added _ _ _ _ _ c.subcommand.ensures c.option.ensures.rule c.option.ensures.local c.in_ok-arg.ensures in
+    let two = arg_added _ _ _ _ _ one c.place.ensures.rule c.place.ensures.local c.in_ok-arg-2.ensures in
+    IfOk-weaker c.arg-3.result _ _ (λ _ adds. arg_added _ _ _ _ _ two c.optional_place.ensures.rule c.optional_place.ensures.local adds) c.arg-3.ensures

@@ -6,5 +6,5 @@ use Rattle.docket_jobs.proofs.command_line.import_command.Goals as goal
 pub returns : goal.returns
 unfolding import_line
 returns c =
-    let one = arg_added _ _ _ _ _ c.subcommand.ensures c.needed_option-file.ensures.rule c.needed_option-file.ensures.local c.in_ok-arg.ensures in
-    IfOk-weaker c.arg-2.result _ _ (λ _ adds. arg_added _ _ _ _ _ one c.needed_option-key.ensures.rule c.needed_option-key.ensures.local adds) c.arg-2.ensures
+    let one = arg_added _ _ _ _ _ c.subcommand.ensures c.needed_option.ensures.rule c.needed_option.ensures.local c.in_ok-arg.ensures in
+    IfOk-weaker c.arg-2.result _ _ (λ _ adds. arg_added _ _ _ _ _ one c.needed_option-2.ensures.rule c.needed_option-2.ensures.local adds) c.arg-2.ensures

@@ -6,6 +6,6 @@ use Rattle.docket_jobs.proofs.command_line.run_command.Goals as goal
 pub returns : goal.returns
 unfolding run_line
 returns c =
-    let one = arg_added _ _ _ _ _ c.subcommand.ensures c.option-file.ensures.rule c.option-file.ensures.local c.in_ok-arg.ensures in
-    let two = arg_added _ _ _ _ _ one c.option_or-zone.ensures.rule c.option_or-zone.ensures.local c.in_ok-arg-2.ensures in
-    IfOk-weaker c.arg-3.result _ _ (λ _ adds. arg_added _ _ _ _ _ two c.option_or-close.ensures.rule c.option_or-close.ensures.local adds) c.arg-3.ensures
+    let one = arg_added _ _ _ _ _ c.subcommand.ensures c.option.ensures.rule c.option.ensures.local c.in_ok-arg.ensures in
+    let two = arg_added _ _ _ _ _ one c.option_or.ensures.rule c.option_or.ensures.local c.in_ok-arg-2.ensures in
+    IfOk-weaker c.arg-3.result _ _ (λ _ adds. arg_added _ _ _ _ _ two c.option_or-2.ensures.rule c.option_or-2.ensures.local adds) c.arg-3.ensures

@@ -6,7 +6,7 @@ use Rattle.docket_jobs.proofs.command_line.serve_command.Goals as goal
 pub returns : goal.returns
 unfolding serve_line
 returns c =
-    let one = arg_added _ _ _ _ _ c.subcommand.ensures c.needed_option-file.ensures.rule c.needed_option-file.ensures.local c.in_ok-arg.ensures in
-    let two = arg_added _ _ _ _ _ one c.needed_option-port.ensures.rule c.needed_option-port.ensures.local c.in_ok-arg-2.ensures in
-    let three = arg_added _ _ _ _ _ two c.needed_option-count.ensures.rule c.needed_option-count.ensures.local c.in_ok-arg-3.ensures in
-    IfOk-weaker c.arg-4.result _ _ (λ _ adds. arg_added _ _ _ _ _ three c.flag-pages.ensures.rule c.flag-pages.ensures.local adds) c.arg-4.ensures
+    let one = arg_added _ _ _ _ _ c.subcommand.ensures c.needed_option.ensures.rule c.needed_option.ensures.local c.in_ok-arg.ensures in
+    let two = arg_added _ _ _ _ _ one c.needed_option-2.ensures.rule c.needed_option-2.ensures.local c.in_ok-arg-2.ensures in
+    let three = arg_added _ _ _ _ _ two c.needed_option-3.ensures.rule c.needed_option-3.ensures.local c.in_ok-arg-3.ensures in
+    IfOk-weaker c.arg-4.result _ _ (λ _ adds. arg_added _ _ _ _ _ three c.flag.ensures.rule c.flag.ensures.local adds) c.arg-4.ensures

@@ -1,0 +1,8 @@
+use Rattle.docket_jobs.proofs.command_line.add_entering.Goals as goal
+
+pub returns : goal.returns
+returns c line has =
+    let counts = c.in_ok-program.ensures _ _ has c.count_command.ensures in
+    let creates = c.in_ok-program-2.ensures _ _ counts c.create_command.ensures in
+    let runs = c.in_ok-program-3.ensures _ _ creates c.run_command.ensures in
+    c.add-4.ensures _ _ runs c.import_command.ensures
