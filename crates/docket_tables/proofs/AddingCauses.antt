@@ -1,5 +1,5 @@
 -- An INSERT of a row that may stand fails only for a cause.
-use Rattle.std.proofs.Common.{◌≡◌, is_some, map, ◌+◌, ◌⊎◌, inl, inr, ◌∙◌, ◌++◌, ◌/◌, ℕ, zero, suc, Bool, List, [], ◌∷◌, length, length-append, append-nil, slice_get, true, false, None, Some, Option, Result, Ok, Err, IsSome, refl, sym, ap, ap₂, subst, subst₂, arith}
+use Rattle.std.proofs.Common.{◌≡◌, is_some, map, ◌+◌, ◌⊎◌, inl, inr, ◌∙◌, ◌++◌, ◌/◌, ◌==◌, ℕ, zero, suc, Bool, List, [], ◌∷◌, length, length-append, append-nil, slice_get, true, false, None, Some, Option, Err, IsSome, refl, sym, ap, ap₂, subst, subst₂, arith}
 use Rattle.std.specs.List.{list_all}
 use Rattle.std.proofs.lemmas.Bool.{and_from, both_ways}
 use Rattle.sqlite.specs.Command.{Command}
@@ -24,9 +24,7 @@ use Rattle.sqlite.specs.declared.types.Value.TheVariants.{Int}
 use Rattle.sqlite.specs.Kind.{Kind}
 use Rattle.sqlite.specs.Kind.TheVariants.{Integer, Text}
 use Rattle.sqlite.specs.Tree.{Trees}
-use Rattle.sqlite.proofs.Callers.{command_of, statement_of}
-use Rattle.sqlite_resolve.specs.declared.compiled.Compiled.{Compiled}
-use Rattle.sqlite_resolve.specs.declared.error.CompileError.{CompileError}
+use Rattle.sqlite.proofs.Callers.{statement_of}
 use Rattle.sqlite_rules.specs.Action.{Writes as WritesEdit}
 use Rattle.sqlite_rules.specs.Edit.{IsRefused, id_in}
 use Rattle.sqlite_rules.specs.declared.error.Refusal.{Refusal}
@@ -34,7 +32,6 @@ use Rattle.sqlite_rules.specs.declared.error.Refusal.TheVariants.{NoRowid}
 use Rattle.sqlite_schema.specs.Rules.{Obeys}
 use Rattle.sqlite_schema.specs.declared.schema.Constraint.TheVariants.{Unique, ForeignKey}
 use Rattle.sqlite_schema.specs.declared.schema.Keys.TheVariants.{Enforced}
-use Rattle.sqlite_tied.specs.Compute.{everything}
 use Rattle.sqlite_sql.specs.Ops.{fits_i64}
 use Rattle.sqlite_trees.specs.Tree.{put_row, rowid}
 use Rattle.docket_tables.proofs.StoredRows.{stored_by}
@@ -47,30 +44,27 @@ use Rattle.docket_tables.specs.Stands.{Sees}
 use Rattle.docket_tables.specs.Tables.{Field, layout_of}
 use Rattle.docket_tables.specs.Texts.{counted, insert_text}
 use Rattle.docket_tables.specs.declared.table.Table.{Table}
-use Rattle.docket_tables.specs.declared.table.Table.TheVariants.{Court, Calendar, Cases, Parties, Entries, Deadlines, Acts, Receipts, Due, ShortDays, LocalRules}
 use Rattle.docket_tables.proofs.CauseLemmas.{so_many}
+use Rattle.docket_tables.proofs.EachLemmas.{each_table}
 use Rattle.docket_tables.proofs.InsertCauses.{opened, stored, entry, entered, refusals, sized, refers_after}
 use Rattle.docket_tables.proofs.InsertLemmas.{puts}
-use Rattle.docket_tables.proofs.LayoutLemmas.{insert_means, terms_of, terms_by, kinds, no_value}
+use Rattle.docket_tables.proofs.LayoutLemmas.{insert_command, parameters_of, insert_read, insert_means, terms_of, terms_by, kinds, no_value}
 use Rattle.docket_tables.proofs.MakingCauses.{IsOne, open_caused, write_stops}
+use Rattle.docket_tables.proofs.TextLemmas.{read_command, read_one}
 use Rattle.docket_tables.proofs.UpdateCauses.{plain_mode}
 
 -- each INSERT is one statement
 abbrev inserting : Table → Command
 inserting table = Insert (insert_means table).at (Values (terms_of table) (insert_means table).width)
 
-insert_read : (table : Table) → IsOne (insert_text table) (length (kinds_of table)) (Insert (layout_of table).at (Values (terms_of table) (suc (length (layout_of table).fields)))) (understood docket_schema (insert_text table))
-unfolding understood everything
-insert_read Court = (refl, refl, refl, (refl, refl))
-insert_read table = (refl, refl, refl, (refl, refl))
+so_many_given : (table : Table) → length (parameters_of table) ≡ length (kinds_of table)
+so_many_given = each_table (λ t. length (parameters_of t)) (λ t. length (kinds_of t)) refl
 
 one_insert : (table : Table) → IsOne (insert_text table) (length (kinds_of table)) (inserting table) (understood docket_schema (insert_text table))
-one_insert table = meant (understood docket_schema (insert_text table)) (insert_read table) (insert_means table).is
-  where
-    meant : (r : Result Compiled CompileError) → IsOne (insert_text table) (length (kinds_of table)) (Insert (layout_of table).at (Values (terms_of table) (suc (length (layout_of table).fields)))) r → command_of r ≡ inserting table
-        → IsOne (insert_text table) (length (kinds_of table)) (inserting table) r
-    meant (Ok c) one is = (one.0, one.1, is, one.3)
-    meant (Err e) one is = one
+one_insert table =
+    let read = insert_read table in
+    let same : insert_command table ≡ inserting table = sym (read_command read) ∙ (insert_means table).is in
+    subst (λ command. IsOne (insert_text table) (length (kinds_of table)) command (understood docket_schema (insert_text table))) same (read_one read (length (kinds_of table)) (so_many_given table))
 
 -- the terms are columns of what is given
 abbrev is_accepted : Row → Term → Bool
@@ -100,19 +94,15 @@ accepted_by true (field ∷ more) (_ ∷ row) fits = absurd (let no = fits in cc
 abbrev are_numbered : Row → Bool
 are_numbered row = list_all (λ r. fits_i64 (id_in (rowid r))) (row ∷ [])
 
-hides_rowid : (table : Table) (given : Row) (rows : List Row) → Fits table given → AreStorable given → are_numbered (stored_by (layout_of table).is_rowid rows given) ≡ false → (layout_of table).is_rowid ≡ false
-hides_rowid Court (Int n ∷ row) rows fits storable none = absurd (both_ways _ none (and_from _ _ storable.0 refl))
-hides_rowid Calendar (Int n ∷ row) rows fits storable none = absurd (both_ways _ none (and_from _ _ storable.0 refl))
-hides_rowid Cases (Int n ∷ row) rows fits storable none = absurd (both_ways _ none (and_from _ _ storable.0 refl))
-hides_rowid ShortDays (Int n ∷ row) rows fits storable none = absurd (both_ways _ none (and_from _ _ storable.0 refl))
-hides_rowid LocalRules (Int n ∷ row) rows fits storable none = absurd (both_ways _ none (and_from _ _ storable.0 refl))
-hides_rowid Parties given rows fits storable none = refl
-hides_rowid Entries given rows fits storable none = refl
-hides_rowid Deadlines given rows fits storable none = refl
-hides_rowid Acts given rows fits storable none = refl
-hides_rowid Receipts given rows fits storable none = refl
-hides_rowid Due given rows fits storable none = refl
-hides_rowid _ given rows fits storable none = absurd (let no = fits in cc)
+hides_rowid : (is_rowid : Bool) (fields : List Field) (given : Row) (rows : List Row) → (length fields == 0) ≡ false → are_of (kinds_by is_rowid fields) given ≡ true → AreStorable given
+    → are_numbered (stored_by is_rowid rows given) ≡ false → is_rowid ≡ false
+hides_rowid false fields given rows some fits storable none = refl
+hides_rowid true [] given rows some fits storable none = some
+hides_rowid true (field ∷ more) (Int n ∷ row) rows some fits storable none = absurd (both_ways _ none (and_from _ _ storable.0 refl))
+hides_rowid true (field ∷ more) _ rows some fits storable none = absurd (let no = fits in cc)
+
+have_fields : (table : Table) → (length (layout_of table).fields == 0) ≡ false
+have_fields = each_table (λ t. length (layout_of t).fields == 0) (λ t. false) refl
 
 -- what is left: a limit on steps was set, and came, or no rowid was left in a table that hides them
 abbrev IsEnded : Table → Option ℕ → Option Error → Type 0
@@ -129,7 +119,7 @@ module _ (table : Table) (given : Row) (rows : Rows) (db : Trees) (fits : Fits t
   unstopped stop (inl (why, refused, is)) = let same : stop ≡ Some why = cc in let it = only why refused in (same ∙ ap (λ w. Some w) it.0, it.1)
     where
       only : (why : Refusal) → IsRefused docket_schema Enforced db edit why → (why ≡ NoRowid) × ((layout_of table).is_rowid ≡ false)
-      only NoRowid refused = (refl, hides_rowid table given (db (tree_of table)) fits may.storable refused)
+      only NoRowid refused = (refl, hides_rowid (layout_of table).is_rowid (layout_of table).fields given (db (tree_of table)) (have_fields table) fits may.storable refused)
       only why refused = absurd (opened rows db are (λ here. refusals table given rows db fits may here (obeys.rules Unique) why refused (λ is. let no = is in cc)))
   unstopped stop (inr (inl (row, has, big, is))) = absurd (sized table given rows db fits may.storable row has big)
   unstopped stop (inr (inr (after, applied, (zero, leads)))) = absurd (let is = leads.1 in cc)

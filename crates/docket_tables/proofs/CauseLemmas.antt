@@ -3,45 +3,35 @@ use Rattle.std.proofs.Common.{◌≡◌, inl, inr, ◌∙◌, ◌≤◌, ℕ, su
 use Rattle.sqlite.specs.Order.{Row}
 use Rattle.sqlite.specs.Kind.{Kind}
 use Rattle.sqlite.specs.Kind.TheVariants.{Integer, Text}
-use Rattle.sqlite.specs.Command.{Command}
-use Rattle.sqlite.specs.Command.TheVariants.{Select}
 use Rattle.sqlite.specs.Effect.{RefusesToRead}
 use Rattle.sqlite.specs.Listing.{understood, reads_listing, IsSourceOf}
 use Rattle.sqlite.specs.State.{State, IsNotRun, FailsToQuery}
 use Rattle.sqlite.specs.declared.error.Error.{Error}
 use Rattle.sqlite.specs.Values.{bound_value}
 use Rattle.sqlite.specs.declared.types.Value.TheVariants as value
-use Rattle.sqlite_tied.specs.Compute.{everything}
 use Rattle.sqlite_value.specs.declared.value.Value.{Value}
 use Rattle.sqlite_typing.specs.Types.{accepts_program}
 use Rattle.docket_tables.specs.Causes.{IsCaused, IsCausedFault, FailsForCause, IsOwn, Suits, kinds_asked}
-use Rattle.docket_tables.specs.Holds.{plain_query}
 use Rattle.docket_tables.specs.Layouts.{Rows, are_of}
-use Rattle.docket_tables.specs.Queries.{question_of, select_text, table_of, keys_of}
-use Rattle.docket_tables.specs.Schema.{docket_schema, tree_of}
+use Rattle.docket_tables.specs.Queries.{select_text}
+use Rattle.docket_tables.specs.Schema.{docket_schema}
 use Rattle.docket_tables.specs.Stands.{IsSettled, Sees, Shows}
-use Rattle.docket_tables.specs.Tables.{layout_of}
-use Rattle.docket_tables.specs.Texts.{names_in}
 use Rattle.docket_tables.specs.declared.fault.ReadFault.{ReadFault}
 use Rattle.docket_tables.specs.declared.fault.ReadFault.TheVariants.{Store, NoMemory, Damaged}
 use Rattle.docket_tables.specs.declared.query.Query.{Query}
 use Rattle.docket_tables.specs.declared.query.Query.TheVariants as ask
+use Rattle.docket_tables.proofs.EachLemmas.{each_query}
 use Rattle.docket_tables.proofs.MakingCauses.{IsOne, fails_caused, never_misread, open_caused}
-use Rattle.docket_tables.proofs.QueryLemmas.{keeps_from, shows_of, order_in, limit_in, select_means}
+use Rattle.docket_tables.proofs.QueryLemmas.{query_of, command_for, parameters_of, query_read, select_means}
+use Rattle.docket_tables.proofs.TextLemmas.{read_one}
 use Rattle.sqlite.specs.Program.{ProgramOverflows}
-use Rattle.sqlite.specs.Query.{Query as Sql}
 use Rattle.sqlite.specs.Tree.{Trees}
 
-abbrev query_of : Query → Sql
-query_of q = plain_query (tree_of (table_of q)) (keeps_from (table_of q) 0 (keys_of q)) (shows_of (table_of q)) [] (order_in (question_of q)) (limit_in (question_of q))
-
-abbrev command_for : Query → Command
-command_for q = Select (record { lets = []; body = query_of q }) (names_in (layout_of (table_of q)))
+so_many_asked : (q : Query) → length (parameters_of q) ≡ length (kinds_asked q)
+so_many_asked = each_query (λ q. length (parameters_of q)) (λ q. length (kinds_asked q)) refl
 
 one_statement : (q : Query) → IsOne (select_text q) (length (kinds_asked q)) (command_for q) (understood docket_schema (select_text q))
-unfolding understood everything
-one_statement ask.Court = (refl, refl, refl, (refl, refl))
-one_statement q = (refl, refl, refl, (refl, refl))
+one_statement q = read_one (query_read q) (length (kinds_asked q)) (so_many_asked q)
 
 abbrev passes : Query → Row → Bool
 passes q params = accepts_program docket_schema [] (query_of q) params

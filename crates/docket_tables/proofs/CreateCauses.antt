@@ -1,5 +1,5 @@
 -- A CREATE of a table is not refused where the tables before it stand.
-use Rattle.std.proofs.Common.{◌≡◌, ◌⊎◌, inl, inr, ◌∙◌, ◌+◌, ◌*◌, ◌^◌, ◌≤◌, ℕ, suc, Bool, not, nat_lt, List, [], ◌∷◌, length, codes, IsUtf8, IsAscii, zero, true, false, None, Some, Option, Ok, Err, Result, refl, sym, ap, subst, arith}
+use Rattle.std.proofs.Common.{◌≡◌, ◌⊎◌, inl, inr, ◌∙◌, ◌+◌, ◌*◌, ◌^◌, ◌≤◌, ℕ, suc, Bool, not, nat_lt, List, [], ◌∷◌, length, map, codes, IsUtf8, IsAscii, zero, true, false, None, Some, Option, Ok, Err, Result, refl, sym, ap, subst, arith}
 use Rattle.std.specs.List.{list_any, list_all}
 use Rattle.std.proofs.lemmas.Bool.{and_parts, ltb-true, not-false, or_parts, true≢false}
 use Rattle.std.proofs.lemmas.Str.{IsUtf8-from_ascii}
@@ -29,11 +29,13 @@ use Rattle.sqlite_trees.specs.Sound as tree
 use Rattle.sqlite_value.specs.Order.{value_cmp}
 use Rattle.docket_tables.specs.Causes.{HasMakingCause}
 use Rattle.docket_tables.specs.Schema.{made, definition_of}
-use Rattle.docket_tables.specs.Tables.{layout_of}
+use Rattle.docket_tables.specs.Tables.{layout_of, tables}
 use Rattle.docket_tables.specs.Texts.{create_text}
 use Rattle.docket_tables.specs.declared.table.Table.{Table}
-use Rattle.docket_tables.specs.declared.table.Table.TheVariants.{Court}
+use Rattle.docket_tables.proofs.CreateLemmas.{Defines, before, create_read, defines}
+use Rattle.docket_tables.proofs.EachLemmas.{each_table}
 use Rattle.docket_tables.proofs.MakingCauses.{IsOne, write_caused}
+use Rattle.docket_tables.proofs.TextLemmas.{read_one}
 
 abbrev are_ascii : List ℕ → Bool
 are_ascii = list_all (λ b. nat_lt b 128)
@@ -46,9 +48,9 @@ ascii (b ∷ text) all (suc i) = ascii text (and_parts _ _ all).1 i
 -- the table can be made where so many stand: its text, its name and its keys are as they have to be
 pub record IsMakeable (n : ℕ) (sql : List ℕ) (table : Shape) : Type 0 where
   pub one : IsOne sql 0 CreateTable (understood (made n) sql)
-  pub words : statement_of sql (understood (made n) sql) ≡ sql
-  pub defined : table_defined_by sql ≡ Ok table
-  pub spelled : (are_ascii sql ≡ true) × (are_ascii table.name ≡ true)
+  pub text : Defines n sql table
+  pub spelled : are_ascii sql ≡ true
+  pub name_spelled : are_ascii table.name ≡ true
   pub free : is_used (made n) table.name ≡ false
   pub keys_free : list_any (λ i. is_used (made n) i.name) (automatics table 0 0 table.uniques) ≡ false
   pub unreserved : is_reserved table.name ≡ false
@@ -58,13 +60,28 @@ pub record IsMakeable (n : ℕ) (sql : List ℕ) (table : Shape) : Type 0 where
   pub formed : is_formed table ≡ true
   pub fit : is_fit (Text (codes "table")) (Text table.name) (Text table.name) (Text sql) ≡ true
   pub short : nat_lt (2 * length table.name + length sql + 200) (10 ^ 9) ≡ true
-  pub next : made (suc n) ≡ created (made n) table
-  pub uncounted : lacks_sequence (made (suc n)) ≡ false
+
+-- what the test answers of all tables, it answers of each
+tested : (answer : Bool) (test : Table → Bool) → map test tables ≡ map (λ t. answer) tables → (table : Table) → test table ≡ answer
+tested answer test = each_table test (λ t. answer)
 
 makeable : (table : Table) → IsMakeable (layout_of table).at (create_text table) (definition_of table)
-unfolding understood everything fits_kind is_free_name begins tree.same_name value_cmp lib.Ieee.is_nan lib.Ieee.lt
-makeable Court = record { one = (refl, refl, refl, (refl, refl)); words = refl; defined = refl; spelled = (refl, refl); free = refl; keys_free = refl; unreserved = refl; few = refl; narrow = refl; keys_narrow = refl; formed = refl; fit = refl; short = refl; next = refl; uncounted = refl }
-makeable table = record { one = (refl, refl, refl, (refl, refl)); words = refl; defined = refl; spelled = (refl, refl); free = refl; keys_free = refl; unreserved = refl; few = refl; narrow = refl; keys_narrow = refl; formed = refl; fit = refl; short = refl; next = refl; uncounted = refl }
+unfolding everything fits_kind is_free_name begins tree.same_name value_cmp lib.Ieee.is_nan lib.Ieee.lt
+makeable table = record {
+  one = read_one (create_read table) 0 refl;
+  text = defines table;
+  spelled = tested true (λ t. are_ascii (create_text t)) refl table;
+  name_spelled = tested true (λ t. are_ascii (definition_of t).name) refl table;
+  free = tested false (λ t. is_used (before t) (definition_of t).name) refl table;
+  keys_free = tested false (λ t. list_any (λ i. is_used (before t) i.name) (automatics (definition_of t) 0 0 (definition_of t).uniques)) refl table;
+  unreserved = tested false (λ t. is_reserved (definition_of t).name) refl table;
+  few = tested true (λ t. nat_lt (next_tree (before t) + length (definition_of t).uniques) 65536) refl table;
+  narrow = tested true (λ t. nat_lt (table_reals (definition_of t)) (2 ^ 64)) refl table;
+  keys_narrow = tested false (λ t. list_any (λ key. not (nat_lt (index_reals (table_reals (definition_of t)) key) (2 ^ 64))) (definition_of t).uniques) refl table;
+  formed = tested true (λ t. is_formed (definition_of t)) refl table;
+  fit = tested true (λ t. is_fit (Text (codes "table")) (Text (definition_of t).name) (Text (definition_of t).name) (Text (create_text t))) refl table;
+  short = tested true (λ t. nat_lt (2 * length (definition_of t).name + length (create_text t) + 200) (10 ^ 9)) refl table;
+}
 
 pub none_has : {X : Type 0} (P : X → Bool) (xs : List X) (x : X) → list_any P xs ≡ false → Has xs x → P x ≡ false
 none_has P [] x none has = absurd has
@@ -76,14 +93,14 @@ never on off = true≢false (sym on ∙ off)
 
 module _ (n : ℕ) (sql : List ℕ) (table : Shape) (it : IsMakeable n sql table) where
   same : (other : Shape) → table_defined_by sql ≡ Ok other → other ≡ table
-  same other is = let both : ◌≡◌ {A = Result Shape CompileError} (Ok other) (Ok table) = sym is ∙ it.defined in cc
+  same other is = let both : ◌≡◌ {A = Result Shape CompileError} (Ok other) (Ok table) = sym is ∙ it.text.defined in cc
 
   unrefused : (why : Refusal) → RefusesTable (made n) sql why → ⊥
-  unrefused (Invalid e) is = absurd (let both = sym is ∙ it.defined in cc)
+  unrefused (Invalid e) is = absurd (let both = sym is ∙ it.text.defined in cc)
   unrefused NameTaken (other, is, inl used) = never (subst (λ t. is_used (made n) t.name ≡ true) (same other is) used) it.free
   unrefused NameTaken (other, is, inr (index, has, used)) =
       never used (none_has (λ i. is_used (made n) i.name) (automatics table 0 0 table.uniques) index it.keys_free (subst (λ t. Has (automatics t 0 0 t.uniques) index) (same other is) has))
-  unrefused BadName (other, is, inl odd) = odd (subst (λ t. IsUtf8 t.name) (sym (same other is)) (IsUtf8-from_ascii table.name (ascii table.name it.spelled.1)))
+  unrefused BadName (other, is, inl odd) = odd (subst (λ t. IsUtf8 t.name) (sym (same other is)) (IsUtf8-from_ascii table.name (ascii table.name it.name_spelled)))
   unrefused BadName (other, is, inr reserved) = never (subst (λ t. is_reserved t.name ≡ true) (same other is) reserved.0) it.unreserved
   unrefused TooBig (other, is, big) = elim (subst (λ t. (65536 ≤ next_tree (made n) + length t.uniques) ⊎ ((2 ^ 64 ≤ table_reals t) ⊎ ((key : List ℕ) × Has t.uniques key × (2 ^ 64 ≤ index_reals (table_reals t) key)))) (same other is) big) [
     | inl many ↦ let few = ltb-true _ _ it.few in omega (arith, many, few)
@@ -103,14 +120,14 @@ module _ (n : ℕ) (sql : List ℕ) (table : Shape) (it : IsMakeable n sql table
 
   no_table : (db : Database) (stop : Option Error) → db.schema ≡ made n → MakesTable sql db (Err stop) → ⊥
   no_table db None has long = not_long long
-  no_table db (Some e) has (inl odd) = odd.0 (IsUtf8-from_ascii sql (ascii sql it.spelled.0))
+  no_table db (Some e) has (inl odd) = odd.0 (IsUtf8-from_ascii sql (ascii sql it.spelled))
   no_table db (Some e) has (inr (why, refused, is)) = unrefused why (subst (λ s. RefusesTable s sql why) has refused)
 
   no_stop : (db : Database) (mode : Mode) (stop : Option Error) → db.schema ≡ made n → Redefining mode (Then (MakesTable sql db) MakesSequence) (Err stop) → ⊥
   no_stop db mode stop has (inl (first, inl (second, none, is), also)) = no_table db second has none
   no_stop db mode stop has (inl (first, inr (after, made_one, next), also)) =
-      let schema : after.schema ≡ made (suc n) = made_one.is ∙ ap (λ s. created s made_one.table) has ∙ ap (created (made n)) (same made_one.table made_one.defined) ∙ sym it.next in
-      let gives : Err first ≡ Ok after = rw (ap lacks_sequence schema ∙ it.uncounted) at next in
+      let schema : after.schema ≡ made (suc n) = made_one.is ∙ ap (λ s. created s made_one.table) has ∙ ap (created (made n)) (same made_one.table made_one.defined) ∙ sym it.text.next in
+      let gives : Err first ≡ Ok after = rw (ap lacks_sequence schema ∙ it.text.uncounted) at next in
       absurd (let no = gives in cc)
   no_stop db mode stop has (inr (after, made_one, gives)) = absurd (let no = gives in cc)
 
@@ -121,7 +138,7 @@ create_caused table old new e has ran =
     let sql : List ℕ = create_text table in
     let it : IsMakeable n sql (definition_of table) = makeable table in
     let one = subst (λ s. IsOne sql 0 CreateTable (understood s sql)) (sym has) it.one in
-    let words : statement_of sql (understood old.now.schema sql) ≡ sql = ap (λ s. statement_of sql (understood s sql)) has ∙ it.words in
+    let words : statement_of sql (understood old.now.schema sql) ≡ sql = ap (λ s. statement_of sql (understood s sql)) has ∙ it.text.words in
     let stops : (stop : Option Error) → Does old.step_limit (mode_of old) [] old.now (statement_of sql (understood old.now.schema sql)) None CreateTable (Err stop) → ⊥ =
     λ stop h. no_stop n sql (definition_of table) it old.now (mode_of old) stop has (subst (λ text. Redefining (mode_of old) (Then (MakesTable text old.now) MakesSequence) (Err stop)) words h) in
     write_caused sql CreateTable [] old new e one tt (λ h. absurd (stops (Some e) h)) (stops None) ran

@@ -1,5 +1,5 @@
 -- What each CREATE does, and what all of them leave.
-use Rattle.std.proofs.Common.{◌≡◌, ◌∙◌, ◌+◌, ◌<◌, ℕ, true, zero, suc, List, [], ◌∷◌, ◌++◌, get_or, length, Ok, refl, sym, ap, subst, map, IsPermutation, false, arith}
+use Rattle.std.proofs.Common.{◌≡◌, ◌∙◌, ◌+◌, ◌<◌, ℕ, true, zero, suc, List, [], ◌∷◌, ◌++◌, get_or, length, Result, Ok, refl, sym, ap, subst, map, IsPermutation, false, arith}
 use Rattle.std.specs.List.{AllByRecursion}
 use Rattle.std.proofs.lemmas.List.{get_or-map}
 use Rattle.std.proofs.lemmas.List.Sorted.{IsPermutation-refl}
@@ -16,6 +16,9 @@ use Rattle.sqlite.specs.Listing.{understood}
 use Rattle.sqlite.specs.Command.TheVariants.{CreateTable}
 use Rattle.sqlite.specs.State.{State, Executes, Shows as Turns}
 use Rattle.sqlite.proofs.Callers.{command_of, statement_of, IsPlain, runs_as}
+use Rattle.sqlite_resolve.specs.Compile.{compiled}
+use Rattle.sqlite_resolve.specs.declared.compiled.Compiled.{Compiled}
+use Rattle.sqlite_resolve.specs.declared.error.CompileError.{CompileError}
 use Rattle.sqlite_tied.specs.Compute.{everything}
 use Rattle.docket_tables.specs.Creation.{IsMade, no_rows}
 use Rattle.docket_tables.specs.Holds.{cells, Holds}
@@ -25,10 +28,11 @@ use Rattle.docket_tables.specs.Stands.{Sees}
 use Rattle.docket_tables.specs.Tables.{layout_of, tables}
 use Rattle.docket_tables.specs.Texts.{counted, create_text}
 use Rattle.docket_tables.specs.declared.table.Table.{Table}
-use Rattle.docket_tables.specs.declared.table.Table.TheVariants.{Court}
+use Rattle.docket_tables.proofs.EachLemmas.{each_table}
 use Rattle.docket_tables.proofs.HoldsLemmas.{all_both}
 use Rattle.docket_tables.proofs.InsertLemmas.{went, same_value}
 use Rattle.docket_tables.proofs.LayoutLemmas.{of_each}
+use Rattle.docket_tables.proofs.TextLemmas.{IsRead, whole_text, is_read, read_command, read_plain, read_words}
 
 -- what the text of a table means where those before it stand
 pub record Defines (n : ℕ) (sql : List ℕ) (table : Shape) : Type 0 where
@@ -39,10 +43,40 @@ pub record Defines (n : ℕ) (sql : List ℕ) (table : Shape) : Type 0 where
   pub next : made (suc n) ≡ created (made n) table
   pub uncounted : lacks_sequence (made (suc n)) ≡ false
 
-defines : (table : Table) → Defines (layout_of table).at (create_text table) (definition_of table)
-unfolding understood everything
-defines Court = record { command = refl; plain = (refl, refl); words = refl; defined = refl; next = refl; uncounted = refl }
-defines table = record { command = refl; plain = (refl, refl); words = refl; defined = refl; next = refl; uncounted = refl }
+abbrev pub before : Table → Schema
+before table = made (layout_of table).at
+
+abbrev after : Table → Schema
+after table = made (suc (layout_of table).at)
+
+-- what the text of a table is read as, and which table it defines
+abbrev meaning_of : Table → Result Compiled CompileError × Result Shape CompileError
+meaning_of table = (compiled (before table) (create_text table), table_defined_by (create_text table))
+
+abbrev wanted_of : Table → Result Compiled CompileError × Result Shape CompileError
+wanted_of table = (Ok (whole_text (create_text table) CreateTable []), Ok (definition_of table))
+
+all_read : map meaning_of tables ≡ map wanted_of tables
+unfolding everything
+all_read = refl
+
+read : (table : Table) → meaning_of table ≡ wanted_of table
+read = each_table meaning_of wanted_of all_read
+
+pub create_read : (table : Table) → IsRead (before table) (create_text table) CreateTable []
+create_read table = is_read (ap (λ (both : Result Compiled CompileError × Result Shape CompileError). both.0) (read table))
+
+pub defines : (table : Table) → Defines (layout_of table).at (create_text table) (definition_of table)
+defines table =
+    let it = create_read table in
+    record {
+      command = read_command it;
+      plain = read_plain it;
+      words = read_words it;
+      defined = ap (λ (both : Result Compiled CompileError × Result Shape CompileError). both.1) (read table);
+      next = each_table after (λ t. created (before t) (definition_of t)) refl table;
+      uncounted = each_table (λ t. lacks_sequence (after t)) (λ t. false) refl table;
+    }
 
 counted_at : {X : Type 0} (m n : ℕ) (xs : List X) → n < length xs → get_or (counted m xs) n 0 ≡ m + n
 counted_at m n [] low = absurd (omega (arith, low))

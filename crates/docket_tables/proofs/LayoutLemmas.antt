@@ -1,5 +1,5 @@
 -- What an INSERT of each table means, and what one more row makes of all tables.
-use Rattle.std.proofs.Common.{◌≡◌, ◌≢◌, ◌==◌, ◌∙◌, ℕ, ℤ, zero, suc, List, [], ◌∷◌, ◌++◌, map, find, length, slice_get, Bool, true, false, cond, drop, Some, Ok, IsTrue, refl, sym, ap, ap₂, subst, arith}
+use Rattle.std.proofs.Common.{◌≡◌, ◌≢◌, ◌==◌, ◌∙◌, ℕ, ℤ, zero, suc, List, [], ◌∷◌, ◌++◌, map, find, length, slice_get, Bool, true, false, cond, drop, take, ◌/◌, Some, Result, Ok, IsTrue, refl, sym, ap, ap₂, subst, arith}
 use Rattle.std.specs.List.{AllByRecursion}
 use Rattle.std.proofs.lemmas.Bool.{false≢true}
 use Rattle.std.proofs.lemmas.Bool.Decides.{nat_tests}
@@ -16,21 +16,29 @@ use Rattle.sqlite.specs.Edit.{with_rowid}
 use Rattle.sqlite_rules.specs.Edit.{is_chosen, at_least, next_rowid}
 use Rattle.sqlite.specs.Rowids.TheVariants.{Chosen}
 use Rattle.sqlite.specs.Term.{Term, lit, col, eval_all}
-use Rattle.sqlite.specs.Listing.{understood}
+use Rattle.sqlite.specs.Command.{Command}
+use Rattle.sqlite.specs.Command.TheVariants.{Insert}
+use Rattle.sqlite.specs.Source.TheVariants.{Values}
 use Rattle.sqlite.specs.State.{State, Executes, Shows as Turns}
 use Rattle.sqlite_trees.specs.Tree.{rowid}
 use Rattle.sqlite_trees.specs.View.{is_int}
+use Rattle.sqlite_resolve.specs.Compile.{compiled}
+use Rattle.sqlite_resolve.specs.declared.compiled.Compiled.{Compiled}
+use Rattle.sqlite_resolve.specs.declared.error.CompileError.{CompileError}
+use Rattle.sqlite_rules.specs.Action.{Work, works}
+use Rattle.sqlite_schema.specs.declared.schema.Keys.TheVariants.{Enforced}
 use Rattle.sqlite_tied.specs.Compute.{everything}
 use Rattle.docket_tables.specs.declared.table.Table.{Table}
-use Rattle.docket_tables.specs.declared.table.Table.TheVariants.{Court}
 use Rattle.docket_tables.specs.Holds.{Holds, KeepsOthers, cells}
 use Rattle.docket_tables.specs.Layouts.{Rows, AreRows, Fits, are_of, with_rows, with_row}
 use Rattle.docket_tables.specs.Schema.{docket_schema, tree_of, places_of, shape_of, places_by, kinds_by, columns_by, column_of}
 use Rattle.docket_tables.specs.Stands.{Sees}
 use Rattle.docket_tables.specs.Tables.{Field, layout_of, tables}
-use Rattle.docket_tables.specs.Texts.{counted, insert_text}
+use Rattle.docket_tables.specs.Texts.{counted, insert_text, parameter}
 use Rattle.docket_tables.proofs.CellLemmas.{cast_int, cast_null, holds_more, holds_same}
+use Rattle.docket_tables.proofs.EachLemmas.{each_table}
 use Rattle.docket_tables.proofs.InsertLemmas.{InsertsInto, inserts}
+use Rattle.docket_tables.proofs.TextLemmas.{IsRead, whole_text, is_read, read_command, read_plain}
 
 abbrev pub terms_by : Bool → List Field → List Term
 terms_by true [] = []
@@ -40,15 +48,45 @@ terms_by false fields = lit Null ∷ map (col 0) (counted 0 fields)
 abbrev pub terms_of : Table → List Term
 terms_of table = let l = layout_of table in terms_by l.is_rowid l.fields
 
-pub insert_means : (table : Table) → InsertsInto docket_schema (insert_text table) (shape_of table) (terms_of table)
-unfolding understood everything
-insert_means Court = record { at = 0; width = 7; is = refl; plain = (refl, refl); place = refl; one = refl; wide = refl; uncounted = refl; unstamped = refl; no_work = λ row. refl }
-insert_means table = record { at = (layout_of table).at; width = suc (length (layout_of table).fields); is = refl; plain = (refl, refl); place = refl; one = refl; wide = refl; uncounted = refl; unstamped = refl; no_work = λ row. refl }
+-- the command that the text of an INSERT is read as
+abbrev pub insert_command : Table → Command
+insert_command table = Insert (layout_of table).at (Values (terms_of table) (suc (length (layout_of table).fields)))
+
+abbrev pub parameters_of : Table → List (List ℕ)
+parameters_of table = map parameter (counted 1 (layout_of table).fields)
+
+abbrev meaning_of : Table → Result Compiled CompileError
+meaning_of table = compiled docket_schema (insert_text table)
+
+abbrev wanted_of : Table → Result Compiled CompileError
+wanted_of table = Ok (whole_text (insert_text table) (insert_command table) (parameters_of table))
+
+all_read : map meaning_of tables ≡ map wanted_of tables
+unfolding everything
+all_read = refl
+
+pub insert_read : (table : Table) → IsRead docket_schema (insert_text table) (insert_command table) (parameters_of table)
+insert_read table = is_read (each_table meaning_of wanted_of all_read table)
 
 -- each table stands in the schema at its place
 stands_at : (table : Table) → slice_get docket_schema.tables (layout_of table).at ≡ Some (shape_of table)
-stands_at Court = refl
-stands_at table = refl
+stands_at = each_table (λ t. slice_get docket_schema.tables (layout_of t).at) (λ t. Some (shape_of t)) refl
+
+pub insert_means : (table : Table) → InsertsInto docket_schema (insert_text table) (shape_of table) (terms_of table)
+insert_means table =
+    let read = insert_read table in
+    record {
+      at = (layout_of table).at;
+      width = suc (length (layout_of table).fields);
+      is = read_command read;
+      plain = read_plain read;
+      place = stands_at table;
+      one = each_table (λ t. length (terms_of t) / suc (length (layout_of t).fields)) (λ t. 1) refl table;
+      wide = each_table (λ t. take (suc (length (layout_of t).fields)) (terms_of t)) terms_of refl table;
+      uncounted = refl;
+      unstamped = refl;
+      no_work = λ row. ap (λ (f : Row → List Work). f row) (each_table (λ t r. works docket_schema Enforced 0 (shape_of t).tree [] (r ∷ [])) (λ t r. []) refl table);
+    }
 
 pub all_at : {X : Type 0} (P : X → Type 0) (xs : List X) (n : ℕ) (x : X) → AllByRecursion P xs → slice_get xs n ≡ Some x → P x
 all_at P [] n x all is = absurd cc
@@ -61,8 +99,7 @@ of_each P all table = all_at P docket_schema.tables (layout_of table).at (shape_
 
 -- tables have trees of their own
 at_its_tree : (table : Table) → find (λ other. tree_of other == tree_of table) tables ≡ Some table
-at_its_tree Court = refl
-at_its_tree table = refl
+at_its_tree = each_table (λ t. find (λ other. tree_of other == tree_of t) tables) (λ t. Some t) refl
 
 pub same_table : (a b : Table) → tree_of a ≡ tree_of b → a ≡ b
 same_table a b e =

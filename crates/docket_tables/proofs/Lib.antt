@@ -17,6 +17,7 @@ mod CreateCauses
 pub mod CreateLemmas
 mod DeleteCauses
 mod DeleteLemmas
+mod EachLemmas
 pub mod EndLemmas
 mod FoundLemmas
 pub mod HoldsLemmas
@@ -39,6 +40,7 @@ pub mod SelectLemmas
 pub mod StandsLemmas
 pub mod StoredLemmas
 mod StoredRows
+mod TextLemmas
 pub mod TwoTables
 mod UpdateCauses
 pub mod UpdateLemmas
