@@ -1,9 +1,10 @@
 -- From what the tables' functions leave to what a command leaves.
-use Rattle.std.proofs.Common.{◌≡◌, ◌⊎◌, inl, inr, [], ◌∷◌, ℕ, ◌+◌, ◌<◌, ◌^◌, Bool, if◌then◌else◌, List, Option, refl, sym, ap, subst, ◌∙◌, arith}
-use Rattle.std.specs.Prelude.{true}
+use Rattle.std.proofs.Common.{◌≡◌, ◌⊎◌, inl, inr, [], ◌∷◌, ℕ, ◌+◌, ◌<◌, ◌^◌, Bool, if◌then◌else◌, List, Option, Some, Result, Ok, Err, IfErr, refl, sym, ap, subst, ◌∙◌, arith}
+use Rattle.std.specs.Prelude.{true, false}
 use Rattle.sqlite.specs.Store.{Ghosts}
 use Rattle.sqlite.specs.Tree.{Trees}
-use Rattle.sqlite.specs.State.{HasCleanDisk}
+use Rattle.sqlite.specs.State.{HasCleanDisk, State}
+use Rattle.sqlite.specs.declared.error.Error.{Error}
 use Rattle.sqlite.specs.Held.{Held, state}
 use Rattle.court_days.specs.Court.{CourtSettings}
 use Rattle.docket_command.specs.declared.command.Command.{Command}
@@ -14,6 +15,7 @@ use Rattle.docket_history.specs.Histories.{History, items_of, next_row, standing
 use Rattle.docket_decisions.specs.Outcomes.{Answer, repeated, refused, accepted, shown, outcome, after, after_answer}
 use Rattle.docket_decisions.specs.Tables.{Tables, rows_of, with_receipt, all_changed}
 use Rattle.docket_decisions.specs.declared.decision.Changes.{Changes}
+use Rattle.docket_decisions.specs.declared.decision.Decision.{Decision}
 use Rattle.docket_history.specs.declared.view.View.{View}
 use Rattle.docket_decisions.proofs.LimitsKept.{within_limits, sound_view}
 use Rattle.docket_wire.specs.Valid.{IsCommand}
@@ -25,8 +27,9 @@ use Rattle.docket_applying.specs.Settling.{IsUpdate}
 use Rattle.docket_applying.proofs.HistoryLemmas.{update_right}
 use Rattle.docket_orderly.proofs.DocketLemmas.{orderly}
 use Rattle.docket_history.specs.declared.item.CalendarItem.{CalendarItem}
-use Rattle.docket_applying.specs.Applying.{IsDocket, IsAccepted, docket_rows, Keeps, FailsAs, Faults}
-use Rattle.docket_applying.specs.Dockets.{serving}
+use Rattle.docket_applying.specs.Applying.{Decides, IsDocket, IsAccepted, IsNoFailure, docket_rows, Keeps, FailsAs, Faults, Judges, Stands}
+use Rattle.docket_applying.specs.Causes.{IsCausedBy, IsNamed}
+use Rattle.docket_applying.specs.Dockets.{Docket, serving}
 use Rattle.docket_applying.specs.declared.fault.Fault.{Fault}
 use Rattle.docket_applying.specs.declared.fault.Fault.TheVariants.{Refused, NoMemory, StoreFailed, Closed, Damaged}
 
@@ -93,6 +96,34 @@ module _ {S : Type 0} (g : Ghosts S) (conn : Held S) where
       same db (inl a) = a
       same db (inr b) = b
 
--- a calendar that is shown to a command which asks for it is that of the history
-pub shown_calendar : (court : CourtSettings) (h : History) (c : Command) (v : View) (asked : Bool) → v ≡ shown court h c → asked ≡ asks_calendar c.action → asked ≡ true → v.calendar ≡ items_of (standing_rows h)
-shown_calendar court h c v asked seen asks is = ap (λ (x : View). x.calendar) seen ∙ ap (λ b. if b then items_of (standing_rows h) else []) (sym asks ∙ is)
+-- what is decided by what the docket shows, with the docket that stands
+pub judged_by : {S : Type 0} (g : Ghosts S) (d : Docket S) (h : History) (c : Command) (r : Result Decision Fault) → Stands g d h → IfErr r IsNoFailure → (HasCleanDisk (state g d.conn) → Decides d.court h c r) → Judges g d h c r
+judged_by g d h c (Ok decision) stands own told = (stands, told)
+judged_by g d h c (Err (Refused r)) stands own told = (stands, told)
+judged_by g d h c (Err NoMemory) stands own told = stands
+judged_by g d h c (Err Damaged) stands own told = told
+judged_by g d h c (Err StoreFailed) stands own told = absurd own
+judged_by g d h c (Err Closed) stands own told = absurd own
+
+-- no failure of the database has no error of it, and no cause
+pub none_named : {X : Type 0} (failure : Option Error) (r : Result X Fault) → IfErr r IsNoFailure → IfErr r (IsNamed failure)
+none_named failure (Ok x) own = tt
+none_named failure (Err (Refused r)) own = tt
+none_named failure (Err NoMemory) own = tt
+none_named failure (Err Damaged) own = tt
+none_named failure (Err _) own = absurd own
+
+pub none_caused : {X : Type 0} (old new : State) (failure : Option Error) (r : Result X Fault) → IfErr r IsNoFailure → IfErr r (IsCausedBy old new failure)
+none_caused old new failure (Ok x) own = tt
+none_caused old new failure (Err (Refused r)) own = tt
+none_caused old new failure (Err NoMemory) own = tt
+none_caused old new failure (Err Damaged) own = tt
+none_caused old new failure (Err _) own = absurd own
+
+-- the calendar that the action asked for is kept again
+pub calendar_kept : (court : CourtSettings) (h : History) (c : Command) (v : View) (kept now : Option (List CalendarItem)) → v ≡ shown court h c → now ≡ (if asks_calendar c.action then Some v.calendar else kept) → Keeps kept h → Keeps now h
+calendar_kept court h c v kept now seen is keeps = by_asking (asks_calendar c.action) (ap (λ (x : View). x.calendar) seen) is
+  where
+    by_asking : (asks : Bool) → v.calendar ≡ (if asks then items_of (standing_rows h) else []) → now ≡ (if asks then Some v.calendar else kept) → Keeps now h
+    by_asking true items is = subst (λ k. Keeps k h) (sym is) items
+    by_asking false items is = subst (λ k. Keeps k h) (sym is) keeps

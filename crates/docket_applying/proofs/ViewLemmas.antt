@@ -20,6 +20,7 @@ use Rattle.docket_history.specs.declared.view.DeadlineView.{DeadlineView}
 use Rattle.docket_decisions.proofs.Leading.{length-deadlines_from}
 use Rattle.docket_orderly.specs.Orderly.{RunsFrom}
 use Rattle.docket_tables.specs.Readings.{row_at}
+use Rattle.docket_applying.specs.declared.viewing.NumbersShown.{NumbersShown}
 
 abbrev pub shown_with : DeadlineRow → List Act → DeadlineView
 shown_with row acts = record { party = row.party; rule = row.rule; initial = row.initial; acts = acts }
@@ -80,11 +81,13 @@ none_told t k out = ap (λ b. if b then Some (deadlines_in t k) else None) out
 pub deadlines_told : (t : Tables) (k : ℕ) (deadlines : List DeadlineView) → is_case_in t k ≡ true → deadlines ≡ deadlines_in t k → case_deadlines t k ≡ Some deadlines
 deadlines_told t k deadlines among are = ap (λ b. if b then Some (deadlines_in t k) else None) among ∙ ap Some (sym are)
 
-pub whole_view : (t : Tables) (c : Command) (kept_is : UnderKey) (cases : ℕ) (taken : Bool) (case : Option CaseView) (stands : Bool) (items : List CalendarItem) (next : ℕ) (local : Option LocalRule) (rules : ℕ) → kept_is ≡ under_key t.receipts c → cases ≡ if_asked (asks_cases c.action) (length t.cases)
-    → taken ≡ is_label_taken c.action t.cases → case ≡ option_and_then (case_in t c.action) (case_named c.action) → stands ≡ is_row_standing c.action t.calendar → next ≡ if_asked (asks_next_row c.action) t.next_row
-    → local ≡ option_and_then (local_rule_in t.local_rules) (rule_name_asked (named_in case) c.action) → rules ≡ if_asked (asks_local_rules c.action) (length t.local_rules)
-    → record { under_key = kept_is; cases = cases; label_taken = taken; case = case; row_stands = stands; calendar = items; next_row = next; local = local; local_rules = rules } ≡ record (view_in t c) { calendar = items }
-whole_view t c kept_is cases taken case stands items next local rules a b d e f k l m =
+-- a view without a calendar
+pub whole_view : (t : Tables) (c : Command) (kept_is : UnderKey) (numbers : NumbersShown) (case : Option CaseView) (items : List CalendarItem) (local : Option LocalRule) → kept_is ≡ under_key t.receipts c
+    → numbers ≡ record { cases = if_asked (asks_cases c.action) (length t.cases); label_taken = is_label_taken c.action t.cases; row_stands = is_row_standing c.action t.calendar; next_row = if_asked (asks_next_row c.action) t.next_row; local_rules = if_asked (asks_local_rules c.action) (length t.local_rules) }
+    → case ≡ option_and_then (case_in t c.action) (case_named c.action) → items ≡ []
+    → local ≡ option_and_then (local_rule_in t.local_rules) (rule_name_asked (named_in case) c.action)
+    → record { under_key = kept_is; cases = numbers.cases; label_taken = numbers.label_taken; case = case; row_stands = numbers.row_stands; calendar = items; next_row = numbers.next_row; local = local; local_rules = numbers.local_rules } ≡ record (view_in t c) { calendar = [] }
+whole_view t c kept_is numbers case items local a n e none l =
     let found : local ≡ option_and_then (local_rule_in t.local_rules) (rule_name_asked (named_in (case_named_in t c.action)) c.action) =
     l ∙ ap (λ shown. option_and_then (local_rule_in t.local_rules) (rule_name_asked (named_in shown) c.action)) e in
-    λ i. record { under_key = a i; cases = b i; label_taken = d i; case = e i; row_stands = f i; calendar = items; next_row = k i; local = found i; local_rules = m i }
+    λ i. record { under_key = a i; cases = (n i).cases; label_taken = (n i).label_taken; case = e i; row_stands = (n i).row_stands; calendar = none i; next_row = (n i).next_row; local = found i; local_rules = (n i).local_rules }

@@ -55,6 +55,20 @@ IsDecided court h c decision =
 abbrev pub IsAccepted : CourtSettings → History → Command → Changes → Type 0
 IsAccepted court h c changes = IsDecided court h c (Change changes)
 
+-- what is done with a command by what the docket shows about it: a sound docket shows what a decision goes by
+abbrev pub Decides : CourtSettings → History → Command → Result Decision Fault → Type 0
+Decides court h c (Ok decision) = IsDecided court h c decision
+Decides court h c (Err (Refused r)) = outcome court h c ≡ refused r
+Decides court h c (Err NoMemory) = Unit {0}
+Decides court h c (Err _) = ⊥
+
+-- the database did not fail
+abbrev pub IsNoFailure : Fault → Type 0
+IsNoFailure (Refused r) = Unit {0}
+IsNoFailure NoMemory = Unit {0}
+IsNoFailure Damaged = Unit {0}
+IsNoFailure _ = ⊥
+
 module _ {S : Type 0} (g : Ghosts S) where
   -- the connection holds the rows of the docket, and so does each database that a power failure may leave
   abbrev pub StandsFor : Held S → CourtSettings → History → Type 0

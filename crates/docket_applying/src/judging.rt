@@ -1,5 +1,5 @@
 //! What is done with a command, by the docket that the tables hold.
-ghost use Rattle.std.specs.Prelude.{◌≡◌, [], false, if◌then◌else◌, IfOk};
+ghost use Rattle.std.specs.Prelude.{◌≡◌, [], false, if◌then◌else◌, IfErr, IfOk, Some};
 ghost use Rattle.sqlite.specs.Held.{state};
 ghost use Rattle.sqlite.specs.State.{HasCleanDisk};
 ghost use Rattle.court_days.specs.Court.{CourtSettings};
@@ -14,7 +14,7 @@ ghost use Rattle.docket_tables.specs.Readings.{Gives};
 ghost use Rattle.docket_tables.specs.Stands.{HoldsRows};
 ghost use Rattle.docket_applying.specs.Asking.{LeavesIdle};
 ghost use Rattle.docket_applying.specs.AnyRows.{RepeatsReceipt, ShowsReceipt};
-ghost use Rattle.docket_applying.specs.Applying.{IsDocket, StandsFor, Keeps, Stands, Shows, Judges, docket_rows};
+ghost use Rattle.docket_applying.specs.Applying.{Decides, IsDocket, IsNoFailure, StandsFor, Keeps, Stands, Shows, Judges, docket_rows};
 ghost use Rattle.docket_applying.specs.Dockets.{serving};
 
 use crate::fault::{Fault, read_fault};
@@ -27,6 +27,7 @@ use docket_history::{StandingCalendar, View, asks_calendar};
 use docket_tables::ReadFault;
 use sqlite::{Alter, Connection, Error};
 use std::alloc::Global;
+use std::mem;
 
 /// The calendar that the tables hold, which is tested and built once.
 fn read_calendar<S: Alter>(
@@ -95,8 +96,10 @@ fn shown<S: Alter>(
         → Gives S.Store conn.new (docket_rows court h) (λ view. view ≡ shown court h command.now) result }
     ensures receipt { (rows : Rows) → HoldsRows S.Store conn.old rows → HasCleanDisk (state S.Store conn.new) → IfOk result (ShowsReceipt rows command.now) }
 {
+    let mut view = view(conn, alloc, command, body)?;
     let calendar = calendar_asked(conn, alloc, kept, &command.action)?;
-    view(conn, alloc, command, body, calendar)
+    view.calendar = calendar;
+    Ok(view)
 }
 
 /// What the docket shows about the command.
@@ -122,6 +125,41 @@ fn look<S: Alter>(
     }
 }
 
+/// Keeps the calendar of the view again, where the action asked for it.
+fn keep_asked(alloc: Global, kept: &mut Option<StandingCalendar>, view: &mut View, action: &Action)
+    ensures { kept.new ≡ (if asks_calendar action.now then Some view.old.calendar else kept.old) }
+{
+    if asks_calendar(action) {
+        *kept = Some(mem::replace(&mut view.calendar, StandingCalendar::empty(alloc)));
+    }
+}
+
+/// What is done with the command, by what the docket shows about it. The calendar of the view is kept again,
+/// where the action asked for it.
+fn decide_by(
+    alloc: Global,
+    court: &Court,
+    kept: &mut Option<StandingCalendar>,
+    view: &mut View,
+    command: &Command,
+) -> Result<Decision, Fault>
+    ensures kept { (h : History) → view.old ≡ shown court.now h command.now → Keeps kept.old h → Keeps kept.new h }
+    ensures decided { (h : History) → IsDocket court.now h → view.old ≡ shown court.now h command.now → Decides court.now h command.now result }
+    ensures repeats { (rows : Rows) → ShowsReceipt rows command.now view.old → IfOk result (RepeatsReceipt rows command.now) }
+    ensures fault { IfErr result IsNoFailure }
+{
+    if !is_sound(court, view) {
+        return Err(Fault::Damaged);
+    }
+    let decided = decide(alloc, view, court, command);
+    keep_asked(alloc, kept, view, &command.action);
+    match decided {
+        Ok(decision) => Ok(decision),
+        Err(DecideFault::Refused(refusal)) => Err(Fault::Refused(refusal)),
+        Err(DecideFault::NoMemory) => Err(Fault::NoMemory),
+    }
+}
+
 /// What is done with the command. Nothing is written yet.
 pub(crate) fn judge<S: Alter>(
     conn: &mut Connection<S>,
@@ -141,17 +179,6 @@ pub(crate) fn judge<S: Alter>(
     ensures repeats { (rows : Rows) → HoldsRows S.Store conn.old rows → HasCleanDisk (state S.Store conn.new)
         → IfOk result (RepeatsReceipt rows command.now) }
 {
-    let view = look(conn, alloc, kept, command, body, failure)?;
-    if !is_sound(court, &view) {
-        return Err(Fault::Damaged);
-    }
-    let decided = decide(alloc, &view, court, command);
-    if asks_calendar(&command.action) {
-        *kept = Some(view.calendar);
-    }
-    match decided {
-        Ok(decision) => Ok(decision),
-        Err(DecideFault::Refused(refusal)) => Err(Fault::Refused(refusal)),
-        Err(DecideFault::NoMemory) => Err(Fault::NoMemory),
-    }
+    let mut view = look(conn, alloc, kept, command, body, failure)?;
+    decide_by(alloc, court, kept, &mut view, command)
 }

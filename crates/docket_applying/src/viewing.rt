@@ -1,5 +1,5 @@
 //! What a docket's tables show about a command.
-ghost use Rattle.std.specs.Prelude.{◌≡◌, length, false, ◌&&◌, nat_le, IfOk};
+ghost use Rattle.std.specs.Prelude.{◌≡◌, [], length, false, ◌&&◌, nat_le, IfOk};
 ghost use Rattle.std.specs.Option.{option_and_then, option_map};
 ghost use Rattle.sqlite.specs.Held.{state};
 ghost use Rattle.sqlite.specs.State.{HasCleanDisk};
@@ -309,40 +309,73 @@ pub(crate) fn case_deadlines<S: Alter>(
     Ok(Some(deadline_views(conn, alloc, number)?))
 }
 
-/// What a docket's tables show about a command, beside the calendar, which the caller gives. `body` is
-/// the canonical text of the command.
+/// The numbers and truth values that a view has, beside those of its case.
+#[derive(Clone, Copy)]
+struct NumbersShown {
+    cases: u32,
+    label_taken: bool,
+    row_stands: bool,
+    next_row: u64,
+    local_rules: u32,
+}
+
+fn numbers_shown<S: Alter>(
+    conn: &mut Connection<S>,
+    alloc: Global,
+    action: &Action,
+) -> Result<NumbersShown, ReadFault>
+    ensures read { Reads S.Store conn.old conn.new result (λ _ t found. found ≡ record {
+      cases = if_asked (asks_cases action.now) (length t.cases);
+      label_taken = is_label_taken action.now t.cases;
+      row_stands = is_row_standing action.now t.calendar;
+      next_row = if_asked (asks_next_row action.now) t.next_row;
+      local_rules = if_asked (asks_local_rules action.now) (length t.local_rules);
+    }) }
+    ensures only { OnlyAsks S.Store conn.old conn.new result }
+{
+    let cases = cases_if_asked(conn, action)?;
+    let label_taken = is_asked_label_taken(conn, action)?;
+    let row_stands = is_asked_row_standing(conn, action)?;
+    let next_row = next_row_if_asked(conn, alloc, action)?;
+    let local_rules = local_rules_if_asked(conn, action)?;
+    Ok(NumbersShown {
+        cases,
+        label_taken,
+        row_stands,
+        next_row,
+        local_rules,
+    })
+}
+
+/// What a docket's tables show about a command, with no calendar yet. `body` is the canonical text of the
+/// command.
 pub(crate) fn view<S: Alter>(
     conn: &mut Connection<S>,
     alloc: Global,
     command: &Command,
     body: &str,
-    calendar: StandingCalendar,
 ) -> Result<View, ReadFault>
     requires body { body.now ≡ canonical command.now }
     requires lawful { IsCommand command.now }
-    ensures read { Reads S.Store conn.old conn.new result (λ _ t found. found ≡ record (view_in t command.now) { calendar = calendar }) }
+    ensures read { Reads S.Store conn.old conn.new result (λ _ t found. found ≡ record (view_in t command.now) { calendar = [] }) }
     ensures kept { (rows : Rows) → HoldsRows S.Store conn.old rows → HasCleanDisk (state S.Store conn.new)
         → IfOk result (λ view. (reply : Reply) → view.under_key ≡ Same reply → HasReceipt command.now reply rows) }
     ensures only { OnlyAsks S.Store conn.old conn.new result }
 {
     let action = &command.action;
     let under_key = under_key(conn, command, body)?;
-    let cases = cases_if_asked(conn, action)?;
-    let label_taken = is_asked_label_taken(conn, action)?;
+    let numbers = numbers_shown(conn, alloc, action)?;
     let case = case_asked(conn, alloc, action)?;
-    let row_stands = is_asked_row_standing(conn, action)?;
-    let next_row = next_row_if_asked(conn, alloc, action)?;
     let local = local_rule_asked(conn, alloc, &case, action)?;
-    let local_rules = local_rules_if_asked(conn, action)?;
     Ok(View {
         under_key,
-        cases,
-        label_taken,
+        cases: numbers.cases,
+        label_taken: numbers.label_taken,
         case,
-        row_stands,
-        calendar,
-        next_row,
+        row_stands: numbers.row_stands,
+        calendar: StandingCalendar::empty(alloc),
+        next_row: numbers.next_row,
         local,
-        local_rules,
+        local_rules: numbers.local_rules,
     })
 }

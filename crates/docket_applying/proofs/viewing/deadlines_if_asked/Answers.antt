@@ -3,7 +3,7 @@ use Rattle.docket_history.specs.Actions.{asks_deadlines, if_asked}
 use Rattle.docket_history.specs.Histories.{deadlines_of_case}
 use Rattle.docket_tables.specs.Contents.{rows_in}
 use Rattle.docket_tables.proofs.ReadLemmas.{gives_weaker}
-use Rattle.docket_tables.proofs.AskLemmas.{asked, unasked}
+use Rattle.docket_tables.proofs.AskLemmas.{unasked}
 use Rattle.docket_applying.proofs.viewing.deadlines_if_asked.Goals as goal
 
 pub returns-then-not-asks_deadlines-clause-read : goal.returns-then-not-asks_deadlines-clause-read

@@ -2,7 +2,7 @@ use Rattle.std.proofs.Common.{◌≡◌, ◌∙◌, false, true, length, ap, sym
 use Rattle.docket_history.specs.Actions.{asks_local_rules, if_asked}
 use Rattle.docket_tables.specs.Contents.{rows_in}
 use Rattle.docket_tables.proofs.ReadLemmas.{gives_weaker}
-use Rattle.docket_tables.proofs.AskLemmas.{asked, unasked}
+use Rattle.docket_tables.proofs.AskLemmas.{unasked}
 use Rattle.docket_applying.proofs.viewing.local_rules_if_asked.Goals as goal
 
 pub returns-then-not-asks_local_rules-clause-read : goal.returns-then-not-asks_local_rules-clause-read
