@@ -1,5 +1,6 @@
 -- What a SELECT means under any schema: a query with no parameters, or nothing at all.
-use Rattle.std.proofs.Common.{◌≡◌, ◌∙◌, ◌≤◌, ◌+◌, ℕ, nat_le, Bool, List, [], length, Ok, Err, Option, None, true, false, refl, sym, subst, if◌then◌else◌, arith}
+use Rattle.std.proofs.Common.{◌≡◌, ◌∙◌, ◌≤◌, ◌+◌, ℕ, nat_le, Bool, ◌&&◌, List, [], ◌∷◌, length, Ok, Err, Option, None, true, false, refl, sym, subst, if◌then◌else◌, arith}
+use Rattle.std.proofs.lemmas.Bool.{false≢true, and_parts}
 use Rattle.std.proofs.lemmas.Bool.Decides.{nat_tests}
 use Rattle.sqlite_ast.specs.declared.Select.{Select}
 use Rattle.sqlite_ast.specs.declared.Statement.{Statement}
@@ -27,21 +28,60 @@ abbrev is_select_statement : Statement → Bool
 is_select_statement (written.Select s) = true
 is_select_statement _ = false
 
--- the text is one query, with no parameters, which does not read the time
-abbrev pub IsQueryText : List ℕ → Checked Parsed → Type 0
-IsQueryText sql (Ok p) = (is_select_statement p.statement ≡ true) × (p.names ≡ []) × (p.formats ≡ []) × (nat_le (length sql) p.tail ≡ true)
+-- what a text comes to on the listing of the schema
+abbrev on_listing : Parsed → Checked Compiled
+on_listing p = if_select (and_then (planned listing_schema p) (λ plan. Ok (with_command p plan)))
+
+-- the text is one query, with no parameters, which does not read the time, and is none on the listing of the schema
+abbrev IsQueryText : List ℕ → Checked Parsed → Type 0
+IsQueryText sql (Ok p) = (is_select_statement p.statement ≡ true) × (p.names ≡ []) × (p.formats ≡ []) × (nat_le (length sql) p.tail ≡ true) × (on_listing p ≡ Err NoSuchTable)
 IsQueryText sql (Err e) = ⊥
 
-pub text_is_query : (t : Table) → IsQueryText (scan_text t) (first (scan_text t))
-unfolding everything
-text_is_query table.Court = (refl, refl, refl, refl)
-text_is_query t = (refl, refl, refl, refl)
+-- the same as one test, so that each text is parsed once
+abbrev is_nil : List (List ℕ) → Bool
+is_nil [] = true
+is_nil (x ∷ xs) = false
 
--- nor is it one on the listing of the schema
-pub text_lists_nothing : (t : Table) → if_select (compiled listing_schema (scan_text t)) ≡ Err NoSuchTable
+abbrev is_missing : Checked Compiled → Bool
+is_missing (Err NoSuchTable) = true
+is_missing _ = false
+
+abbrev is_query_text : List ℕ → Checked Parsed → Bool
+is_query_text sql (Ok p) = is_select_statement p.statement && (is_nil p.names && (is_nil p.formats && (nat_le (length sql) p.tail && is_missing (on_listing p))))
+is_query_text sql (Err e) = false
+
+nil_from_test : (xs : List (List ℕ)) → is_nil xs ≡ true → xs ≡ []
+nil_from_test [] is = refl
+nil_from_test (x ∷ xs) is = absurd (false≢true is)
+
+missing_from_test : (r : Checked Compiled) → is_missing r ≡ true → r ≡ Err NoSuchTable
+missing_from_test (Err NoSuchTable) is = refl
+missing_from_test _ is = absurd (false≢true is)
+
+query_text_from_test : (sql : List ℕ) (r : Checked Parsed) → is_query_text sql r ≡ true → IsQueryText sql r
+query_text_from_test sql (Ok p) is =
+    let a = and_parts _ _ is in
+    let b = and_parts _ _ a.1 in
+    let c = and_parts _ _ b.1 in
+    let d = and_parts _ _ c.1 in
+    (a.0, nil_from_test p.names b.0, nil_from_test p.formats c.0, d.0, missing_from_test (on_listing p) d.1)
+query_text_from_test sql (Err e) is = absurd (false≢true is)
+
+text_passes : (t : Table) → is_query_text (scan_text t) (first (scan_text t)) ≡ true
 unfolding everything listing_schema
-text_lists_nothing table.Court = refl
-text_lists_nothing t = refl
+text_passes table.Court = refl
+text_passes t = refl
+
+text_is_query : (t : Table) → IsQueryText (scan_text t) (first (scan_text t))
+text_is_query t = query_text_from_test (scan_text t) (first (scan_text t)) (text_passes t)
+
+text_lists_nothing : (t : Table) → if_select (compiled listing_schema (scan_text t)) ≡ Err NoSuchTable
+unfolding compiled
+text_lists_nothing t = at (first (scan_text t)) (text_is_query t)
+  where
+    at : (r : Checked Parsed) → IsQueryText (scan_text t) r → if_select (and_then r (λ p. and_then (planned listing_schema p) (λ plan. Ok (with_command p plan)))) ≡ Err NoSuchTable
+    at (Ok p) is = is.4
+    at (Err e) is = absurd is
 
 -- what such a text comes to under a schema that understands it: a query that writes nothing
 pub record IsPlainQuery (sql : List ℕ) (c : Compiled) : Type 0 where

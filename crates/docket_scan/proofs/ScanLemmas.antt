@@ -1,5 +1,6 @@
 -- What the statement of a table does to any database: it shows rows, or is refused.
-use Rattle.std.proofs.Common.{◌≡◌, ◌⊎◌, inl, inr, ℕ, List, [], ◌∷◌, ◌++◌, true, false, IsTrue, IsSome, Some, None, Option, Ok, Err, Result, IsErrAnd, refl, sym, ap, subst, subst₂, ◌∙◌}
+use Rattle.std.proofs.Common.{◌≡◌, ◌⊎◌, inl, inr, ℕ, List, [], ◌∷◌, ◌++◌, true, false, IsTrue, IsSome, Some, None, Option, Ok, Err, Result, IsErrAnd, refl, sym, ap, subst, subst₂, ◌∙◌, arith}
+use Rattle.std.proofs.lemmas.Bool.{false≢true}
 use Rattle.std.proofs.lemmas.List.{append_assoc}
 use Rattle.sqlite.specs.Order.{Row}
 use Rattle.sqlite.specs.Store.{Ghosts}
@@ -12,12 +13,14 @@ use Rattle.sqlite_resolve.specs.declared.compiled.Compiled.{Compiled}
 use Rattle.sqlite_resolve.specs.declared.error.CompileError.{CompileError}
 use Rattle.sqlite.specs.Held.{Held, state}
 use Rattle.sqlite.specs.Listing.{understood, reads_listing, IsSourceOf}
-use Rattle.sqlite.specs.State.{State, Survives, IsUnchanged, Shown, ShowsRows, Begins, CommitsShowing, FailsToQuery, FailsToShow, IsNotRun, IsNoStatement, store_error}
+use Rattle.sqlite.specs.State.{State, HasCleanDisk, Survives, IsUnchanged, Shown, ShowsRows, Begins, CommitsShowing, FailsToQuery, FailsToShow, IsNotRun, IsNoStatement, store_error}
 use Rattle.sqlite.specs.Given.{Returns, HasGiven, HasBegun}
 use Rattle.sqlite.specs.declared.error.Error.{Error}
+use Rattle.sqlite.specs.declared.error.Error.TheVariants.{SqliteFailure}
+use Rattle.sqlite.specs.declared.error.ErrorCode.TheVariants.{OutOfMemory}
 use Rattle.sqlite_trees.specs.declared.error.StoreError.{StoreError}
 use Rattle.sqlite_trees.specs.declared.error.StoreError.TheVariants as store
-use Rattle.sqlite.proofs.StateLemmas.{survives_weaker}
+use Rattle.sqlite.proofs.StateLemmas.{survives_then, survives_weaker}
 use Rattle.sqlite.proofs.Callers.{unchanged_then}
 use Rattle.docket_scan.specs.Scans.{IsUnderstood, AreRowsOf, AreFirstRowsOf, IsUnreadable, is_refusal, FailsToScan, Scanned, StaysOrRollsBack}
 use Rattle.docket_tables.specs.Texts.{scan_text}
@@ -38,6 +41,14 @@ stays_then first old new same (inr undone) = inr (record {
 no_some : {X : Type 0} (o : Option X) → o ≡ None → IsSome o → ⊥
 no_some None none some = absurd (let e = some in cc)
 no_some (Some x) none some = absurd cc
+
+-- a disk that is clean was clean
+pub clean_before : {old new : State} → Survives old new (λ _. ⊥) → HasCleanDisk new → HasCleanDisk old
+clean_before kept clean = omega (arith, kept.clean)
+
+-- what wrote nothing, and then writes nothing
+pub writes_nothing_then : {first old new : State} → Survives first old (λ _. ⊥) → Survives old new (λ _. ⊥) → Survives first new (λ _. ⊥)
+writes_nothing_then {first} {old} {new} = survives_then first old new _ _ _ (λ clean db none. none) (λ clean db none. none)
 
 module _ (t : Table) where
   pub never_commits : (s : State) (db : Trees) → CommitsShowing (scan_text t) [] s db → ⊥
@@ -141,6 +152,10 @@ module _ (t : Table) where
 pub err_scanned : (t : Table) (old new : State) (HasTaken IsSound : List Row → Type 0) (r : Result (Option ℕ) Error) (e : Error) → IsErrAnd r (λ f. f ≡ e) → FailsToScan t old new e → Scanned t old new HasTaken IsSound r
 err_scanned t old new HasTaken IsSound (Ok count) e same fails = absurd same
 err_scanned t old new HasTaken IsSound (Err f) e same fails = subst (FailsToScan t old new) (sym same) fails
+
+-- a want of memory is no refusal
+pub memory_fails : (t : Table) (old new : State) → IsUnchanged old new → FailsToScan t old new (SqliteFailure OutOfMemory)
+memory_fails t old new same = (inl same, λ refusal. absurd (false≢true refusal))
 
 -- what was scanned holds of the same connection by another name
 pub scanned_still : {S : Type 0} (g : Ghosts S) (t : Table) (first : State) (last end : Held S) (HasTaken IsSound : List Row → Type 0) (r : Result (Option ℕ) Error)

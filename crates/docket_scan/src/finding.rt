@@ -117,7 +117,7 @@ pub fn find_docket<S: Alter, W: Watch>(
 {
     let row = read_court(conn, alloc, version, watch)?;
     let judged = court_in(alloc, &row)?;
-    let court = court_in(alloc, &row)?;
     let held = judge_tables(conn, alloc, version, judged, row.next_row, watch)?;
+    let court = court_in(alloc, &row)?;
     Ok(FoundDocket { court, held })
 }

@@ -129,80 +129,85 @@ fn judge_calendar<S: Alter, W: Watch>(
 fn judge_cases<S: Alter, W: Watch>(
     conn: &mut Connection<S>,
     alloc: Global,
-    read: TablesRead,
+    read: &mut TablesRead,
     watch: &mut W,
-) -> Result<TablesRead, AdoptFault>
+) -> Result<(), AdoptFault>
     ensures writes_nothing { Survives (state S.Store conn.old) (state S.Store conn.new) (λ _. ⊥) }
     ensures mode { conn.old.in_transaction ≡ false → conn.new.in_transaction ≡ false }
     ensures cause { HasCleanDisk (state S.Store conn.new) → IfErr result (IsCausedFault (state S.Store conn.old) (state S.Store conn.new)) }
-    ensures ok { (version : Version) (first : Held S) (court : CourtSettings) (next : ℕ) → ReadBefore version table.Cases (state S.Store first) court next (state S.Store conn.old) read
-        → IfOk result (λ now. ReadBefore version table.Parties (state S.Store first) court next (state S.Store conn.new) now) }
-    ensures err { (version : Version) (first : Held S) (court : CourtSettings) (next : ℕ) → ReadBefore version table.Cases (state S.Store first) court next (state S.Store conn.old) read
+    ensures ok { (version : Version) (first : Held S) (court : CourtSettings) (next : ℕ) → ReadBefore version table.Cases (state S.Store first) court next (state S.Store conn.old) read.old
+        → IfOk result (λ _. ReadBefore version table.Parties (state S.Store first) court next (state S.Store conn.new) read.new) }
+    ensures err { (version : Version) (first : Held S) (court : CourtSettings) (next : ℕ) → ReadBefore version table.Cases (state S.Store first) court next (state S.Store conn.old) read.old
         → IfErr result (FailsOver version (state S.Store first) court next (state S.Store conn.new)) }
 {
     let check = CaseCheck::new(alloc);
     let (check, count) = judge_table(conn, alloc, Table::Cases, check, watch)?;
-    let held = Holdings {
-        cases: count,
-        ..read.held
-    };
-    Ok(TablesRead {
-        cases: check.cases(),
-        held,
-        ..read
-    })
+    read.cases = check.cases();
+    read.held.cases = count;
+    Ok(())
 }
 
 /// Judges the table of parties.
 fn judge_parties<S: Alter, W: Watch>(
     conn: &mut Connection<S>,
     alloc: Global,
-    read: TablesRead,
+    read: &mut TablesRead,
     watch: &mut W,
-) -> Result<TablesRead, AdoptFault>
+) -> Result<(), AdoptFault>
     ensures writes_nothing { Survives (state S.Store conn.old) (state S.Store conn.new) (λ _. ⊥) }
     ensures mode { conn.old.in_transaction ≡ false → conn.new.in_transaction ≡ false }
     ensures cause { HasCleanDisk (state S.Store conn.new) → IfErr result (IsCausedFault (state S.Store conn.old) (state S.Store conn.new)) }
-    ensures ok { (version : Version) (first : Held S) (court : CourtSettings) (next : ℕ) → ReadBefore version table.Parties (state S.Store first) court next (state S.Store conn.old) read
-        → IfOk result (λ now. ReadBefore version table.Entries (state S.Store first) court next (state S.Store conn.new) now) }
-    ensures err { (version : Version) (first : Held S) (court : CourtSettings) (next : ℕ) → ReadBefore version table.Parties (state S.Store first) court next (state S.Store conn.old) read
+    ensures ok { (version : Version) (first : Held S) (court : CourtSettings) (next : ℕ) → ReadBefore version table.Parties (state S.Store first) court next (state S.Store conn.old) read.old
+        → IfOk result (λ _. ReadBefore version table.Entries (state S.Store first) court next (state S.Store conn.new) read.new) }
+    ensures err { (version : Version) (first : Held S) (court : CourtSettings) (next : ℕ) → ReadBefore version table.Parties (state S.Store first) court next (state S.Store conn.old) read.old
         → IfErr result (FailsOver version (state S.Store first) court next (state S.Store conn.new)) }
 {
     let check = PartyCheck::new(alloc, read.cases)?;
     let (check, count) = judge_table(conn, alloc, Table::Parties, check, watch)?;
-    let held = Holdings {
-        parties: count,
-        ..read.held
-    };
-    Ok(TablesRead {
-        parties: check.counts(),
-        held,
-        ..read
-    })
+    read.parties = check.counts();
+    read.held.parties = count;
+    Ok(())
 }
 
 /// Judges the table of entries.
 fn judge_entries<S: Alter, W: Watch>(
     conn: &mut Connection<S>,
     alloc: Global,
-    read: TablesRead,
+    read: &mut TablesRead,
     watch: &mut W,
-) -> Result<TablesRead, AdoptFault>
+) -> Result<(), AdoptFault>
     ensures writes_nothing { Survives (state S.Store conn.old) (state S.Store conn.new) (λ _. ⊥) }
     ensures mode { conn.old.in_transaction ≡ false → conn.new.in_transaction ≡ false }
     ensures cause { HasCleanDisk (state S.Store conn.new) → IfErr result (IsCausedFault (state S.Store conn.old) (state S.Store conn.new)) }
-    ensures ok { (version : Version) (first : Held S) (court : CourtSettings) (next : ℕ) → ReadBefore version table.Entries (state S.Store first) court next (state S.Store conn.old) read
-        → IfOk result (λ now. ReadBefore version table.Deadlines (state S.Store first) court next (state S.Store conn.new) now) }
-    ensures err { (version : Version) (first : Held S) (court : CourtSettings) (next : ℕ) → ReadBefore version table.Entries (state S.Store first) court next (state S.Store conn.old) read
+    ensures ok { (version : Version) (first : Held S) (court : CourtSettings) (next : ℕ) → ReadBefore version table.Entries (state S.Store first) court next (state S.Store conn.old) read.old
+        → IfOk result (λ _. ReadBefore version table.Deadlines (state S.Store first) court next (state S.Store conn.new) read.new) }
+    ensures err { (version : Version) (first : Held S) (court : CourtSettings) (next : ℕ) → ReadBefore version table.Entries (state S.Store first) court next (state S.Store conn.old) read.old
         → IfErr result (FailsOver version (state S.Store first) court next (state S.Store conn.new)) }
 {
     let check = EntryCheck::new(alloc, read.cases)?;
     let (_, count) = judge_table(conn, alloc, Table::Entries, check, watch)?;
-    let held = Holdings {
-        entries: count,
-        ..read.held
-    };
-    Ok(TablesRead { held, ..read })
+    read.held.entries = count;
+    Ok(())
+}
+
+/// Judges the tables of cases, parties and entries.
+fn judge_before_deadlines<S: Alter, W: Watch>(
+    conn: &mut Connection<S>,
+    alloc: Global,
+    read: &mut TablesRead,
+    watch: &mut W,
+) -> Result<(), AdoptFault>
+    ensures writes_nothing { Survives (state S.Store conn.old) (state S.Store conn.new) (λ _. ⊥) }
+    ensures mode { conn.old.in_transaction ≡ false → conn.new.in_transaction ≡ false }
+    ensures cause { HasCleanDisk (state S.Store conn.new) → IfErr result (IsCausedFault (state S.Store conn.old) (state S.Store conn.new)) }
+    ensures ok { (version : Version) (first : Held S) (court : CourtSettings) (next : ℕ) → ReadBefore version table.Cases (state S.Store first) court next (state S.Store conn.old) read.old
+        → IfOk result (λ _. ReadBefore version table.Deadlines (state S.Store first) court next (state S.Store conn.new) read.new) }
+    ensures err { (version : Version) (first : Held S) (court : CourtSettings) (next : ℕ) → ReadBefore version table.Cases (state S.Store first) court next (state S.Store conn.old) read.old
+        → IfErr result (FailsOver version (state S.Store first) court next (state S.Store conn.new)) }
+{
+    judge_cases(conn, alloc, read, watch)?;
+    judge_parties(conn, alloc, read, watch)?;
+    judge_entries(conn, alloc, read, watch)
 }
 
 /// Judges the table of deadlines.
@@ -242,6 +247,25 @@ fn judge_deadlines<S: Alter, W: Watch>(
             ..held
         },
     })
+}
+
+/// Judges the tables of cases, parties, entries and deadlines.
+fn judge_through_deadlines<S: Alter, W: Watch>(
+    conn: &mut Connection<S>,
+    alloc: Global,
+    mut read: TablesRead,
+    watch: &mut W,
+) -> Result<ActsRead, AdoptFault>
+    ensures writes_nothing { Survives (state S.Store conn.old) (state S.Store conn.new) (λ _. ⊥) }
+    ensures mode { conn.old.in_transaction ≡ false → conn.new.in_transaction ≡ false }
+    ensures cause { HasCleanDisk (state S.Store conn.new) → IfErr result (IsCausedFault (state S.Store conn.old) (state S.Store conn.new)) }
+    ensures ok { (version : Version) (first : Held S) (court : CourtSettings) (next : ℕ) → ReadBefore version table.Cases (state S.Store first) court next (state S.Store conn.old) read
+        → IfOk result (λ now. ActsBefore version (state S.Store first) court next (state S.Store conn.new) now) }
+    ensures err { (version : Version) (first : Held S) (court : CourtSettings) (next : ℕ) → ReadBefore version table.Cases (state S.Store first) court next (state S.Store conn.old) read
+        → IfErr result (FailsOver version (state S.Store first) court next (state S.Store conn.new)) }
+{
+    judge_before_deadlines(conn, alloc, &mut read, watch)?;
+    judge_deadlines(conn, alloc, read, watch)
 }
 
 /// The ends of the deadlines whose time runs, and how many deadlines stand where. `None`: the acts that
@@ -447,10 +471,7 @@ pub(crate) fn judge_tables<S: Alter, W: Watch>(
 {
     let names = read_names(conn, alloc, version, watch)?;
     let read = judge_calendar(conn, alloc, court, next_row, names, watch)?;
-    let read = judge_cases(conn, alloc, read, watch)?;
-    let read = judge_parties(conn, alloc, read, watch)?;
-    let read = judge_entries(conn, alloc, read, watch)?;
-    let acts = judge_deadlines(conn, alloc, read, watch)?;
+    let acts = judge_through_deadlines(conn, alloc, read, watch)?;
     let ends = judge_acts(conn, alloc, acts, watch)?;
     let ends = judge_receipts(conn, alloc, version, ends, watch)?;
     let last = judge_due(conn, alloc, ends, watch)?;

@@ -44,17 +44,17 @@ impl TablesRead {
             → IsReady court next days [] short_days → AreKnown names texts
             → IfOk result (λ read. Says court next (record no_rows { calendar = days; names = texts }) read) }
     {
+        let parties = Numbering::none(alloc)?;
+        let mut held = Holdings::none();
+        held.calendar_rows = rows;
         Ok(TablesRead {
             court,
             calendar,
             short_days,
             names,
             cases: 0,
-            parties: Numbering::none(alloc)?,
-            held: Holdings {
-                calendar_rows: rows,
-                ..Holdings::none()
-            },
+            parties,
+            held,
         })
     }
 }

@@ -1,7 +1,9 @@
 use Rattle.std.proofs.Common.{◌∙◌, inl, inr, Ok, sym, subst, arith}
 use Rattle.sqlite.specs.Held.{state}
 use Rattle.sqlite.specs.State.{HasCleanDisk}
+use Rattle.sqlite.proofs.Callers.{unchanged_then}
 use Rattle.docket_scan.specs.Causes.{IsCausedFault}
+use Rattle.docket_scan.specs.Finding.{ReadsCourt}
 use Rattle.docket_scan.proofs.CauseLemmas.{err_caused, fault_after}
 use Rattle.docket_scan.proofs.DocketCourt.{docket_found}
 use Rattle.docket_scan.proofs.FindingLemmas.{court_had, court_refused, judged_fault, judged_sound, not_taken}
@@ -47,6 +49,26 @@ returns-in_err-held-clause-docket g c clean =
     docket_found g.S.Store c.args.version c.args.conn.now (state g.S.Store c.judge_tables.new.conn) c.from_residual-in_err-held.result early
     (returns-in_err-held-clause-told g c clean)
 
+pub returns-in_err-court-clause-told : goal.returns-in_err-court-clause-told
+returns-in_err-court-clause-told g c clean =
+    let old = state g.S.Store c.args.conn.now in
+    let mid = state g.S.Store c.read_court.new.conn in
+    let new = state g.S.Store c.judge_tables.new.conn in
+    let between : HasCleanDisk mid = omega (arith, clean, c.judge_tables.ensures.writes_nothing.clean) in
+    let read = rw c.in_ok-row.was at (c.read_court.ensures.told between) in
+    let judged = rw c.in_ok-held.was at (c.judge_tables.ensures.told clean) in
+    let still : ReadsCourt c.args.version old new (Ok c.in_ok-row.row) = (unchanged_then old mid new read.0 judged.0, read.1, read.2, read.3, read.4) in
+    let fault = c.in_err-court.field-0.0 in
+    not_taken c.args.version old new c.from_residual-in_err-court.result fault c.from_residual-in_err-court.ensures.1
+    (court_refused c.args.version old new c.in_ok-row.row fault still c.in_err-court.ensures.err)
+
+pub returns-in_err-court-clause-docket : goal.returns-in_err-court-clause-docket
+returns-in_err-court-clause-docket g c clean =
+    let old = state g.S.Store c.args.conn.now in
+    let early : HasCleanDisk old = omega (arith, clean, c.judge_tables.ensures.writes_nothing.clean, c.read_court.ensures.writes_nothing.clean) in
+    docket_found g.S.Store c.args.version c.args.conn.now (state g.S.Store c.judge_tables.new.conn) c.from_residual-in_err-court.result early
+    (returns-in_err-court-clause-told g c clean)
+
 pub returns-clause-told : goal.returns-clause-told
 returns-clause-told g c clean =
     let old = state g.S.Store c.args.conn.now in
@@ -75,6 +97,15 @@ returns-in_err-judged-clause-cause g c clean =
     let old = state g.S.Store c.args.conn.now in
     let new = state g.S.Store c.read_court.new.conn in
     err_caused old new c.in_err-judged.field-0.0 c.from_residual-in_err-judged.result c.from_residual-in_err-judged.ensures.1 (elim c.in_err-judged.ensures.err [
+      | inl short ↦ subst (IsCausedFault old new) (sym short) tt
+      | inr unsound ↦ subst (IsCausedFault old new) (sym unsound.0) tt
+    ])
+
+pub returns-in_err-court-clause-cause : goal.returns-in_err-court-clause-cause
+returns-in_err-court-clause-cause g c clean =
+    let old = state g.S.Store c.args.conn.now in
+    let new = state g.S.Store c.judge_tables.new.conn in
+    err_caused old new c.in_err-court.field-0.0 c.from_residual-in_err-court.result c.from_residual-in_err-court.ensures.1 (elim c.in_err-court.ensures.err [
       | inl short ↦ subst (IsCausedFault old new) (sym short) tt
       | inr unsound ↦ subst (IsCausedFault old new) (sym unsound.0) tt
     ])

@@ -52,7 +52,7 @@ returns-clause-ok g c v first court next prior clean =
         short_days = was.said.short_days;
         unread = was.said.unread;
         names = was.said.names;
-        cases = c.cases.ensures read.records read.taken;
+        cases = c.cases-read.ensures read.records read.taken;
         parties = was.said.parties;
         held = λ i. record (was.said.held i) { cases = count i };
       };

@@ -10,8 +10,8 @@ returns c days texts next same counted ready known = record {
   unread = refl;
   names = known;
   cases = refl;
-  parties = parties_counted c.in_ok-none.field-0 [] c.in_ok-none.ensures;
-  held = λ i. record (c.none-2.ensures c.args.court i) { calendar_rows = (counted ∙ none_more (length days)) i };
+  parties = parties_counted c.in_ok-parties.parties [] c.in_ok-parties.ensures;
+  held = λ i. record (c.none-held.ensures c.args.court i) { calendar_rows = (counted ∙ none_more (length days)) i };
 }
   where
     none_more : (n : ℕ) → n ≡ n + 0
