@@ -1,11 +1,14 @@
 //! Going on where a run stopped, also one that a power failure stopped.
-ghost use Rattle.std.specs.Prelude.{IsTrue, IfErr, MatchResult};
+ghost use Rattle.std.specs.Prelude.{◌≡◌, ◌≤◌, IsTrue, IfErr, MatchResult};
 ghost use Rattle.sqlite_store.specs.declared.store.FileStore.{FileStore};
 ghost use Rattle.sqlite.specs.Files.{over_files, image_of};
+ghost use Rattle.sqlite.specs.Held.{state};
+ghost use Rattle.sqlite.specs.View.{doubt};
 ghost use Rattle.court_days.specs.Court.{CourtSettings};
 ghost use Rattle.docket_history.specs.Histories.{History};
 ghost use Rattle.docket_decisions.specs.Outcomes.{after};
-ghost use Rattle.docket_applying.specs.Applying.{IsDocket};
+ghost use Rattle.docket_applying.specs.Applying.{Applies, IsDocket, Stands, StandsFor, docket_rows};
+ghost use Rattle.docket_store.specs.Opening.{IsAdopted, IsNotAdopted};
 ghost use Rattle.docket_store.specs.Reopening.{GoesOn, IsEither, IsNotOpened, IsNotRecovered, LeavesEither, MayLeave};
 
 use crate::docket::Docket;
@@ -14,7 +17,7 @@ use crate::returned::Returned;
 use docket_applying::Fault;
 use docket_command::{Command, Reply};
 use docket_scan::AdoptFault;
-use sqlite::{Error, FileStore, Files, Leftover, Options};
+use sqlite::{Connection, Error, FileStore, Files, Leftover, Options};
 use sqlite_disk::Disk;
 use std::alloc::Global;
 
@@ -48,6 +51,33 @@ impl<D: Disk> From<Returned<FileStore<D>, AdoptFault>> for RecoverFault<D> {
     }
 }
 
+// What is generic over its store takes the prover long at the store of files, so each of the next two does
+// one such call and no more.
+
+/// Adopts the docket that files hold, as `Docket::adopt` does.
+fn adopt_files<D: Disk + Drop>(
+    alloc: Global,
+    conn: Connection<FileStore<D>>,
+) -> Result<Docket<FileStore<D>>, Returned<FileStore<D>, AdoptFault>>
+    ensures adopted { (court : CourtSettings) (h : History) → IsDocket court h → StandsFor over_files conn court h
+        → MatchResult result (λ docket. IsAdopted over_files docket court h)
+        (λ returned. IsNotAdopted over_files returned.connection (docket_rows court h) returned.fault) }
+{
+    Docket::adopt(alloc, conn)
+}
+
+/// Applies a command to a docket in files, as `Docket::apply` does.
+fn apply_in_files<D: Disk + Drop>(
+    docket: &mut Docket<FileStore<D>>,
+    command: &Command,
+) -> Result<Reply, Fault>
+    ensures court { docket.new.court ≡ docket.old.court }
+    ensures answer { (h : History) → Stands over_files docket.old h → Applies over_files docket.new h command.now result }
+    ensures clean { doubt (state over_files docket.old.conn).is_clean ≤ doubt (state over_files docket.new.conn).is_clean }
+{
+    docket.apply(command)
+}
+
 /// Opens the database file and its log, whatever a run left in them, and adopts their docket. Where a
 /// power failure stopped the run at a command, it is the docket without the command or with it. Files
 /// that are not opened hold what they held, and a docket that is not adopted stays.
@@ -64,7 +94,7 @@ pub fn recover<D: Disk + Drop>(
     ensures opened { IfErr result (IsNotOpened files) }
 {
     let conn = reopen(alloc, files, options)?;
-    let docket = Docket::adopt(alloc, conn)?;
+    let docket = adopt_files(alloc, conn)?;
     Ok(docket)
 }
 
@@ -84,6 +114,6 @@ pub fn apply_again<D: Disk + Drop>(
     ensures opened { IfErr result (IsNotOpened files) }
 {
     let mut docket = recover(alloc, files, options)?;
-    let answer = docket.apply(command);
+    let answer = apply_in_files(&mut docket, command);
     Ok((docket, answer))
 }

@@ -1,8 +1,7 @@
 //! Questions to the docket of a database. Nothing is changed.
-ghost use Rattle.std.specs.Prelude.{◌≡◌, ◌≤◌, IfErr, string_bytes};
+ghost use Rattle.std.specs.Prelude.{◌≡◌, ◌≤◌, string_bytes};
 ghost use Rattle.std.specs.Option.{option_map};
 ghost use Rattle.sqlite.specs.Held.{state};
-ghost use Rattle.sqlite.specs.State.{HasCleanDisk};
 ghost use Rattle.sqlite.specs.View.{doubt};
 ghost use Rattle.docket_history.specs.Histories.{History, local_rule_rows, standing_rows};
 ghost use Rattle.docket_tables.specs.Layouts.{Rows};
@@ -10,17 +9,14 @@ ghost use Rattle.docket_tables.specs.Stands.{HoldsRows};
 ghost use Rattle.docket_text.specs.CourtCalendar.{court_calendar_text};
 ghost use Rattle.docket_text.specs.RuleTexts.{rules_text};
 ghost use Rattle.docket_applying.specs.AnyRows.{Preserves};
-ghost use Rattle.docket_applying.specs.Applying.{Asks, IsDocket, Stands, StandsFor};
-ghost use Rattle.docket_applying.specs.CourtDockets.{CourtDocket as Told};
-ghost use Rattle.file_dockets.specs.Keeping.{HoldsBetween};
-ghost use Rattle.file_dockets.specs.Works.{WorksTo};
-ghost use Rattle.file_questions.specs.Tells.{AnswersTo, ListsTo, text_of_case};
+ghost use Rattle.docket_applying.specs.Applying.{Asks, Stands};
+ghost use Rattle.file_questions.specs.Tells.{text_of_case};
 
+use crate::question::Question;
 use court_days::Day;
-use docket_store::{AdoptFault, CalendarEnd, Docket, Fault, Watch};
+use docket_store::{CalendarEnd, Docket, Fault, Holdings};
 use docket_text::{case_text, court_calendar_text, rules_text};
-use file_dockets::{Worked, adopt};
-use sqlite::{Alter, Connection};
+use sqlite::Alter;
 use std::alloc::Global;
 use std::io::Write;
 
@@ -73,99 +69,106 @@ fn text_of_court_calendar<S: Alter>(
     Ok(text)
 }
 
-/// Adopts the docket that a database holds, and tells the case of a number.
-pub(crate) fn case_over<S: Alter, V: Watch + Drop>(
-    alloc: Global,
-    conn: Connection<S>,
-    watch: V,
-    number: u32,
-) -> Worked<S, Result<Option<String>, Fault>, AdoptFault>
-    ensures told { (told : Told) → IsDocket told.court told.history → StandsFor S.Store conn told.court told.history
-        → HasCleanDisk (state S.Store result.connection)
-        → WorksTo (AnswersTo (λ text. option_map string_bytes text ≡ text_of_case told.court told.history number)) result.outcome }
-    ensures stays { (rows : Rows) → HoldsRows S.Store conn rows → HoldsBetween S.Store result.connection rows rows }
-{
-    let (mut docket, _) = match adopt(alloc, conn, watch) {
-        Ok(found) => found,
-        Err(returned) => return Worked::from(returned),
-    };
-    let answer = text_of_case(alloc, &mut docket, number);
-    Worked {
-        outcome: Ok(answer),
-        connection: docket.close(),
+/// The text of the case of a number.
+#[derive(Clone, Copy)]
+pub(crate) struct CaseText {
+    pub(crate) number: u32,
+}
+
+impl Question<()> for CaseText {
+    ghost use Rattle.std.specs.Prelude.{◌≡◌, string_bytes};
+    ghost use Rattle.std.specs.Option.{option_map};
+    ghost use Rattle.file_questions.specs.Tells.{AnswersTo, text_of_case};
+
+    type Answer = Result<Option<String>, Fault>;
+
+    ghost Tells = { λ asked court h _ _. AnswersTo (λ text. option_map string_bytes text ≡ text_of_case court h asked.number) };
+
+    fn ask<S: Alter>(
+        &self,
+        alloc: Global,
+        docket: &mut Docket<S>,
+        _held: Holdings,
+        _out: &mut (),
+    ) -> Result<Option<String>, Fault> {
+        text_of_case(alloc, docket, self.number)
     }
 }
 
-/// Adopts the docket that a database holds, and tells the rules by which its deadlines run.
-pub(crate) fn rules_over<S: Alter, V: Watch + Drop>(
-    alloc: Global,
-    conn: Connection<S>,
-    watch: V,
-) -> Worked<S, Result<String, Fault>, AdoptFault>
-    ensures told { (told : Told) → IsDocket told.court told.history → StandsFor S.Store conn told.court told.history
-        → HasCleanDisk (state S.Store result.connection)
-        → WorksTo (AnswersTo (λ text. string_bytes text ≡ rules_text (local_rule_rows told.history))) result.outcome }
-    ensures stays { (rows : Rows) → HoldsRows S.Store conn rows → HoldsBetween S.Store result.connection rows rows }
-{
-    let (mut docket, _) = match adopt(alloc, conn, watch) {
-        Ok(found) => found,
-        Err(returned) => return Worked::from(returned),
-    };
-    let answer = text_of_rules(alloc, &mut docket);
-    Worked {
-        outcome: Ok(answer),
-        connection: docket.close(),
+/// The rules by which the deadlines of a docket run.
+#[derive(Clone, Copy)]
+pub(crate) struct RulesText;
+
+impl Question<()> for RulesText {
+    ghost use Rattle.std.specs.Prelude.{◌≡◌, string_bytes};
+    ghost use Rattle.docket_history.specs.Histories.{local_rule_rows};
+    ghost use Rattle.docket_text.specs.RuleTexts.{rules_text};
+    ghost use Rattle.file_questions.specs.Tells.{AnswersTo};
+
+    type Answer = Result<String, Fault>;
+
+    ghost Tells = { λ _ _ h _ _. AnswersTo (λ text. string_bytes text ≡ rules_text (local_rule_rows h)) };
+
+    fn ask<S: Alter>(
+        &self,
+        alloc: Global,
+        docket: &mut Docket<S>,
+        _held: Holdings,
+        _out: &mut (),
+    ) -> Result<String, Fault> {
+        text_of_rules(alloc, docket)
     }
 }
 
-/// Adopts the docket that a database holds, and tells the court's calendar of the days from one to
-/// another, both included.
-pub(crate) fn court_calendar_over<S: Alter, V: Watch + Drop>(
-    alloc: Global,
-    conn: Connection<S>,
-    watch: V,
-    from: Day,
-    to: Day,
-) -> Worked<S, Result<String, Fault>, AdoptFault>
-    ensures told { (told : Told) → IsDocket told.court told.history → StandsFor S.Store conn told.court told.history
-        → HasCleanDisk (state S.Store result.connection)
-        → WorksTo (AnswersTo (λ text. string_bytes text ≡ court_calendar_text told.court (standing_rows told.history) from to)) result.outcome }
-    ensures stays { (rows : Rows) → HoldsRows S.Store conn rows → HoldsBetween S.Store result.connection rows rows }
-{
-    let (mut docket, _) = match adopt(alloc, conn, watch) {
-        Ok(found) => found,
-        Err(returned) => return Worked::from(returned),
-    };
-    let answer = text_of_court_calendar(alloc, &mut docket, from, to);
-    Worked {
-        outcome: Ok(answer),
-        connection: docket.close(),
+/// The court's calendar of the days from one to another, both included.
+#[derive(Clone, Copy)]
+pub(crate) struct CourtCalendarText {
+    pub(crate) from: Day,
+    pub(crate) to: Day,
+}
+
+impl Question<()> for CourtCalendarText {
+    ghost use Rattle.std.specs.Prelude.{◌≡◌, string_bytes};
+    ghost use Rattle.docket_history.specs.Histories.{standing_rows};
+    ghost use Rattle.docket_text.specs.CourtCalendar.{court_calendar_text};
+    ghost use Rattle.file_questions.specs.Tells.{AnswersTo};
+
+    type Answer = Result<String, Fault>;
+
+    ghost Tells = { λ asked court h _ _. AnswersTo (λ text. string_bytes text ≡ court_calendar_text court (standing_rows h) asked.from asked.to) };
+
+    fn ask<S: Alter>(
+        &self,
+        alloc: Global,
+        docket: &mut Docket<S>,
+        _held: Holdings,
+        _out: &mut (),
+    ) -> Result<String, Fault> {
+        text_of_court_calendar(alloc, docket, self.from, self.to)
     }
 }
 
-/// Adopts the docket that a database holds, and writes its calendar of the days from one to another, both
-/// included. Each line is written as it is read.
-pub(crate) fn calendar_over<S: Alter, V: Watch + Drop, W: Write>(
-    alloc: Global,
-    conn: Connection<S>,
-    watch: V,
-    from: Day,
-    to: Day,
-    writer: &mut W,
-) -> Worked<S, Result<u32, CalendarEnd>, AdoptFault>
-    ensures told { (told : Told) → IsDocket told.court told.history → StandsFor S.Store conn told.court told.history
-        → HasCleanDisk (state S.Store result.connection)
-        → WorksTo (ListsTo told.court told.history from to (W.contents writer.old) (W.contents writer.new)) result.outcome }
-    ensures stays { (rows : Rows) → HoldsRows S.Store conn rows → HoldsBetween S.Store result.connection rows rows }
-    ensures unwritten { IfErr result.outcome (λ _. writer.new ≡ writer.old) }
-{
-    let (mut docket, _) = match adopt(alloc, conn, watch) {
-        Ok(found) => found,
-        Err(returned) => return Worked::from(returned),
-    };
-    let end = docket.calendar(from, to, writer);
-    Worked {
-        outcome: Ok(end),
-        connection: docket.close(),
+/// The calendar of the days from one to another, both included. Each line is written as it is read.
+#[derive(Clone, Copy)]
+pub(crate) struct CalendarLines {
+    pub(crate) from: Day,
+    pub(crate) to: Day,
+}
+
+impl<W: Write> Question<W> for CalendarLines {
+    ghost use Rattle.file_questions.specs.Tells.{ListsTo};
+
+    type Answer = Result<u32, CalendarEnd>;
+
+    ghost Tells = { λ asked court h before after. ListsTo court h asked.from asked.to (W.contents before) (W.contents after) };
+
+    fn ask<S: Alter>(
+        &self,
+        _alloc: Global,
+        docket: &mut Docket<S>,
+        _held: Holdings,
+        out: &mut W,
+    ) -> Result<u32, CalendarEnd> {
+        docket.calendar(self.from, self.to, out)
     }
 }

@@ -1,20 +1,11 @@
 //! Judging the docket of a database, and telling what it holds.
-ghost use Rattle.sqlite.specs.Held.{state};
-ghost use Rattle.sqlite.specs.State.{HasCleanDisk};
-ghost use Rattle.docket_scan.specs.Dockets.{holdings_in};
-ghost use Rattle.docket_tables.specs.Layouts.{Rows};
-ghost use Rattle.docket_tables.specs.Stands.{HoldsRows};
-ghost use Rattle.docket_applying.specs.Applying.{IsDocket, StandsFor};
-ghost use Rattle.docket_applying.specs.CourtDockets.{CourtDocket as Told};
 ghost use Rattle.file_questions.specs.Checks.{IsSoundDocket};
-ghost use Rattle.file_dockets.specs.Keeping.{HoldsBetween};
-ghost use Rattle.file_dockets.specs.Works.{WorksTo};
 
+use crate::question::Question;
 use court_days::Court;
 use docket_command::TimeOfDay;
-use docket_store::{AdoptFault, Holdings, Watch};
-use file_dockets::{Worked, adopt};
-use sqlite::{Alter, Connection};
+use docket_store::{Docket, Holdings};
+use sqlite::Alter;
 use std::alloc::{AllocError, Global};
 
 /// A sound docket: the text of its court's zone, when the clerk's office closes, and what its tables hold.
@@ -35,24 +26,25 @@ fn sound_docket(alloc: Global, court: &Court, held: Holdings) -> Result<Sound, A
     })
 }
 
-/// Adopts the docket that a database holds, and so judges its tables, and tells what they hold.
-pub(crate) fn check_over<S: Alter, V: Watch + Drop>(
-    alloc: Global,
-    conn: Connection<S>,
-    watch: V,
-) -> Worked<S, Result<Sound, AllocError>, AdoptFault>
-    ensures told { (told : Told) → IsDocket told.court told.history → StandsFor S.Store conn told.court told.history
-        → HasCleanDisk (state S.Store result.connection)
-        → WorksTo (IsSoundDocket told.court (holdings_in told.court told.history)) result.outcome }
-    ensures stays { (rows : Rows) → HoldsRows S.Store conn rows → HoldsBetween S.Store result.connection rows rows }
-{
-    let (docket, held) = match adopt(alloc, conn, watch) {
-        Ok(found) => found,
-        Err(returned) => return Worked::from(returned),
-    };
-    let sound = sound_docket(alloc, docket.court(), held);
-    Worked {
-        outcome: Ok(sound),
-        connection: docket.close(),
+/// Whether the tables are sound, and what they hold. Adopting the docket has judged them.
+#[derive(Clone, Copy)]
+pub(crate) struct Judgment;
+
+impl Question<()> for Judgment {
+    ghost use Rattle.docket_scan.specs.Dockets.{holdings_in};
+    ghost use Rattle.file_questions.specs.Checks.{IsSoundDocket};
+
+    type Answer = Result<Sound, AllocError>;
+
+    ghost Tells = { λ _ court h _ _. IsSoundDocket court (holdings_in court h) };
+
+    fn ask<S: Alter>(
+        &self,
+        alloc: Global,
+        docket: &mut Docket<S>,
+        held: Holdings,
+        _out: &mut (),
+    ) -> Result<Sound, AllocError> {
+        sound_docket(alloc, docket.court(), held)
     }
 }

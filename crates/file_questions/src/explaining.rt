@@ -2,7 +2,6 @@
 ghost use Rattle.std.specs.Prelude.{◌≡◌, ◌≤◌, IfOk, string_bytes};
 ghost use Rattle.std.specs.Option.{option_map};
 ghost use Rattle.sqlite.specs.Held.{state};
-ghost use Rattle.sqlite.specs.State.{HasCleanDisk};
 ghost use Rattle.sqlite.specs.View.{doubt};
 ghost use Rattle.court_days.specs.Court.{zone_of};
 ghost use Rattle.court_rules.specs.Standings.{AreActs};
@@ -10,18 +9,15 @@ ghost use Rattle.docket_history.specs.Histories.{History};
 ghost use Rattle.docket_tables.specs.Layouts.{Rows};
 ghost use Rattle.docket_tables.specs.Stands.{HoldsRows};
 ghost use Rattle.docket_applying.specs.AnyRows.{Preserves};
-ghost use Rattle.docket_applying.specs.Applying.{Asks, IsDocket, Stands, StandsFor};
-ghost use Rattle.docket_applying.specs.CourtDockets.{CourtDocket as Told};
-ghost use Rattle.file_dockets.specs.Keeping.{HoldsBetween};
-ghost use Rattle.file_dockets.specs.Works.{WorksTo};
-ghost use Rattle.file_questions.specs.Tells.{AnswersTo, reasons_of, text_of_reasons};
+ghost use Rattle.docket_applying.specs.Applying.{Asks, Stands};
+ghost use Rattle.file_questions.specs.Tells.{reasons_of, text_of_reasons};
 
+use crate::question::Question;
 use court_days::Court;
 use court_reasons::reasons;
-use docket_store::{AdoptFault, Docket, Fault, Grounds, Watch};
-use file_dockets::{Worked, adopt};
+use docket_store::{Docket, Fault, Grounds, Holdings};
 use reason_lines::reasons_text;
-use sqlite::{Alter, Connection};
+use sqlite::Alter;
 use std::alloc::{AllocError, Global};
 
 /// The text of the steps by which a deadline's standing is found.
@@ -60,27 +56,29 @@ pub(crate) fn text_of_reasons<S: Alter>(
     Ok(Some(text))
 }
 
-/// Adopts the docket that a database holds, and tells why the deadline of a number, from 1, of a case is
-/// what it is.
-pub(crate) fn explain_over<S: Alter, V: Watch + Drop>(
-    alloc: Global,
-    conn: Connection<S>,
-    watch: V,
-    case: u32,
-    deadline: u32,
-) -> Worked<S, Result<Option<String>, Fault>, AdoptFault>
-    ensures told { (told : Told) → IsDocket told.court told.history → StandsFor S.Store conn told.court told.history
-        → HasCleanDisk (state S.Store result.connection)
-        → WorksTo (AnswersTo (λ text. option_map string_bytes text ≡ text_of_reasons told.court told.history case deadline)) result.outcome }
-    ensures stays { (rows : Rows) → HoldsRows S.Store conn rows → HoldsBetween S.Store result.connection rows rows }
-{
-    let (mut docket, _) = match adopt(alloc, conn, watch) {
-        Ok(found) => found,
-        Err(returned) => return Worked::from(returned),
-    };
-    let answer = text_of_reasons(alloc, &mut docket, case, deadline);
-    Worked {
-        outcome: Ok(answer),
-        connection: docket.close(),
+/// Why the deadline of a number, from 1, of a case is what it is.
+#[derive(Clone, Copy)]
+pub(crate) struct ReasonsText {
+    pub(crate) case: u32,
+    pub(crate) deadline: u32,
+}
+
+impl Question<()> for ReasonsText {
+    ghost use Rattle.std.specs.Prelude.{◌≡◌, string_bytes};
+    ghost use Rattle.std.specs.Option.{option_map};
+    ghost use Rattle.file_questions.specs.Tells.{AnswersTo, text_of_reasons};
+
+    type Answer = Result<Option<String>, Fault>;
+
+    ghost Tells = { λ asked court h _ _. AnswersTo (λ text. option_map string_bytes text ≡ text_of_reasons court h asked.case asked.deadline) };
+
+    fn ask<S: Alter>(
+        &self,
+        alloc: Global,
+        docket: &mut Docket<S>,
+        _held: Holdings,
+        _out: &mut (),
+    ) -> Result<Option<String>, Fault> {
+        text_of_reasons(alloc, docket, self.case, self.deadline)
     }
 }

@@ -8,22 +8,19 @@ ghost use Rattle.docket_history.specs.Histories.{History, case_rows};
 ghost use Rattle.docket_tables.specs.Layouts.{Rows};
 ghost use Rattle.docket_tables.specs.Stands.{HoldsRows};
 ghost use Rattle.docket_applying.specs.AnyRows.{Preserves, PreservesCalendar};
-ghost use Rattle.docket_applying.specs.Applying.{Asks, IsDocket, Stands, StandsFor};
+ghost use Rattle.docket_applying.specs.Applying.{Asks, Stands};
 ghost use Rattle.due_exports.specs.Exports.{export_foot, export_head};
-ghost use Rattle.docket_applying.specs.CourtDockets.{CourtDocket as Told};
 ghost use Rattle.file_questions.specs.CaseLists.{IsEarlyWrite};
-ghost use Rattle.file_questions.specs.Exports.{ExportsTo, HaveCases, IsCase, PutsExport, PutsOut, TextOut, entries_from, entry_of, reasons_in, rows_of_export};
-ghost use Rattle.file_dockets.specs.Keeping.{HoldsBetween};
-ghost use Rattle.file_dockets.specs.Works.{WorksTo};
+ghost use Rattle.file_questions.specs.Exports.{HaveCases, IsCase, PutsExport, PutsOut, TextOut, entries_from, entry_of, reasons_in, rows_of_export};
 
 use crate::explaining::text_of_reasons;
+use crate::question::Question;
 use court_days::Day;
 use docket_history::DueLine;
-use docket_store::{AdoptFault, CalendarEnd, Docket, Fault, Watch};
+use docket_store::{CalendarEnd, Docket, Fault, Holdings};
 use due_exports::{Entry, Form, export_entry, export_foot, export_head, tells_reasons};
-use file_dockets::{Worked, adopt};
 use line_io::write_bytes;
-use sqlite::{Alter, Connection};
+use sqlite::Alter;
 use std::alloc::Global;
 use std::io::Write;
 
@@ -212,27 +209,20 @@ fn write_export<S: Alter, W: Write>(
     }
 }
 
-/// Adopts the docket that a database holds, and writes the export.
-pub(crate) fn export_over<S: Alter, V: Watch + Drop, W: Write>(
-    alloc: Global,
-    conn: Connection<S>,
-    watch: V,
-    export: &Export,
-    writer: &mut W,
-) -> Worked<S, Result<usize, CalendarEnd>, AdoptFault>
-    ensures told { (told : Told) → IsDocket told.court told.history → StandsFor S.Store conn told.court told.history
-        → HasCleanDisk (state S.Store result.connection)
-        → WorksTo (ExportsTo export.now told.court told.history (W.contents writer.old) (W.contents writer.new)) result.outcome }
-    ensures stays { (rows : Rows) → HoldsRows S.Store conn rows → HoldsBetween S.Store result.connection rows rows }
-    ensures unwritten { IfErr result.outcome (λ _. writer.new ≡ writer.old) }
-{
-    let (mut docket, _) = match adopt(alloc, conn, watch) {
-        Ok(found) => found,
-        Err(returned) => return Worked::from(returned),
-    };
-    let end = write_export(alloc, &mut docket, export, writer);
-    Worked {
-        outcome: Ok(end),
-        connection: docket.close(),
+impl<W: Write> Question<W> for Export {
+    ghost use Rattle.file_questions.specs.Exports.{ExportsTo};
+
+    type Answer = Result<usize, CalendarEnd>;
+
+    ghost Tells = { λ export court h before after. ExportsTo export court h (W.contents before) (W.contents after) };
+
+    fn ask<S: Alter>(
+        &self,
+        alloc: Global,
+        docket: &mut Docket<S>,
+        _held: Holdings,
+        out: &mut W,
+    ) -> Result<usize, CalendarEnd> {
+        write_export(alloc, docket, self, out)
     }
 }

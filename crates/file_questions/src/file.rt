@@ -23,15 +23,16 @@ ghost use Rattle.file_questions.specs.Checks.{IsSoundDocket};
 ghost use Rattle.file_questions.specs.Exports.{ExportsTo, page_of_sheet};
 ghost use Rattle.file_questions.specs.Tells.{AnswersTo, ListsTo, text_of_case, text_of_reasons};
 
-use crate::asking::{calendar_over, case_over, court_calendar_over, rules_over};
-use crate::checking::{Sound, check_over};
-use crate::explaining::explain_over;
-use crate::exporting::{Export, export_over};
-use crate::listing::{Wanted, cases_over};
-use crate::sheet::sheet_over;
+use crate::asking::{CalendarLines, CaseText, CourtCalendarText, RulesText};
+use crate::checking::{Judgment, Sound};
+use crate::explaining::ReasonsText;
+use crate::exporting::Export;
+use crate::listing::Wanted;
+use crate::question::ask_on_file;
+use crate::sheet::CaseSheet;
 use court_days::Day;
-use docket_store::{CalendarEnd, Fault, Watch, reopen_from};
-use file_dockets::{OnFile, leave};
+use docket_store::{CalendarEnd, Fault, Watch};
+use file_dockets::OnFile;
 use sqlite::Start;
 use std::alloc::AllocError;
 use std::io::Write;
@@ -53,8 +54,7 @@ pub fn case_on_file<S: Start, V: Watch + Drop>(
     ensures unopened { (told : Told) → HoldDocket (image_at S.Start) told.court told.history
         → IfErr result (IsUnharmed (image_at S.Start) (IsImage (rows_told told))) }
 {
-    let conn = reopen_from(rt, path, start)?;
-    Ok(leave(case_over(rt.alloc(), conn, watch, number)))
+    ask_on_file(rt, path, start, watch, &CaseText { number }, &mut ())
 }
 
 /// Tells why the deadline of a number, from 1, of a case of the docket in the files at a path is what it
@@ -75,8 +75,14 @@ pub fn explain_on_file<S: Start, V: Watch + Drop>(
     ensures unopened { (told : Told) → HoldDocket (image_at S.Start) told.court told.history
         → IfErr result (IsUnharmed (image_at S.Start) (IsImage (rows_told told))) }
 {
-    let conn = reopen_from(rt, path, start)?;
-    Ok(leave(explain_over(rt.alloc(), conn, watch, case, deadline)))
+    ask_on_file(
+        rt,
+        path,
+        start,
+        watch,
+        &ReasonsText { case, deadline },
+        &mut (),
+    )
 }
 
 /// Tells the rules of the table, and behind them the local rules of the docket in the files at a path.
@@ -95,8 +101,7 @@ pub fn rules_on_file<S: Start, V: Watch + Drop>(
     ensures unopened { (told : Told) → HoldDocket (image_at S.Start) told.court told.history
         → IfErr result (IsUnharmed (image_at S.Start) (IsImage (rows_told told))) }
 {
-    let conn = reopen_from(rt, path, start)?;
-    Ok(leave(rules_over(rt.alloc(), conn, watch)))
+    ask_on_file(rt, path, start, watch, &RulesText, &mut ())
 }
 
 /// Tells the court's calendar of the days from one to another, both included, of the docket in the files at
@@ -117,8 +122,14 @@ pub fn court_calendar_on_file<S: Start, V: Watch + Drop>(
     ensures unopened { (told : Told) → HoldDocket (image_at S.Start) told.court told.history
         → IfErr result (IsUnharmed (image_at S.Start) (IsImage (rows_told told))) }
 {
-    let conn = reopen_from(rt, path, start)?;
-    Ok(leave(court_calendar_over(rt.alloc(), conn, watch, from, to)))
+    ask_on_file(
+        rt,
+        path,
+        start,
+        watch,
+        &CourtCalendarText { from, to },
+        &mut (),
+    )
 }
 
 /// Writes a line for each case that is wanted of the docket in the files at a path, in the order of their
@@ -140,8 +151,7 @@ pub fn cases_on_file<S: Start, V: Watch + Drop, W: Write>(
         → IfErr result (IsUnharmed (image_at S.Start) (IsImage (rows_told told))) }
     ensures unwritten { MatchResult result (λ done. IfErr done.outcome (λ _. writer.new ≡ writer.old)) (λ _. writer.new ≡ writer.old) }
 {
-    let conn = reopen_from(rt, path, start)?;
-    Ok(leave(cases_over(rt.alloc(), conn, watch, wanted, writer)))
+    ask_on_file(rt, path, start, watch, wanted, writer)
 }
 
 /// Writes the calendar of the days from one to another, both included, of the docket in the files at a
@@ -164,8 +174,7 @@ pub fn calendar_on_file<S: Start, V: Watch + Drop, W: Write>(
         → IfErr result (IsUnharmed (image_at S.Start) (IsImage (rows_told told))) }
     ensures unwritten { MatchResult result (λ done. IfErr done.outcome (λ _. writer.new ≡ writer.old)) (λ _. writer.new ≡ writer.old) }
 {
-    let conn = reopen_from(rt, path, start)?;
-    Ok(leave(calendar_over(rt.alloc(), conn, watch, from, to, writer)))
+    ask_on_file(rt, path, start, watch, &CalendarLines { from, to }, writer)
 }
 
 /// Writes the deadlines that fall due by the docket in the files at a path, in a format of another program,
@@ -188,8 +197,7 @@ pub fn export_on_file<S: Start, V: Watch + Drop, W: Write>(
         → IfErr result (IsUnharmed (image_at S.Start) (IsImage (rows_told told))) }
     ensures unwritten { MatchResult result (λ done. IfErr done.outcome (λ _. writer.new ≡ writer.old)) (λ _. writer.new ≡ writer.old) }
 {
-    let conn = reopen_from(rt, path, start)?;
-    Ok(leave(export_over(rt.alloc(), conn, watch, export, writer)))
+    ask_on_file(rt, path, start, watch, export, writer)
 }
 
 /// Tells the docket sheet of the case of a number of the docket in the files at a path, as a page. Nothing is
@@ -209,8 +217,7 @@ pub fn sheet_on_file<S: Start, V: Watch + Drop>(
     ensures unopened { (told : Told) → HoldDocket (image_at S.Start) told.court told.history
         → IfErr result (IsUnharmed (image_at S.Start) (IsImage (rows_told told))) }
 {
-    let conn = reopen_from(rt, path, start)?;
-    Ok(leave(sheet_over(rt.alloc(), conn, watch, number)))
+    ask_on_file(rt, path, start, watch, &CaseSheet { number }, &mut ())
 }
 
 /// Judges the tables of the docket in the files at a path, and tells what they hold. Nothing is changed.
@@ -228,6 +235,5 @@ pub fn check_on_file<S: Start, V: Watch + Drop>(
     ensures unopened { (told : Told) → HoldDocket (image_at S.Start) told.court told.history
         → IfErr result (IsUnharmed (image_at S.Start) (IsImage (rows_told told))) }
 {
-    let conn = reopen_from(rt, path, start)?;
-    Ok(leave(check_over(rt.alloc(), conn, watch)))
+    ask_on_file(rt, path, start, watch, &Judgment, &mut ())
 }

@@ -9,6 +9,7 @@ mod explaining;
 mod exporting;
 mod file;
 mod listing;
+mod question;
 mod sheet;
 
 pub use checking::Sound;

@@ -3,24 +3,20 @@ ghost use Rattle.std.specs.Prelude.{◌≡◌, ◌↔◌, ◌≤◌, [], ◌∷�
 ghost use Rattle.std.specs.List.{list_any};
 ghost use Rattle.std.specs.Str.Iter.{HasSubslice};
 ghost use Rattle.sqlite.specs.Held.{state};
-ghost use Rattle.sqlite.specs.State.{HasCleanDisk};
 ghost use Rattle.sqlite.specs.View.{doubt};
 ghost use Rattle.docket_history.specs.Histories.{History};
 ghost use Rattle.docket_tables.specs.Layouts.{Rows};
 ghost use Rattle.docket_tables.specs.Stands.{HoldsRows};
 ghost use Rattle.docket_applying.specs.AnyRows.{Preserves, PreservesCalendar};
-ghost use Rattle.docket_applying.specs.Applying.{Asks, IsDocket, Stands, StandsFor};
-ghost use Rattle.docket_applying.specs.CourtDockets.{CourtDocket as Told};
-ghost use Rattle.file_questions.specs.CaseLists.{GoesOut, IsEarlyWrite, Lists, ListsCases, cases_told, cases_wanted, has_party, holds};
-ghost use Rattle.file_dockets.specs.Keeping.{HoldsBetween};
-ghost use Rattle.file_dockets.specs.Works.{WorksTo};
+ghost use Rattle.docket_applying.specs.Applying.{Asks, Stands};
+ghost use Rattle.file_questions.specs.CaseLists.{GoesOut, IsEarlyWrite, Lists, cases_told, cases_wanted, has_party, holds};
 
+use crate::question::Question;
 use docket_history::{CaseRow, PartyRow};
-use docket_store::{AdoptFault, CalendarEnd, Docket, Fault, Watch};
+use docket_store::{CalendarEnd, Docket, Fault, Holdings};
 use docket_text::case_list_line;
-use file_dockets::{Worked, adopt};
 use line_io::write_bytes;
-use sqlite::{Alter, Connection};
+use sqlite::Alter;
 use std::alloc::Global;
 use std::io::Write;
 
@@ -173,27 +169,20 @@ fn list_cases<S: Alter, W: Write>(
     }
 }
 
-/// Adopts the docket that a database holds, and writes the line of each case that is wanted.
-pub(crate) fn cases_over<S: Alter, V: Watch + Drop, W: Write>(
-    alloc: Global,
-    conn: Connection<S>,
-    watch: V,
-    wanted: &Wanted<'_>,
-    writer: &mut W,
-) -> Worked<S, Result<u32, CalendarEnd>, AdoptFault>
-    ensures told { (told : Told) → IsDocket told.court told.history → StandsFor S.Store conn told.court told.history
-        → HasCleanDisk (state S.Store result.connection)
-        → WorksTo (ListsCases (cases_wanted wanted.now told.history) (W.contents writer.old) (W.contents writer.new)) result.outcome }
-    ensures stays { (rows : Rows) → HoldsRows S.Store conn rows → HoldsBetween S.Store result.connection rows rows }
-    ensures unwritten { IfErr result.outcome (λ _. writer.new ≡ writer.old) }
-{
-    let (mut docket, _) = match adopt(alloc, conn, watch) {
-        Ok(found) => found,
-        Err(returned) => return Worked::from(returned),
-    };
-    let end = list_cases(alloc, &mut docket, wanted, writer);
-    Worked {
-        outcome: Ok(end),
-        connection: docket.close(),
+impl<W: Write> Question<W> for Wanted<'_> {
+    ghost use Rattle.file_questions.specs.CaseLists.{ListsCases, cases_wanted};
+
+    type Answer = Result<u32, CalendarEnd>;
+
+    ghost Tells = { λ wanted _ h before after. ListsCases (cases_wanted wanted h) (W.contents before) (W.contents after) };
+
+    fn ask<S: Alter>(
+        &self,
+        alloc: Global,
+        docket: &mut Docket<S>,
+        _held: Holdings,
+        out: &mut W,
+    ) -> Result<u32, CalendarEnd> {
+        list_cases(alloc, docket, self, out)
     }
 }

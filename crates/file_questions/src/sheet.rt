@@ -2,25 +2,20 @@
 ghost use Rattle.std.specs.Prelude.{◌≡◌, ◌≤◌, IfOk, string_bytes};
 ghost use Rattle.std.specs.Option.{option_map};
 ghost use Rattle.sqlite.specs.Held.{state};
-ghost use Rattle.sqlite.specs.State.{HasCleanDisk};
 ghost use Rattle.sqlite.specs.View.{doubt};
 ghost use Rattle.docket_history.specs.Histories.{History};
 ghost use Rattle.docket_tables.specs.Layouts.{Rows};
 ghost use Rattle.docket_tables.specs.Stands.{HoldsRows};
 ghost use Rattle.docket_applying.specs.AnyRows.{Preserves};
-ghost use Rattle.docket_applying.specs.Applying.{Asks, IsDocket, Stands, StandsFor};
-ghost use Rattle.docket_applying.specs.CourtDockets.{CourtDocket as Told};
+ghost use Rattle.docket_applying.specs.Applying.{Asks, Stands};
 ghost use Rattle.file_questions.specs.Exports.{page_of_sheet, sheet_page};
-ghost use Rattle.file_dockets.specs.Keeping.{HoldsBetween};
-ghost use Rattle.file_dockets.specs.Works.{WorksTo};
-ghost use Rattle.file_questions.specs.Tells.{AnswersTo};
 
+use crate::question::Question;
 use court_days::Court;
 use docket_history::{CaseRecord, DeadlineLine};
-use docket_store::{AdoptFault, Docket, Fault, Watch};
-use file_dockets::{Worked, adopt};
+use docket_store::{Docket, Fault, Holdings};
 use html_sheets::{case_sheet, page_foot, page_head};
-use sqlite::{Alter, Connection};
+use sqlite::Alter;
 use std::alloc::{AllocError, Global};
 
 /// The docket sheet of a case, as a page.
@@ -60,25 +55,29 @@ fn text_of_sheet<S: Alter>(
     Ok(Some(text))
 }
 
-/// Adopts the docket that a database holds, and tells the docket sheet of the case of a number.
-pub(crate) fn sheet_over<S: Alter, V: Watch + Drop>(
-    alloc: Global,
-    conn: Connection<S>,
-    watch: V,
-    number: u32,
-) -> Worked<S, Result<Option<String>, Fault>, AdoptFault>
-    ensures told { (told : Told) → IsDocket told.court told.history → StandsFor S.Store conn told.court told.history
-        → HasCleanDisk (state S.Store result.connection)
-        → WorksTo (AnswersTo (λ text. option_map string_bytes text ≡ page_of_sheet told.court told.history number)) result.outcome }
-    ensures stays { (rows : Rows) → HoldsRows S.Store conn rows → HoldsBetween S.Store result.connection rows rows }
-{
-    let (mut docket, _) = match adopt(alloc, conn, watch) {
-        Ok(found) => found,
-        Err(returned) => return Worked::from(returned),
-    };
-    let answer = text_of_sheet(alloc, &mut docket, number);
-    Worked {
-        outcome: Ok(answer),
-        connection: docket.close(),
+/// The docket sheet of the case of a number, as a page.
+#[derive(Clone, Copy)]
+pub(crate) struct CaseSheet {
+    pub(crate) number: u32,
+}
+
+impl Question<()> for CaseSheet {
+    ghost use Rattle.std.specs.Prelude.{◌≡◌, string_bytes};
+    ghost use Rattle.std.specs.Option.{option_map};
+    ghost use Rattle.file_questions.specs.Tells.{AnswersTo};
+    ghost use Rattle.file_questions.specs.Exports.{page_of_sheet};
+
+    type Answer = Result<Option<String>, Fault>;
+
+    ghost Tells = { λ asked court h _ _. AnswersTo (λ text. option_map string_bytes text ≡ page_of_sheet court h asked.number) };
+
+    fn ask<S: Alter>(
+        &self,
+        alloc: Global,
+        docket: &mut Docket<S>,
+        _held: Holdings,
+        _out: &mut (),
+    ) -> Result<Option<String>, Fault> {
+        text_of_sheet(alloc, docket, self.number)
     }
 }

@@ -2,6 +2,7 @@
 use Rattle.std.proofs.Common.{◌≡◌, ℕ, List, [], Option, Some, None, Result, Ok, Err, IfErr, IfOk, IfSome, IsErr, IsOkAnd, MatchOption, MatchResult, OnOk, ◌∙◌, sym, subst, subst₂}
 use Rattle.std.proofs.lemmas.Bool.{false≢true}
 use Rattle.std.proofs.lemmas.List.{append-nil}
+use Rattle.std.proofs.lemmas.Result.{IfErr-weaker}
 use Rattle.std.specs.Io.KnownBytes.{Appends}
 use Rattle.docket_scan.specs.declared.fault.AdoptFault.{AdoptFault}
 use Rattle.line_io.specs.Output.{AppendsFront}
@@ -60,6 +61,12 @@ pub unwritten : {X Y L T : Type 0} (ended : Result X Y) (left_of : X → L) (Cle
 unwritten (Ok it) left_of Clean outcome K N W Told left kept same tells is none =
     subst (λ o. MatchOption o N (λ rest. Clean rest → Told × K rest)) (sym is.0) (λ clean. (tells (err_holds (outcome it) W same is.1), kept clean))
 unwritten (Err y) left_of Clean outcome K N W Told left kept same tells is none = subst (λ o. MatchOption o N (λ rest. Clean rest → Told × K rest)) (sym is) none
+
+-- what is so where the work was not begun, or the files were not opened, gives what follows from it
+pub unbegun : {X Y T : Type 0} (ended : Result X Y) (outcome : X → Result T AdoptFault) (A B : Type 0) → (A → B)
+    → MatchResult ended (λ it. IfErr (outcome it) (λ _. A)) (λ _. A) → MatchResult ended (λ it. IfErr (outcome it) (λ _. B)) (λ _. B)
+unbegun (Ok it) outcome A B then is = IfErr-weaker (outcome it) (λ _. A) (λ _. B) (λ fault. then) is
+unbegun (Err y) outcome A B then is = then is
 
 -- a work that was done leaves this
 pub made_left : {X Y L T E : Type 0} (ended : Result X Y) (left_of : X → L) (Clean : L → Type 0) (outcome : X → Result T E) (K : L → Type 0) (found : T) (left : L)

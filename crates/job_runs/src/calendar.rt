@@ -1,6 +1,11 @@
 //! The calendar of the docket in a file.
-ghost use Rattle.std.specs.Prelude.{[], ℕ, List, Option};
+ghost use Rattle.std.specs.Prelude.{◌≡◌, [], ℕ, List, Option, IfErr, IfOk, MatchResult};
 ghost use Rattle.sqlite_wal.specs.Files.{image_at};
+ghost use Rattle.sqlite.specs.Files.{IsCleanLeft};
+ghost use Rattle.docket_applying.specs.CourtDockets.{CourtDocket as Told};
+ghost use Rattle.docket_store.specs.Left.{LeavesRows};
+ghost use Rattle.file_dockets.specs.Keeping.{rows_told};
+ghost use Rattle.file_dockets.specs.Works.{WorksTo};
 ghost use Rattle.court_days.specs.Court.{CourtSettings};
 ghost use Rattle.docket_calendar.specs.Calendar.{text_of_calendar};
 ghost use Rattle.docket_history.specs.Histories.{History};
@@ -11,6 +16,7 @@ ghost use Rattle.job_runs.specs.Jobs.{OfDocket, TellsOf};
 use crate::opening::ready;
 use court_days::Day;
 use docket_store::CalendarEnd;
+use file_dockets::OnFile;
 use file_questions::calendar_on_file;
 use job_ends::{JobEnd, Status, done_on_docket, failed};
 use sqlite::{FileFrom, Start};
@@ -26,6 +32,25 @@ fn calendar_told<E: Write>(alloc: Global, end: Result<u32, CalendarEnd>, e: &mut
         Ok(_) => Status::Done,
         Err(CalendarEnd::Store(fault)) => failed(alloc, e, &fault),
         Err(CalendarEnd::WriteFailed) => failed(alloc, e, &"the output could not be written"),
+    }
+}
+
+/// The end of a job that writes the calendar of the docket in files.
+fn end_calendar<S: Start, E: Write>(
+    alloc: Global,
+    path: &str,
+    ended: OnFile<S, Result<u32, CalendarEnd>>,
+    e: &mut E,
+) -> JobEnd<FileFrom<S>>
+    ensures { (docket : Told) (from to : ℕ) (before after : Option (List ℕ))
+        → IfOk ended (λ it. IsCleanLeft it.left → WorksTo (ListsTo docket.court docket.history from to before after) it.outcome)
+        → IfOk ended (λ it. IsCleanLeft it.left → LeavesRows it.left (rows_told docket) (rows_told docket))
+        → MatchResult ended (λ it. IfErr it.outcome (λ _. after ≡ before)) (λ _. after ≡ before)
+        → TellsOf docket (HasTold (text_of_calendar docket.court docket.history from to) before after) result }
+{
+    match done_on_docket(alloc, path, ended, e) {
+        Ok((end, left)) => JobEnd::of(calendar_told(alloc, end, e)).with(Some(left)),
+        Err(end) => end,
     }
 }
 
@@ -48,8 +73,5 @@ pub(crate) fn tell_calendar<S: Start, P: Write + Drop, W: Write, E: Write>(
         Err(status) => return JobEnd::of(status),
     };
     let ended = calendar_on_file(rt, path, start, rows, from, to, w);
-    match done_on_docket(rt.alloc(), path, ended, e) {
-        Ok((end, left)) => JobEnd::of(calendar_told(rt.alloc(), end, e)).with(Some(left)),
-        Err(end) => end,
-    }
+    end_calendar(rt.alloc(), path, ended, e)
 }

@@ -1,14 +1,20 @@
 //! A case of the docket in a file.
-ghost use Rattle.std.specs.Prelude.{◌≡◌, ℕ, List, Option, None, string_bytes};
+ghost use Rattle.std.specs.Prelude.{◌≡◌, ℕ, List, Option, None, IfOk, string_bytes};
 ghost use Rattle.std.specs.Option.{option_map};
 ghost use Rattle.std.specs.Cow.{cow_str_bytes};
 ghost use Rattle.sqlite_wal.specs.Files.{image_at};
+ghost use Rattle.sqlite.specs.Files.{IsCleanLeft};
+ghost use Rattle.docket_applying.specs.CourtDockets.{CourtDocket as Told};
+ghost use Rattle.docket_store.specs.Left.{LeavesRows};
+ghost use Rattle.file_dockets.specs.Keeping.{rows_told};
+ghost use Rattle.file_dockets.specs.Works.{WorksTo};
 ghost use Rattle.file_questions.specs.Tells.{AnswersTo, text_of_case};
 ghost use Rattle.job_runs.specs.Tells.{SaysMissing, TellsIfAny, no_such_case};
 ghost use Rattle.job_runs.specs.Jobs.{OfDocket, TellsOf};
 
 use crate::opening::ready;
 use docket_store::Fault;
+use file_dockets::OnFile;
 use file_questions::case_on_file;
 use job_ends::{JobEnd, Status, done_on_docket, failed};
 use line_io::write_bytes;
@@ -21,7 +27,7 @@ use std::io::Write;
 pub(crate) const NO_SUCH_CASE: &str = "no such case\n";
 
 /// What is told of what was asked for, or that it is missing, in the words `missing`.
-pub(crate) fn told_if_any<D: Disk + Drop, E: Write>(
+fn told_if_any<D: Disk + Drop, E: Write>(
     alloc: Global,
     answer: Result<Option<String>, Fault>,
     missing: &str,
@@ -42,6 +48,26 @@ pub(crate) fn told_if_any<D: Disk + Drop, E: Write>(
     }
 }
 
+/// The end of a job that asks the docket in files for what may be missing.
+pub(crate) fn end_if_any<S: Start, E: Write>(
+    alloc: Global,
+    path: &str,
+    ended: OnFile<S, Result<Option<String>, Fault>>,
+    missing: &str,
+    e: &mut E,
+) -> JobEnd<FileFrom<S>>
+    ensures told { (docket : Told) (found : Option (List ℕ))
+        → IfOk ended (λ it. IsCleanLeft it.left → WorksTo (AnswersTo (λ text. option_map string_bytes text ≡ found)) it.outcome)
+        → IfOk ended (λ it. IsCleanLeft it.left → LeavesRows it.left (rows_told docket) (rows_told docket))
+        → TellsOf docket (TellsIfAny found) result }
+    ensures missing { SaysMissing missing.now result.status (E.contents e.old) (E.contents e.new) }
+{
+    match done_on_docket(alloc, path, ended, e) {
+        Ok((answer, left)) => told_if_any(alloc, answer, missing, e).with(Some(left)),
+        Err(end) => end,
+    }
+}
+
 /// Tells the case of a number of the docket in a file.
 pub(crate) fn tell_case<S: Start, P: Write + Drop, E: Write>(
     rt: &HostRuntime,
@@ -59,8 +85,5 @@ pub(crate) fn tell_case<S: Start, P: Write + Drop, E: Write>(
         Err(status) => return JobEnd::of(status),
     };
     let ended = case_on_file(rt, path, start, rows, number);
-    match done_on_docket(rt.alloc(), path, ended, e) {
-        Ok((answer, left)) => { told_if_any(rt.alloc(), answer, NO_SUCH_CASE, e).with(Some(left)) }
-        Err(end) => end,
-    }
+    end_if_any(rt.alloc(), path, ended, NO_SUCH_CASE, e)
 }

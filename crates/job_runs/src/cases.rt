@@ -1,6 +1,11 @@
 //! The cases of the docket in a file, a line for each.
-ghost use Rattle.std.specs.Prelude.{[], ℕ, List, Option, option_copied};
+ghost use Rattle.std.specs.Prelude.{◌≡◌, [], ℕ, List, Option, IfErr, IfOk, MatchResult, option_copied};
 ghost use Rattle.sqlite_wal.specs.Files.{image_at};
+ghost use Rattle.sqlite.specs.Files.{IsCleanLeft};
+ghost use Rattle.docket_applying.specs.CourtDockets.{CourtDocket as Told};
+ghost use Rattle.docket_store.specs.Left.{LeavesRows};
+ghost use Rattle.file_dockets.specs.Keeping.{rows_told};
+ghost use Rattle.file_dockets.specs.Works.{WorksTo};
 ghost use Rattle.docket_history.specs.declared.row.CaseRow.{CaseRow};
 ghost use Rattle.file_questions.specs.CaseLists.{ListsCases, cases_told};
 ghost use Rattle.job_runs.specs.Tells.{HasListed, SaysMissing, no_such_case};
@@ -9,6 +14,7 @@ ghost use Rattle.job_runs.specs.Jobs.{OfDocket, TellsOf};
 use crate::case::NO_SUCH_CASE;
 use crate::opening::ready;
 use docket_store::CalendarEnd;
+use file_dockets::OnFile;
 use file_questions::{Wanted, cases_on_file};
 use job_ends::{JobEnd, Status, done_on_docket, failed};
 use line_io::write_bytes;
@@ -33,6 +39,26 @@ fn list_told<E: Write>(alloc: Global, end: Result<u32, CalendarEnd>, e: &mut E) 
     }
 }
 
+/// The end of a job that writes the cases that are wanted of the docket in files.
+fn end_listed<S: Start, E: Write>(
+    alloc: Global,
+    path: &str,
+    ended: OnFile<S, Result<u32, CalendarEnd>>,
+    e: &mut E,
+) -> JobEnd<FileFrom<S>>
+    ensures told { (docket : Told) (cases : List CaseRow) (before after : Option (List ℕ))
+        → IfOk ended (λ it. IsCleanLeft it.left → WorksTo (ListsCases cases before after) it.outcome)
+        → IfOk ended (λ it. IsCleanLeft it.left → LeavesRows it.left (rows_told docket) (rows_told docket))
+        → MatchResult ended (λ it. IfErr it.outcome (λ _. after ≡ before)) (λ _. after ≡ before)
+        → TellsOf docket (HasListed cases before after) result }
+    ensures missing { SaysMissing no_such_case result.status (E.contents e.old) (E.contents e.new) }
+{
+    match done_on_docket(alloc, path, ended, e) {
+        Ok((end, left)) => JobEnd::of(list_told(alloc, end, e)).with(Some(left)),
+        Err(end) => end,
+    }
+}
+
 /// Tells the cases that are wanted, in the order of their numbers, by the docket in a file. Each line is
 /// written before the next case is read.
 pub(crate) fn tell_cases<S: Start, P: Write + Drop, W: Write, E: Write>(
@@ -52,8 +78,5 @@ pub(crate) fn tell_cases<S: Start, P: Write + Drop, W: Write, E: Write>(
         Err(status) => return JobEnd::of(status),
     };
     let ended = cases_on_file(rt, path, start, rows, wanted, w);
-    match done_on_docket(rt.alloc(), path, ended, e) {
-        Ok((end, left)) => JobEnd::of(list_told(rt.alloc(), end, e)).with(Some(left)),
-        Err(end) => end,
-    }
+    end_listed(rt.alloc(), path, ended, e)
 }

@@ -2,6 +2,11 @@
 ghost use Rattle.std.specs.Prelude.{◌≡◌, IfOk, None, Ok, string_bytes};
 ghost use Rattle.std.specs.Cow.{cow_str_bytes};
 ghost use Rattle.sqlite_wal.specs.Files.{image_at};
+ghost use Rattle.sqlite.specs.Files.{IsCleanLeft};
+ghost use Rattle.docket_applying.specs.CourtDockets.{CourtDocket as Told};
+ghost use Rattle.docket_store.specs.Left.{LeavesRows};
+ghost use Rattle.file_dockets.specs.Keeping.{rows_told};
+ghost use Rattle.file_dockets.specs.Works.{WorksTo};
 ghost use Rattle.court_days.specs.Court.{CourtSettings};
 ghost use Rattle.docket_scan.specs.Dockets.{holdings_in};
 ghost use Rattle.docket_scan.specs.declared.holdings.Holdings.{Holdings as Held};
@@ -12,6 +17,7 @@ ghost use Rattle.job_runs.specs.Jobs.{OfDocket, TellsOf};
 
 use crate::holdings::{court_line, holdings_text};
 use crate::opening::ready;
+use file_dockets::OnFile;
 use file_questions::{Sound, check_on_file};
 use job_ends::{JobEnd, done_on_docket, no_memory};
 use sqlite::{FileFrom, Start};
@@ -46,6 +52,24 @@ fn check_told<D: Disk + Drop, E: Write>(
     }
 }
 
+/// The end of a job that judges the docket in files.
+fn end_judged<S: Start, E: Write>(
+    alloc: Global,
+    path: &str,
+    ended: OnFile<S, Result<Sound, AllocError>>,
+    e: &mut E,
+) -> JobEnd<FileFrom<S>>
+    ensures { (docket : Told) (held : Held)
+        → IfOk ended (λ it. IsCleanLeft it.left → WorksTo (IsSoundDocket docket.court held) it.outcome)
+        → IfOk ended (λ it. IsCleanLeft it.left → LeavesRows it.left (rows_told docket) (rows_told docket))
+        → TellsOf docket (TellsText (check_text docket.court held)) result }
+{
+    match done_on_docket(alloc, path, ended, e) {
+        Ok((judged, left)) => check_told(alloc, judged, e).with(Some(left)),
+        Err(end) => end,
+    }
+}
+
 /// Tells that the tables of the docket in a file are sound, and what they hold. Where one is not sound it
 /// is told which.
 pub(crate) fn tell_check<S: Start, P: Write + Drop, E: Write>(
@@ -62,8 +86,5 @@ pub(crate) fn tell_check<S: Start, P: Write + Drop, E: Write>(
         Err(status) => return JobEnd::of(status),
     };
     let ended = check_on_file(rt, path, start, rows);
-    match done_on_docket(rt.alloc(), path, ended, e) {
-        Ok((judged, left)) => check_told(rt.alloc(), judged, e).with(Some(left)),
-        Err(end) => end,
-    }
+    end_judged(rt.alloc(), path, ended, e)
 }

@@ -6,10 +6,10 @@ ghost use Rattle.job_runs.specs.Tells.{TellsText};
 ghost use Rattle.job_runs.specs.Jobs.{OfDocket, TellsOf};
 
 use crate::opening::ready;
-use crate::rules::text_told;
+use crate::rules::end_with_text;
 use court_days::Day;
 use file_questions::court_calendar_on_file;
-use job_ends::{JobEnd, done_on_docket};
+use job_ends::JobEnd;
 use sqlite::{FileFrom, Start};
 use std::io::Write;
 
@@ -31,8 +31,5 @@ pub(crate) fn tell_court_calendar<S: Start, P: Write + Drop, E: Write>(
         Err(status) => return JobEnd::of(status),
     };
     let ended = court_calendar_on_file(rt, path, start, rows, from, to);
-    match done_on_docket(rt.alloc(), path, ended, e) {
-        Ok((answer, left)) => text_told(rt.alloc(), answer, e).with(Some(left)),
-        Err(end) => end,
-    }
+    end_with_text(rt.alloc(), path, ended, e)
 }

@@ -5,11 +5,11 @@ ghost use Rattle.file_questions.specs.Tells.{text_of_reasons};
 ghost use Rattle.job_runs.specs.Tells.{SaysMissing, TellsIfAny, no_such_deadline};
 ghost use Rattle.job_runs.specs.Jobs.{Explains, OfDocket, TellsOf};
 
-use crate::case::told_if_any;
+use crate::case::end_if_any;
 use crate::opening::ready;
 use explain_lines::explain_run;
 use file_questions::explain_on_file;
-use job_ends::{JobEnd, Status, done_on_docket, failed};
+use job_ends::{JobEnd, Status, failed};
 use sqlite::{FileFrom, Start};
 use std::alloc::Global;
 use std::io::{Read, Write};
@@ -33,12 +33,7 @@ pub(crate) fn explain_deadline<S: Start, P: Write + Drop, E: Write>(
         Err(status) => return JobEnd::of(status),
     };
     let ended = explain_on_file(rt, path, start, rows, case, deadline);
-    match done_on_docket(rt.alloc(), path, ended, e) {
-        Ok((answer, left)) => {
-            told_if_any(rt.alloc(), answer, "no such deadline\n", e).with(Some(left))
-        }
-        Err(end) => end,
-    }
+    end_if_any(rt.alloc(), path, ended, "no such deadline\n", e)
 }
 
 /// Answers lines of days, each that asks for an end by its reasons.

@@ -1,7 +1,12 @@
 //! The rules by which deadlines run.
-ghost use Rattle.std.specs.Prelude.{◌≡◌, ℕ, List, [], None, string_bytes};
+ghost use Rattle.std.specs.Prelude.{◌≡◌, ℕ, List, [], None, IfOk, string_bytes};
 ghost use Rattle.std.specs.Cow.{cow_str_bytes};
 ghost use Rattle.sqlite_wal.specs.Files.{image_at};
+ghost use Rattle.sqlite.specs.Files.{IsCleanLeft};
+ghost use Rattle.docket_applying.specs.CourtDockets.{CourtDocket as Told};
+ghost use Rattle.docket_store.specs.Left.{LeavesRows};
+ghost use Rattle.file_dockets.specs.Keeping.{rows_told};
+ghost use Rattle.file_dockets.specs.Works.{WorksTo};
 ghost use Rattle.docket_history.specs.Histories.{local_rule_rows};
 ghost use Rattle.docket_text.specs.RuleTexts.{rules_text};
 ghost use Rattle.file_questions.specs.Tells.{AnswersTo};
@@ -11,6 +16,7 @@ ghost use Rattle.job_runs.specs.Jobs.{OfDocket, TellsOf};
 use crate::opening::ready;
 use docket_store::Fault;
 use docket_text::rules_text;
+use file_dockets::OnFile;
 use file_questions::rules_on_file;
 use job_ends::{JobEnd, done_on_docket, failed, no_memory};
 use sqlite::{FileFrom, Start};
@@ -30,7 +36,7 @@ pub(crate) fn tell_table<D: Disk + Drop, E: Write>(alloc: Global, e: &mut E) -> 
 }
 
 /// What is told of a text that a docket was asked for.
-pub(crate) fn text_told<D: Disk + Drop, E: Write>(
+fn text_told<D: Disk + Drop, E: Write>(
     alloc: Global,
     answer: Result<String, Fault>,
     e: &mut E,
@@ -41,6 +47,24 @@ pub(crate) fn text_told<D: Disk + Drop, E: Write>(
     match answer {
         Ok(text) => JobEnd::told(text),
         Err(fault) => JobEnd::of(failed(alloc, e, &fault)),
+    }
+}
+
+/// The end of a job that asks the docket in files for a text.
+pub(crate) fn end_with_text<S: Start, E: Write>(
+    alloc: Global,
+    path: &str,
+    ended: OnFile<S, Result<String, Fault>>,
+    e: &mut E,
+) -> JobEnd<FileFrom<S>>
+    ensures told { (docket : Told) (wanted : List ℕ)
+        → IfOk ended (λ it. IsCleanLeft it.left → WorksTo (AnswersTo (λ text. string_bytes text ≡ wanted)) it.outcome)
+        → IfOk ended (λ it. IsCleanLeft it.left → LeavesRows it.left (rows_told docket) (rows_told docket))
+        → TellsOf docket (TellsText wanted) result }
+{
+    match done_on_docket(alloc, path, ended, e) {
+        Ok((answer, left)) => text_told(alloc, answer, e).with(Some(left)),
+        Err(end) => end,
     }
 }
 
@@ -59,8 +83,5 @@ pub(crate) fn tell_rules<S: Start, P: Write + Drop, E: Write>(
         Err(status) => return JobEnd::of(status),
     };
     let ended = rules_on_file(rt, path, start, rows);
-    match done_on_docket(rt.alloc(), path, ended, e) {
-        Ok((answer, left)) => text_told(rt.alloc(), answer, e).with(Some(left)),
-        Err(end) => end,
-    }
+    end_with_text(rt.alloc(), path, ended, e)
 }

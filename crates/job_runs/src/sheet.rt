@@ -4,10 +4,10 @@ ghost use Rattle.file_questions.specs.Exports.{page_of_sheet};
 ghost use Rattle.job_runs.specs.Tells.{SaysMissing, TellsIfAny, no_such_case};
 ghost use Rattle.job_runs.specs.Jobs.{OfDocket, TellsOf};
 
-use crate::case::{NO_SUCH_CASE, told_if_any};
+use crate::case::{NO_SUCH_CASE, end_if_any};
 use crate::opening::ready;
 use file_questions::sheet_on_file;
-use job_ends::{JobEnd, done_on_docket};
+use job_ends::JobEnd;
 use sqlite::{FileFrom, Start};
 use std::io::Write;
 
@@ -28,8 +28,5 @@ pub(crate) fn tell_sheet<S: Start, P: Write + Drop, E: Write>(
         Err(status) => return JobEnd::of(status),
     };
     let ended = sheet_on_file(rt, path, start, rows, number);
-    match done_on_docket(rt.alloc(), path, ended, e) {
-        Ok((answer, left)) => { told_if_any(rt.alloc(), answer, NO_SUCH_CASE, e).with(Some(left)) }
-        Err(end) => end,
-    }
+    end_if_any(rt.alloc(), path, ended, NO_SUCH_CASE, e)
 }

@@ -12,13 +12,13 @@ use Rattle.docket_store.proofs.recovering.apply_again.Goals as goal
 pub returns-clause-once : goal.returns-clause-once
 returns-clause-once g c it court h was is leaves may clean =
     let command = c.args.command.now in
-    let either = c.in_ok-docket.ensures.either it court h (after court h command) was is leaves may (omega (arith, c.apply-answer.ensures.clean)) in
-    once_given over_files c.apply-answer.new.self court h command c.apply-answer.result (∥∥₁_map either (λ one. (
+    let either = c.in_ok-docket.ensures.either it court h (after court h command) was is leaves may (omega (arith, c.apply_in_files-answer.ensures.clean)) in
+    once_given over_files c.apply_in_files-answer.new.docket court h command c.apply_in_files-answer.result (∥∥₁_map either (λ one. (
       elim one.0 [
-        | inl before ↦ inl (c.apply-answer.ensures.answer h before)
-        | inr later ↦ inr (c.apply-answer.ensures.answer (after court h command) later)
+        | inl before ↦ inl (c.apply_in_files-answer.ensures.answer h before)
+        | inr later ↦ inr (c.apply_in_files-answer.ensures.answer (after court h command) later)
       ],
-      c.apply-answer.ensures.court ∙ one.1,
+      c.apply_in_files-answer.ensures.court ∙ one.1,
     )))
 
 pub returns-in_err-docket-clause-once : goal.returns-in_err-docket-clause-once

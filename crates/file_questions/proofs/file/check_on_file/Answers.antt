@@ -1,18 +1,10 @@
-use Rattle.std.proofs.Common.{sym, subst}
-use Rattle.file_dockets.specs.Keeping.{rows_told}
-use Rattle.file_dockets.specs.Works.{WorksTo}
-use Rattle.docket_columns.specs.declared.version.Version.TheVariants.{Second}
-use Rattle.file_dockets.proofs.WorkLemmas.{err_told}
 use Rattle.file_questions.proofs.file.check_on_file.Goals as goal
 
 pub returns-clause-told : goal.returns-clause-told
-returns-clause-told g c told is files clean =
-    subst (WorksTo _) (sym c.leave.ensures.outcome) (c.check_over.ensures.told told is (c.in_ok-conn.ensures.docket told.court told.history files) (c.leave.ensures.trust clean))
+returns-clause-told g c = c.ask_on_file.ensures.told
 
 pub returns-clause-stays : goal.returns-clause-stays
-returns-clause-stays g c told files clean =
-    c.leave.ensures.left (rows_told told) (rows_told told) (c.check_over.ensures.stays (rows_told told) (c.in_ok-conn.ensures.docket told.court told.history files)) clean
+returns-clause-stays g c = c.ask_on_file.ensures.stays
 
-pub returns-in_err-conn-clause-unopened : goal.returns-in_err-conn-clause-unopened
-returns-in_err-conn-clause-unopened g c told held =
-    err_told _ c.from_residual.result c.in_err-conn.field-0.0 c.from_residual.ensures.1 (c.in_err-conn.ensures.unharmed Second (rows_told told) held)
+pub returns-clause-unopened : goal.returns-clause-unopened
+returns-clause-unopened g c = c.ask_on_file.ensures.unopened

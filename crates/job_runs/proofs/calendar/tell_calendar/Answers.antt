@@ -1,42 +1,11 @@
-use Rattle.std.proofs.Common.{◌≡◌, ◌∙◌, ℕ, List, [], Option, refl, sym, ap, subst, subst₂}
-use Rattle.std.specs.Cow.{cow_str_bytes}
-use Rattle.std.specs.Io.KnownBytes.{Appends}
-use Rattle.sqlite.specs.Files.{IsCleanLeft}
-use Rattle.docket_calendar.specs.Calendar.{text_of_calendar}
-use Rattle.line_io.specs.Output.{HasFront}
-use Rattle.file_dockets.specs.Keeping.{rows_told}
-use Rattle.docket_store.specs.Left.{LeavesRows}
-use Rattle.file_questions.specs.Tells.{ListsTo}
-use Rattle.job_ends.specs.Ends.{TellsNothing}
-use Rattle.job_runs.specs.Tells.{HasTold}
-use Rattle.job_runs.proofs.EndLemmas.{answered, nothing_more, some_left, unwritten}
+use Rattle.std.proofs.Common.{ap}
+use Rattle.job_runs.proofs.EndLemmas.{unbegun}
 use Rattle.job_runs.proofs.calendar.tell_calendar.Goals as goal
 
-pub returns-in-Ok-done_on_docket : goal.returns-in-Ok-done_on_docket
-returns-in-Ok-done_on_docket g c = record {
+pub returns : goal.returns
+returns g c = record {
   told = λ docket is files.
-      let wanted : List ℕ = text_of_calendar docket.court docket.history c.args.from c.args.to in
-      let before : Option (List ℕ) = g.W.Write.contents c.args.w.now in
-      let after : Option (List ℕ) = g.W.Write.contents c.calendar_on_file-ended.new.writer in
-      some_left c.with.result.left c.in-Ok-done_on_docket.left (TellsNothing (cow_str_bytes c.with.result.text) c.with.result.status)
-      (λ left. IsCleanLeft left → HasTold wanted before after (cow_str_bytes c.with.result.text) c.with.result.status × LeavesRows left (rows_told docket) (rows_told docket)) c.with.ensures.left (answered c.calendar_on_file-ended.result (λ it. it.left) IsCleanLeft (λ it. it.outcome)
-      (ListsTo docket.court docket.history c.args.from c.args.to before after)
-      c.in-Ok-done_on_docket.end c.in-Ok-done_on_docket.left (λ left. LeavesRows left (rows_told docket) (rows_told docket)) (HasTold wanted before after (cow_str_bytes c.with.result.text) c.with.result.status)
-      (c.calendar_on_file-ended.ensures.told docket is files) (c.calendar_on_file-ended.ensures.stays docket files) c.in-Ok-done_on_docket.ensures.done (λ lists.
-      subst₂ (λ text status. HasTold wanted before after text status) (sym (ap cow_str_bytes c.with.ensures.text ∙ c.of-in-Ok-done_on_docket.ensures.text))
-      (sym (c.with.ensures.status ∙ c.of-in-Ok-done_on_docket.ensures.status)) (c.calendar_told.ensures docket.court docket.history c.args.from c.args.to before after lists)));
-}
-
-pub returns-in-Err-done_on_docket : goal.returns-in-Err-done_on_docket
-returns-in-Err-done_on_docket g c = record {
-  told = λ docket is files.
-      let ended = c.in-Err-done_on_docket.ensures.done in
-      let wanted : List ℕ = text_of_calendar docket.court docket.history c.args.from c.args.to in
-      let before : Option (List ℕ) = g.W.Write.contents c.args.w.now in
-      let after : Option (List ℕ) = g.W.Write.contents c.calendar_on_file-ended.new.writer in
-      unwritten c.calendar_on_file-ended.result (λ it. it.left) IsCleanLeft (λ it. it.outcome) (λ left. LeavesRows left (rows_told docket) (rows_told docket)) _
-      (c.calendar_on_file-ended.new.writer ≡ c.args.w.now) (HasTold wanted before after (cow_str_bytes c.in-Err-done_on_docket.end.text) c.in-Err-done_on_docket.end.status) c.in-Err-done_on_docket.end.left
-      (c.calendar_on_file-ended.ensures.stays docket files) c.calendar_on_file-ended.ensures.unwritten (λ same.
-      let none : HasFront before after wanted = record { out = []; lost = wanted; whole = refl; appends = subst (λ a. Appends before a []) (ap g.W.Write.contents (sym same)) (nothing_more before) } in
-      subst (λ status. HasTold wanted before after (cow_str_bytes c.in-Err-done_on_docket.end.text) status) (sym ended.0.0) (none, ended.0.1)) ended.1 ended.0;
+      let ended = c.calendar_on_file-ended in
+      c.end_calendar.ensures docket c.args.from c.args.to _ _ (ended.ensures.told docket is files) (ended.ensures.stays docket files)
+      (unbegun ended.result (λ it. it.outcome) _ _ (ap g.W.Write.contents) ended.ensures.unwritten);
 }

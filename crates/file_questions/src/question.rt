@@ -1,0 +1,96 @@
+//! Asking the docket of a database, or of the files at a path.
+//!
+//! The work that a question does is a method of a trait, since `ask_on_file` is then the one function here
+//! that is proved at the store of files, which takes the prover long.
+ghost use Rattle.std.specs.Prelude.{◌≡◌, ◌≤◌, IfErr, IfOk, MatchResult};
+ghost use Rattle.sqlite.specs.Files.{IsCleanLeft};
+ghost use Rattle.sqlite.specs.Held.{state};
+ghost use Rattle.sqlite.specs.State.{HasCleanDisk};
+ghost use Rattle.sqlite.specs.View.{doubt};
+ghost use Rattle.sqlite_wal.specs.Files.{image_at};
+ghost use Rattle.court_days.specs.Court.{CourtSettings};
+ghost use Rattle.docket_history.specs.Histories.{History};
+ghost use Rattle.docket_scan.specs.Dockets.{holdings_in};
+ghost use Rattle.docket_tables.specs.Layouts.{Rows};
+ghost use Rattle.docket_tables.specs.Stands.{HoldsRows, IsImage};
+ghost use Rattle.docket_applying.specs.Applying.{IsDocket, Stands, StandsFor};
+ghost use Rattle.docket_applying.specs.CourtDockets.{CourtDocket as Told};
+ghost use Rattle.docket_store.specs.Left.{IsUnharmed, LeavesRows};
+ghost use Rattle.docket_store.specs.Reopening.{HoldDocket};
+ghost use Rattle.file_dockets.specs.Keeping.{HoldsBetween, rows_told};
+ghost use Rattle.file_dockets.specs.Works.{WorksTo};
+
+use docket_store::{AdoptFault, Docket, Holdings, Watch, reopen_from};
+use file_dockets::{OnFile, Worked, adopt, leave};
+use sqlite::{Alter, Connection, Start};
+use std::alloc::Global;
+use std::rt::HostRuntime;
+
+/// A question to a docket, which may write to `W` what it tells. Nothing is changed.
+pub(crate) trait Question<W> {
+    /// What is told in the end.
+    type Answer;
+
+    // What is told of the docket of a court, by what was written before and after.
+    ghost Tells: { Self → CourtSettings → History → W → W → Self.Answer → Type 0 };
+
+    /// Asks a docket, whose tables hold so much.
+    fn ask<S: Alter>(
+        &self,
+        alloc: Global,
+        docket: &mut Docket<S>,
+        held: Holdings,
+        out: &mut W,
+    ) -> Self::Answer
+        ensures told { (h : History) → Stands S.Store docket.old h → held ≡ holdings_in docket.old.court h
+            → HasCleanDisk (state S.Store docket.new.conn) → Tells self.now docket.old.court h out.old out.new result }
+        ensures stays { (rows : Rows) → HoldsRows S.Store docket.old.conn rows → HoldsBetween S.Store docket.new.conn rows rows }
+        ensures clean { doubt (state S.Store docket.old.conn).is_clean ≤ doubt (state S.Store docket.new.conn).is_clean };
+}
+
+/// Adopts the docket that a database holds, and asks it.
+fn ask_over<S: Alter, V: Watch + Drop, W, Q: Question<W>>(
+    alloc: Global,
+    conn: Connection<S>,
+    watch: V,
+    question: &Q,
+    out: &mut W,
+) -> Worked<S, Q::Answer, AdoptFault>
+    ensures told { (told : Told) → IsDocket told.court told.history → StandsFor S.Store conn told.court told.history
+        → HasCleanDisk (state S.Store result.connection)
+        → WorksTo (Q.Tells question.now told.court told.history out.old out.new) result.outcome }
+    ensures stays { (rows : Rows) → HoldsRows S.Store conn rows → HoldsBetween S.Store result.connection rows rows }
+    ensures unwritten { IfErr result.outcome (λ _. out.new ≡ out.old) }
+{
+    let (mut docket, held) = match adopt(alloc, conn, watch) {
+        Ok(found) => found,
+        Err(returned) => return Worked::from(returned),
+    };
+    let answer = question.ask(alloc, &mut docket, held, out);
+    Worked {
+        outcome: Ok(answer),
+        connection: docket.close(),
+    }
+}
+
+/// Opens the files at a path, adopts their docket, asks it and lets the files go.
+pub(crate) fn ask_on_file<S: Start, V: Watch + Drop, W, Q: Question<W>>(
+    rt: &HostRuntime,
+    path: &str,
+    start: S,
+    watch: V,
+    question: &Q,
+    out: &mut W,
+) -> OnFile<S, Q::Answer>
+    ensures told { (told : Told) → IsDocket told.court told.history → HoldDocket (image_at S.Start) told.court told.history
+        → IfOk result (λ done. IsCleanLeft done.left
+        → WorksTo (Q.Tells question.now told.court told.history out.old out.new) done.outcome) }
+    ensures stays { (told : Told) → HoldDocket (image_at S.Start) told.court told.history
+        → IfOk result (λ done. IsCleanLeft done.left → LeavesRows done.left (rows_told told) (rows_told told)) }
+    ensures unopened { (told : Told) → HoldDocket (image_at S.Start) told.court told.history
+        → IfErr result (IsUnharmed (image_at S.Start) (IsImage (rows_told told))) }
+    ensures unwritten { MatchResult result (λ done. IfErr done.outcome (λ _. out.new ≡ out.old)) (λ _. out.new ≡ out.old) }
+{
+    let conn = reopen_from(rt, path, start)?;
+    Ok(leave(ask_over(rt.alloc(), conn, watch, question, out)))
+}
