@@ -7,7 +7,9 @@ use crate::trial::prepared;
 use crate::whole_text::{told, told_by_vectors};
 use crate::{CALLS, FEW};
 use anyhow::{Error, anyhow};
+use court_days::Court;
 use docket_command::{Command, Refusal, Reply};
+use docket_plain::Plain;
 use docket_store::Docket;
 use docket_wire::{read_command, reply_text};
 use plain_plays::{ZONE, eastern_court, vectors};
@@ -28,8 +30,6 @@ struct Course {
 
 impl Course {
     fn new<D: Tried>(alloc: Global, lines: &[u8], frames: usize) -> Result<Course, Error> {
-        let court = eastern_court(alloc)?;
-        let mut docket = vectors::docket(alloc, ZONE)?;
         let mut course = Course {
             before: prepared::<D>(alloc, b"", frames)?,
             frames,
@@ -37,18 +37,36 @@ impl Course {
             answers: Vec::new(alloc),
             told: Vec::new(alloc),
         };
-        course.told.push(told_by_vectors(alloc, &docket, &court)?)?;
-        for line in lines.split_inclusive(|byte| *byte == b'\n') {
-            let Ok(command) = read_command(alloc, line) else {
-                return Err(anyhow!("a line is no command"));
-            };
-            course.commands.push(command)?;
-            course
-                .answers
-                .push(vectors::answer(alloc, &mut docket, line)?)?;
-            course.told.push(told_by_vectors(alloc, &docket, &court)?)?;
-        }
+        course.play(alloc, lines)?;
         Ok(course)
+    }
+
+    /// Plays the commands of the lines by a docket in vectors.
+    fn play(&mut self, alloc: Global, lines: &[u8]) -> Result<(), Error> {
+        let court = eastern_court(alloc)?;
+        let mut docket = vectors::docket(alloc, ZONE)?;
+        self.told.push(told_by_vectors(alloc, &docket, &court)?)?;
+        for line in lines.split_inclusive(|byte| *byte == b'\n') {
+            self.add(alloc, &mut docket, &court, line)?;
+        }
+        Ok(())
+    }
+
+    /// Adds the command of the line, what it is answered and what is told after it.
+    fn add(
+        &mut self,
+        alloc: Global,
+        docket: &mut Plain,
+        court: &Court,
+        line: &[u8],
+    ) -> Result<(), Error> {
+        let Ok(command) = read_command(alloc, line) else {
+            return Err(anyhow!("a line is no command"));
+        };
+        self.commands.push(command)?;
+        self.answers.push(vectors::answer(alloc, docket, line)?)?;
+        self.told.push(told_by_vectors(alloc, docket, court)?)?;
+        Ok(())
     }
 
     /// Whether these are the answers to the first commands.

@@ -2,7 +2,7 @@
 //! calendar of all days.
 use anyhow::{Error, anyhow};
 use court_days::{Court, Day, read_day};
-use docket_history::DueLine;
+use docket_history::{CaseRecord, DeadlineLine, DueLine};
 use docket_plain::Plain;
 use docket_store::Docket;
 use docket_text::{calendar_text, case_text, due_rows, sort_calendar};
@@ -16,6 +16,18 @@ fn day(text: &str) -> Result<Day, Error> {
     read_day(text.as_bytes()).ok_or_else(|| anyhow!("{text} is no day"))
 }
 
+fn push_text(
+    alloc: Global,
+    court: &Court,
+    case: &CaseRecord,
+    lines: &[DeadlineLine],
+    text: &mut Vec<u8>,
+) -> Result<(), Error> {
+    let added = case_text(alloc, court, case, lines)?;
+    text.extend_from_slice(added.as_bytes())?;
+    Ok(())
+}
+
 /// Appends the text of the case of a number, if there is one.
 fn push_case<S: Alter>(
     alloc: Global,
@@ -23,17 +35,17 @@ fn push_case<S: Alter>(
     number: u32,
     text: &mut Vec<u8>,
 ) -> Result<(), Error> {
-    let Ok(case) = docket.case(number) else {
-        return Err(anyhow!("a case is not told"));
-    };
     let Ok(lines) = docket.deadlines(number) else {
         return Err(anyhow!("the deadlines of a case are not told"));
     };
-    let (Some(case), Some(lines)) = (case, lines) else {
+    let Some(lines) = lines else {
         return Ok(());
     };
-    text.extend_from_slice(case_text(alloc, docket.court(), &case, &lines)?.as_bytes())?;
-    Ok(())
+    match docket.case(number) {
+        Ok(Some(case)) => push_text(alloc, docket.court(), &case, &lines, text),
+        Ok(None) => Ok(()),
+        Err(_) => Err(anyhow!("a case is not told")),
+    }
 }
 
 /// What a docket in a database tells.
@@ -48,6 +60,18 @@ pub(crate) fn told<S: Alter>(alloc: Global, docket: &mut Docket<S>) -> Result<Ve
     }
 }
 
+fn push_rows(
+    alloc: Global,
+    number: u32,
+    lines: &[DeadlineLine],
+    rows: &mut Vec<DueLine>,
+) -> Result<(), Error> {
+    for row in due_rows(alloc, number, lines)? {
+        rows.push(row)?;
+    }
+    Ok(())
+}
+
 /// Appends the text of the case of a number, if there is one, and the rows of its deadlines whose time
 /// runs.
 fn push_plain_case(
@@ -58,14 +82,14 @@ fn push_plain_case(
     text: &mut Vec<u8>,
     rows: &mut Vec<DueLine>,
 ) -> Result<(), Error> {
-    let (Some(case), Some(lines)) = (docket.case(number)?, docket.deadlines(number)?) else {
+    let Some(lines) = docket.deadlines(number)? else {
         return Ok(());
     };
-    text.extend_from_slice(case_text(alloc, court, &case, &lines)?.as_bytes())?;
-    for row in due_rows(alloc, number, &lines)? {
-        rows.push(row)?;
-    }
-    Ok(())
+    let Some(case) = docket.case(number)? else {
+        return Ok(());
+    };
+    push_text(alloc, court, &case, &lines, text)?;
+    push_rows(alloc, number, &lines, rows)
 }
 
 /// What a docket in vectors tells.
