@@ -1,7 +1,10 @@
 -- What a migration leaves, from a docket's database to its files.
 use Rattle.std.proofs.Common.{◌≡◌, Result, Ok, Err, IfErr, OnOk, subst, sym}
 use Rattle.std.proofs.Math.Logic.{∥∥₁_map}
+use Rattle.std.proofs.lemmas.Result.{IfErr-weaker, on_ok_weaker}
 use Rattle.sqlite_disk.specs.declared.Disk.{Ghosts as Disk}
+use Rattle.sqlite_wal.specs.Recovery.{Image}
+use Rattle.sqlite.specs.Files.{IsCleanLeft, over_files}
 use Rattle.sqlite.specs.Held.{Held, state}
 use Rattle.sqlite.specs.State.{HasCleanDisk}
 use Rattle.sqlite.specs.Store.{Ghosts}
@@ -10,14 +13,18 @@ use Rattle.sqlite.specs.declared.file.Leftover.{Leftover}
 use Rattle.sqlite.specs.declared.file.Leftover.TheVariants as left
 use Rattle.docket_columns.specs.declared.version.Version.TheVariants.{First}
 use Rattle.docket_migration.specs.Migrating.{Migrates}
+use Rattle.docket_scan.specs.Dockets.{MayHold}
 use Rattle.docket_tables.specs.Stands.{HoldsRowsIn}
 use Rattle.docket_store.specs.Left.{Leaves, LeavesRows}
-use Rattle.docket_store.specs.Migrating.{cause_of, first_rows}
+use Rattle.docket_store.specs.Migrating.{HoldFirst, cause_of, first_rows}
 use Rattle.docket_store.specs.declared.migrating.MigrateFault.{MigrateFault}
 use Rattle.docket_store.specs.declared.migrating.MigrateFault.TheVariants as migrate
+use Rattle.docket_applying.specs.Applying.{IsDocket}
 use Rattle.docket_applying.specs.CourtDockets.{CourtDocket as Docket}
 use Rattle.file_dockets.specs.Keeping.{rows_told}
-use Rattle.file_changes.specs.Migrates.{MigratesTo, Stays, StaysIn}
+use Rattle.file_dockets.specs.Working.{IsDoneOn}
+use Rattle.file_changes.specs.Migrates.{MigratesTo, Stays}
+use Rattle.file_changes.specs.Works.{MigratesOver}
 
 module _ {S : Type 0} (g : Ghosts S) (old new : Held S) (docket : Docket) (holds : HoldsRowsIn g First old (first_rows docket.court docket.history))
     (trust : HasCleanDisk (state g new) → HasCleanDisk (state g old)) (clean : HasCleanDisk (state g new)) where
@@ -29,14 +36,17 @@ module _ {S : Type 0} (g : Ghosts S) (old new : Held S) (docket : Docket) (holds
   stays migrate.OtherVersion is = is clean
   stays (migrate.Damaged table) is = is clean
 
--- by the connection that comes back
-pub stays_back : {S : Type 0} (g : Ghosts S) (old new now : Held S) (docket : Docket) → HoldsRowsIn g First old (first_rows docket.court docket.history)
-    → (HasCleanDisk (state g new) → HasCleanDisk (state g old)) → now ≡ new → (fault : MigrateFault) (outcome : Result (Unit {0}) MigrateFault) → outcome ≡ Err fault
-    → Migrates g old new docket.court docket.history (Err (cause_of fault))
-    → IfErr outcome (StaysIn g now docket)
-stays_back {S} g old new now docket holds trust same fault outcome is migrates =
-    subst (λ (r : Result (Unit {0}) MigrateFault). IfErr r (StaysIn g now docket)) (sym is)
-    (subst (λ (conn : Held S). StaysIn g conn docket fault) (sym same) (λ clean. stays g old new docket holds trust clean fault migrates))
+-- a docket that was not migrated, by the connection that comes back
+pub unmigrated : {S : Type 0} (g : Ghosts S) (old new now : Held S) (fault : MigrateFault) (outcome : Result (Unit {0}) MigrateFault)
+    → (HasCleanDisk (state g new) → HasCleanDisk (state g old)) → now ≡ new → outcome ≡ Err fault
+    → ((docket : Docket) → IsDocket docket.court docket.history → MayHold First docket.history → HoldsRowsIn g First old (first_rows docket.court docket.history)
+    → Migrates g old new docket.court docket.history (Err (cause_of fault)))
+    → MigratesOver g old now outcome
+unmigrated {S} g old new now fault outcome trust same told migrates =
+    subst (MigratesOver g old now) (sym told) (subst (λ (conn : Held S). MigratesOver g old conn (Err fault)) (sym same) (record {
+      migrated = λ docket is known holds. tt;
+      stays = λ docket is known holds clean. stays g old new docket holds trust clean fault (migrates docket is known holds);
+    }))
 
 stays_map : (L M : (Trees → Type 0) → Type 0) → ((P : Trees → Type 0) → L P → M P) → (docket : Docket) (fault : MigrateFault) → Stays L docket fault → Stays M docket fault
 stays_map L M more docket migrate.NoMemory is = more _ is
@@ -52,10 +62,20 @@ module _ {D : Type 0} {g : Disk D} where
   leaves_map (left.Unopened files) P Q then leaves = λ image may. ∥∥₁_map (leaves image may) (λ one. (one.0, one.1, then one.0 one.2))
   leaves_map (left.Store it) P Q then leaves = λ db may. then db (leaves db may)
 
-  -- from a connection to the files that it leaves
-  pub migrates_to : (rest : Leftover D g) (may_leave : Trees → Type 0) (docket : Docket) (outcome : Result (Unit {0}) MigrateFault)
+  migrates_to : (rest : Leftover D g) (may_leave : Trees → Type 0) (docket : Docket) (outcome : Result (Unit {0}) MigrateFault)
       → OnOk outcome (LeavesRows rest (rows_told docket) (rows_told docket)) → IfErr outcome (λ _. Leaves rest may_leave)
       → IfErr outcome (Stays (λ P. (db : Trees) → may_leave db → P db) docket) → MigratesTo rest docket outcome
   migrates_to rest may_leave docket (Ok done) rows images is = rows
   migrates_to rest may_leave docket (Err fault) rows images is =
       stays_map (λ P. (db : Trees) → may_leave db → P db) (Leaves rest) (λ P all. leaves_map rest may_leave P all images) docket fault is
+
+  -- from a connection to the files that it leaves
+  pub migrated_on : (start : Image) (outcome : Result (Unit {0}) MigrateFault) (rest : Leftover D g) (docket : Docket)
+      → IsDoneOn start (λ old new. MigratesOver over_files old new) outcome rest → IsDocket docket.court docket.history → MayHold First docket.history
+      → HoldFirst start docket.court docket.history → IsCleanLeft rest → MigratesTo rest docket outcome
+  migrated_on start outcome rest docket done is known files clean =
+      let holds = done.holds First (first_rows docket.court docket.history) files in
+      migrates_to rest (state over_files done.back).may_leave docket outcome
+      (on_ok_weaker outcome (λ now. done.left (rows_told docket) (rows_told docket) now clean) (done.comes.migrated docket is known holds))
+      done.images
+      (IfErr-weaker outcome _ _ (λ fault kept. kept (done.trust clean)) (done.comes.stays docket is known holds))

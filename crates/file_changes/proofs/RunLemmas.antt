@@ -3,11 +3,17 @@ use Rattle.std.proofs.Common.{◌≡◌, ◌∙◌, inl, inr, ℕ, ◌≤◌, Li
 use Rattle.std.proofs.Math.Seq.{take-append_seam}
 use Rattle.std.proofs.lemmas.List.{take-append-le, take-append-drop}
 use Rattle.std.specs.Io.KnownBytes.{Appends}
+use Rattle.sqlite_disk.specs.declared.Disk.{Ghosts as Disk}
+use Rattle.sqlite_wal.specs.Recovery.{Image}
 use Rattle.sqlite.specs.Store.{Ghosts}
+use Rattle.sqlite.specs.Files.{IsCleanLeft, over_files}
 use Rattle.sqlite.specs.Held.{Held, state}
 use Rattle.sqlite.specs.State.{HasCleanDisk}
+use Rattle.sqlite.specs.declared.file.Leftover.{Leftover}
+use Rattle.docket_columns.specs.declared.version.Version.TheVariants.{Second}
 use Rattle.docket_scan.specs.declared.fault.AdoptFault.{AdoptFault}
 use Rattle.docket_tables.specs.Layouts.{Rows}
+use Rattle.docket_applying.specs.Applying.{IsDocket, StandsFor}
 use Rattle.docket_applying.specs.Dockets.{Docket as Stored}
 use Rattle.docket_applying.specs.declared.fault.Fault.TheVariants.{Refused, NoMemory, StoreFailed, Closed, Damaged}
 use Rattle.line_io.specs.Ending.{BreaksOff}
@@ -21,9 +27,16 @@ use Rattle.docket_applying.specs.CourtDockets.{CourtDocket as Docket}
 use Rattle.command_lines.specs.Lines.{bad_answers, docket_after, answer_to_line, run_text}
 use Rattle.command_lines.specs.declared.fault.RunFault.{RunFault}
 use Rattle.command_lines.specs.declared.fault.RunFault.TheVariants as run
+use Rattle.docket_store.specs.Left.{LeavesRows}
+use Rattle.docket_store.specs.Opening.{IsNotAdopted}
+use Rattle.docket_store.specs.Reopening.{HoldDocket}
 use Rattle.file_dockets.specs.Keeping.{HoldsBetween, Keeps, rows_told}
-use Rattle.file_changes.specs.Runs.{Answers, LeavesPrefix, LeftBetween}
+use Rattle.file_dockets.specs.Working.{IsDoneOn}
+use Rattle.file_dockets.specs.Works.{WorksTo}
+use Rattle.file_changes.specs.Runs.{Answers, LeavesPrefix, LeftBetween, RunsTo}
+use Rattle.file_changes.specs.Works.{RunsOver}
 use Rattle.file_dockets.proofs.KeepLemmas.{either, first, second}
+use Rattle.file_dockets.proofs.WorkLemmas.{unadopted_keeps, unadopted_works, works_map}
 use Rattle.file_changes.proofs.StandLemmas.{keeps_held}
 
 -- of bytes that are known
@@ -214,3 +227,44 @@ module _ {S : Type 0} (g : Ghosts S) (conn : Held S) where
       no_further = refl;
       left = holds;
     }
+
+works_of : {T : Type 0} (P : T → Type 0) (outcome : Result T AdoptFault) → IsOkAnd outcome P → WorksTo P outcome
+works_of P (Ok done) is = is
+works_of P (Err fault) is = absurd is
+
+module _ {S : Type 0} (g : Ghosts S) (old new : Held S) (known before after : Option (List ℕ)) where
+  -- the docket was adopted, and answered the lines
+  pub ran : (outcome : Result (Result CountEnd RunFault) AdoptFault)
+      → ((told : Docket) → IsDocket told.court told.history → StandsFor g old told.court told.history → HasCleanDisk (state g new)
+      → IfSome known (λ input. IsOkAnd outcome (Answers (HoldsBetween g new) told input before after)))
+      → RunsOver g old new known before after outcome
+  ran outcome answers = record {
+    runs = λ told is stands clean. some_map known _ _ (λ input. works_of _ outcome) (answers told is stands clean);
+    prefix = λ told is stands clean. some_map known _ _ (λ input. prefix_done g new told input before after outcome) (answers told is stands clean);
+  }
+
+  -- it was not adopted, and nothing went out
+  pub unran : (fault : AdoptFault) → after ≡ before
+      → ((told : Docket) → IsDocket told.court told.history → StandsFor g old told.court told.history → IsNotAdopted g new (rows_told told) fault)
+      → RunsOver g old new known before after (Err fault)
+  unran fault same unadopted = record {
+    runs = λ told is stands clean. some_all known _ (λ input. unadopted_works g new (rows_told told) (Answers (HoldsBetween g new) told input before after) fault (unadopted told is stands) clean);
+    prefix = λ told is stands clean. some_all known _ (λ input. prefix_unadopted g new told input before after (unadopted_keeps g new (rows_told told) fault (unadopted told is stands)) same);
+  }
+
+module _ {D : Type 0} {g : Disk D} (start : Image) (known before after : Option (List ℕ)) (outcome : Result (Result CountEnd RunFault) AdoptFault) (rest : Leftover D g)
+    (told : Docket) (done : IsDoneOn start (λ old new. RunsOver over_files old new known before after) outcome rest) (is : IsDocket told.court told.history)
+    (files : HoldDocket start told.court told.history) (clean : IsCleanLeft rest) where
+  left_of : (rows next : Rows) → HoldsBetween over_files done.back rows next → LeavesRows rest rows next
+  left_of rows next holds = done.left rows next holds clean
+
+  -- from a connection to the files that it leaves
+  pub runs_on : IfSome known (λ input. RunsTo (LeavesRows rest) told input before after outcome)
+  runs_on =
+      some_map known _ _ (λ input. works_map _ _ (answers_map (HoldsBetween over_files done.back) (LeavesRows rest) left_of told input before after) outcome)
+      (done.comes.runs told is (done.holds Second (rows_told told) files) (done.trust clean))
+
+  pub prefix_on : IfSome known (λ input. LeavesPrefix (LeavesRows rest) told input before after)
+  prefix_on =
+      some_map known _ _ (λ input. prefix_map (HoldsBetween over_files done.back) (LeavesRows rest) left_of told input before after)
+      (done.comes.prefix told is (done.holds Second (rows_told told) files) (done.trust clean))

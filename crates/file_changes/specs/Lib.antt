@@ -1,3 +1,4 @@
 pub mod Commands
 pub mod Migrates
 pub mod Runs
+pub mod Works

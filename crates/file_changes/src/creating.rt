@@ -1,27 +1,39 @@
 //! A new docket in a database.
-ghost use Rattle.std.specs.Prelude.{[], OnOk};
-ghost use Rattle.docket_applying.specs.Applying.{IsDocket, docket_rows};
-ghost use Rattle.file_dockets.specs.Keeping.{HoldsBetween};
 
 use court_days::Court;
 use docket_store::{CreateFault, Docket};
-use file_dockets::Worked;
+use file_dockets::{Work, Worked};
 use sqlite::{Alter, Connection};
 use std::alloc::Global;
 
 /// Makes the docket of a court, without any record, in a database that holds nothing.
-pub(crate) fn create_over<S: Alter>(
-    alloc: Global,
-    conn: Connection<S>,
-    court: Court,
-) -> Worked<S, (), CreateFault>
-    ensures made { OnOk result.outcome (IsDocket court [] × HoldsBetween S.Store result.connection (docket_rows court []) (docket_rows court [])) }
-{
-    match Docket::create(alloc, conn, court) {
-        Ok(docket) => Worked {
-            outcome: Ok(()),
-            connection: docket.close(),
-        },
-        Err(returned) => Worked::from(returned),
+#[derive(Drop)]
+pub(crate) struct Create {
+    pub(crate) court: Court,
+}
+
+impl Work<(), ()> for Create {
+    ghost use Rattle.file_changes.specs.Works.{CreatesOver};
+
+    type Done = ();
+
+    type Fault = CreateFault;
+
+    ghost Comes = { λ it g old new _ _ _ _. CreatesOver g old new it.court };
+
+    fn work<S: Alter>(
+        self,
+        alloc: Global,
+        conn: Connection<S>,
+        _reader: &mut (),
+        _writer: &mut (),
+    ) -> Worked<S, (), CreateFault> {
+        match Docket::create(alloc, conn, self.court) {
+            Ok(docket) => Worked {
+                outcome: Ok(()),
+                connection: docket.close(),
+            },
+            Err(returned) => Worked::from(returned),
+        }
     }
 }

@@ -20,15 +20,15 @@ ghost use Rattle.file_changes.specs.Commands.{AppliesTo};
 ghost use Rattle.file_changes.specs.Migrates.{IsFirst, MigratesTo};
 ghost use Rattle.file_changes.specs.Runs.{LeavesPrefix, RunsTo};
 
-use crate::creating::create_over;
-use crate::importing::apply_over;
-use crate::migrating::migrate_over;
-use crate::running::run_over;
+use crate::creating::Create;
+use crate::importing::Apply;
+use crate::migrating::Migrate;
+use crate::running::Run;
 use command_lines::{CountEnd, RunFault};
 use court_days::Court;
 use docket_command::{Command, Reply};
-use docket_store::{CreateFault, Fault, MigrateFault, Watch, reopen_from};
-use file_dockets::{OnFile, leave};
+use docket_store::{CreateFault, Fault, MigrateFault, Watch};
+use file_dockets::{OnFile, work_on_file};
 use sqlite::Start;
 use std::io::{Read, Write};
 use std::rt::HostRuntime;
@@ -56,8 +56,8 @@ pub fn run_on_file<S: Start, V: Watch + Drop, R: Read, W: Write>(
     ensures unread { MatchResult result (λ done. IfErr done.outcome (λ _. (reader.new ≡ reader.old) × (writer.new ≡ writer.old)))
         (λ _. (reader.new ≡ reader.old) × (writer.new ≡ writer.old)) }
 {
-    let conn = reopen_from(rt, path, start)?;
-    Ok(leave(run_over(rt.alloc(), conn, watch, reader, writer)))
+    let run = Run { watch };
+    work_on_file(rt, path, start, run, reader, writer)
 }
 
 /// Applies a command to the docket in the files at a path.
@@ -76,8 +76,8 @@ pub fn apply_on_file<S: Start, V: Watch + Drop>(
     ensures unopened { (told : Told) → HoldDocket (image_at S.Start) told.court told.history
         → IfErr result (IsUnharmed (image_at S.Start) (IsImage (rows_told told))) }
 {
-    let conn = reopen_from(rt, path, start)?;
-    Ok(leave(apply_over(rt.alloc(), conn, watch, command)))
+    let apply = Apply { watch, command };
+    work_on_file(rt, path, start, apply, &mut (), &mut ())
 }
 
 /// Makes the docket of a court, without any record, in the files at a path, which hold nothing.
@@ -90,8 +90,8 @@ pub fn create_on_file<S: Start>(
     ensures made { IfOk result (λ done. IsCleanLeft done.left
         → OnOk done.outcome (IsDocket court [] × LeavesRows done.left (docket_rows court []) (docket_rows court []))) }
 {
-    let conn = reopen_from(rt, path, start)?;
-    Ok(leave(create_over(rt.alloc(), conn, court)))
+    let create = Create { court };
+    work_on_file(rt, path, start, create, &mut (), &mut ())
 }
 
 /// Takes the docket in the files at a path from the first version of the tables to the second. The first
@@ -107,6 +107,6 @@ pub fn migrate_on_file<S: Start, V: Watch + Drop>(
     ensures unopened { (told : Told) → HoldFirst (image_at S.Start) told.court told.history
         → IfErr result (IsUnharmed (image_at S.Start) (IsFirst told)) }
 {
-    let conn = reopen_from(rt, path, start)?;
-    Ok(leave(migrate_over(rt.alloc(), conn, watch)))
+    let migrate = Migrate { watch };
+    work_on_file(rt, path, start, migrate, &mut (), &mut ())
 }

@@ -2,7 +2,8 @@
 use Rattle.std.proofs.Common.{◌≡◌, Result, Ok, Err, IfErr, IsErrAnd, OnOk, subst, sym}
 use Rattle.std.proofs.lemmas.Result.{IfErr-weaker, on_ok_weaker}
 use Rattle.sqlite.specs.Store.{Ghosts}
-use Rattle.sqlite.specs.Held.{Held}
+use Rattle.sqlite.specs.Held.{Held, state}
+use Rattle.sqlite.specs.State.{HasCleanDisk}
 use Rattle.docket_scan.specs.declared.fault.AdoptFault.{AdoptFault}
 use Rattle.docket_scan.specs.declared.fault.AdoptFault.TheVariants as adopt
 use Rattle.docket_tables.specs.Layouts.{Rows}
@@ -57,3 +58,12 @@ module _ {S : Type 0} (g : Ghosts S) where
     unadopted_keeps adopt.NotADocket is = λ clean. absurd (is clean)
     unadopted_keeps adopt.OtherVersion is = λ clean. absurd (is clean)
     unadopted_keeps (adopt.Damaged table) is = λ clean. absurd (is clean)
+
+    -- a docket that stands is not adopted only for the causes that a work may tell
+    pub unadopted_works : {T : Type 0} (P : T → Type 0) (fault : AdoptFault) → IsNotAdopted g conn rows fault → HasCleanDisk (state g conn) → WorksTo P (Err fault)
+    unadopted_works P adopt.NoMemory is clean = tt
+    unadopted_works P adopt.StoreFailed is clean = tt
+    unadopted_works P adopt.Empty is clean = is clean
+    unadopted_works P adopt.NotADocket is clean = is clean
+    unadopted_works P adopt.OtherVersion is clean = is clean
+    unadopted_works P (adopt.Damaged table) is clean = is clean

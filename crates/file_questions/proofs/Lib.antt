@@ -1,3 +1,4 @@
+mod AskLemmas
 mod CaseLemmas
 mod CasedLemmas
 mod ExportLemmas

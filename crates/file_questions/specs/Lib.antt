@@ -1,3 +1,4 @@
+pub mod Asking
 pub mod CaseLists
 pub mod Checks
 pub mod Exports

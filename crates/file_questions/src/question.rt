@@ -1,7 +1,7 @@
 //! Asking the docket of a database, or of the files at a path.
 //!
-//! The work that a question does is a method of a trait, since `ask_on_file` is then the one function here
-//! that is proved at the store of files, which takes the prover long.
+//! The work that a question does is a method of a trait, so that no function here is proved at the store of
+//! files, which takes the prover long.
 ghost use Rattle.std.specs.Prelude.{◌≡◌, ◌≤◌, IfErr, IfOk, MatchResult};
 ghost use Rattle.sqlite.specs.Files.{IsCleanLeft};
 ghost use Rattle.sqlite.specs.Held.{state};
@@ -13,15 +13,15 @@ ghost use Rattle.docket_history.specs.Histories.{History};
 ghost use Rattle.docket_scan.specs.Dockets.{holdings_in};
 ghost use Rattle.docket_tables.specs.Layouts.{Rows};
 ghost use Rattle.docket_tables.specs.Stands.{HoldsRows, IsImage};
-ghost use Rattle.docket_applying.specs.Applying.{IsDocket, Stands, StandsFor};
+ghost use Rattle.docket_applying.specs.Applying.{IsDocket, Stands};
 ghost use Rattle.docket_applying.specs.CourtDockets.{CourtDocket as Told};
 ghost use Rattle.docket_store.specs.Left.{IsUnharmed, LeavesRows};
 ghost use Rattle.docket_store.specs.Reopening.{HoldDocket};
 ghost use Rattle.file_dockets.specs.Keeping.{HoldsBetween, rows_told};
 ghost use Rattle.file_dockets.specs.Works.{WorksTo};
 
-use docket_store::{AdoptFault, Docket, Holdings, Watch, reopen_from};
-use file_dockets::{OnFile, Worked, adopt, leave};
+use docket_store::{AdoptFault, Docket, Holdings, Watch};
+use file_dockets::{OnFile, Work, Worked, adopt, work_on_file};
 use sqlite::{Alter, Connection, Start};
 use std::alloc::Global;
 use std::rt::HostRuntime;
@@ -49,27 +49,37 @@ pub(crate) trait Question<W> {
 }
 
 /// Adopts the docket that a database holds, and asks it.
-fn ask_over<S: Alter, V: Watch + Drop, W, Q: Question<W>>(
-    alloc: Global,
-    conn: Connection<S>,
+#[derive(Drop)]
+struct Asked<'q, V, Q> {
     watch: V,
-    question: &Q,
-    out: &mut W,
-) -> Worked<S, Q::Answer, AdoptFault>
-    ensures told { (told : Told) → IsDocket told.court told.history → StandsFor S.Store conn told.court told.history
-        → HasCleanDisk (state S.Store result.connection)
-        → WorksTo (Q.Tells question.now told.court told.history out.old out.new) result.outcome }
-    ensures stays { (rows : Rows) → HoldsRows S.Store conn rows → HoldsBetween S.Store result.connection rows rows }
-    ensures unwritten { IfErr result.outcome (λ _. out.new ≡ out.old) }
-{
-    let (mut docket, held) = match adopt(alloc, conn, watch) {
-        Ok(found) => found,
-        Err(returned) => return Worked::from(returned),
-    };
-    let answer = question.ask(alloc, &mut docket, held, out);
-    Worked {
-        outcome: Ok(answer),
-        connection: docket.close(),
+    question: &'q Q,
+}
+
+impl<V: Watch + Drop, W, Q: Question<W>> Work<(), W> for Asked<'_, V, Q> {
+    ghost use Rattle.file_questions.specs.Asking.{AsksOver};
+
+    type Done = Q::Answer;
+
+    type Fault = AdoptFault;
+
+    ghost Comes = { λ it g old new _ _ before after. AsksOver g old new (λ court h. Q.Tells it.question.now court h before after) };
+
+    fn work<S: Alter>(
+        self,
+        alloc: Global,
+        conn: Connection<S>,
+        _reader: &mut (),
+        out: &mut W,
+    ) -> Worked<S, Q::Answer, AdoptFault> {
+        let (mut docket, held) = match adopt(alloc, conn, self.watch) {
+            Ok(found) => found,
+            Err(returned) => return Worked::from(returned),
+        };
+        let answer = self.question.ask(alloc, &mut docket, held, out);
+        Worked {
+            outcome: Ok(answer),
+            connection: docket.close(),
+        }
     }
 }
 
@@ -91,6 +101,6 @@ pub(crate) fn ask_on_file<S: Start, V: Watch + Drop, W, Q: Question<W>>(
         → IfErr result (IsUnharmed (image_at S.Start) (IsImage (rows_told told))) }
     ensures unwritten { MatchResult result (λ done. IfErr done.outcome (λ _. out.new ≡ out.old)) (λ _. out.new ≡ out.old) }
 {
-    let conn = reopen_from(rt, path, start)?;
-    Ok(leave(ask_over(rt.alloc(), conn, watch, question, out)))
+    let asked = Asked { watch, question };
+    work_on_file(rt, path, start, asked, &mut (), out)
 }

@@ -1,11 +1,17 @@
 -- What a docket is brought to by the connections that come to a port.
 use Rattle.std.specs.Prelude.{◌≡◌, ℕ, None, Result, Ok, Err}
-use Rattle.sqlite.specs.Held.{Held}
+use Rattle.sqlite.specs.Held.{Held, state}
+use Rattle.sqlite.specs.State.{HasCleanDisk}
 use Rattle.sqlite.specs.Store.{Ghosts}
 use Rattle.docket_scan.specs.declared.fault.AdoptFault.{AdoptFault}
 use Rattle.docket_serving.specs.Desks.{Desk}
 use Rattle.docket_serving.specs.Serving.{ServesRun}
+use Rattle.docket_tables.specs.Layouts.{Rows}
+use Rattle.docket_tables.specs.Stands.{HoldsRows}
+use Rattle.docket_applying.specs.Applying.{IsDocket, StandsFor}
 use Rattle.docket_applying.specs.CourtDockets.{CourtDocket as Docket, StandsAs}
+use Rattle.file_dockets.specs.Keeping.{HoldsBetween}
+use Rattle.file_dockets.specs.Works.{WorksTo}
 use Rattle.file_serving.specs.declared.serving.ServeEnd.{ServeEnd}
 use Rattle.file_serving.specs.declared.serving.ServeEnd.TheVariants.{Stopped}
 use Rattle.file_serving.specs.declared.serving.Service.{Service}
@@ -33,3 +39,9 @@ module _ {S : Type 0} (g : Ghosts S) where
     pub routes : adopted.routes ≡ service.routes
     pub served : ServesPort adopted last service.count end
     pub left : conn ≡ last.docket.conn
+
+  -- What serving comes to over a connection, by what it held, `old`, and as it comes back, `new`.
+  pub record ServesOver (old new : Held S) (service : Service) (outcome : Result (Result (Unit {0}) ServeEnd) AdoptFault) : Type 0 where
+    pub served : (told : Docket) → IsDocket told.court told.history → StandsFor g old told.court told.history → HasCleanDisk (state g new)
+        → WorksTo (Serves new told service) outcome
+    pub stays : (rows : Rows) → HoldsRows g old rows → IfUnserved outcome (HoldsBetween g new rows rows)

@@ -13,9 +13,9 @@ ghost use Rattle.docket_applying.specs.CourtDockets.{CourtDocket as Told};
 ghost use Rattle.file_dockets.specs.Keeping.{rows_told};
 ghost use Rattle.file_serving.specs.Serves.{IfUnserved};
 
-use crate::serving::{ServeEnd, Service, serve_over};
-use docket_store::{Watch, reopen_from};
-use file_dockets::{OnFile, leave};
+use crate::serving::{Serve, ServeEnd, Service};
+use docket_store::Watch;
+use file_dockets::{OnFile, work_on_file};
 use sqlite::Start;
 use std::io::Write;
 use std::rt::HostRuntime;
@@ -38,6 +38,11 @@ pub fn serve_on_file<S: Start, V: Watch + Drop, W: Write, E: Write>(
         → IfErr result (IsUnharmed (image_at S.Start) (IsImage (rows_told told))) }
     ensures unserved { MatchResult result (λ done. IfErr done.outcome (λ _. (w.new ≡ w.old) × (e.new ≡ e.old))) (λ _. (w.new ≡ w.old) × (e.new ≡ e.old)) }
 {
-    let conn = reopen_from(rt, path, start)?;
-    Ok(leave(serve_over(rt, path, conn, watch, service, w, e)))
+    let serve = Serve {
+        rt,
+        path,
+        watch,
+        service,
+    };
+    work_on_file(rt, path, start, serve, w, e)
 }

@@ -1,19 +1,12 @@
 //! The docket of a database, served by HTTP.
-ghost use Rattle.std.specs.Prelude.{◌≡◌, ◌≤◌, IfErr};
+ghost use Rattle.std.specs.Prelude.{◌≤◌};
 ghost use Rattle.sqlite.specs.Held.{state};
-ghost use Rattle.sqlite.specs.State.{HasCleanDisk};
 ghost use Rattle.sqlite.specs.View.{doubt};
-ghost use Rattle.docket_tables.specs.Layouts.{Rows};
-ghost use Rattle.docket_tables.specs.Stands.{HoldsRows};
-ghost use Rattle.docket_applying.specs.Applying.{IsDocket, StandsFor};
-ghost use Rattle.docket_applying.specs.CourtDockets.{CourtDocket as Told};
-ghost use Rattle.file_dockets.specs.Keeping.{HoldsBetween};
-ghost use Rattle.file_serving.specs.Serves.{IfUnserved, Serves, ServesPort};
-ghost use Rattle.file_dockets.specs.Works.{WorksTo};
+ghost use Rattle.file_serving.specs.Serves.{ServesPort};
 
 use docket_serving::{Desk, DocketFiles, Listening, Routes, ServingFault, serve_run};
 use docket_store::{AdoptFault, Watch};
-use file_dockets::{Worked, adopt};
+use file_dockets::{Work, Worked, adopt};
 use sqlite::{Alter, Connection};
 use std::alloc::Global;
 use std::io;
@@ -75,31 +68,41 @@ fn listen<S: Alter, W: Write, E: Write>(
 
 /// Adopts the docket that a database holds, tells on `w` where connections are taken, and serves so many
 /// of them. What goes wrong with one is told on `e`. The files at the path are those of the database.
-pub(crate) fn serve_over<S: Alter, V: Watch + Drop, W: Write, E: Write>(
-    rt: &HostRuntime,
-    path: &str,
-    conn: Connection<S>,
-    watch: V,
-    service: &Service,
-    w: &mut W,
-    e: &mut E,
-) -> Worked<S, Result<(), ServeEnd>, AdoptFault>
-    ensures served { (told : Told) → IsDocket told.court told.history → StandsFor S.Store conn told.court told.history
-        → HasCleanDisk (state S.Store result.connection)
-        → WorksTo (Serves S.Store result.connection told service.now) result.outcome }
-    ensures stays { (rows : Rows) → HoldsRows S.Store conn rows
-        → IfUnserved result.outcome (HoldsBetween S.Store result.connection rows rows) }
-    ensures unserved { IfErr result.outcome (λ _. (w.new ≡ w.old) × (e.new ≡ e.old)) }
-{
-    let (docket, _) = match adopt(rt.alloc(), conn, watch) {
-        Ok(found) => found,
-        Err(returned) => return Worked::from(returned),
-    };
-    let files = DocketFiles::new(rt, path);
-    let mut desk = Desk::new(rt.alloc(), docket, service.routes, Some(files));
-    let end = listen(rt, service.port, service.count, &mut desk, w, e);
-    Worked {
-        outcome: Ok(end),
-        connection: desk.into_docket().close(),
+#[derive(Drop)]
+pub(crate) struct Serve<'a, V> {
+    pub(crate) rt: &'a HostRuntime,
+    pub(crate) path: &'a str,
+    pub(crate) watch: V,
+    pub(crate) service: &'a Service,
+}
+
+impl<V: Watch + Drop, W: Write, E: Write> Work<W, E> for Serve<'_, V> {
+    ghost use Rattle.file_serving.specs.Serves.{ServesOver};
+
+    type Done = Result<(), ServeEnd>;
+
+    type Fault = AdoptFault;
+
+    ghost Comes = { λ it g old new _ _ _ _. ServesOver g old new it.service.now };
+
+    fn work<S: Alter>(
+        self,
+        alloc: Global,
+        conn: Connection<S>,
+        w: &mut W,
+        e: &mut E,
+    ) -> Worked<S, Result<(), ServeEnd>, AdoptFault> {
+        let (docket, _) = match adopt(alloc, conn, self.watch) {
+            Ok(found) => found,
+            Err(returned) => return Worked::from(returned),
+        };
+        let files = DocketFiles::new(self.rt, self.path);
+        let service = self.service;
+        let mut desk = Desk::new(alloc, docket, service.routes, Some(files));
+        let end = listen(self.rt, service.port, service.count, &mut desk, w, e);
+        Worked {
+            outcome: Ok(end),
+            connection: desk.into_docket().close(),
+        }
     }
 }

@@ -1,9 +1,9 @@
 //! Commands of a docket, one a line.
-ghost use Rattle.std.specs.Prelude.{◌≡◌, [], Ok, IfOk, IfSome, IsErr, MatchResult};
+ghost use Rattle.std.specs.Prelude.{◌≡◌, [], Ok, IfOk, IfSome, IsErr, IsTrue, MatchResult};
 ghost use Rattle.std.specs.Cow.{cow_str_bytes};
 ghost use Rattle.std.specs.Io.KnownBytes.{Appends};
 ghost use Rattle.sqlite_wal.specs.Files.{image_at};
-ghost use Rattle.sqlite.specs.Files.{IsCleanLeft};
+ghost use Rattle.sqlite.specs.Files.{IsCleanLeft, over_files};
 ghost use Rattle.docket_applying.specs.Applying.{IsDocket};
 ghost use Rattle.docket_store.specs.Reopening.{HoldDocket};
 ghost use Rattle.line_io.specs.Output.{HasFront};
@@ -26,7 +26,8 @@ use file_dockets::OnFile;
 use job_ends::{JobEnd, Status, done_on_docket, failed, out_of_memory};
 use line_io::write_bytes;
 use memory_file::MemoryFile;
-use sqlite::{Alter, Connection, FileFrom, Options, Start};
+use sqlite::{Alter, Connection, FileFrom, Files, Options, Start};
+use sqlite_disk::Disk;
 use std::alloc::Global;
 use std::io::{Read, Write};
 
@@ -180,20 +181,36 @@ fn answer_of_new<S: Alter + Drop, P: Write + Drop, R: Read, W: Write + Drop, E: 
     }
 }
 
+/// Answers commands of a new docket of the court in files that are in memory.
+fn answer_in_files<D: Disk + Drop, P: Write + Drop, R: Read, W: Write + Drop, E: Write>(
+    rt: &HostRuntime,
+    screen: Option<P>,
+    files: Files<D>,
+    court: Court,
+    r: &mut R,
+    mut w: W,
+    e: &mut E,
+) -> (Status, W)
+    requires log { IsTrue (D.Disk.is_usable files.log) }
+    requires db { IsTrue (D.Disk.is_usable files.db) }
+    ensures runs { IsHonest (over_files {g = D.Disk}) → IfSome (R.remaining r.old) (λ input. RunsInMemory (new_docket court) input (W.contents w) (W.contents result.1) result.0) }
+{
+    match Connection::open_files(rt.alloc(), files, Options::new(0)) {
+        Ok(conn) => answer_of_new(rt, screen, conn, court, r, w, e),
+        Err(_) => (out_of_memory(&mut w), w),
+    }
+}
+
 /// Answers commands of a new docket of the court in memory. The writer comes back.
 pub(crate) fn run_in_memory<P: Write + Drop, R: Read, W: Write + Drop, E: Write>(
     rt: &HostRuntime,
     screen: Option<P>,
     court: Court,
     r: &mut R,
-    mut w: W,
+    w: W,
     e: &mut E,
 ) -> (Status, W)
     ensures runs { IfSome (R.remaining r.old) (λ input. RunsInMemory (new_docket court) input (W.contents w) (W.contents result.1) result.0) }
 {
-    let alloc = rt.alloc();
-    match Connection::open_files(alloc, MemoryFile::pair(alloc), Options::new(0)) {
-        Ok(conn) => answer_of_new(rt, screen, conn, court, r, w, e),
-        Err(_) => (out_of_memory(&mut w), w),
-    }
+    answer_in_files(rt, screen, MemoryFile::pair(rt.alloc()), court, r, w, e)
 }

@@ -1,7 +1,6 @@
-use Rattle.file_dockets.proofs.WorkLemmas.{made_map}
+use Rattle.std.proofs.lemmas.Result.{IfOk-weaker}
+use Rattle.file_changes.proofs.StandLemmas.{made_on}
 use Rattle.file_changes.proofs.file.create_on_file.Goals as goal
 
 pub returns : goal.returns
-returns g c = record {
-  made = λ clean. made_map _ _ (λ made. (made.0, c.leave.ensures.left _ _ made.1 clean)) c.leave.result.outcome c.create_over.result.outcome c.leave.ensures.outcome c.create_over.ensures.made;
-}
+returns g c = record { made = IfOk-weaker c.work_on_file.result _ _ (λ ended. made_on _ c.args.court ended.outcome ended.left) c.work_on_file.ensures.done }

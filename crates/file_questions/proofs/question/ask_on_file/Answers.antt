@@ -1,22 +1,16 @@
-use Rattle.std.proofs.Common.{◌≡◌, IfErr, sym, subst}
-use Rattle.file_dockets.specs.Keeping.{rows_told}
-use Rattle.file_dockets.specs.Works.{WorksTo}
+use Rattle.std.proofs.lemmas.Result.{IfOk-weaker}
 use Rattle.docket_columns.specs.declared.version.Version.TheVariants.{Second}
-use Rattle.file_dockets.proofs.WorkLemmas.{err_told}
+use Rattle.file_dockets.specs.Keeping.{rows_told}
+use Rattle.file_questions.proofs.AskLemmas.{stays_on, told_on}
 use Rattle.file_questions.proofs.question.ask_on_file.Goals as goal
 
 pub returns-clause-told : goal.returns-clause-told
-returns-clause-told g c told is files clean =
-    subst (WorksTo _) (sym c.leave.ensures.outcome) (c.ask_over.ensures.told told is (c.in_ok-conn.ensures.docket told.court told.history files) (c.leave.ensures.trust clean))
+returns-clause-told g c told is files =
+    IfOk-weaker c.work_on_file.result _ _ (λ ended done clean. told_on _ _ ended.outcome ended.left told done files clean is) c.work_on_file.ensures.done
 
 pub returns-clause-stays : goal.returns-clause-stays
-returns-clause-stays g c told files clean =
-    c.leave.ensures.left (rows_told told) (rows_told told) (c.ask_over.ensures.stays (rows_told told) (c.in_ok-conn.ensures.docket told.court told.history files)) clean
+returns-clause-stays g c told files =
+    IfOk-weaker c.work_on_file.result _ _ (λ ended done. stays_on _ _ ended.outcome ended.left told done files) c.work_on_file.ensures.done
 
-pub returns-clause-unwritten : goal.returns-clause-unwritten
-returns-clause-unwritten g c =
-    subst (λ outcome. IfErr outcome (λ _. c.ask_over.new.out ≡ c.args.out.now)) (sym c.leave.ensures.outcome) c.ask_over.ensures.unwritten
-
-pub returns-in_err-conn-clause-unopened : goal.returns-in_err-conn-clause-unopened
-returns-in_err-conn-clause-unopened g c told held =
-    err_told _ c.from_residual.result c.in_err-conn.field-0.0 c.from_residual.ensures.1 (c.in_err-conn.ensures.unharmed Second (rows_told told) held)
+pub returns-clause-unopened : goal.returns-clause-unopened
+returns-clause-unopened g c told = c.work_on_file.ensures.unopened Second (rows_told told)

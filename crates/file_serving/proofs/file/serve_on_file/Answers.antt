@@ -1,13 +1,20 @@
-use Rattle.std.proofs.Common.{Result, Ok, Err, sym, subst}
-use Rattle.sqlite.specs.Files.{over_files}
+use Rattle.std.proofs.Common.{Result, Ok, Err}
+use Rattle.std.proofs.lemmas.Result.{IfOk-weaker}
+use Rattle.sqlite_disk.specs.declared.Disk.{Ghosts}
+use Rattle.sqlite_wal.specs.Recovery.{Image}
+use Rattle.sqlite.specs.Files.{IsCleanLeft, over_files}
+use Rattle.sqlite.specs.declared.file.Leftover.{Leftover}
 use Rattle.docket_scan.specs.declared.fault.AdoptFault.{AdoptFault}
-use Rattle.file_dockets.specs.Keeping.{HoldsBetween, rows_told}
+use Rattle.docket_columns.specs.declared.version.Version.TheVariants.{Second}
+use Rattle.docket_tables.specs.Layouts.{Rows}
 use Rattle.docket_store.specs.Left.{LeavesRows}
-use Rattle.file_serving.specs.Serves.{IfUnserved}
+use Rattle.docket_store.specs.Reopening.{HoldRows}
+use Rattle.file_dockets.specs.Keeping.{rows_told}
+use Rattle.file_dockets.specs.Working.{IsDoneOn}
+use Rattle.file_serving.specs.Serves.{IfUnserved, ServesOver}
 use Rattle.file_serving.specs.declared.serving.ServeEnd.{ServeEnd}
 use Rattle.file_serving.specs.declared.serving.ServeEnd.TheVariants.{NotAnnounced, NotListening, Stopped}
-use Rattle.docket_columns.specs.declared.version.Version.TheVariants.{Second}
-use Rattle.file_dockets.proofs.WorkLemmas.{err_map, err_told}
+use Rattle.file_serving.specs.declared.serving.Service.{Service}
 use Rattle.file_serving.proofs.file.serve_on_file.Goals as goal
 
 unserved : (P Q : Type 0) → (P → Q) → (outcome : Result (Result (Unit {0}) ServeEnd) AdoptFault) → IfUnserved outcome P → IfUnserved outcome Q
@@ -17,17 +24,19 @@ unserved P Q then (Ok (Err (NotListening kind))) is = then is
 unserved P Q then (Ok (Err (NotAnnounced kind))) is = then is
 unserved P Q then (Err fault) is = then is
 
+-- from a connection to the files that it leaves
+stays_on : {D : Type 0} {g : Ghosts D} (start : Image) (service : Service) (outcome : Result (Result (Unit {0}) ServeEnd) AdoptFault) (rest : Leftover D g) (rows : Rows)
+    → IsDoneOn start (λ old new. ServesOver over_files old new service) outcome rest → HoldRows Second start rows → IsCleanLeft rest
+    → IfUnserved outcome (LeavesRows rest rows rows)
+stays_on start service outcome rest rows done files clean =
+    unserved _ (LeavesRows rest rows rows) (λ holds. done.left rows rows holds clean) outcome (done.comes.stays rows (done.holds Second rows files))
+
 pub returns-clause-stays : goal.returns-clause-stays
-returns-clause-stays g c told files clean =
-    let Q : Type 0 = LeavesRows c.leave.result.left (rows_told told) (rows_told told) in
-    subst (λ (outcome : Result (Result (Unit {0}) ServeEnd) AdoptFault). IfUnserved outcome Q) (sym c.leave.ensures.outcome)
-    (unserved (HoldsBetween over_files c.serve_over.result.connection (rows_told told) (rows_told told)) Q
-    (λ holds. c.leave.ensures.left (rows_told told) (rows_told told) holds clean) c.serve_over.result.outcome
-    (c.serve_over.ensures.stays (rows_told told) (c.in_ok-conn.ensures.docket told.court told.history files)))
+returns-clause-stays g c told files =
+    IfOk-weaker c.work_on_file.result _ _ (λ ended done. stays_on _ c.args.service.now ended.outcome ended.left (rows_told told) done files) c.work_on_file.ensures.done
+
+pub returns-clause-unopened : goal.returns-clause-unopened
+returns-clause-unopened g c told = c.work_on_file.ensures.unopened Second (rows_told told)
 
 pub returns-clause-unserved : goal.returns-clause-unserved
-returns-clause-unserved g c = err_map _ _ (λ fault same. same) c.leave.result.outcome c.serve_over.result.outcome c.leave.ensures.outcome c.serve_over.ensures.unserved
-
-pub returns-in_err-conn-clause-unopened : goal.returns-in_err-conn-clause-unopened
-returns-in_err-conn-clause-unopened g c told held =
-    err_told _ c.from_residual.result c.in_err-conn.field-0.0 c.from_residual.ensures.1 (c.in_err-conn.ensures.unharmed Second (rows_told told) held)
+returns-clause-unserved g c = c.work_on_file.ensures.unread

@@ -1,20 +1,8 @@
 use Rattle.std.proofs.Common.{refl}
 use Rattle.sqlite.specs.View.{doubt}
 use Rattle.sqlite_pool.specs.Pool.{state}
-use Rattle.command_lines.specs.declared.fault.RunFault.TheVariants as run
-use Rattle.job_runs.specs.Jobs.{new_docket}
-use Rattle.job_runs.proofs.EndLemmas.{whatever_known}
-use Rattle.job_runs.proofs.RunLemmas.{not_begun}
 use Rattle.job_runs.proofs.command.run_in_memory.Goals as goal
 
-pub returns-in-Ok : goal.returns-in-Ok
+pub returns : goal.returns
 unfolding doubt state
-returns-in-Ok g c = record { runs = c.answer_of_new.ensures.runs (λ held. refl) }
-
-pub returns-in-Err : goal.returns-in-Err
-returns-in-Err g c = record {
-  runs =
-      whatever_known (g.R.Read.remaining c.args.r.now) _ (λ input.
-      not_begun (new_docket c.args.court) input (g.W.Write.contents c.args.w) (g.W.Write.contents c.out_of_memory.new.w) run.NoMemory c.out_of_memory.result
-      c.out_of_memory.ensures.status c.out_of_memory.ensures.told);
-}
+returns g c = record { runs = c.answer_in_files.ensures.runs (λ held. refl) }
