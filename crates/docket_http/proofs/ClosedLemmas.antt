@@ -1,5 +1,5 @@
 -- What a closed docket answers.
-use Rattle.std.proofs.Common.{◌≡◌, ◌∙◌, IfOk, IfErr, inl, ℕ, List, Option, Result, Ok, Err, refl, sym, ap, subst}
+use Rattle.std.proofs.Common.{◌≡◌, ◌∙◌, IsErrAnd, IfOk, IfErr, inl, inr, ℕ, List, Option, Result, Ok, Err, refl, sym, ap, subst}
 use Rattle.std.specs.Io.KnownBytes.{Appends}
 use Rattle.docket_applying.specs.declared.fault.Fault.{Fault}
 use Rattle.docket_applying.specs.declared.fault.Fault.TheVariants as fault
@@ -13,11 +13,11 @@ use Rattle.http_request.specs.declared.page.Routes.{Routes}
 use Rattle.http_request.specs.declared.wish.Wish.{Wish}
 use Rattle.http_request.specs.declared.wish.Wish.TheVariants.{Command as CommandWish, Calendar}
 use Rattle.docket_http.specs.Answer.{Response, response_bytes, json, problem_response, problem_status}
-use Rattle.docket_http.specs.Asking.{closed_command, problem_of_fault, RepliesClosed}
+use Rattle.docket_http.specs.Asking.{closed_command, problem_of_fault, IsClosedAnswer, IsClosedReply, RepliesClosed}
 use Rattle.docket_http.specs.Reply.{IsReply, reply_bytes, reply_status}
 use Rattle.docket_http.specs.Serve.{IsAsked, Sends, SendsClosed, ServesClosed}
 use Rattle.docket_http.specs.declared.problem.Problem.{Problem}
-use Rattle.docket_http.specs.declared.problem.Problem.TheVariants.{Closed}
+use Rattle.docket_http.specs.declared.problem.Problem.TheVariants.{Closed, NoMemory}
 use Rattle.docket_http.specs.declared.reply.Reply.{Reply}
 use Rattle.docket_http.specs.declared.reply.Reply.TheVariants.{Fixed}
 use Rattle.docket_http.specs.declared.fault.ServeFault.{ServeFault}
@@ -33,6 +33,15 @@ pub closed_as : (a b : Wish) (x y : List ℕ) (r : Result Reply Fault) → a ≡
 closed_as a b x y r same_wish same_body closed =
     subst (λ (w : Wish). RepliesClosed w y r) same_wish (subst (λ (z : List ℕ). RepliesClosed a z r) same_body closed)
 
+-- a question that is told that the docket is closed
+pub closed_told : (a b : Wish) (body : List ℕ) (r : Result Reply Fault) → b ≡ a → r ≡ Err fault.Closed → IsClosedAnswer a body (problem_response Closed) → RepliesClosed b body r
+closed_told a b body r same is answer =
+    subst (λ (w : Wish). RepliesClosed w body r) (sym same) (subst (λ (x : Result Reply Fault). RepliesClosed a body x) (sym is) answer)
+
+pub closed_short : (wish : Wish) (body : List ℕ) (r : Result Reply Fault) → IsErrAnd r (λ f. f ≡ fault.NoMemory) → IsClosedAnswer wish body (problem_response NoMemory) → RepliesClosed wish body r
+closed_short wish body (Ok reply) told answer = absurd told
+closed_short wish body (Err f) told answer = subst (λ (x : Fault). RepliesClosed wish body (Err x)) (sym told) answer
+
 -- the writing of a reply
 pub sends_reply : (r : Result Served ServeFault) (reply : Reply) (response : Response) (o n : Option (List ℕ)) → IsReply reply response
     → IfOk r (λ s. Appends o n (reply_bytes reply) × (s.status ≡ reply_status reply))
@@ -41,6 +50,13 @@ pub sends_reply : (r : Result Served ServeFault) (reply : Reply) (response : Res
 sends_reply (Ok s) reply response o n is whole front = (subst (λ (b : List ℕ). Appends o n b) is.0 whole.0, whole.1 ∙ is.1)
 sends_reply (Err e) reply response o n is whole front =
     subst (λ (x : ServeFault). Sends response o n (Err x)) (sym front.0) (subst (λ (b : List ℕ). AppendsFront o n b) is.0 front.1)
+
+pub closed_reply_sent : (r : Result Served ServeFault) (wish : Wish) (body : List ℕ) (reply : Reply) (o n : Option (List ℕ)) → IsClosedReply wish body reply
+    → IfOk r (λ s. Appends o n (reply_bytes reply) × (s.status ≡ reply_status reply))
+    → IfErr r (λ e. (e ≡ serve.WriteFailed) × AppendsFront o n (reply_bytes reply))
+    → SendsClosed wish body o n r
+closed_reply_sent r wish body reply o n closed whole front =
+    record { response = closed.0; closed = closed.2; sent = sends_reply r reply closed.0 o n closed.1 whole front }
 
 -- a calendar that did not begin since the docket is closed
 pub closed_sent : (e : ListingEnd) (f : Fault) (p : Problem) (o m n : Option (List ℕ)) (r : Result Served ServeFault)
@@ -53,6 +69,13 @@ closed_sent e f p o m n r is told shut kept whole front =
     let closed = told ∙ ap problem_of_fault fault_is in
     subst (λ (b : Option (List ℕ)). Sends (problem_response Closed) b n r) kept
     (sends_reply r (Fixed p) (problem_response Closed) m n (ap (λ q. response_bytes (problem_response q)) closed, ap problem_status closed) whole front)
+
+-- a calendar that began was not closed
+pub begun_open : {A : Type 0} (e : ListingEnd) (f : Fault) → e ≡ listing.Broken f → ◌≡◌ {A = Result ℕ ListingEnd} (Err e) (Err (listing.NotBegun fault.Closed)) → A
+begun_open e f is shut = absurd (cc)
+
+pub cut_open : {A : Type 0} (e : ListingEnd) → e ≡ listing.WriteFailed → ◌≡◌ {A = Result ℕ ListingEnd} (Err e) (Err (listing.NotBegun fault.Closed)) → A
+cut_open e is shut = absurd (cc)
 
 pub closed_calendar : (from to : ℕ) (wish : Wish) (body : List ℕ) (o n : Option (List ℕ)) (r : Result Served ServeFault) → wish ≡ Calendar from to
     → Sends (problem_response Closed) o n r → SendsClosed wish body o n r
@@ -69,3 +92,11 @@ read_closed routes input wish body o n (Err serve.StoreFailed) asked closed = in
 read_closed routes input wish body o n (Err serve.ReadFailed) asked closed = absurd closed.sent
 read_closed routes input wish body o n (Err serve.EndedEarly) asked closed = absurd closed.sent
 read_closed routes input wish body o n (Err serve.CopyWanted) asked closed = absurd closed.sent
+
+-- memory was short before the request was read
+pub unread_closed : (routes : Routes) (input o n : Option (List ℕ)) (r : Result Served ServeFault)
+    → IfOk r (λ s. Appends o n (reply_bytes (Fixed NoMemory)) × (s.status ≡ 500))
+    → IfErr r (λ e. (e ≡ serve.WriteFailed) × AppendsFront o n (reply_bytes (Fixed NoMemory)))
+    → ServesClosed routes input o n r
+unread_closed routes input o n (Ok s) whole front = inr whole
+unread_closed routes input o n (Err e) whole front = subst (λ (x : ServeFault). ServesClosed routes input o n (Err x)) (sym front.0) (inr front.1)

@@ -1,16 +1,18 @@
 -- What is told of a command is recorded.
-use Rattle.std.proofs.Common.{◌≡◌, IfOk, IfErr, inl, inr, ℕ, List, Option, Result, Ok, Err, refl, sym, subst, arith}
+use Rattle.std.proofs.Common.{◌≡◌, ◌≤◌, IfOk, IfErr, inl, inr, ℕ, List, Option, Result, Ok, Err, refl, sym, subst, arith}
 use Rattle.std.specs.Io.KnownBytes.{Appends}
+use Rattle.sqlite.specs.Held.{state}
 use Rattle.sqlite.specs.Store.{Ghosts}
+use Rattle.sqlite.specs.View.{doubt}
 use Rattle.court_days.specs.Court.{CourtSettings}
 use Rattle.docket_command.specs.declared.command.Command.{Command}
 use Rattle.docket_command.specs.declared.refusal.Refusal.{Refusal}
 use Rattle.docket_command.specs.declared.refusal.Reply.{Reply as Number}
 use Rattle.docket_tables.specs.Layouts.{Rows}
-use Rattle.docket_applying.specs.AnyRows.{AnswersWhole}
+use Rattle.docket_applying.specs.AnyRows.{AnswersWhole, WritesAtMostOne}
 use Rattle.docket_applying.specs.Dockets.{Docket}
 use Rattle.docket_applying.specs.declared.fault.Fault.{Fault}
-use Rattle.docket_applying.proofs.AnyLemmas.{whole_recorded}
+use Rattle.docket_applying.proofs.AnyLemmas.{lasting, whole_recorded}
 use Rattle.docket_wire.specs.Reading.{command_in}
 use Rattle.docket_wire.specs.Texts.{reply_text, fault_text}
 use Rattle.docket_wire.specs.declared.fault.WireFault.{WireFault}
@@ -60,6 +62,13 @@ no_problem problem.Closed is = omega (arith, is)
 no_problem problem.Damaged is = omega (arith, is)
 
 module _ {S : Type 0} (g : Ghosts S) (d : Docket S) where
+  -- a docket that was left as it was
+  pub nothing_written : WritesAtMostOne g d d
+  nothing_written rows n stored are small holds = inl (lasting g d.conn rows holds)
+
+  pub still_clean : doubt (state g d.conn).is_clean ≤ doubt (state g d.conn).is_clean
+  still_clean = omega arith
+
   -- the answer to a command
 
   said_told : (court : CourtSettings) (n : ℕ) (rows : Rows) (c : Command) (said : Result Number Refusal) (body : List ℕ) → AnswersWhole g d.conn court n rows c (Ok said) → command_in body ≡ Ok c

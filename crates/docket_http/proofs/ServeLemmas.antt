@@ -1,5 +1,5 @@
 -- From the writing of a reply to what a connection is served.
-use Rattle.std.proofs.Common.{◌≡◌, ◌+◌, ◌++◌, [], inl, inr, ℕ, List, Option, Some, None, Result, Ok, Err, IfOk, IfErr, true, false, length, take, take_at, length-append, append-nil, refl, sym, ap, subst, ◌∙◌, arith}
+use Rattle.std.proofs.Common.{◌≡◌, ◌≢◌, ◌⊎◌, ◌+◌, ◌++◌, [], inl, inr, ℕ, List, Option, Some, None, Result, Ok, Err, IfOk, IfErr, true, false, length, take, take_at, length-append, append-nil, refl, sym, ap, subst, ◌∙◌, arith}
 use Rattle.std.specs.Io.KnownBytes.{Appends}
 use Rattle.sqlite.specs.Store.{Ghosts}
 use Rattle.sqlite.specs.State.{HasCleanDisk}
@@ -54,6 +54,25 @@ nothing_appends (Some p) (Some q) (Some r) x k h = h ∙ ap (λ z. z ++ x) (k �
 
 nothing_front : (a b c : Option (List ℕ)) (x : List ℕ) → Appends a b [] → AppendsFront b c x → AppendsFront a c x
 nothing_front a b c x k f = record { count = f.count; within = f.within; front = nothing_appends a b c (take f.count x) k f.front }
+
+-- what ends the writing of an answer is told by nothing else
+abbrev pub IsOfWriting : ServeFault → Type 0
+IsOfWriting e = (e ≢ serve.ReadFailed) × (e ≢ serve.EndedEarly) × (e ≢ serve.CopyWanted)
+
+pub writing_own : IsOfWriting serve.WriteFailed
+writing_own = (λ is. absurd (cc), λ is. absurd (cc), λ is. absurd (cc))
+
+pub of_writing : (r : Result Served ServeFault) (P : Type 0) → IfErr r (λ e. (e ≡ serve.WriteFailed) × P) → IfErr r IsOfWriting
+of_writing (Ok s) P failed = tt
+of_writing (Err e) P failed = subst IsOfWriting (sym failed.0) writing_own
+
+pub not_unread : (r : Result Served ServeFault) (P : Type 0) → IfErr r IsOfWriting → IfErr r (λ e. (e ≡ serve.ReadFailed) ⊎ (e ≡ serve.EndedEarly) → P)
+not_unread (Ok s) P own = tt
+not_unread (Err e) P own = elim [ inl is ↦ absurd (own.0 is) | inr is ↦ absurd (own.1 is) ]
+
+pub no_copy_wanted : (r : Result Served ServeFault) → IfErr r IsOfWriting → r ≡ Err serve.CopyWanted → ⊥
+no_copy_wanted (Ok s) own is = absurd (cc)
+no_copy_wanted (Err e) own is = let same : e ≡ serve.CopyWanted = cc in own.2 same
 
 -- a request for a copy that was read
 pub wants : {S : Type 0} (routes : Routes) (input : Option (List ℕ)) (wish : Wish) (body : List ℕ) (d : Docket S) → IsAsked routes input wish body

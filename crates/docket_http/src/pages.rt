@@ -13,6 +13,8 @@ ghost use Rattle.docket_tables.specs.Stands.{HoldsRows};
 ghost use Rattle.docket_applying.specs.AnyRows.{Preserves};
 ghost use Rattle.docket_applying.specs.Applying.{Asks, Stands};
 ghost use Rattle.docket_applying.specs.declared.fault.Fault.TheVariants as fault;
+ghost use Rattle.html_sheets.specs.Weeks.{due_row};
+ghost use Rattle.html_sheets.specs.declared.links.Links.TheVariants.{Pages};
 ghost use Rattle.http_request.specs.Pages.{IsPageWithinLimits};
 ghost use Rattle.http_request.specs.declared.page.Page.TheVariants.{Cases, Days};
 ghost use Rattle.http_request.specs.declared.wish.Wish.TheVariants.{Page as PageWish};
@@ -21,13 +23,13 @@ ghost use Rattle.docket_http.specs.Pages.{caption_of, cases_from, days_page, due
 
 use crate::asking::{Telling, case_reply};
 use crate::reply::{Reply, html_reply};
-use court_days::Day;
+use court_days::{Court, Day};
 use docket_history::{CaseRow, DueLine};
 use docket_store::{Docket, Fault};
 use html_sheets::{Links, cases_page, days_page_foot, days_page_head, due_row};
 use http_request::Page;
 use sqlite::Alter;
-use std::alloc::Global;
+use std::alloc::{AllocError, Global};
 
 /// The most cases of a page.
 const CASES_A_PAGE: u32 = 100;
@@ -87,14 +89,9 @@ fn cases_reply<S: Alter>(alloc: Global, docket: &mut Docket<S>, from: u32) -> Re
     ensures replies { (h : History) (body : List ℕ) → Stands S.Store docket.old h
         → Replies S.Store docket.new h (PageWish (Cases from)) body result }
 {
-    let behind = docket.case_row(from + CASES_A_PAGE)?;
+    let behind = number_of(docket.case_row(from + CASES_A_PAGE)?.as_ref());
     let cases = cases_from(alloc, docket, from)?;
-    let page = cases_page(
-        alloc,
-        cases.as_slice(),
-        earlier(from),
-        number_of(behind.as_ref()),
-    )?;
+    let page = cases_page(alloc, cases.as_slice(), earlier(from), behind)?;
     Ok(html_reply(alloc, page)?)
 }
 
@@ -106,6 +103,18 @@ fn caption_of(case: Option<&CaseRow>) -> &str
         Some(case) => case.caption.as_str(),
         None => "",
     }
+}
+
+/// The row of a deadline, with the caption of its case.
+fn told_due(
+    alloc: Global,
+    court: &Court,
+    due: &DueLine,
+    case: Option<CaseRow>,
+) -> Result<String, AllocError>
+    ensures { IfOk result (λ row. string_bytes row ≡ due_row Pages court.now due.now (caption_of case)) }
+{
+    due_row(alloc, Links::Pages, court, due, caption_of(case.as_ref()))
 }
 
 /// Adds the row of a deadline, with the caption of its case.
@@ -123,13 +132,7 @@ fn push_due<S: Alter>(
         → Asks S.Store docket.new h (λ _. string_bytes page.new ≡ string_bytes page.old ++ due_told docket.old.court h due.now) result }
 {
     let case = docket.case_row(due.case)?;
-    let row = due_row(
-        alloc,
-        Links::Pages,
-        docket.court(),
-        due,
-        caption_of(case.as_ref()),
-    )?;
+    let row = told_due(alloc, docket.court(), due, case)?;
     page.push_str(row.as_str())?;
     Ok(())
 }

@@ -1,15 +1,37 @@
+use Rattle.std.proofs.Common.{refl, sym, subst}
 use Rattle.http_request.specs.Request.{body_of}
-use Rattle.docket_http.proofs.AskingLemmas.{problem_told}
+use Rattle.docket_http.specs.Answer.{problem_response}
+use Rattle.docket_http.specs.Asking.{IsClosedReply, problem_of_fault}
+use Rattle.docket_http.specs.declared.problem.Problem.{Problem}
+use Rattle.docket_http.specs.declared.reply.Reply.TheVariants.{Fixed}
+use Rattle.docket_http.proofs.AskingLemmas.{problem_told, reply_told}
 use Rattle.docket_http.proofs.RecordedLemmas.{problem_backed}
 use Rattle.docket_http.proofs.answering.reply_of.Goals as goal
 
-pub returns-in-Err-clause-answered : goal.returns-in-Err-clause-answered
-returns-in-Err-clause-answered g c h stands clean =
-    problem_told g.S.Store c.reply_to.new.docket h c.args.request.now.wish (body_of c.args.request.now) c.in-Err.fault c.problem_of.result c.problem_of.ensures
-    (c.in-Err.ensures.replies h stands) clean
+pub returns-in-Ok : goal.returns-in-Ok
+returns-in-Ok g c =
+    let done = c.in-Ok.ensures in
+    record {
+      court = done.court;
+      clean = done.clean;
+      any = done.any;
+      closed = done.closed;
+      answered = λ h stands clean. reply_told g.S.Store c.reply_to.new.docket h c.args.request.now.wish (body_of c.args.request.now) c.in-Ok.reply (done.replies h stands) clean;
+      recorded = done.recorded;
+    }
 
-pub returns-in-Err-clause-recorded : goal.returns-in-Err-clause-recorded
-returns-in-Err-clause-recorded g c docket = problem_backed g.S.Store c.reply_to.new.docket c.args.request.now.wish (body_of c.args.request.now) c.problem_of.result
-
-pub returns-in-Ok-clause-recorded : goal.returns-in-Ok-clause-recorded
-returns-in-Ok-clause-recorded g c docket = c.in-Ok.ensures.recorded docket
+pub returns-in-Err : goal.returns-in-Err
+returns-in-Err g c =
+    let wish = c.args.request.now.wish in
+    let body = body_of c.args.request.now in
+    let done = c.in-Err.ensures in
+    record {
+      court = done.court;
+      clean = done.clean;
+      any = done.any;
+      closed = λ shut.
+          let closed = done.closed shut in
+          (closed.0, subst (λ (p : Problem). IsClosedReply wish body (Fixed p)) (sym c.problem_of.ensures) (problem_response (problem_of_fault c.in-Err.fault), (refl, refl), closed.1));
+      answered = λ h stands clean. problem_told g.S.Store c.reply_to.new.docket h wish body c.in-Err.fault c.problem_of.result c.problem_of.ensures (done.replies h stands) clean;
+      recorded = λ rows. problem_backed g.S.Store c.reply_to.new.docket wish body c.problem_of.result;
+    }

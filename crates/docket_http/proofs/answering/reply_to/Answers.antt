@@ -1,115 +1,164 @@
-use Rattle.std.proofs.Common.{sym, ap, refl, subst, inl, Ok}
+use Rattle.std.proofs.Common.{sym, ap, refl, subst, inl, inr, Ok}
 use Rattle.std.specs.List.{slice_range}
 use Rattle.http_request.specs.Request.{body_of}
 use Rattle.http_request.specs.declared.wish.Wish.TheVariants.{Reject, Command, Case, Copy, Deadlines, Holidays, Page}
 use Rattle.docket_text.specs.HolidayTexts.{holiday_text}
+use Rattle.docket_applying.specs.declared.fault.Fault.TheVariants.{NoMemory as Short}
+use Rattle.docket_applying.proofs.AnyLemmas.{err_ok, lasts_after}
 use Rattle.docket_http.specs.Answer.{text, problem_response}
 use Rattle.docket_http.specs.Asking.{IsBuilt}
+use Rattle.docket_http.specs.Recorded.{RepliesBacked}
 use Rattle.docket_http.specs.declared.problem.Problem.TheVariants.{NoCopy, Rejected}
 use Rattle.docket_http.specs.declared.reply.Reply.TheVariants.{Fixed}
-use Rattle.docket_http.proofs.AskingLemmas.{replies_as}
-use Rattle.docket_http.proofs.ClosedLemmas.{closed_as}
-use Rattle.docket_http.proofs.RecordedLemmas.{any_ok, backed_as, problem_backed}
-use Rattle.std.proofs.Common.{inl as left}
-use Rattle.docket_applying.proofs.AnyLemmas.{lasts_after}
+use Rattle.docket_http.proofs.AskingLemmas.{passed_on, replies_as}
+use Rattle.docket_http.proofs.ClosedLemmas.{closed_as, closed_short, closed_told}
+use Rattle.docket_http.proofs.RecordedLemmas.{any_ok, backed_as, nothing_written, problem_backed, still_clean}
 use Rattle.docket_http.proofs.answering.reply_to.Goals as goal
 
-pub returns-in-Command-clause-replies : goal.returns-in-Command-clause-replies
-returns-in-Command-clause-replies g c h stands =
-    replies_as g.S.Store c.command_reply.new.docket h (Command c.in-Command.field-0) c.args.request.now.wish
-    (slice_range c.deref.result.now c.args.request.now.start c.args.request.now.end) (body_of c.args.request.now) c.command_reply.result (sym c.in-Command.is)
-    (ap (λ xs. slice_range xs c.args.request.now.start c.args.request.now.end) c.deref.ensures.value)
-    (c.command_reply.ensures.replies h c.in-Command.field-0 stands)
-
-pub returns-in-Case-clause-replies : goal.returns-in-Case-clause-replies
-returns-in-Case-clause-replies g c h stands =
-    replies_as g.S.Store c.case_reply.new.docket h (Case c.in-Case.number) c.args.request.now.wish (body_of c.args.request.now) (body_of c.args.request.now)
-    c.case_reply.result (sym c.in-Case.is) refl (c.case_reply.ensures.replies h (body_of c.args.request.now) stands)
-
-pub returns-in-Deadlines-clause-replies : goal.returns-in-Deadlines-clause-replies
-returns-in-Deadlines-clause-replies g c h stands =
-    replies_as g.S.Store c.deadlines_reply.new.docket h (Deadlines c.in-Deadlines.number) c.args.request.now.wish (body_of c.args.request.now) (body_of c.args.request.now)
-    c.deadlines_reply.result (sym c.in-Deadlines.is) refl (c.deadlines_reply.ensures.replies h (body_of c.args.request.now) stands)
-
-pub returns-in-Page-clause-replies : goal.returns-in-Page-clause-replies
-returns-in-Page-clause-replies g c h stands =
-    replies_as g.S.Store c.page_reply.new.docket h (Page c.in-Page.page) c.args.request.now.wish (body_of c.args.request.now) (body_of c.args.request.now)
-    c.page_reply.result (sym c.in-Page.is) refl (c.page_reply.ensures.replies h (body_of c.args.request.now) stands)
-
-pub returns-in-Calendar-clause-replies : goal.returns-in-Calendar-clause-replies
-returns-in-Calendar-clause-replies g c h stands = absurd (subst IsBuilt c.in-Calendar.is c.requires.whole)
-
-pub returns-in-Reject-clause-closed : goal.returns-in-Reject-clause-closed
-returns-in-Reject-clause-closed g c shut =
+pub returns-in-Reject : goal.returns-in-Reject
+returns-in-Reject g c =
+    let docket = c.args.docket.now in
+    let asked = c.args.request.now.wish in
     let body = body_of c.args.request.now in
-    let told = problem_response (Rejected c.in-Reject.rejection) in
-    (refl, closed_as (Reject c.in-Reject.rejection) c.args.request.now.wish body body (Ok (Fixed (Rejected c.in-Reject.rejection))) (sym c.in-Reject.is) refl (told, (refl, refl), refl))
+    let reply = Fixed (Rejected c.in-Reject.rejection) in
+    let same = sym c.in-Reject.is in
+    record {
+      court = refl {a = c.args.docket.now.court};
+      clean = still_clean g.S.Store docket;
+      any = nothing_written g.S.Store docket;
+      closed = λ shut.
+          (refl {a = c.args.docket.now}, closed_as (Reject c.in-Reject.rejection) asked body body (Ok reply) same (refl {a = body_of c.args.request.now}) (problem_response (Rejected c.in-Reject.rejection), (refl, refl), refl));
+      replies = λ h stands. replies_as g.S.Store docket h (Reject c.in-Reject.rejection) asked body body (Ok reply) same (refl {a = body_of c.args.request.now}) (λ clean. ((refl, refl), stands));
+      recorded = λ rows. problem_backed g.S.Store docket asked body (Rejected c.in-Reject.rejection);
+    }
 
-pub returns-in-Copy-clause-closed : goal.returns-in-Copy-clause-closed
-returns-in-Copy-clause-closed g c shut =
+pub returns-in-Command : goal.returns-in-Command
+returns-in-Command g c =
+    let now = c.command_reply.new.docket in
+    let wish = Command c.in-Command.field-0 in
+    let asked = c.args.request.now.wish in
+    let given = slice_range c.deref.result.now c.args.request.now.start c.args.request.now.end in
     let body = body_of c.args.request.now in
-    (refl, closed_as Copy c.args.request.now.wish body body (Ok (Fixed NoCopy)) (sym c.in-Copy.is) refl (problem_response NoCopy, (refl, refl), refl))
+    let result = c.command_reply.result in
+    let done = c.command_reply.ensures in
+    let same = sym c.in-Command.is in
+    let read = ap (λ xs. slice_range xs c.args.request.now.start c.args.request.now.end) c.deref.ensures.value in
+    record {
+      court = done.court;
+      clean = done.clean;
+      any = done.any;
+      closed = λ shut. let closed = done.closed shut in (closed.0, closed_as wish asked given body result same read (closed.1 c.in-Command.field-0));
+      replies = λ h stands. replies_as g.S.Store now h wish asked given body result same read (done.replies h c.in-Command.field-0 stands);
+      recorded = λ rows. backed_as g.S.Store now wish asked given body result same read (done.recorded rows c.in-Command.field-0);
+    }
 
-pub returns-in-Command-clause-closed : goal.returns-in-Command-clause-closed
-returns-in-Command-clause-closed g c shut =
-    let closed = c.command_reply.ensures.closed shut in (
-      closed.0,
-      closed_as (Command c.in-Command.field-0) c.args.request.now.wish
-          (slice_range c.deref.result.now c.args.request.now.start c.args.request.now.end) (body_of c.args.request.now) c.command_reply.result (sym c.in-Command.is)
-          (ap (λ xs. slice_range xs c.args.request.now.start c.args.request.now.end) c.deref.ensures.value) (closed.1 c.in-Command.field-0),
-    )
+pub returns-in-Case : goal.returns-in-Case
+returns-in-Case g c =
+    let now = c.case_reply.new.docket in
+    let asked = c.args.request.now.wish in
+    let body = body_of c.args.request.now in
+    let result = c.case_reply.result in
+    let done = c.case_reply.ensures in
+    let same = sym c.in-Case.is in
+    record {
+      court = done.court;
+      clean = done.clean;
+      any = λ rows n stored are small holds. inl (lasts_after g.S.Store now.conn rows result (done.stays rows holds));
+      closed = λ shut. let closed = done.closed shut in (closed.1, closed_told (Case c.in-Case.number) asked body result c.in-Case.is closed.0 refl);
+      replies = λ h stands. replies_as g.S.Store now h (Case c.in-Case.number) asked body body result same (refl {a = body_of c.args.request.now}) (done.replies h body stands);
+      recorded = λ rows. backed_as g.S.Store now (Case c.in-Case.number) asked body body result same (refl {a = body_of c.args.request.now}) (any_ok result);
+    }
 
-pub returns-in_ok-holidays_reply-in-Holidays-clause-closed : goal.returns-in_ok-holidays_reply-in-Holidays-clause-closed
-returns-in_ok-holidays_reply-in-Holidays-clause-closed g c shut =
+pub returns-in-Deadlines : goal.returns-in-Deadlines
+returns-in-Deadlines g c =
+    let now = c.deadlines_reply.new.docket in
+    let asked = c.args.request.now.wish in
+    let body = body_of c.args.request.now in
+    let result = c.deadlines_reply.result in
+    let done = c.deadlines_reply.ensures in
+    let same = sym c.in-Deadlines.is in
+    record {
+      court = done.court;
+      clean = done.clean;
+      any = λ rows n stored are small holds. inl (lasts_after g.S.Store now.conn rows result (done.stays rows holds));
+      closed = λ shut. let closed = done.closed shut in (closed.1, closed_told (Deadlines c.in-Deadlines.number) asked body result c.in-Deadlines.is closed.0 refl);
+      replies = λ h stands. replies_as g.S.Store now h (Deadlines c.in-Deadlines.number) asked body body result same (refl {a = body_of c.args.request.now}) (done.replies h body stands);
+      recorded = λ rows. backed_as g.S.Store now (Deadlines c.in-Deadlines.number) asked body body result same (refl {a = body_of c.args.request.now}) (any_ok result);
+    }
+
+pub returns-in-Calendar : goal.returns-in-Calendar
+returns-in-Calendar g c = absurd (subst IsBuilt c.in-Calendar.is c.requires.whole)
+
+pub returns-in_err-holidays_reply-in-Holidays : goal.returns-in_err-holidays_reply-in-Holidays
+returns-in_err-holidays_reply-in-Holidays g c =
+    let docket = c.args.docket.now in
+    let wish = Holidays c.in-Holidays.year in
+    let asked = c.args.request.now.wish in
+    let body = body_of c.args.request.now in
+    let result = c.from_residual.result in
+    let short = c.from_residual.ensures.1 in
+    let same = sym c.in-Holidays.is in
+    record {
+      court = refl {a = c.args.docket.now.court};
+      clean = still_clean g.S.Store docket;
+      any = nothing_written g.S.Store docket;
+      closed = λ shut.
+          (refl {a = c.args.docket.now}, closed_as wish asked body body result same (refl {a = body_of c.args.request.now}) (closed_short wish body result short (inr refl)));
+      replies = λ h stands.
+          replies_as g.S.Store docket h wish asked body body result same (refl {a = body_of c.args.request.now})
+          (passed_on g.S.Store docket h wish body result Short short (λ clean. (refl, inl stands)));
+      recorded = λ rows. err_ok result (RepliesBacked g.S.Store docket asked body) _ short;
+    }
+
+pub returns-in_ok-holidays_reply-in-Holidays : goal.returns-in_ok-holidays_reply-in-Holidays
+returns-in_ok-holidays_reply-in-Holidays g c =
+    let docket = c.args.docket.now in
+    let wish = Holidays c.in-Holidays.year in
+    let asked = c.args.request.now.wish in
     let body = body_of c.args.request.now in
     let reply = c.in_ok-holidays_reply-in-Holidays.field-0 in
-    let told = text (holiday_text c.in-Holidays.year) in
-    (refl, closed_as (Holidays c.in-Holidays.year) c.args.request.now.wish body body (Ok reply) (sym c.in-Holidays.is) refl (told, c.in_ok-holidays_reply-in-Holidays.ensures, inl refl))
+    let is = c.in_ok-holidays_reply-in-Holidays.ensures in
+    let same = sym c.in-Holidays.is in
+    record {
+      court = refl {a = c.args.docket.now.court};
+      clean = still_clean g.S.Store docket;
+      any = nothing_written g.S.Store docket;
+      closed = λ shut.
+          (refl {a = c.args.docket.now}, closed_as wish asked body body (Ok reply) same (refl {a = body_of c.args.request.now}) (text (holiday_text c.in-Holidays.year), is, inl refl));
+      replies = λ h stands. replies_as g.S.Store docket h wish asked body body (Ok reply) same (refl {a = body_of c.args.request.now}) (λ clean. (is, stands));
+      recorded = λ rows. backed_as g.S.Store docket wish asked body body (Ok reply) same (refl {a = body_of c.args.request.now}) tt;
+    }
 
-pub returns-in-Case-clause-any : goal.returns-in-Case-clause-any
-returns-in-Case-clause-any g c = λ rows n stored are small holds.
-    left (lasts_after g.S.Store c.case_reply.new.docket.conn rows c.case_reply.result (c.case_reply.ensures.stays rows holds))
-
-pub returns-in-Deadlines-clause-any : goal.returns-in-Deadlines-clause-any
-returns-in-Deadlines-clause-any g c = λ rows n stored are small holds.
-    left (lasts_after g.S.Store c.deadlines_reply.new.docket.conn rows c.deadlines_reply.result (c.deadlines_reply.ensures.stays rows holds))
-
-pub returns-in-Page-clause-any : goal.returns-in-Page-clause-any
-returns-in-Page-clause-any g c = λ rows n stored are small holds.
-    left (lasts_after g.S.Store c.page_reply.new.docket.conn rows c.page_reply.result (c.page_reply.ensures.stays rows holds))
-
-pub returns-in-Command-clause-recorded : goal.returns-in-Command-clause-recorded
-returns-in-Command-clause-recorded g c docket =
-    backed_as g.S.Store c.command_reply.new.docket (Command c.in-Command.field-0) c.args.request.now.wish
-    (slice_range c.deref.result.now c.args.request.now.start c.args.request.now.end) (body_of c.args.request.now) c.command_reply.result (sym c.in-Command.is)
-    (ap (λ xs. slice_range xs c.args.request.now.start c.args.request.now.end) c.deref.ensures.value)
-    (c.command_reply.ensures.recorded docket c.in-Command.field-0)
-
-pub returns-in-Reject-clause-recorded : goal.returns-in-Reject-clause-recorded
-returns-in-Reject-clause-recorded g c docket = problem_backed g.S.Store c.args.docket.now c.args.request.now.wish (body_of c.args.request.now) (Rejected c.in-Reject.rejection)
-
-pub returns-in-Copy-clause-recorded : goal.returns-in-Copy-clause-recorded
-returns-in-Copy-clause-recorded g c docket = problem_backed g.S.Store c.args.docket.now c.args.request.now.wish (body_of c.args.request.now) NoCopy
-
-pub returns-in-Case-clause-recorded : goal.returns-in-Case-clause-recorded
-returns-in-Case-clause-recorded g c docket =
+pub returns-in-Page : goal.returns-in-Page
+returns-in-Page g c =
+    let now = c.page_reply.new.docket in
+    let asked = c.args.request.now.wish in
     let body = body_of c.args.request.now in
-    backed_as g.S.Store c.case_reply.new.docket (Case c.in-Case.number) c.args.request.now.wish body body c.case_reply.result (sym c.in-Case.is) refl (any_ok c.case_reply.result)
+    let result = c.page_reply.result in
+    let done = c.page_reply.ensures in
+    let same = sym c.in-Page.is in
+    record {
+      court = done.court;
+      clean = done.clean;
+      any = λ rows n stored are small holds. inl (lasts_after g.S.Store now.conn rows result (done.stays rows holds));
+      closed = λ shut. let closed = done.closed shut in (closed.1, closed_told (Page c.in-Page.page) asked body result c.in-Page.is closed.0 refl);
+      replies = λ h stands. replies_as g.S.Store now h (Page c.in-Page.page) asked body body result same (refl {a = body_of c.args.request.now}) (done.replies h body stands);
+      recorded = λ rows. backed_as g.S.Store now (Page c.in-Page.page) asked body body result same (refl {a = body_of c.args.request.now}) (any_ok result);
+    }
 
-pub returns-in-Deadlines-clause-recorded : goal.returns-in-Deadlines-clause-recorded
-returns-in-Deadlines-clause-recorded g c docket =
+pub returns-in-Copy : goal.returns-in-Copy
+returns-in-Copy g c =
+    let docket = c.args.docket.now in
+    let asked = c.args.request.now.wish in
     let body = body_of c.args.request.now in
-    backed_as g.S.Store c.deadlines_reply.new.docket (Deadlines c.in-Deadlines.number) c.args.request.now.wish body body c.deadlines_reply.result (sym c.in-Deadlines.is) refl (any_ok c.deadlines_reply.result)
-
-pub returns-in-Page-clause-recorded : goal.returns-in-Page-clause-recorded
-returns-in-Page-clause-recorded g c docket =
-    let body = body_of c.args.request.now in
-    backed_as g.S.Store c.page_reply.new.docket (Page c.in-Page.page) c.args.request.now.wish body body c.page_reply.result (sym c.in-Page.is) refl (any_ok c.page_reply.result)
-
-pub returns-in-Calendar-clause-recorded : goal.returns-in-Calendar-clause-recorded
-returns-in-Calendar-clause-recorded g c docket = absurd (subst IsBuilt c.in-Calendar.is c.requires.whole)
-
-pub returns-in_ok-holidays_reply-in-Holidays-clause-recorded : goal.returns-in_ok-holidays_reply-in-Holidays-clause-recorded
-returns-in_ok-holidays_reply-in-Holidays-clause-recorded g c docket =
-    let body = body_of c.args.request.now in
-    backed_as g.S.Store c.args.docket.now (Holidays c.in-Holidays.year) c.args.request.now.wish body body (Ok c.in_ok-holidays_reply-in-Holidays.field-0) (sym c.in-Holidays.is) refl tt
+    let reply = Fixed NoCopy in
+    let same = sym c.in-Copy.is in
+    record {
+      court = refl {a = c.args.docket.now.court};
+      clean = still_clean g.S.Store docket;
+      any = nothing_written g.S.Store docket;
+      closed = λ shut.
+          (refl {a = c.args.docket.now}, closed_as Copy asked body body (Ok reply) same (refl {a = body_of c.args.request.now}) (problem_response NoCopy, (refl, refl), refl));
+      replies = λ h stands. replies_as g.S.Store docket h Copy asked body body (Ok reply) same (refl {a = body_of c.args.request.now}) (λ clean. ((refl, refl), stands));
+      recorded = λ rows. problem_backed g.S.Store docket asked body NoCopy;
+    }

@@ -1,40 +1,79 @@
 use Rattle.std.proofs.Common.{Err, ap}
 use Rattle.http_request.specs.declared.wish.Wish.TheVariants.{Command}
-use Rattle.docket_http.proofs.AskingLemmas.{said_replied, halted_replied, passed_on}
 use Rattle.docket_applying.proofs.AnyLemmas.{answered_one, err_ok}
+use Rattle.docket_http.proofs.AskingLemmas.{halted_replied, passed_on, said_replied}
+use Rattle.docket_http.proofs.HandedOn.{err_closed, no_error, said_short}
 use Rattle.docket_http.proofs.RecordedLemmas.{said_backed}
 use Rattle.docket_http.proofs.commands.applied_reply.Goals as goal
 
-pub returns-clause-replies : goal.returns-clause-replies
-returns-clause-replies g c h len body stands spells =
-    said_replied g.S.Store c.answer.new.docket h c.args.command.now c.in_ok-said.said len body c.in_ok-json_reply.field-0 _ _
-    (c.in_ok-said.ensures.answer h stands) spells c.status_of.ensures c.in_ok-text.ensures c.in_ok-json_reply.ensures
+pub returns-in_err-said : goal.returns-in_err-said
+returns-in_err-said g c =
+    let now = c.answer.new.docket in
+    let command = c.args.command.now in
+    let fault = c.in_err-said.field-0.0 in
+    let result = c.from_residual.result in
+    let told = c.from_residual.ensures.1 in
+    let failed = c.in_err-said.ensures in
+    record {
+      court = failed.court;
+      clean = failed.clean;
+      any = λ rows n stored are small holds. answered_one g.S.Store now.conn rows now.court n command c.answer.result (c.answer.ensures.any rows n stored are small holds);
+      closed = λ shut. let closed = failed.closed shut in (err_closed result fault told closed.0, closed.1);
+      replies = λ h len body stands spells.
+          passed_on g.S.Store now h (Command len) body result fault told
+          (halted_replied g.S.Store now h command fault len body spells (λ is. failed.closes (ap Err is)) (failed.halts h stands));
+      recorded = λ docket len body spells. err_ok result _ _ told;
+    }
 
-pub returns-in_err-said-clause-replies : goal.returns-in_err-said-clause-replies
-returns-in_err-said-clause-replies g c h len body stands spells =
-    passed_on g.S.Store c.answer.new.docket h (Command len) body c.from_residual.result _ c.from_residual.ensures.1
-    (halted_replied g.S.Store c.answer.new.docket h c.args.command.now _ len body spells (λ is. c.in_err-said.ensures.closes (ap Err is)) (c.in_err-said.ensures.halts h stands))
+pub returns-in_err-text : goal.returns-in_err-text
+returns-in_err-text g c =
+    let now = c.answer.new.docket in
+    let command = c.args.command.now in
+    let said = c.in_ok-said.said in
+    let result = c.from_residual-in_err-text.result in
+    let short = c.from_residual-in_err-text.ensures.1 in
+    let answered = c.in_ok-said.ensures in
+    record {
+      court = answered.court;
+      clean = answered.clean;
+      any = λ rows n stored are small holds. answered_one g.S.Store now.conn rows now.court n command c.answer.result (c.answer.ensures.any rows n stored are small holds);
+      closed = λ shut. no_error _ _ (answered.closed shut).0;
+      replies = λ h len body stands spells. said_short g.S.Store now h command said len body result short (answered.answer h stands) spells;
+      recorded = λ docket len body spells. err_ok result _ _ short;
+    }
 
-pub returns-in_err-said-clause-any : goal.returns-in_err-said-clause-any
-returns-in_err-said-clause-any g c = λ rows n stored are small holds.
-    answered_one g.S.Store c.answer.new.docket.conn rows c.answer.new.docket.court n c.args.command.now c.answer.result (c.answer.ensures.any rows n stored are small holds)
+pub returns-in_err-json_reply : goal.returns-in_err-json_reply
+returns-in_err-json_reply g c =
+    let now = c.answer.new.docket in
+    let command = c.args.command.now in
+    let said = c.in_ok-said.said in
+    let result = c.from_residual-in_err-json_reply.result in
+    let short = c.from_residual-in_err-json_reply.ensures.1 in
+    let answered = c.in_ok-said.ensures in
+    record {
+      court = answered.court;
+      clean = answered.clean;
+      any = λ rows n stored are small holds. answered_one g.S.Store now.conn rows now.court n command c.answer.result (c.answer.ensures.any rows n stored are small holds);
+      closed = λ shut. no_error _ _ (answered.closed shut).0;
+      replies = λ h len body stands spells. said_short g.S.Store now h command said len body result short (answered.answer h stands) spells;
+      recorded = λ docket len body spells. err_ok result _ _ short;
+    }
 
-pub returns-in_err-text-clause-any : goal.returns-in_err-text-clause-any
-returns-in_err-text-clause-any g c = λ rows n stored are small holds.
-    answered_one g.S.Store c.answer.new.docket.conn rows c.answer.new.docket.court n c.args.command.now c.answer.result (c.answer.ensures.any rows n stored are small holds)
-
-pub returns-in_err-json_reply-clause-any : goal.returns-in_err-json_reply-clause-any
-returns-in_err-json_reply-clause-any g c = λ rows n stored are small holds.
-    answered_one g.S.Store c.answer.new.docket.conn rows c.answer.new.docket.court n c.args.command.now c.answer.result (c.answer.ensures.any rows n stored are small holds)
-
-pub returns-clause-any : goal.returns-clause-any
-returns-clause-any g c = λ rows n stored are small holds.
-    answered_one g.S.Store c.answer.new.docket.conn rows c.answer.new.docket.court n c.args.command.now c.answer.result (c.answer.ensures.any rows n stored are small holds)
-
-pub returns-clause-recorded : goal.returns-clause-recorded
-returns-clause-recorded g c docket len body spells =
-    said_backed g.S.Store c.answer.new.docket c.answer.new.docket.court docket.next_row docket.rows c.args.command.now c.in_ok-said.said len body c.in_ok-json_reply.field-0 _ _
-    (c.in_ok-said.ensures.any docket.rows docket.next_row docket.stored docket.are docket.few docket.holds) spells c.status_of.ensures c.in_ok-text.ensures c.in_ok-json_reply.ensures
-
-pub returns-in_err-said-clause-recorded : goal.returns-in_err-said-clause-recorded
-returns-in_err-said-clause-recorded g c docket len body spells = err_ok c.from_residual.result _ _ c.from_residual.ensures.1
+pub returns : goal.returns
+returns g c =
+    let now = c.answer.new.docket in
+    let command = c.args.command.now in
+    let said = c.in_ok-said.said in
+    let reply = c.in_ok-json_reply.field-0 in
+    let answered = c.in_ok-said.ensures in
+    record {
+      court = answered.court;
+      clean = answered.clean;
+      any = λ rows n stored are small holds. answered_one g.S.Store now.conn rows now.court n command c.answer.result (c.answer.ensures.any rows n stored are small holds);
+      closed = λ shut. no_error _ _ (answered.closed shut).0;
+      replies = λ h len body stands spells.
+          said_replied g.S.Store now h command said len body reply _ _ (answered.answer h stands) spells c.status_of.ensures c.in_ok-text.ensures c.in_ok-json_reply.ensures;
+      recorded = λ docket len body spells.
+          said_backed g.S.Store now now.court docket.next_row docket.rows command said len body reply _ _
+          (answered.any docket.rows docket.next_row docket.stored docket.are docket.few docket.holds) spells c.status_of.ensures c.in_ok-text.ensures c.in_ok-json_reply.ensures;
+    }

@@ -1,4 +1,4 @@
-use Rattle.std.proofs.Common.{◌≡◌, ◌∙◌, ℕ, List, refl, Err, sym, ap}
+use Rattle.std.proofs.Common.{◌≡◌, ◌∙◌, ℕ, List, Err, sym, ap}
 use Rattle.std.specs.Prelude.{string_bytes}
 use Rattle.sqlite.specs.Held.{state}
 use Rattle.sqlite.specs.State.{HasCleanDisk}
@@ -10,10 +10,10 @@ use Rattle.docket_history.specs.declared.record.DueLine.{DueLine}
 use Rattle.docket_applying.specs.Dockets.{Docket}
 use Rattle.docket_applying.proofs.AnyLemmas.{err_preserves, short_preserves}
 use Rattle.http_request.specs.declared.page.Page.TheVariants.{Days}
-use Rattle.http_request.specs.declared.wish.Wish.TheVariants.{Page}
 use Rattle.docket_http.specs.Answer.{html}
 use Rattle.docket_http.specs.Pages.{days_page}
-use Rattle.docket_http.proofs.AskingLemmas.{asked_replied, page_replied, passed_on}
+use Rattle.docket_http.proofs.AskingLemmas.{page_replied}
+use Rattle.docket_http.proofs.HandedOn.{clean_after, court_after, err_closed, no_error, page_failed, page_short}
 use Rattle.docket_http.proofs.pages.days_reply.Goals as goal
 
 -- the deadlines that were read, by the court that the docket then has
@@ -21,34 +21,87 @@ same_court : {S : Type 0} (g : Ghosts S) (now was : Docket S) (h : History) (fro
     → (HasCleanDisk (state g now.conn) → found ≡ calendar_rows was.court h from to) → HasCleanDisk (state g now.conn) → dues ≡ calendar_rows now.court h from to
 same_court g now was h from to dues found kept same is clean = same ∙ is clean ∙ ap (λ (court : CourtSettings). calendar_rows court h from to) (sym kept)
 
-pub returns-in_err-dues-clause-stays : goal.returns-in_err-dues-clause-stays
-returns-in_err-dues-clause-stays g c rows holds =
-    err_preserves g.S.Store c.due_rows.new.self.conn rows c.in_err-dues.field-0.0 c.from_residual.result c.from_residual.ensures.1 (c.in_err-dues.ensures.only.stays rows holds)
+told_court : {S : Type 0} (g : Ghosts S) (now was : Docket S) (h : History) (from to : ℕ) (text : List ℕ) → now.court ≡ was.court → text ≡ days_page was.court h from to
+    → html text ≡ html (days_page now.court h from to)
+told_court g now was h from to text kept is = ap html (is ∙ ap (λ (court : CourtSettings). days_page court h from to) (sym kept))
 
-pub returns-in_err-page-clause-stays : goal.returns-in_err-page-clause-stays
-returns-in_err-page-clause-stays g c rows holds =
-    err_preserves g.S.Store c.days_told.new.docket.conn rows c.in_err-page.field-0.0 c.from_residual-in_err-page.result c.from_residual-in_err-page.ensures.1
-    (c.in_err-page.ensures.stays rows (c.in_ok-dues.ensures.only.stays rows holds))
+pub returns-in_err-dues : goal.returns-in_err-dues
+returns-in_err-dues g c =
+    let now = c.due_rows.new.self in
+    let page = Days c.args.from c.args.to in
+    let fault = c.in_err-dues.field-0.0 in
+    let result = c.from_residual.result in
+    let told = c.from_residual.ensures.1 in
+    let failed = c.in_err-dues.ensures.only in
+    record {
+      court = failed.court;
+      clean = failed.clean;
+      stays = λ rows holds. err_preserves g.S.Store now.conn rows fault result told (failed.stays rows holds);
+      closed = λ shut. let closed = failed.closed shut in (err_closed result fault told closed.0, closed.1);
+      replies = λ h body stands. page_failed g.S.Store now h page body fault result told (λ is. (failed.closes stands.serves).1 (ap Err is)) (c.in_err-dues.ensures.answer h stands);
+    }
 
-pub returns-in_err-html_reply-clause-stays : goal.returns-in_err-html_reply-clause-stays
-returns-in_err-html_reply-clause-stays g c rows holds =
-    short_preserves g.S.Store c.days_told.new.docket.conn rows c.from_residual-in_err-html_reply.result c.from_residual-in_err-html_reply.ensures.1
-    (c.in_ok-page.ensures.stays rows (c.in_ok-dues.ensures.only.stays rows holds))
+pub returns-in_err-page : goal.returns-in_err-page
+returns-in_err-page g c =
+    let old = c.args.docket.now in
+    let read = c.due_rows.new.self in
+    let now = c.days_told.new.docket in
+    let page = Days c.args.from c.args.to in
+    let fault = c.in_err-page.field-0.0 in
+    let result = c.from_residual-in_err-page.result in
+    let told = c.from_residual-in_err-page.ensures.1 in
+    let first = c.in_ok-dues.ensures.only in
+    let failed = c.in_err-page.ensures in
+    record {
+      court = court_after g.S.Store old read now first.court failed.court;
+      clean = clean_after g.S.Store old read now first.clean failed.clean;
+      stays = λ rows holds. err_preserves g.S.Store now.conn rows fault result told (failed.stays rows (first.stays rows holds));
+      closed = λ shut. no_error _ _ (first.closed shut).0;
+      replies = λ h body stands.
+          let asked = c.in_ok-dues.ensures.answer h stands in
+          let due = same_court g.S.Store read old h c.args.from c.args.to c.as_slice.result.now c.in_ok-dues.dues.items first.court c.as_slice.ensures.value asked.1 in
+          page_failed g.S.Store now h page body fault result told (λ is. failed.closes h asked.0 (ap Err is)) (failed.answer h asked.0 due);
+    }
 
-pub returns-clause-stays : goal.returns-clause-stays
-returns-clause-stays g c rows holds = c.in_ok-page.ensures.stays rows (c.in_ok-dues.ensures.only.stays rows holds)
+pub returns-in_err-html_reply : goal.returns-in_err-html_reply
+returns-in_err-html_reply g c =
+    let old = c.args.docket.now in
+    let read = c.due_rows.new.self in
+    let now = c.days_told.new.docket in
+    let page = Days c.args.from c.args.to in
+    let result = c.from_residual-in_err-html_reply.result in
+    let short = c.from_residual-in_err-html_reply.ensures.1 in
+    let first = c.in_ok-dues.ensures.only in
+    let done = c.in_ok-page.ensures in
+    record {
+      court = court_after g.S.Store old read now first.court done.court;
+      clean = clean_after g.S.Store old read now first.clean done.clean;
+      stays = λ rows holds. short_preserves g.S.Store now.conn rows result short (done.stays rows (first.stays rows holds));
+      closed = λ shut. no_error _ _ (first.closed shut).0;
+      replies = λ h body stands.
+          let asked = c.in_ok-dues.ensures.answer h stands in
+          let due = same_court g.S.Store read old h c.args.from c.args.to c.as_slice.result.now c.in_ok-dues.dues.items first.court c.as_slice.ensures.value asked.1 in
+          page_short g.S.Store now h page body result short (done.answer h asked.0 due).0;
+    }
 
-pub returns-in_err-page-clause-replies : goal.returns-in_err-page-clause-replies
-returns-in_err-page-clause-replies g c h body stands =
-    let asked = c.in_ok-dues.ensures.answer h stands in
-    let due = same_court g.S.Store c.due_rows.new.self c.args.docket.now h c.args.from c.args.to c.as_slice.result.now c.in_ok-dues.dues.items c.in_ok-dues.ensures.only.court c.as_slice.ensures.value asked.1 in
-    passed_on g.S.Store c.days_told.new.docket h (Page (Days c.args.from c.args.to)) body c.from_residual-in_err-page.result _ c.from_residual-in_err-page.ensures.1
-    (asked_replied g.S.Store c.days_told.new.docket h (Page (Days c.args.from c.args.to)) body _ (λ (n : ℕ). ⊥) refl refl refl (λ is. c.in_err-page.ensures.closes h asked.0 (ap Err is)) (c.in_err-page.ensures.answer h asked.0 due))
-
-pub returns-clause-replies : goal.returns-clause-replies
-returns-clause-replies g c h body stands =
-    let asked = c.in_ok-dues.ensures.answer h stands in
-    let due = same_court g.S.Store c.due_rows.new.self c.args.docket.now h c.args.from c.args.to c.as_slice.result.now c.in_ok-dues.dues.items c.in_ok-dues.ensures.only.court c.as_slice.ensures.value asked.1 in
-    let told = c.in_ok-page.ensures.answer h asked.0 due in
-    page_replied g.S.Store c.days_told.new.docket h (Days c.args.from c.args.to) body c.in_ok-html_reply.field-0 (html (string_bytes c.in_ok-page.page)) told.0
-    (λ clean. ap html (told.1 clean ∙ ap (λ (court : CourtSettings). days_page court h c.args.from c.args.to) (sym c.in_ok-page.ensures.court))) c.in_ok-html_reply.ensures
+pub returns : goal.returns
+returns g c =
+    let old = c.args.docket.now in
+    let read = c.due_rows.new.self in
+    let now = c.days_told.new.docket in
+    let from = c.args.from in
+    let to = c.args.to in
+    let first = c.in_ok-dues.ensures.only in
+    let done = c.in_ok-page.ensures in
+    record {
+      court = court_after g.S.Store old read now first.court done.court;
+      clean = clean_after g.S.Store old read now first.clean done.clean;
+      stays = λ rows holds. done.stays rows (first.stays rows holds);
+      closed = λ shut. no_error _ _ (first.closed shut).0;
+      replies = λ h body stands.
+          let asked = c.in_ok-dues.ensures.answer h stands in
+          let due = same_court g.S.Store read old h from to c.as_slice.result.now c.in_ok-dues.dues.items first.court c.as_slice.ensures.value asked.1 in
+          let told = done.answer h asked.0 due in
+          page_replied g.S.Store now h (Days from to) body c.in_ok-html_reply.field-0 (html (string_bytes c.in_ok-page.page)) told.0
+          (λ clean. told_court g.S.Store now read h from to (string_bytes c.in_ok-page.page) done.court (told.1 clean)) c.in_ok-html_reply.ensures;
+    }

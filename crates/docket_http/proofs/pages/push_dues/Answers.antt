@@ -1,52 +1,63 @@
-use Rattle.std.proofs.Common.{◌≡◌, ◌∙◌, ◌++◌, ◌<◌, ℕ, List, length, Err, ap, arith, string_bytes, take}
-use Rattle.std.specs.List.{flat_map}
-use Rattle.sqlite.specs.Held.{state}
-use Rattle.sqlite.specs.State.{HasCleanDisk}
-use Rattle.court_days.specs.Court.{CourtSettings}
-use Rattle.docket_applying.specs.declared.fault.Fault.TheVariants as fault
+use Rattle.std.proofs.Common.{◌≡◌, ◌∙◌, ◌<◌, length, Err, ap, arith, string_bytes}
+use Rattle.docket_applying.specs.declared.fault.Fault.TheVariants as faults
 use Rattle.docket_applying.proofs.AnyLemmas.{err_preserves}
 use Rattle.docket_http.specs.Pages.{due_told}
-use Rattle.docket_http.proofs.PageLemmas.{added, all_added, same_fault}
+use Rattle.docket_http.proofs.AskingLemmas.{clean_before}
+use Rattle.docket_http.proofs.HandedOn.{clean_after, court_after, err_asked, no_error}
+use Rattle.docket_http.proofs.PageLemmas.{one_added, same_fault, whole_added}
 use Rattle.docket_http.proofs.pages.push_dues.Goals as goal
 
-pub returns-in_err-push_due-clause-stays : goal.returns-in_err-push_due-clause-stays
-returns-in_err-push_due-clause-stays g c rows holds =
-    err_preserves g.S.Store c.push_due.new.docket.conn rows c.in_err-push_due.field-0.0 c.from_residual.result c.from_residual.ensures.1 (c.in_err-push_due.ensures.stays rows (c.dues.invariant.stays rows holds))
-
-pub returns-in_err-push_due-clause-closes : goal.returns-in_err-push_due-clause-closes
-returns-in_err-push_due-clause-closes g c h stands is =
-    let fault_is = same_fault c.from_residual.result c.in_err-push_due.field-0.0 fault.StoreFailed c.from_residual.ensures.1 is in
-    c.in_err-push_due.ensures.closes h (c.dues.invariant.told h stands).0 (ap Err fault_is)
+pub returns-in_err-push_due : goal.returns-in_err-push_due
+returns-in_err-push_due g c =
+    let old = c.args.docket.now in
+    let before = c.dues.docket in
+    let now = c.push_due.new.docket in
+    let fault = c.in_err-push_due.field-0.0 in
+    let result = c.from_residual.result in
+    let told = c.from_residual.ensures.1 in
+    let so_far = c.dues.invariant in
+    let failed = c.in_err-push_due.ensures in
+    record {
+      court = court_after g.S.Store old before now so_far.court failed.court;
+      clean = clean_after g.S.Store old before now so_far.clean failed.clean;
+      stays = λ rows holds. err_preserves g.S.Store now.conn rows fault result told (failed.stays rows (so_far.stays rows holds));
+      closes = λ h stands is. failed.closes h (so_far.told h stands).0 (ap Err (same_fault result fault faults.StoreFailed told is));
+      answer = λ h stands. err_asked g.S.Store now h _ fault result told (failed.answer h (so_far.told h stands).0);
+    }
 
 pub dues-preserved : goal.dues-preserved
-dues-preserved g c = record {
-  court = c.in_ok-push_due.ensures.court ∙ c.dues.invariant.court;
-  clean = omega (arith, c.dues.invariant.clean, c.in_ok-push_due.ensures.clean);
-  stays = λ rows holds. c.in_ok-push_due.ensures.stays rows (c.dues.invariant.stays rows holds);
-  told = λ h stands.
-      let so_far = c.dues.invariant.told h stands in
-      let asked = c.in_ok-push_due.ensures.answer h so_far.0 in
-      let court = c.args.docket.now.court in
-      let i = c.dues.due-index in
-      let inside : i < length c.args.dues.now = omega arith in
-      let due = c.due-item.result in (
-        asked.0,
-        λ clean.
-            let before : HasCleanDisk (state g.S.Store c.dues.docket.conn) = omega (arith, clean, c.in_ok-push_due.ensures.clean) in
-            asked.1 clean
-            ∙ ap (λ (now : CourtSettings). string_bytes c.dues.page ++ due_told now h due) c.dues.invariant.court
-            ∙ ap (λ (text : List ℕ). text ++ due_told court h due) (so_far.1 before)
-            ∙ added (due_told court h) c.args.dues.now i due (string_bytes c.args.page.now) inside c.due-item.is,
-      );
-}
+dues-preserved g c =
+    let old = c.args.docket.now in
+    let before = c.dues.docket in
+    let now = c.push_due.new.docket in
+    let i = c.dues.due-index in
+    let due = c.due-item.result in
+    let inside : i < length c.args.dues.now = omega arith in
+    let so_far = c.dues.invariant in
+    let added = c.in_ok-push_due.ensures in
+    record {
+      court = court_after g.S.Store old before now so_far.court added.court;
+      clean = clean_after g.S.Store old before now so_far.clean added.clean;
+      stays = λ rows holds. added.stays rows (so_far.stays rows holds);
+      told = λ h stands.
+          let found = so_far.told h stands in
+          let next = added.answer h found.0 in (
+            next.0,
+            λ clean. one_added h before.court old.court c.args.dues.now i due inside c.due-item.is (string_bytes c.args.page.now) (string_bytes c.dues.page)
+                (string_bytes c.push_due.new.page) so_far.court (found.1 (clean_before _ _ added.clean clean)) (next.1 clean),
+          );
+    }
 
-pub returns-clause-answer : goal.returns-clause-answer
-returns-clause-answer g c h stands =
-    let so_far = c.dues.invariant.told h stands in
-    let all : c.dues.due-index ≡ length c.args.dues.now = omega (arith, c.dues.auto.due-index-end, c.dues-test.false) in (
-      so_far.0,
-      λ clean.
-          so_far.1 clean
-          ∙ ap (λ (k : ℕ). string_bytes c.args.page.now ++ flat_map (due_told c.args.docket.now.court h) (take k c.args.dues.now)) all
-          ∙ all_added (due_told c.args.docket.now.court h) c.args.dues.now (string_bytes c.args.page.now),
-    )
+pub returns : goal.returns
+returns g c =
+    let so_far = c.dues.invariant in
+    let all : c.dues.due-index ≡ length c.args.dues.now = omega (arith, c.dues.auto.due-index-end, c.dues-test.false) in
+    record {
+      court = so_far.court;
+      clean = so_far.clean;
+      stays = so_far.stays;
+      closes = λ h stands is. no_error _ _ is;
+      answer = λ h stands.
+          let found = so_far.told h stands in
+          (found.0, λ clean. found.1 clean ∙ whole_added (due_told c.args.docket.now.court h) c.args.dues.now (string_bytes c.args.page.now) c.dues.due-index all);
+    }
