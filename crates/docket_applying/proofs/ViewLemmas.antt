@@ -20,6 +20,7 @@ use Rattle.docket_history.specs.declared.view.DeadlineView.{DeadlineView}
 use Rattle.docket_decisions.proofs.Leading.{length-deadlines_from}
 use Rattle.docket_orderly.specs.Orderly.{RunsFrom}
 use Rattle.docket_tables.specs.Readings.{row_at}
+use Rattle.docket_applying.specs.Viewing.{numbers_in}
 use Rattle.docket_applying.specs.declared.viewing.NumbersShown.{NumbersShown}
 
 abbrev pub shown_with : DeadlineRow → List Act → DeadlineView
@@ -83,7 +84,7 @@ deadlines_told t k deadlines among are = ap (λ b. if b then Some (deadlines_in 
 
 -- a view without a calendar
 pub whole_view : (t : Tables) (c : Command) (kept_is : UnderKey) (numbers : NumbersShown) (case : Option CaseView) (items : List CalendarItem) (local : Option LocalRule) → kept_is ≡ under_key t.receipts c
-    → numbers ≡ record { cases = if_asked (asks_cases c.action) (length t.cases); label_taken = is_label_taken c.action t.cases; row_stands = is_row_standing c.action t.calendar; next_row = if_asked (asks_next_row c.action) t.next_row; local_rules = if_asked (asks_local_rules c.action) (length t.local_rules) }
+    → numbers ≡ numbers_in t c.action
     → case ≡ option_and_then (case_in t c.action) (case_named c.action) → items ≡ []
     → local ≡ option_and_then (local_rule_in t.local_rules) (rule_name_asked (named_in case) c.action)
     → record { under_key = kept_is; cases = numbers.cases; label_taken = numbers.label_taken; case = case; row_stands = numbers.row_stands; calendar = items; next_row = numbers.next_row; local = local; local_rules = numbers.local_rules } ≡ record (view_in t c) { calendar = [] }

@@ -9,6 +9,7 @@ pub mod Listing
 pub mod Settling
 pub mod Sound
 pub mod Told
+pub mod Viewing
 pub mod Writing
 -- of the crates below, what contracts above speak of
 pub use Rattle.docket_calendar.specs.Calendar

@@ -17,6 +17,7 @@ ghost use Rattle.docket_tables.specs.AnyRows.{HasReceipt};
 ghost use Rattle.docket_tables.specs.Layouts.{Rows};
 ghost use Rattle.docket_tables.specs.Readings.{Reads};
 ghost use Rattle.docket_tables.specs.Stands.{HoldsRows};
+ghost use Rattle.docket_applying.specs.Viewing.{numbers_in};
 
 use crate::gathering::{items_of, with_acts};
 use docket_command::{Action, Command, LocalRule};
@@ -324,13 +325,7 @@ fn numbers_shown<S: Alter>(
     alloc: Global,
     action: &Action,
 ) -> Result<NumbersShown, ReadFault>
-    ensures read { Reads S.Store conn.old conn.new result (λ _ t found. found ≡ record {
-      cases = if_asked (asks_cases action.now) (length t.cases);
-      label_taken = is_label_taken action.now t.cases;
-      row_stands = is_row_standing action.now t.calendar;
-      next_row = if_asked (asks_next_row action.now) t.next_row;
-      local_rules = if_asked (asks_local_rules action.now) (length t.local_rules);
-    }) }
+    ensures read { Reads S.Store conn.old conn.new result (λ _ t found. found ≡ numbers_in t action.now) }
     ensures only { OnlyAsks S.Store conn.old conn.new result }
 {
     let cases = cases_if_asked(conn, action)?;
