@@ -20,6 +20,7 @@ use Rattle.count_lines.specs.declared.request.Request.TheVariants.{Enter, Span, 
 use Rattle.count_lines.specs.declared.answer.Answer.{Answer}
 use Rattle.count_lines.specs.declared.answer.Answer.TheVariants.{Empty, Done, Full, Bad, LastDay, Moment, Clock}
 use Rattle.count_lines.specs.declared.count.Counter.{Counter}
+use Rattle.court_days.specs.Limits.{first_entered_day, first_entered_instant, last_entered_day, last_entered_instant, most_rows}
 
 -- what the lines so far left: the court in which they are read, and its calendar
 pub record CourtState : Type 0 where
@@ -44,7 +45,7 @@ with_calendar state calendar = record state { calendar = calendar }
 abbrev pub entered_as : CourtState → Bool → Entered → Outcome
 entered_as state stands after =
     if stands then (Done, state)
-    else (if rows_of state.calendar == 4000 then (Full, state) else (Done, with_calendar state after))
+    else (if rows_of state.calendar == most_rows then (Full, state) else (Done, with_calendar state after))
 
 abbrev pub entering : CourtState → DayKind → ℕ → Outcome
 entering state kind day =
@@ -52,7 +53,7 @@ entering state kind day =
 
 -- a span begins before it ends, and lies from 1999-12-31T00:00Z to 2100-01-02T00:00Z
 abbrev pub is_entered_span : ℕ → ℕ → Bool
-is_entered_span start end = nat_le 946_598_400 start && nat_lt start end && nat_le end 4_102_531_200
+is_entered_span start end = nat_le first_entered_instant start && nat_lt start end && nat_le end last_entered_instant
 
 abbrev pub spanning : CourtState → ℕ → ℕ → Outcome
 spanning state start end =
@@ -76,7 +77,7 @@ last_day None = Bad
 abbrev pub after_hours : CourtState → Direction → ℕ → ℕ → Answer
 after_hours state direction at count =
     let zone = zone_of state.court in
-    if nat_le 10_957 (local_day zone at) && nat_le (local_day zone at) 47_481
+    if nat_le first_entered_day (local_day zone at) && nat_le (local_day zone at) last_entered_day
     then Moment (moment_text zone (end_of_hours state.calendar zone direction at count)) else Bad
 
 abbrev pub outcome_of : CourtState → Option Request → Outcome

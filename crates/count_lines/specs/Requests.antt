@@ -19,6 +19,7 @@ use Rattle.court_rules.specs.Methods.{method_named}
 use Rattle.court_rules.specs.Rules.{rule_named}
 use Rattle.count_lines.specs.declared.request.Request.{Request}
 use Rattle.count_lines.specs.declared.request.Request.TheVariants.{Enter, Span, Short, Zone, CountDays, CountMonths, CountHours, ByRule, Closing}
+use Rattle.court_days.specs.Limits.{first_entered_day, last_entered_day}
 
 infixl 10 ◌>>=◌
 abbrev pub ◌>>=◌ : {A B : Type 0} → Option A → (A → Option B) → Option B
@@ -41,7 +42,7 @@ words_of line = cut_word [] line
 abbrev pub entered_day_of : List ℕ → Option ℕ
 entered_day_of text = do
   day ← day_of_text text
-  value_if (nat_le 10_957 day && nat_le day 47_481) day
+  value_if (nat_le first_entered_day day && nat_le day last_entered_day) day
 
 -- a number of 1 to 4 digits, the first of them not 0: no period has a longer one
 abbrev pub is_number : List ℕ → Bool

@@ -4,6 +4,7 @@ ghost use Rattle.std.specs.Prelude.{◌≡◌, ℕ, ◌+◌, ◌-◌, ◌≤◌,
 ghost use Rattle.civil_time.specs.LocalTime.{seconds};
 ghost use Rattle.court_days.specs.Calendar.{short_close};
 ghost use Rattle.court_days.specs.Civil.{IsEnteredDay, IsEnteredSpan, IsEnteredShort};
+ghost use Rattle.court_days.specs.Limits.{most_rows};
 
 use crate::day_set::DaySet;
 use crate::short_days::ShortDays;
@@ -152,7 +153,7 @@ impl Calendar {
     pub fn len(&self) -> usize
         ensures value { result ≡ rows_of self.now }
         ensures limits { IsWithinLimits self.now }
-        ensures room { rows_of self.now ≤ 4000 }
+        ensures room { rows_of self.now ≤ most_rows }
     {
         let days = self.federal.len() + self.state.len() + self.closed.len();
         days + self.spans.len() + self.short.len()
@@ -184,7 +185,7 @@ impl Calendar {
         // The faults, in the order in which they are looked for.
         ensures out_of_range { (result ≡ Err CalendarFault.OutOfRange) ↔ ¬ (IsEnteredDay day) }
         ensures full { (result ≡ Err CalendarFault.Full)
-            ↔ (IsEnteredDay day × ¬ (Holds self.old kind day) × (rows_of self.old ≡ 4000)) }
+            ↔ (IsEnteredDay day × ¬ (Holds self.old kind day) × (rows_of self.old ≡ most_rows)) }
         ensures err { OnErr result (self.new ≡ self.old) }
 
         // What stands already stays, and what is new is entered.
@@ -194,7 +195,7 @@ impl Calendar {
 
         // The calendar is within its limits, before and after.
         ensures limits { IsWithinLimits self.old × IsWithinLimits self.new }
-        ensures room { (rows_of self.old ≤ 4000) × (rows_of self.new ≤ 4000) }
+        ensures room { (rows_of self.old ≤ most_rows) × (rows_of self.new ≤ most_rows) }
     {
         let rows = self.len();
         if !is_entered(day) {
@@ -236,7 +237,7 @@ impl Calendar {
             ↔ ¬ (IsEnteredSpan (seconds start) (seconds end)) }
         ensures full { (result ≡ Err CalendarFault.Full)
             ↔ (IsEnteredSpan (seconds start) (seconds end)
-            × ¬ (HoldsSpan self.old (seconds start) (seconds end)) × (rows_of self.old ≡ 4000)) }
+            × ¬ (HoldsSpan self.old (seconds start) (seconds end)) × (rows_of self.old ≡ most_rows)) }
         ensures err { OnErr result (self.new ≡ self.old) }
 
         // What stands already stays, and what is new is entered.
@@ -247,7 +248,7 @@ impl Calendar {
 
         // The calendar is within its limits, before and after.
         ensures limits { IsWithinLimits self.old × IsWithinLimits self.new }
-        ensures room { (rows_of self.old ≤ 4000) × (rows_of self.new ≤ 4000) }
+        ensures room { (rows_of self.old ≤ most_rows) × (rows_of self.new ≤ most_rows) }
     {
         let rows = self.len();
         let Some(span) = entered_span(start, end) else {
@@ -271,7 +272,7 @@ impl Calendar {
         // The faults, in the order in which they are looked for.
         ensures out_of_range { (result ≡ Err CalendarFault.OutOfRange) ↔ ¬ (IsEnteredShort day minute) }
         ensures full { (result ≡ Err CalendarFault.Full)
-            ↔ (IsEnteredShort day minute × ¬ (IsShort self.old day) × (rows_of self.old ≡ 4000)) }
+            ↔ (IsEnteredShort day minute × ¬ (IsShort self.old day) × (rows_of self.old ≡ most_rows)) }
         ensures err { OnErr result (self.new ≡ self.old) }
 
         // What stands already stays, and what is new is entered.
@@ -281,7 +282,7 @@ impl Calendar {
 
         // The calendar is within its limits, before and after.
         ensures limits { IsWithinLimits self.old × IsWithinLimits self.new }
-        ensures room { (rows_of self.old ≤ 4000) × (rows_of self.new ≤ 4000) }
+        ensures room { (rows_of self.old ≤ most_rows) × (rows_of self.new ≤ most_rows) }
     {
         let rows = self.len();
         if !is_entered_short(day, minute) {

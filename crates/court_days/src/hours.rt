@@ -9,6 +9,7 @@ ghost use Rattle.court_days.specs.Court.{zone_of};
 ghost use Rattle.court_days.specs.HourEnds.{is_accessible, first_accessible, end_of_hours};
 ghost use Rattle.court_days.specs.Hours.{IsAccessible, same_time_on, IsAccessibleDay, RunsForward, RunsBackward, IsEndOfHours, IsNearEntered};
 ghost use Rattle.court_days.specs.Period.{IsFirstFrom};
+ghost use Rattle.court_days.specs.Limits.{first_entered_instant, last_entered_instant};
 
 use crate::calendar::{Calendar, DayKind, Direction};
 use crate::court::Court;
@@ -149,7 +150,7 @@ fn end_of_hours(
     start: u64,
     hours: u32,
 ) -> u64
-    requires start { IsInRange 946_598_400 4_102_531_200 start }
+    requires start { IsInRange first_entered_instant last_entered_instant start }
     requires hours { hours ≤ 8760 }
     ensures means { IsEndOfHours calendar.now zone.now direction start hours result }
     ensures limits { IsWithinLimits calendar.now }

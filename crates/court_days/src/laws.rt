@@ -14,6 +14,7 @@ ghost use Rattle.court_days.specs.Hours.{IsAccessible, IsEndOfHours, IsNearEnter
 ghost use Rattle.court_days.specs.HourEnds.{is_accessible, end_of_hours};
 ghost use Rattle.court_days.specs.declared.calendar.Direction.{Direction};
 ghost use Rattle.court_days.specs.declared.calendar.DayKind.{DayKind};
+ghost use Rattle.court_days.specs.Limits.{last_local_day};
 
 /// Each test says what the fact beside it says.
 pub fn tests_tell()
@@ -61,7 +62,7 @@ pub fn ends_of_hours_are_found()
         → IsWithinLimits entered → IsZone zone → IsInstant (end - 3600) → IsInstant end
         → (is_accessible entered zone end ≡ true) ↔ IsAccessible entered zone end }
     ensures day { (zone : ZoneRules) (instant : ℕ) → IsZone zone → IsNearEntered instant
-        → (10_578 ≤ local_day zone instant) × (local_day zone instant ≤ 47_871) }
+        → (10_578 ≤ local_day zone instant) × (local_day zone instant ≤ last_local_day) }
 {}
 
 /// The zone of each court is within its limits.

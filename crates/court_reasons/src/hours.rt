@@ -6,6 +6,7 @@ ghost use Rattle.court_days.specs.Court.{zone_of};
 ghost use Rattle.court_days.specs.Hours.{same_time_on};
 ghost use Rattle.court_reasons.specs.Causes.{hour_causes};
 ghost use Rattle.court_reasons.specs.Steps.{passed, hours_on, from_last_hour, hours_back, hours_from, hours_away, steps_of_hours};
+ghost use Rattle.court_days.specs.Limits.{first_entered_instant, last_entered_instant};
 
 use crate::cause::hour_causes;
 use crate::days::push_passed_back;
@@ -150,7 +151,7 @@ fn push_hours_from(
 
 /// The moment to which hours are counted.
 fn hours_away(direction: Direction, at: i64, hours: u32) -> i64
-    requires at { IsInRange 946_598_400 4_102_531_200 (seconds at) }
+    requires at { IsInRange first_entered_instant last_entered_instant (seconds at) }
     requires hours { hours ≤ 8760 }
     ensures value { result ≡ pos (hours_away direction (seconds at) hours) }
     ensures near { IsInRange 915_000_000 4_134_100_000 (seconds result) }
@@ -169,7 +170,7 @@ pub(crate) fn push_hours(
     calendar: &Calendar,
     hours: &HourPeriod,
 ) -> Result<(), AllocError>
-    requires at { IsInRange 946_598_400 4_102_531_200 (seconds hours.now.at) }
+    requires at { IsInRange first_entered_instant last_entered_instant (seconds hours.now.at) }
     requires count { hours.now.hours ≤ 8760 }
     ensures { OnOk result (steps.new ≡ steps.old ++ steps_of_hours calendar.now (zone_of court.now) hours.now) }
 {

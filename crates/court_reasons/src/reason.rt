@@ -6,6 +6,7 @@ ghost use Rattle.court_rules.specs.Standings.{last_day, begins_on_entered_day, A
 ghost use Rattle.court_reasons.specs.Explains.{Explains};
 ghost use Rattle.court_reasons.specs.Steps.{steps_of_start, steps_of_resumed, extended, steps_of_act, steps_of};
 ghost use Rattle.court_reasons.specs.Told.{acts_of};
+ghost use Rattle.court_days.specs.Limits.{last_entered_day};
 
 use crate::days::{push_days, push_three_more, push_way};
 use crate::hours::push_hours;
@@ -76,7 +77,7 @@ fn push_resumed(
     day: Day,
     three_days: bool,
 ) -> Result<(), AllocError>
-    requires { day ≤ 47_481 }
+    requires { day ≤ last_entered_day }
     ensures { OnOk result (steps.new ≡ steps.old ++ steps_of_resumed calendar.now day three_days) }
 {
     let end = count_days(calendar, Direction::Forward, day, DAYS_AFTER_MOTION);

@@ -12,14 +12,15 @@ use Rattle.court_rules.specs.declared.act.Start.{Start}
 use Rattle.court_rules.specs.declared.act.Start.TheVariants as start
 use Rattle.court_rules.specs.declared.order.Phase.{Phase}
 use Rattle.court_rules.specs.declared.order.Phase.TheVariants.{Unmade, Running, Suspended, Awaiting, Ended}
+use Rattle.court_days.specs.Limits.{first_entered_day, first_entered_instant, last_entered_day, last_entered_instant}
 
 -- from 2000-01-01 to 2099-12-31, a day that a court may enter
 abbrev pub is_entered_day : ℕ → Bool
-is_entered_day day = nat_le 10_957 day && nat_le day 47_481
+is_entered_day day = nat_le first_entered_day day && nat_le day last_entered_day
 
 -- from 1999-12-31T00:00Z to 2100-01-02T00:00Z: each instant whose day in some zone may be entered is one of these
 abbrev pub is_instant : ℤ → Bool
-is_instant at = int_le (pos 946_598_400) at && int_le at (pos 4_102_531_200)
+is_instant at = int_le (pos first_entered_instant) at && int_le at (pos last_entered_instant)
 
 -- from a day to 3650 days, or from a month to 120 months
 abbrev pub is_period : Period → Bool

@@ -20,6 +20,7 @@ use Rattle.court_rules.specs.declared.order.Phase.{Phase}
 use Rattle.court_rules.specs.declared.order.Phase.TheVariants as phase
 use Rattle.court_rules.specs.Acts.{is_entered_day, phase_after, acts_ok}
 use Rattle.court_rules.specs.Ends.{end_of_period, end_after_service}
+use Rattle.court_days.specs.Limits.{last_local_day}
 
 -- the end of a period (Fed. R. Civ. P. 6(a)(1), (2)), with the three days that service adds, if it does (6(d))
 abbrev pub end_of_start : ZoneRules → Entered → Start → End
@@ -78,7 +79,7 @@ AreActs zone acts = (acts_ok acts ≡ true) × (list_all (begins_on_entered_day 
 -- where the end lies after that many acts: a last day is at most so late, since each act moves it by at most ten years and
 -- some days; the instants at which periods of hours end lie near the days that may be entered
 abbrev pub IsEndAfter : ℕ → End → Type 0
-IsEndAfter count (LastDay day) = day ≤ 47_871 + 3737 * count
+IsEndAfter count (LastDay day) = day ≤ last_local_day + 3737 * count
 IsEndAfter count (Moment at) = IsNearEntered (seconds at)
 
 abbrev pub StandsAfter : ℕ → Standing → Type 0

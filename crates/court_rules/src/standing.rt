@@ -5,6 +5,7 @@ ghost use Rattle.court_days.specs.Hours.{IsNearEntered};
 ghost use Rattle.court_days.specs.Court.{zone_of};
 ghost use Rattle.court_rules.specs.Acts.{is_start, is_within};
 ghost use Rattle.court_rules.specs.Standings.{end_of_start, last_day, extended_by, resumed_end, standing_after, standing, begins_on_entered_day, AreActs, IsEndAfter, StandsAfter};
+ghost use Rattle.court_days.specs.Limits.{last_entered_day, last_local_day};
 
 use crate::act::{Act, DayPeriod, Standing, Start};
 use crate::end::{end_after_service, end_of_period};
@@ -40,7 +41,7 @@ fn end_of_start(court: &Court, calendar: &Calendar, start: Start) -> End
 fn local_day(court: &Court, at: i64) -> Day
     requires { IsNearEntered (seconds at) }
     ensures value { result ≡ local_day (zone_of court.now) (seconds at) }
-    ensures near { result ≤ 47_871 }
+    ensures near { result ≤ last_local_day }
 {
     court.local(at).0
 }
@@ -49,7 +50,7 @@ fn local_day(court: &Court, at: i64) -> Day
 fn last_day(court: &Court, end: End) -> Day
     requires { IsEndAfter 99 end }
     ensures value { result ≡ last_day (zone_of court.now) end }
-    ensures near { (count : ℕ) → IsEndAfter count end → result ≤ 47_871 + 3737 * count }
+    ensures near { (count : ℕ) → IsEndAfter count end → result ≤ last_local_day + 3737 * count }
 {
     match end {
         End::LastDay(day) => day,
@@ -59,7 +60,7 @@ fn last_day(court: &Court, end: End) -> Day
 
 /// The last day of the time that begins again after a motion.
 fn resumed_end(calendar: &Calendar, day: Day, three_days: bool) -> Day
-    requires { day ≤ 47_481 }
+    requires { day ≤ last_entered_day }
     ensures value { result ≡ resumed_end calendar.now day three_days }
     ensures near { result ≤ 51_608 }
 {

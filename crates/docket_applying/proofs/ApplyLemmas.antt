@@ -10,7 +10,8 @@ use Rattle.court_days.specs.Court.{CourtSettings}
 use Rattle.docket_command.specs.declared.command.Command.{Command}
 use Rattle.docket_command.specs.declared.refusal.Reply.{Reply}
 use Rattle.docket_decisions.specs.Decisions.{IsSoundView}
-use Rattle.docket_history.specs.Actions.{asks_calendar}
+use Rattle.docket_history.specs.Actions.{asks_calendar, subject_of}
+use Rattle.docket_history.specs.declared.subject.Subject.{Subject}
 use Rattle.docket_history.specs.Histories.{History, items_of, next_row, standing_rows}
 use Rattle.docket_decisions.specs.Outcomes.{Answer, repeated, refused, accepted, shown, outcome, after, after_answer}
 use Rattle.docket_decisions.specs.Tables.{Tables, rows_of, with_receipt, all_changed}
@@ -121,8 +122,10 @@ none_caused old new failure (Err Damaged) own = tt
 none_caused old new failure (Err _) own = absurd own
 
 -- the calendar that the action asked for is kept again
-pub calendar_kept : (court : CourtSettings) (h : History) (c : Command) (v : View) (kept now : Option (List CalendarItem)) → v ≡ shown court h c → now ≡ (if asks_calendar c.action then Some v.calendar else kept) → Keeps kept h → Keeps now h
-calendar_kept court h c v kept now seen is keeps = by_asking (asks_calendar c.action) (ap (λ (x : View). x.calendar) seen) is
+pub calendar_kept : (court : CourtSettings) (h : History) (c : Command) (v : View) (kept now : Option (List CalendarItem)) (s : Subject) → s ≡ subject_of c.action → v ≡ shown court h c
+    → now ≡ (if s.asks.calendar then Some v.calendar else kept) → Keeps kept h → Keeps now h
+calendar_kept court h c v kept now s about seen is keeps =
+    by_asking (asks_calendar c.action) (ap (λ (x : View). x.calendar) seen) (is ∙ ap (λ (subject : Subject). if subject.asks.calendar then Some v.calendar else kept) about)
   where
     by_asking : (asks : Bool) → v.calendar ≡ (if asks then items_of (standing_rows h) else []) → now ≡ (if asks then Some v.calendar else kept) → Keeps now h
     by_asking true items is = subst (λ k. Keeps k h) (sym is) items

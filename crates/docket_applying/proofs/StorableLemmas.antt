@@ -1,7 +1,7 @@
 -- What an accepted command adds can be stored: its numbers fit in 64 bits, and its texts are short.
 use Rattle.std.proofs.Common.{◌≡◌, ℕ, ◌+◌, ◌≤◌, ◌<◌, ◌^◌, Bool, true, false, not, ◌&&◌, Option, Some, None, List, [], ◌∷◌, ◌++◌, length, map, ℤ, pos, negsuc, SFits, w64, lt-ltb, refl, sym, subst, arith, nat_le}
-use Rattle.std.specs.Prelude.{filter, if◌then◌else◌, nat_eq}
-use Rattle.std.specs.List.{AllByRecursion, list_all}
+use Rattle.std.specs.Prelude.{filter, if◌then◌else◌}
+use Rattle.std.specs.List.{AllByRecursion}
 use Rattle.std.proofs.lemmas.Bool.Decides.{nat_tests}
 use Rattle.std.proofs.lemmas.List.Elements.{filter-append, filter_map-append}
 use Rattle.court_days.specs.Court.{CourtSettings}
@@ -30,11 +30,9 @@ use Rattle.docket_command.specs.declared.command.Action.{Action}
 use Rattle.docket_command.specs.declared.command.Action.TheVariants as action
 use Rattle.docket_command.specs.declared.command.Command.{Command}
 use Rattle.docket_command.specs.declared.field.Field.{Field}
-use Rattle.docket_command.specs.declared.field.Field.TheVariants as field
-use Rattle.docket_command.specs.declared.new_day.NewDay.{NewDay}
 use Rattle.docket_command.specs.declared.refusal.Refusal.{Refusal}
 use Rattle.docket_command.specs.declared.refusal.Reply.{Reply}
-use Rattle.docket_history.specs.Actions.{rows_asked, row_withdrawn, imported}
+use Rattle.docket_history.specs.Actions.{rows_asked, row_withdrawn}
 use Rattle.docket_history.specs.CalendarItems.{stands_among, fresh, is_short_day}
 use Rattle.docket_history.specs.Histories.{History, numbered, rows_added, new_case, new_party, new_entry, new_local_rule}
 use Rattle.docket_history.specs.ShortDays.{day_and_span_rows, short_day_rows, short_day_row}
@@ -50,7 +48,8 @@ use Rattle.docket_history.specs.declared.view.View.{View}
 use Rattle.docket_decisions.specs.Outcomes.{IsHistory, outcome, accepted, shown, receipts, reply_to, replied}
 use Rattle.docket_decisions.specs.Refusals.{on, first_some}
 use Rattle.docket_decisions.specs.Tables.{Tables, rows_of, changed, all_changed, with_receipt, withdrawal, action_changes, calendar_changes, case_changes, party_changes, entry_changes, deadline_changes, first_act_changes, act_changes, view_in}
-use Rattle.docket_decisions.proofs.GoodValues.{not_false}
+use Rattle.docket_decisions.specs.CalendarRows.{is_sound_item, is_well_named}
+use Rattle.docket_decisions.proofs.GoodValues.{IsGoodRow, not_false, rows_good}
 use Rattle.docket_decisions.proofs.Leading.{leads, is_accepted}
 use Rattle.docket_decisions.proofs.LimitsKept.{IsPassed, passed}
 use Rattle.docket_decisions.proofs.Passed.{left_true, right_true}
@@ -239,39 +238,27 @@ name_short (Local name) is = local_short name is
 abbrev AreShort : List NewRow → Type 0
 AreShort rows = AllByRecursion (λ (row : NewRow). IsShort row.name) rows
 
--- the days and the names that may be entered, as `docket_values` has them
-abbrev is_entered : ℕ → Bool
-is_entered day = nat_le 10_957 day && nat_le day 47_481
+-- the name of a row that the court may enter
+named_short : (item : CalendarItem) (name : List ℕ) → is_well_named item name ≡ true → IsShort name
+named_short (item.Day kind day) name e = within 1 100 name _ (omega arith) e
+named_short (item.Span start end) name e = let none : length name ≡ 0 = grind (arith, nat_tests) in omega (arith, none)
+named_short (item.Short day close) name e = within 1 100 name _ (omega arith) e
 
-abbrev is_name : List ℕ → Bool
-is_name name = (nat_le 1 (length name) && nat_le (length name) 100) && list_all (λ byte. nat_le 0x20 byte && not (nat_eq byte 0x7F)) name
-
--- the names of imported days
-imported_short : (days : List NewDay) → list_all (λ (new : NewDay). is_entered new.day && is_name new.name) days ≡ true → AreShort (map imported days)
-imported_short [] e = tt
-imported_short (new ∷ others) e =
-    (within 1 100 new.name _ (omega arith) (right_true (is_entered new.day) (is_name new.name) (left_true _ _ e)), imported_short others (right_true _ _ e))
+all_short : (court : CourtSettings) (rows : List NewRow) → AllByRecursion (IsGoodRow court) rows → AreShort rows
+all_short court [] good = tt
+all_short court (row ∷ rows) good =
+    (named_short row.item row.name (right_true (is_sound_item court row.item) (is_well_named row.item row.name) good.0), all_short court rows good.1)
 
 -- where a first check passes, so do the others
 passes : (b : Bool) (f : Field) (rest : Option Field) → (if b then Some f else rest) ≡ None → (b ≡ false) × (rest ≡ None)
 passes true f rest e = absurd (cc)
 passes false f rest e = (refl, e)
 
--- and the third of three
-third_off : (b c d : Bool) (f g k : Field) → (if b then Some f else if c then Some g else if d then Some k else None) ≡ None → d ≡ false
-third_off b c d f g k e = (passes d k None (passes c g _ (passes b f _ e).1).1).0
-
 -- the texts of a command that is accepted
 module _ (court : CourtSettings) (h : History) where
   -- the names of the calendar rows that it asks for
   asked_short : (a : Action) → IsPassed court h a → AreShort (rows_asked a)
-  asked_short (action.DeclareDay a) p = (good 100 a.name _ (omega arith) (passes _ _ _ (passes _ _ _ p.values).1).0, tt)
-  asked_short (action.CloseDay a) p = (good 100 a.name _ (omega arith) (passes _ _ _ (passes _ _ _ p.values).1).0, tt)
-  asked_short (action.CloseSpan a) p = (omega arith, tt)
-  asked_short (action.ShortDay a) p =
-      (good 100 a.name _ (omega arith) (third_off (not (is_entered a.day)) (nat_le court.close_minute a.close) (not (is_name a.name)) field.Day field.Close field.Name p.values), tt)
-  asked_short (action.ImportCalendar a) p = imported_short a.rows (right_true (nat_le (length a.rows) 1000) _ (not_false _ (passes _ _ _ p.values).0))
-  asked_short _ p = tt
+  asked_short a p = all_short court (rows_asked a) (rows_good court a p.values)
 
   -- the label and the caption of a case
   case_short : (count : ℕ) (a : Action) → IsPassed court h a → AllByRecursion HasShortTexts (map change.AddCase (new_case count a))

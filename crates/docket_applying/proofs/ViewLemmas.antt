@@ -6,8 +6,8 @@ use Rattle.court_rules.specs.declared.local_rule.LocalRule.{LocalRule}
 use Rattle.docket_history.specs.Histories.{deadlines_from, acts_of_deadline, parties_of_case, entries_of_case, deadlines_of_case, local_rule_in}
 use Rattle.std.specs.Option.{option_and_then, option_map}
 use Rattle.docket_command.specs.declared.command.Command.{Command}
-use Rattle.docket_history.specs.Actions.{case_named, asks_cases, asks_parties, asks_entries, asks_deadlines, asks_next_row, asks_local_rules, if_asked}
-use Rattle.docket_decisions.specs.Outcomes.{under_key, is_label_taken, is_row_standing}
+use Rattle.docket_history.specs.Actions.{case_named, asks_parties, asks_entries, asks_deadlines, if_asked}
+use Rattle.docket_decisions.specs.Outcomes.{under_key}
 use Rattle.docket_history.specs.declared.item.CalendarItem.{CalendarItem}
 use Rattle.docket_history.specs.declared.view.UnderKey.{UnderKey}
 use Rattle.docket_decisions.specs.Tables.{Tables, case_in, case_named_in, case_deadlines, deadlines_in, is_case_in, view_in}

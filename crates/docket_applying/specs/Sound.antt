@@ -21,11 +21,12 @@ use Rattle.docket_history.specs.declared.item.CalendarItem.{CalendarItem}
 use Rattle.docket_history.specs.declared.item.CalendarItem.TheVariants.{Day, Span, Short}
 use Rattle.docket_history.specs.declared.view.DeadlineView.{DeadlineView}
 use Rattle.docket_history.specs.declared.view.View.{View}
+use Rattle.court_days.specs.Limits.{first_entered_instant, last_entered_instant, most_rows}
 
 -- a court may enter the item
 abbrev pub is_entered_item : CalendarItem → Bool
 is_entered_item (Day kind day) = is_entered_day day
-is_entered_item (Span start end) = nat_le 946_598_400 start && (nat_lt start end && nat_le end 4_102_531_200)
+is_entered_item (Span start end) = nat_le first_entered_instant start && (nat_lt start end && nat_le end last_entered_instant)
 is_entered_item (Short day close) = is_entered_day day
 
 -- a period of hours begins at an instant that has a local day, and a court may enter that day
@@ -58,7 +59,7 @@ is_lawful_rule (Some rule) = is_local_rule rule
 
 -- a court may enter each item of the calendar, at most 4,000 of them
 abbrev pub IsSoundCalendar : List CalendarItem → Type 0
-IsSoundCalendar items = All IsEnteredItem items × (length items ≤ 4000)
+IsSoundCalendar items = All IsEnteredItem items × (length items ≤ most_rows)
 
 -- the deadlines of a case, at most 1,000 of them, have lawful acts
 pub record IsSoundCase (court : CourtSettings) (deadlines : List DeadlineView) : Type 0 where

@@ -23,7 +23,7 @@ use crate::writing::write;
 use court_days::Court;
 use docket_command::{Action, Command, Reply};
 use docket_decisions::{Changes, Decision};
-use docket_history::{StandingCalendar, changes_calendar};
+use docket_history::{StandingCalendar, Subject};
 use docket_wire::command_text;
 use sqlite::{Alter, Connection, Error};
 use std::alloc::Global;
@@ -40,7 +40,7 @@ fn drop_changed_calendar(kept: &mut Option<StandingCalendar>, action: &Action)
     ensures { (h : History) (c : Asked) → c.action ≡ action.now → Keeps kept.old h
         → Keeps kept.new h × Keeps kept.new (c ∷ h) }
 {
-    if changes_calendar(action) {
+    if Subject::of(action).changes_calendar {
         *kept = None;
     }
 }

@@ -3,7 +3,7 @@ ghost use Rattle.std.specs.Prelude.{◌≡◌, [], false, if◌then◌else◌, I
 ghost use Rattle.sqlite.specs.Held.{state};
 ghost use Rattle.sqlite.specs.State.{HasCleanDisk};
 ghost use Rattle.court_days.specs.Court.{CourtSettings};
-ghost use Rattle.docket_history.specs.Actions.{asks_calendar};
+ghost use Rattle.docket_history.specs.Actions.{subject_of};
 ghost use Rattle.docket_history.specs.Histories.{History, items_of, standing_rows};
 ghost use Rattle.docket_decisions.specs.Outcomes.{shown};
 ghost use Rattle.docket_wire.specs.Valid.{IsCommand};
@@ -21,9 +21,9 @@ use crate::fault::{Fault, read_fault};
 use crate::sound::{is_sound, is_sound_calendar};
 use crate::viewing::{calendar_items, view};
 use court_days::Court;
-use docket_command::{Action, Command};
+use docket_command::Command;
 use docket_decisions::{DecideFault, Decision, decide};
-use docket_history::{StandingCalendar, View, asks_calendar};
+use docket_history::{StandingCalendar, Subject, View};
 use docket_tables::ReadFault;
 use sqlite::{Alter, Connection, Error};
 use std::alloc::Global;
@@ -62,19 +62,19 @@ pub(crate) fn take_calendar<S: Alter>(
     }
 }
 
-/// The calendar, where the action asks for it. What is kept of it is taken.
+/// The calendar, where it is asked for. What is kept of it is taken.
 fn calendar_asked<S: Alter>(
     conn: &mut Connection<S>,
     alloc: Global,
     kept: &mut Option<StandingCalendar>,
-    action: &Action,
+    asked: bool,
 ) -> Result<StandingCalendar, ReadFault>
     ensures only { OnlyAsks S.Store conn.old conn.new result }
     ensures kept { (h : History) → Keeps kept.old h → Keeps kept.new h }
     ensures read { (court : CourtSettings) (h : History) → Stands S.Store (serving conn.old court kept.old) h
-        → Gives S.Store conn.new (docket_rows court h) (λ items. items ≡ (if asks_calendar action.now then items_of (standing_rows h) else [])) result }
+        → Gives S.Store conn.new (docket_rows court h) (λ items. items ≡ (if asked then items_of (standing_rows h) else [])) result }
 {
-    if !asks_calendar(action) {
+    if !asked {
         return Ok(StandingCalendar::empty(alloc));
     }
     take_calendar(conn, alloc, kept)
@@ -86,8 +86,10 @@ fn shown<S: Alter>(
     alloc: Global,
     kept: &mut Option<StandingCalendar>,
     command: &Command,
+    subject: Subject,
     body: &str,
 ) -> Result<View, ReadFault>
+    requires about { subject ≡ subject_of command.now.action }
     requires body { body.now ≡ canonical command.now }
     requires lawful { IsCommand command.now }
     ensures only { OnlyAsks S.Store conn.old conn.new result }
@@ -96,8 +98,8 @@ fn shown<S: Alter>(
         → Gives S.Store conn.new (docket_rows court h) (λ view. view ≡ shown court h command.now) result }
     ensures receipt { (rows : Rows) → HoldsRows S.Store conn.old rows → HasCleanDisk (state S.Store conn.new) → IfOk result (ShowsReceipt rows command.now) }
 {
-    let mut view = view(conn, alloc, command, body)?;
-    let calendar = calendar_asked(conn, alloc, kept, &command.action)?;
+    let mut view = view(conn, alloc, command, subject, body)?;
+    let calendar = calendar_asked(conn, alloc, kept, subject.asks.calendar)?;
     view.calendar = calendar;
     Ok(view)
 }
@@ -108,10 +110,12 @@ fn look<S: Alter>(
     alloc: Global,
     kept: &mut Option<StandingCalendar>,
     command: &Command,
+    subject: Subject,
     body: &str,
     failure: &mut Option<Error>,
 ) -> Result<View, Fault>
     requires idle { conn.old.in_transaction ≡ false }
+    requires about { subject ≡ subject_of command.now.action }
     requires body { body.now ≡ canonical command.now }
     requires lawful { IsCommand command.now }
     ensures leaves { LeavesIdle S.Store conn.old conn.new failure.new result }
@@ -119,17 +123,17 @@ fn look<S: Alter>(
         → Shows S.Store (serving conn.new court kept.new) h command.now result }
     ensures receipt { (rows : Rows) → HoldsRows S.Store conn.old rows → HasCleanDisk (state S.Store conn.new) → IfOk result (ShowsReceipt rows command.now) }
 {
-    match shown(conn, alloc, kept, command, body) {
+    match shown(conn, alloc, kept, command, subject, body) {
         Ok(view) => Ok(view),
         Err(fault) => Err(read_fault(conn, fault, failure)),
     }
 }
 
-/// Keeps the calendar of the view again, where the action asked for it.
-fn keep_asked(alloc: Global, kept: &mut Option<StandingCalendar>, view: &mut View, action: &Action)
-    ensures { kept.new ≡ (if asks_calendar action.now then Some view.old.calendar else kept.old) }
+/// Keeps the calendar of the view again, where it was asked for.
+fn keep_asked(alloc: Global, kept: &mut Option<StandingCalendar>, view: &mut View, asked: bool)
+    ensures { kept.new ≡ (if asked then Some view.old.calendar else kept.old) }
 {
-    if asks_calendar(action) {
+    if asked {
         *kept = Some(mem::replace(&mut view.calendar, StandingCalendar::empty(alloc)));
     }
 }
@@ -142,7 +146,9 @@ fn decide_by(
     kept: &mut Option<StandingCalendar>,
     view: &mut View,
     command: &Command,
+    subject: Subject,
 ) -> Result<Decision, Fault>
+    requires { subject ≡ subject_of command.now.action }
     ensures kept { (h : History) → view.old ≡ shown court.now h command.now → Keeps kept.old h → Keeps kept.new h }
     ensures decided { (h : History) → IsDocket court.now h → view.old ≡ shown court.now h command.now → Decides court.now h command.now result }
     ensures repeats { (rows : Rows) → ShowsReceipt rows command.now view.old → IfOk result (RepeatsReceipt rows command.now) }
@@ -152,7 +158,7 @@ fn decide_by(
         return Err(Fault::Damaged);
     }
     let decided = decide(alloc, view, court, command);
-    keep_asked(alloc, kept, view, &command.action);
+    keep_asked(alloc, kept, view, subject.asks.calendar);
     match decided {
         Ok(decision) => Ok(decision),
         Err(DecideFault::Refused(refusal)) => Err(Fault::Refused(refusal)),
@@ -179,6 +185,7 @@ pub(crate) fn judge<S: Alter>(
     ensures repeats { (rows : Rows) → HoldsRows S.Store conn.old rows → HasCleanDisk (state S.Store conn.new)
         → IfOk result (RepeatsReceipt rows command.now) }
 {
-    let mut view = look(conn, alloc, kept, command, body, failure)?;
-    decide_by(alloc, court, kept, &mut view, command)
+    let subject = Subject::of(&command.action);
+    let mut view = look(conn, alloc, kept, command, subject, body, failure)?;
+    decide_by(alloc, court, kept, &mut view, command, subject)
 }

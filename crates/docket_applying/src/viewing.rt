@@ -4,11 +4,11 @@ ghost use Rattle.std.specs.Option.{option_and_then, option_map};
 ghost use Rattle.sqlite.specs.Held.{state};
 ghost use Rattle.sqlite.specs.State.{HasCleanDisk};
 ghost use Rattle.docket_command.specs.declared.refusal.Reply.{Reply};
-ghost use Rattle.docket_history.specs.Actions.{case_named, asks_cases, asks_parties, asks_entries, asks_deadlines, asks_next_row, asks_local_rules, if_asked};
+ghost use Rattle.docket_history.specs.Actions.{case_named, if_asked, subject_of};
 ghost use Rattle.docket_history.specs.Histories.{parties_of_case, entries_of_case, deadlines_of_case, deadlines_from, items_of, local_rule_in};
 ghost use Rattle.docket_decisions.specs.Outcomes.{is_label_taken, is_row_standing};
 ghost use Rattle.docket_decisions.specs.Tables.{case_in, case_deadlines, deadlines_in, view_in};
-ghost use Rattle.docket_history.specs.Views.{deadline_at, deadline_of, is_served_among, named_in, rule_name_asked};
+ghost use Rattle.docket_history.specs.Views.{deadline_at, is_served_among, named_in, rule_name_asked};
 ghost use Rattle.docket_history.specs.declared.view.UnderKey.TheVariants.{Same};
 ghost use Rattle.docket_wire.specs.Valid.{IsCommand};
 ghost use Rattle.docket_wire.specs.Writing.{canonical};
@@ -22,8 +22,7 @@ ghost use Rattle.docket_applying.specs.Viewing.{numbers_in};
 use crate::gathering::{items_of, with_acts};
 use docket_command::{Action, Command, LocalRule};
 use docket_history::{
-    Acts, CalendarItem, CaseView, DeadlineView, StandingCalendar, View, asks_cases, asks_deadlines,
-    asks_entries, asks_local_rules, asks_next_row, asks_parties, case_named, deadline_named,
+    Acts, Asks, CalendarItem, CaseView, DeadlineView, StandingCalendar, Subject, View,
     is_served_among, rule_name_asked,
 };
 use docket_tables::{
@@ -34,27 +33,27 @@ use docket_tables::{
 use sqlite::{Alter, Connection};
 use std::alloc::Global;
 
-/// How many cases there are, if the action asks.
-fn cases_if_asked<S: Alter>(conn: &mut Connection<S>, action: &Action) -> Result<u32, ReadFault>
-    ensures read { Reads S.Store conn.old conn.new result (λ _ t found. found ≡ if_asked (asks_cases action.now) (length t.cases)) }
+/// How many cases there are, if that is asked.
+fn cases_if_asked<S: Alter>(conn: &mut Connection<S>, asked: bool) -> Result<u32, ReadFault>
+    ensures read { Reads S.Store conn.old conn.new result (λ _ t found. found ≡ if_asked asked (length t.cases)) }
     ensures only { OnlyAsks S.Store conn.old conn.new result }
 {
-    if !asks_cases(action) {
+    if !asked {
         return Ok(0);
     }
     cases(conn)
 }
 
-/// The number of the next calendar row, if the action asks.
+/// The number of the next calendar row, if that is asked.
 fn next_row_if_asked<S: Alter>(
     conn: &mut Connection<S>,
     alloc: Global,
-    action: &Action,
+    asked: bool,
 ) -> Result<u64, ReadFault>
-    ensures read { Reads S.Store conn.old conn.new result (λ _ t found. found ≡ if_asked (asks_next_row action.now) t.next_row) }
+    ensures read { Reads S.Store conn.old conn.new result (λ _ t found. found ≡ if_asked asked t.next_row) }
     ensures only { OnlyAsks S.Store conn.old conn.new result }
 {
-    if !asks_next_row(action) {
+    if !asked {
         return Ok(0);
     }
     Ok(court(conn, alloc)?.next_row)
@@ -141,62 +140,62 @@ pub(crate) fn deadline_view<S: Alter>(
     }))
 }
 
-/// The deadline that an action names, in a case.
+/// The deadline that is named, in a case.
 fn deadline_asked<S: Alter>(
     conn: &mut Connection<S>,
     alloc: Global,
     case: u32,
-    action: &Action,
+    named: Option<u32>,
 ) -> Result<Option<DeadlineView>, ReadFault>
-    ensures read { Reads S.Store conn.old conn.new result (λ _ t found. found ≡ deadline_of (deadlines_in t case) action.now) }
+    ensures read { Reads S.Store conn.old conn.new result (λ _ t found. found ≡ option_and_then (deadline_at (deadlines_in t case)) named) }
     ensures only { OnlyAsks S.Store conn.old conn.new result }
 {
-    match deadline_named(action) {
+    match named {
         Some(number) => deadline_view(conn, alloc, case, number),
         None => Ok(None),
     }
 }
 
-/// How many parties a case has, if the action asks.
+/// How many parties a case has, if that is asked.
 fn parties_if_asked<S: Alter>(
     conn: &mut Connection<S>,
     case: u32,
-    action: &Action,
+    asked: bool,
 ) -> Result<u32, ReadFault>
-    ensures read { Reads S.Store conn.old conn.new result (λ _ t found. found ≡ if_asked (asks_parties action.now) (length (parties_of_case case t.parties))) }
+    ensures read { Reads S.Store conn.old conn.new result (λ _ t found. found ≡ if_asked asked (length (parties_of_case case t.parties))) }
     ensures only { OnlyAsks S.Store conn.old conn.new result }
 {
-    if !asks_parties(action) {
+    if !asked {
         return Ok(0);
     }
     count_parties(conn, case)
 }
 
-/// How many entries a case has, if the action asks.
+/// How many entries a case has, if that is asked.
 fn entries_if_asked<S: Alter>(
     conn: &mut Connection<S>,
     case: u32,
-    action: &Action,
+    asked: bool,
 ) -> Result<u32, ReadFault>
-    ensures read { Reads S.Store conn.old conn.new result (λ _ t found. found ≡ if_asked (asks_entries action.now) (length (entries_of_case case t.entries))) }
+    ensures read { Reads S.Store conn.old conn.new result (λ _ t found. found ≡ if_asked asked (length (entries_of_case case t.entries))) }
     ensures only { OnlyAsks S.Store conn.old conn.new result }
 {
-    if !asks_entries(action) {
+    if !asked {
         return Ok(0);
     }
     count_entries(conn, case)
 }
 
-/// How many deadlines a case has, if the action asks.
+/// How many deadlines a case has, if that is asked.
 fn deadlines_if_asked<S: Alter>(
     conn: &mut Connection<S>,
     case: u32,
-    action: &Action,
+    asked: bool,
 ) -> Result<u32, ReadFault>
-    ensures read { Reads S.Store conn.old conn.new result (λ _ t found. found ≡ if_asked (asks_deadlines action.now) (length (deadlines_of_case case t.deadlines))) }
+    ensures read { Reads S.Store conn.old conn.new result (λ _ t found. found ≡ if_asked asked (length (deadlines_of_case case t.deadlines))) }
     ensures only { OnlyAsks S.Store conn.old conn.new result }
 {
-    if !asks_deadlines(action) {
+    if !asked {
         return Ok(0);
     }
     count_deadlines(conn, case)
@@ -226,8 +225,10 @@ fn case_view<S: Alter>(
     conn: &mut Connection<S>,
     alloc: Global,
     number: u32,
+    subject: Subject,
     action: &Action,
 ) -> Result<Option<CaseView>, ReadFault>
+    requires { subject ≡ subject_of action.now }
     ensures read { Reads S.Store conn.old conn.new result (λ _ t found. found ≡ case_in t action.now number) }
     ensures only { OnlyAsks S.Store conn.old conn.new result }
 {
@@ -235,10 +236,11 @@ fn case_view<S: Alter>(
     if !is_among(number, count) {
         return Ok(None);
     }
-    let parties = parties_if_asked(conn, number, action)?;
-    let entries = entries_if_asked(conn, number, action)?;
-    let deadlines = deadlines_if_asked(conn, number, action)?;
-    let named = deadline_asked(conn, alloc, number, action)?;
+    let asks = subject.asks;
+    let parties = parties_if_asked(conn, number, asks.parties)?;
+    let entries = entries_if_asked(conn, number, asks.entries)?;
+    let deadlines = deadlines_if_asked(conn, number, asks.deadlines)?;
+    let named = deadline_asked(conn, alloc, number, subject.deadline)?;
     let is_served = is_served(conn, alloc, number, action)?;
     Ok(Some(CaseView {
         number,
@@ -253,13 +255,15 @@ fn case_view<S: Alter>(
 fn case_asked<S: Alter>(
     conn: &mut Connection<S>,
     alloc: Global,
+    subject: Subject,
     action: &Action,
 ) -> Result<Option<CaseView>, ReadFault>
+    requires { subject ≡ subject_of action.now }
     ensures read { Reads S.Store conn.old conn.new result (λ _ t found. found ≡ option_and_then (case_in t action.now) (case_named action.now)) }
     ensures only { OnlyAsks S.Store conn.old conn.new result }
 {
-    match case_named(action) {
-        Some(number) => case_view(conn, alloc, number, action),
+    match subject.case {
+        Some(number) => case_view(conn, alloc, number, subject, action),
         None => Ok(None),
     }
 }
@@ -280,15 +284,12 @@ fn local_rule_asked<S: Alter>(
     }
 }
 
-/// How many local rules there are, if the action asks.
-fn local_rules_if_asked<S: Alter>(
-    conn: &mut Connection<S>,
-    action: &Action,
-) -> Result<u32, ReadFault>
-    ensures read { Reads S.Store conn.old conn.new result (λ _ t found. found ≡ if_asked (asks_local_rules action.now) (length t.local_rules)) }
+/// How many local rules there are, if that is asked.
+fn local_rules_if_asked<S: Alter>(conn: &mut Connection<S>, asked: bool) -> Result<u32, ReadFault>
+    ensures read { Reads S.Store conn.old conn.new result (λ _ t found. found ≡ if_asked asked (length t.local_rules)) }
     ensures only { OnlyAsks S.Store conn.old conn.new result }
 {
-    if !asks_local_rules(action) {
+    if !asked {
         return Ok(0);
     }
     count_local_rules(conn)
@@ -323,16 +324,18 @@ struct NumbersShown {
 fn numbers_shown<S: Alter>(
     conn: &mut Connection<S>,
     alloc: Global,
+    asks: Asks,
     action: &Action,
 ) -> Result<NumbersShown, ReadFault>
+    requires { asks ≡ (subject_of action.now).asks }
     ensures read { Reads S.Store conn.old conn.new result (λ _ t found. found ≡ numbers_in t action.now) }
     ensures only { OnlyAsks S.Store conn.old conn.new result }
 {
-    let cases = cases_if_asked(conn, action)?;
+    let cases = cases_if_asked(conn, asks.cases)?;
     let label_taken = is_asked_label_taken(conn, action)?;
     let row_stands = is_asked_row_standing(conn, action)?;
-    let next_row = next_row_if_asked(conn, alloc, action)?;
-    let local_rules = local_rules_if_asked(conn, action)?;
+    let next_row = next_row_if_asked(conn, alloc, asks.next_row)?;
+    let local_rules = local_rules_if_asked(conn, asks.local_rules)?;
     Ok(NumbersShown {
         cases,
         label_taken,
@@ -348,8 +351,10 @@ pub(crate) fn view<S: Alter>(
     conn: &mut Connection<S>,
     alloc: Global,
     command: &Command,
+    subject: Subject,
     body: &str,
 ) -> Result<View, ReadFault>
+    requires about { subject ≡ subject_of command.now.action }
     requires body { body.now ≡ canonical command.now }
     requires lawful { IsCommand command.now }
     ensures read { Reads S.Store conn.old conn.new result (λ _ t found. found ≡ record (view_in t command.now) { calendar = [] }) }
@@ -359,8 +364,8 @@ pub(crate) fn view<S: Alter>(
 {
     let action = &command.action;
     let under_key = under_key(conn, command, body)?;
-    let numbers = numbers_shown(conn, alloc, action)?;
-    let case = case_asked(conn, alloc, action)?;
+    let numbers = numbers_shown(conn, alloc, subject.asks, action)?;
+    let case = case_asked(conn, alloc, subject, action)?;
     let local = local_rule_asked(conn, alloc, &case, action)?;
     Ok(View {
         under_key,

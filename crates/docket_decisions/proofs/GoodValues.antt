@@ -1,12 +1,13 @@
 -- What follows where no value of a command is bad.
-use Rattle.std.proofs.Common.{◌≡◌, ℕ, ◌+◌, ◌≤◌, Bool, true, false, not, cond, ◌&&◌, ◌||◌, Option, Some, None, List, [], ◌∷◌, ◌++◌, if◌then◌else◌, length, map, ℤ, pos, negsuc, ◌+ℤ◌, ◌-ℤ◌, ◌*ℤ◌, ◌≤ℤ◌, unsigned_abs, refl, arith, nat_le}
-use Rattle.std.specs.List.{All, list_all}
+use Rattle.std.proofs.Common.{◌≡◌, ℕ, ◌+◌, ◌≤◌, Bool, true, false, not, cond, ◌&&◌, ◌||◌, Option, Some, None, List, [], ◌∷◌, ◌++◌, if◌then◌else◌, length, map, ℤ, pos, negsuc, ◌+ℤ◌, ◌-ℤ◌, ◌*ℤ◌, ◌≤ℤ◌, unsigned_abs, refl, arith, nat_le, rules}
+use Rattle.std.specs.List.{All, AllByRecursion, list_all}
+use Rattle.std.specs.Prelude.{nat_lt}
 use Rattle.std.proofs.lemmas.Int.{ints}
 use Rattle.std.proofs.lemmas.List.Elements.{All-nil, All-cons, All-head, All-tail}
 use Rattle.std.proofs.lemmas.Bool.Decides.{nat_tests}
 use Rattle.civil_time.specs.LocalTime.{local_day, local_time, offset_in_force, is_summer, standard_time}
 use Rattle.civil_time.specs.Zone.{ZoneRules, IsZone}
-use Rattle.court_days.specs.Civil.{IsEnteredDay, IsEnteredSpan}
+use Rattle.court_days.specs.Civil.{IsEnteredDay}
 use Rattle.court_days.specs.Court.{CourtSettings, zone_of}
 use Rattle.court_days.proofs.CourtLemmas.{zone_of-is_zone}
 use Rattle.docket_command.specs.declared.command.Action.{Action}
@@ -18,7 +19,9 @@ use Rattle.docket_history.specs.CalendarItems.{IsEnteredItem, stands_among, fres
 use Rattle.docket_history.specs.Histories.{numbered, items_of}
 use Rattle.docket_values.specs.Values.{first_bad, bad_values, is_entered, is_entered_at, is_text, is_new_day}
 use Rattle.docket_history.specs.declared.item.CalendarItem.{CalendarItem}
+use Rattle.docket_history.specs.declared.item.CalendarItem.TheVariants.{Day, Span, Short}
 use Rattle.docket_history.specs.declared.item.NewRow.{NewRow}
+use Rattle.docket_decisions.specs.CalendarRows.{is_sound_item, is_well_named}
 use Rattle.docket_decisions.proofs.Passed.{left_true, right_true}
 
 -- no field is bad
@@ -71,36 +74,60 @@ entered_instant court t e =
     let near = local_near (zone_of court) t (zone_of-is_zone court) in
     (omega (arith, day.0, day.1, near.0, near.1), omega (arith, day.0, day.1, near.0, near.1))
 
+-- an item within its limits may be entered
+pub may_be_entered : (court : CourtSettings) (item : CalendarItem) → is_sound_item court item ≡ true → IsEnteredItem item
+may_be_entered court (Day kind day) sound = entered_day day sound
+may_be_entered court (Span start end) sound =
+    let parts = three (is_entered_at court start) (is_entered_at court end) (nat_lt start end) sound in
+    ((entered_instant court start parts.0).0, grind (arith, nat_tests, parts.2), (entered_instant court end parts.1).1)
+  where
+    three : (a b c : Bool) → (a && b && c) ≡ true → (a ≡ true) × (b ≡ true) × (c ≡ true)
+    three true true true e = (refl, refl, refl)
+    three true true false e = absurd cc
+    three true false c e = absurd cc
+    three false b c e = absurd cc
+may_be_entered court (Short day close) sound = entered_day day (left_true (is_entered day) (nat_lt close court.close_minute) sound)
+
+-- a row that the court may enter
+abbrev pub IsGoodRow : CourtSettings → NewRow → Type 0
+IsGoodRow court row = (is_sound_item court row.item && is_well_named row.item row.name) ≡ true
+
+both : (a b : Bool) → a ≡ true → b ≡ true → (a && b) ≡ true
+both a b x y = rw (x, y) refl
+
+days_good : (court : CourtSettings) (days : List NewDay) → list_all is_new_day days ≡ true → AllByRecursion (IsGoodRow court) (map imported days)
+days_good court [] all = tt
+days_good court (day ∷ days) all = (left_true (is_new_day day) (list_all is_new_day days) all, days_good court days (right_true (is_new_day day) (list_all is_new_day days) all))
+
+-- each row that is asked for is one
+pub rows_good : (court : CourtSettings) (a : Action) → first_bad (bad_values court a) ≡ None → AllByRecursion (IsGoodRow court) (rows_asked a)
+rows_good court (action.CloseSpan a) good =
+    let fields = all_good (bad_values court (action.CloseSpan a)) good in
+    let ends = or_off (not (is_entered_at court a.end)) (nat_le a.end a.start) fields.1.0 in
+    let later = ends.1 in
+    let before : nat_lt a.start a.end ≡ true = grind (arith, nat_tests, later) in
+    (rw (not_false (is_entered_at court a.start) fields.0, not_false (is_entered_at court a.end) ends.0, before) refl, tt)
+rows_good court (action.ShortDay a) good =
+    let fields = all_good (bad_values court (action.ShortDay a)) good in
+    let later = fields.1.0 in
+    let sooner : nat_lt a.close court.close_minute ≡ true = grind (arith, nat_tests, later) in
+    (rw (not_false (is_entered a.day) fields.0, sooner, not_false (is_text 100 a.name) fields.1.1.0) refl, tt)
+rows_good court (action.ImportCalendar a) good =
+    let rows = not_false (nat_le (length a.rows) 1000 && list_all is_new_day a.rows) (all_good (bad_values court (action.ImportCalendar a)) good).0 in
+    days_good court a.rows (right_true (nat_le (length a.rows) 1000) (list_all is_new_day a.rows) rows)
+rows_good court a good = search rules
+
 abbrev AreEntered : List NewRow → Type 0
 AreEntered rows = All (λ (row : NewRow). IsEnteredItem row.item) rows
 
--- each row that is asked for
-one_entered : (row : NewRow) → IsEnteredItem row.item → AreEntered (row ∷ [])
-one_entered row is = All-cons (λ (r : NewRow). IsEnteredItem r.item) row [] is (All-nil (λ (r : NewRow). IsEnteredItem r.item))
-
-days_entered : (days : List NewDay) → list_all is_new_day days ≡ true → AreEntered (map imported days)
-days_entered [] e = All-nil (λ (r : NewRow). IsEnteredItem r.item)
-days_entered (new ∷ others) e =
-    let here : is_new_day new ≡ true = left_true (is_new_day new) (list_all is_new_day others) e in
-    let rest : list_all is_new_day others ≡ true = right_true (is_new_day new) (list_all is_new_day others) e in
-    All-cons (λ (r : NewRow). IsEnteredItem r.item) (imported new) (map imported others)
-    (entered_day new.day (left_true (is_entered new.day) (is_text 100 new.name) here)) (days_entered others rest)
-
-span_entered : (court : CourtSettings) (start end : ℕ) → is_entered_at court start ≡ true → is_entered_at court end ≡ true → nat_le end start ≡ false → IsEnteredSpan start end
-span_entered court start end first last apart = ((entered_instant court start first).0, grind (arith, nat_tests), (entered_instant court end last).1)
+all_entered : (court : CourtSettings) (rows : List NewRow) → AllByRecursion (IsGoodRow court) rows → AreEntered rows
+all_entered court [] good = All-nil (λ (r : NewRow). IsEnteredItem r.item)
+all_entered court (row ∷ rows) good =
+    All-cons (λ (r : NewRow). IsEnteredItem r.item) row rows
+    (may_be_entered court row.item (left_true (is_sound_item court row.item) (is_well_named row.item row.name) good.0)) (all_entered court rows good.1)
 
 pub asked_entered : (court : CourtSettings) (a : Action) → first_bad (bad_values court a) ≡ None → AreEntered (rows_asked a)
-asked_entered court (action.DeclareDay a) good = one_entered _ (entered_day a.day (not_false (is_entered a.day) (all_good (bad_values court (action.DeclareDay a)) good).0))
-asked_entered court (action.CloseDay a) good = one_entered _ (entered_day a.day (not_false (is_entered a.day) (all_good (bad_values court (action.CloseDay a)) good).0))
-asked_entered court (action.CloseSpan a) good =
-    let fields = all_good (bad_values court (action.CloseSpan a)) good in
-    let end = or_off (not (is_entered_at court a.end)) (nat_le a.end a.start) fields.1.0 in
-    one_entered _ (span_entered court a.start a.end (not_false (is_entered_at court a.start) fields.0) (not_false (is_entered_at court a.end) end.0) end.1)
-asked_entered court (action.ShortDay a) good = one_entered _ (entered_day a.day (not_false (is_entered a.day) (all_good (bad_values court (action.ShortDay a)) good).0))
-asked_entered court (action.ImportCalendar a) good =
-    let rows = not_false (nat_le (length a.rows) 1000 && list_all is_new_day a.rows) (all_good (bad_values court (action.ImportCalendar a)) good).0 in
-    days_entered a.rows (right_true (nat_le (length a.rows) 1000) (list_all is_new_day a.rows) rows)
-asked_entered court _ good = All-nil (λ (r : NewRow). IsEnteredItem r.item)
+asked_entered court a good = all_entered court (rows_asked a) (rows_good court a good)
 
 -- those that don't stand
 fresh_if : (b : Bool) (new : NewRow) (rows others : List NewRow) → IsEnteredItem new.item → AreEntered rows → AreEntered others → AreEntered (if b then rows else new ∷ others)

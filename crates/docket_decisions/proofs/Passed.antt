@@ -1,7 +1,7 @@
 -- Where no refusal applies, no refusal's sentence is true; and what follows from it.
 use Rattle.std.proofs.Common.{◌≡◌, ◌≢◌, ℕ, ◌+◌, ◌≤◌, ◌<◌, Bool, true, false, ◌||◌, Option, Some, None, List, [], ◌∷◌, length, refl, subst, arith}
 use Rattle.std.specs.Prelude.{nat_lt, nat_le, slice_get, is_some, ◌&&◌, if◌then◌else◌, IfSome}
-use Rattle.std.specs.Option.{option_map_or}
+use Rattle.std.specs.Option.{option_and_then, option_map_or}
 use Rattle.std.specs.List.{All, list_all}
 use Rattle.std.proofs.lemmas.Bool.Decides.{nat_tests}
 use Rattle.std.proofs.lemmas.List.Elements.{All-get_or}
@@ -14,12 +14,14 @@ use Rattle.docket_command.specs.declared.command.Action.{Action}
 use Rattle.docket_command.specs.declared.command.Command.{Command}
 use Rattle.docket_command.specs.declared.field.Field.{Field}
 use Rattle.docket_command.specs.declared.refusal.Refusal.{Refusal}
-use Rattle.docket_history.specs.Actions.{CalendarWork, enters, imports, shortens, withdraws, Work, on_calendar, opens, enters_rule, in_case, FoundRule, work, calendar_in, case_in, rows_of_work, made_by, may_enter, deadlines_made, asks_next_row}
-use Rattle.docket_history.specs.CalendarItems.{fresh}
+use Rattle.docket_history.specs.Actions.{CalendarWork, enters, imports, shortens, withdraws, Work, on_calendar, opens, enters_rule, in_case, FoundRule, work, calendar_in, case_in, rows_of_work, entered_by, short_row, made_by, may_enter, deadlines_made, asks_next_row}
+use Rattle.docket_history.specs.CalendarItems.{fresh, stands_among}
 use Rattle.docket_decisions.specs.Decisions.{IsSoundView}
-use Rattle.docket_decisions.specs.Refusals.{on, on_value, first_some, refusals, refusal_of, lacks_case, lacks_deadline, lacks_local_rule, exists_already, is_not_open, is_not_awaiting, is_full_by, is_full, is_calendar_full, has_too_many_acts, count_added}
+use Rattle.docket_decisions.specs.Refusals.{on, on_value, first_some, refusals, refusal_of, lacks_case, lacks_deadline, lacks_local_rule, exists_by, exists_already, is_not_open, is_not_awaiting, is_full_by, is_full, is_calendar_full, has_too_many_acts, count_added}
 use Rattle.docket_values.specs.Values.{first_bad, bad_values}
 use Rattle.docket_history.specs.Views.{count_deadlines, deadline_shown, acts_in}
+use Rattle.docket_history.specs.declared.item.CalendarItem.TheVariants.{Short}
+use Rattle.docket_history.specs.declared.item.NewRow.{NewRow}
 use Rattle.docket_history.specs.declared.row.NewDeadline.{NewDeadline}
 use Rattle.docket_history.specs.declared.view.DeadlineView.{DeadlineView}
 use Rattle.docket_history.specs.declared.view.View.{View}
@@ -88,6 +90,24 @@ rows_fit v a e was = at (work a) e
     at (opens case) e = omega arith
     at (enters_rule rule) e = omega arith
     at (in_case work) e = omega arith
+
+-- a row that is new is added
+pub one_row : (b : Bool) (new : NewRow) → b ≡ false → length (if b then [] else new ∷ []) ≡ 1
+one_row true new e = absurd (cc)
+one_row false new e = refl
+
+number_fits : (v : View) (added : ℕ) → is_calendar_full v added ≡ false → v.next_row + added ≤ 4_294_967_296
+number_fits v added room = not_above _ _ (or_right_off _ _ room)
+
+-- so does the number of a single one
+pub row_fits : (v : View) (w : Work) → is_some (option_and_then entered_by (calendar_in w)) ≡ true → exists_by v w ≡ false → (a : Action) → is_full_by v a w ≡ false → v.next_row < 4_294_967_296
+row_fits v (on_calendar (enters row)) is new a room = omega (arith, one_row (stands_among v.calendar row.item) row new, number_fits v (length (fresh v.calendar (row ∷ []))) room)
+row_fits v (on_calendar (imports rows)) is new a room = absurd (let no = is in cc)
+row_fits v (on_calendar (shortens short)) is new a room = omega (arith, one_row (stands_among v.calendar (Short short.day short.close)) (short_row short) new, number_fits v (length (fresh v.calendar (short_row short ∷ []))) room)
+row_fits v (on_calendar (withdraws number)) is new a room = absurd (let no = is in cc)
+row_fits v (opens case) is new a room = absurd (let no = is in cc)
+row_fits v (enters_rule rule) is new a room = absurd (let no = is in cc)
+row_fits v (in_case done) is new a room = absurd (let no = is in cc)
 
 -- where rows may be added, there is room for them
 pub calendar_room : (v : View) (a : Action) → is_full v a ≡ false → asks_next_row a ≡ true → is_calendar_full v (count_added v a) ≡ false

@@ -7,7 +7,7 @@ use Rattle.court_rules.specs.Standings.{AreActs, StandsAfter}
 use Rattle.court_rules.specs.declared.local_rule.LocalRule.{LocalRule}
 use Rattle.docket_command.specs.declared.command.Action.{Action}
 use Rattle.docket_command.specs.declared.command.Command.{Command}
-use Rattle.docket_history.specs.Actions.{deadlines_made, moves_all_cases}
+use Rattle.docket_history.specs.Actions.{deadlines_made, moves_all_cases, subject_of}
 use Rattle.docket_history.specs.CalendarItems.{IsEnteredItem, calendar_of}
 use Rattle.docket_history.specs.Histories.{History, case_rows}
 use Rattle.docket_history.specs.Times.{standing_shown}
@@ -29,13 +29,14 @@ use Rattle.docket_decisions.specs.declared.decision.DecideFault.TheVariants.{Ref
 use Rattle.docket_history.specs.declared.view.DeadlineView.{DeadlineView}
 use Rattle.docket_history.specs.declared.view.UnderKey.TheVariants.{Same}
 use Rattle.docket_history.specs.declared.view.View.{View}
+use Rattle.court_days.specs.Limits.{most_rows}
 
 -- a view that a history can show: its calendar holds what a court may enter, at most 4,000 rows, rows have numbers up to
 -- 4,294,967,295; the acts of the deadline that the command names are lawful, and where its time is not over there is room for one
 -- act more; and the local rule that it asks about is one that a court may have
 pub record IsSoundView (court : CourtSettings) (v : View) : Type 0 where
   pub items : All IsEnteredItem v.calendar
-  pub rows : length v.calendar ≤ 4000
+  pub rows : length v.calendar ≤ most_rows
   pub next_row : v.next_row ≤ 2 ^ 32
   pub acts : IfSome (deadline_shown v) (λ (d : DeadlineView). AreActs (zone_of court) d.acts)
   pub room : is_over (standing_shown court v) ≡ false → length (acts_in (deadline_shown v)) < 100
@@ -46,6 +47,7 @@ pub record AreCircumstances (circumstances : Circumstances) (v : View) (a : Acti
   pub calendar : circumstances.calendar.now ≡ calendar_of v.calendar
   pub standing : circumstances.standing ≡ standing_shown circumstances.court.now v
   pub near : StandsAfter 100 circumstances.standing
+  pub subject : circumstances.subject ≡ subject_of a
   pub added : circumstances.added ≡ count_added v a
   pub made : circumstances.made ≡ length (deadlines_made v.local a)
 

@@ -1,4 +1,5 @@
 pub mod Additions
+pub mod CalendarRows
 pub mod Decisions
 pub mod EndMoves
 pub mod EndRows

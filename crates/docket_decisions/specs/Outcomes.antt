@@ -7,13 +7,12 @@ use Rattle.court_days.specs.Court.{CourtSettings}
 use Rattle.docket_command.specs.Sameness.{is_same_command}
 use Rattle.docket_command.specs.declared.command.Command.{Command}
 use Rattle.docket_command.specs.declared.command.Action.{Action}
-use Rattle.docket_command.specs.declared.command.Action.TheVariants.{DeclareDay, CloseDay, CloseSpan, ShortDay, WithdrawCalendar, ImportCalendar, OpenCase, AddParty, FileEntry, ServeSummons, FileWaiver, ServePleading, OrderReply, RuleMotion, Dispose, StatementServed, NoticeHearing, OrderPeriod, EnterJudgment, Extend, Satisfy, Vacate, LocalRule, LocalPeriod}
 use Rattle.docket_command.specs.declared.refusal.Refusal.{Refusal}
 use Rattle.docket_command.specs.declared.refusal.Reply.{Reply}
-use Rattle.docket_history.specs.Actions.{opened, case_named, row_withdrawn, asks_calendar, asks_cases, asks_next_row, asks_local_rules, if_asked}
-use Rattle.docket_history.specs.CalendarItems.{calendar_of}
+use Rattle.docket_history.specs.Actions.{CalendarWork, enters, imports, shortens, withdraws, CaseReply, its_party, its_entry, its_first_deadline, this_deadline, whether_in_time, Work, on_calendar, opens, enters_rule, in_case, work, opened, case_named, row_withdrawn, asks_calendar, asks_cases, asks_next_row, asks_local_rules, if_asked}
+use Rattle.docket_history.specs.CalendarItems.{fresh, calendar_of}
 use Rattle.docket_history.specs.Histories.{History, standing_rows, items_of, next_row, case_rows, party_rows, parties_of_case, entry_rows, entries_of_case, deadlines, local_rule_rows, local_rule_in}
-use Rattle.docket_decisions.specs.Refusals.{refusal_of, count_added, wants_statement}
+use Rattle.docket_decisions.specs.Refusals.{refusal_of}
 use Rattle.docket_history.specs.Times.{standing_shown, is_in_time}
 use Rattle.docket_history.specs.Views.{parties_in, entries_in, count_deadlines, named_in, rule_name_asked, case_shown}
 use Rattle.docket_history.specs.declared.row.CalendarRow.{CalendarRow}
@@ -57,34 +56,32 @@ shown_fresh h a = record {
   local_rules = if_asked (asks_local_rules a) (length (local_rule_rows h));
 }
 
+-- the reply to what is done to the calendar: the number of the row that is added, how many rows are, or the number of the row that is
+-- withdrawn
+abbrev pub calendar_reply : View → CalendarWork → ℕ
+calendar_reply v (enters row) = v.next_row
+calendar_reply v (imports rows) = length (fresh v.calendar rows)
+calendar_reply v (shortens a) = v.next_row
+calendar_reply v (withdraws number) = number
+
+-- the reply to what is done in a case; where it is whether a filing was in time, 1 says so and 0 says no
+abbrev pub case_reply : CourtSettings → View → CaseReply → ℕ
+case_reply court v its_party = parties_in v.case + 1
+case_reply court v its_entry = entries_in v.case + 1
+case_reply court v its_first_deadline = count_deadlines v.case + 1
+case_reply court v (this_deadline n) = n
+case_reply court v (whether_in_time at way) =
+    if is_in_time court (calendar_of v.calendar) (standing_shown court v) at way then 1 else 0
+
+abbrev pub reply_by : CourtSettings → View → Work → ℕ
+reply_by court v (on_calendar work) = calendar_reply v work
+reply_by court v (opens case) = v.cases + 1
+reply_by court v (enters_rule rule) = v.local_rules + 1
+reply_by court v (in_case work) = case_reply court v work.reply
+
 -- the reply to an action that is accepted
 abbrev pub reply_to : CourtSettings → View → Action → ℕ
-reply_to court v (DeclareDay a) = v.next_row
-reply_to court v (CloseDay a) = v.next_row
-reply_to court v (CloseSpan a) = v.next_row
-reply_to court v (ShortDay a) = v.next_row
-reply_to court v (WithdrawCalendar a) = a.row
-reply_to court v (ImportCalendar a) = count_added v (ImportCalendar a)
-reply_to court v (OpenCase a) = v.cases + 1
-reply_to court v (AddParty a) = parties_in v.case + 1
-reply_to court v (FileEntry a) = entries_in v.case + 1
-reply_to court v (RuleMotion a) = a.deadline
-reply_to court v (Dispose a) = if wants_statement a.outcome then count_deadlines v.case + 1 else a.deadline
-reply_to court v (StatementServed a) = a.deadline
-reply_to court v (Extend a) = a.deadline
-reply_to court v (Satisfy a) =
-    if is_in_time court (calendar_of v.calendar) (standing_shown court v) a.at a.way then 1 else 0
-reply_to court v (Vacate a) = a.deadline
-reply_to court v (LocalRule a) = v.local_rules + 1
--- the number of the first deadline that the others make
-reply_to court v (ServeSummons a) = count_deadlines v.case + 1
-reply_to court v (FileWaiver a) = count_deadlines v.case + 1
-reply_to court v (ServePleading a) = count_deadlines v.case + 1
-reply_to court v (OrderReply a) = count_deadlines v.case + 1
-reply_to court v (NoticeHearing a) = count_deadlines v.case + 1
-reply_to court v (OrderPeriod a) = count_deadlines v.case + 1
-reply_to court v (EnterJudgment a) = count_deadlines v.case + 1
-reply_to court v (LocalPeriod a) = count_deadlines v.case + 1
+reply_to court v a = reply_by court v (work a)
 
 abbrev pub replied : ℕ → Reply
 replied n = record { number = n }

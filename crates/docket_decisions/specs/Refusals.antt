@@ -37,6 +37,7 @@ use Rattle.docket_history.specs.declared.view.DeadlineView.{DeadlineView}
 use Rattle.docket_history.specs.declared.view.UnderKey.{UnderKey}
 use Rattle.docket_history.specs.declared.view.UnderKey.TheVariants.{Other}
 use Rattle.docket_history.specs.declared.view.View.{View}
+use Rattle.court_days.specs.Limits.{most_rows}
 
 -- the key has a receipt for another command
 abbrev pub is_reused : UnderKey → Bool
@@ -221,7 +222,7 @@ count_added v a = length (rows_added v.calendar a)
 
 -- more than 4,000 rows would stand, or a row's number would pass 4,294,967,295
 abbrev pub is_calendar_full : View → ℕ → Bool
-is_calendar_full v added = nat_lt 4000 (length v.calendar + added) || nat_lt 4_294_967_296 (v.next_row + added)
+is_calendar_full v added = nat_lt most_rows (length v.calendar + added) || nat_lt 4_294_967_296 (v.next_row + added)
 
 -- a deadline has room for the act that ends it: 99 acts are the most before that
 abbrev pub has_too_many_acts : View → Action → Bool

@@ -11,7 +11,7 @@ use crate::deadline::act_made;
 use docket_command::Action;
 use docket_history::{
     ActRow, CalendarRow, CaseRow, Change, DeadlineRow, EntryRow, LocalRuleRow, NewDeadline, NewRow,
-    PartyRow, View, case_named, deadline_named,
+    PartyRow, Subject, View,
 };
 use std::alloc::{AllocError, Global};
 
@@ -159,7 +159,7 @@ fn push_made(
     if made.is_empty() {
         return Ok(());
     }
-    let case = case_named(action).unwrap_or(0);
+    let case = Subject::of(action).case.unwrap_or(0);
     let first = view.deadlines() + 1;
     push_deadlines(changes, case, first, made)?;
     push_first_acts(changes, case, first, made)
@@ -170,14 +170,12 @@ fn push_act(changes: &mut Vec<Change>, view: &View, action: &Action) -> Result<(
     requires { length (acts_in (deadline_shown view.now)) ≤ 100 }
     ensures { OnOk result (changes.new.items ≡ changes.old.items ++ act_changes view.now action.now) }
 {
-    let case = case_named(action).unwrap_or(0);
-    let deadline = deadline_named(action).unwrap_or(0);
-    let number = view.acts_named().len() as u32 + 1;
     if let Some(act) = act_made(action) {
+        let subject = Subject::of(action);
         changes.push(Change::AddAct(ActRow {
-            case,
-            deadline,
-            number,
+            case: subject.case.unwrap_or(0),
+            deadline: subject.deadline.unwrap_or(0),
+            number: view.acts_named().len() as u32 + 1,
             act,
         }))?;
     }

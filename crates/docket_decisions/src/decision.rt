@@ -16,7 +16,7 @@ use crate::refusals::{Circumstances, is_in_time, refusal};
 use court_days::{Calendar, Court};
 use court_rules::{Standing, standing_of};
 use docket_command::{Action, Command, Refusal, Reply, Ruling};
-use docket_history::{Change, UnderKey, View, rows_added};
+use docket_history::{Change, Subject, UnderKey, View, rows_added};
 use std::alloc::{AllocError, AllocFailed, Global};
 
 /// The rows that a command adds and removes, one after another, what is done about the stored ends of
@@ -85,8 +85,6 @@ fn reply(circumstances: &Circumstances<'_>, view: &View, action: &Action) -> u32
     ensures { result ≡ reply_to circumstances.now.court.now view.now action.now }
 {
     match action {
-        Action::DeclareDay(_) | Action::CloseDay(_) => view.next_row as u32,
-        Action::CloseSpan(_) | Action::ShortDay(_) => view.next_row as u32,
         Action::WithdrawCalendar(a) => a.row,
         Action::ImportCalendar(_) => circumstances.added as u32,
         Action::OpenCase(_) => view.cases + 1,
@@ -112,7 +110,12 @@ fn reply(circumstances: &Circumstances<'_>, view: &View, action: &Action) -> u32
         }
         Action::Vacate(a) => a.deadline,
         Action::LocalRule(_) => view.local_rules + 1,
-        _ => view.deadlines() + 1,
+        Action::ServeSummons(_) | Action::FileWaiver(_) => view.deadlines() + 1,
+        Action::ServePleading(_) | Action::OrderReply(_) => view.deadlines() + 1,
+        Action::NoticeHearing(_) | Action::OrderPeriod(_) => view.deadlines() + 1,
+        Action::EnterJudgment(_) | Action::LocalPeriod(_) => view.deadlines() + 1,
+        // The others enter one row in the calendar.
+        _ => view.next_row as u32,
     }
 }
 
@@ -163,6 +166,7 @@ fn decide_by_view(
         court,
         calendar,
         standing: standing_shown(court, calendar, view),
+        subject: Subject::of(action),
         added: added.len(),
         made: made.len(),
     };
@@ -174,6 +178,6 @@ fn decide_by_view(
         number: reply(&circumstances, view, action),
     };
     let rows = changes_of_action(alloc, view, added, made, action)?;
-    let ends = end_update(alloc, court, view, action, rows.as_slice())?;
+    let ends = end_update(alloc, court, view, circumstances.subject, rows.as_slice())?;
     Ok(Decision::Change(Changes { rows, ends, reply }))
 }

@@ -1,14 +1,16 @@
 //! Whether the docket lacks what an action names.
 ghost use Rattle.std.specs.Prelude.{◌≡◌};
+ghost use Rattle.docket_command.specs.declared.command.Action.{Action as Asked};
+ghost use Rattle.docket_history.specs.Actions.{subject_of};
 ghost use Rattle.docket_decisions.specs.Refusals.{lacks_case, is_no_party, lacks_party, lacks_deadline, lacks_row, lacks_local_rule};
 
 use docket_command::Action;
-use docket_history::{View, case_named, deadline_named};
+use docket_history::{Subject, View};
 
-pub(crate) fn lacks_case(view: &View, action: &Action) -> bool
-    ensures { result ≡ lacks_case view.now action.now }
+pub(crate) fn lacks_case(view: &View, subject: Subject) -> bool
+    ensures { (a : Asked) → subject ≡ subject_of a → result ≡ lacks_case view.now a }
 {
-    case_named(action).is_some() && view.case.is_none()
+    subject.case.is_some() && view.case.is_none()
 }
 
 /// Whether the case that is named has no party of that number.
@@ -37,10 +39,10 @@ pub(crate) fn lacks_party(view: &View, action: &Action) -> bool
     }
 }
 
-pub(crate) fn lacks_deadline(view: &View, action: &Action) -> bool
-    ensures { result ≡ lacks_deadline view.now action.now }
+pub(crate) fn lacks_deadline(view: &View, subject: Subject) -> bool
+    ensures { (a : Asked) → subject ≡ subject_of a → result ≡ lacks_deadline view.now a }
 {
-    deadline_named(action).is_some() && view.deadline_named().is_none()
+    subject.deadline.is_some() && view.deadline_named().is_none()
 }
 
 pub(crate) fn lacks_row(view: &View, action: &Action) -> bool

@@ -6,12 +6,13 @@ ghost use Rattle.docket_decisions.specs.Decisions.{IsUpdateBy};
 ghost use Rattle.docket_decisions.specs.EndMoves.{acts_before, acts_with, moves_by_act, end_moves, AreLawful};
 ghost use Rattle.docket_decisions.specs.EndRows.{end_running};
 ghost use Rattle.docket_history.specs.Views.{deadline_shown, acts_in};
+ghost use Rattle.docket_command.specs.declared.command.Action.{Action as Asked};
+ghost use Rattle.docket_history.specs.Actions.{subject_of};
 
 use crate::end_row::{EndChange, EndTime, change_end, end_running};
 use court_days::{Calendar, Court};
 use court_rules::{Act, standing_of};
-use docket_command::Action;
-use docket_history::{ActRow, Change, View, moves_all_cases};
+use docket_history::{ActRow, Change, Subject, View};
 use std::alloc::{AllocError, Global};
 
 /// What is done about the stored ends: these changes are made, or, where days or spans of the calendar
@@ -96,13 +97,13 @@ pub(crate) fn end_update(
     alloc: Global,
     court: &Court,
     view: &View,
-    action: &Action,
+    subject: Subject,
     changes: &[Change],
 ) -> Result<EndUpdate, AllocError>
     requires { AreLawful (zone_of court.now) (acts_in (deadline_shown view.now)) changes.now }
-    ensures { IfOk result (IsUpdateBy court.now view.now action.now changes.now) }
+    ensures { (a : Asked) → subject ≡ subject_of a → IfOk result (IsUpdateBy court.now view.now a changes.now) }
 {
-    if moves_all_cases(action) {
+    if subject.moves_all_cases {
         return Ok(EndUpdate::Calendar { cases: view.cases });
     }
     let calendar = view.calendar.calendar();

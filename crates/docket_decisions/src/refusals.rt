@@ -1,20 +1,21 @@
 //! When each refusal applies, and in which order they are looked for.
-ghost use Rattle.std.specs.Prelude.{◌≡◌, None, length, map};
+ghost use Rattle.std.specs.Prelude.{◌≡◌, None, map};
 ghost use Rattle.court_days.specs.Court.{CourtSettings, zone_of};
 ghost use Rattle.court_rules.specs.Standings.{IsEndAfter, StandsAfter, last_day};
-ghost use Rattle.docket_history.specs.Actions.{deadlines_made};
+ghost use Rattle.docket_command.specs.declared.command.Action.{Action as Asked};
+ghost use Rattle.docket_history.specs.Actions.{subject_of};
 ghost use Rattle.docket_history.specs.CalendarItems.{calendar_of};
 ghost use Rattle.docket_decisions.specs.Decisions.{AreCircumstances};
 ghost use Rattle.docket_history.specs.Times.{standing_shown, is_in_time};
 ghost use Rattle.docket_values.specs.Values.{first_bad, bad_values};
-ghost use Rattle.docket_decisions.specs.Refusals.{on, first_some, is_reused, exists_already, is_running, is_suspended, is_awaiting, is_over, is_not_open, is_not_awaiting, is_responsive_rule, is_responsive_in, is_extendable_by, is_extendable_in, is_not_responsive, is_by_e, wants_statement, is_wrong_motion, is_after_last_day, is_late_motion, is_served, is_short_waiver, is_late_waiver, may_not_extend, is_expired, is_not_later, has_too_many_acts, count_added, is_calendar_full, is_full, state_refusals, refusal_of};
+ghost use Rattle.docket_decisions.specs.Refusals.{on, first_some, is_reused, exists_already, is_running, is_suspended, is_awaiting, is_over, is_not_open, is_not_awaiting, is_responsive_rule, is_responsive_in, is_extendable_by, is_extendable_in, is_not_responsive, is_by_e, wants_statement, is_wrong_motion, is_after_last_day, is_late_motion, is_served, is_short_waiver, is_late_waiver, may_not_extend, is_expired, is_not_later, has_too_many_acts, is_calendar_full, is_full, state_refusals, refusal_of};
 ghost use Rattle.docket_history.specs.Views.{ViewOf, deadline_shown, last_act};
 
 use crate::lacking::{lacks_case, lacks_deadline, lacks_local_rule, lacks_party, lacks_row};
-use court_days::{Calendar, Court, Day, DayKind, Direction, End, Way, count_days, timely};
+use court_days::{Calendar, Court, Day, Direction, End, Way, count_days, timely};
 use court_rules::{Act, DeadlineRule, MotionKind, Standing};
 use docket_command::{Action, Command, LocalRule, Moment, Refusal, Ruling};
-use docket_history::{CalendarItem, UnderKey, View, deadline_named, stands_among};
+use docket_history::{Subject, UnderKey, View, row_entered, stands_among};
 use docket_values::{bad_field, is_word};
 
 fn is_reused(found: UnderKey) -> bool
@@ -26,15 +27,10 @@ fn is_reused(found: UnderKey) -> bool
 fn exists_already(view: &View, action: &Action) -> bool
     ensures { result ≡ exists_already view.now action.now }
 {
-    let standing = view.calendar.as_slice();
+    if let Some((item, _)) = row_entered(action) {
+        return stands_among(view.calendar.as_slice(), item);
+    }
     match action {
-        Action::DeclareDay(a) => stands_among(
-            standing,
-            CalendarItem::Day(DayKind::from(a.kind), a.day),
-        ),
-        Action::CloseDay(a) => stands_among(standing, CalendarItem::Day(DayKind::Closed, a.day)),
-        Action::CloseSpan(a) => stands_among(standing, CalendarItem::Span(a.start, a.end)),
-        Action::ShortDay(a) => stands_among(standing, CalendarItem::Short(a.day, a.close)),
         Action::OpenCase(_) => view.label_taken,
         Action::LocalRule(_) => view.local.is_some(),
         _ => false,
@@ -280,29 +276,29 @@ fn is_calendar_full(view: &View, added: usize) -> bool
 }
 
 /// Whether a deadline has as many acts as it may have before the one that ends it.
-fn has_too_many_acts(view: &View, action: &Action) -> bool
-    ensures { result ≡ has_too_many_acts view.now action.now }
+fn has_too_many_acts(view: &View, subject: Subject) -> bool
+    ensures { (a : Asked) → subject ≡ subject_of a → result ≡ has_too_many_acts view.now a }
 {
-    deadline_named(action).is_some() && view.acts_named().len() >= 99
+    subject.deadline.is_some() && view.acts_named().len() >= 99
 }
 
-fn is_full(view: &View, added: usize, made: usize, action: &Action) -> bool
-    requires added { added ≡ count_added view.now action.now }
-    requires made { made ≡ length (deadlines_made view.now.local action.now) }
+fn is_full(circumstances: &Circumstances<'_>, view: &View, action: &Action) -> bool
+    requires { AreCircumstances circumstances.now view.now action.now }
     ensures { result ≡ is_full view.now action.now }
 {
+    let subject = circumstances.subject;
+    if subject.asks.next_row {
+        return is_calendar_full(view, circumstances.added);
+    }
     match action {
-        Action::DeclareDay(_) | Action::CloseDay(_) => is_calendar_full(view, added),
-        Action::CloseSpan(_) | Action::ShortDay(_) => is_calendar_full(view, added),
-        Action::ImportCalendar(_) => is_calendar_full(view, added),
         Action::OpenCase(_) => view.cases >= 100_000,
         Action::AddParty(_) => view.parties() >= 1000,
         Action::FileEntry(_) => view.entries() >= 10_000,
         Action::WithdrawCalendar(_) | Action::Satisfy(_) | Action::Vacate(_) => false,
         Action::LocalRule(_) => view.local_rules >= 1000,
         _ => {
-            has_too_many_acts(view, action)
-                || (view.deadlines() as usize).saturating_add(made) > 1000
+            has_too_many_acts(view, subject)
+                || (view.deadlines() as usize).saturating_add(circumstances.made) > 1000
         }
     }
 }
@@ -320,12 +316,13 @@ fn first_met(checks: &[(bool, Refusal)]) -> Option<Refusal>
 }
 
 /// What a command is judged by beside its view: the court and the calendar that is shown, where the
-/// deadline that it names stands, and how many calendar rows and deadlines it would make.
+/// deadline that it names stands, what it is about, and how many calendar rows and deadlines it would make.
 #[derive(Drop)]
 pub(crate) struct Circumstances<'a> {
     pub(crate) court: &'a Court,
     pub(crate) calendar: &'a Calendar,
     pub(crate) standing: Standing,
+    pub(crate) subject: Subject,
     pub(crate) added: usize,
     pub(crate) made: usize,
 }
@@ -338,9 +335,12 @@ fn state_refusal(circumstances: &Circumstances<'_>, view: &View, action: &Action
 {
     let court = circumstances.court;
     first_met(&[
-        (lacks_case(view, action), Refusal::NoSuchCase),
+        (lacks_case(view, circumstances.subject), Refusal::NoSuchCase),
         (lacks_party(view, action), Refusal::NoSuchParty),
-        (lacks_deadline(view, action), Refusal::NoSuchDeadline),
+        (
+            lacks_deadline(view, circumstances.subject),
+            Refusal::NoSuchDeadline,
+        ),
         (lacks_row(view, action), Refusal::NoSuchCalendarRow),
         (lacks_local_rule(view, action), Refusal::NoSuchLocalRule),
         (exists_already(view, action), Refusal::Exists),
@@ -378,10 +378,7 @@ fn state_refusal(circumstances: &Circumstances<'_>, view: &View, action: &Action
             is_not_later(court, action, circumstances.standing),
             Refusal::NotLater,
         ),
-        (
-            is_full(view, circumstances.added, circumstances.made, action),
-            Refusal::Full,
-        ),
+        (is_full(circumstances, view, action), Refusal::Full),
     ])
 }
 

@@ -1,8 +1,9 @@
--- What each kind of command names, enters and makes, and what it asks about.
+-- What each kind of command names, enters, makes and replies, and what it asks about.
 use Rattle.std.specs.Prelude.{ℕ, zero, suc, Bool, true, false, ◌||◌, if◌then◌else◌, List, [], ◌∷◌, map, Option, Some, None, is_some, unwrap_or, option_to_list, pos}
 use Rattle.std.specs.Option.{option_and_then, option_map, option_map_or}
 use Rattle.court_days.specs.declared.calendar.DayKind.{DayKind}
 use Rattle.court_days.specs.declared.calendar.DayKind.TheVariants as kind
+use Rattle.court_days.specs.declared.filing.Way.{Way}
 use Rattle.court_rules.specs.Rules.{adds_three}
 use Rattle.court_rules.specs.declared.act.Act.{Act}
 use Rattle.court_rules.specs.declared.act.Act.TheVariants as act
@@ -12,6 +13,8 @@ use Rattle.docket_command.specs.Conversions.{day_kind_of, method_of}
 use Rattle.docket_command.specs.declared.command.Action.{Action}
 use Rattle.docket_command.specs.declared.command.Action.TheVariants as action
 use Rattle.docket_command.specs.declared.calendar_action.ShortDay.{ShortDay}
+use Rattle.docket_command.specs.declared.choice.Ruling.{Ruling}
+use Rattle.docket_command.specs.declared.choice.Ruling.TheVariants.{Denied, Postponed, Statement}
 use Rattle.docket_command.specs.declared.case_action.AddParty.{AddParty}
 use Rattle.docket_command.specs.declared.case_action.FileEntry.{FileEntry}
 use Rattle.docket_command.specs.declared.case_action.OpenCase.{OpenCase}
@@ -68,8 +71,18 @@ pub record DeadlineWork : Type 0 where
   pub wanted : Wanted
   pub acts : List Act
 
--- what a command does in a case that is there
+-- what the reply to a command tells of its case: the number of the party, the entry or the first deadline that it makes, that of the
+-- deadline that it names, or whether what was filed at an instant in a way was in time
+pub data CaseReply : Type 0 where
+  its_party : CaseReply
+  its_entry : CaseReply
+  its_first_deadline : CaseReply
+  this_deadline : ℕ → CaseReply
+  whether_in_time : ℕ → Way → CaseReply
+
+-- what a command does in a case that is there, and what is replied
 pub record CaseWork : Type 0 where
+  pub reply : CaseReply
   pub case : ℕ
   -- the parties that it names, where it may name some
   pub parties : Option (List ℕ)
@@ -95,9 +108,10 @@ pub data Work : Type 0 where
   enters_rule : LocalRule → Work
   in_case : CaseWork → Work
 
--- it does nothing in the case but what is added to this
-abbrev pub naming : ℕ → CaseWork
-naming k = record {
+-- it does nothing in the case but what is added to this, and replies so
+abbrev pub naming : ℕ → CaseReply → CaseWork
+naming k reply = record {
+  reply = reply;
   case = k;
   parties = None;
   added = None;
@@ -114,11 +128,17 @@ naming k = record {
 
 -- it makes deadlines of parties of the case
 abbrev pub making : ℕ → List ℕ → List NewDeadline → CaseWork
-making k parties made = record (naming k) { parties = Some parties; deadlines = Some (λ found. made) }
+making k parties made = record (naming k its_first_deadline) { parties = Some parties; deadlines = Some (λ found. made) }
 
 -- it acts on a deadline of the case that stands so
 abbrev pub acting : ℕ → ℕ → Wanted → List Act → CaseWork
-acting k n wanted acts = record (naming k) { acting = Some (record { deadline = n; wanted = wanted; acts = acts }) }
+acting k n wanted acts = record (naming k (this_deadline n)) { acting = Some (record { deadline = n; wanted = wanted; acts = acts }) }
+
+-- a statement that the court orders is a new deadline
+abbrev pub ruling_reply : Ruling → ℕ → CaseReply
+ruling_reply Statement n = its_first_deadline
+ruling_reply Denied n = this_deadline n
+ruling_reply Postponed n = this_deadline n
 
 -- the kinds of commands
 abbrev pub work : Action → Work
@@ -129,8 +149,8 @@ work (action.ShortDay a) = on_calendar (shortens a)
 work (action.WithdrawCalendar a) = on_calendar (withdraws a.row)
 work (action.ImportCalendar a) = on_calendar (imports (map imported a.rows))
 work (action.OpenCase a) = opens a
-work (action.AddParty a) = in_case (record (naming a.case) { added = Some a })
-work (action.FileEntry a) = in_case (record (naming a.case) { filed = Some a })
+work (action.AddParty a) = in_case (record (naming a.case its_party) { added = Some a })
+work (action.FileEntry a) = in_case (record (naming a.case its_entry) { filed = Some a })
 work (action.ServeSummons a) =
     in_case (record (making a.case (a.party ∷ []) (summons_time a ∷ [])) { served = Some a.party })
 work (action.FileWaiver a) =
@@ -144,6 +164,7 @@ work (action.RuleMotion a) =
 work (action.Dispose a) =
     in_case
     (record (acting a.case a.deadline a_suspended_time (ruled a.outcome a.notice a.due ∷ [])) {
+      reply = ruling_reply a.outcome a.deadline;
       parties = Some (option_to_list a.party);
       deadlines = Some (λ found. statement_ordered a.outcome a.party a.notice a.due);
       ruling = Some a;
@@ -159,7 +180,8 @@ work (action.EnterJudgment a) =
     in_case (record (making a.case [] (judgment_times a.entered a.discharged)) { parties = None })
 work (action.Extend a) =
     in_case (record (acting a.case a.deadline a_running_time (extension a.days a.until)) { extension = Some a })
-work (action.Satisfy a) = in_case (acting a.case a.deadline an_open_time (act.Done (pos a.at) a.way ∷ []))
+work (action.Satisfy a) =
+    in_case (record (acting a.case a.deadline an_open_time (act.Done (pos a.at) a.way ∷ [])) { reply = whether_in_time a.at a.way })
 work (action.Vacate a) = in_case (acting a.case a.deadline an_open_time (act.Vacated ∷ []))
 work (action.LocalRule a) = enters_rule a
 work (action.LocalPeriod a) =
@@ -295,6 +317,26 @@ rows_of_work (withdraws number) = []
 -- the calendar rows that it asks for
 abbrev pub rows_asked : Action → List NewRow
 rows_asked a = option_map_or rows_of_work (calendar_work a) []
+
+abbrev pub entered_by : CalendarWork → Option NewRow
+entered_by (enters row) = Some row
+entered_by (imports rows) = None
+entered_by (shortens a) = Some (short_row a)
+entered_by (withdraws number) = None
+
+-- the one row that it enters, where it enters one that may not stand already
+abbrev pub row_entered : Action → Option NewRow
+row_entered a = option_and_then entered_by (calendar_work a)
+
+abbrev pub imported_by : CalendarWork → List NewRow
+imported_by (enters row) = []
+imported_by (imports rows) = rows
+imported_by (shortens a) = []
+imported_by (withdraws number) = []
+
+-- the rows that it imports, of which those are entered that do not stand
+abbrev pub rows_imported : Action → List NewRow
+rows_imported a = option_map_or imported_by (calendar_work a) []
 
 abbrev pub withdrawn_by : CalendarWork → Option ℕ
 withdrawn_by (enters row) = None

@@ -8,6 +8,7 @@ use Rattle.court_days.specs.declared.calendar.DayKind.TheVariants.{Federal, Stat
 use Rattle.docket_history.specs.declared.item.CalendarItem.{CalendarItem}
 use Rattle.docket_history.specs.declared.item.CalendarItem.TheVariants.{Day, Span, Short}
 use Rattle.docket_history.specs.declared.item.NewRow.{NewRow}
+use Rattle.court_days.specs.Limits.{most_rows}
 
 abbrev pub is_same_kind : DayKind → DayKind → Bool
 is_same_kind Federal Federal = true
@@ -66,5 +67,5 @@ IsEnteredItem (Short day close) = IsEnteredDay day
 -- items that a court may enter, at most 4,000, and the calendar that they come to
 pub record IsStanding (items : List CalendarItem) (calendar : Entered) : Type 0 where
   pub entered : All IsEnteredItem items
-  pub rows : length items ≤ 4000
+  pub rows : length items ≤ most_rows
   pub calendar_is : calendar ≡ calendar_of items

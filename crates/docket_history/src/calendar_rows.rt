@@ -5,11 +5,13 @@ ghost use Rattle.court_days.specs.LocalTime.{seconds};
 ghost use Rattle.court_days.specs.Civil.{IsEnteredDay, IsEnteredSpan};
 ghost use Rattle.court_days.specs.Calendar.{rows_of, with_day, with_span, with_short};
 ghost use Rattle.court_days.specs.declared.calendar.CalendarFault.TheVariants as Fault;
-ghost use Rattle.docket_history.specs.Actions.{day_row, imported};
+ghost use Rattle.docket_history.specs.Actions.{imported};
 ghost use Rattle.docket_history.specs.CalendarItems.{fresh, is_same_item, stands_among, with_item, entered_with, calendar_of, IsEnteredItem};
 ghost use Rattle.docket_history.specs.Histories.{rows_added};
+ghost use Rattle.court_days.specs.Limits.{most_rows};
 
 use crate::item::{CalendarItem, NewRow, stands_among};
+use crate::subject::{days_imported, row_entered};
 use court_days::{Calendar, CalendarFault, Day, DayKind};
 use docket_command::{Action, NewDay, Text};
 use std::alloc::{AllocError, Global};
@@ -23,7 +25,7 @@ fn want_of_memory(fault: CalendarFault) -> AllocError
 
 fn enter_day(calendar: &mut Calendar, kind: DayKind, day: Day) -> Result<(), AllocError>
     requires day { IsEnteredDay day }
-    requires room { rows_of calendar.old < 4000 }
+    requires room { rows_of calendar.old < most_rows }
     ensures entered { OnOk result (calendar.new ≡ with_day calendar.old kind day) }
     ensures rows { rows_of calendar.new ≤ rows_of calendar.old + 1 }
 {
@@ -35,7 +37,7 @@ fn enter_day(calendar: &mut Calendar, kind: DayKind, day: Day) -> Result<(), All
 
 fn enter_span(calendar: &mut Calendar, start: i64, end: i64) -> Result<(), AllocError>
     requires span { IsEnteredSpan (seconds start) (seconds end) }
-    requires room { rows_of calendar.old < 4000 }
+    requires room { rows_of calendar.old < most_rows }
     ensures entered { OnOk result (calendar.new ≡ with_span calendar.old (seconds start) (seconds end)) }
     ensures rows { rows_of calendar.new ≤ rows_of calendar.old + 1 }
 {
@@ -48,7 +50,7 @@ fn enter_span(calendar: &mut Calendar, start: i64, end: i64) -> Result<(), Alloc
 fn enter_short(calendar: &mut Calendar, day: Day, minute: u32) -> Result<(), AllocError>
     requires day { IsEnteredDay day }
     requires minute { minute < 1440 }
-    requires room { rows_of calendar.old < 4000 }
+    requires room { rows_of calendar.old < most_rows }
     ensures entered { OnOk result (calendar.new ≡ with_short calendar.old day minute) }
     ensures rows { rows_of calendar.new ≤ rows_of calendar.old + 1 }
 {
@@ -61,7 +63,7 @@ fn enter_short(calendar: &mut Calendar, day: Day, minute: u32) -> Result<(), All
 /// Enters an item.
 fn enter(calendar: &mut Calendar, item: CalendarItem) -> Result<(), AllocError>
     requires item { IsEnteredItem item }
-    requires room { rows_of calendar.old < 4000 }
+    requires room { rows_of calendar.old < most_rows }
     ensures entered { OnOk result (calendar.new ≡ with_item calendar.old item) }
     ensures rows { rows_of calendar.new ≤ rows_of calendar.old + 1 }
 {
@@ -75,7 +77,7 @@ fn enter(calendar: &mut Calendar, item: CalendarItem) -> Result<(), AllocError>
 /// The calendar of items, which are ones that a court may enter, at most 4,000.
 pub fn calendar_of(alloc: Global, items: &[CalendarItem]) -> Result<Calendar, AllocError>
     requires items { All IsEnteredItem items.now }
-    requires rows { length items.now ≤ 4000 }
+    requires rows { length items.now ≤ most_rows }
     ensures { IfOk result (λ calendar. calendar ≡ calendar_of items.now) }
 {
     let mut calendar = Calendar::new(alloc);
@@ -157,21 +159,8 @@ pub fn rows_added(
 ) -> Result<Vec<NewRow>, AllocError>
     ensures { IfOk result (λ rows. rows.items ≡ rows_added standing.now action.now) }
 {
-    match action {
-        Action::DeclareDay(a) => {
-            let item = CalendarItem::Day(DayKind::from(a.kind), a.day);
-            fresh_row(alloc, standing, item, a.name.as_str())
-        }
-        Action::CloseDay(a) => {
-            let item = CalendarItem::Day(DayKind::Closed, a.day);
-            fresh_row(alloc, standing, item, a.name.as_str())
-        }
-        Action::CloseSpan(a) => fresh_row(alloc, standing, CalendarItem::Span(a.start, a.end), ""),
-        Action::ShortDay(a) => {
-            let item = CalendarItem::Short(a.day, a.close);
-            fresh_row(alloc, standing, item, a.name.as_str())
-        }
-        Action::ImportCalendar(a) => fresh_days(alloc, standing, a.rows.as_slice()),
-        _ => Ok(Vec::new(alloc)),
+    match row_entered(action) {
+        Some((item, name)) => fresh_row(alloc, standing, item, name),
+        None => fresh_days(alloc, standing, days_imported(action)),
     }
 }

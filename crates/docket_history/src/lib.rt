@@ -24,8 +24,5 @@ pub use row::{
     PartyRow, Receipt, ShortDayRow,
 };
 pub use standing::StandingCalendar;
-pub use subject::{
-    asks_calendar, asks_cases, asks_deadlines, asks_entries, asks_local_rules, asks_next_row,
-    asks_parties, case_named, changes_calendar, deadline_named, local_rule_named, moves_all_cases,
-};
+pub use subject::{Asks, Subject, row_entered};
 pub use view::{Acts, CaseView, DeadlineView, UnderKey, View, is_served_among, rule_name_asked};

@@ -2,6 +2,7 @@
 ghost use Rattle.std.specs.Prelude.{◌≡◌, ◌≤◌, [], length, IfOk};
 ghost use Rattle.std.specs.List.{All};
 ghost use Rattle.docket_history.specs.CalendarItems.{calendar_of, IsEnteredItem};
+ghost use Rattle.court_days.specs.Limits.{most_rows};
 
 use crate::calendar_rows::calendar_of;
 use crate::item::CalendarItem;
@@ -44,7 +45,7 @@ impl StandingCalendar {
     /// The calendar of these items.
     pub fn new(alloc: Global, items: Vec<CalendarItem>) -> Result<StandingCalendar, AllocError>
         requires items { All IsEnteredItem items.items }
-        requires rows { length items.items ≤ 4000 }
+        requires rows { length items.items ≤ most_rows }
         ensures { IfOk result (λ standing. standing ≡ items.items) }
     {
         let calendar = calendar_of(alloc, items.as_slice())?;
@@ -54,7 +55,7 @@ impl StandingCalendar {
     pub fn as_slice(&self) -> &[CalendarItem]
         ensures items { result.now ≡ self.now }
         ensures entered { All IsEnteredItem self.now }
-        ensures rows { length self.now ≤ 4000 }
+        ensures rows { length self.now ≤ most_rows }
     {
         self.items.as_slice()
     }

@@ -1,37 +1,42 @@
 //! What an action is about: what it names, what it does to the court calendar, and what it asks about.
-ghost use Rattle.std.specs.Prelude.{◌≡◌, Some, option_copied};
-ghost use Rattle.docket_history.specs.Actions.{case_named, deadline_named, moves_all_cases, changes_calendar, asks_calendar, asks_cases, asks_parties, asks_entries, asks_deadlines, asks_next_row, asks_local_rules, local_rule_named, subject_of};
+ghost use Rattle.std.specs.Prelude.{◌≡◌, Some, map, option_copied};
+ghost use Rattle.std.specs.Option.{option_map};
+ghost use Rattle.docket_history.specs.Actions.{imported, local_rule_named, row_entered, rows_imported, subject_of};
 
-use docket_command::{Action, Text};
+use crate::item::CalendarItem;
+use court_days::DayKind;
+use docket_command::{Action, NewDay, Text};
 
 /// What an action asks about.
 #[derive(Clone, Copy)]
-struct Asks {
+pub struct Asks {
     /// The calendar: what it enters may stand already, it is judged by the end of a time, or an end
     /// moves by what it makes.
-    calendar: bool,
-    /// The number of the next calendar row.
-    next_row: bool,
-    /// How many cases there are.
-    cases: bool,
-    /// How many parties, entries and deadlines its case has.
-    parties: bool,
-    entries: bool,
-    deadlines: bool,
-    /// How many local rules there are.
-    local_rules: bool,
+    pub calendar: bool,
+    /// The number of the next calendar row: it may add some.
+    pub next_row: bool,
+    /// How many cases there are: it opens one, or may move ends of any.
+    pub cases: bool,
+    /// How many parties its case has: it adds one, or may name some.
+    pub parties: bool,
+    /// How many entries its case has: it files one.
+    pub entries: bool,
+    /// How many deadlines its case has: it may make some.
+    pub deadlines: bool,
+    /// How many local rules there are: it enters one.
+    pub local_rules: bool,
 }
 
 /// What an action names, what it does to the court calendar, and what it asks about.
 #[derive(Clone, Copy)]
-struct Subject {
-    case: Option<u32>,
-    deadline: Option<u32>,
+pub struct Subject {
+    pub case: Option<u32>,
+    pub deadline: Option<u32>,
     /// It enters or withdraws rows of the calendar.
-    changes_calendar: bool,
-    /// It enters or withdraws days or spans, by which ends of any case may move.
-    moves_all_cases: bool,
-    asks: Asks,
+    pub changes_calendar: bool,
+    /// It enters or withdraws days or spans, by which ends of any case may move. A short day moves none.
+    pub moves_all_cases: bool,
+    pub asks: Asks,
 }
 
 const NOTHING: Asks = Asks {
@@ -150,6 +155,37 @@ const LOCAL_RULE: Subject = Subject {
 };
 
 impl Subject {
+    /// What an action is about.
+    pub fn of(action: &Action) -> Subject
+        ensures { result ≡ subject_of action.now }
+    {
+        match action {
+            Action::DeclareDay(_) | Action::CloseDay(_) => DAYS,
+            Action::CloseSpan(_) | Action::ImportCalendar(_) => DAYS,
+            Action::ShortDay(_) => SHORT_DAY,
+            Action::WithdrawCalendar(_) => WITHDRAWAL,
+            Action::OpenCase(_) => CASE,
+            Action::AddParty(a) => PARTY.in_case(a.case),
+            Action::FileEntry(a) => ENTRY.in_case(a.case),
+            Action::ServeSummons(a) => DEADLINES_OF_PARTIES.in_case(a.case),
+            Action::FileWaiver(a) => DEADLINES_OF_PARTIES.in_case(a.case),
+            Action::ServePleading(a) => DEADLINES_OF_PARTIES.in_case(a.case),
+            Action::OrderReply(a) => DEADLINES_OF_PARTIES.in_case(a.case),
+            Action::NoticeHearing(a) => DEADLINES_OF_PARTIES.in_case(a.case),
+            Action::OrderPeriod(a) => DEADLINES_OF_PARTIES.in_case(a.case),
+            Action::LocalPeriod(a) => DEADLINES_OF_PARTIES.in_case(a.case),
+            Action::EnterJudgment(a) => DEADLINES.in_case(a.case),
+            // The statement that the court orders is a deadline of the party that is named.
+            Action::Dispose(a) => DEADLINES_OF_PARTIES.on_deadline(a.case, a.deadline),
+            Action::RuleMotion(a) => ACT.on_deadline(a.case, a.deadline),
+            Action::StatementServed(a) => ACT.on_deadline(a.case, a.deadline),
+            Action::Extend(a) => ACT.on_deadline(a.case, a.deadline),
+            Action::Satisfy(a) => ACT.on_deadline(a.case, a.deadline),
+            Action::Vacate(a) => ACT.on_deadline(a.case, a.deadline),
+            Action::LocalRule(_) => LOCAL_RULE,
+        }
+    }
+
     fn in_case(self, case: u32) -> Subject
         ensures { result ≡ record self { case = Some case } }
     {
@@ -170,53 +206,8 @@ impl Subject {
     }
 }
 
-/// What an action is about.
-fn subject_of(action: &Action) -> Subject
-    ensures { result ≡ subject_of action.now }
-{
-    match action {
-        Action::DeclareDay(_) | Action::CloseDay(_) => DAYS,
-        Action::CloseSpan(_) | Action::ImportCalendar(_) => DAYS,
-        Action::ShortDay(_) => SHORT_DAY,
-        Action::WithdrawCalendar(_) => WITHDRAWAL,
-        Action::OpenCase(_) => CASE,
-        Action::AddParty(a) => PARTY.in_case(a.case),
-        Action::FileEntry(a) => ENTRY.in_case(a.case),
-        Action::ServeSummons(a) => DEADLINES_OF_PARTIES.in_case(a.case),
-        Action::FileWaiver(a) => DEADLINES_OF_PARTIES.in_case(a.case),
-        Action::ServePleading(a) => DEADLINES_OF_PARTIES.in_case(a.case),
-        Action::OrderReply(a) => DEADLINES_OF_PARTIES.in_case(a.case),
-        Action::NoticeHearing(a) => DEADLINES_OF_PARTIES.in_case(a.case),
-        Action::OrderPeriod(a) => DEADLINES_OF_PARTIES.in_case(a.case),
-        Action::LocalPeriod(a) => DEADLINES_OF_PARTIES.in_case(a.case),
-        Action::EnterJudgment(a) => DEADLINES.in_case(a.case),
-        // The statement that the court orders is a deadline of the party that is named.
-        Action::Dispose(a) => DEADLINES_OF_PARTIES.on_deadline(a.case, a.deadline),
-        Action::RuleMotion(a) => ACT.on_deadline(a.case, a.deadline),
-        Action::StatementServed(a) => ACT.on_deadline(a.case, a.deadline),
-        Action::Extend(a) => ACT.on_deadline(a.case, a.deadline),
-        Action::Satisfy(a) => ACT.on_deadline(a.case, a.deadline),
-        Action::Vacate(a) => ACT.on_deadline(a.case, a.deadline),
-        Action::LocalRule(_) => LOCAL_RULE,
-    }
-}
-
-/// The case that an action names.
-pub fn case_named(action: &Action) -> Option<u32>
-    ensures { result ≡ case_named action.now }
-{
-    subject_of(action).case
-}
-
-/// The deadline that it names.
-pub fn deadline_named(action: &Action) -> Option<u32>
-    ensures { result ≡ deadline_named action.now }
-{
-    subject_of(action).deadline
-}
-
 /// The name of the local rule that it enters, or by which it sets a time.
-pub fn local_rule_named(action: &Action) -> Option<&Text>
+pub(crate) fn local_rule_named(action: &Action) -> Option<&Text>
     ensures { option_copied result ≡ local_rule_named action.now }
 {
     match action {
@@ -226,67 +217,31 @@ pub fn local_rule_named(action: &Action) -> Option<&Text>
     }
 }
 
-/// Whether it enters or withdraws days or spans of the calendar, by which ends of any case may move. A
-/// short day moves none.
-pub fn moves_all_cases(action: &Action) -> bool
-    ensures { result ≡ moves_all_cases action.now }
+/// The one row that it enters in the calendar, where it enters one that may not stand already: the item
+/// and its name.
+pub fn row_entered(action: &Action) -> Option<(CalendarItem, &str)>
+    ensures { option_map (λ row. record { item = row.0; name = row.1.now }) result ≡ row_entered action.now }
 {
-    subject_of(action).moves_all_cases
+    match action {
+        Action::DeclareDay(a) => {
+            let kind = DayKind::from(a.kind);
+            Some((CalendarItem::Day(kind, a.day), a.name.as_str()))
+        }
+        Action::CloseDay(a) => {
+            Some((CalendarItem::Day(DayKind::Closed, a.day), a.name.as_str()))
+        }
+        Action::CloseSpan(a) => Some((CalendarItem::Span(a.start, a.end), "")),
+        Action::ShortDay(a) => Some((CalendarItem::Short(a.day, a.close), a.name.as_str())),
+        _ => None,
+    }
 }
 
-/// Whether it enters or withdraws rows of the calendar.
-pub fn changes_calendar(action: &Action) -> bool
-    ensures { result ≡ changes_calendar action.now }
+/// The days that it imports in the calendar, of which those are entered that do not stand.
+pub(crate) fn days_imported(action: &Action) -> &[NewDay]
+    ensures { map imported result.now ≡ rows_imported action.now }
 {
-    subject_of(action).changes_calendar
-}
-
-/// Whether it asks about the calendar: what it enters may stand already, it is judged by the end of a
-/// time, or an end moves by what it makes.
-pub fn asks_calendar(action: &Action) -> bool
-    ensures { result ≡ asks_calendar action.now }
-{
-    subject_of(action).asks.calendar
-}
-
-/// Whether it asks how many cases there are: it opens one, or may move ends of any.
-pub fn asks_cases(action: &Action) -> bool
-    ensures { result ≡ asks_cases action.now }
-{
-    subject_of(action).asks.cases
-}
-
-/// Whether it asks how many parties its case has: it adds one, or may name some.
-pub fn asks_parties(action: &Action) -> bool
-    ensures { result ≡ asks_parties action.now }
-{
-    subject_of(action).asks.parties
-}
-
-/// Whether it asks how many entries its case has: it files one.
-pub fn asks_entries(action: &Action) -> bool
-    ensures { result ≡ asks_entries action.now }
-{
-    subject_of(action).asks.entries
-}
-
-/// Whether it asks how many deadlines its case has: it may make some.
-pub fn asks_deadlines(action: &Action) -> bool
-    ensures { result ≡ asks_deadlines action.now }
-{
-    subject_of(action).asks.deadlines
-}
-
-/// Whether it asks for the number of the next calendar row: it may add some.
-pub fn asks_next_row(action: &Action) -> bool
-    ensures { result ≡ asks_next_row action.now }
-{
-    subject_of(action).asks.next_row
-}
-
-/// Whether it asks how many local rules there are: it enters one.
-pub fn asks_local_rules(action: &Action) -> bool
-    ensures { result ≡ asks_local_rules action.now }
-{
-    subject_of(action).asks.local_rules
+    match action {
+        Action::ImportCalendar(a) => a.rows.as_slice(),
+        _ => &[],
+    }
 }

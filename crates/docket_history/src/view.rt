@@ -4,9 +4,7 @@ ghost use Rattle.docket_history.specs.Actions.{if_asked};
 ghost use Rattle.docket_history.specs.Views.{parties_in, entries_in, count_deadlines, deadline_shown, acts_in, served_in, deadline_at, deadline_of, is_vacated, has_initial, is_served_among, case_shown, named_in, local_name, local_name_in, rule_name_asked};
 
 use crate::standing::StandingCalendar;
-use crate::subject::{
-    asks_deadlines, asks_entries, asks_parties, deadline_named, local_rule_named,
-};
+use crate::subject::{Subject, local_rule_named};
 use court_rules::{Act, DeadlineRule};
 use docket_command::{Action, LocalRule, Reply, Text};
 use std::marker::Model;
@@ -116,7 +114,7 @@ fn deadline_at(deadlines: Vec<DeadlineView>, number: u32) -> Option<DeadlineView
 fn deadline_of(deadlines: Vec<DeadlineView>, action: &Action) -> Option<DeadlineView>
     ensures { result ≡ deadline_of deadlines.items action.now }
 {
-    match deadline_named(action) {
+    match Subject::of(action).deadline {
         Some(number) => deadline_at(deadlines, number),
         None => None,
     }
@@ -141,11 +139,12 @@ impl CaseView {
         requires { length deadlines.items < 2 ^ 32 }
         ensures { result ≡ case_shown number parties entries deadlines.items action.now }
     {
+        let asks = Subject::of(action).asks;
         CaseView {
             number,
-            parties: if_asked(asks_parties(action), parties),
-            entries: if_asked(asks_entries(action), entries),
-            deadlines: if_asked(asks_deadlines(action), deadlines.len() as u32),
+            parties: if_asked(asks.parties, parties),
+            entries: if_asked(asks.entries, entries),
+            deadlines: if_asked(asks.deadlines, deadlines.len() as u32),
             is_served: is_served_among(deadlines.as_slice(), action),
             named: deadline_of(deadlines, action),
         }

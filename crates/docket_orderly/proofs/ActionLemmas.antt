@@ -1,5 +1,5 @@
 -- What commands make holds what its type holds, where they do.
-use Rattle.std.proofs.Common.{◌≡◌, ℕ, ◌≤◌, Bool, true, false, ◌&&◌, Option, Some, None, List, [], ◌∷◌, map, length, max, pos, IfSome, IsUtf8, refl, subst, arith}
+use Rattle.std.proofs.Common.{◌≡◌, ℕ, ◌≤◌, Bool, true, false, ◌&&◌, Option, Some, None, List, [], ◌∷◌, map, length, max, pos, IfSome, IsUtf8, refl, subst, arith, rules}
 use Rattle.std.specs.Prelude.{nat_le, unwrap_or, option_to_list}
 use Rattle.std.specs.List.{AllByRecursion}
 use Rattle.std.specs.Option.{option_map}
@@ -57,15 +57,8 @@ IsDay day = IsAct (act.Fixed day)
 -- what an action names
 pub case_counts : (a : Action) → IsAction a → IsCount (case_number a)
 unfolding IsAction
-case_counts (action.DeclareDay a) is = omega arith
-case_counts (action.CloseDay a) is = omega arith
-case_counts (action.CloseSpan a) is = omega arith
-case_counts (action.ShortDay a) is = omega arith
-case_counts (action.WithdrawCalendar a) is = omega arith
-case_counts (action.ImportCalendar a) is = omega arith
 case_counts (action.OpenCase a) is = omega arith
-case_counts (action.LocalRule a) is = omega arith
-case_counts _ is = is.0
+case_counts a is = search rules
 
 pub deadline_counts : (a : Action) → IsAction a → IsCount (deadline_number a)
 unfolding IsAction
@@ -98,12 +91,10 @@ days_asked (new ∷ others) all = (record { item = all.0.0; named = tt; name = a
 
 pub rows_fine : (a : Action) → IsAction a → AllByRecursion IsAsked (rows_asked a)
 unfolding IsAction
-rows_fine (action.DeclareDay a) is = (record { item = is.0; named = tt; name = is.1.1.0 }, tt)
-rows_fine (action.CloseDay a) is = (record { item = is.0; named = tt; name = is.1.0 }, tt)
 rows_fine (action.CloseSpan a) is = (record { item = (is.0, is.1.0); named = refl; name = no_bytes }, tt)
 rows_fine (action.ShortDay a) is = (record { item = (is.0, is.1.0); named = tt; name = is.1.1.0 }, tt)
 rows_fine (action.ImportCalendar a) is = days_asked a.rows is.0
-rows_fine _ is = tt
+rows_fine a is = search rules
 
 -- the deadlines that it makes
 pub record IsMaking (d : NewDeadline) : Type 0 where

@@ -6,25 +6,24 @@ use Rattle.std.specs.Option.{option_and_then}
 use Rattle.std.proofs.lemmas.Slice.Eq.{bytes_eq-Decides}
 use Rattle.std.proofs.lemmas.List.Elements.{filter-append}
 use Rattle.court_days.specs.Court.{CourtSettings}
-use Rattle.court_days.specs.declared.calendar.DayKind.TheVariants as kind
-use Rattle.docket_command.specs.Conversions.{day_kind_of}
 use Rattle.docket_command.specs.Sameness.{is_same_command}
 use Rattle.docket_command.specs.declared.command.Action.{Action}
 use Rattle.docket_command.specs.declared.command.Action.TheVariants as action
+use Rattle.docket_command.specs.declared.choice.Ruling.{Ruling}
+use Rattle.docket_command.specs.declared.choice.Ruling.TheVariants.{Denied, Postponed, Statement}
 use Rattle.docket_command.specs.declared.command.Command.{Command}
 use Rattle.docket_command.specs.declared.refusal.Refusal.{Refusal}
 use Rattle.docket_command.specs.declared.refusal.Refusal.TheVariants as refusal
 use Rattle.docket_command.specs.declared.refusal.Reply.{Reply}
-use Rattle.docket_history.specs.Actions.{case_named, asks_deadlines, if_asked, day_row}
-use Rattle.docket_history.specs.CalendarItems.{calendar_of}
+use Rattle.docket_history.specs.Actions.{enters, imports, shortens, withdraws, CaseReply, its_party, its_entry, its_first_deadline, this_deadline, whether_in_time, ruling_reply, Work, on_calendar, opens, enters_rule, in_case, work, case_named, asks_deadlines, if_asked}
+use Rattle.docket_history.specs.CalendarItems.{fresh, calendar_of}
 use Rattle.docket_history.specs.Histories.{History, case_rows, deadline_rows, act_rows, deadlines_of_case, deadlines}
 use Rattle.docket_history.specs.Limits.{IsWithinLimits}
-use Rattle.docket_decisions.specs.Outcomes.{IsHistory, accepted, answer_kept, answer_by, repeated, refused, case_of_number, under_key, kept_by, receipts, reply_to, replied, shown, shown_fresh}
-use Rattle.docket_decisions.specs.Refusals.{on, on_value, first_some, is_reused, exists_already, is_full, count_added, wants_statement, refusal_of, state_refusals}
+use Rattle.docket_decisions.specs.Outcomes.{IsHistory, accepted, answer_kept, answer_by, repeated, refused, case_of_number, under_key, kept_by, receipts, case_reply, reply_by, reply_to, replied, shown, shown_fresh}
+use Rattle.docket_decisions.specs.Refusals.{on, on_value, first_some, is_reused, exists_by, exists_already, is_full_by, is_full, refusal_of, state_refusals}
 use Rattle.docket_history.specs.Times.{standing_shown, is_in_time}
 use Rattle.docket_history.specs.Views.{parties_in, entries_in, count_deadlines}
 use Rattle.docket_decisions.specs.Values.{is_word, first_bad, bad_values}
-use Rattle.docket_history.specs.declared.item.CalendarItem.TheVariants.{Span, Short}
 use Rattle.docket_history.specs.declared.row.Receipt.{Receipt}
 use Rattle.docket_history.specs.declared.view.UnderKey.{UnderKey}
 use Rattle.docket_history.specs.declared.view.UnderKey.TheVariants.{Fresh, Same, Other}
@@ -32,11 +31,10 @@ use Rattle.docket_history.specs.declared.view.View.{View}
 use Rattle.docket_decisions.proofs.GoodValues.{or_off}
 use Rattle.docket_decisions.proofs.Leading.{is_accepted, case_numbered, length-deadlines_from}
 use Rattle.docket_decisions.proofs.LimitsKept.{within_limits}
-use Rattle.docket_decisions.proofs.Passed.{is_free, rows_fit, not_above, not_at}
+use Rattle.docket_decisions.proofs.Passed.{is_free, row_fits, not_above, not_at}
 use Rattle.docket_wire.specs.Valid.{IsAction, IsCommand}
 use Rattle.docket_columns.specs.Fits.{IsCount, IsReceipt}
 use Rattle.docket_orderly.specs.Orderly.{receipts_under}
-use Rattle.docket_orderly.proofs.ActionLemmas.{NewRow}
 use Rattle.docket_orderly.proofs.ListLemmas.{all_both}
 
 -- what is accepted has a fresh key
@@ -102,43 +100,61 @@ few_deadlines : (h : History) (a : Action) (o : Option ℕ) → ((k : ℕ) → l
 few_deadlines h a None few = omega arith
 few_deadlines h a (Some k) few = some_deadlines h a k (nat_le 1 k && nat_le k (length (case_rows h))) (few k)
 
--- a calendar row that doesn't stand is added
-one_row : (b : Bool) (new : NewRow) → b ≡ false → length (if b then [] else new ∷ []) ≡ 1
-one_row true new e = absurd (cc)
-one_row false new e = refl
+-- of what is done to the calendar, that a case is opened or a local rule entered, the number of a row that is withdrawn apart; and of
+-- what makes deadlines in a case, the number of the first
+abbrev IsFirst : CaseReply → Type 0
+IsFirst its_first_deadline = Unit {0}
+IsFirst _ = ⊥
+
+abbrev IsNumbered : Work → Type 0
+IsNumbered (on_calendar (withdraws number)) = IsCount number
+IsNumbered (on_calendar _) = Unit {0}
+IsNumbered (opens case) = Unit {0}
+IsNumbered (enters_rule rule) = Unit {0}
+IsNumbered (in_case work) = IsFirst work.reply
+
+module _ (court : CourtSettings) (v : View) (few : count_deadlines v.case ≤ 1000) where
+  first_counts : (reply : CaseReply) → IsFirst reply → IsCount (case_reply court v reply)
+  first_counts its_first_deadline is = omega (arith, few)
+  first_counts its_party is = absurd is
+  first_counts its_entry is = absurd is
+  first_counts (this_deadline n) is = absurd is
+  first_counts (whether_in_time at way) is = absurd is
+
+  made_counts : (w : Work) (a : Action) → IsNumbered w → exists_by v w ≡ false → is_full_by v a w ≡ false → IsCount (reply_by court v w)
+  made_counts (on_calendar (enters row)) a is new room = omega (arith, row_fits v (on_calendar (enters row)) refl new a room)
+  made_counts (on_calendar (imports rows)) a is new room =
+      let added = length (fresh v.calendar rows) in
+      omega (arith, not_above 4000 (length v.calendar + added) (or_off (nat_lt 4000 (length v.calendar + added)) (nat_lt 4_294_967_296 (v.next_row + added)) room).0)
+  made_counts (on_calendar (shortens short)) a is new room = omega (arith, row_fits v (on_calendar (shortens short)) refl new a room)
+  made_counts (on_calendar (withdraws number)) a is new room = is
+  made_counts (opens case) a is new room = let few_cases = not_at 100_000 v.cases room in omega (arith, few_cases)
+  made_counts (enters_rule rule) a is new room = let few_rules = not_at 1000 v.local_rules room in omega (arith, few_rules)
+  made_counts (in_case work) a is new room = first_counts work.reply is
 
 either : (b : Bool) (m n : ℕ) → IsCount m → IsCount n → IsCount (if b then m else n)
 either true m n one other = one
 either false m n one other = other
 
+ruled_counts : (court : CourtSettings) (v : View) (outcome : Ruling) (n : ℕ) → count_deadlines v.case ≤ 1000 → IsCount n → IsCount (case_reply court v (ruling_reply outcome n))
+ruled_counts court v Statement n few is = omega (arith, few)
+ruled_counts court v Denied n few is = is
+ruled_counts court v Postponed n few is = is
+
 reply_counts : (court : CourtSettings) (h : History) (a : Action) → IsWithinLimits court h → IsAction a → exists_already (shown_fresh h a) a ≡ false → is_full (shown_fresh h a) a ≡ false → IsCount (reply_to court (shown_fresh h a) a)
 unfolding IsAction
-reply_counts court h (action.DeclareDay a) within is new room =
-    omega (arith, one_row (exists_already (shown_fresh h (action.DeclareDay a)) (action.DeclareDay a)) (day_row (day_kind_of a.kind) a.day a.name) new, rows_fit (shown_fresh h (action.DeclareDay a)) (action.DeclareDay a) room within.next_row)
-reply_counts court h (action.CloseDay a) within is new room =
-    omega (arith, one_row (exists_already (shown_fresh h (action.CloseDay a)) (action.CloseDay a)) (day_row kind.Closed a.day a.name) new, rows_fit (shown_fresh h (action.CloseDay a)) (action.CloseDay a) room within.next_row)
-reply_counts court h (action.CloseSpan a) within is new room =
-    omega (arith, one_row (exists_already (shown_fresh h (action.CloseSpan a)) (action.CloseSpan a)) (record { item = Span a.start a.end; name = [] }) new, rows_fit (shown_fresh h (action.CloseSpan a)) (action.CloseSpan a) room within.next_row)
-reply_counts court h (action.ShortDay a) within is new room =
-    omega (arith, one_row (exists_already (shown_fresh h (action.ShortDay a)) (action.ShortDay a)) (record { item = Short a.day a.close; name = a.name }) new, rows_fit (shown_fresh h (action.ShortDay a)) (action.ShortDay a) room within.next_row)
 reply_counts court h (action.WithdrawCalendar a) within is new room = is.0
-reply_counts court h (action.ImportCalendar a) within is new room =
-    let v = shown_fresh h (action.ImportCalendar a) in
-    let added = count_added v (action.ImportCalendar a) in
-    omega (arith, not_above 4000 (length v.calendar + added) (or_off (nat_lt 4000 (length v.calendar + added)) (nat_lt 4_294_967_296 (v.next_row + added)) room).0)
-reply_counts court h (action.OpenCase a) within is new room = omega (arith, within.cases)
 reply_counts court h (action.AddParty a) within is new room = let few = not_at 1000 (parties_in (shown_fresh h (action.AddParty a)).case) room in omega (arith, few)
 reply_counts court h (action.FileEntry a) within is new room = let few = not_at 10_000 (entries_in (shown_fresh h (action.FileEntry a)).case) room in omega (arith, few)
 reply_counts court h (action.RuleMotion a) within is new room = is.1.0
 reply_counts court h (action.Dispose a) within is new room =
-    either (wants_statement a.outcome) _ a.deadline (omega (arith, few_deadlines h (action.Dispose a) (Some a.case) within.deadlines)) is.1.0
+    ruled_counts court (shown_fresh h (action.Dispose a)) a.outcome a.deadline (few_deadlines h (action.Dispose a) (Some a.case) within.deadlines) is.1.0
 reply_counts court h (action.StatementServed a) within is new room = is.1.0
 reply_counts court h (action.Extend a) within is new room = is.1.0
 reply_counts court h (action.Satisfy a) within is new room =
     either (is_in_time court (calendar_of (shown_fresh h (action.Satisfy a)).calendar) (standing_shown court (shown_fresh h (action.Satisfy a))) a.at a.way) 1 0 (omega arith) (omega arith)
 reply_counts court h (action.Vacate a) within is new room = is.1.0
-reply_counts court h (action.LocalRule a) within is new room = omega (arith, within.local_rules)
-reply_counts court h a within is new room = omega (arith, few_deadlines h a (case_named a) within.deadlines)
+reply_counts court h a within is new room = made_counts court (shown_fresh h a) (few_deadlines h a (case_named a) within.deadlines) (work a) a tt new room
 
 pub receipts_held : (court : CourtSettings) (h : History) → IsHistory court h → AllByRecursion IsCommand h → AllByRecursion IsReceipt (receipts court h)
 receipts_held court [] is all = tt

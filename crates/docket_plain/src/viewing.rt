@@ -10,14 +10,14 @@ ghost use Rattle.docket_decisions.specs.Outcomes.{under_key, is_label_taken, is_
 ghost use Rattle.docket_decisions.specs.Tables.{case_in, view_in};
 ghost use Rattle.docket_history.specs.Views.{named_in, rule_name_asked};
 ghost use Rattle.docket_plain.specs.Vectors.{lists_of, AreSmall};
+ghost use Rattle.court_days.specs.Limits.{most_rows};
 
 use crate::vectors::Vectors;
 use court_rules::Act;
 use docket_command::{Action, Command, LocalRule, Text};
 use docket_history::{
     ActRow, Acts, CalendarItem, CalendarRow, CaseRow, CaseView, DeadlineView, EntryRow,
-    LocalRuleRow, PartyRow, Receipt, StandingCalendar, UnderKey, View, asks_calendar, asks_cases,
-    asks_local_rules, asks_next_row, case_named, rule_name_asked,
+    LocalRuleRow, PartyRow, Receipt, StandingCalendar, Subject, UnderKey, View, rule_name_asked,
 };
 use std::alloc::{AllocError, Global};
 
@@ -133,10 +133,10 @@ fn calendar_for(
     action: &Action,
 ) -> Result<StandingCalendar, AllocError>
     requires items { All IsEnteredItem (items_of rows.now) }
-    requires rows { length (items_of rows.now) ≤ 4000 }
+    requires rows { length (items_of rows.now) ≤ most_rows }
     ensures { IfOk result (λ items. items ≡ (if asks_calendar action.now then items_of rows.now else [])) }
 {
-    if asks_calendar(action) {
+    if Subject::of(action).asks.calendar {
         Ok(StandingCalendar::new(alloc, items_of(alloc, rows)?)?)
     } else {
         Ok(StandingCalendar::empty(alloc))
@@ -173,7 +173,7 @@ fn case_for(
     requires { AreSmall tables.now }
     ensures { IfOk result (λ case. case ≡ option_and_then (case_in (lists_of tables.now) action.now) (case_named action.now)) }
 {
-    match case_named(action) {
+    match Subject::of(action).case {
         Some(number) => case_of(alloc, tables, number, action),
         None => Ok(None),
     }
@@ -184,7 +184,7 @@ fn cases_for(cases: &[CaseRow], action: &Action) -> u32
     requires { length cases.now < 2 ^ 32 }
     ensures { result ≡ if_asked (asks_cases action.now) (length cases.now) }
 {
-    if asks_cases(action) {
+    if Subject::of(action).asks.cases {
         cases.len() as u32
     } else {
         0
@@ -195,7 +195,11 @@ fn cases_for(cases: &[CaseRow], action: &Action) -> u32
 fn next_row_for(next_row: u64, action: &Action) -> u64
     ensures { result ≡ if_asked (asks_next_row action.now) next_row }
 {
-    if asks_next_row(action) { next_row } else { 0 }
+    if Subject::of(action).asks.next_row {
+        next_row
+    } else {
+        0
+    }
 }
 
 /// The first local rule of a name.
@@ -235,7 +239,7 @@ fn rules_for(rules: &[LocalRuleRow], action: &Action) -> u32
     requires { length rules.now < 2 ^ 32 }
     ensures { result ≡ if_asked (asks_local_rules action.now) (length rules.now) }
 {
-    if asks_local_rules(action) {
+    if Subject::of(action).asks.local_rules {
         rules.len() as u32
     } else {
         0
@@ -250,7 +254,7 @@ pub(crate) fn view_of(
 ) -> Result<View, AllocError>
     requires small { AreSmall tables.now }
     requires items { All IsEnteredItem (items_of tables.now.calendar.items) }
-    requires rows { length (items_of tables.now.calendar.items) ≤ 4000 }
+    requires rows { length (items_of tables.now.calendar.items) ≤ most_rows }
     ensures { IfOk result (λ view. view ≡ view_in (lists_of tables.now) command.now) }
 {
     let action = &command.action;

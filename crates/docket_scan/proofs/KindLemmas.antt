@@ -1,6 +1,6 @@
 -- What the first version can hold: no short day, no local rule, and receipts that the second may hold too.
-use Rattle.std.proofs.Common.{◌≡◌, ◌∙◌, ℕ, ◌+◌, ◌==◌, Bool, true, false, not, if◌then◌else◌, Option, Some, None, List, [], ◌∷◌, ◌++◌, map, append-nil, refl, ap}
-use Rattle.std.specs.List.{AllByRecursion, cons_option}
+use Rattle.std.proofs.Common.{◌≡◌, ◌∙◌, ℕ, ◌+◌, ◌==◌, ◌&&◌, Bool, true, false, not, if◌then◌else◌, Option, Some, None, List, [], ◌∷◌, ◌++◌, map, append-nil, refl, ap}
+use Rattle.std.specs.List.{AllByRecursion, cons_option, list_all}
 use Rattle.sqlite.specs.Order.{Row}
 use Rattle.sqlite_trees.proofs.ListLemmas.{all-filter}
 use Rattle.court_days.specs.Court.{CourtSettings}
@@ -38,13 +38,22 @@ days_long : (days : List NewDay) → AreLong (map imported days)
 days_long [] = tt
 days_long (day ∷ days) = (refl, days_long days)
 
+all_long : (rows : List NewRow) → list_all (λ (row : NewRow). not (is_short_day row.item)) rows ≡ true → AreLong rows
+all_long [] long = tt
+all_long (row ∷ rows) long = let parts = both_true (not (is_short_day row.item)) _ long in (not_true (is_short_day row.item) parts.0, all_long rows parts.1)
+  where
+    both_true : (a b : Bool) → (a && b) ≡ true → (a ≡ true) × (b ≡ true)
+    both_true true b e = (refl, e)
+    both_true false b e = absurd cc
+
+    not_true : (b : Bool) → not b ≡ true → b ≡ false
+    not_true true e = absurd cc
+    not_true false e = refl
+
 asked_long : (a : Action) → is_known_kind false a ≡ true → AreLong (rows_asked a)
-asked_long (action.DeclareDay a) known = (refl, tt)
-asked_long (action.CloseDay a) known = (refl, tt)
-asked_long (action.CloseSpan a) known = (refl, tt)
 asked_long (action.ShortDay a) known = absurd cc
 asked_long (action.ImportCalendar a) known = days_long a.rows
-asked_long _ known = tt
+asked_long a known = all_long (rows_asked a) refl
 
 fresh_if : (b : Bool) (new : NewRow) (rows others : List NewRow) → IsLong new.item → AreLong rows → AreLong others → AreLong (if b then rows else new ∷ others)
 fresh_if true new rows others here less more = less

@@ -18,6 +18,7 @@ ghost use Rattle.docket_scan.specs.Records.{IsTable};
 ghost use Rattle.docket_scan.specs.Scans.{OfSoMany};
 ghost use Rattle.docket_scan.specs.Taken.{IsRead};
 ghost use Rattle.docket_tables.specs.declared.table.Table.TheVariants as table;
+ghost use Rattle.court_days.specs.Limits.{most_rows};
 
 use crate::check::RecordCheck;
 use crate::fault::{AdoptFault, fault_in};
@@ -377,7 +378,7 @@ fn judge_due<S: Alter, W: Watch>(
 
 /// So many rows, and so many more, of which a sound calendar has 4,000 at most.
 fn with_more(rows: u64, more: u64) -> u64
-    ensures { rows + more ≤ 4000 → result ≡ rows + more }
+    ensures { rows + more ≤ most_rows → result ≡ rows + more }
 {
     rows.saturating_add(more)
 }

@@ -12,7 +12,6 @@ use Rattle.std.specs.declared.cmp.Ordering.{Ordering}
 use Rattle.std.specs.Cmp.{IsTotalOrder, nat_cmp_total}
 use Rattle.court_days.specs.Spans.{span_cmp}
 use Rattle.court_days.proofs.SpanSets.{span_cmp_total}
-use Rattle.docket_values.specs.Values.{is_entered_at}
 use Rattle.court_days.specs.Calendar.{Entered, rows_of, no_days}
 use Rattle.court_days.specs.Court.{CourtSettings}
 use Rattle.court_days.specs.declared.calendar.CalendarFault.{CalendarFault}
@@ -23,7 +22,7 @@ use Rattle.docket_history.specs.Histories.{items_of}
 use Rattle.docket_history.specs.declared.item.CalendarItem.{CalendarItem}
 use Rattle.docket_history.specs.declared.item.CalendarItem.TheVariants.{Day, Span, Short}
 use Rattle.docket_history.specs.declared.row.CalendarRow.{CalendarRow}
-use Rattle.docket_decisions.proofs.GoodValues.{entered_instant}
+use Rattle.docket_decisions.proofs.GoodValues.{may_be_entered}
 use Rattle.docket_sound.specs.Calendars.{is_sound_item, is_sound_row, is_well_named, EachIsNew, IsGiven, AreSoundCalendarRows, stands, Enters, may_come, last_of, HasEntered}
 use Rattle.docket_sound.specs.Numbers.{Rises}
 use Rattle.docket_sound.proofs.NumberLemmas.{all_both, all_later}
@@ -151,20 +150,6 @@ rows_more e (Short day close) none = omega (arith, short_longer e.short day clos
     short_longer m day close none =
         ap (λ b. fin_map.len (cond b m (fin_map.insert m day close))) none
         ∙ fin_map.len-insert nat_cmp_total m day close ∙ ap (λ b. cond b (fin_map.len m) (fin_map.len m + 1)) none
-
--- an item within its limits may be entered
-may_be_entered : (court : CourtSettings) (item : CalendarItem) → is_sound_item court item ≡ true → IsEnteredItem item
-may_be_entered court (Day kind day) sound = (grind (arith, nat_tests, sound), grind (arith, nat_tests, sound))
-may_be_entered court (Span s t) sound =
-    let parts = three (is_entered_at court s) (is_entered_at court t) (nat_lt s t) sound in
-    ((entered_instant court s parts.0).0, grind (arith, nat_tests, parts.2), (entered_instant court t parts.1).1)
-  where
-    three : (a b c : Bool) → (a && b && c) ≡ true → (a ≡ true) × (b ≡ true) × (c ≡ true)
-    three true true true h = (refl, refl, refl)
-    three true true false h = absurd cc
-    three true false c h = absurd cc
-    three false b c h = absurd cc
-may_be_entered court (Short day close) sound = (grind (arith, nat_tests, sound), grind (arith, nat_tests, sound))
 
 -- after these rows, one more
 module _ (court : CourtSettings) (next_row last : ℕ) (entered : Entered) (rows : List CalendarRow) (row : CalendarRow) (has : HasEntered court next_row last entered rows) where

@@ -1,25 +1,22 @@
 -- The calendar of a history, by an induction on it.
-use Rattle.std.proofs.Common.{◌≡◌, ◌∙◌, ℕ, suc, ◌+◌, ◌<◌, ◌≤◌, ◌==◌, ◌&&◌, ◌||◌, not, Bool, true, false, cond, IsTrue, List, [], ◌∷◌, ◌++◌, map, length, refl, sym, subst, arith, append-nil, append_assoc}
-use Rattle.std.proofs.lemmas.Bool.Decides.{nat_tests}
+use Rattle.std.proofs.Common.{◌≡◌, ◌∙◌, ℕ, suc, ◌+◌, ◌<◌, ◌≤◌, ◌==◌, ◌||◌, not, Bool, true, false, cond, IsTrue, List, [], ◌∷◌, ◌++◌, map, length, refl, sym, subst, arith, append-nil, append_assoc}
 use Rattle.std.proofs.lemmas.List.{map-append}
 use Rattle.std.proofs.lemmas.List.Filters.{length-filter_both}
 use Rattle.std.proofs.lemmas.List.Folds.{list_any-append}
-use Rattle.std.specs.Prelude.{filter, nat_le, nat_lt, None}
-use Rattle.std.specs.List.{AllByRecursion, list_all}
+use Rattle.std.specs.Prelude.{filter, Option, Some, None}
+use Rattle.std.specs.List.{AllByRecursion}
+use Rattle.std.specs.Option.{option_and_then, option_map_or}
 use Rattle.court_days.specs.Court.{CourtSettings}
 use Rattle.docket_command.specs.declared.command.Action.{Action}
-use Rattle.docket_command.specs.declared.command.Action.TheVariants as action
-use Rattle.docket_command.specs.declared.new_day.NewDay.{NewDay}
-use Rattle.docket_history.specs.Actions.{rows_asked, row_withdrawn, imported}
+use Rattle.docket_history.specs.Actions.{CalendarWork, enters, imports, shortens, withdraws, calendar_work, rows_of_work, withdrawn_by, short_row, row_withdrawn}
 use Rattle.docket_history.specs.CalendarItems.{is_same_item, stands_among, fresh}
 use Rattle.docket_history.specs.Histories.{History, items_of, numbered, without_row, standing_rows, next_row, rows_added}
 use Rattle.docket_decisions.specs.Outcomes.{IsHistory}
-use Rattle.docket_values.specs.Values.{first_bad, bad_values, is_entered, is_entered_at, is_text, is_new_day}
+use Rattle.docket_values.specs.Values.{first_bad, bad_values}
 use Rattle.docket_history.specs.declared.item.CalendarItem.{CalendarItem}
 use Rattle.docket_history.specs.declared.row.CalendarRow.{CalendarRow}
-use Rattle.docket_decisions.proofs.GoodValues.{all_good, not_false, or_off}
+use Rattle.docket_decisions.proofs.GoodValues.{IsGoodRow, or_off, rows_good}
 use Rattle.docket_decisions.proofs.LimitsKept.{within_limits}
-use Rattle.docket_decisions.proofs.Passed.{left_true, right_true}
 use Rattle.docket_sound.specs.Calendars.{is_sound_row, EachIsNew, IsGiven, AreSoundCalendarRows}
 use Rattle.docket_sound.specs.Numbers.{Rises}
 use Rattle.docket_sound.proofs.AcceptedLemmas.{freed}
@@ -33,40 +30,6 @@ numbers rows = map (λ (row : CalendarRow). row.number) rows
 -- a row of that number
 abbrev row_at : ℕ → NewRow → CalendarRow
 row_at n new = record { number = n; item = new.item; name = new.name }
-
-abbrev IsSoundNew : CourtSettings → NewRow → Type 0
-IsSoundNew court new = is_sound_row court (row_at 0 new) ≡ true
-
--- the rows that are asked for
-days_sound : (court : CourtSettings) (days : List NewDay) → list_all is_new_day days ≡ true → AllByRecursion (IsSoundNew court) (map imported days)
-days_sound court [] all = tt
-days_sound court (day ∷ days) all = (left_true (is_new_day day) (list_all is_new_day days) all, days_sound court days (right_true (is_new_day day) (list_all is_new_day days) all))
-
-both : (a b : Bool) → a ≡ true → b ≡ true → (a && b) ≡ true
-both a b x y = rw (x, y) refl
-
-asked_sound : (court : CourtSettings) (a : Action) → first_bad (bad_values court a) ≡ None → AllByRecursion (IsSoundNew court) (rows_asked a)
-asked_sound court (action.DeclareDay a) good =
-    let fields = all_good (bad_values court (action.DeclareDay a)) good in
-    (both (is_entered a.day) (is_text 100 a.name) (not_false (is_entered a.day) fields.0) (not_false (is_text 100 a.name) fields.1.0), tt)
-asked_sound court (action.CloseDay a) good =
-    let fields = all_good (bad_values court (action.CloseDay a)) good in
-    (both (is_entered a.day) (is_text 100 a.name) (not_false (is_entered a.day) fields.0) (not_false (is_text 100 a.name) fields.1.0), tt)
-asked_sound court (action.CloseSpan a) good =
-    let fields = all_good (bad_values court (action.CloseSpan a)) good in
-    let ends = or_off (not (is_entered_at court a.end)) (nat_le a.end a.start) fields.1.0 in
-    let later = ends.1 in
-    let before : nat_lt a.start a.end ≡ true = grind (arith, nat_tests, later) in
-    (rw (not_false (is_entered_at court a.start) fields.0, not_false (is_entered_at court a.end) ends.0, before) refl, tt)
-asked_sound court (action.ShortDay a) good =
-    let fields = all_good (bad_values court (action.ShortDay a)) good in
-    let later = fields.1.0 in
-    let sooner : nat_lt a.close court.close_minute ≡ true = grind (arith, nat_tests, later) in
-    (rw (not_false (is_entered a.day) fields.0, sooner, not_false (is_text 100 a.name) fields.1.1.0) refl, tt)
-asked_sound court (action.ImportCalendar a) good =
-    let rows = not_false (nat_le (length a.rows) 1000 && list_all is_new_day a.rows) (all_good (bad_values court (action.ImportCalendar a)) good).0 in
-    days_sound court a.rows (right_true (nat_le (length a.rows) 1000) (list_all is_new_day a.rows) rows)
-asked_sound court _ good = tt
 
 -- rows that are sound, but for how many there are
 record AreKept (court : CourtSettings) (next : ℕ) (rows : List CalendarRow) : Type 0 where
@@ -85,7 +48,7 @@ still_given n [] all = tt
 still_given n (row ∷ rows) all = ((all.0.0, omega (arith, all.0.1)), still_given n rows all.1)
 
 -- one more row, which has the next number
-kept_more : (court : CourtSettings) (n : ℕ) (rows : List CalendarRow) (new : NewRow) → 1 ≤ n → AreKept court n rows → stands_among (items_of rows) new.item ≡ false → IsSoundNew court new → AreKept court (n + 1) (rows ++ row_at n new ∷ [])
+kept_more : (court : CourtSettings) (n : ℕ) (rows : List CalendarRow) (new : NewRow) → 1 ≤ n → AreKept court n rows → stands_among (items_of rows) new.item ≡ false → IsGoodRow court new → AreKept court (n + 1) (rows ++ row_at n new ∷ [])
 kept_more court n rows new some kept none sound =
     let row = row_at n new in
     let all_numbers : numbers (rows ++ row ∷ []) ≡ numbers rows ++ n ∷ [] = map-append (λ (r : CalendarRow). r.number) rows (row ∷ []) in
@@ -103,7 +66,7 @@ module _ (court : CourtSettings) where
   abbrev AreAdded : ℕ → List CalendarRow → List NewRow → Type 0
   AreAdded n rows news = AreKept court (n + length news) (rows ++ numbered n news)
 
-  added : (n : ℕ) (rows : List CalendarRow) (asked : List NewRow) → 1 ≤ n → AreKept court n rows → AllByRecursion (IsSoundNew court) asked → AreAdded n rows (fresh (items_of rows) asked)
+  added : (n : ℕ) (rows : List CalendarRow) (asked : List NewRow) → 1 ≤ n → AreKept court n rows → AllByRecursion (IsGoodRow court) asked → AreAdded n rows (fresh (items_of rows) asked)
   added n rows [] some kept sound =
       let same : n + 0 ≡ n = omega arith in
       subst (AreKept court (n + 0)) (sym (append-nil rows)) (subst (λ m. AreKept court m rows) (sym same) kept)
@@ -194,18 +157,24 @@ module _ (p : CalendarRow → Bool) where
   }
 
 -- a command withdraws a row or adds rows, and never both
+abbrev AreStepped : CourtSettings → ℕ → List CalendarRow → Option CalendarWork → Type 0
+AreStepped court n rows o =
+    let news = fresh (items_of rows) (option_map_or rows_of_work o []) in
+    AreKept court (n + length news) (without_row (option_and_then withdrawn_by o) rows ++ numbered n news)
+
 calendar_step : (court : CourtSettings) (n : ℕ) (rows : List CalendarRow) (a : Action) → 1 ≤ n → first_bad (bad_values court a) ≡ None → AreKept court n rows
     → AreKept court (n + length (rows_added (items_of rows) a)) (without_row (row_withdrawn a) rows ++ numbered n (rows_added (items_of rows) a))
-calendar_step court n rows (action.WithdrawCalendar a) some good kept =
-    let left = filter (λ (row : CalendarRow). not (row.number == a.row)) rows in
-    let same : n + 0 ≡ n = omega arith in
-    subst (AreKept court (n + 0)) (sym (append-nil left)) (subst (λ m. AreKept court m left) (sym same) (kept_left (λ row. not (row.number == a.row)) court n rows kept))
-calendar_step court n rows (action.DeclareDay a) some good kept = added court n rows (rows_asked (action.DeclareDay a)) some kept (asked_sound court (action.DeclareDay a) good)
-calendar_step court n rows (action.CloseDay a) some good kept = added court n rows (rows_asked (action.CloseDay a)) some kept (asked_sound court (action.CloseDay a) good)
-calendar_step court n rows (action.CloseSpan a) some good kept = added court n rows (rows_asked (action.CloseSpan a)) some kept (asked_sound court (action.CloseSpan a) good)
-calendar_step court n rows (action.ShortDay a) some good kept = added court n rows (rows_asked (action.ShortDay a)) some kept (asked_sound court (action.ShortDay a) good)
-calendar_step court n rows (action.ImportCalendar a) some good kept = added court n rows (rows_asked (action.ImportCalendar a)) some kept (asked_sound court (action.ImportCalendar a) good)
-calendar_step court n rows _ some good kept = added court n rows [] some kept tt
+calendar_step court n rows a some good kept = at (calendar_work a) (rows_good court a good)
+  where
+    at : (o : Option CalendarWork) → AllByRecursion (IsGoodRow court) (option_map_or rows_of_work o []) → AreStepped court n rows o
+    at None sound = added court n rows [] some kept tt
+    at (Some (enters row)) sound = added court n rows (row ∷ []) some kept sound
+    at (Some (imports asked)) sound = added court n rows asked some kept sound
+    at (Some (shortens short)) sound = added court n rows (short_row short ∷ []) some kept sound
+    at (Some (withdraws number)) sound =
+        let left = filter (λ (row : CalendarRow). not (row.number == number)) rows in
+        let same : n + 0 ≡ n = omega arith in
+        subst (AreKept court (n + 0)) (sym (append-nil left)) (subst (λ m. AreKept court m left) (sym same) (kept_left (λ row. not (row.number == number)) court n rows kept))
 
 some_next : (h : History) → 1 ≤ next_row h
 some_next [] = omega arith

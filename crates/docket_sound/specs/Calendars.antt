@@ -1,5 +1,5 @@
 -- When the rows of a calendar are sound.
-use Rattle.std.specs.Prelude.{◌≡◌, ℕ, ◌<◌, ◌≤◌, nat_lt, Bool, true, false, ◌&&◌, List, [], ◌∷◌, ◌++◌, map, length, nat_eq, Result, Ok, Err, IsTrue}
+use Rattle.std.specs.Prelude.{◌≡◌, ℕ, ◌<◌, ◌≤◌, nat_lt, Bool, true, false, ◌&&◌, List, [], ◌∷◌, ◌++◌, map, length, Result, Ok, Err, IsTrue}
 use Rattle.std.specs.List.{AllByRecursion}
 use Rattle.std.specs.FinMap as fin_map
 use Rattle.std.specs.FinSet.{contains}
@@ -9,25 +9,13 @@ use Rattle.court_days.specs.declared.calendar.CalendarFault.{CalendarFault}
 use Rattle.court_days.specs.declared.calendar.CalendarFault.TheVariants.{OutOfRange, Full, NoMemory}
 use Rattle.docket_history.specs.CalendarItems.{stands_among, with_item, calendar_of, IsEnteredItem}
 use Rattle.docket_history.specs.Histories.{items_of}
-use Rattle.docket_values.specs.Values.{is_entered, is_entered_at, is_text}
+pub use Rattle.docket_decisions.specs.CalendarRows.{is_sound_item, is_well_named}
 use Rattle.docket_history.specs.declared.item.CalendarItem.{CalendarItem}
 use Rattle.docket_history.specs.declared.item.CalendarItem.TheVariants.{Day, Span, Short}
 use Rattle.docket_history.specs.declared.row.CalendarRow.{CalendarRow}
 use Rattle.docket_sound.specs.Numbers.{Rises}
 use Rattle.docket_sound.specs.declared.calendar.CalendarCheck.{CalendarCheck}
-
--- a day that the court may enter; a span begins before it ends, each on such a local day; a short day is such a day, and its time is
--- before that at which the office closes on other days
-abbrev pub is_sound_item : CourtSettings → CalendarItem → Bool
-is_sound_item court (Day kind day) = is_entered day
-is_sound_item court (Span start end) = is_entered_at court start && is_entered_at court end && nat_lt start end
-is_sound_item court (Short day close) = is_entered day && nat_lt close court.close_minute
-
--- the name of a day, short or not, has 1 to 100 bytes, that of a span none
-abbrev pub is_well_named : CalendarItem → List ℕ → Bool
-is_well_named (Day kind day) name = is_text 100 name
-is_well_named (Span start end) name = nat_eq (length name) 0
-is_well_named (Short day close) name = is_text 100 name
+use Rattle.court_days.specs.Limits.{most_rows}
 
 abbrev pub is_sound_row : CourtSettings → CalendarRow → Bool
 is_sound_row court row = is_sound_item court row.item && is_well_named row.item row.name
@@ -46,7 +34,7 @@ pub record AreSoundCalendarRows (court : CourtSettings) (next_row : ℕ) (rows :
   pub rising : Rises (map (λ row. row.number) rows)
   pub given : AllByRecursion (λ row. IsGiven next_row row.number) rows
   pub apart : EachIsNew [] (items_of rows)
-  pub few : length rows ≤ 4000
+  pub few : length rows ≤ most_rows
   pub within : AllByRecursion (λ row. IsTrue (is_sound_row court row)) rows
 
 -- the item stands
@@ -57,10 +45,10 @@ stands entered (Short day close) = fin_map.contains_key entered.short day
 
 -- what the entering of an item comes to
 abbrev pub Enters : Entered → CalendarItem → Entered → Result Bool CalendarFault → Type 0
-Enters old item new (Ok true) = (stands old item ≡ false) × (new ≡ with_item old item) × (rows_of new ≤ 4000)
+Enters old item new (Ok true) = (stands old item ≡ false) × (new ≡ with_item old item) × (rows_of new ≤ most_rows)
 Enters old item new (Ok false) = stands old item ≡ true
 Enters old item new (Err OutOfRange) = IsEnteredItem item → ⊥
-Enters old item new (Err Full) = rows_of old ≡ 4000
+Enters old item new (Err Full) = rows_of old ≡ most_rows
 Enters old item new (Err NoMemory) = Unit {0}
 
 -- the row may come next after that number, but for what it enters

@@ -11,6 +11,7 @@ use Rattle.docket_history.specs.declared.row.ShortDayRow.{ShortDayRow}
 use Rattle.docket_sound.specs.Calendars.{EachIsNew, IsGiven, last_of, stands}
 use Rattle.docket_sound.specs.Numbers.{Rises}
 use Rattle.docket_sound.specs.declared.short_day.ShortDayCheck.{ShortDayCheck}
+use Rattle.court_days.specs.Limits.{most_rows}
 
 abbrev pub numbers_of : List ShortDayRow → List ℕ
 numbers_of rows = map (λ row. row.number) rows
@@ -33,7 +34,7 @@ pub record AreSoundShortDays (close next_row : ℕ) (calendar : List ℕ) (rows 
   pub given : AllByRecursion (λ row. IsGiven next_row row.number) rows
   pub others : AllByRecursion (λ row. is_among calendar row.number ≡ false) rows
   pub apart : EachIsNew [] (short_items rows)
-  pub few : length calendar + length rows ≤ 4000
+  pub few : length calendar + length rows ≤ most_rows
   pub within : AllByRecursion (λ row. IsTrue (is_sound_short_day close row)) rows
 
 -- what the check goes by: when the office closes on other days, the number of the next row, and those of the rows in the table of the
@@ -45,7 +46,7 @@ pub record GoesBy (check : ShortDayCheck) (close next_row : ℕ) (calendar : Lis
 
 -- the number is free, and there is room for the row
 abbrev pub has_place : ShortDayCheck → ShortDayRow → Bool
-has_place check row = not (is_among check.calendar.items row.number) && nat_lt (length check.calendar.items + rows_of check.days) 4000
+has_place check row = not (is_among check.calendar.items row.number) && nat_lt (length check.calendar.items + rows_of check.days) most_rows
 
 -- the row may come next, but for the day
 abbrev pub may_be_next : ShortDayCheck → ShortDayRow → Bool

@@ -3,6 +3,7 @@ ghost use Rattle.std.specs.Prelude.{◌≡◌, ◌≤◌, ◌++◌, ◌∷◌, [
 ghost use Rattle.docket_history.specs.declared.row.ShortDayRow.{ShortDayRow as Entered};
 ghost use Rattle.docket_sound.specs.Numbers.{Rises};
 ghost use Rattle.docket_sound.specs.ShortDays.{is_among, is_sound_short_day, may_be_next, has_place, AreSoundShortDays, HasTakenShortDays};
+ghost use Rattle.court_days.specs.Limits.{most_rows};
 
 use crate::calendar::{enter, told_by};
 use crate::text::{is_entered, is_text};
@@ -42,7 +43,7 @@ pub struct ShortDayCheck {
 
 impl ShortDayCheck {
     pub(crate) fn new(alloc: Global, close: u32, next_row: u64, calendar: Vec<u32>) -> ShortDayCheck
-        ensures none { length calendar.items ≤ 4000 → Rises calendar.items → HasTakenShortDays result [] }
+        ensures none { length calendar.items ≤ most_rows → Rises calendar.items → HasTakenShortDays result [] }
         ensures close { result.close ≡ close }
         ensures next_row { result.next_row ≡ next_row }
         ensures calendar { result.calendar ≡ calendar }

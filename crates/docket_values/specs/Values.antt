@@ -22,10 +22,11 @@ use Rattle.docket_command.specs.declared.command.Action.TheVariants.{DeclareDay,
 use Rattle.docket_command.specs.declared.field.Field.{Field}
 use Rattle.docket_command.specs.declared.field.Field.TheVariants as field
 use Rattle.docket_command.specs.declared.new_day.NewDay.{NewDay}
+use Rattle.court_days.specs.Limits.{first_entered_day, last_entered_day}
 
 -- a day from 2000-01-01 to 2099-12-31
 abbrev pub is_entered : ℕ → Bool
-is_entered day = nat_le 10_957 day && nat_le day 47_481
+is_entered day = nat_le first_entered_day day && nat_le day last_entered_day
 
 -- an instant whose local day in the court is such a day
 abbrev pub is_entered_at : CourtSettings → ℕ → Bool

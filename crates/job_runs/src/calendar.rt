@@ -1,15 +1,12 @@
 //! The calendar of the docket in a file.
-ghost use Rattle.std.specs.Prelude.{◌≡◌, [], ℕ, List, Option, IfErr, IfOk, MatchResult};
+ghost use Rattle.std.specs.Prelude.{◌≡◌, [], ℕ, List, Option};
 ghost use Rattle.sqlite_wal.specs.Files.{image_at};
-ghost use Rattle.sqlite.specs.Files.{IsCleanLeft};
 ghost use Rattle.docket_applying.specs.CourtDockets.{CourtDocket as Told};
-ghost use Rattle.docket_store.specs.Left.{LeavesRows};
-ghost use Rattle.file_dockets.specs.Keeping.{rows_told};
-ghost use Rattle.file_dockets.specs.Works.{WorksTo};
 ghost use Rattle.court_days.specs.Court.{CourtSettings};
 ghost use Rattle.docket_calendar.specs.Calendar.{text_of_calendar};
 ghost use Rattle.docket_history.specs.Histories.{History};
 ghost use Rattle.file_questions.specs.Tells.{ListsTo};
+ghost use Rattle.job_runs.specs.Asked.{IfUnasked, IsAsked};
 ghost use Rattle.job_runs.specs.Tells.{HasTold};
 ghost use Rattle.job_runs.specs.Jobs.{OfDocket, TellsOf};
 
@@ -43,9 +40,7 @@ fn end_calendar<S: Start, E: Write>(
     e: &mut E,
 ) -> JobEnd<FileFrom<S>>
     ensures { (docket : Told) (from to : ℕ) (before after : Option (List ℕ))
-        → IfOk ended (λ it. IsCleanLeft it.left → WorksTo (ListsTo docket.court docket.history from to before after) it.outcome)
-        → IfOk ended (λ it. IsCleanLeft it.left → LeavesRows it.left (rows_told docket) (rows_told docket))
-        → MatchResult ended (λ it. IfErr it.outcome (λ _. after ≡ before)) (λ _. after ≡ before)
+        → IsAsked docket (ListsTo docket.court docket.history from to before after) ended → IfUnasked (after ≡ before) ended
         → TellsOf docket (HasTold (text_of_calendar docket.court docket.history from to) before after) result }
 {
     match done_on_docket(alloc, path, ended, e) {

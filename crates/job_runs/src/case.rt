@@ -1,14 +1,11 @@
 //! A case of the docket in a file.
-ghost use Rattle.std.specs.Prelude.{◌≡◌, ℕ, List, Option, None, IfOk, string_bytes};
+ghost use Rattle.std.specs.Prelude.{◌≡◌, ℕ, List, Option, None, string_bytes};
 ghost use Rattle.std.specs.Option.{option_map};
 ghost use Rattle.std.specs.Cow.{cow_str_bytes};
 ghost use Rattle.sqlite_wal.specs.Files.{image_at};
-ghost use Rattle.sqlite.specs.Files.{IsCleanLeft};
 ghost use Rattle.docket_applying.specs.CourtDockets.{CourtDocket as Told};
-ghost use Rattle.docket_store.specs.Left.{LeavesRows};
-ghost use Rattle.file_dockets.specs.Keeping.{rows_told};
-ghost use Rattle.file_dockets.specs.Works.{WorksTo};
 ghost use Rattle.file_questions.specs.Tells.{AnswersTo, text_of_case};
+ghost use Rattle.job_runs.specs.Asked.{IsAsked};
 ghost use Rattle.job_runs.specs.Tells.{SaysMissing, TellsIfAny, no_such_case};
 ghost use Rattle.job_runs.specs.Jobs.{OfDocket, TellsOf};
 
@@ -57,8 +54,7 @@ pub(crate) fn end_if_any<S: Start, E: Write>(
     e: &mut E,
 ) -> JobEnd<FileFrom<S>>
     ensures told { (docket : Told) (found : Option (List ℕ))
-        → IfOk ended (λ it. IsCleanLeft it.left → WorksTo (AnswersTo (λ text. option_map string_bytes text ≡ found)) it.outcome)
-        → IfOk ended (λ it. IsCleanLeft it.left → LeavesRows it.left (rows_told docket) (rows_told docket))
+        → IsAsked docket (AnswersTo (λ text. option_map string_bytes text ≡ found)) ended
         → TellsOf docket (TellsIfAny found) result }
     ensures missing { SaysMissing missing.now result.status (E.contents e.old) (E.contents e.new) }
 {

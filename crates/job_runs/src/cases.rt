@@ -1,13 +1,10 @@
 //! The cases of the docket in a file, a line for each.
-ghost use Rattle.std.specs.Prelude.{◌≡◌, [], ℕ, List, Option, IfErr, IfOk, MatchResult, option_copied};
+ghost use Rattle.std.specs.Prelude.{◌≡◌, [], ℕ, List, Option, option_copied};
 ghost use Rattle.sqlite_wal.specs.Files.{image_at};
-ghost use Rattle.sqlite.specs.Files.{IsCleanLeft};
 ghost use Rattle.docket_applying.specs.CourtDockets.{CourtDocket as Told};
-ghost use Rattle.docket_store.specs.Left.{LeavesRows};
-ghost use Rattle.file_dockets.specs.Keeping.{rows_told};
-ghost use Rattle.file_dockets.specs.Works.{WorksTo};
 ghost use Rattle.docket_history.specs.declared.row.CaseRow.{CaseRow};
 ghost use Rattle.file_questions.specs.CaseLists.{ListsCases, cases_told};
+ghost use Rattle.job_runs.specs.Asked.{IfUnasked, IsAsked};
 ghost use Rattle.job_runs.specs.Tells.{HasListed, SaysMissing, no_such_case};
 ghost use Rattle.job_runs.specs.Jobs.{OfDocket, TellsOf};
 
@@ -47,9 +44,7 @@ fn end_listed<S: Start, E: Write>(
     e: &mut E,
 ) -> JobEnd<FileFrom<S>>
     ensures told { (docket : Told) (cases : List CaseRow) (before after : Option (List ℕ))
-        → IfOk ended (λ it. IsCleanLeft it.left → WorksTo (ListsCases cases before after) it.outcome)
-        → IfOk ended (λ it. IsCleanLeft it.left → LeavesRows it.left (rows_told docket) (rows_told docket))
-        → MatchResult ended (λ it. IfErr it.outcome (λ _. after ≡ before)) (λ _. after ≡ before)
+        → IsAsked docket (ListsCases cases before after) ended → IfUnasked (after ≡ before) ended
         → TellsOf docket (HasListed cases before after) result }
     ensures missing { SaysMissing no_such_case result.status (E.contents e.old) (E.contents e.new) }
 {

@@ -2,15 +2,12 @@
 ghost use Rattle.std.specs.Prelude.{◌≡◌, IfOk, None, Ok, string_bytes};
 ghost use Rattle.std.specs.Cow.{cow_str_bytes};
 ghost use Rattle.sqlite_wal.specs.Files.{image_at};
-ghost use Rattle.sqlite.specs.Files.{IsCleanLeft};
 ghost use Rattle.docket_applying.specs.CourtDockets.{CourtDocket as Told};
-ghost use Rattle.docket_store.specs.Left.{LeavesRows};
-ghost use Rattle.file_dockets.specs.Keeping.{rows_told};
-ghost use Rattle.file_dockets.specs.Works.{WorksTo};
 ghost use Rattle.court_days.specs.Court.{CourtSettings};
 ghost use Rattle.docket_scan.specs.Dockets.{holdings_in};
 ghost use Rattle.docket_scan.specs.declared.holdings.Holdings.{Holdings as Held};
 ghost use Rattle.file_questions.specs.Checks.{IsSoundDocket};
+ghost use Rattle.job_runs.specs.Asked.{IsAsked};
 ghost use Rattle.job_runs.specs.Checks.{check_text};
 ghost use Rattle.job_runs.specs.Tells.{TellsText};
 ghost use Rattle.job_runs.specs.Jobs.{OfDocket, TellsOf};
@@ -60,8 +57,7 @@ fn end_judged<S: Start, E: Write>(
     e: &mut E,
 ) -> JobEnd<FileFrom<S>>
     ensures { (docket : Told) (held : Held)
-        → IfOk ended (λ it. IsCleanLeft it.left → WorksTo (IsSoundDocket docket.court held) it.outcome)
-        → IfOk ended (λ it. IsCleanLeft it.left → LeavesRows it.left (rows_told docket) (rows_told docket))
+        → IsAsked docket (IsSoundDocket docket.court held) ended
         → TellsOf docket (TellsText (check_text docket.court held)) result }
 {
     match done_on_docket(alloc, path, ended, e) {

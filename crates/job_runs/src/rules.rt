@@ -1,15 +1,12 @@
 //! The rules by which deadlines run.
-ghost use Rattle.std.specs.Prelude.{◌≡◌, ℕ, List, [], None, IfOk, string_bytes};
+ghost use Rattle.std.specs.Prelude.{◌≡◌, ℕ, List, [], None, string_bytes};
 ghost use Rattle.std.specs.Cow.{cow_str_bytes};
 ghost use Rattle.sqlite_wal.specs.Files.{image_at};
-ghost use Rattle.sqlite.specs.Files.{IsCleanLeft};
 ghost use Rattle.docket_applying.specs.CourtDockets.{CourtDocket as Told};
-ghost use Rattle.docket_store.specs.Left.{LeavesRows};
-ghost use Rattle.file_dockets.specs.Keeping.{rows_told};
-ghost use Rattle.file_dockets.specs.Works.{WorksTo};
 ghost use Rattle.docket_history.specs.Histories.{local_rule_rows};
 ghost use Rattle.docket_text.specs.RuleTexts.{rules_text};
 ghost use Rattle.file_questions.specs.Tells.{AnswersTo};
+ghost use Rattle.job_runs.specs.Asked.{IsAsked};
 ghost use Rattle.job_runs.specs.Tells.{TellsText};
 ghost use Rattle.job_runs.specs.Jobs.{OfDocket, TellsOf};
 
@@ -58,8 +55,7 @@ pub(crate) fn end_with_text<S: Start, E: Write>(
     e: &mut E,
 ) -> JobEnd<FileFrom<S>>
     ensures told { (docket : Told) (wanted : List ℕ)
-        → IfOk ended (λ it. IsCleanLeft it.left → WorksTo (AnswersTo (λ text. string_bytes text ≡ wanted)) it.outcome)
-        → IfOk ended (λ it. IsCleanLeft it.left → LeavesRows it.left (rows_told docket) (rows_told docket))
+        → IsAsked docket (AnswersTo (λ text. string_bytes text ≡ wanted)) ended
         → TellsOf docket (TellsText wanted) result }
 {
     match done_on_docket(alloc, path, ended, e) {

@@ -8,8 +8,8 @@ use Rattle.docket_applying.proofs.judging.calendar_asked.Goals as goal
 pub returns-clause-read : goal.returns-clause-read
 returns-clause-read g c court h stands =
     gives_weaker g.S.Store c.take_calendar.new.conn (docket_rows court h) _ _ c.take_calendar.result
-    (λ found is. is ∙ ap (λ b. if b then items_of (standing_rows h) else []) (sym (sym c.asks_calendar.ensures ∙ c.if-not-asks_calendar.false)))
+    (λ found is. is ∙ ap (λ b. if b then items_of (standing_rows h) else []) (sym c.if-not-asked.false))
     (c.take_calendar.ensures.read court h stands)
 
-pub returns-then-not-asks_calendar-clause-only : goal.returns-then-not-asks_calendar-clause-only
-returns-then-not-asks_calendar-clause-only g c = unasked
+pub returns-then-not-asked-clause-only : goal.returns-then-not-asked-clause-only
+returns-then-not-asked-clause-only g c = unasked

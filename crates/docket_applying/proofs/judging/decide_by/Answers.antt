@@ -16,7 +16,7 @@ returns-then-not-is_sound-clause-decided c h docket seen =
     absurd (let no = c.if-not-is_sound.true in cc)
 
 pub returns-in-Ok-clause-kept : goal.returns-in-Ok-clause-kept
-returns-in-Ok-clause-kept c h seen keeps = calendar_kept c.args.court.now h c.args.command.now _ _ _ seen c.keep_asked.ensures keeps
+returns-in-Ok-clause-kept c h seen keeps = calendar_kept c.args.court.now h c.args.command.now _ _ _ c.args.subject c.requires seen c.keep_asked.ensures keeps
 
 pub returns-in-Ok-clause-decided : goal.returns-in-Ok-clause-decided
 returns-in-Ok-clause-decided c h docket seen =
@@ -26,7 +26,7 @@ pub returns-in-Ok-clause-repeats : goal.returns-in-Ok-clause-repeats
 returns-in-Ok-clause-repeats c rows shows = repeat_has rows c.args.command.now c.args.view.now c.in-Ok.decision shows c.in-Ok.ensures.repeats
 
 pub returns-in-Err-Refused-clause-kept : goal.returns-in-Err-Refused-clause-kept
-returns-in-Err-Refused-clause-kept c h seen keeps = calendar_kept c.args.court.now h c.args.command.now _ _ _ seen c.keep_asked.ensures keeps
+returns-in-Err-Refused-clause-kept c h seen keeps = calendar_kept c.args.court.now h c.args.command.now _ _ _ c.args.subject c.requires seen c.keep_asked.ensures keeps
 
 pub returns-in-Err-Refused-clause-decided : goal.returns-in-Err-Refused-clause-decided
 returns-in-Err-Refused-clause-decided c h docket seen =
@@ -34,4 +34,4 @@ returns-in-Err-Refused-clause-decided c h docket seen =
     subst (λ (d : Result Decision DecideFault). IsAnswer d (outcome c.args.court.now h c.args.command.now)) refused (c.decide-decided.ensures.outcome h seen)
 
 pub returns-in-Err-NoMemory-clause-kept : goal.returns-in-Err-NoMemory-clause-kept
-returns-in-Err-NoMemory-clause-kept c h seen keeps = calendar_kept c.args.court.now h c.args.command.now _ _ _ seen c.keep_asked.ensures keeps
+returns-in-Err-NoMemory-clause-kept c h seen keeps = calendar_kept c.args.court.now h c.args.command.now _ _ _ c.args.subject c.requires seen c.keep_asked.ensures keeps

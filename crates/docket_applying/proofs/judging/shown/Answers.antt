@@ -1,7 +1,9 @@
-use Rattle.std.proofs.Common.{List, ap₂, arith}
+use Rattle.std.proofs.Common.{◌∙◌, List, [], if◌then◌else◌, ap, ap₂, arith}
 use Rattle.sqlite.specs.Held.{state}
 use Rattle.sqlite.specs.State.{HasCleanDisk}
+use Rattle.docket_history.specs.Histories.{items_of, standing_rows}
 use Rattle.docket_history.specs.declared.item.CalendarItem.{CalendarItem}
+use Rattle.docket_history.specs.declared.subject.Subject.{Subject}
 use Rattle.docket_history.specs.declared.view.View.{View}
 use Rattle.docket_decisions.specs.Tables.{rows_of}
 use Rattle.docket_tables.proofs.AskLemmas.{asked, asked_err, asked_then}
@@ -29,7 +31,7 @@ returns-clause-read g c court h stands =
       asked.0,
       λ clean.
           let early : HasCleanDisk (state g.S.Store c.view.new.conn) = omega (arith, clean, c.calendar_asked.ensures.only.clean) in
-          ap₂ (λ (v : View) (items : List CalendarItem). record v { calendar = items }) (seen.1 early) (asked.1 clean),
+          ap₂ (λ (v : View) (items : List CalendarItem). record v { calendar = items }) (seen.1 early) (asked.1 clean ∙ ap (λ (s : Subject). if s.asks.calendar then items_of (standing_rows h) else []) c.requires.about),
     )
 
 pub returns-clause-receipt : goal.returns-clause-receipt

@@ -1,7 +1,12 @@
-use Rattle.std.proofs.Common.{◌≡◌, ◌∙◌, ◌&&◌, true, false, nat_le, ap, sym, arith}
+use Rattle.std.proofs.Common.{◌≡◌, ◌∙◌, ◌&&◌, true, false, length, nat_le, ap, sym, arith}
+use Rattle.std.specs.Option.{option_and_then}
 use Rattle.sqlite.specs.Held.{state}
 use Rattle.sqlite.specs.State.{HasCleanDisk}
-use Rattle.docket_decisions.specs.Tables.{is_case_in}
+use Rattle.docket_history.specs.Actions.{if_asked}
+use Rattle.docket_history.specs.Histories.{parties_of_case, entries_of_case, deadlines_of_case}
+use Rattle.docket_history.specs.Views.{deadline_at}
+use Rattle.docket_history.specs.declared.subject.Subject.{Subject}
+use Rattle.docket_decisions.specs.Tables.{deadlines_in, is_case_in}
 use Rattle.docket_tables.specs.Contents.{rows_in}
 use Rattle.docket_tables.proofs.ReadLemmas.{err_given}
 use Rattle.docket_applying.proofs.ViewLemmas.{no_case, one_case}
@@ -75,7 +80,11 @@ returns-clause-read g c court t orderly holds =
           let clean0 : HasCleanDisk (state g.S.Store c.cases.new.conn) = omega (arith, c.parties_if_asked.ensures.only.clean) in
           let among : is_case_in t k ≡ true =
           ap (λ n. nat_le 1 k && nat_le k n) (sym (read0.1 clean0)) ∙ sym c.is_among.ensures ∙ c.if-not-is_among.false in
-          sym (one_case t c.args.action.now k _ _ _ _ _ among (read1.1 clean1) (read2.1 clean2) (read3.1 clean3) (read4.1 clean4) (read5.1 clean5)),
+          sym (one_case t c.args.action.now k _ _ _ _ _ among
+          (read1.1 clean1 ∙ ap (λ (s : Subject). if_asked s.asks.parties (length (parties_of_case k t.parties))) c.requires)
+          (read2.1 clean2 ∙ ap (λ (s : Subject). if_asked s.asks.entries (length (entries_of_case k t.entries))) c.requires)
+          (read3.1 clean3 ∙ ap (λ (s : Subject). if_asked s.asks.deadlines (length (deadlines_of_case k t.deadlines))) c.requires)
+          (read4.1 clean4 ∙ ap (λ (s : Subject). option_and_then (deadline_at (deadlines_in t k)) s.deadline) c.requires) (read5.1 clean5)),
     )
 
 pub returns-in_err-count-clause-only : goal.returns-in_err-count-clause-only

@@ -1,6 +1,8 @@
-use Rattle.std.proofs.Common.{arith}
+use Rattle.std.proofs.Common.{◌≡◌, ◌∙◌, length, ap, arith}
 use Rattle.sqlite.specs.Held.{state}
 use Rattle.sqlite.specs.State.{HasCleanDisk}
+use Rattle.docket_history.specs.Actions.{asks_cases, asks_local_rules, asks_next_row, if_asked}
+use Rattle.docket_history.specs.declared.subject.Asks.{Asks}
 use Rattle.docket_tables.specs.Contents.{rows_in}
 use Rattle.docket_tables.proofs.ReadLemmas.{err_given}
 use Rattle.docket_tables.proofs.AskLemmas.{asked, asked_err, asked_then}
@@ -49,7 +51,10 @@ returns-clause-read g c court t orderly holds =
           let clean2 : HasCleanDisk (state g.S.Store c.is_asked_row_standing.new.conn) = omega (arith, c.next_row_if_asked.ensures.only.clean) in
           let clean1 : HasCleanDisk (state g.S.Store c.is_asked_label_taken.new.conn) = omega (arith, c.is_asked_row_standing.ensures.only.clean) in
           let clean0 : HasCleanDisk (state g.S.Store c.cases_if_asked.new.conn) = omega (arith, c.is_asked_label_taken.ensures.only.clean) in
-          λ i. record { cases = read0.1 clean0 i; label_taken = read1.1 clean1 i; row_stands = read2.1 clean2 i; next_row = read3.1 clean3 i; local_rules = read4.1 clean4 i },
+          let counted : c.in_ok-cases.cases ≡ if_asked (asks_cases c.args.action.now) (length t.cases) = read0.1 clean0 ∙ ap (λ (asks : Asks). if_asked asks.cases (length t.cases)) c.requires in
+          let next : c.in_ok-next_row.next_row ≡ if_asked (asks_next_row c.args.action.now) t.next_row = read3.1 clean3 ∙ ap (λ (asks : Asks). if_asked asks.next_row t.next_row) c.requires in
+          let ruled : c.in_ok-local_rules.local_rules ≡ if_asked (asks_local_rules c.args.action.now) (length t.local_rules) = read4.1 clean4 ∙ ap (λ (asks : Asks). if_asked asks.local_rules (length t.local_rules)) c.requires in
+          λ i. record { cases = counted i; label_taken = read1.1 clean1 i; row_stands = read2.1 clean2 i; next_row = next i; local_rules = ruled i },
     )
 
 pub returns-in_err-cases-clause-only : goal.returns-in_err-cases-clause-only

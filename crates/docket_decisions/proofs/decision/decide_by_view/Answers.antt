@@ -43,4 +43,4 @@ end_update-requires c =
 
 pub returns-clause-ends : goal.returns-clause-ends
 returns-clause-ends c =
-    subst (λ changes. IsUpdateBy c.args.court.now c.args.view.now c.args.command.now.action changes c.in_ok-ends.ends) c.as_slice-2.ensures.value c.in_ok-ends.ensures
+    subst (λ changes. IsUpdateBy c.args.court.now c.args.view.now c.args.command.now.action changes c.in_ok-ends.ends) c.as_slice-2.ensures.value (c.in_ok-ends.ensures _ c.of.ensures)

@@ -13,11 +13,12 @@ returns c =
     let court = c.args.circumstances.now.court.now in
     let v = c.args.view.now in
     let standing = c.requires.circumstances.standing in
+    let about = c.requires.circumstances.subject in
     c.first_met.ensures
     ∙ ap first_some (
-    before _ c.lacks_case.ensures
+    before _ (c.lacks_case.ensures _ about)
     (before _ c.lacks_party.ensures
-    (before _ c.lacks_deadline.ensures
+    (before _ (c.lacks_deadline.ensures _ about)
     (before _ c.lacks_row.ensures
     (before _ c.lacks_local_rule.ensures
     (before _ c.exists_already.ensures

@@ -13,21 +13,21 @@ use Rattle.job_runs.proofs.EndLemmas.{answered, nothing_more, some_left, unwritt
 use Rattle.job_runs.proofs.calendar.end_calendar.Goals as goal
 
 pub returns-in-Ok : goal.returns-in-Ok
-returns-in-Ok g c docket from to before after asked kept same =
+returns-in-Ok g c docket from to before after asked same =
     let wanted : List ℕ = text_of_calendar docket.court docket.history from to in
     some_left c.with.result.left c.in-Ok.left (TellsNothing (cow_str_bytes c.with.result.text) c.with.result.status)
     (λ left. IsCleanLeft left → HasTold wanted before after (cow_str_bytes c.with.result.text) c.with.result.status × LeavesRows left (rows_told docket) (rows_told docket)) c.with.ensures.left
     (answered c.args.ended (λ it. it.left) IsCleanLeft (λ it. it.outcome) (ListsTo docket.court docket.history from to before after)
     c.in-Ok.end c.in-Ok.left (λ left. LeavesRows left (rows_told docket) (rows_told docket)) (HasTold wanted before after (cow_str_bytes c.with.result.text) c.with.result.status)
-    asked kept c.in-Ok.ensures.done (λ lists.
+    asked.0 asked.1 c.in-Ok.ensures.done (λ lists.
     subst₂ (λ text status. HasTold wanted before after text status) (sym (ap cow_str_bytes c.with.ensures.text ∙ c.of.ensures.text))
     (sym (c.with.ensures.status ∙ c.of.ensures.status)) (c.calendar_told.ensures docket.court docket.history from to before after lists)))
 
 pub returns-in-Err : goal.returns-in-Err
-returns-in-Err g c docket from to before after asked kept same =
+returns-in-Err g c docket from to before after asked same =
     let ended = c.in-Err.ensures.done in
     let wanted : List ℕ = text_of_calendar docket.court docket.history from to in
     unwritten c.args.ended (λ it. it.left) IsCleanLeft (λ it. it.outcome) (λ left. LeavesRows left (rows_told docket) (rows_told docket)) _
-    (after ≡ before) (HasTold wanted before after (cow_str_bytes c.in-Err.end.text) c.in-Err.end.status) c.in-Err.end.left kept same (λ unchanged.
+    (after ≡ before) (HasTold wanted before after (cow_str_bytes c.in-Err.end.text) c.in-Err.end.status) c.in-Err.end.left asked.1 same (λ unchanged.
     let none : HasFront before after (wanted) = record { out = []; lost = wanted; whole = refl; appends = subst (λ a. Appends before a []) (sym unchanged) (nothing_more before) } in
     subst (λ status. HasTold wanted before after (cow_str_bytes c.in-Err.end.text) status) (sym ended.0.0) (none, ended.0.1)) ended.1 ended.0

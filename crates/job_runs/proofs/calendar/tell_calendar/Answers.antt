@@ -6,6 +6,6 @@ pub returns : goal.returns
 returns g c = record {
   told = λ docket is files.
       let ended = c.calendar_on_file-ended in
-      c.end_calendar.ensures docket c.args.from c.args.to _ _ (ended.ensures.told docket is files) (ended.ensures.stays docket files)
+      c.end_calendar.ensures docket c.args.from c.args.to _ _ (ended.ensures.told docket is files, ended.ensures.stays docket files)
       (unbegun ended.result (λ it. it.outcome) _ _ (ap g.W.Write.contents) ended.ensures.unwritten);
 }

@@ -10,16 +10,16 @@ use Rattle.job_runs.proofs.rules.end_with_text.Goals as goal
 
 pub returns-in-Ok : goal.returns-in-Ok
 returns-in-Ok g c = record {
-  told = λ docket wanted asked kept.
+  told = λ docket wanted asked.
       some_left c.with.result.left c.in-Ok.left _ _ c.with.ensures.left (answered c.args.ended (λ it. it.left) IsCleanLeft (λ it. it.outcome) (AnswersTo (λ text. string_bytes text ≡ wanted))
-      c.in-Ok.answer c.in-Ok.left (λ left. LeavesRows left (rows_told docket) (rows_told docket)) _ asked kept c.in-Ok.ensures.done (λ answers.
+      c.in-Ok.answer c.in-Ok.left (λ left. LeavesRows left (rows_told docket) (rows_told docket)) _ asked.0 asked.1 c.in-Ok.ensures.done (λ answers.
       subst₂ (λ text status. TellsText wanted (cow_str_bytes text) status) (sym c.with.ensures.text) (sym c.with.ensures.status) (c.text_told.ensures.told wanted answers)));
 }
 
 pub returns-in-Err : goal.returns-in-Err
 returns-in-Err g c = record {
-  told = λ docket wanted asked kept.
+  told = λ docket wanted asked.
       let ended = c.in-Err.ensures.done in
       unasked c.args.ended (λ it. it.left) IsCleanLeft (λ it. it.outcome) (λ left. LeavesRows left (rows_told docket) (rows_told docket)) _ _ c.in-Err.end.left
-      kept ended.1 ended.0 (subst (λ s. TellsText wanted (cow_str_bytes c.in-Err.end.text) s) (sym ended.0.0) ended.0.1);
+      asked.1 ended.1 ended.0 (subst (λ s. TellsText wanted (cow_str_bytes c.in-Err.end.text) s) (sym ended.0.0) ended.0.1);
 }

@@ -5,5 +5,5 @@ use Rattle.job_runs.proofs.rules.tell_rules.Goals as goal
 pub returns : goal.returns
 returns g c = record {
   told = λ docket is files.
-      c.end_with_text.ensures.told docket (rules_text (local_rule_rows docket.history)) (c.rules_on_file-ended.ensures.told docket is files) (c.rules_on_file-ended.ensures.stays docket files);
+      c.end_with_text.ensures.told docket (rules_text (local_rule_rows docket.history)) (c.rules_on_file-ended.ensures.told docket is files, c.rules_on_file-ended.ensures.stays docket files);
 }

@@ -6,7 +6,7 @@ use Rattle.job_runs.proofs.sheet.tell_sheet.Goals as goal
 
 pub returns-clause-told : goal.returns-clause-told
 returns-clause-told g c docket is files =
-    c.end_if_any.ensures.told docket (page_of_sheet docket.court docket.history c.args.number) (c.sheet_on_file-ended.ensures.told docket is files) (c.sheet_on_file-ended.ensures.stays docket files)
+    c.end_if_any.ensures.told docket (page_of_sheet docket.court docket.history c.args.number) (c.sheet_on_file-ended.ensures.told docket is files, c.sheet_on_file-ended.ensures.stays docket files)
 
 pub returns-clause-missing : goal.returns-clause-missing
 returns-clause-missing g c =
