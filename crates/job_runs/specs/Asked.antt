@@ -10,7 +10,7 @@ use Rattle.file_dockets.specs.Works.{WorksTo}
 use Rattle.file_dockets.specs.declared.ended.Ended.{Ended}
 
 module _ {D : Type 0} {g : Ghosts D} {T Y : Type 0} where
-  -- on an honest disk the docket was asked, and this is so of the answer; and it is left as it was
+  -- where the files were let go clean this is so of the answer, if neither memory nor the store failed; and the docket is left as it was
   abbrev pub IsAsked : Docket → (T → Type 0) → Result (Ended D T AdoptFault g) Y → Type 0
   IsAsked docket P ended =
       IfOk ended (λ it. IsCleanLeft it.left → WorksTo P it.outcome) × IfOk ended (λ it. IsCleanLeft it.left → LeavesRows it.left (rows_told docket) (rows_told docket))
