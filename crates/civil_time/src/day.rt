@@ -17,7 +17,7 @@ const LAST_DAY: i32 = 741_441;
 const DAYS_BEFORE_1970: i64 = 4_371_587;
 
 /// A day from 1980-01-01 to 3999-12-31, seen as its number: the days since 1970-01-01.
-#[derive(Clone, Copy, Debug, PartialEq, Eq, PartialOrd, Ord, Hash)]
+#[derive(Clone, Copy, PartialEq, Eq, PartialOrd, Ord)]
 pub struct Day {
     number: u32,
 }

@@ -8,7 +8,7 @@ use jiff_core::civil::{Date, Weekday};
 use std::marker::Model;
 
 /// A date of each year: a weekday of a month, by its number in the month.
-#[derive(Clone, Copy, Debug, PartialEq, Eq)]
+#[derive(Clone, Copy)]
 pub struct ChangeDate {
     /// 2, February, to 11, November.
     pub month: u8,
@@ -20,14 +20,14 @@ pub struct ChangeDate {
 
 /// Summer time (daylight saving time), one hour ahead of standard time: it begins at 02:00 standard
 /// time on the first date of each year and ends at 02:00 summer time on the second.
-#[derive(Clone, Copy, Debug, PartialEq, Eq)]
+#[derive(Clone, Copy)]
 pub struct SummerTime {
     pub begins: ChangeDate,
     pub ends: ChangeDate,
 }
 
 /// A zone of up to 12 whole hours west or east of Greenwich, with or without summer time.
-#[derive(Clone, Copy, Debug, PartialEq, Eq)]
+#[derive(Clone, Copy)]
 pub struct Zone {
     pub(crate) hours_west: i8,
     pub(crate) summer: Option<SummerTime>,

@@ -8,7 +8,7 @@ use line_io::LineFault;
 use std::fmt;
 
 /// Why a run ended before its input did. What went out is a front of its answers.
-#[derive(Clone, Copy, Debug, PartialEq, Eq)]
+#[derive(Clone, Copy)]
 pub enum RunFault {
     /// A read failed, or 4,294,967,295 reads came to no end.
     ReadFailed,

@@ -7,7 +7,7 @@ use court_days::{Day, day_bytes};
 use std::alloc::AllocError;
 
 /// The answer to a line.
-#[derive(Clone, Copy, Debug, PartialEq, Eq)]
+#[derive(Clone, Copy)]
 pub enum Answer {
     /// To an empty line: an empty line.
     Empty,

@@ -23,7 +23,7 @@ use std::alloc::{AllocError, Global};
 use std::io::{Read, Write};
 
 /// Answers lines by what the lines before them entered.
-#[derive(Debug, Drop)]
+#[derive(Drop)]
 pub struct Counter {
     alloc: Global,
     court: Court,

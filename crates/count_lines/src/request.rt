@@ -12,7 +12,7 @@ use std::alloc::{AllocError, Global};
 use std::str;
 
 /// What a line asks for.
-#[derive(Debug, Drop)]
+#[derive(Drop)]
 pub enum Request {
     /// `federal DAY`, `state DAY` or `closed DAY`: enter the day under its kind.
     Enter(DayKind, Day),

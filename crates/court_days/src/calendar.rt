@@ -33,7 +33,7 @@ const MAX_ROWS: usize = 4000;
 
 /// Which way a period is counted (Fed. R. Civ. P. 6(a)(5)): `Forward` after an event, `Backward`
 /// before one.
-#[derive(Clone, Copy, Debug, PartialEq, Eq, Hash)]
+#[derive(Clone, Copy, PartialEq, Eq)]
 pub enum Direction {
     Forward,
     Backward,
@@ -42,7 +42,7 @@ pub enum Direction {
 /// What a day is entered as: a holiday that the President or Congress declared (Fed. R. Civ. P.
 /// 6(a)(6)(B)), one that the state declared (6(a)(6)(C)), or a day on which the clerk's office was
 /// inaccessible (6(a)(3)).
-#[derive(Clone, Copy, Debug, PartialEq, Eq, Hash)]
+#[derive(Clone, Copy, PartialEq, Eq)]
 pub enum DayKind {
     Federal,
     State,
@@ -52,7 +52,7 @@ pub enum DayKind {
 /// Why a day or a span was not entered: the day is not one of 2000-01-01 to 2099-12-31, the minute at
 /// which the office closes is none of a day, or the span is empty or not within 1999-12-31T00:00Z to
 /// 2100-01-02T00:00Z; the calendar holds 4,000 rows already; or memory ran out.
-#[derive(Clone, Copy, Debug, PartialEq, Eq, Hash)]
+#[derive(Clone, Copy, PartialEq, Eq)]
 pub enum CalendarFault {
     OutOfRange,
     Full,
@@ -62,7 +62,7 @@ pub enum CalendarFault {
 /// What a court has entered: days of 2000-01-01 to 2099-12-31, each once under a kind, spans of time
 /// in which the clerk's office was closed, each once, and days on which it is scheduled to close
 /// earlier, each once. Together they are at most 4,000 rows.
-#[derive(Debug, Drop)]
+#[derive(Drop)]
 pub struct Calendar {
     federal: DaySet,
     state: DaySet,

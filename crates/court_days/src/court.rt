@@ -17,7 +17,7 @@ const MINUTES_OF_A_DAY: u32 = 1440;
 
 /// Why a court was not read: the first text spells no zone, the second no closing time, or memory ran
 /// out.
-#[derive(Clone, Copy, Debug, PartialEq, Eq, Hash)]
+#[derive(Clone, Copy, PartialEq, Eq)]
 pub enum CourtFault {
     BadZone,
     BadClose,
@@ -36,7 +36,7 @@ impl From<AllocError> for CourtFault {
 }
 
 /// The zone of a court, and when the clerk's office closes.
-#[derive(Debug, Drop)]
+#[derive(Drop)]
 pub struct Court {
     zone: Zone,
     zone_text: String,

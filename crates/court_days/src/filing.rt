@@ -8,14 +8,14 @@ use crate::court::Court;
 use civil_time::Day;
 
 /// When a period ends: with a day, or at an instant, in seconds since 1970-01-01T00:00Z.
-#[derive(Clone, Copy, Debug, PartialEq, Eq, Hash)]
+#[derive(Clone, Copy)]
 pub enum End {
     LastDay(Day),
     Moment(i64),
 }
 
 /// How a paper is filed: electronically, or at the clerk's office.
-#[derive(Clone, Copy, Debug, PartialEq, Eq, Hash)]
+#[derive(Clone, Copy, PartialEq, Eq)]
 pub enum Way {
     Electronic,
     Office,

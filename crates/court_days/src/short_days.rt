@@ -10,7 +10,7 @@ use std::alloc::{AllocFailed, Global};
 use std::marker::Model;
 
 /// Days in ascending order, each of them once, and the minute of each at which the office closes.
-#[derive(Debug, Drop)]
+#[derive(Drop)]
 pub(crate) struct ShortDays {
     closings: Vec<(Day, u32)>,
 }

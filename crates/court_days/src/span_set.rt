@@ -8,14 +8,14 @@ use std::alloc::{AllocFailed, Global};
 use std::marker::Model;
 
 /// The instants from `start` up to but not with `end`, in seconds since 1970-01-01T00:00Z.
-#[derive(Clone, Copy, Debug, PartialEq, Eq)]
+#[derive(Clone, Copy)]
 pub(crate) struct Span {
     pub(crate) start: u64,
     pub(crate) end: u64,
 }
 
 /// Spans, each of them once.
-#[derive(Debug, Drop)]
+#[derive(Drop)]
 pub(crate) struct SpanSet {
     spans: Vec<Span>,
 }

@@ -13,7 +13,7 @@ const SUNDAY: u32 = 0;
 const SATURDAY: u32 = 6;
 
 /// Why no period ends on a day: each cause that is true of the day.
-#[derive(Clone, Copy, Debug, PartialEq, Eq, Hash)]
+#[derive(Clone, Copy)]
 pub struct Causes {
     /// It is a Saturday (Fed. R. Civ. P. 6(a)(1)(C)).
     pub saturday: bool,

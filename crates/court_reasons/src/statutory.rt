@@ -14,7 +14,7 @@ const THURSDAY: u32 = 4;
 const FRIDAY: u32 = 5;
 
 /// A holiday of statute.
-#[derive(Clone, Copy, Debug, PartialEq, Eq, Hash)]
+#[derive(Clone, Copy)]
 pub enum Holiday {
     NewYear,
     King,
@@ -31,7 +31,7 @@ pub enum Holiday {
 
 /// A holiday of statute as a day has it: the holiday itself, or the day on which one of a fixed
 /// date that falls on a Saturday or a Sunday is observed.
-#[derive(Clone, Copy, Debug, PartialEq, Eq, Hash)]
+#[derive(Clone, Copy)]
 pub struct StatutoryHoliday {
     pub holiday: Holiday,
     pub observed: bool,

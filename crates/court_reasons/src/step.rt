@@ -8,7 +8,7 @@ use std::alloc::{AllocError, Global};
 use std::marker::Model;
 
 /// A step on the way from the first act of a deadline to where it stands.
-#[derive(Clone, Copy, Debug, PartialEq, Eq, Hash)]
+#[derive(Clone, Copy)]
 pub enum Step {
     /// A period of days or months begins.
     Period(DayPeriod),
@@ -56,7 +56,7 @@ type Parts = (
 );
 
 /// The steps by which the standing of a deadline was found, in order.
-#[derive(Debug, Drop)]
+#[derive(Drop)]
 pub struct Reasons {
     steps: Vec<Step>,
 }

@@ -3,7 +3,7 @@ use crate::table::Period;
 use court_days::{Day, Direction, End, Way};
 
 /// A period in days or months from the day of an event.
-#[derive(Clone, Copy, Debug, PartialEq, Eq, Hash)]
+#[derive(Clone, Copy)]
 pub struct DayPeriod {
     pub trigger: Day,
     pub period: Period,
@@ -13,7 +13,7 @@ pub struct DayPeriod {
 }
 
 /// A period in hours from an instant, in seconds since 1970-01-01T00:00Z.
-#[derive(Clone, Copy, Debug, PartialEq, Eq, Hash)]
+#[derive(Clone, Copy)]
 pub struct HourPeriod {
     pub at: i64,
     pub hours: u32,
@@ -21,7 +21,7 @@ pub struct HourPeriod {
 }
 
 /// The beginning of a period.
-#[derive(Clone, Copy, Debug, PartialEq, Eq, Hash)]
+#[derive(Clone, Copy)]
 pub enum Start {
     Days(DayPeriod),
     Hours(HourPeriod),
@@ -29,7 +29,7 @@ pub enum Start {
 
 /// A rule 12 motion: by a rule 12(b) defense, for a more definite statement under rule 12(e), or to
 /// strike under rule 12(f).
-#[derive(Clone, Copy, Debug, PartialEq, Eq, Hash)]
+#[derive(Clone, Copy, PartialEq, Eq)]
 pub enum MotionKind {
     B,
     E,
@@ -37,7 +37,7 @@ pub enum MotionKind {
 }
 
 /// What happens to a deadline.
-#[derive(Clone, Copy, Debug, PartialEq, Eq, Hash)]
+#[derive(Clone, Copy)]
 pub enum Act {
     /// A period begins.
     Start(Start),
@@ -61,7 +61,7 @@ pub enum Act {
 }
 
 /// Where a deadline stands.
-#[derive(Clone, Copy, Debug, PartialEq, Eq, Hash)]
+#[derive(Clone, Copy)]
 pub enum Standing {
     /// The time runs, to this end.
     Running(End),

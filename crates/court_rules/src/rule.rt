@@ -9,7 +9,7 @@ use crate::table::{Period, RuleRow, rows};
 use court_days::Direction;
 
 /// A rule of the Federal Rules of Civil Procedure that sets a time, or a time that the court ordered.
-#[derive(Clone, Copy, Debug, PartialEq, Eq, Hash)]
+#[derive(Clone, Copy, PartialEq, Eq)]
 pub enum Rule {
     /// The answer of a defendant who was served with the summons and complaint.
     AnswerToSummons,

@@ -7,7 +7,7 @@ use crate::rule::Rule;
 use court_days::Direction;
 
 /// How long a time is.
-#[derive(Clone, Copy, Debug, PartialEq, Eq, Hash)]
+#[derive(Clone, Copy, PartialEq, Eq)]
 pub enum Period {
     Days(u32),
     Months(u32),

@@ -1,6 +1,7 @@
 //! Days to be entered in the court's calendar, as comma-separated values.
 ghost use Rattle.std.specs.Prelude.{◌≡◌, ◌≢◌, ◌++◌, ◌∷◌, [], List, ℕ, length, IfOk, IfErr, MatchBool, Some, true, ◌≤◌, option_map, option_and_then};
 ghost use Rattle.civil_time.specs.DayText.{day_of_text};
+ghost use Rattle.docket_command.specs.Words.{day_kind_named};
 ghost use Rattle.csv.specs.Records.{fields_of, field_at};
 ghost use Rattle.day_tables.specs.CalendarCsv.{is_header, field_is, text_of, row_at, IsTable, HasFault, GivesRow};
 ghost use Rattle.day_tables.specs.CsvRecords.{Record, IsAt, AreAll, BeginsWith, expected_of};
@@ -10,7 +11,7 @@ use crate::csv_fault::CsvFault;
 use civil_time::{Day, read_day};
 use court_days::DayKind;
 use csv::{ByteRecord, ErrorKind, Reader, ReaderBuilder};
-use docket_command::{NewDay, Text, Word};
+use docket_command::{NewDay, Text, from_word};
 use std::alloc::Global;
 use std::str::from_utf8;
 
@@ -104,13 +105,18 @@ fn day_of(alloc: Global, n: u32, row: &ByteRecord) -> Result<NewDay, CsvFault>
     requires { n ≤ 1000 }
     ensures { GivesRow result (row_at n (fields_of row.now)) }
 {
-    let kind = text_field(row, 0)
-        .and_then(DayKind::from_word)
-        .ok_or(CsvFault::BadRow(n))?;
+    let kind = kind_field(row, 0).ok_or(CsvFault::BadRow(n))?;
     let day = day_field(row, 1).ok_or(CsvFault::BadRow(n))?;
     let name = text_field(row, 2).ok_or(CsvFault::BadRow(n))?;
     let name = Text::from_str(alloc, name)?;
     Ok(NewDay { kind, day, name })
+}
+
+/// The kind of day whose word is the field.
+fn kind_field(row: &ByteRecord, i: usize) -> Option<DayKind>
+    ensures { result ≡ option_and_then (λ t. option_and_then day_kind_named (text_of t)) (field_at (fields_of row.now) i) }
+{
+    from_word(text_field(row, i)?)
 }
 
 fn day_field(row: &ByteRecord, i: usize) -> Option<Day>

@@ -7,7 +7,7 @@ use std::fmt;
 
 /// Why a text is no table of days: what is true of its first record that is not as it should be, or
 /// want of memory.
-#[derive(Clone, Copy, Debug, PartialEq, Eq)]
+#[derive(Clone, Copy)]
 pub enum CsvFault {
     /// It is the first of all and not `kind,day,name`, or there is none (0); or the one of this number
     /// after the first has no kind, day or name, or is the 1,001st.

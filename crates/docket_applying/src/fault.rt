@@ -19,7 +19,7 @@ use std::alloc::{AllocError, AllocFailed};
 use std::fmt;
 
 /// Why a command was not applied, or a question was not answered.
-#[derive(Clone, Copy, Debug, PartialEq, Eq)]
+#[derive(Clone, Copy)]
 pub enum Fault {
     /// The command is refused. Nothing is changed.
     Refused(Refusal),

@@ -25,7 +25,7 @@ use std::alloc::Global;
 use std::io::Write;
 
 /// Why a calendar, or another text that is written while the docket is read, was not written whole.
-#[derive(Clone, Copy, Debug, PartialEq, Eq)]
+#[derive(Clone, Copy)]
 pub enum CalendarEnd {
     /// The docket gave no more of it. A front of the text went out.
     Store(Fault),
@@ -34,7 +34,7 @@ pub enum CalendarEnd {
 }
 
 /// Why bytes and a calendar behind them were not written whole.
-#[derive(Clone, Copy, Debug, PartialEq, Eq)]
+#[derive(Clone, Copy)]
 pub enum ListingEnd {
     /// The docket gave not even a first line. Nothing was written.
     NotBegun(Fault),

@@ -2,7 +2,7 @@
 use docket_tables::ReadFault;
 
 /// Why a calendar was not written whole.
-#[derive(Clone, Copy, Debug, PartialEq, Eq)]
+#[derive(Clone, Copy)]
 pub enum Stop {
     /// There was not even a first line. Nothing was written.
     NotBegun(ReadFault),

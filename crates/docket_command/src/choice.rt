@@ -3,14 +3,14 @@ use court_rules::{DayKind, Method};
 
 /// Who declared a legal holiday: the President or Congress (Fed. R. Civ. P. 6(a)(6)(B)), or the state
 /// (6(a)(6)(C)).
-#[derive(Clone, Copy, Debug, PartialEq, Eq)]
+#[derive(Clone, Copy, PartialEq, Eq)]
 pub enum Sovereign {
     Federal,
     State,
 }
 
 /// What a party is in its case.
-#[derive(Clone, Copy, Debug, PartialEq, Eq)]
+#[derive(Clone, Copy, PartialEq, Eq)]
 pub enum Role {
     Plaintiff,
     Defendant,
@@ -21,7 +21,7 @@ pub enum Role {
 /// the United States, its agency, or its officer or employee sued only in an official capacity
 /// (12(a)(2)), or as its officer or employee sued individually for acts in connection with duties
 /// (12(a)(3)).
-#[derive(Clone, Copy, Debug, PartialEq, Eq)]
+#[derive(Clone, Copy, PartialEq, Eq)]
 pub enum Basis {
     Private,
     UnitedStates,
@@ -30,7 +30,7 @@ pub enum Basis {
 
 /// A pleading that is served on a party: a counterclaim or a crossclaim, which it is to answer (Fed.
 /// R. Civ. P. 12(a)(1)(B)), or one to which no response is allowed (12(f)(2)).
-#[derive(Clone, Copy, Debug, PartialEq, Eq)]
+#[derive(Clone, Copy, PartialEq, Eq)]
 pub enum PleadingKind {
     Counterclaim,
     Crossclaim,
@@ -39,7 +39,7 @@ pub enum PleadingKind {
 
 /// How the court rules on a motion that suspended a time (Fed. R. Civ. P. 12(a)(4)): it denies it,
 /// postpones its disposition until trial, or orders a more definite statement.
-#[derive(Clone, Copy, Debug, PartialEq, Eq)]
+#[derive(Clone, Copy, PartialEq, Eq)]
 pub enum Ruling {
     Denied,
     Postponed,
@@ -47,7 +47,7 @@ pub enum Ruling {
 }
 
 /// How an ordered period is set: as a number of days, of months or of hours, or as a fixed day.
-#[derive(Clone, Copy, Debug, PartialEq, Eq)]
+#[derive(Clone, Copy, PartialEq, Eq)]
 pub enum PeriodUnit {
     Days,
     Months,
@@ -57,7 +57,7 @@ pub enum PeriodUnit {
 
 /// How a paper after the summons is served: by one of the methods of Fed. R. Civ. P. 5(b)(2)(A) to
 /// (F).
-#[derive(Clone, Copy, Debug, PartialEq, Eq)]
+#[derive(Clone, Copy, PartialEq, Eq)]
 pub enum ServiceMethod {
     /// Handed to the person.
     A,

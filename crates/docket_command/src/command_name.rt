@@ -6,7 +6,7 @@ use crate::command::Action;
 use crate::word::Word;
 
 /// A kind of command.
-#[derive(Clone, Copy, Debug, PartialEq, Eq)]
+#[derive(Clone, Copy, PartialEq, Eq)]
 pub enum CommandName {
     DeclareDay,
     CloseDay,
@@ -33,34 +33,6 @@ pub enum CommandName {
     LocalRule,
     LocalPeriod,
 }
-
-/// All of them.
-const NAMES: [CommandName; 24] = [
-    CommandName::DeclareDay,
-    CommandName::CloseDay,
-    CommandName::CloseSpan,
-    CommandName::ShortDay,
-    CommandName::WithdrawCalendar,
-    CommandName::ImportCalendar,
-    CommandName::OpenCase,
-    CommandName::AddParty,
-    CommandName::FileEntry,
-    CommandName::ServeSummons,
-    CommandName::FileWaiver,
-    CommandName::ServePleading,
-    CommandName::OrderReply,
-    CommandName::RuleMotion,
-    CommandName::Dispose,
-    CommandName::StatementServed,
-    CommandName::NoticeHearing,
-    CommandName::OrderPeriod,
-    CommandName::EnterJudgment,
-    CommandName::Extend,
-    CommandName::Satisfy,
-    CommandName::Vacate,
-    CommandName::LocalRule,
-    CommandName::LocalPeriod,
-];
 
 impl Word for CommandName {
     ghost use Rattle.docket_command.specs.Names.{command_word, command_named};
@@ -98,8 +70,33 @@ impl Word for CommandName {
         }
     }
 
-    fn from_word(text: &str) -> Option<CommandName> {
-        NAMES.iter().copied().find(|name| name.word() == text)
+    fn values() -> &'static [CommandName] {
+        &[
+            CommandName::DeclareDay,
+            CommandName::CloseDay,
+            CommandName::CloseSpan,
+            CommandName::ShortDay,
+            CommandName::WithdrawCalendar,
+            CommandName::ImportCalendar,
+            CommandName::OpenCase,
+            CommandName::AddParty,
+            CommandName::FileEntry,
+            CommandName::ServeSummons,
+            CommandName::FileWaiver,
+            CommandName::ServePleading,
+            CommandName::OrderReply,
+            CommandName::RuleMotion,
+            CommandName::Dispose,
+            CommandName::StatementServed,
+            CommandName::NoticeHearing,
+            CommandName::OrderPeriod,
+            CommandName::EnterJudgment,
+            CommandName::Extend,
+            CommandName::Satisfy,
+            CommandName::Vacate,
+            CommandName::LocalRule,
+            CommandName::LocalPeriod,
+        ]
     }
 }
 

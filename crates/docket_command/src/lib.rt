@@ -38,4 +38,4 @@ pub use refusal::{Refusal, Reply};
 pub use service_action::{FileWaiver, OrderReply, ServePleading, ServeSummons};
 pub use time_action::{EnterJudgment, Extend, NoticeHearing, OrderPeriod, Satisfy, Vacate};
 pub use time_of_day::TimeOfDay;
-pub use word::Word;
+pub use word::{Word, from_word};

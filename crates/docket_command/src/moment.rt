@@ -16,7 +16,7 @@ const LAST_MOMENT: i64 = 64_060_329_600;
 
 /// A whole minute from 1980-01-03T00:00Z to 3999-12-29T00:00Z, seen as its instant: the seconds
 /// since 1970-01-01T00:00Z.
-#[derive(Clone, Copy, Debug, PartialEq, Eq, PartialOrd, Ord, Hash)]
+#[derive(Clone, Copy, PartialEq, Eq, PartialOrd, Ord)]
 pub struct Moment {
     seconds: u64,
 }

@@ -5,7 +5,7 @@ ghost use Rattle.docket_command.specs.Refusals.{refusal_number, refusal_name};
 use crate::field::Field;
 
 /// Why a command is refused.
-#[derive(Clone, Copy, Debug, PartialEq, Eq)]
+#[derive(Clone, Copy)]
 pub enum Refusal {
     /// The key is not 1 to 64 bytes from 0x21 to 0x7E.
     BadKey,
@@ -49,7 +49,7 @@ pub enum Refusal {
 }
 
 /// What an accepted command is answered.
-#[derive(Clone, Copy, Debug, PartialEq, Eq)]
+#[derive(Clone, Copy)]
 pub struct Reply {
     pub number: u32,
 }

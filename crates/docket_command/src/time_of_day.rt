@@ -11,7 +11,7 @@ use std::marker::Model;
 const MINUTES_OF_A_DAY: u32 = 1440;
 
 /// A minute of a day, from 00:00 to 23:59, seen as the minutes after 00:00.
-#[derive(Clone, Copy, Debug, PartialEq, Eq, PartialOrd, Ord, Hash)]
+#[derive(Clone, Copy, PartialEq, Eq, PartialOrd, Ord)]
 pub struct TimeOfDay {
     minute: u32,
 }

@@ -1,11 +1,12 @@
 //! Words that stand for the values of a type.
 ghost use Rattle.std.specs.Prelude.{◌≡◌, List, ℕ, Option};
+ghost use Rattle.docket_command.specs.Words.{named_in};
 
 use crate::choice::{Basis, PeriodUnit, PleadingKind, Role, Ruling, ServiceMethod, Sovereign};
 use court_rules::{DayKind, Direction, MotionKind, Way};
 
 /// A type each of whose values has a word.
-pub trait Word: Copy {
+pub trait Word: Copy + 'static {
     // The word of a value.
     ghost word_of: { Self → List ℕ };
 
@@ -16,9 +17,23 @@ pub trait Word: Copy {
     fn word(self) -> &'static str
         ensures { result.now ≡ word_of self };
 
-    /// The value that the word stands for, if it is one of its words.
-    fn from_word(text: &str) -> Option<Self>
-        ensures { result ≡ named text.now };
+    /// All values.
+    fn values() -> &'static [Self]
+        ensures { (text : List ℕ) → named text ≡ named_in word_of result.now text };
+}
+
+/// The value among these that the word stands for.
+fn value_among<W: Word>(values: &[W], text: &str) -> Option<W>
+    ensures { result ≡ named_in W.word_of values.now text.now }
+{
+    values.iter().copied().find(|value| value.word() == text)
+}
+
+/// The value of that type for which the word stands, if it is one of its words.
+pub fn from_word<W: Word>(text: &str) -> Option<W>
+    ensures { result ≡ W.named text.now }
+{
+    value_among(W::values(), text)
 }
 
 impl Word for Sovereign {
@@ -35,12 +50,8 @@ impl Word for Sovereign {
         }
     }
 
-    fn from_word(text: &str) -> Option<Sovereign> {
-        match text {
-            "federal" => Some(Sovereign::Federal),
-            "state" => Some(Sovereign::State),
-            _ => None,
-        }
+    fn values() -> &'static [Sovereign] {
+        &[Sovereign::Federal, Sovereign::State]
     }
 }
 
@@ -59,13 +70,8 @@ impl Word for DayKind {
         }
     }
 
-    fn from_word(text: &str) -> Option<DayKind> {
-        match text {
-            "federal" => Some(DayKind::Federal),
-            "state" => Some(DayKind::State),
-            "closed" => Some(DayKind::Closed),
-            _ => None,
-        }
+    fn values() -> &'static [DayKind] {
+        &[DayKind::Federal, DayKind::State, DayKind::Closed]
     }
 }
 
@@ -84,13 +90,8 @@ impl Word for Role {
         }
     }
 
-    fn from_word(text: &str) -> Option<Role> {
-        match text {
-            "plaintiff" => Some(Role::Plaintiff),
-            "defendant" => Some(Role::Defendant),
-            "other" => Some(Role::Other),
-            _ => None,
-        }
+    fn values() -> &'static [Role] {
+        &[Role::Plaintiff, Role::Defendant, Role::Other]
     }
 }
 
@@ -109,13 +110,8 @@ impl Word for Basis {
         }
     }
 
-    fn from_word(text: &str) -> Option<Basis> {
-        match text {
-            "private" => Some(Basis::Private),
-            "united_states" => Some(Basis::UnitedStates),
-            "officer" => Some(Basis::Officer),
-            _ => None,
-        }
+    fn values() -> &'static [Basis] {
+        &[Basis::Private, Basis::UnitedStates, Basis::Officer]
     }
 }
 
@@ -134,13 +130,12 @@ impl Word for PleadingKind {
         }
     }
 
-    fn from_word(text: &str) -> Option<PleadingKind> {
-        match text {
-            "counterclaim" => Some(PleadingKind::Counterclaim),
-            "crossclaim" => Some(PleadingKind::Crossclaim),
-            "unanswered" => Some(PleadingKind::Unanswered),
-            _ => None,
-        }
+    fn values() -> &'static [PleadingKind] {
+        &[
+            PleadingKind::Counterclaim,
+            PleadingKind::Crossclaim,
+            PleadingKind::Unanswered,
+        ]
     }
 }
 
@@ -159,13 +154,8 @@ impl Word for Ruling {
         }
     }
 
-    fn from_word(text: &str) -> Option<Ruling> {
-        match text {
-            "denied" => Some(Ruling::Denied),
-            "postponed" => Some(Ruling::Postponed),
-            "statement" => Some(Ruling::Statement),
-            _ => None,
-        }
+    fn values() -> &'static [Ruling] {
+        &[Ruling::Denied, Ruling::Postponed, Ruling::Statement]
     }
 }
 
@@ -185,14 +175,13 @@ impl Word for PeriodUnit {
         }
     }
 
-    fn from_word(text: &str) -> Option<PeriodUnit> {
-        match text {
-            "days" => Some(PeriodUnit::Days),
-            "months" => Some(PeriodUnit::Months),
-            "hours" => Some(PeriodUnit::Hours),
-            "fixed" => Some(PeriodUnit::Fixed),
-            _ => None,
-        }
+    fn values() -> &'static [PeriodUnit] {
+        &[
+            PeriodUnit::Days,
+            PeriodUnit::Months,
+            PeriodUnit::Hours,
+            PeriodUnit::Fixed,
+        ]
     }
 }
 
@@ -210,12 +199,8 @@ impl Word for Direction {
         }
     }
 
-    fn from_word(text: &str) -> Option<Direction> {
-        match text {
-            "forward" => Some(Direction::Forward),
-            "backward" => Some(Direction::Backward),
-            _ => None,
-        }
+    fn values() -> &'static [Direction] {
+        &[Direction::Forward, Direction::Backward]
     }
 }
 
@@ -233,12 +218,8 @@ impl Word for Way {
         }
     }
 
-    fn from_word(text: &str) -> Option<Way> {
-        match text {
-            "electronic" => Some(Way::Electronic),
-            "office" => Some(Way::Office),
-            _ => None,
-        }
+    fn values() -> &'static [Way] {
+        &[Way::Electronic, Way::Office]
     }
 }
 
@@ -257,13 +238,8 @@ impl Word for MotionKind {
         }
     }
 
-    fn from_word(text: &str) -> Option<MotionKind> {
-        match text {
-            "b" => Some(MotionKind::B),
-            "e" => Some(MotionKind::E),
-            "f" => Some(MotionKind::F),
-            _ => None,
-        }
+    fn values() -> &'static [MotionKind] {
+        &[MotionKind::B, MotionKind::E, MotionKind::F]
     }
 }
 
@@ -285,15 +261,14 @@ impl Word for ServiceMethod {
         }
     }
 
-    fn from_word(text: &str) -> Option<ServiceMethod> {
-        match text {
-            "A" => Some(ServiceMethod::A),
-            "B" => Some(ServiceMethod::B),
-            "C" => Some(ServiceMethod::C),
-            "D" => Some(ServiceMethod::D),
-            "E" => Some(ServiceMethod::E),
-            "F" => Some(ServiceMethod::F),
-            _ => None,
-        }
+    fn values() -> &'static [ServiceMethod] {
+        &[
+            ServiceMethod::A,
+            ServiceMethod::B,
+            ServiceMethod::C,
+            ServiceMethod::D,
+            ServiceMethod::E,
+            ServiceMethod::F,
+        ]
     }
 }

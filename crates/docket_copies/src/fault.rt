@@ -3,7 +3,7 @@ use std::alloc::AllocError;
 use std::io;
 
 /// No copy was made: a file could not be read, or what was read is no sound docket, or memory was short.
-#[derive(Clone, Copy, Debug, PartialEq, Eq)]
+#[derive(Clone, Copy)]
 pub struct NoCopy;
 
 impl From<io::Error> for NoCopy {

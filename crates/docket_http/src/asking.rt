@@ -30,7 +30,7 @@ use sqlite::Alter;
 use std::alloc::{AllocError, Global};
 
 /// How a case is told.
-#[derive(Clone, Copy, Debug, PartialEq, Eq)]
+#[derive(Clone, Copy)]
 pub(crate) enum Telling {
     Text,
     /// As a page, which a browser shows.

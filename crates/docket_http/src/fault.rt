@@ -2,7 +2,7 @@
 use std::fmt;
 
 /// Why no answer went out, or not a whole one.
-#[derive(Clone, Copy, Debug, PartialEq, Eq)]
+#[derive(Clone, Copy, PartialEq, Eq)]
 pub enum ServeFault {
     /// A read failed. Nothing was written.
     ReadFailed,

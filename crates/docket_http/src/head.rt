@@ -7,7 +7,7 @@ use http::StatusCode;
 use std::fmt;
 
 /// What a body is.
-#[derive(Clone, Copy, Debug, PartialEq, Eq)]
+#[derive(Clone, Copy)]
 pub(crate) enum Form {
     Json,
     Text,

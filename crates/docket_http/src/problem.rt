@@ -9,7 +9,7 @@ use http::StatusCode;
 use http_request::Rejection;
 
 /// Why a request has no answer from the docket.
-#[derive(Clone, Copy, Debug, PartialEq, Eq)]
+#[derive(Clone, Copy)]
 pub(crate) enum Problem {
     Rejected(Rejection),
     NoSuchCase,

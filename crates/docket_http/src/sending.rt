@@ -10,7 +10,7 @@ use line_io::{WriteFailed, write_bytes};
 use std::io::Write;
 
 /// What was answered.
-#[derive(Clone, Copy, Debug, PartialEq, Eq)]
+#[derive(Clone, Copy, PartialEq, Eq)]
 pub struct Served {
     /// The status code.
     pub status: u16,

@@ -19,7 +19,7 @@ use due_exports::Form;
 use std::alloc::{AllocError, Global};
 
 /// What the program is to do.
-#[derive(Debug, Drop)]
+#[derive(Drop)]
 pub enum Job<'a> {
     /// `count`, or no word at all: answer lines of days from the input.
     Count,

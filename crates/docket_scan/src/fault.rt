@@ -8,7 +8,7 @@ use std::alloc::AllocError;
 use std::fmt;
 
 /// Why a database was not adopted.
-#[derive(Clone, Copy, Debug, PartialEq, Eq)]
+#[derive(Clone, Copy)]
 pub enum AdoptFault {
     /// There is no table of a court, or none that can be read.
     Empty,

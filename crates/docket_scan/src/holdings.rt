@@ -7,7 +7,7 @@ ghost use Rattle.docket_scan.specs.Judging.{no_rows};
 use docket_sound::Standings;
 
 /// How many rows the tables of a docket have, and how many of its deadlines stand where.
-#[derive(Clone, Copy, Debug, PartialEq, Eq)]
+#[derive(Clone, Copy)]
 pub struct Holdings {
     pub calendar_rows: u64,
     pub local_rules: u64,

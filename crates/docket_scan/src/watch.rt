@@ -7,7 +7,7 @@ pub trait Watch {
 }
 
 /// Nobody waits.
-#[derive(Clone, Copy, Debug, PartialEq, Eq)]
+#[derive(Clone, Copy)]
 pub struct Unwatched;
 
 impl Watch for Unwatched {

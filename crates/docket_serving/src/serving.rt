@@ -15,7 +15,7 @@ use std::fmt;
 use std::io::Write;
 
 /// Why no more connections are served.
-#[derive(Clone, Copy, Debug, PartialEq, Eq)]
+#[derive(Clone, Copy)]
 pub enum ServingFault {
     /// No connection could be taken.
     AcceptFailed,

@@ -6,7 +6,7 @@ ghost use Rattle.docket_sound.specs.Standings.{counts_of_standings};
 use court_rules::Standing;
 
 /// How many deadlines stand where, by their acts.
-#[derive(Clone, Copy, Debug, PartialEq, Eq)]
+#[derive(Clone, Copy)]
 pub struct Standings {
     pub running: u64,
     pub suspended: u64,

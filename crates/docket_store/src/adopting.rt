@@ -57,7 +57,7 @@ fn judged_docket<S: Alter, W: Watch>(
 {
     match find_docket(conn, alloc, Version::KEPT, watch) {
         Ok(found) => Ok(found),
-        Err(fault) if fault == AdoptFault::NoMemory => Err(want_of_memory(conn, failure)),
+        Err(AdoptFault::NoMemory) => Err(want_of_memory(conn, failure)),
         Err(fault) => Err(fault),
     }
 }

@@ -15,7 +15,7 @@ use sqlite::{Alter, Connection, Error};
 use std::fmt;
 
 /// Why no docket was made.
-#[derive(Clone, Copy, Debug, PartialEq, Eq)]
+#[derive(Clone, Copy)]
 pub enum CreateFault {
     /// There is a table of a docket. Nothing was done.
     NotEmpty,

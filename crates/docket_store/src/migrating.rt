@@ -6,7 +6,7 @@ use docket_tables::{Table, table_name};
 use std::fmt;
 
 /// Why a docket was not migrated.
-#[derive(Clone, Copy, Debug, PartialEq, Eq)]
+#[derive(Clone, Copy)]
 pub enum MigrateFault {
     /// There is no table of a court, or none that can be read.
     Empty,

@@ -3,7 +3,7 @@ use sqlite::Error;
 use std::alloc::{AllocError, AllocFailed};
 
 /// Why a question gave no answer.
-#[derive(Clone, Copy, Debug, PartialEq, Eq)]
+#[derive(Clone, Copy)]
 pub enum ReadFault {
     /// The database failed, or memory ran out in it.
     Store(Error),
@@ -13,7 +13,7 @@ pub enum ReadFault {
 }
 
 /// Why a transaction did not stand.
-#[derive(Clone, Copy, Debug, PartialEq, Eq)]
+#[derive(Clone, Copy)]
 pub enum StoreFault {
     NoMemory,
     /// The database failed. It may be shut.

@@ -4,7 +4,7 @@ ghost use Rattle.docket_tables.specs.Tables.{layout_of};
 ghost use Rattle.docket_tables.specs.Texts.{names_in};
 
 /// A table of the docket.
-#[derive(Clone, Copy, Debug, PartialEq, Eq)]
+#[derive(Clone, Copy)]
 pub enum Table {
     /// The court of the docket, in one row.
     Court,

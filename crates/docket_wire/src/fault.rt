@@ -8,7 +8,7 @@ use docket_command::Field;
 use std::alloc::{AllocError, AllocFailed};
 
 /// Why a text is read as no command: the first of these that is true of it, or want of memory.
-#[derive(Clone, Copy, Debug, PartialEq, Eq)]
+#[derive(Clone, Copy)]
 pub enum WireFault {
     /// It is no JSON: not UTF-8, nested deeper than 127, or outside the grammar of RFC 8259.
     NotJson,

@@ -12,7 +12,7 @@ ghost use Rattle.docket_wire.specs.Members.{Gives, present, required as required
 
 use crate::fault::WireFault;
 use civil_time::{Day, day_bytes, read_day};
-use docket_command::{Field, Moment, Text, TimeOfDay, Word};
+use docket_command::{Field, Moment, Text, TimeOfDay, Word, from_word};
 use serde_json::Value;
 use std::alloc::{AllocError, Global};
 
@@ -174,7 +174,7 @@ pub(crate) fn required_text(alloc: Global, object: &Value, field: Field) -> Resu
 fn word_of_value<W: Word>(value: &Value) -> Option<W>
     ensures { result ≡ a_word W.named (view value.now) }
 {
-    W::from_word(value.as_str()?)
+    from_word(value.as_str()?)
 }
 
 /// A word that must be there.

@@ -11,7 +11,7 @@ ghost use Rattle.docket_wire.specs.Reading.{first_missing, only_known, all_known
 use crate::fault::WireFault;
 use crate::member::{present, required_text};
 use crate::table::{members_of, read_action};
-use docket_command::{Command, CommandName, Field, Word};
+use docket_command::{Command, CommandName, Field, from_word};
 use serde_json::{Map, Value};
 use std::alloc::Global;
 
@@ -68,7 +68,7 @@ fn command(alloc: Global, object: &Value) -> Result<Command, WireFault>
 fn command_name(object: &Value) -> Option<CommandName>
     ensures { result ≡ name_of_object (view object.now) }
 {
-    CommandName::from_word(object.get("do")?.as_str()?)
+    from_word(object.get("do")?.as_str()?)
 }
 
 fn first_missing(object: &Value, fields: &[Field]) -> Option<Field>

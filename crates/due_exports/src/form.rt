@@ -1,7 +1,7 @@
 //! The formats.
 
 /// The format of an export.
-#[derive(Clone, Copy, Debug, PartialEq, Eq)]
+#[derive(Clone, Copy)]
 pub enum Form {
     /// iCalendar, an event a deadline.
     Calendar,

@@ -24,7 +24,7 @@ use std::alloc::{AllocError, Global};
 use std::io::{Read, Write};
 
 /// Answers each line that asks for an end by its reasons, and any other as `count` does.
-#[derive(Debug, Drop)]
+#[derive(Drop)]
 struct Explainer {
     alloc: Global,
     counter: Counter,

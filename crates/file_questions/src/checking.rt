@@ -9,7 +9,7 @@ use sqlite::Alter;
 use std::alloc::{AllocError, Global};
 
 /// A sound docket: the text of its court's zone, when the clerk's office closes, and what its tables hold.
-#[derive(Debug, Drop)]
+#[derive(Drop)]
 pub struct Sound {
     pub zone: String,
     pub close: TimeOfDay,

@@ -25,7 +25,7 @@ use std::alloc::Global;
 use std::io::Write;
 
 /// Which deadlines are exported, and how.
-#[derive(Clone, Copy, Debug)]
+#[derive(Clone, Copy)]
 pub struct Export {
     /// The first day.
     pub from: Day,

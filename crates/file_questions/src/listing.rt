@@ -24,7 +24,7 @@ use std::io::Write;
 const MAX_CASES: u32 = 100_000;
 
 /// Which cases are listed.
-#[derive(Clone, Copy, Debug)]
+#[derive(Clone, Copy)]
 pub struct Wanted<'a> {
     /// The label that a case has; any where none is given.
     pub label: Option<&'a str>,

@@ -15,7 +15,7 @@ use std::net::TcpListener;
 use std::rt::HostRuntime;
 
 /// At which port of this machine a docket is served, to how many connections, and by which routes.
-#[derive(Clone, Copy, Debug, PartialEq, Eq)]
+#[derive(Clone, Copy)]
 pub struct Service {
     pub port: u16,
     pub count: u32,
@@ -23,7 +23,7 @@ pub struct Service {
 }
 
 /// Why a docket was not served to the end.
-#[derive(Clone, Copy, Debug, PartialEq, Eq)]
+#[derive(Clone, Copy)]
 pub enum ServeEnd {
     /// Nobody can listen at the port.
     NotListening(ErrorKind),

@@ -9,7 +9,7 @@ const MAX_HEAD: usize = 8192;
 const TOO_MANY_LINES: u32 = 66;
 
 /// What has come of a line.
-#[derive(Clone, Copy, Debug, PartialEq, Eq)]
+#[derive(Clone, Copy)]
 pub enum Line {
     Empty,
     Return,
@@ -17,7 +17,7 @@ pub enum Line {
 }
 
 /// How far the search has come: the bytes, the non-empty lines and the line that is coming.
-#[derive(Clone, Copy, Debug, PartialEq, Eq)]
+#[derive(Clone, Copy)]
 pub struct Scan {
     pub len: usize,
     pub lines: u32,
@@ -25,7 +25,7 @@ pub struct Scan {
 }
 
 /// What the search found: it needs more, a head of so many bytes, or no end in time.
-#[derive(Clone, Copy, Debug, PartialEq, Eq)]
+#[derive(Clone, Copy)]
 pub enum HeadSearch {
     More(Scan),
     Head(usize),

@@ -8,7 +8,7 @@ use crate::head::{HeadSearch, START, search};
 use std::io::Read;
 
 /// Why no more came.
-#[derive(Clone, Copy, Debug, PartialEq, Eq)]
+#[derive(Clone, Copy)]
 pub enum InputFault {
     ReadFailed,
     EndedEarly,
@@ -16,7 +16,7 @@ pub enum InputFault {
 }
 
 /// How the search for a head ended.
-#[derive(Clone, Copy, Debug, PartialEq, Eq)]
+#[derive(Clone, Copy)]
 pub enum HeadEnd {
     At(usize),
     TooLong,

@@ -12,7 +12,7 @@ use civil_time::Day;
 use matchit::Router;
 
 /// Which routes are served.
-#[derive(Clone, Copy, Debug, PartialEq, Eq)]
+#[derive(Clone, Copy)]
 pub enum Routes {
     /// The five of the docket.
     Docket,
@@ -21,7 +21,7 @@ pub enum Routes {
 }
 
 /// A page of a docket.
-#[derive(Clone, Copy, Debug, PartialEq, Eq)]
+#[derive(Clone, Copy)]
 pub enum Page {
     /// The list of cases from that number on, 1 to 100,000, the most cases that a docket has.
     Cases(u32),

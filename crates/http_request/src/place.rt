@@ -9,7 +9,7 @@ use crate::route::Route;
 use matchit::{Params, Router};
 
 /// A route, and the texts in the place of its parameters. A route has up to two.
-#[derive(Clone, Copy, Debug, PartialEq, Eq)]
+#[derive(Clone, Copy)]
 pub struct RouteMatch<'p> {
     pub route: Route,
     pub first: &'p str,

@@ -6,7 +6,7 @@ use matchit::{InsertError, Router};
 use std::alloc::Global;
 
 /// What a path asks for.
-#[derive(Clone, Copy, Debug, PartialEq, Eq)]
+#[derive(Clone, Copy)]
 pub enum Route {
     Commands,
     Case,

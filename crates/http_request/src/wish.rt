@@ -26,7 +26,7 @@ use std::str::from_utf8;
 const MAX_FIELDS: usize = 64;
 
 /// What a request asks for.
-#[derive(Clone, Copy, Debug, PartialEq, Eq)]
+#[derive(Clone, Copy)]
 pub enum Wish {
     Reject(Rejection),
     /// A command, whose text is the body of so many bytes.

@@ -8,7 +8,7 @@ use std::{fmt, fs};
 const MAGIC: &[u8; 16] = b"SQLite format 3\0";
 
 /// Why no database was opened.
-#[derive(Clone, Copy, Debug, PartialEq, Eq)]
+#[derive(Clone, Copy)]
 pub enum FileFault {
     Missing,
     NotAFile,

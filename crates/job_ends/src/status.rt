@@ -1,7 +1,7 @@
 //! How a job ended.
 
 /// How a job ended, for the exit status of the program.
-#[derive(Clone, Copy, Debug, PartialEq, Eq)]
+#[derive(Clone, Copy)]
 pub enum Status {
     /// It was done, and nothing was refused or bad.
     Done,

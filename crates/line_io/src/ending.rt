@@ -1,7 +1,7 @@
 //! How a run over lines ends.
 
 /// How many lines were answered, and how many of the answers count as bad.
-#[derive(Clone, Copy, Debug, PartialEq, Eq)]
+#[derive(Clone, Copy, PartialEq, Eq)]
 pub struct CountEnd {
     /// The lines that were answered.
     pub lines: u64,
@@ -10,7 +10,7 @@ pub struct CountEnd {
 }
 
 /// Why a run over lines ended before its input did. `E` is why an `Answerer` may fail.
-#[derive(Clone, Copy, Debug, PartialEq, Eq)]
+#[derive(Clone, Copy, PartialEq, Eq)]
 pub enum LineFault<E> {
     /// A read failed, or 4,294,967,295 reads did not reach the end.
     ReadFailed,

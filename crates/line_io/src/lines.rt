@@ -13,7 +13,7 @@ use std::alloc::AllocError;
 use std::io::Write;
 
 /// How far a run has come between two bytes of its input.
-#[derive(Debug, Drop)]
+#[derive(Drop)]
 pub(crate) struct Progress {
     /// What has come of a line that goes on, but only as much as tells whether it is too long.
     pub(crate) kept: Vec<u8>,

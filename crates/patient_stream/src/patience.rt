@@ -9,7 +9,7 @@ use std::io::ErrorKind;
 use std::time::{Clock, Duration, Instant};
 
 /// How long a peer may still be waited for, in all.
-#[derive(Clone, Copy, Debug)]
+#[derive(Clone, Copy)]
 pub(crate) struct Patience {
     pub(crate) left: Duration,
 }

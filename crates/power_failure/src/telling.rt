@@ -39,7 +39,7 @@ pub struct Told {
 }
 
 /// Why a docket was not told, or not whole.
-#[derive(Clone, Copy, Debug, PartialEq, Eq)]
+#[derive(Clone, Copy)]
 pub enum TellFault {
     Case(Fault),
     Calendar(CalendarEnd),

@@ -5,7 +5,7 @@ use docket_command::*;
 
 /// Whether the value is spelled so, and the spelling read as the value.
 fn is_spelled<W: Word + PartialEq>(value: W, word: &str) -> bool {
-    value.word() == word && W::from_word(word) == Some(value)
+    value.word() == word && from_word(word) == Some(value)
 }
 
 /// Whether words of choices are spelled so.
@@ -39,10 +39,10 @@ fn words_of_values(rt: HostRuntime) {
 
 #[test]
 fn words_of_no_value(rt: HostRuntime) {
-    assert!(rt; Sovereign::from_word("closed").is_none());
-    assert!(rt; MotionKind::from_word("E").is_none());
-    assert!(rt; ServiceMethod::from_word("d").is_none());
-    assert!(rt; CommandName::from_word("").is_none());
+    assert!(rt; from_word::<Sovereign>("closed").is_none());
+    assert!(rt; from_word::<MotionKind>("E").is_none());
+    assert!(rt; from_word::<ServiceMethod>("d").is_none());
+    assert!(rt; from_word::<CommandName>("").is_none());
 }
 
 /// Whether the refusal has that number and name.

@@ -32,7 +32,7 @@ END:VEVENT\r
 
 /// Whether that is the second entry of an export, written at the beginning of 2025-06-01.
 fn is_entry(alloc: Global, form: Form, end: End, text: &str) -> Result<bool, Fail> {
-    let court = Court::read(alloc, "EST5EDT,M3.2.0,M11.1.0", "17:00")?;
+    let court = Court::read(alloc, "EST5EDT,M3.2.0,M11.1.0", "17:00").or(Err("no court"))?;
     let case = case(alloc)?;
     let due = due(alloc, end)?;
     let entry = Entry {

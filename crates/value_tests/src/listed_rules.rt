@@ -1,10 +1,8 @@
 //! The text of the rules, set by hand from their table.
+use crate::rules::local_rule;
 use court_days::Direction;
-use court_rules::LocalRule;
-use docket_command::Text;
 use docket_history::LocalRuleRow;
 use docket_text::rules_text;
-use std::alloc::{AllocError, Global};
 use std::test::Fail;
 
 const TABLE: &str = "\
@@ -33,23 +31,14 @@ order               - -      -        three days -          extendable
 
 const LOCAL: &str = "LR7.1-opp          14 days   backward -          -          extendable\n";
 
-fn local_rule(alloc: Global) -> Result<LocalRuleRow, AllocError> {
-    let rule = LocalRule {
-        name: Text::from_str(alloc, "LR7.1-opp")?,
-        days: 14,
-        direction: Direction::Backward,
-        three: false,
-        extendable: true,
-    };
-    Ok(LocalRuleRow { number: 1, rule })
-}
-
 #[test]
 fn rules_are_listed(rt: HostRuntime) -> Result<(), Fail> {
     let alloc = rt.alloc();
     let table = rules_text(alloc, &[])?;
     assert!(rt; table.as_str() == TABLE);
-    let text = rules_text(alloc, &[local_rule(alloc)?])?;
+    let mut rule = local_rule(alloc, false)?;
+    rule.direction = Direction::Backward;
+    let text = rules_text(alloc, &[LocalRuleRow { number: 1, rule }])?;
     assert!(rt; text.as_str().starts_with(TABLE));
     assert!(rt; text.as_str().ends_with(LOCAL));
     assert!(rt; text.len() == TABLE.len() + LOCAL.len());

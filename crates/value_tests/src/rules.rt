@@ -96,7 +96,7 @@ fn the_methods(rt: HostRuntime) {
 }
 
 /// A rule of fourteen days forward of a court's own.
-fn local_rule(alloc: Global, three: bool) -> Result<LocalRule, AllocError> {
+pub(crate) fn local_rule(alloc: Global, three: bool) -> Result<LocalRule, AllocError> {
     Ok(LocalRule {
         name: Text::from_str(alloc, "LR7.1-opp")?,
         days: 14,

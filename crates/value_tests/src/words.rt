@@ -1,7 +1,8 @@
 //! The words of the command line, and what they ask for.
 
-use court_days::Court;
+use court_days::{Court, Day};
 use docket_jobs::{Job, read_job};
+use due_exports::Form;
 use std::alloc::{AllocError, Global};
 
 /// The words of a line.
@@ -71,19 +72,19 @@ const JOBS: [(&str, &str); 38] = [
     ),
     (
         "docketctl export --db court.db 2025-07-01 2025-07-31 --as ics",
-        "export court.db 20270 20300 Calendar",
+        "export court.db 20270 20300 ics",
     ),
     (
         "docketctl export 1980-01-01 1980-01-01 --as=html --db=court.db",
-        "export court.db 3652 3652 Html",
+        "export court.db 3652 3652 html",
     ),
     (
         "docketctl export --as csv 2025-07-01 --db court.db 2025-07-01",
-        "export court.db 20270 20270 Csv",
+        "export court.db 20270 20270 csv",
     ),
     (
         "docketctl export --db court.db --as json 2025-07-01 2025-07-31",
-        "export court.db 20270 20300 Json",
+        "export court.db 20270 20300 json",
     ),
     (
         "docketctl export --db court.db --case 1 --as html",
@@ -132,6 +133,22 @@ const JOBS: [(&str, &str); 38] = [
     ),
 ];
 
+/// An export in words.
+fn told_export(
+    alloc: Global,
+    file: &str,
+    (from, to): (Day, Day),
+    form: Form,
+) -> Result<String, AllocError> {
+    let form = match form {
+        Form::Calendar => "ics",
+        Form::Html => "html",
+        Form::Csv => "csv",
+        Form::Json => "json",
+    };
+    format!(in alloc; "export {file} {} {} {form}", from.number(), to.number())
+}
+
 /// A job in words.
 fn told(alloc: Global, job: &Job<'_>) -> Result<String, AllocError> {
     match job {
@@ -150,7 +167,7 @@ fn told(alloc: Global, job: &Job<'_>) -> Result<String, AllocError> {
             from,
             to,
             form,
-        } => { format!(in alloc; "export {file} {} {} {form:?}", from.number(), to.number()) }
+        } => told_export(alloc, file, (*from, *to), *form),
         Job::Sheet { file, number } => format!(in alloc; "sheet {file} {number}"),
         Job::Explain {
             file,

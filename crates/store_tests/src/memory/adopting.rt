@@ -1,10 +1,9 @@
 //! Which databases are taken for a docket's, and in which one is made.
 use super::created;
 use crate::asking::{OPENING, Step, answers, court};
-use docket_store::{AdoptFault, CreateFault, Docket, Unwatched};
-use docket_tables::Table;
+use docket_store::{Docket, Unwatched};
 use sqlite::{Alter, Connection, Error, MemStore};
-use std::alloc::Global;
+use std::alloc::{AllocError, Global};
 use std::test::Fail;
 
 pub(super) type Database = Connection<MemStore>;
@@ -16,28 +15,28 @@ fn adopted<S: Alter + Drop>(alloc: Global, conn: Connection<S>) -> Result<Docket
     }
 }
 
-/// Why the database is not adopted, and the database.
+/// Why the database is not adopted, as it is told, or nothing; and the database.
 pub(super) fn adopt_fault<S: Alter + Drop>(
     alloc: Global,
     conn: Connection<S>,
-) -> (Option<AdoptFault>, Connection<S>) {
+) -> (Result<String, AllocError>, Connection<S>) {
     match Docket::adopt(alloc, conn) {
-        Ok(docket) => (None, docket.close()),
-        Err(returned) => (Some(returned.fault), returned.connection),
+        Ok(docket) => (Ok(String::new(alloc)), docket.close()),
+        Err(returned) => (format!(in alloc; "{}", returned.fault), returned.connection),
     }
 }
 
-/// Why no docket is made in the database, and the database.
+/// Why no docket is made in the database, as it is told, or nothing; and the database.
 fn create_fault<S: Alter + Drop>(
     alloc: Global,
     conn: Connection<S>,
-) -> (Option<CreateFault>, Connection<S>) {
+) -> (Result<String, AllocError>, Connection<S>) {
     let Some(court) = court(alloc) else {
-        return (None, conn);
+        return (Ok(String::new(alloc)), conn);
     };
     match Docket::create(alloc, conn, court) {
-        Ok(docket) => (None, docket.close()),
-        Err(returned) => (Some(returned.fault), returned.connection),
+        Ok(docket) => (Ok(String::new(alloc)), docket.close()),
+        Err(returned) => (format!(in alloc; "{}", returned.fault), returned.connection),
     }
 }
 
@@ -108,7 +107,7 @@ fn docket_goes_on_where_it_was(rt: HostRuntime) -> Result<(), Fail> {
     assert!(rt; docket.court().close_minute() == 1020);
     assert!(rt; answers(alloc, &mut docket, &GOING_ON));
     let (fault, conn) = create_fault(alloc, docket.close());
-    assert!(rt; fault == Some(CreateFault::NotEmpty));
+    assert!(rt; fault?.as_str() == "the database holds a docket");
     let mut docket = adopted(alloc, conn)?;
     assert!(rt; answers(alloc, &mut docket, &LATER));
     Ok(())
@@ -118,9 +117,9 @@ fn docket_goes_on_where_it_was(rt: HostRuntime) -> Result<(), Fail> {
 fn docket_is_made_where_nothing_is(rt: HostRuntime) -> Result<(), Fail> {
     let alloc = rt.alloc();
     let (fault, conn) = adopt_fault(alloc, Connection::open_in_memory(alloc)?);
-    assert!(rt; fault == Some(AdoptFault::Empty));
+    assert!(rt; fault?.as_str() == "the database holds no docket");
     let (fault, conn) = create_fault(alloc, conn);
-    assert!(rt; fault.is_none());
+    assert!(rt; fault?.is_empty());
     let mut docket = adopted(alloc, conn)?;
     assert!(rt; answers(alloc, &mut docket, &OPENING));
     Ok(())
@@ -138,9 +137,9 @@ fn other_tables_are_left_alone(rt: HostRuntime) -> Result<(), Fail> {
         "CREATE TABLE note (id INTEGER PRIMARY KEY, body TEXT NOT NULL) STRICT; INSERT INTO note (id, body) VALUES (1, 'Roe')",
     )?;
     let (fault, conn) = adopt_fault(alloc, conn);
-    assert!(rt; fault == Some(AdoptFault::Empty));
+    assert!(rt; fault?.as_str() == "the database holds no docket");
     let (fault, mut conn) = create_fault(alloc, conn);
-    assert!(rt; fault == Some(CreateFault::StoreFailed));
+    assert!(rt; fault?.as_str() == "the docket could not be made in the database");
     let found = count(&mut conn, "SELECT count(*) FROM note WHERE body = 'Roe'");
     assert!(rt; found == Ok(1));
     assert!(rt; conn.schema().tables.len() == 1);
@@ -149,22 +148,22 @@ fn other_tables_are_left_alone(rt: HostRuntime) -> Result<(), Fail> {
 
 // Tables under the names of a docket's, which are compared without regard to case. Of the first three
 // the court has other columns or no row.
-const NAMESAKES: [(&str, AdoptFault); 4] = [
+const NAMESAKES: [(&str, &str); 4] = [
     (
         "CREATE TABLE court (id INTEGER PRIMARY KEY, name TEXT NOT NULL) STRICT; INSERT INTO court (id, name) VALUES (1, 'E')",
-        AdoptFault::NotADocket,
+        "the database is not that of a docket",
     ),
     (
         "CREATE TABLE court (id INTEGER PRIMARY KEY, word TEXT NOT NULL, version INTEGER NOT NULL, zone TEXT NOT NULL, close INTEGER NOT NULL, next_row INTEGER NOT NULL) STRICT",
-        AdoptFault::NotADocket,
+        "the database is not that of a docket",
     ),
     (
         "CREATE TABLE Court (name TEXT NOT NULL) STRICT",
-        AdoptFault::NotADocket,
+        "the database is not that of a docket",
     ),
     (
         "CREATE TABLE receipt (id INTEGER PRIMARY KEY) STRICT",
-        AdoptFault::Empty,
+        "the database holds no docket",
     ),
 ];
 
@@ -172,30 +171,33 @@ const NAMESAKES: [(&str, AdoptFault); 4] = [
 fn namesakes_are_no_docket(rt: HostRuntime) -> Result<(), Fail> {
     for (sql, wanted) in NAMESAKES {
         let (fault, conn) = adopt_fault(rt.alloc(), database_of(rt.alloc(), sql)?);
-        assert!(rt; fault == Some(wanted), "{sql}");
+        assert!(rt; fault?.as_str() == wanted, "{sql}");
         let (fault, conn) = create_fault(rt.alloc(), conn);
-        assert!(rt; fault == Some(CreateFault::NotEmpty), "{sql}");
+        assert!(rt; fault?.as_str() == "the database holds a docket", "{sql}");
         assert!(rt; conn.schema().tables.len() == 1, "{sql}");
     }
     Ok(())
 }
 
 // What becomes of a docket whose court has another row.
-const OTHERS: [(&str, AdoptFault); 6] = [
-    ("UPDATE court SET version = 0", AdoptFault::OtherVersion),
+const OTHERS: [(&str, &str); 6] = [
+    (
+        "UPDATE court SET version = 0",
+        "the docket is laid out in another version",
+    ),
     (
         "UPDATE court SET word = 'criminal docket'",
-        AdoptFault::NotADocket,
+        "the database is not that of a docket",
     ),
-    ("UPDATE court SET id = 2", AdoptFault::Damaged(Table::Court)),
-    ("DELETE FROM court", AdoptFault::NotADocket),
+    ("UPDATE court SET id = 2", "the table court is not sound"),
+    ("DELETE FROM court", "the database is not that of a docket"),
     (
         "UPDATE court SET zone = 'EST'",
-        AdoptFault::Damaged(Table::Court),
+        "the table court is not sound",
     ),
     (
         "UPDATE court SET close = 1440",
-        AdoptFault::Damaged(Table::Court),
+        "the table court is not sound",
     ),
 ];
 
@@ -203,9 +205,9 @@ const OTHERS: [(&str, AdoptFault); 6] = [
 fn other_courts_are_told(rt: HostRuntime) -> Result<(), Fail> {
     for (sql, wanted) in OTHERS {
         let (fault, conn) = adopt_fault(rt.alloc(), docket_after(rt.alloc(), sql)?);
-        assert!(rt; fault == Some(wanted), "{sql}");
+        assert!(rt; fault?.as_str() == wanted, "{sql}");
         let (fault, _) = create_fault(rt.alloc(), conn);
-        assert!(rt; fault == Some(CreateFault::NotEmpty), "{sql}");
+        assert!(rt; fault?.as_str() == "the database holds a docket", "{sql}");
     }
     Ok(())
 }
@@ -230,41 +232,38 @@ pub(super) fn records_after(alloc: Global, sql: &str) -> Result<Database, Fail> 
 }
 
 // What one change comes to. A receipt may be missing: then its command is new when it comes again.
-const CHANGES: [(&str, Option<AdoptFault>); 10] = [
+const CHANGES: [(&str, &str); 10] = [
     (
         "UPDATE court SET version = 7",
-        Some(AdoptFault::OtherVersion),
+        "the docket is laid out in another version",
     ),
-    ("UPDATE court SET word = 'x'", Some(AdoptFault::NotADocket)),
+    (
+        "UPDATE court SET word = 'x'",
+        "the database is not that of a docket",
+    ),
     (
         "UPDATE court SET close = 1440",
-        Some(AdoptFault::Damaged(Table::Court)),
+        "the table court is not sound",
     ),
     (
         "DELETE FROM party WHERE number = 1",
-        Some(AdoptFault::Damaged(Table::Parties)),
+        "the table party is not sound",
     ),
-    (
-        "UPDATE act SET p3 = 0",
-        Some(AdoptFault::Damaged(Table::Acts)),
-    ),
+    ("UPDATE act SET p3 = 0", "the table act is not sound"),
     (
         "UPDATE receipt SET body = body || ' ' WHERE command_key = 'doe'",
-        Some(AdoptFault::Damaged(Table::Receipts)),
+        "the table receipt is not sound",
     ),
-    (
-        "UPDATE due SET day = day + 1",
-        Some(AdoptFault::Damaged(Table::Due)),
-    ),
+    ("UPDATE due SET day = day + 1", "the table due is not sound"),
     (
         "INSERT INTO short_day VALUES (1, 20276, 780, 'Christmas Eve')",
-        Some(AdoptFault::Damaged(Table::ShortDays)),
+        "the table short_day is not sound",
     ),
     (
         "INSERT INTO local_rule VALUES (1, 'local-7.1', 14, 1, 1, 1)",
-        Some(AdoptFault::Damaged(Table::LocalRules)),
+        "the table local_rule is not sound",
     ),
-    ("DELETE FROM receipt", None),
+    ("DELETE FROM receipt", ""),
 ];
 
 #[test]
@@ -272,7 +271,7 @@ fn unsound_tables_are_told(rt: HostRuntime) -> Result<(), Fail> {
     let alloc = rt.alloc();
     for (sql, wanted) in CHANGES {
         let (fault, conn) = adopt_fault(alloc, records_after(alloc, sql)?);
-        assert!(rt; fault == wanted, "{sql}");
+        assert!(rt; fault?.as_str() == wanted, "{sql}");
         assert!(rt; conn.is_autocommit(), "{sql}");
     }
     Ok(())
@@ -295,10 +294,10 @@ fn adopting_tells_how_much_there_is(rt: HostRuntime) -> Result<(), Fail> {
 fn open_transactions_are_left_open(rt: HostRuntime) -> Result<(), Fail> {
     let alloc = rt.alloc();
     let (fault, conn) = create_fault(alloc, database_of(alloc, "BEGIN")?);
-    assert!(rt; fault == Some(CreateFault::StoreFailed));
+    assert!(rt; fault?.as_str() == "the docket could not be made in the database");
     assert!(rt; !conn.is_autocommit());
     let (fault, conn) = adopt_fault(alloc, docket_after(alloc, "BEGIN")?);
-    assert!(rt; fault == Some(AdoptFault::StoreFailed));
+    assert!(rt; fault?.as_str() == "the database failed");
     assert!(rt; !conn.is_autocommit());
     Ok(())
 }

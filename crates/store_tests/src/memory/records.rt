@@ -63,9 +63,9 @@ fn is_told<S: Alter>(docket: &mut Docket<S>) -> Result<bool, Fault> {
 fn cases_are_told_by_number(rt: HostRuntime) -> Result<(), Fail> {
     let alloc = rt.alloc();
     let mut docket = created(alloc)?;
-    assert!(rt; is_none(&mut docket, 1) == Ok(true));
+    assert!(rt; matches!(is_none(&mut docket, 1), Ok(true)));
     assert!(rt; answers(alloc, &mut docket, &OPENING) && answers(alloc, &mut docket, &ENTRIES));
-    assert!(rt; is_told(&mut docket) == Ok(true));
-    assert!(rt; is_none(&mut docket, 2) == Ok(true));
+    assert!(rt; matches!(is_told(&mut docket), Ok(true)));
+    assert!(rt; matches!(is_none(&mut docket, 2), Ok(true)));
     Ok(())
 }

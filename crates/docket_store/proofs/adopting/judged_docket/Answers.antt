@@ -12,15 +12,15 @@ returns-in-Ok-clause-found g c court h is stands =
     found_docket g.S.Store c.args.conn.now c.find_docket.new.conn court h told.writes_nothing (told.mode c.requires) stands c.in-Ok.found told.told
     (λ clean. told.docket clean court h is.settings is.zone is.history is.commands tt stands)
 
+pub returns-in-Err-NoMemory-clause-found : goal.returns-in-Err-NoMemory-clause-found
+returns-in-Err-NoMemory-clause-found g c court h is stands =
+    let told = c.in-Err-NoMemory.ensures in
+    let short : c.in-Err-NoMemory.field-0 ≡ NoMemory = search rules in
+    c.want_of_memory.ensures.left (docket_rows court h)
+    (lacks_memory g.S.Store c.args.conn.now c.find_docket.new.conn court h told.writes_nothing (told.mode c.requires) stands c.in-Err-NoMemory.field-0 short told.told)
+
 pub returns-in-Err-clause-found : goal.returns-in-Err-clause-found
 returns-in-Err-clause-found g c court h is stands =
-    let told = c.in-Err.ensures in
-    let short : c.in-Err.fault ≡ NoMemory = search rules in
-    c.want_of_memory.ensures.left (docket_rows court h)
-    (lacks_memory g.S.Store c.args.conn.now c.find_docket.new.conn court h told.writes_nothing (told.mode c.requires) stands c.in-Err.fault short told.told)
-
-pub returns-in-Err-2-clause-found : goal.returns-in-Err-2-clause-found
-returns-in-Err-2-clause-found g c court h is stands =
     let told = c.in-Err.ensures in
     let other : c.in-Err.fault ≡ NoMemory → ⊥ = search rules in
     not_found g.S.Store c.args.conn.now c.find_docket.new.conn court h told.writes_nothing (told.mode c.requires) stands c.in-Err.fault other told.told
@@ -30,23 +30,23 @@ pub returns-in-Ok-clause-stays : goal.returns-in-Ok-clause-stays
 returns-in-Ok-clause-stays g c rows holds =
     taken_preserves g.S.Store c.args.conn.now c.find_docket.new.conn rows c.in-Ok.ensures.writes_nothing (c.in-Ok.ensures.mode c.requires) holds c.in-Ok.found c.in-Ok.ensures.told
 
+pub returns-in-Err-NoMemory-clause-stays : goal.returns-in-Err-NoMemory-clause-stays
+returns-in-Err-NoMemory-clause-stays g c rows holds =
+    let told = c.in-Err-NoMemory.ensures in
+    let short : c.in-Err-NoMemory.field-0 ≡ NoMemory = search rules in
+    short_rejected g.S.Store c.want_of_memory.new.conn rows c.want_of_memory.result c.want_of_memory.ensures.fault
+    (c.want_of_memory.ensures.left rows (short_lasts g.S.Store c.args.conn.now c.find_docket.new.conn rows told.writes_nothing (told.mode c.requires) holds c.in-Err-NoMemory.field-0 short told.told))
+
 pub returns-in-Err-clause-stays : goal.returns-in-Err-clause-stays
 returns-in-Err-clause-stays g c rows holds =
-    let told = c.in-Err.ensures in
-    let short : c.in-Err.fault ≡ NoMemory = search rules in
-    short_rejected g.S.Store c.want_of_memory.new.conn rows c.want_of_memory.result c.want_of_memory.ensures.fault
-    (c.want_of_memory.ensures.left rows (short_lasts g.S.Store c.args.conn.now c.find_docket.new.conn rows told.writes_nothing (told.mode c.requires) holds c.in-Err.fault short told.told))
-
-pub returns-in-Err-2-clause-stays : goal.returns-in-Err-2-clause-stays
-returns-in-Err-2-clause-stays g c rows holds =
     let told = c.in-Err.ensures in
     let other : c.in-Err.fault ≡ NoMemory → ⊥ = search rules in
     rejected_preserves g.S.Store c.args.conn.now c.find_docket.new.conn rows told.writes_nothing (told.mode c.requires) holds c.in-Err.fault other told.told
 
-pub returns-in-Err-clause-cause : goal.returns-in-Err-clause-cause
-returns-in-Err-clause-cause g c clean =
+pub returns-in-Err-NoMemory-clause-cause : goal.returns-in-Err-NoMemory-clause-cause
+returns-in-Err-NoMemory-clause-cause g c clean =
     short_opening (state g.S.Store c.args.conn.now) (state g.S.Store c.want_of_memory.new.conn) c.want_of_memory.new.failure c.want_of_memory.result c.want_of_memory.ensures.short
 
-pub returns-in-Err-2-clause-cause : goal.returns-in-Err-2-clause-cause
-returns-in-Err-2-clause-cause g c clean =
+pub returns-in-Err-clause-cause : goal.returns-in-Err-clause-cause
+returns-in-Err-clause-cause g c clean =
     failed_opening (state g.S.Store c.args.conn.now) (state g.S.Store c.find_docket.new.conn) c.args.failure.now c.in-Err.fault (c.in-Err.ensures.cause clean)
