@@ -1,7 +1,7 @@
 //! What an action is about: what it names, what it does to the court calendar, and what it asks about.
-ghost use Rattle.std.specs.Prelude.{◌≡◌, Some, map, option_copied};
+ghost use Rattle.std.specs.Prelude.{◌≡◌, None, map, option_copied};
 ghost use Rattle.std.specs.Option.{option_map};
-ghost use Rattle.docket_history.specs.Actions.{imported, local_rule_named, row_entered, rows_imported, subject_of};
+ghost use Rattle.docket_history.specs.Actions.{case_named, deadline_named, imported, local_rule_named, row_entered, rows_imported, subject_of};
 
 use crate::item::CalendarItem;
 use court_days::DayKind;
@@ -159,50 +159,78 @@ impl Subject {
     pub fn of(action: &Action) -> Subject
         ensures { result ≡ subject_of action.now }
     {
+        let (case, deadline) = case_and_deadline(action);
+        Subject {
+            case,
+            deadline,
+            ..Subject::of_kind(action)
+        }
+    }
+
+    /// What actions of its kind are about, but for what each names.
+    fn of_kind(action: &Action) -> Subject
+        ensures { result ≡ record (subject_of action.now) { case = None; deadline = None } }
+    {
         match action {
-            Action::DeclareDay(_) | Action::CloseDay(_) => DAYS,
-            Action::CloseSpan(_) | Action::ImportCalendar(_) => DAYS,
+            Action::DeclareDay(_)
+            | Action::CloseDay(_)
+            | Action::CloseSpan(_)
+            | Action::ImportCalendar(_) => DAYS,
             Action::ShortDay(_) => SHORT_DAY,
             Action::WithdrawCalendar(_) => WITHDRAWAL,
             Action::OpenCase(_) => CASE,
-            Action::AddParty(a) => PARTY.in_case(a.case),
-            Action::FileEntry(a) => ENTRY.in_case(a.case),
-            Action::ServeSummons(a) => DEADLINES_OF_PARTIES.in_case(a.case),
-            Action::FileWaiver(a) => DEADLINES_OF_PARTIES.in_case(a.case),
-            Action::ServePleading(a) => DEADLINES_OF_PARTIES.in_case(a.case),
-            Action::OrderReply(a) => DEADLINES_OF_PARTIES.in_case(a.case),
-            Action::NoticeHearing(a) => DEADLINES_OF_PARTIES.in_case(a.case),
-            Action::OrderPeriod(a) => DEADLINES_OF_PARTIES.in_case(a.case),
-            Action::LocalPeriod(a) => DEADLINES_OF_PARTIES.in_case(a.case),
-            Action::EnterJudgment(a) => DEADLINES.in_case(a.case),
-            // The statement that the court orders is a deadline of the party that is named.
-            Action::Dispose(a) => DEADLINES_OF_PARTIES.on_deadline(a.case, a.deadline),
-            Action::RuleMotion(a) => ACT.on_deadline(a.case, a.deadline),
-            Action::StatementServed(a) => ACT.on_deadline(a.case, a.deadline),
-            Action::Extend(a) => ACT.on_deadline(a.case, a.deadline),
-            Action::Satisfy(a) => ACT.on_deadline(a.case, a.deadline),
-            Action::Vacate(a) => ACT.on_deadline(a.case, a.deadline),
             Action::LocalRule(_) => LOCAL_RULE,
+            Action::AddParty(_) => PARTY,
+            Action::FileEntry(_) => ENTRY,
+            Action::EnterJudgment(_) => DEADLINES,
+            // By a ruling the court may order a statement, which is a deadline of the party that is named.
+            Action::ServeSummons(_)
+            | Action::FileWaiver(_)
+            | Action::ServePleading(_)
+            | Action::OrderReply(_)
+            | Action::NoticeHearing(_)
+            | Action::OrderPeriod(_)
+            | Action::LocalPeriod(_)
+            | Action::Dispose(_) => DEADLINES_OF_PARTIES,
+            Action::RuleMotion(_)
+            | Action::StatementServed(_)
+            | Action::Extend(_)
+            | Action::Satisfy(_)
+            | Action::Vacate(_) => ACT,
         }
     }
+}
 
-    fn in_case(self, case: u32) -> Subject
-        ensures { result ≡ record self { case = Some case } }
-    {
-        Subject {
-            case: Some(case),
-            ..self
-        }
-    }
-
-    fn on_deadline(self, case: u32, deadline: u32) -> Subject
-        ensures { result ≡ record self { case = Some case; deadline = Some deadline } }
-    {
-        Subject {
-            case: Some(case),
-            deadline: Some(deadline),
-            ..self
-        }
+/// The case that it names, and the deadline.
+fn case_and_deadline(action: &Action) -> (Option<u32>, Option<u32>)
+    ensures case { result.0 ≡ case_named action.now }
+    ensures deadline { result.1 ≡ deadline_named action.now }
+{
+    match action {
+        Action::DeclareDay(_)
+        | Action::CloseDay(_)
+        | Action::CloseSpan(_)
+        | Action::ShortDay(_)
+        | Action::ImportCalendar(_)
+        | Action::WithdrawCalendar(_)
+        | Action::OpenCase(_)
+        | Action::LocalRule(_) => (None, None),
+        Action::AddParty(a) => (Some(a.case), None),
+        Action::FileEntry(a) => (Some(a.case), None),
+        Action::ServeSummons(a) => (Some(a.case), None),
+        Action::FileWaiver(a) => (Some(a.case), None),
+        Action::ServePleading(a) => (Some(a.case), None),
+        Action::OrderReply(a) => (Some(a.case), None),
+        Action::NoticeHearing(a) => (Some(a.case), None),
+        Action::OrderPeriod(a) => (Some(a.case), None),
+        Action::LocalPeriod(a) => (Some(a.case), None),
+        Action::EnterJudgment(a) => (Some(a.case), None),
+        Action::Dispose(a) => (Some(a.case), Some(a.deadline)),
+        Action::RuleMotion(a) => (Some(a.case), Some(a.deadline)),
+        Action::StatementServed(a) => (Some(a.case), Some(a.deadline)),
+        Action::Extend(a) => (Some(a.case), Some(a.deadline)),
+        Action::Satisfy(a) => (Some(a.case), Some(a.deadline)),
+        Action::Vacate(a) => (Some(a.case), Some(a.deadline)),
     }
 }
 

@@ -253,7 +253,13 @@ impl ActCheck {
             return Ok(None);
         }
         self.close()?;
-        Ok(Some(self.dues))
+        Ok(Some(self.into_dues()))
+    }
+
+    fn into_dues(self) -> Vec<StoredEnd>
+        ensures { result.items ≡ self.dues.items }
+    {
+        self.dues
     }
 }
 

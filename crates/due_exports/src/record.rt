@@ -1,6 +1,7 @@
 //! A deadline as a record of comma-separated values.
-ghost use Rattle.std.specs.Prelude.{◌≡◌, ◌++◌, ◌∷◌, [], IfOk, OnOk, encode_utf8, option_map, unwrap_or, string_bytes};
+ghost use Rattle.std.specs.Prelude.{◌≡◌, ◌++◌, ◌∷◌, [], IfOk, OnOk, decimal, encode_utf8, option_map, unwrap_or, string_bytes};
 ghost use Rattle.csv.specs.Writing.{escaped, needs_quotes, field_text, row_body};
+ghost use Rattle.docket_text.specs.Parties.{party_text};
 ghost use Rattle.due_exports.specs.Records.{record_writer, end_fields, header_record, due_record};
 
 use crate::end_texts::end_texts;
@@ -93,6 +94,23 @@ fn push_end(
     push_next(text, closing_text(&texts.closing))
 }
 
+/// Adds a number behind the field before.
+fn push_number(text: &mut String, alloc: Global, number: u32) -> Result<(), AllocError>
+    ensures { OnOk result (string_bytes text.new ≡ string_bytes text.old ++ 44 ∷ field_text record_writer (decimal number)) }
+{
+    let number = format!(in alloc; "{number}")?;
+    push_next(text, &number)
+}
+
+/// Adds the party whose time it is behind the field before.
+fn push_party(text: &mut String, alloc: Global, party: u32) -> Result<(), AllocError>
+    ensures { OnOk result (string_bytes text.new ≡ string_bytes text.old ++ 44 ∷ field_text record_writer (party_text party)) }
+{
+    let party = PartyText(party);
+    let party = format!(in alloc; "{party}")?;
+    push_next(text, &party)
+}
+
 /// The record of a deadline.
 pub(crate) fn due_record(
     alloc: Global,
@@ -102,20 +120,14 @@ pub(crate) fn due_record(
     ensures { IfOk result (λ text. string_bytes text ≡ due_record court.now entry.now.due.now entry.now.case.now) }
 {
     let due = entry.due;
-    let case = due.case;
-    let case = format!(in alloc; "{case}")?;
-    let number = due.number;
-    let number = format!(in alloc; "{number}")?;
-    let party = PartyText(due.party);
-    let party = format!(in alloc; "{party}")?;
     let mut text = String::new(alloc);
     push_end(&mut text, alloc, court, due.close, due.end)?;
-    push_next(&mut text, &case)?;
+    push_number(&mut text, alloc, due.case)?;
     push_next(&mut text, entry.case.label.as_str())?;
     push_next(&mut text, entry.case.caption.as_str())?;
-    push_next(&mut text, &number)?;
+    push_number(&mut text, alloc, due.number)?;
     push_next(&mut text, due.rule.as_str())?;
-    push_next(&mut text, &party)?;
+    push_party(&mut text, alloc, due.party)?;
     text.push_str("\r\n")?;
     Ok(text)
 }

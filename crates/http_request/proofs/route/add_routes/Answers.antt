@@ -1,5 +1,5 @@
 use Rattle.matchit.proofs.OnLiterals.{matchit_on_literals}
-use Rattle.http_request.proofs.route.router.Goals as goal
+use Rattle.http_request.proofs.route.add_routes.Goals as goal
 
 pub returns : goal.returns
 unfolding matchit_on_literals
@@ -9,4 +9,4 @@ returns c =
     let d = c.in_ok-insert-3.ensures in
     let e = c.in_ok-insert-4.ensures in
     let f = c.in_ok-insert-5.ensures in
-    rw (e.1, d.1, b.1, a.1, c.new-router.ensures) at f.1
+    rw (e.1, d.1, b.1, a.1, c.requires) at f.1
