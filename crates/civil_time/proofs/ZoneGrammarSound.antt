@@ -68,12 +68,15 @@ month_sound text p h =
       go first a is true t e = let one : first.0 ≡ 1 = grind (arith, nat_tests) in rw is (month_large first p one (rw t at e))
       go first a is false t e = rw is (month_small first p a (rw t at e))
 
+in_range : (week weekday : ℕ) → ((nat_le 1 week && nat_le week 5) && nat_le weekday 6) ≡ true → (1 ≤ week) × (week ≤ 5) × (weekday ≤ 6)
+in_range week weekday h = grind (arith, nat_tests)
+
 -- the numbers of a date as they are read
 numbers : (month week weekday : ℕ × List ℕ) (p : ChangeDate × List ℕ) → cond ((nat_le 1 week.0 && nat_le week.0 5) && nat_le weekday.0 6) (Some (record { month = month.0; week = week.0; weekday = weekday.0 }, weekday.1)) None ≡ Some p
     → (1 ≤ week.0) × (week.0 ≤ 5) × (weekday.0 ≤ 6) × (month.0 ≡ p.0.month) × (week.0 ≡ p.0.week) × (weekday.0 ≡ p.0.weekday) × (weekday.1 ≡ p.1)
 numbers month week weekday p h =
     let t = tested ((nat_le 1 week.0 && nat_le week.0 5) && nat_le weekday.0 6) (record { month = month.0; week = week.0; weekday = weekday.0 }, weekday.1) p h in
-    let range : (1 ≤ week.0) × (week.0 ≤ 5) × (weekday.0 ≤ 6) = (let k = t.0 in grind (arith, nat_tests)) in
+    let range = in_range week.0 weekday.0 t.0 in
     (range.0, range.1, range.2, ap (λ (q : ChangeDate × List ℕ). q.0.month) t.1, ap (λ (q : ChangeDate × List ℕ). q.0.week) t.1, ap (λ (q : ChangeDate × List ℕ). q.0.weekday) t.1, ap (λ (q : ChangeDate × List ℕ). q.1) t.1)
 
 regroup : (u v w : List ℕ) → u ++ (v ++ w) ≡ (u ++ v) ++ w
@@ -103,9 +106,9 @@ change_sound text p h =
     let after_comma : a.0 ≡ 77 ∷ ((month_text p.0.month ++ (46 ∷ (48 + p.0.week) ∷ 46 ∷ (48 + p.0.weekday) ∷ [])) ++ p.1) =
     after_sound 77 a.0 b.0 b.1 ∙ ap (λ (t : List ℕ). 77 ∷ t) grouped in (
       record {
-        month = (omega (arith, month, n), omega (arith, month, n));
-        week = (omega (arith, n), omega (arith, n));
-        weekday = omega (arith, n);
+        month = (subst (λ (k : ℕ). 2 ≤ k) n.3 month.0, subst (λ (k : ℕ). k ≤ 11) n.3 month.1);
+        week = (subst (λ (k : ℕ). 1 ≤ k) n.4 n.0, subst (λ (k : ℕ). k ≤ 5) n.4 n.1);
+        weekday = subst (λ (k : ℕ). k ≤ 6) n.5 n.2;
       },
       after_sound 44 text a.0 a.1 ∙ ap (λ (t : List ℕ). 44 ∷ t) after_comma,
     )

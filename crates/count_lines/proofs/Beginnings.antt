@@ -1,5 +1,5 @@
 -- The moments at which a period of hours may begin.
-use Rattle.std.proofs.Common.{◌≡◌, ℕ, ◌≤◌, true, ℤ, pos, negsuc, arith}
+use Rattle.std.proofs.Common.{◌≡◌, ◌≤◌, true, ℤ, pos, negsuc, arith}
 use Rattle.std.proofs.lemmas.Bool.Decides.{nat_tests}
 use Rattle.civil_time.specs.LocalTime.{local_day, seconds}
 use Rattle.court_days.specs.Court.{CourtSettings, zone_of}

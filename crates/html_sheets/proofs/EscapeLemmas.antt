@@ -37,3 +37,7 @@ run-end s done total start i low end whole =
     let all : take (i - start) (drop start s) ≡ drop start s = take_all _ _ (omega (arith, length-drop start s)) in
     let none : drop i s ≡ [] = drop_all i s (omega arith) in
     rw (all, none, append-nil) at whole
+
+-- the end of the text
+pub at_end : (i n size : ℕ) → n ≤ i → i ≤ n → n ≡ size → i ≡ size
+at_end i n size above below same = omega arith

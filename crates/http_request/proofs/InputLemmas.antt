@@ -1,5 +1,5 @@
 -- What was taken, piece after piece.
-use Rattle.std.proofs.Common.{◌≡◌, ℕ, ◌+◌, ◌-◌, List, [], ◌++◌, length, take, drop, refl, ap, sym, ◌∙◌, append_assoc, length-append, length-drop, Option, Some, None, rules, arith}
+use Rattle.std.proofs.Common.{◌≡◌, ℕ, ◌+◌, ◌-◌, ◌<◌, List, [], ◌++◌, length, take, drop, refl, ap, sym, ◌∙◌, append_assoc, length-append, length-drop, Option, Some, None, rules, arith}
 use Rattle.std.proofs.Math.Seq.{drop-append_seam}
 use Rattle.http_request.specs.declared.head.Scan.{Scan}
 use Rattle.http_request.specs.declared.head.HeadSearch.{HeadSearch}
@@ -51,3 +51,8 @@ len-on old new piece view at next grows same len is =
     let b : length view ≡ length new = ap length same in
     let d : length (take (length view - at) (drop at view)) ≡ length view - at = ap length (slice_from view at) ∙ length-drop at view in
     omega (arith, a, b, d, len, is)
+
+-- what is left to a limit falls by a piece
+pub less-left : (old new : List ℕ) (at next was is n most : ℕ) → at ≡ length old → next ≡ length new → was ≡ length old → is ≡ length new → is ≡ was + n → ¬ (n ≡ 0)
+    → at < most → most - next < most - at
+less-left old new at next was is n most a b d e grows some below = omega arith

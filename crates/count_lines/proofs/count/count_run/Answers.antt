@@ -12,3 +12,6 @@ returns-in-Ok-run_lines-clause-whole g c =
     {Q = λ input. Appends (g.W.Write.contents c.args.writer.now) (g.W.Write.contents c.run_lines.new.writer) (count_text input)
     × (c.in-Ok-run_lines.end.lines ≡ length (lines_of input)) × (c.in-Ok-run_lines.end.bad ≡ bad_answers input)}
     (c.in-Ok-run_lines.ensures.whole first_state c.in-Ok.ensures tt) (λ input told. (told.0, told.1, told.2))
+
+pub returns-clause-front : goal.returns-clause-front
+returns-clause-front g c = c.in-Err.ensures.front first_state c.in-Ok.ensures tt

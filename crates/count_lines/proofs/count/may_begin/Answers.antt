@@ -1,4 +1,4 @@
-use Rattle.std.proofs.Common.{◌≡◌, sym, ◌∙◌, ap, arith, of_z, to_z, to_z-of_z, w64}
+use Rattle.std.proofs.Common.{◌≡◌, sym, ◌∙◌, ap, of_z, to_z, to_z-of_z, w64}
 use Rattle.civil_time.specs.LocalTime.{local_day, seconds}
 use Rattle.court_days.specs.Court.{zone_of}
 use Rattle.court_rules.specs.Acts.{is_entered_day}

@@ -71,3 +71,12 @@ pub returns-clause-gathers : goal.returns-clause-gathers
 returns-clause-gathers g c = λ sql params listed clean lists gave is_open.
     let so_far = c.rows.invariant.gathered clean sql params listed lists gave is_open in
     absurd (omega (arith, so_far.gave.1, lists.few, c.rows-test.false))
+
+pub returns-in_err-due-clause-survives : goal.returns-in_err-due-clause-survives
+returns-in_err-due-clause-survives g c = survives_then _ _ _ _ _ _ (λ _ db none. none) (λ _ db none. none) c.rows.invariant.survives c.next_due.ensures.survives
+
+pub returns-in_default-clause-survives : goal.returns-in_default-clause-survives
+returns-in_default-clause-survives g c = survives_then _ _ _ _ _ _ (λ _ db none. none) (λ _ db none. none) c.rows.invariant.survives c.next_due.ensures.survives
+
+pub returns-in_err-push-clause-survives : goal.returns-in_err-push-clause-survives
+returns-in_err-push-clause-survives g c = survives_then _ _ _ _ _ _ (λ _ db none. none) (λ _ db none. none) c.rows.invariant.survives c.next_due.ensures.survives

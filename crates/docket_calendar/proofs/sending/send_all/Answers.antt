@@ -86,3 +86,9 @@ returns-in_err-send_next-clause-cause g c = λ clean asked.
     let cause = c.in_err-send_next.ensures.cause clean (c.rows.invariant.way early asked) in
     err_caused (IsCausedStop (state g.S.Store old) (state g.S.Store new)) _ c.from_residual.result c.from_residual.ensures.1
     (stop_after (state g.S.Store old) (state g.S.Store now) (state g.S.Store new) _ c.rows.invariant.survives.counts c.rows.invariant.survives.limit cause)
+
+pub returns-in_err-send_next-clause-survives : goal.returns-in_err-send_next-clause-survives
+returns-in_err-send_next-clause-survives g c = survives_then _ _ _ _ _ _ (λ _ db none. none) (λ _ db none. none) c.rows.invariant.survives c.send_next.ensures.survives
+
+pub returns-then-not-branch-clause-survives : goal.returns-then-not-branch-clause-survives
+returns-then-not-branch-clause-survives g c = survives_then _ _ _ _ _ _ (λ _ db none. none) (λ _ db none. none) c.rows.invariant.survives c.send_next.ensures.survives

@@ -1,9 +1,9 @@
-use Rattle.std.proofs.Common.{◌≡◌, ◌-◌, ◌<◌, [], ◌∷◌, ◌++◌, length, get_or, take, drop, refl, rules, arith, append_assoc}
+use Rattle.std.proofs.Common.{◌≡◌, ◌-◌, ◌<◌, [], ◌∷◌, ◌++◌, length, get_or, take, drop, refl, ap, ◌∙◌, rules, arith, append_assoc}
 use Rattle.std.proofs.lemmas.Grind.{common_steps}
 use Rattle.std.proofs.lemmas.Str.{IsCharBoundary-start, IsCharBoundary-after_ascii}
 use Rattle.std.proofs.Output.{has_written_append, has_written_of_eq}
-use Rattle.html_sheets.specs.Escapes.{escaped_byte}
-use Rattle.html_sheets.proofs.EscapeLemmas.{keep_byte, end_run}
+use Rattle.html_sheets.specs.Escapes.{escaped_byte, escaped}
+use Rattle.html_sheets.proofs.EscapeLemmas.{keep_byte, end_run, run-end, at_end}
 use Rattle.html_sheets.proofs.escape.write_escaped.Goals as goal
 use Rattle.html_sheets.proofs.escape.write_escaped.Goals.{in-Some+in_ok-write_str+in_ok-write_str-2, in_default}
 
@@ -37,3 +37,12 @@ bytes-preserved g c =
           let same : escaped_byte (get_or s l.at 0) ≡ get_or s l.at 0 ∷ [] = search rules in
           rw (w.start-is, w.f-is) (omega arith, bound, done, keep_byte s done _ l.start l.at low within same whole, wrote)
     ]
+
+pub returns : goal.returns
+returns g c = λ plain ok.
+    let s = c.args.text.now in
+    let (low, bound, done, whole, wrote) = c.bytes.invariant in
+    let end = at_end c.bytes.at _ (length s) c.bytes-test.false c.bytes.auto.at-end c.as_bytes-bytes.ensures.len in
+    let sofar = wrote plain in
+    has_written_of_eq _ _ _ _ _ (ap (λ z. done ++ z) c.range_from.ensures.value ∙ run-end s done (escaped s) c.bytes.start c.bytes.at low end whole)
+    (has_written_append _ _ _ _ _ _ sofar (c.write_str-2.ensures.writes sofar.plain ok))

@@ -1,7 +1,8 @@
-use Rattle.std.proofs.Common.{◌≡◌, ◌+◌, [], ap, refl, length, take, ◌<◌, arith}
+use Rattle.std.proofs.Common.{◌+◌, [], ap, refl, length, take, ◌<◌, arith}
 use Rattle.std.proofs.KnownBytes.{Consumes-nil, Consumes-trans}
 use Rattle.std.proofs.lemmas.Result.{err_from_is_err_and, on_ok_weaker}
 use Rattle.line_io.specs.Report.{within}
+use Rattle.line_io.proofs.Counting.{none-within, pieces-count, piece-counts}
 use Rattle.line_io.proofs.StepLemmas.{here, steps_then}
 use Rattle.line_io.proofs.Stopping.{at-err, stops-here, stops-last, stops-unsent}
 use Rattle.line_io.proofs.Taking.{takes-start, takes-then, takes-sent}
@@ -21,34 +22,42 @@ reads-init g c = (
   λ s shows trusts. takes-start (within g.A.Answerer.LIMIT g.A.Answerer.answer_to g.A.Answerer.too_long) (g.A.Answerer.LIMIT + 2) _ s _ _ _ _ _ shows c.requires.kept c.requires.pending c.requires.counts.1 c.requires.counts.0,
 )
 
+pub finish-requires : goal.finish-requires
+finish-requires g c = let now = c.reads.invariant in record { counts = (now.4, pieces-count _ c.reads.counter now.5 c.reads-test.true) }
+
+pub take_piece-requires : goal.take_piece-requires
+take_piece-requires g c =
+    let now = c.reads.invariant in record {
+      kept = now.2;
+      pending = none-within _ _ now.3;
+      counts = (now.4, piece-counts _ c.reads.counter c.in-Ok.count _ now.5 c.reads-test.true (omega (arith, c.read.auto.buf)));
+    }
+
 pub returns-in_default-clause-stops : goal.returns-in_default-clause-stops
 returns-in_default-clause-stops g c = λ s shows trusts.
     let J = within g.A.Answerer.LIMIT g.A.Answerer.answer_to g.A.Answerer.too_long in
     let now = c.reads.invariant in
-    let none : length c.reads.progress.pending.items ≡ 0 = ap length now.3 in
     let h = now.8 s shows trusts in
-    read-stops J (g.A.Answerer.LIMIT + 2) _ _ _ _ _ s _ _ _ _ _ _ _ _ _ _ _ now.1 h (λ rest. stops-here J _ _ _ _ _ _ _ h.shows refl (omega (arith, none)))
+    read-stops J (g.A.Answerer.LIMIT + 2) _ _ _ _ _ s _ _ _ _ _ _ _ _ _ _ _ now.1 h (λ rest. stops-here J _ _ _ _ _ _ _ h.shows refl (none-within _ _ now.3))
 
 pub returns-clause-stops : goal.returns-clause-stops
 returns-clause-stops g c = λ s shows trusts.
     let J = within g.A.Answerer.LIMIT g.A.Answerer.answer_to g.A.Answerer.too_long in
     let now = c.reads.invariant in
-    let none : length c.reads.progress.pending.items ≡ 0 = ap length now.3 in
     let h = now.8 s shows trusts in
-    read-stops J (g.A.Answerer.LIMIT + 2) _ _ _ _ _ s _ _ _ _ _ _ _ _ _ _ _ now.1 h (λ rest. stops-here J _ _ _ _ _ _ _ h.shows refl (omega (arith, none)))
+    read-stops J (g.A.Answerer.LIMIT + 2) _ _ _ _ _ s _ _ _ _ _ _ _ _ _ _ _ now.1 h (λ rest. stops-here J _ _ _ _ _ _ _ h.shows refl (none-within _ _ now.3))
 
 pub returns-then-count-eq0-clause-stops : goal.returns-then-count-eq0-clause-stops
 returns-then-count-eq0-clause-stops g c =
     let J = within g.A.Answerer.LIMIT g.A.Answerer.answer_to g.A.Answerer.too_long in
     let now = c.reads.invariant in
-    let none : length c.reads.progress.pending.items ≡ 0 = ap length now.3 in
     let room : 0 < length c.read.new.buf = omega (arith, c.read.auto.buf) in
     at-err c.finish.result
     (λ fault same left s shows trusts.
     let h = now.8 s shows (c.finish.ensures.trust trusts) in
     end-stops J (g.A.Answerer.LIMIT + 2) _ _ _ _ _ _ s _ _ _ _ _ _ _ _ _ _ _ _ now.1 c.in-Ok.ensures.bytes.0
     (ap (λ n. take n c.read.new.buf) c.if-count-eq0.true) (c.in-Ok.ensures.bytes.1 c.if-count-eq0.true room) h
-    (stops-last J _ _ _ h.open_part _ _ _ (left _ h.open_part h.shows trusts h.keeps) same (omega (arith, none))))
+    (stops-last J _ _ _ h.open_part _ _ _ (left _ h.open_part h.shows trusts h.keeps) same (none-within _ _ now.3)))
     c.finish.ensures.err c.finish.ensures.fails
 
 pub returns-then-count-eq0-clause-whole : goal.returns-then-count-eq0-clause-whole
@@ -109,3 +118,24 @@ returns-in_err-take_piece-clause-steps g c = steps_then g.A.Answerer.Steps _ _ _
 
 pub returns-in_default-send-clause-steps : goal.returns-in_default-send-clause-steps
 returns-in_default-send-clause-steps g c = steps_then g.A.Answerer.Steps _ _ _ c.reads.invariant.6 c.in_ok-take_piece.ensures.steps
+
+pub returns-in_default-clause-steps : goal.returns-in_default-clause-steps
+returns-in_default-clause-steps g c = c.reads.invariant.6
+
+pub returns-clause-steps : goal.returns-clause-steps
+returns-clause-steps g c = c.reads.invariant.6
+
+pub returns-in_default-clause-trust : goal.returns-in_default-clause-trust
+returns-in_default-clause-trust g c = c.reads.invariant.7
+
+pub returns-then-count-eq0-clause-trust : goal.returns-then-count-eq0-clause-trust
+returns-then-count-eq0-clause-trust g c = λ trusts. c.reads.invariant.7 (c.finish.ensures.trust trusts)
+
+pub returns-in_err-take_piece-clause-trust : goal.returns-in_err-take_piece-clause-trust
+returns-in_err-take_piece-clause-trust g c = λ trusts. c.reads.invariant.7 (c.in_err-take_piece.ensures.trust trusts)
+
+pub returns-in_default-send-clause-trust : goal.returns-in_default-send-clause-trust
+returns-in_default-send-clause-trust g c = λ trusts. c.reads.invariant.7 (c.in_ok-take_piece.ensures.trust trusts)
+
+pub returns-clause-trust : goal.returns-clause-trust
+returns-clause-trust g c = c.reads.invariant.7

@@ -1,8 +1,9 @@
-use Rattle.std.proofs.Common.{◌≡◌, ◌+◌, ◌-◌, ◌++◌, ◌∙◌, ◌∷◌, [], ap, sym, refl, length, take, drop, append_assoc, arith}
+use Rattle.std.proofs.Common.{◌≡◌, ◌≤◌, vec_len, subst, ◌+◌, ◌-◌, ◌++◌, ◌∙◌, ◌∷◌, [], ap, sym, refl, length, take, drop, append_assoc, arith}
 use Rattle.std.proofs.lemmas.Result.{err_from_is_err_and}
 use Rattle.line_io.specs.Lines.{lines_from}
 use Rattle.line_io.specs.Report.{within}
-use Rattle.line_io.proofs.Cutting.{piece-on, more-len, take-again, free-from}
+use Rattle.line_io.proofs.Counting.{more-len, line-counts, lines-within, less-behind, front-len, next-within, next-fits, kept-within}
+use Rattle.line_io.proofs.Cutting.{piece-on, take-again, free-from, free-before}
 use Rattle.line_io.proofs.StepLemmas.{here, steps_then}
 use Rattle.line_io.proofs.Stopping.{stops-here, takes-stops}
 use Rattle.line_io.proofs.Taking.{takes-none, takes-open, takes-then, takes-same}
@@ -20,6 +21,15 @@ lines-init g c = (
   λ trusts. trusts,
   λ s part shows trusts kept. takes-none (within g.A.Answerer.LIMIT g.A.Answerer.answer_to g.A.Answerer.too_long) _ _ s part _ _ _ _ _ shows kept,
 )
+
+pub take_line-requires : goal.take_line-requires
+take_line-requires g c =
+    let now = c.lines.invariant in record {
+      kept = now.2;
+      counts = (now.4, line-counts c.lines.progress.counts.lines c.args.progress.now.counts.lines c.args.piece.now now.0 c.lines.rest.now c.in-Some.at now.5 now.1 c.in-Some.ensures.0.high c.requires.counts.1);
+      pending = now.3;
+      free = free-before c.lines.rest.now c.in-Some.at c.in-Some.ensures.0;
+    }
 
 pub returns-in_err-take_line-clause-stops : goal.returns-in_err-take_line-clause-stops
 returns-in_err-take_line-clause-stops g c =
@@ -84,3 +94,40 @@ returns-in-Err-clause-stops g c = λ s part shows trusts kept rest.
 
 pub returns-in_err-take_line-clause-steps : goal.returns-in_err-take_line-clause-steps
 returns-in_err-take_line-clause-steps g c = steps_then g.A.Answerer.Steps _ _ _ c.lines.invariant.6 c.in_err-take_line.ensures.steps
+
+pub returns-in-Ok-clause-steps : goal.returns-in-Ok-clause-steps
+returns-in-Ok-clause-steps g c = c.lines.invariant.6
+
+pub returns-in-Err-clause-steps : goal.returns-in-Err-clause-steps
+returns-in-Err-clause-steps g c = c.lines.invariant.6
+
+pub lines-smaller : goal.lines-smaller
+lines-smaller g c = less-behind c.lines.rest.now c.in-Some.at c.in-Some.ensures.0.high
+
+pub keep-requires : goal.keep-requires
+keep-requires g c = subst (λ n. vec_len c.lines.progress.kept ≤ n + 2) (sym c.LIMIT.ensures) c.lines.invariant.2
+
+pub returns-in-Ok-clause-kept : goal.returns-in-Ok-clause-kept
+returns-in-Ok-clause-kept g c = kept-within _ _ _ c.keep.new.kept.items _ c.keep.new.kept.ok.0 c.in-Ok.ensures c.LIMIT.ensures
+
+pub returns-in-Ok-clause-counts : goal.returns-in-Ok-clause-counts
+returns-in-Ok-clause-counts g c =
+    let now = c.lines.invariant in (now.4, lines-within c.lines.progress.counts.lines c.args.progress.now.counts.lines c.args.piece.now now.0 c.lines.rest.now now.5 now.1)
+
+pub returns-in_err-take_line-clause-trust : goal.returns-in_err-take_line-clause-trust
+returns-in_err-take_line-clause-trust g c = λ trusts. c.lines.invariant.7 (c.in_err-take_line.ensures.trust trusts)
+
+pub returns-in-Ok-clause-trust : goal.returns-in-Ok-clause-trust
+returns-in-Ok-clause-trust g c = c.lines.invariant.7
+
+pub returns-in-Err-clause-trust : goal.returns-in-Err-clause-trust
+returns-in-Err-clause-trust g c = c.lines.invariant.7
+
+pub slice_bounds-take_line-end : goal.slice_bounds-take_line-end
+slice_bounds-take_line-end g c = front-len c.lines.rest.now c.in-Some.at c.in-Some.ensures.0.high
+
+pub slice_bounds-rest-count : goal.slice_bounds-rest-count
+slice_bounds-rest-count g c = next-within _ _ c.in-Some.ensures.0.high
+
+pub overflow_add-rest : goal.overflow_add-rest
+overflow_add-rest g c = next-fits c.args.progress.now.counts.lines c.in-Some.at c.args.piece.now c.lines.invariant.0 c.lines.rest.now c.lines.invariant.1 c.in-Some.ensures.0.high c.requires.counts.1
