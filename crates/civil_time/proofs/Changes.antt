@@ -14,6 +14,7 @@ use Rattle.jiff_core.proofs.DateLemmas.{days_from_civil-day}
 use Rattle.civil_time.specs.Civil.{weekday}
 use Rattle.civil_time.specs.LocalTime.{change_day, first_of_month, last_of_month, weekday_from, weekday_up_to}
 use Rattle.civil_time.proofs.NewYears.{not_negative}
+use Rattle.civil_time.proofs.MonthsAway.{same_length}
 
 -- a date of the month that `first` begins lies that many days after its first
 in_month : (first d : Date) (year : ℕ) → first.year ≡ pos year → 1970 ≤ year → year ≤ 3999 → 2 ≤ first.month → d.year ≡ first.year → d.month ≡ first.month → epoch_day d ≡ pos (first_of_month year first.month + d.day - 1)
@@ -35,9 +36,6 @@ shown_from F day week wd x a b c d e f g = omega arith
 
 shown_up_to : (F day length wd x : ℕ) → 1 ≤ day → day ≤ length → wd ≤ 6 → length + 1 - day ≤ 7 → x ≡ F + day - 1 → weekday x ≡ wd → x ≡ weekday_up_to wd (F + length - 1)
 shown_up_to F day length wd x a b c d e f = omega arith
-
-same_length : (y y' : ℤ) (m m' : ℕ) → y ≡ y' → m ≡ m' → days_in_month y m ≡ days_in_month y' m'
-same_length y y' m m' e f = ap (λ (z : ℤ). days_in_month z m) e ∙ ap (λ (k : ℕ). days_in_month y' k) f
 
 near_end : (F day length length' wd x : ℕ) → length ≡ length' → 1 ≤ day → day ≤ length → wd ≤ 6 → IsInWeek 1 (pos (length + 1 - day)) → x ≡ F + day - 1 → weekday x ≡ wd → x ≡ weekday_up_to wd (F + length' - 1)
 near_end F day length length' wd x same a b c h e f =

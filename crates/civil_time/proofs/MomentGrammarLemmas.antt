@@ -3,6 +3,7 @@ use Rattle.std.proofs.Common.{◌≡◌, ◌↔◌, ℕ, ◌+◌, ◌*◌, ◌<�
 use Rattle.std.proofs.Math.Seq.{drop-append_seam}
 use Rattle.std.proofs.lemmas.List.{take-append-drop}
 use Rattle.std.proofs.lemmas.Bool.Decides.{nat_tests}
+use Rattle.std.proofs.lemmas.Bool.{and_parts}
 use Rattle.std.proofs.lemmas.Int.{ints}
 use Rattle.jiff_core.proofs.SignedLemmas.{signed_arith}
 use Rattle.civil_time.specs.Civil.{IsDayNumber}
@@ -12,7 +13,7 @@ use Rattle.civil_time.specs.Reading.{◌>>=◌, after, two_digits_at, clock_at}
 use Rattle.civil_time.specs.MomentText.{two_digits, clock_text, hours_text, date_at, whole_hours_at, offset_at, in_limits, moment_at}
 use Rattle.civil_time.specs.MomentGrammar.{SpellsOffset, plus, minus, SpellsMoment}
 use Rattle.civil_time.proofs.DayTexts.{spelled-is, day_text-length, day_of_text-means}
-use Rattle.civil_time.proofs.ReadingLemmas.{bound, tested, both, after_sound, empty, two_digits_at-two_digits, two_digits_sound, clock_at-clock_text, clock_sound}
+use Rattle.civil_time.proofs.ReadingLemmas.{bound, tested, after_sound, empty, two_digits_at-two_digits, two_digits_sound, clock_at-clock_text, clock_sound}
 
 -- the day
 ten_bytes : (date : List ℕ) (day : ℕ) → SpellsDay date day → length date ≡ 10
@@ -102,7 +103,7 @@ within (negsuc n) low high =
 in_limits_sound : (z at : ℤ) → in_limits z ≡ Some at → (at ≡ z) × IsMoment at
 in_limits_sound z at h =
     let t = tested (int_le (pos 315_705_600) z && int_le z (pos 64_060_329_600)) z at h in
-    let limits = both (int_le (pos 315_705_600) z) (int_le z (pos 64_060_329_600)) t.0 in
+    let limits = and_parts (int_le (pos 315_705_600) z) (int_le z (pos 64_060_329_600)) t.0 in
     (sym t.1, subst IsMoment t.1 (within z limits.0 limits.1))
 
 -- what spells a moment is read as it

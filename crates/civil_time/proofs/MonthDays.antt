@@ -11,7 +11,7 @@ use Rattle.civil_time.specs.declared.zone.ChangeDate.{ChangeDate}
 use Rattle.civil_time.proofs.NewYears.{new_year-1970, new_year-4000, int_le-true}
 
 -- the years from 1970 on begin no earlier than it
-year_from : (y : ℕ) → 1970 ≤ y → 4_371_953 ≤ day_count (pos y) 1 1
+pub year_from : (y : ℕ) → 1970 ≤ y → 4_371_953 ≤ day_count (pos y) 1 1
 year_from y h =
     elim (cases_order y 1970) [
       | inl e ↦ rw e (omega (arith, day_count-epoch))

@@ -41,9 +41,6 @@ last_of_month year month =
     let long = long_month year month in
     omega (arith, signed_arith, days_from_civil-day year month 1 (days_in_month year month) (omega arith) (omega arith))
 
-december : (year : ℤ) → days_in_month year 12 ≡ 31
-december year = refl
-
 -- a month has 28 to 31 days
 month_step : (n : ℕ) → (first_of n ≤ℤ first_of (suc n)) × (first_of (suc n) ≤ℤ (first_of n +ℤ pos 31))
 month_step n =

@@ -31,10 +31,6 @@ after_sound byte (x ∷ xs) rest h =
     let is : x ≡ byte = (let k = t.0 in grind (arith, nat_tests)) in
     rw (is, t.1) refl
 
-pub both : (a b : Bool) → (a && b) ≡ true → (a ≡ true) × (b ≡ true)
-both true b h = (refl, h)
-both false b h = cc
-
 pub empty : (text : List ℕ) → nat_eq (length text) 0 ≡ true → text ≡ []
 empty [] h = refl
 empty (x ∷ xs) h = let e : length (x ∷ xs) ≡ 0 = (let k = h in grind (arith, nat_tests)) in absurd (omega (arith, e))

@@ -47,11 +47,11 @@ moment_text-spells zone is instant h =
     }
 
 -- and is ASCII
-abbrev AreSmall : List ℕ → Type 0
+abbrev pub AreSmall : List ℕ → Type 0
 AreSmall [] = Unit {0}
 AreSmall (x ∷ xs) = (x < 128) × AreSmall xs
 
-ascii_from : (bs : List ℕ) → AreSmall bs → IsAscii bs
+pub ascii_from : (bs : List ℕ) → AreSmall bs → IsAscii bs
 ascii_from [] h = IsAscii-nil
 ascii_from (x ∷ xs) h = IsAscii-cons x xs h.0 (ascii_from xs h.1)
 
@@ -66,6 +66,9 @@ date_text-ascii year month day =
 day_text-ascii : (day : ℕ) → IsAscii (day_text day)
 unfolding day_text
 day_text-ascii day = date_text-ascii (year_of day) (month_of day) (day_of_month day)
+
+pub day_text-utf8 : (day : ℕ) → IsUtf8 (day_text day)
+day_text-utf8 day = IsUtf8-from_ascii _ (day_text-ascii day)
 
 two_digits-ascii : (n : ℕ) → n < 100 → IsAscii (two_digits n)
 two_digits-ascii n h = ascii_from (two_digits n) (omega arith, (digit_small n, tt))

@@ -3,6 +3,7 @@ use Rattle.std.proofs.Common.{◌≡◌, ℕ, suc, ◌+◌, ◌-◌, ◌*◌, �
 use Rattle.std.specs.List.{prefix_len}
 use Rattle.std.proofs.lemmas.List.{take-append-drop}
 use Rattle.std.proofs.lemmas.Bool.Decides.{nat_tests}
+use Rattle.std.proofs.lemmas.Bool.{and_parts}
 use Rattle.civil_time.specs.declared.zone.ChangeDate.{ChangeDate}
 use Rattle.civil_time.specs.declared.zone.SummerTime.{SummerTime}
 use Rattle.civil_time.specs.Reading.{◌>>=◌, after, digit_at}
@@ -10,7 +11,7 @@ use Rattle.civil_time.specs.Zone.{ZoneRules, IsChangeDate, AreApart}
 use Rattle.civil_time.specs.ZoneText.{is_letter, after_name, digits_at, with_second, hours_at, up_to_12, month_at, change_at, are_apart, summer_at, zone_at}
 use Rattle.civil_time.specs.ZoneGrammar.{AreLetters, IsName, SpellsNumber, one_digit, two_digits, month_text, change_text, SpellsHours, plain, plus, minus, SpellsSummer, SpellsZone}
 use Rattle.civil_time.proofs.ZoneGrammarLemmas.{zone_at-spelled}
-use Rattle.civil_time.proofs.ReadingLemmas.{bound, tested, digit_sound, after_sound, both, empty}
+use Rattle.civil_time.proofs.ReadingLemmas.{bound, tested, digit_sound, after_sound, empty}
 
 letters_step : (x : ℕ) (xs : List ℕ) (b : Bool) → is_letter x ≡ b → AreLetters (take (prefix_len is_letter xs) xs) → AreLetters (take (prefix_len is_letter (x ∷ xs)) (x ∷ xs))
 letters_step x xs true e h = let s : 1 + prefix_len is_letter xs ≡ suc (prefix_len is_letter xs) = omega arith in rw (e, s) (e, h)
@@ -192,7 +193,7 @@ summer_sound text dates h =
     let second = change_sound b.0.1 e.0 e.1 in
     let is_first : b.0.0 ≡ dates.begins = ap (λ (q : SummerTime). q.begins) t.1 in
     let is_second : e.0.0 ≡ dates.ends = ap (λ (q : SummerTime). q.ends) t.1 in
-    let test = both _ _ t.0 in
+    let test = and_parts _ _ t.0 in
     let are : are_apart dates.begins.month dates.ends.month ≡ true = sym (ap (λ (r : ChangeDate). are_apart r.month e.0.0.month) is_first ∙ ap (λ (r : ChangeDate). are_apart dates.begins.month r.month) is_second) ∙ test.1 in
     let nothing : e.0.1 ≡ [] = empty e.0.1 test.0 in
     let tail : b.0.1 ≡ change_text dates.ends = second.1 ∙ ap (λ (r : List ℕ). change_text e.0.0 ++ r) nothing ∙ append-nil (change_text e.0.0) ∙ ap change_text is_second in

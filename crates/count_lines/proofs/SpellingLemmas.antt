@@ -10,6 +10,7 @@ use Rattle.std.specs.Fmt.{decimal}
 use Rattle.std.specs.List.{list_all}
 use Rattle.std.specs.Str.{bytes_eq}
 use Rattle.std.specs.Str.Parse.{digits_value}
+use Rattle.std.proofs.lemmas.Option.{same_Some}
 use Rattle.civil_time.specs.Civil.{year_of, month_of, day_of_month}
 use Rattle.civil_time.specs.DayText.{day_text, day_of_text}
 use Rattle.civil_time.proofs.DayTexts as texts
@@ -159,19 +160,16 @@ count-read direction text request h =
 word-is : (word text : List ℕ) → bytes_eq word text ≡ true → word ≡ text
 word-is word text same = (bytes_eq-Decides word text).0 same
 
-some_same : {A : Type 0} {a b : A} → Some a ≡ Some b → a ≡ b
-some_same h = cc
-
 direction-read : (word : List ℕ) (direction : Direction) → direction_named word ≡ Some direction → word ≡ direction_word direction
 direction-read word direction h =
     elim (cases_Bool (bytes_eq word (codes "forward"))) [
       | inl is ↦
-          let named : Forward ≡ direction = some_same (rw is at h) in
+          let named : Forward ≡ direction = same_Some _ _ (rw is at h) in
           subst (λ d. word ≡ direction_word d) named (word-is word (codes "forward") is)
       | inr other ↦
           elim (cases_Bool (bytes_eq word (codes "backward"))) [
             | inl is ↦
-                let named : Backward ≡ direction = some_same (rw (other, is) at h) in
+                let named : Backward ≡ direction = same_Some _ _ (rw (other, is) at h) in
                 subst (λ d. word ≡ direction_word d) named (word-is word (codes "backward") is)
             | inr neither ↦ let nothing : ◌≡◌ {A = Option Direction} None (Some direction) = rw (other, neither) at h in cc
           ]
@@ -225,7 +223,7 @@ rule-read text request h =
     ∙ ap (λ word. spaced word words.0.1) (sym (names.name_of-named words.0.0 rule.0 rule.1))
     ∙ ap (spaced (name_of rule.0)) (cut-joined [] words.0.1 rest.0.0 rest.0.1 rest.1 ∙ ap (λ word. spaced word rest.0.1) read.1
     ∙ ap (spaced (day_text day.0)) (sym (names.method_name-named rest.0.1 method.0 method.1))) in
-    subst (λ r. IsAsked r × Spells r (spaced (codes "rule") text)) (some_same method.2)
+    subst (λ r. IsAsked r × Spells r (spaced (codes "rule") text)) (same_Some _ _ method.2)
     (read.0, ap (spaced (codes "rule")) joined)
 
 span-read : (text : List ℕ) (request : Request) → span_of text ≡ Some request
@@ -236,7 +234,7 @@ span-read text request h =
     let end = bound (moment_at words.0.1) (λ end. Some (Span start.0 end)) request start.2 in
     let first = moment_sound words.0.0 start.0 start.1 in
     let second = moment_sound words.0.1 end.0 end.1 in
-    subst (λ r. IsAsked r × Spells r (spaced (codes "span") text)) (some_same end.2)
+    subst (λ r. IsAsked r × Spells r (spaced (codes "span") text)) (same_Some _ _ end.2)
     ((first.limits, second.limits), (text, (words.0.0, words.0.1, first, second, cut-joined [] text words.0.0 words.0.1 words.1), refl))
 
 hours-read : (text : List ℕ) (request : Request) → hours_of text ≡ Some request
@@ -276,7 +274,7 @@ short-read text request h =
     let joined : text ≡ spaced (day_text day.0) (clock_text minute.0) =
     cut-joined [] text words.0.0 words.0.1 words.1
     ∙ ap (λ word. spaced word words.0.1) read.1 ∙ ap (spaced (day_text day.0)) time.1 in
-    subst (λ r. IsAsked r × Spells r (spaced (codes "short") text)) (some_same minute.2)
+    subst (λ r. IsAsked r × Spells r (spaced (codes "short") text)) (same_Some _ _ minute.2)
     ((read.0, time.0), ap (spaced (codes "short")) joined)
 
 closing-read : (text : List ℕ) (request : Request) → closing_of text ≡ Some request
@@ -284,7 +282,7 @@ closing-read : (text : List ℕ) (request : Request) → closing_of text ≡ Som
 closing-read text request h =
     let day = bound (entered_day_of text) (λ day. Some (Closing day)) request h in
     let read = day-read text day.0 day.1 in
-    subst (λ r. IsAsked r × Spells r (spaced (codes "closing") text)) (some_same day.2) (read.0, ap (spaced (codes "closing")) read.1)
+    subst (λ r. IsAsked r × Spells r (spaced (codes "closing") text)) (same_Some _ _ day.2) (read.0, ap (spaced (codes "closing")) read.1)
 
 zone-read : (text : List ℕ) (request : Request) → zone_of_line text ≡ Some request
     → IsAsked request × Spells request (spaced (codes "zone") text)
@@ -297,7 +295,7 @@ zone-read text request h =
     let within = zone_of-within own zone.0 zone.1 in
     let is_zone : SpellsZone (zone_of own) words.0.0 = subst (λ z. SpellsZone z words.0.0) (sym within.0) (zone_sound words.0.0 zone.0 zone.1) in
     let is_time = time-read words.0.1 close.0 close.1 in
-    subst (λ r. IsAsked r × Spells r (spaced (codes "zone") text)) (ap Zone (some_same close.2) ∙ some_same court.2)
+    subst (λ r. IsAsked r × Spells r (spaced (codes "zone") text)) (ap Zone (same_Some _ _ close.2) ∙ same_Some _ _ court.2)
     (tt, (text, (words.0.1, is_zone, is_time, cut-joined [] text words.0.0 words.0.1 words.1), refl))
 
 -- one step of a choice by the first word

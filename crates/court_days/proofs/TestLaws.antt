@@ -1,5 +1,5 @@
 -- The tests of specs/ say what the relations say.
-use Rattle.std.proofs.Common.{◌≡◌, ℕ, ◌+◌, ◌-◌, ◌≤◌, ◌==◌, ◌⊎◌, inl, inr, Bool, true, false, not, ◌&&◌, ◌||◌, refl, sym, ◌∙◌, IsTrue, ◌↔◌, arith}
+use Rattle.std.proofs.Common.{◌≡◌, ℕ, ◌+◌, ◌-◌, ◌≤◌, ◌==◌, ◌⊎◌, inl, inr, Bool, true, false, not, ◌&&◌, ◌||◌, refl, sym, IsTrue, ◌↔◌, arith}
 use Rattle.std.proofs.lemmas.Bool.{both_ways, or_cases, or_left, or_right, and_parts, and_from, cases_Bool, not-true, not_from_false, false_from_ne_true, eqb-true, eq-eqb}
 use Rattle.civil_time.specs.Civil.{weekday, FallsOn}
 use Rattle.court_days.specs.Holiday.{is_fixed_date, is_monday_date, is_thursday_date, IsFixedHoliday, is_fixed_holiday, IsStatutory, is_statutory, fixed, monday, thursday, before_saturday, after_sunday}
@@ -17,9 +17,6 @@ Tells test P = (test ≡ true) ↔ P
 pub same_test : (P : Type 0) (r t : Bool) → (IsTrue r ↔ P) → Tells t P → r ≡ t
 same_test P true t h k = sym (k.1 (h.0 refl))
 same_test P false t h k = elim (cases_Bool t) [ inl e ↦ absurd (both_ways false refl (h.1 (k.0 e))) | inr e ↦ sym e ]
-
-pub means_of : (P : Type 0) (r t : Bool) → r ≡ t → Tells t P → IsTrue r ↔ P
-means_of P r t e k = (λ h. k.0 (sym e ∙ h), λ p. e ∙ k.1 p)
 
 module _ {P Q : Type 0} {a b : Bool} where
   pub tells-or : Tells a P → Tells b Q → Tells (a || b) (P ⊎ Q)

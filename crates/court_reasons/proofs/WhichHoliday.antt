@@ -205,8 +205,6 @@ record Apart (f m b t n : Option Holiday) (w₁ w₄ w₅ : Bool) : Type 0 where
   thursday : (h : Holiday) → t ≡ Some h → f ≡ None
   before : w₁ ≡ true → (h : Holiday) → b ≡ Some h → (f ≡ None) × (m ≡ None)
   after : (h : Holiday) → n ≡ Some h → f ≡ None
-  not_thursday : w₁ ≡ true → w₄ ≡ false
-  not_friday : w₁ ≡ true → w₅ ≡ false
   no_thursday : w₄ ≡ true → w₁ ≡ false
   no_friday : w₅ ≡ true → (w₁ ≡ false) × (w₄ ≡ false)
 
@@ -231,8 +229,6 @@ module _ (day : ℕ) (limit : day ≤ 1_000_000) where
     before = λ w h is. let on : (day - 1) + 1 ≡ day = omega (arith, eqb-true (weekday day) 1 w) in
         subst (λ d. HasNone (month_of d) (day_of_month d)) on (after_fixed (day - 1) h (omega arith) is);
     after = λ h is. none_before day h (fixed_on day) (omega arith) is refl;
-    not_thursday = λ w. weekdays_apart (weekday day) 1 4 (λ e. omega arith) w;
-    not_friday = λ w. weekdays_apart (weekday day) 1 5 (λ e. omega arith) w;
     no_thursday = λ w. weekdays_apart (weekday day) 4 1 (λ e. omega arith) w;
     no_friday = λ w. (weekdays_apart (weekday day) 5 1 (λ e. omega arith) w, weekdays_apart (weekday day) 5 4 (λ e. omega arith) w);
   }

@@ -68,10 +68,6 @@ module _ (text : List ℕ) where
       let some : rule_named text ≡ Some rule = sym (ap rule_named h) ∙ rule_named-name_of rule in cc
   no_rule (Some _) e = tt
 
-  pub found_method : (r : Option Method) → r ≡ method_named text → IfSome r (λ method. method_name method ≡ text)
-  found_method None e = tt
-  found_method (Some method) e = method_name-named text method (sym e)
-
   pub no_method : (r : Option Method) → r ≡ method_named text → IfNone r ((method : Method) → method_name method ≢ text)
   no_method None e = λ method h.
       let some : method_named text ≡ Some method = sym (ap method_named h) ∙ method_named-method_name method in cc

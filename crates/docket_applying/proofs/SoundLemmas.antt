@@ -3,6 +3,7 @@ use Rattle.std.proofs.Common.{◌≡◌, ◌≤◌, ℕ, Bool, true, false, ◌|
 use Rattle.std.specs.Prelude.{nat_lt, nat_le, ◌&&◌, IfSome}
 use Rattle.std.specs.List.{All, list_all}
 use Rattle.std.proofs.lemmas.Bool.Decides.{nat_tests}
+use Rattle.std.proofs.lemmas.Bool.{and_from, and_parts}
 use Rattle.std.proofs.lemmas.List.Elements.{All-nil, All-cons, All-head, All-tail}
 use Rattle.civil_time.specs.Zone.{ZoneRules}
 use Rattle.court_days.specs.Civil.{IsEnteredDay}
@@ -23,78 +24,73 @@ use Rattle.docket_history.specs.declared.item.CalendarItem.{CalendarItem}
 use Rattle.docket_history.specs.declared.item.CalendarItem.TheVariants.{Day, Span, Short}
 use Rattle.docket_history.specs.declared.view.DeadlineView.{DeadlineView}
 use Rattle.docket_history.specs.declared.view.View.{View}
-use Rattle.docket_decisions.proofs.Passed.{left_true, right_true}
 use Rattle.docket_applying.specs.Sound.{is_entered_item, begins_in_time, are_acts, are_lawful, is_lawful, has_room, is_lawful_rule, IsSoundCase}
-
-both_true : (a b : Bool) → a ≡ true → b ≡ true → (a && b) ≡ true
-both_true true b e f = f
-both_true false b e f = absurd (cc)
 
 -- a test of each element that tells a property
 module _ {X : Type 0} (p : X → Bool) (P : X → Type 0) where
   pub all_told : ((x : X) → p x ≡ true → P x) → (xs : List X) → list_all p xs ≡ true → All P xs
   all_told tells [] e = All-nil P
-  all_told tells (x ∷ xs) e = All-cons P x xs (tells x (left_true (p x) (list_all p xs) e)) (all_told tells xs (right_true (p x) (list_all p xs) e))
+  all_told tells (x ∷ xs) e = All-cons P x xs (tells x (and_parts (p x) (list_all p xs) e).0) (all_told tells xs (and_parts (p x) (list_all p xs) e).1)
 
   pub all_passed : ((x : X) → P x → p x ≡ true) → (xs : List X) → All P xs → list_all p xs ≡ true
   all_passed passes [] all = refl
-  all_passed passes (x ∷ xs) all = both_true (p x) (list_all p xs) (passes x (All-head P x xs all)) (all_passed passes xs (All-tail P x xs all))
+  all_passed passes (x ∷ xs) all = and_from (p x) (list_all p xs) (passes x (All-head P x xs all)) (all_passed passes xs (All-tail P x xs all))
 
 day_told : (day : ℕ) → is_entered_day day ≡ true → IsEnteredDay day
-day_told day e = grind (arith, nat_tests, left_true (nat_le 10_957 day) (nat_le day 47_481) e, right_true (nat_le 10_957 day) (nat_le day 47_481) e)
+day_told day e = grind (arith, nat_tests, (and_parts (nat_le 10_957 day) (nat_le day 47_481) e).0, (and_parts (nat_le 10_957 day) (nat_le day 47_481) e).1)
 
 day_passed : (day : ℕ) → IsEnteredDay day → is_entered_day day ≡ true
-day_passed day is = both_true (nat_le 10_957 day) (nat_le day 47_481) (grind (arith, nat_tests, is.0)) (grind (arith, nat_tests, is.1))
+day_passed day is = and_from (nat_le 10_957 day) (nat_le day 47_481) (grind (arith, nat_tests, is.0)) (grind (arith, nat_tests, is.1))
 
 item_told : (item : CalendarItem) → is_entered_item item ≡ true → IsEnteredItem item
 item_told (Day kind day) e = day_told day e
 item_told (Short day close) e = day_told day e
 item_told (Span start end) e =
-    let rest : (nat_lt start end && nat_le end 4_102_531_200) ≡ true = right_true (nat_le 946_598_400 start) (nat_lt start end && nat_le end 4_102_531_200) e in
-    let a : nat_le 946_598_400 start ≡ true = left_true (nat_le 946_598_400 start) (nat_lt start end && nat_le end 4_102_531_200) e in
-    let b : nat_lt start end ≡ true = left_true (nat_lt start end) (nat_le end 4_102_531_200) rest in
-    let d : nat_le end 4_102_531_200 ≡ true = right_true (nat_lt start end) (nat_le end 4_102_531_200) rest in
+    let rest : (nat_lt start end && nat_le end 4_102_531_200) ≡ true = (and_parts (nat_le 946_598_400 start) (nat_lt start end && nat_le end 4_102_531_200) e).1 in
+    let a : nat_le 946_598_400 start ≡ true = (and_parts (nat_le 946_598_400 start) (nat_lt start end && nat_le end 4_102_531_200) e).0 in
+    let b : nat_lt start end ≡ true = (and_parts (nat_lt start end) (nat_le end 4_102_531_200) rest).0 in
+    let d : nat_le end 4_102_531_200 ≡ true = (and_parts (nat_lt start end) (nat_le end 4_102_531_200) rest).1 in
     (grind (arith, nat_tests), grind (arith, nat_tests), grind (arith, nat_tests))
 
 item_passed : (item : CalendarItem) → IsEnteredItem item → is_entered_item item ≡ true
 item_passed (Day kind day) is = day_passed day is
 item_passed (Short day close) is = day_passed day is
 item_passed (Span start end) is =
-    both_true (nat_le 946_598_400 start) (nat_lt start end && nat_le end 4_102_531_200) (grind (arith, nat_tests, is.0))
-    (both_true (nat_lt start end) (nat_le end 4_102_531_200) (grind (arith, nat_tests, is.1)) (grind (arith, nat_tests, is.2)))
+    and_from (nat_le 946_598_400 start) (nat_lt start end && nat_le end 4_102_531_200) (grind (arith, nat_tests, is.0))
+    (and_from (nat_lt start end) (nat_le end 4_102_531_200) (grind (arith, nat_tests, is.1)) (grind (arith, nat_tests, is.2)))
 
 module _ (zone : ZoneRules) where
   begin_told : (acts : List Act) → list_all (begins_in_time zone) acts ≡ true → list_all (begins_on_entered_day zone) acts ≡ true
   begin_told [] e = refl
   begin_told (a ∷ acts) e =
-      both_true (begins_on_entered_day zone a) (list_all (begins_on_entered_day zone) acts) (one a (left_true (begins_in_time zone a) (list_all (begins_in_time zone) acts) e))
-      (begin_told acts (right_true (begins_in_time zone a) (list_all (begins_in_time zone) acts) e))
+      and_from (begins_on_entered_day zone a) (list_all (begins_on_entered_day zone) acts) (one a (and_parts (begins_in_time zone a) (list_all (begins_in_time zone) acts) e).0)
+      (begin_told acts (and_parts (begins_in_time zone a) (list_all (begins_in_time zone) acts) e).1)
     where
       one : (b : Act) → begins_in_time zone b ≡ true → begins_on_entered_day zone b ≡ true
-      one (act.Start (start.Hours hours)) f = right_true (is_instant hours.at) _ f
+      one (act.Start (start.Hours hours)) f = (and_parts (is_instant hours.at) _ f).1
       one _ f = refl
 
   begin_one : (b : Act) → is_within b ≡ true → begins_on_entered_day zone b ≡ true → begins_in_time zone b ≡ true
-  begin_one (act.Start (start.Hours hours)) w f = both_true (is_instant hours.at) _ (left_true (is_instant hours.at) _ w) f
+  begin_one (act.Start (start.Hours hours)) w f = and_from (is_instant hours.at) _ (and_parts (is_instant hours.at) _ w).0 f
   begin_one _ w f = refl
 
   begin_passed : (acts : List Act) → list_all is_within acts ≡ true → list_all (begins_on_entered_day zone) acts ≡ true → list_all (begins_in_time zone) acts ≡ true
   begin_passed [] w e = refl
   begin_passed (a ∷ acts) w e =
-      both_true (begins_in_time zone a) (list_all (begins_in_time zone) acts)
-      (begin_one a (left_true (is_within a) (list_all is_within acts) w) (left_true (begins_on_entered_day zone a) (list_all (begins_on_entered_day zone) acts) e))
-      (begin_passed acts (right_true (is_within a) (list_all is_within acts) w) (right_true (begins_on_entered_day zone a) (list_all (begins_on_entered_day zone) acts) e))
+      and_from (begins_in_time zone a) (list_all (begins_in_time zone) acts)
+      (begin_one a (and_parts (is_within a) (list_all is_within acts) w).0 (and_parts (begins_on_entered_day zone a) (list_all (begins_on_entered_day zone) acts) e).0)
+      (begin_passed acts (and_parts (is_within a) (list_all is_within acts) w).1 (and_parts (begins_on_entered_day zone a) (list_all (begins_on_entered_day zone) acts) e).1)
 
   all_within : (acts : List Act) → acts_ok acts ≡ true → list_all is_within acts ≡ true
   all_within acts e =
       let counted = nat_le 1 (length acts) && nat_le (length acts) 100 in
-      right_true counted (list_all is_within acts) (left_true (counted && list_all is_within acts) _ e)
+      (and_parts counted (list_all is_within acts) (and_parts (counted && list_all is_within acts) _ e).0).1
 
   pub list_told : (acts : List Act) → are_acts zone acts ≡ true → AreActs zone acts
-  list_told acts e = (left_true (acts_ok acts) _ e, begin_told acts (right_true (acts_ok acts) _ e))
+  list_told acts e = ((and_parts (acts_ok acts) _ e).0, begin_told acts (and_parts (acts_ok acts) _ e).1)
 
   pub list_passed : (acts : List Act) → AreActs zone acts → are_acts zone acts ≡ true
-  list_passed acts is = both_true (acts_ok acts) (list_all (begins_in_time zone) acts) is.0 (begin_passed acts (all_within acts is.0) is.1)
+  list_passed acts is = and_from (acts_ok acts) (list_all (begins_in_time zone) acts) is.0 (begin_passed acts (all_within acts is.0) is.1)
 
   acts_told : (d : DeadlineView) → are_acts zone d.acts ≡ true → AreActs zone d.acts
   acts_told d e = list_told d.acts e

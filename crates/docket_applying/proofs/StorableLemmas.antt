@@ -3,6 +3,7 @@ use Rattle.std.proofs.Common.{◌≡◌, ℕ, ◌+◌, ◌≤◌, ◌<◌, ◌^�
 use Rattle.std.specs.Prelude.{filter, if◌then◌else◌}
 use Rattle.std.specs.List.{AllByRecursion}
 use Rattle.std.proofs.lemmas.Bool.Decides.{nat_tests}
+use Rattle.std.proofs.lemmas.Bool.{and_parts, not-false}
 use Rattle.std.proofs.lemmas.List.Elements.{filter-append, filter_map-append}
 use Rattle.court_days.specs.Court.{CourtSettings}
 use Rattle.court_days.specs.declared.calendar.DayKind.{DayKind}
@@ -29,7 +30,6 @@ use Rattle.docket_command.specs.declared.choice.Role.TheVariants as role
 use Rattle.docket_command.specs.declared.command.Action.{Action}
 use Rattle.docket_command.specs.declared.command.Action.TheVariants as action
 use Rattle.docket_command.specs.declared.command.Command.{Command}
-use Rattle.docket_command.specs.declared.field.Field.{Field}
 use Rattle.docket_command.specs.declared.refusal.Refusal.{Refusal}
 use Rattle.docket_command.specs.declared.refusal.Reply.{Reply}
 use Rattle.docket_history.specs.Actions.{rows_asked, row_withdrawn}
@@ -49,19 +49,19 @@ use Rattle.docket_decisions.specs.Outcomes.{IsHistory, outcome, accepted, shown,
 use Rattle.docket_decisions.specs.Refusals.{on, first_some}
 use Rattle.docket_decisions.specs.Tables.{Tables, rows_of, changed, all_changed, with_receipt, withdrawal, action_changes, calendar_changes, case_changes, party_changes, entry_changes, deadline_changes, first_act_changes, act_changes, view_in}
 use Rattle.docket_decisions.specs.CalendarRows.{is_sound_item, is_well_named}
-use Rattle.docket_decisions.proofs.GoodValues.{IsGoodRow, not_false, rows_good}
+use Rattle.docket_decisions.proofs.GoodValues.{IsGoodRow, rows_good, passes}
 use Rattle.docket_decisions.proofs.Leading.{leads, is_accepted}
 use Rattle.docket_decisions.proofs.LimitsKept.{IsPassed, passed}
-use Rattle.docket_decisions.proofs.Passed.{left_true, right_true}
+use Rattle.docket_decisions.proofs.ListLemmas.{all_both}
 use Rattle.docket_wire.specs.Valid.{IsCommand}
 use Rattle.docket_wire.specs.Writing.{canonical}
 use Rattle.docket_columns.specs.Cells.{receipt_cells}
 use Rattle.docket_columns.specs.Codes.{flag_number, role_number, direction_number, way_number, motion_number, day_kind_number, unit_number, act_code}
 use Rattle.docket_columns.specs.Fits.{IsCalendarRow, IsShortDayRow, IsCaseRow, IsPartyRow, IsEntryRow, IsDeadlineRow, IsActRow, IsReceipt, IsLocalRuleRow, IsAct}
-use Rattle.docket_orderly.proofs.ListLemmas.{all_both}
 use Rattle.docket_orderly.proofs.ParentLemmas.{additions_of, withdrawal_first}
 use Rattle.docket_orderly.specs.Orderly.{IsCourtSettings, IsOrderly}
 use Rattle.docket_orderly.proofs.DocketLemmas.{orderly}
+use Rattle.docket_orderly.proofs.AdditionLemmas.{all_add}
 use Rattle.docket_tables.specs.Additions.{IsStorableValue, AreStorable, calendar_values, values_added}
 use Rattle.sqlite.specs.declared.types.Value.TheVariants.{Int}
 
@@ -152,11 +152,6 @@ typed_after : (w : Option ℕ) (xs : List Change) (t : Tables) → AllByRecursio
 typed_after None xs t add all = (typed_all xs t add all).0
 typed_after (Some number) xs t add all = (tt, (typed_all xs (changed (change.RemoveCalendar number) t) add all).0)
 
--- changes that add rows are additions
-all_add : {R : Type 0} (make : R → Change) → ((row : R) → IsAddition (make row)) → (rows : List R) → AllByRecursion IsAddition (map make rows)
-all_add make is [] = tt
-all_add make is (row ∷ rows) = (is row, all_add make is rows)
-
 -- all changes of an action but the withdrawal are
 are_additions : (v : View) (a : Action) → AllByRecursion IsAddition (additions_of v a)
 are_additions v a =
@@ -210,13 +205,13 @@ HasShortTexts _ = Unit {0}
 -- a text within a limit that is less
 within : (low limit : ℕ) (text : List ℕ) (b : Bool) → limit ≤ 10_000_000 → ((nat_le low (length text) && nat_le (length text) limit) && b) ≡ true → IsShort text
 within low limit text b few e =
-    let most : nat_le (length text) limit ≡ true = right_true (nat_le low (length text)) _ (left_true (nat_le low (length text) && nat_le (length text) limit) b e) in
+    let most : nat_le (length text) limit ≡ true = (and_parts (nat_le low (length text)) _ (and_parts (nat_le low (length text) && nat_le (length text) limit) b e).0).1 in
     let least : length text ≤ limit = grind (arith, nat_tests) in
     omega (arith, least, few)
 
 -- a text that is not bad
 good : (limit : ℕ) (text : List ℕ) (b : Bool) → limit ≤ 10_000_000 → not ((nat_le 1 (length text) && nat_le (length text) limit) && b) ≡ false → IsShort text
-good limit text b few e = within 1 limit text b few (not_false ((nat_le 1 (length text) && nat_le (length text) limit) && b) e)
+good limit text b few e = within 1 limit text b few (not-false ((nat_le 1 (length text) && nat_le (length text) limit) && b) e)
 
 -- the name of a local rule
 local_short : (name : List ℕ) → is_local_name name ≡ true → IsShort name
@@ -247,12 +242,7 @@ named_short (item.Short day close) name e = within 1 100 name _ (omega arith) e
 all_short : (court : CourtSettings) (rows : List NewRow) → AllByRecursion (IsGoodRow court) rows → AreShort rows
 all_short court [] good = tt
 all_short court (row ∷ rows) good =
-    (named_short row.item row.name (right_true (is_sound_item court row.item) (is_well_named row.item row.name) good.0), all_short court rows good.1)
-
--- where a first check passes, so do the others
-passes : (b : Bool) (f : Field) (rest : Option Field) → (if b then Some f else rest) ≡ None → (b ≡ false) × (rest ≡ None)
-passes true f rest e = absurd (cc)
-passes false f rest e = (refl, e)
+    (named_short row.item row.name (and_parts (is_sound_item court row.item) (is_well_named row.item row.name) good.0).1, all_short court rows good.1)
 
 -- the texts of a command that is accepted
 module _ (court : CourtSettings) (h : History) where
@@ -279,7 +269,7 @@ module _ (court : CourtSettings) (h : History) where
 
   -- the name of a local rule
   rule_short : (count : ℕ) (a : Action) → IsPassed court h a → AllByRecursion HasShortTexts (map change.AddLocalRule (new_local_rule count a))
-  rule_short count (action.LocalRule a) p = (local_short a.name (not_false (is_local_name a.name) (passes _ _ _ p.values).0), tt)
+  rule_short count (action.LocalRule a) p = (local_short a.name (not-false (is_local_name a.name) (passes _ _ _ p.values).0), tt)
   rule_short count _ p = tt
 
 -- of rows that are asked for, those that don't stand

@@ -11,17 +11,17 @@ use Rattle.docket_command.specs.declared.refusal.Reply.{Reply}
 use Rattle.docket_decisions.specs.Decisions.{IsAnswer, IsChange, LeadsTo, MovesEnds}
 use Rattle.docket_history.specs.Histories.{History, standing_rows, items_of}
 use Rattle.docket_decisions.specs.Outcomes.{IsHistory, shown, outcome, after, repeated, refused, accepted}
-use Rattle.docket_decisions.specs.Tables.{action_changes, rows_of}
+use Rattle.docket_decisions.specs.Tables.{action_changes}
 use Rattle.docket_decisions.specs.declared.decision.Changes.{Changes}
 use Rattle.docket_decisions.specs.declared.decision.Decision.{Decision}
 use Rattle.docket_decisions.specs.declared.decision.Decision.TheVariants.{Change}
 use Rattle.docket_history.specs.declared.item.CalendarItem.{CalendarItem}
 use Rattle.docket_history.specs.declared.view.View.{View}
 use Rattle.docket_wire.specs.Valid.{IsCommand}
-use Rattle.docket_tables.specs.Contents.{rows_in}
 use Rattle.docket_tables.specs.Layouts.{Rows}
 use Rattle.docket_orderly.specs.Orderly.{IsCourtSettings}
 use Rattle.docket_tables.specs.Stands.{HoldsRows, Lasts, LastsAsEither}
+pub use Rattle.docket_calendar.specs.Telling.{docket_rows}
 use Rattle.docket_applying.specs.Dockets.{Docket}
 use Rattle.docket_applying.specs.declared.fault.Fault.{Fault}
 use Rattle.docket_applying.specs.declared.fault.Fault.TheVariants.{Refused, NoMemory, StoreFailed, Damaged}
@@ -32,10 +32,6 @@ pub record IsDocket (court : CourtSettings) (h : History) : Type 0 where
   pub zone : IsSome (zone_at court.zone_text)
   pub history : IsHistory court h
   pub commands : AllByRecursion IsCommand h
-
--- the rows of a docket
-abbrev pub docket_rows : CourtSettings → History → Rows
-docket_rows court h = rows_in court (rows_of court h)
 
 -- what is kept of the calendar beside the connection, if anything, is the calendar of the history
 abbrev pub Keeps : Option (List CalendarItem) → History → Type 0

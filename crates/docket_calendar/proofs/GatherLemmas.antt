@@ -14,7 +14,7 @@ use Rattle.docket_tables.specs.Causes.{IsCausedFault}
 use Rattle.docket_tables.specs.declared.fault.ReadFault.{ReadFault}
 use Rattle.docket_tables.specs.declared.fault.ReadFault.TheVariants.{Store, NoMemory, Damaged}
 use Rattle.docket_tables.proofs.PassedCauses.{fault_after}
-use Rattle.docket_calendar.specs.Asked.{Gave, Next, RemainsAt, RemainsAfter}
+use Rattle.docket_calendar.specs.Asked.{Gave, Next, RemainsAfter}
 use Rattle.docket_calendar.specs.Gathering.{ComesTo}
 use Rattle.docket_calendar.specs.Sending.{LeavesAt}
 use Rattle.docket_calendar.proofs.TellLemmas.{leaves_from, remains_at, unchanged_still}
@@ -31,10 +31,6 @@ module _ {S : Type 0} (g : Ghosts S) where
   pub err_comes : {X : Type 0} (old new : Held S) (answer : X → Type 0) (fault : ReadFault) (res : Result X ReadFault) → IsErrAnd res (λ f. f ≡ fault) → LeavesAt g old new fault → ComesTo g old new answer res
   err_comes old new answer fault (Ok x) same left = absurd same
   err_comes old new answer fault (Err f) same left = subst (LeavesAt g old new) (sym same) left
-
-  pub err_after : {X : Type 0} (old mid new : Held S) (fault : ReadFault) (res : Result X ReadFault) → IsErrAnd res (λ f. f ≡ fault) → IsUnchanged (state g old) (state g mid) → RemainsAt g mid new fault → RemainsAfter g old new res
-  err_after old mid new fault (Ok x) is same left = absurd is
-  err_after old mid new fault (Err f) is same left = subst (RemainsAt g old new) (sym is) (remains_at g old mid new fault same left)
 
   pub remains_later : {X : Type 0} (old mid new : Held S) (res : Result X ReadFault) → IsUnchanged (state g old) (state g mid) → RemainsAfter g mid new res → RemainsAfter g old new res
   remains_later old mid new (Ok x) same left = unchanged_then (state g old) (state g mid) (state g new) same left

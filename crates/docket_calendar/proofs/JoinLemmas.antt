@@ -1,8 +1,7 @@
 -- What answers the question, over the rows of the two trees.
-use Rattle.std.proofs.Common.{◌≡◌, ℕ, ◌+◌, ◌<◌, ◌^◌, nat_le, Option, None, unwrap_or, Bool, true, false, cond, List, [], ◌∷◌, map, length, All, IsPermutation, IsSorted, Ordering, is_lt, refl, sym, ap, ap₂, subst, subst₂, ◌∙◌, arith}
+use Rattle.std.proofs.Common.{◌≡◌, ℕ, ◌^◌, nat_le, Option, None, unwrap_or, Bool, true, false, cond, List, [], ◌∷◌, map, All, IsPermutation, IsSorted, refl, sym, ap, ap₂, subst, subst₂, ◌∙◌}
 use Rattle.std.specs.Ordering.{on}
 use Rattle.std.specs.List.{list_all, flat_map}
-use Rattle.std.proofs.lemmas.List.{get_or-map, length-map}
 use Rattle.std.proofs.lemmas.List.Sorted.{IsPermutation-map, All-permutation}
 use Rattle.std.proofs.lemmas.List.Elements.{All-from_recursion}
 use Rattle.sqlite_trees.proofs.ListLemmas.{map-map, map-flat_map, flat_map-map, flat_map_same_on, all_of, all-map}
@@ -14,6 +13,7 @@ use Rattle.sqlite.specs.Query.{inner, end, Output, output, key_cmp, IsAnswerAs, 
 use Rattle.sqlite.specs.Program.{overlay}
 use Rattle.sqlite_value.specs.declared.keys.Key.{Key}
 use Rattle.docket_tables.specs.Holds.{cells}
+use Rattle.docket_tables.proofs.SelectLemmas.{sorted_shown}
 use Rattle.docket_calendar.proofs.JoinMeans.{due_places, deadline_places}
 use Rattle.docket_calendar.specs.Joined.{joined, shown_cells, order_cells}
 use Rattle.docket_calendar.proofs.JoinMeans.{asked, tests, by_number}
@@ -52,13 +52,6 @@ shown_are db params =
     map-flat_map show (λ d. flat_map (one params d) (db 9)) (db 15)
     ∙ flat_map_same_on _ _ (λ d. map-flat_map show (one params d) (db 9) ∙ flat_map_same_on _ _ (shown_one params d) (db 9) ∙ sym (flat_map-map (λ L. cond (passes params (cells due_places d) L) (shown_cells (cells due_places d) L ∷ []) []) (cells deadline_places) (db 9))) (db 15)
     ∙ sym (flat_map-map (λ D. right D (map (cells deadline_places) (db 9))) (cells due_places) (db 15))
-
-sorted_shown : (cmp : Row → Row → Ordering) (picks : Row → Row) (all : List Output) → All (λ o. o.0 ≡ picks o.1) all → IsSorted (on (λ o. o.0) cmp) all → IsSorted (on picks cmp) (map (λ o. o.1) all)
-sorted_shown cmp picks all each sorted k d low high =
-    let inside : k + 1 < length all = rw length-map at high in
-    let e : Output = (picks d, d) in
-    let is = ap₂ (λ a b. is_lt (cmp a b)) (each (k + 1) e inside) (each k e (omega arith)) in
-    rw (get_or-map (λ (o : Output). o.1) all (k + 1) e d inside, get_or-map (λ (o : Output). o.1) all k e d (omega arith)) (sym is ∙ sorted k e low inside)
 
 -- the rows are those of the join, in order
 pub record IsJoin (params : Row) (db : Trees) (rows : List Row) : Type 0 where

@@ -25,7 +25,7 @@ use Rattle.docket_calendar.specs.Calendar.{calendar_rows}
 use Rattle.docket_calendar.specs.Gathering.{ComesTo}
 use Rattle.docket_calendar.specs.Question.{question, days_asked}
 use Rattle.docket_calendar.specs.Sending.{LeavesAt, Remains, SendsAll}
-use Rattle.docket_calendar.specs.Telling.{IsHistoryOf, Stays, Tells, history_rows}
+use Rattle.docket_calendar.specs.Telling.{IsHistoryOf, Stays, Tells, docket_rows}
 use Rattle.docket_calendar.specs.declared.stop.Stop.{Stop}
 use Rattle.docket_calendar.specs.declared.stop.Stop.TheVariants.{NotBegun, Broken, WriteFailed}
 use Rattle.docket_calendar.proofs.HistoryLemmas.{listable, is_calendar}
@@ -71,22 +71,22 @@ module _ {S : Type 0} (g : Ghosts S) (rows : Rows) (old new : Held S) (was : Hol
   found_stays (Ok x) left = (mode was.0, λ clean. settled clean (left (plainly clean) clean))
   found_stays (Err fault) left = stays_at fault (λ clean. left (plainly clean) clean)
 
-module _ {S : Type 0} (g : Ghosts S) (court : CourtSettings) (h : History) (old new : Held S) (is : IsHistoryOf court h) (was : HoldsRows g old (history_rows court h))
+module _ {S : Type 0} (g : Ghosts S) (court : CourtSettings) (h : History) (old new : Held S) (is : IsHistoryOf court h) (was : HoldsRows g old (docket_rows court h))
     (mode : old.in_transaction ≡ false → new.in_transaction ≡ false) (early : doubt (state g old).is_clean ≤ doubt (state g new).is_clean)
     (crash : IsPlain (understood old.schema question) → Survives (state g old) (state g new) (λ _. ⊥)) where
   -- a list that the question came to is given of the tables
-  pub gives : {X : Type 0} (answer : X → Type 0) (res : Result X ReadFault) → (HasCleanDisk (state g new) → ComesTo g old new answer res) → Gives g new (history_rows court h) answer res
-  gives answer (Ok x) comes = ((mode was.0, λ clean. settled g (history_rows court h) old new was mode early crash clean (comes clean).0), λ clean. (comes clean).1)
-  gives answer (Err fault) comes = fails g (history_rows court h) old new was mode early crash fault comes
+  pub gives : {X : Type 0} (answer : X → Type 0) (res : Result X ReadFault) → (HasCleanDisk (state g new) → ComesTo g old new answer res) → Gives g new (docket_rows court h) answer res
+  gives answer (Ok x) comes = ((mode was.0, λ clean. settled g (docket_rows court h) old new was mode early crash clean (comes clean).0), λ clean. (comes clean).1)
+  gives answer (Err fault) comes = fails g (docket_rows court h) old new was mode early crash fault comes
 
-module _ {S : Type 0} (g : Ghosts S) (court : CourtSettings) (h : History) (from to : ℕ) (front : List ℕ) (u v : Option (List ℕ)) (old new : Held S) (is : IsHistoryOf court h) (was : HoldsRows g old (history_rows court h))
+module _ {S : Type 0} (g : Ghosts S) (court : CourtSettings) (h : History) (from to : ℕ) (front : List ℕ) (u v : Option (List ℕ)) (old new : Held S) (is : IsHistoryOf court h) (was : HoldsRows g old (docket_rows court h))
     (mode : old.in_transaction ≡ false → new.in_transaction ≡ false) (early : doubt (state g old).is_clean ≤ doubt (state g new).is_clean)
     (crash : IsPlain (understood old.schema question) → Survives (state g old) (state g new) (λ _. ⊥)) where
-  as_settled : HasCleanDisk (state g new) → IsUnchanged (state g old) (state g new) → IsSettled (state g new) (history_rows court h)
-  as_settled = settled g (history_rows court h) old new was mode early crash
+  as_settled : HasCleanDisk (state g new) → IsUnchanged (state g old) (state g new) → IsSettled (state g new) (docket_rows court h)
+  as_settled = settled g (docket_rows court h) old new was mode early crash
 
-  failing : (fault : ReadFault) → (HasCleanDisk (state g new) → LeavesAt g old new fault) → Fails g new (history_rows court h) fault
-  failing = fails g (history_rows court h) old new was mode early crash
+  failing : (fault : ReadFault) → (HasCleanDisk (state g new) → LeavesAt g old new fault) → Fails g new (docket_rows court h) fault
+  failing = fails g (docket_rows court h) old new was mode early crash
 
   pub tells : (res : Result ℕ Stop) → (HasCleanDisk (state g new) → SendsAll g court (calendar_rows court h from to) front u v old new res) → Tells g court h from to front u v new res
   tells (Ok n) sends = ((mode was.0, λ clean. as_settled clean (sends clean).0), λ clean. ((sends clean).1, (sends clean).2))
@@ -95,7 +95,7 @@ module _ {S : Type 0} (g : Ghosts S) (court : CourtSettings) (h : History) (from
   tells (Err WriteFailed) sends = ((mode was.0, λ clean. as_settled clean (sends clean).1), λ clean. (sends clean).0)
 
 -- a connection that holds the rows answers by the calendar of the history
-pub lists_of : {S : Type 0} (g : Ghosts S) (court : CourtSettings) (h : History) (from to : ℕ) (old : Held S) → IsHistoryOf court h → HoldsRows g old (history_rows court h) → HasCleanDisk (state g old)
+pub lists_of : {S : Type 0} (g : Ghosts S) (court : CourtSettings) (h : History) (from to : ℕ) (old : Held S) → IsHistoryOf court h → HoldsRows g old (docket_rows court h) → HasCleanDisk (state g old)
     → Lists question (days_asked from to) court (calendar_in (rows_of court h)) (state g old).now (calendar_rows court h from to)
 lists_of g court h from to old is was clean =
     let held = was.1 clean in

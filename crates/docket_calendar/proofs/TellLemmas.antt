@@ -1,7 +1,7 @@
 -- What a calendar that is written row by row comes to, wherever it stops.
 use Rattle.std.proofs.Common.{◌≡◌, ◌⊎◌, inl, inr, ℕ, ◌+◌, Bool, true, false, List, [], ◌++◌, Option, Some, None, Result, Ok, Err, IsTrue, IsErrAnd, is_some, append-nil, refl, sym, ap, subst, subst₂, ◌∙◌}
 use Rattle.std.specs.Io.KnownBytes.{Appends}
-use Rattle.std.proofs.KnownBytes.{Appends-nil, Appends-trans}
+use Rattle.std.proofs.KnownBytes.{Appends-trans}
 use Rattle.sqlite.specs.Order.{Row}
 use Rattle.sqlite.specs.Effect.{Database}
 use Rattle.sqlite.specs.Store.{Ghosts}
@@ -140,10 +140,6 @@ module _ {S : Type 0} (g : Ghosts S) (court : CourtSettings) (listed : List DueL
       stops_as out (Ok x) stop is same sends = absurd same
       stops_as out (Err f) stop is same sends =
           subst (λ e. SendsAll g court listed front u w old new (Err e)) (sym same) (stops stop (subst (λ (o : List ℕ). SendsNext g sql params court listed n o v w now new (Err stop)) is sends))
-
-  -- before the first line
-  pub nothing_told : (front sql : List ℕ) (params : Row) (u : Option (List ℕ)) (old : Held S) → IsTrue (state g old).is_open → Gave g sql params court listed 0 old → IsTold front sql params 0 u u old old
-  nothing_told front sql params u old is_open gave = record { same = unchanged_still (state g old) is_open; gave = gave; went = Appends-nil u }
 
   -- the same after a question that changed nothing
   pub sends_from : (front : List ℕ) (u v : Option (List ℕ)) (old mid new : Held S) (res : Result ℕ Stop) → IsUnchanged (state g old) (state g mid) → SendsAll g court listed front u v mid new res → SendsAll g court listed front u v old new res

@@ -27,8 +27,9 @@ pub record IsHistoryOf (court : CourtSettings) (h : History) : Type 0 where
   pub history : IsHistory court h
   pub commands : AllByRecursion IsCommand h
 
-abbrev pub history_rows : CourtSettings → History → Rows
-history_rows court h = rows_in court (rows_of court h)
+-- the rows of the docket of a history
+abbrev pub docket_rows : CourtSettings → History → Rows
+docket_rows court h = rows_in court (rows_of court h)
 
 -- what the writing of a calendar leaves of rows, whatever they are: the connection holds them still, but where the store failed it may be shut
 abbrev pub Stays : {S : Type 0} (g : Ghosts S) → Held S → Rows → Result ℕ Stop → Type 0
@@ -42,10 +43,10 @@ module _ {S : Type 0} (g : Ghosts S) (court : CourtSettings) (h : History) (from
   -- the writer failed. The rows stand as they were; where the store failed, the connection may be shut
   abbrev pub Tells : Option (List ℕ) → Option (List ℕ) → Held S → Result ℕ Stop → Type 0
   Tells before after new (Ok lines) =
-      HoldsRows g new (history_rows court h)
+      HoldsRows g new (docket_rows court h)
       × (HasCleanDisk (state g new) → Appends before after (front ++ text_of_calendar court h from to) × (lines ≡ length (calendar_rows court h from to)))
-  Tells before after new (Err (NotBegun fault)) = Fails g new (history_rows court h) fault × (HasCleanDisk (state g new) → Appends before after [])
+  Tells before after new (Err (NotBegun fault)) = Fails g new (docket_rows court h) fault × (HasCleanDisk (state g new) → Appends before after [])
   Tells before after new (Err (Broken fault)) =
-      Fails g new (history_rows court h) fault × (HasCleanDisk (state g new) → HasBegun before after (front ++ text_of_calendar court h from to))
+      Fails g new (docket_rows court h) fault × (HasCleanDisk (state g new) → HasBegun before after (front ++ text_of_calendar court h from to))
   Tells before after new (Err WriteFailed) =
-      HoldsRows g new (history_rows court h) × (HasCleanDisk (state g new) → HasFront before after (front ++ text_of_calendar court h from to))
+      HoldsRows g new (docket_rows court h) × (HasCleanDisk (state g new) → HasFront before after (front ++ text_of_calendar court h from to))

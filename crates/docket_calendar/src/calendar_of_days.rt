@@ -16,7 +16,7 @@ ghost use Rattle.docket_calendar.specs.Asked.{Lists};
 ghost use Rattle.docket_calendar.specs.Question.{question, days_asked};
 ghost use Rattle.docket_calendar.specs.Sending.{Remains, SendsAll};
 ghost use Rattle.docket_calendar.specs.Stops.{IsCausedStop};
-ghost use Rattle.docket_calendar.specs.Telling.{IsHistoryOf, Stays, Tells, history_rows};
+ghost use Rattle.docket_calendar.specs.Telling.{IsHistoryOf, Stays, Tells, docket_rows};
 
 use crate::sending::send_all;
 use crate::stop::Stop;
@@ -114,7 +114,7 @@ pub fn calendar<S: Alter, W: Write>(
     ensures cause { (rows : Rows) → HoldsRows S.Store conn.old rows → HasCleanDisk (state S.Store conn.new)
         → IfErr result (IsCausedStop (state S.Store conn.old) (state S.Store conn.new)) }
     ensures stays { (rows : Rows) → HoldsRows S.Store conn.old rows → Stays S.Store conn.new rows result }
-    ensures tells { (h : History) → IsHistoryOf court.now h → HoldsRows S.Store conn.old (history_rows court.now h)
+    ensures tells { (h : History) → IsHistoryOf court.now h → HoldsRows S.Store conn.old (docket_rows court.now h)
         → (HasCleanDisk (state S.Store conn.new) → entered.now ≡ calendar_in (rows_of court.now h))
         → Tells S.Store court.now h from to front.now (W.contents writer.old) (W.contents writer.new) conn.new result }
 {

@@ -20,7 +20,7 @@ ghost use Rattle.docket_calendar.specs.Calendar.{calendar_rows};
 ghost use Rattle.docket_calendar.specs.Gathering.{ComesTo};
 ghost use Rattle.docket_calendar.specs.Question.{question, days_asked};
 ghost use Rattle.docket_calendar.specs.Stops.{IsUnderWay};
-ghost use Rattle.docket_calendar.specs.Telling.{IsHistoryOf, history_rows};
+ghost use Rattle.docket_calendar.specs.Telling.{IsHistoryOf, docket_rows};
 
 use crate::calendar_of_days::question;
 use crate::next::next_due;
@@ -123,9 +123,9 @@ pub fn due_rows<S: Alter>(
     to: Day,
 ) -> Result<Vec<DueLine>, ReadFault>
     ensures only { OnlyAsks S.Store conn.old conn.new result }
-    ensures gives { (h : History) → IsHistoryOf court.now h → HoldsRows S.Store conn.old (history_rows court.now h)
+    ensures gives { (h : History) → IsHistoryOf court.now h → HoldsRows S.Store conn.old (docket_rows court.now h)
         → (HasCleanDisk (state S.Store conn.new) → entered.now ≡ calendar_in (rows_of court.now h))
-        → Gives S.Store conn.new (history_rows court.now h) (λ found. found.items ≡ calendar_rows court.now h from to) result }
+        → Gives S.Store conn.new (docket_rows court.now h) (λ found. found.items ≡ calendar_rows court.now h from to) result }
 {
     gather_days(conn, alloc, court, entered, from, to)
 }

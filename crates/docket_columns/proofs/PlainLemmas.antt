@@ -1,6 +1,6 @@
 -- What is bound as a number or as a text is that value.
-use Rattle.std.proofs.Common.{◌≡◌, true, false, Bool, cond, ◌&&◌, IsTrue, List, [], ◌∷◌, map, refl, ap, sym, subst, ◌∙◌}
-use Rattle.std.proofs.lemmas.Bool.{false≢true}
+use Rattle.std.proofs.Common.{◌≡◌, true, false, Bool, cond, IsTrue, List, [], ◌∷◌, map, refl, ap, sym, subst, ◌∙◌}
+use Rattle.std.proofs.lemmas.Bool.{and_parts, false≢true}
 use Rattle.std.specs.Float.{Float}
 use Rattle.std.specs.Prelude.{is_nan}
 use Rattle.sqlite_value.specs.declared.value.Value.{Value}
@@ -22,14 +22,10 @@ plain_value (Real x) plain = real_value (is_nan x) x plain
 plain_value (Text t) plain = refl
 plain_value (Blob b) plain = refl
 
-both : (a b : Bool) → IsTrue (a && b) → IsTrue a × IsTrue b
-both true b h = (refl, h)
-both false b h = absurd (false≢true h)
-
 plain_values : (vs : List ValueRef) → IsTrue (are_plain (bound vs)) → map owned vs ≡ bound vs
 plain_values [] plain = refl
 plain_values (v ∷ vs) plain =
-    let parts = both _ _ plain in
+    let parts = and_parts _ _ plain in
     ap (λ x. x ∷ map owned vs) (plain_value (owned v) parts.0) ∙ ap (λ xs. bound_value (owned v) ∷ xs) (plain_values vs parts.1)
 
 pub bound_is : (vs : List ValueRef) (cells : Row) → IsTrue (are_plain cells) → bound vs ≡ cells → map owned vs ≡ cells

@@ -1,5 +1,6 @@
 -- What is kept under a key: a stored text is that of the same command.
-use Rattle.std.proofs.Common.{◌≡◌, ℕ, List, Bool, true, false, Some, refl, ap, sym, ◌∙◌}
+use Rattle.std.proofs.Common.{◌≡◌, ℕ, List, Bool, Some, ap, ◌∙◌}
+use Rattle.std.proofs.lemmas.Bool.Decides.{same_from_decides}
 use Rattle.std.specs.Prelude.{if◌then◌else◌}
 use Rattle.docket_history.specs.declared.view.UnderKey.TheVariants.{Same, Other}
 use Rattle.std.specs.Str.{bytes_eq}
@@ -15,16 +16,10 @@ use Rattle.docket_wire.proofs.CanonicalLemmas.{unique}
 use Rattle.docket_columns.specs.Cells.{kept_as}
 use Rattle.docket_columns.specs.Fits.{IsReceipt}
 
-same_answer : (a b : Bool) → (a ≡ true → b ≡ true) → (b ≡ true → a ≡ true) → a ≡ b
-same_answer true b there back = sym (there refl)
-same_answer false true there back = back refl
-same_answer false false there back = refl
-
 same_text : (c d : Command) → IsCommand c → IsCommand d → bytes_eq (canonical c) (canonical d) ≡ is_same_command c d
 same_text c d ok fine =
-    same_answer _ _
-    (λ e. (same_command c d).1 (unique c d ok fine ((bytes_eq-Decides (canonical c) (canonical d)).0 e)))
-    (λ e. (bytes_eq-Decides (canonical c) (canonical d)).1 (ap canonical ((same_command c d).0 e)))
+    let same = bytes_eq-Decides (canonical c) (canonical d) in
+    same_from_decides _ _ (λ e. unique c d ok fine (same.0 e), λ e. same.1 (ap canonical e)) (same_command c d)
 
 pub kept_is : (r : Receipt) (c : Command) (body : List ℕ) → IsReceipt r → IsCommand c → body ≡ canonical c
     → kept_as (canonical r.command) r.reply.number body ≡ kept_by (Some r) c

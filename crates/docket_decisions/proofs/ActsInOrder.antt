@@ -2,6 +2,7 @@
 use Rattle.std.proofs.Common.{◌≡◌, ◌⊎◌, inl, inr, ℕ, zero, suc, ◌+◌, ◌<◌, ◌≤◌, Bool, true, false, cond, ◌&&◌, Option, Some, None, List, [], ◌∷◌, ◌++◌, length, refl, sym, ap, subst, ◌∙◌, arith, append-nil, append_assoc, length-append, ⊎_elim}
 use Rattle.std.specs.Prelude.{◌==◌, slice_get, is_none, unwrap_or, if◌then◌else◌}
 use Rattle.std.proofs.lemmas.Bool.Decides.{nat_tests}
+use Rattle.std.proofs.lemmas.Bool.{and_parts}
 use Rattle.std.proofs.lemmas.Option.{slice_get_within}
 use Rattle.court_days.specs.Court.{CourtSettings, zone_of}
 use Rattle.court_rules.specs.declared.act.Act.{Act}
@@ -119,10 +120,6 @@ acted n made later acts new false was there = record {
   missing = λ which. append-nil later ∙ was.missing which;
 }
 
-both_true : (a b : Bool) → (a && b) ≡ true → (a ≡ true) × (b ≡ true)
-both_true true b e = (refl, e)
-both_true false b e = absurd (cc)
-
 abbrev made_of : ℕ → History → List NewDeadline
 made_of k h = gathered (made_in k) (asked_in_order h)
 
@@ -201,7 +198,7 @@ module _ (court : CourtSettings) (h : History) (is : IsHistory court h) (k n : �
       let acts : acts_of_deadline k n ((act_rows h ++ first_acts (rule_found h a) count a) ++ row ∷ []) ≡ acts_of_deadline k n (act_rows h ++ first_acts (rule_found h a) count a) ++ cond (j == k && m == n) (new ∷ []) [] =
       acts_more (act_rows h ++ first_acts (rule_found h a) count a) row k n ∙ ap (λ b. acts_of_deadline k n (act_rows h ++ first_acts (rule_found h a) count a) ++ cond b (new ∷ []) []) on_row in
       let there : (j == k && m == n) ≡ true → (1 ≤ n) × (n ≤ length (made_of k h ++ made_in k (rule_found h a, a))) = λ e.
-      let both = both_true (j == k) (m == n) e in
+      let both = and_parts (j == k) (m == n) e in
       let j_is = same_number j k both.0 in
       let m_is = same_number m n both.1 in
       let high : m ≤ length (deadlines_of_case k (deadline_rows h)) = subst (λ (i : ℕ). m ≤ length (deadlines_of_case i (deadline_rows h))) j_is place.1 in

@@ -2,6 +2,7 @@
 use Rattle.std.proofs.Common.{◌≡◌, ◌⊎◌, inl, inr, ℕ, ◌+◌, ◌<◌, ◌≤◌, Bool, true, false, cond, ◌&&◌, List, [], ◌∷◌, ◌++◌, map, length, refl, sym, ap, subst, ◌∙◌, arith, append-nil, append_assoc, length-append}
 use Rattle.std.specs.Prelude.{◌==◌, filter}
 use Rattle.std.proofs.lemmas.Bool.Decides.{nat_tests}
+use Rattle.std.proofs.lemmas.Bool.{and_right}
 use Rattle.std.proofs.lemmas.List.{map-append}
 use Rattle.std.proofs.lemmas.List.Elements.{filter-append}
 use Rattle.civil_time.specs.Zone.{ZoneRules}
@@ -16,6 +17,7 @@ use Rattle.docket_history.specs.declared.row.NewDeadline.{NewDeadline}
 use Rattle.docket_history.specs.declared.row.ActRow.{ActRow}
 use Rattle.docket_history.specs.declared.row.DeadlineRow.{DeadlineRow}
 use Rattle.docket_decisions.proofs.FirstActs.{IsFirst, AreFirst}
+use Rattle.docket_decisions.proofs.InOrderLemmas.{same_number}
 
 -- lawful acts; where they are not over, there is room for one more
 pub record AreSound (zone : ZoneRules) (acts : List Act) : Type 0 where
@@ -70,9 +72,6 @@ pub record IsKept (zone : ZoneRules) (ds : List DeadlineRow) (rows : List ActRow
   pub absent : (n ≡ 0) ⊎ (length (deadlines_of_case k ds) < n) → acts_of_deadline k n rows ≡ []
   pub sound : 1 ≤ n → n ≤ length (deadlines_of_case k ds) → AreSound zone (acts_of_deadline k n rows)
 
-same_number : (m n : ℕ) → (m == n) ≡ true → m ≡ n
-same_number m n e = grind (arith, nat_tests)
-
 other_number : (m n : ℕ) → (m == n) ≡ false → ¬ (m ≡ n)
 other_number m n e = grind (arith, nat_tests)
 
@@ -104,11 +103,7 @@ module _ (zone : ZoneRules) (ds : List DeadlineRow) (rows : List ActRow) (d : De
         let count : length (deadlines_of_case k (ds ++ d ∷ [])) ≡ length (deadlines_of_case k ds) + 1 = count_more ds d k ∙ ap (λ b. length (deadlines_of_case k ds) + cond b 1 0) (let same : (d.case == k) ≡ true = grind (arith, nat_tests) in same) in
         let place : row.deadline ≡ length (deadlines_of_case k ds) + 1 = number ∙ ap (λ j. length (deadlines_of_case j ds) + 1) here in
         let apart = other_number row.deadline n e in
-        unchanged (length (deadlines_of_case k ds) + 1) count (λ high low. omega (arith, high, low, place, apart)) (omega arith) (ap (λ b. row.case == k && b) e ∙ off (row.case == k))
-      where
-        off : (b : Bool) → (b && false) ≡ false
-        off true = refl
-        off false = refl
+        unchanged (length (deadlines_of_case k ds) + 1) count (λ high low. omega (arith, high, low, place, apart)) (omega arith) (ap (λ b. row.case == k && b) e ∙ and_right (row.case == k) false refl)
 
     by_case : (b : Bool) → (d.case == k) ≡ b → IsKept zone (ds ++ d ∷ []) (rows ++ row ∷ []) k n
     by_case true e = by_number (row.deadline == n) refl (same_number _ _ e)

@@ -1,6 +1,7 @@
 -- The acts of a deadline where rows of acts are added, and those that changes add.
 use Rattle.std.proofs.Common.{◌≡◌, ◌∙◌, ◌<◌, ◌⊎◌, inl, inr, ℕ, ◌+◌, ◌==◌, ◌&&◌, Bool, true, false, cond, List, [], ◌∷◌, ◌++◌, map, filter, length, refl, sym, ap, ap₂, arith, append-nil, append_assoc}
 use Rattle.std.proofs.lemmas.Bool.Decides.{nat_tests}
+use Rattle.std.proofs.lemmas.Bool.{and_right}
 use Rattle.std.proofs.lemmas.List.{map-append}
 use Rattle.std.proofs.lemmas.List.Elements.{filter-append}
 use Rattle.court_rules.specs.declared.act.Act.{Act}
@@ -29,17 +30,13 @@ both_same k n = let a : (k == k) ≡ true = grind (arith, nat_tests) in let b : 
 pub turned : (j m k n : ℕ) → (j == k && m == n) ≡ false → (k == j && n == m) ≡ false
 turned j m k n e = grind (arith, nat_tests, e)
 
-pub no_second : (b : Bool) → (b && false) ≡ false
-no_second true = refl
-no_second false = refl
-
 -- of another case, or of a deadline before the new ones
 abbrev pub IsEarlier : ℕ → ℕ → ℕ → ℕ → Type 0
 IsEarlier j n k m = ((k == j) ≡ false) ⊎ (n < m)
 
 pub is_earlier : (j n k m : ℕ) → IsEarlier j n k m → (k == j && m == n) ≡ false
 is_earlier j n k m (inl other) = ap (λ b. b && m == n) other
-is_earlier j n k m (inr low) = let other : (m == n) ≡ false = grind (arith, nat_tests, low) in ap (λ b. (k == j) && b) other ∙ no_second (k == j)
+is_earlier j n k m (inr low) = let other : (m == n) ≡ false = grind (arith, nat_tests, low) in ap (λ b. (k == j) && b) other ∙ and_right (k == j) false refl
 
 pub no_firsts : (j n k m : ℕ) (made : List NewDeadline) → IsEarlier j n k m → acts_of_deadline j n (first_acts_from k m made) ≡ []
 no_firsts j n k m [] off = refl

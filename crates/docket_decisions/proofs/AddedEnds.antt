@@ -28,7 +28,8 @@ use Rattle.docket_history.specs.declared.row.DeadlineRow.{DeadlineRow}
 use Rattle.docket_decisions.proofs.AddedActs.{turned, is_earlier, named_before}
 use Rattle.docket_decisions.proofs.EndChanges.{before, later, split, after_are, are_not}
 use Rattle.docket_decisions.proofs.MovedEnds.{Follows, end, rows, row_off, first_ends, first_off, firsts_added, moves_are, one_made, there_where_acted, firsts_made, later_made, none_yet, made_rows, rows_made}
-use Rattle.docket_decisions.proofs.OneDeadline.{AreOthers, both_append, is_deadline}
+use Rattle.docket_decisions.proofs.OneDeadline.{AreOthers, is_deadline}
+use Rattle.docket_decisions.proofs.ListLemmas.{all_both}
 
 -- rows of a deadline, where other rows change
 
@@ -48,7 +49,7 @@ module _ (k n : ℕ) where
   -- what is done about another deadline gives this one no row
   still_none : (j m : ℕ) (first next : Option EndTime) (rows : List StoredEnd) → (j == k && m == n) ≡ false → AreOthers k n rows → AreOthers k n (all_changed_ends (end_changes j m first next) rows)
   still_none j m None None rows off all = all
-  still_none j m None (Some e) rows off all = both_append (λ row. is_of k n row ≡ false) rows (record { case = j; deadline = m; end = e } ∷ []) all (off, tt)
+  still_none j m None (Some e) rows off all = all_both (λ row. is_of k n row ≡ false) rows (record { case = j; deadline = m; end = e } ∷ []) all (off, tt)
   still_none j m (Some stored) None rows off all = none_left (λ row. not (is_of j m row)) rows all
   still_none j m (Some stored) (Some e) rows off all =
       elim (is_same_end stored e) as (λ b. AreOthers k n (all_changed_ends (cond b [] (Move (record { case = j; deadline = m; end = e }) ∷ [])) rows)) [
@@ -155,7 +156,7 @@ module _ (k : ℕ) where
   pub added_beside : (many : ℕ) (ends : List (Option EndTime)) (stored others : List StoredEnd) → length ends ≡ many → AreRowsFrom k 1 stored → AllByRecursion (IsElsewhere k 1) others
       → AddsOnce (changes_from k 1 ends stored) (others ++ stored) × AddsAmong (IsAmong many) (changes_from k 1 ends stored)
   added_beside many ends stored others counts are apart =
-      (once_from 1 ends stored (others ++ stored) are (λ m high none. both_append (λ row. is_of k m row ≡ false) others stored (are_not k 1 m others high apart) none), among_from many 1 ends stored (omega arith) (omega (arith, counts)))
+      (once_from 1 ends stored (others ++ stored) are (λ m high none. all_both (λ row. is_of k m row ≡ false) others stored (are_not k 1 m others high apart) none), among_from many 1 ends stored (omega arith) (omega (arith, counts)))
 
 -- what acts do
 
@@ -163,7 +164,7 @@ module _ (zone : ZoneRules) (entered : Entered) where
   -- a deadline whose acts have no end has no row
   rows_none : (k n : ℕ) (acts : List ActRow) (ds : List DeadlineRow) → end zone entered (acts_of_deadline k n acts) ≡ None → AreOthers k n (rows zone entered acts ds)
   rows_none k n acts [] none = tt
-  rows_none k n acts (d ∷ ds) none = both_append (λ row. is_of k n row ≡ false) (row_of_deadline zone entered acts d) (rows zone entered acts ds) (at (is_deadline k n d) refl) (rows_none k n acts ds none)
+  rows_none k n acts (d ∷ ds) none = all_both (λ row. is_of k n row ≡ false) (row_of_deadline zone entered acts d) (rows zone entered acts ds) (at (is_deadline k n d) refl) (rows_none k n acts ds none)
     where
       at : (b : Bool) → is_deadline k n d ≡ b → AreOthers k n (row_of_deadline zone entered acts d)
       at true e =
@@ -244,7 +245,7 @@ module _ (court : CourtSettings) (h : History) (c : Command) (is : IsHistory cou
             let there = there_where_acted court h c is act it.1 in
             let by_act : AddsOnce (end_changes k n (end zone entered its_acts) (end zone entered (its_acts ++ act ∷ []))) (stored ++ grown) =
             once_at k n (end zone entered its_acts) (end zone entered (its_acts ++ act ∷ [])) (stored ++ grown)
-            (λ none. both_append (λ row. is_of k n row ≡ false) stored grown (rows_none zone entered k n acts (deadline_rows h) none) (first_off zone entered k n next made (omega (arith, there.1)))) in
+            (λ none. all_both (λ row. is_of k n row ≡ false) stored grown (rows_none zone entered k n acts (deadline_rows h) none) (first_off zone entered k n next made (omega (arith, there.1)))) in
             let one : moves (later_made court h c is (act ∷ [])) ≡ end_changes k n (end zone entered its_acts) (end zone entered (its_acts ++ act ∷ [])) =
             append-nil _ ∙ ap (λ xs. end_changes k n (end zone entered xs) (end zone entered (xs ++ act ∷ []))) (named_before its_acts k n act) in
             subst LaterOnce (sym it.1) (subst (λ xs. AddsOnce xs (stored ++ grown)) (sym one) by_act)

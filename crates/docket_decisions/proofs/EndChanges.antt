@@ -3,6 +3,7 @@ use Rattle.std.proofs.Common.{◌≡◌, ◌≤◌, ◌<◌, ◌∙◌, ◌⊎�
 use Rattle.std.specs.List.{AllByRecursion, Contains}
 use Rattle.std.specs.Option.{option_eq}
 use Rattle.std.proofs.lemmas.Bool.Decides.{nat_tests, Decides-int_eq}
+use Rattle.std.proofs.lemmas.Bool.{and_parts, and_right}
 use Rattle.std.proofs.lemmas.List.Elements.{filter-append}
 use Rattle.std.proofs.lemmas.List.{map-append}
 use Rattle.std.proofs.lemmas.List.Sorted.{IsPermutation-refl, IsPermutation-trans, IsPermutation-append_left, IsPermutation-append_right, IsPermutation-append_comm}
@@ -11,11 +12,6 @@ use Rattle.docket_decisions.specs.declared.end_row.EndChange.{EndChange}
 use Rattle.docket_decisions.specs.declared.end_row.EndChange.TheVariants.{Remove, Move}
 use Rattle.docket_decisions.specs.declared.end_row.StoredEnd.{StoredEnd}
 use Rattle.docket_decisions.specs.declared.end_row.EndTime.{EndTime}
-use Rattle.docket_decisions.proofs.Passed.{left_true, right_true}
-
-never : (b : Bool) → (b && false) ≡ false
-never true = refl
-never false = refl
 
 pub all_changed_ends-append : (xs ys : List EndChange) (rows : List StoredEnd) → all_changed_ends (xs ++ ys) rows ≡ all_changed_ends ys (all_changed_ends xs rows)
 all_changed_ends-append [] ys rows = refl
@@ -29,9 +25,9 @@ same_moment (Some at) None e = absurd (let no = e in cc)
 
 pub same_end : (a b : EndTime) → is_same_end a b ≡ true → a ≡ b
 same_end a b e =
-    let days = left_true (a.day == b.day) _ e in
+    let days = (and_parts (a.day == b.day) _ e).0 in
     let day : a.day ≡ b.day = grind (arith, nat_tests, days) in
-    let moment : a.moment ≡ b.moment = same_moment a.moment b.moment (right_true (a.day == b.day) _ e) in
+    let moment : a.moment ≡ b.moment = same_moment a.moment b.moment (and_parts (a.day == b.day) _ e).1 in
     λ i. record { day = day i; moment = moment i }
 
 day_itself : (n : ℕ) → (n == n) ≡ true
@@ -71,7 +67,7 @@ module _ (k : ℕ) where
   one_more n (r ∷ rows) row all one = (all.0, one_more n rows row all.1 one)
 
   not_at : (n : ℕ) (row : StoredEnd) → (row.deadline == n) ≡ false → is_of k n row ≡ false
-  not_at n row other = ap (λ b. row.case == k && b) other ∙ never (row.case == k)
+  not_at n row other = ap (λ b. row.case == k && b) other ∙ and_right (row.case == k) false refl
 
   past : (n : ℕ) (row : StoredEnd) → row.deadline < n → IsElsewhere k n row
   past n row low m high = not_at m row (grind (arith, nat_tests, low, high))
@@ -81,10 +77,6 @@ module _ (k : ℕ) where
   later n m (row ∷ rows) low are =
       let high : m ≤ row.deadline = are.1 in
       (not_at n row (grind (arith, nat_tests, low, high)), later n (row.deadline + 1) rows (omega (arith, low, high)) are.2)
-
-  higher : (n m : ℕ) (rows : List StoredEnd) → m ≤ n → AreRowsFrom k n rows → AreRowsFrom k m rows
-  higher n m [] low are = tt
-  higher n m (row ∷ rows) low are = (are.0, omega (arith, low, are.1), are.2)
 
   is_here : (n : ℕ) (row : StoredEnd) → row.case ≡ k → row.deadline ≡ n → is_of k n row ≡ true
   is_here n row case deadline =
@@ -274,7 +266,7 @@ module _ (k : ℕ) where
   far_swept m [] row are low = tt
   far_swept m (r ∷ rows) row are low =
       let other : (row.deadline == r.deadline) ≡ false = grind (arith, nat_tests, low, are.1) in
-      (ap (λ b. row.case == r.case && b) other ∙ never (row.case == r.case), far_swept (r.deadline + 1) rows row are.2 (omega (arith, low, are.1)))
+      (ap (λ b. row.case == r.case && b) other ∙ and_right (row.case == r.case) false refl, far_swept (r.deadline + 1) rows row are.2 (omega (arith, low, are.1)))
 
   far : (m : ℕ) (ends : List (Option EndTime)) (stored : List StoredEnd) (row : StoredEnd) → AreRowsFrom k m stored → row.deadline < m → Untouched row (changes_from k m ends stored)
   far m [] stored row are low = far_swept m stored row are low

@@ -3,6 +3,7 @@ use Rattle.std.proofs.Common.{◌≡◌, ℕ, Bool, true, false, not, ◌&&◌, 
 use Rattle.std.specs.Prelude.{unwrap_or, option_to_list, IfSome}
 use Rattle.std.specs.Option.{option_map}
 use Rattle.std.proofs.lemmas.Bool.Decides.{nat_tests}
+use Rattle.std.proofs.lemmas.Bool.{and_from, and_parts, not-false, or_right}
 use Rattle.civil_time.specs.Zone.{ZoneRules}
 use Rattle.court_days.specs.Court.{CourtSettings, zone_of}
 use Rattle.court_days.specs.declared.calendar.Direction.{Direction}
@@ -39,8 +40,7 @@ use Rattle.docket_history.specs.Actions.{FoundRule, deadlines_made}
 use Rattle.docket_history.specs.DeadlinesMade.{answer_rule, answer_from, waiver_rule, pleading_rule, begun, timed_or_set, judgment_times, statement_ordered, ordered_three, day_ordered, hours_ordered, ordered, court_ordered, local_three, begun_locally}
 use Rattle.docket_values.specs.Values.{first_bad, bad_values, is_entered, is_entered_at, bad_attorney, bad_choice, bad_if, bad_method, bad_order, in_days, in_hours, is_fixed, most}
 use Rattle.docket_history.specs.declared.row.NewDeadline.{NewDeadline}
-use Rattle.docket_decisions.proofs.GoodValues.{AreGood, all_good, not_false, entered_instant}
-use Rattle.docket_decisions.proofs.Passed.{left_true, right_true}
+use Rattle.docket_decisions.proofs.GoodValues.{AreGood, all_good, entered_instant}
 
 -- an act that may be the first of a deadline
 pub record IsFirst (zone : ZoneRules) (first : Act) : Type 0 where
@@ -68,12 +68,12 @@ from_entered : (basis : Basis) (served : ℕ) (attorney : Option ℕ) → is_ent
 from_entered Private served attorney e good = e
 from_entered UnitedStates served attorney e good = e
 from_entered Officer served None e good = e
-from_entered Officer served (Some day) e good = max_entered served day e (not_false (is_entered day) good)
+from_entered Officer served (Some day) e good = max_entered served day e (not-false (is_entered day) good)
 
 -- the same, where the court sets no other day
 or_set_first : (zone : ZoneRules) (party : ℕ) (r : Rule) (served_by : Method) (day : ℕ) (due : Option ℕ) (f : Field) → is_entered day ≡ true → (bad_choice due f).0 ≡ false → IsFirst zone (timed_or_set party r served_by day due).first
 or_set_first zone party r served_by day None f e good = begun_first zone r served_by day e
-or_set_first zone party r served_by day (Some due) f e good = fixed_first zone due (not_false (is_entered due) good)
+or_set_first zone party r served_by day (Some due) f e good = fixed_first zone due (not-false (is_entered due) good)
 
 statement_first : (zone : ZoneRules) (outcome : Ruling) (party : Option ℕ) (notice : ℕ) (due : Option ℕ) (f : Field) → is_entered notice ≡ true → (bad_choice due f).0 ≡ false → AreFirst zone (statement_ordered outcome party notice due)
 statement_first zone Denied party notice due f e good = tt
@@ -84,7 +84,7 @@ statement_first zone Statement (Some party) notice due f e good = (or_set_first 
 -- the jury's discharge, if there is one, or the judgment
 either_entered : (entered : ℕ) (discharged : Option ℕ) (f : Field) → is_entered entered ≡ true → (bad_choice discharged f).0 ≡ false → is_entered (unwrap_or discharged entered) ≡ true
 either_entered entered None f e good = e
-either_entered entered (Some day) f e good = not_false (is_entered day) good
+either_entered entered (Some day) f e good = not-false (is_entered day) good
 
 judgment_first : (zone : ZoneRules) (entered : ℕ) (discharged : Option ℕ) (f : Field) → is_entered entered ≡ true → (bad_choice discharged f).0 ≡ false → AreFirst zone (judgment_times entered discharged)
 judgment_first zone entered discharged f e good =
@@ -112,7 +112,7 @@ hours_first court at count d e counts =
 
 -- what is wanted is there and good
 wanted : {A : Type 0} (is_good : A → Bool) (value : A) → bad_if true is_good (Some value) ≡ false → is_good value ≡ true
-wanted is_good value e = not_false (is_good value) e
+wanted is_good value e = not-false (is_good value) e
 
 day_ordered_first : (zone : ZoneRules) (party : ℕ) (period_of : ℕ → Period) (most : ℕ) (first count : Option ℕ) (d : Option Direction) (served_by : Option ServiceMethod)
     → ((n : ℕ) → (nat_le 1 n && nat_le n most) ≡ true → is_period (period_of n) ≡ true)
@@ -164,58 +164,50 @@ IsLawfulRule r = is_local_rule r ≡ true
 local_first : (zone : ZoneRules) (r : LocalRule) (served_by : Option ServiceMethod) (day : ℕ) → IsLawfulRule r → is_entered day ≡ true → IsFirst zone (begun_locally r served_by day)
 unfolding is_local_rule
 local_first zone r served_by day lawful e =
-    let values = right_true (is_local_name r.name) _ lawful in
-    let counts = left_true (is_period (period.Days r.days)) _ values in
-    let forward = right_true (is_period (period.Days r.days)) _ values in
-    record { within = both (is_entered day && is_period (period.Days r.days)) _ (both (is_entered day) _ e counts) (only_forward served_by r forward); begins = refl; may = refl }
+    let values = (and_parts (is_local_name r.name) _ lawful).1 in
+    let counts = (and_parts (is_period (period.Days r.days)) _ values).0 in
+    let forward = (and_parts (is_period (period.Days r.days)) _ values).1 in
+    record { within = and_from (is_entered day && is_period (period.Days r.days)) _ (and_from (is_entered day) _ e counts) (only_forward served_by r forward); begins = refl; may = refl }
   where
-    both : (a b : Bool) → a ≡ true → b ≡ true → (a && b) ≡ true
-    both true b p q = q
-    both false b p q = p
-
     served : (three : Bool) (o : Option ServiceMethod) (rule : LocalRule) → rule.three ≡ three → three ≡ false → local_three rule o ≡ false
     served three None rule same off = refl
     served three (Some m) rule same off = ap (λ b. b && gives_additional_time (method_of m)) (same ∙ off)
-
-    any : (b : Bool) → (b || true) ≡ true
-    any true = refl
-    any false = refl
 
     only_forward : (o : Option ServiceMethod) (rule : LocalRule) → (not rule.three || is_forward rule.direction) ≡ true → (not (local_three rule o) || is_forward rule.direction) ≡ true
     only_forward o rule is = at rule.three refl rule.direction refl
       where
         at : (t : Bool) → rule.three ≡ t → (d : Direction) → rule.direction ≡ d → (not (local_three rule o) || is_forward rule.direction) ≡ true
         at false e d f = ap (λ b. not b || is_forward rule.direction) (served false o rule e refl)
-        at true e Forward f = ap (λ d. not (local_three rule o) || is_forward d) f ∙ any (not (local_three rule o))
+        at true e Forward f = ap (λ d. not (local_three rule o) || is_forward d) f ∙ or_right (not (local_three rule o)) true refl
         at true e Backward f = absurd (let off : false ≡ true = sym (λ i. not (e i) || is_forward (f i)) ∙ is in cc)
 
 -- where no value of an action is bad, the first acts of the deadlines that it makes are lawful
 pub made_first : (court : CourtSettings) (found : FoundRule) (a : Action) → IfSome found IsLawfulRule → first_bad (bad_values court a) ≡ None → AreFirst (zone_of court) (deadlines_made found a)
 made_first court found (action.ServeSummons a) lawful good =
     let fields = all_good (bad_values court (action.ServeSummons a)) good in
-    (begun_first _ (answer_rule a.basis) method.Rule4 _ (from_entered a.basis a.served a.attorney (not_false (is_entered a.served) fields.0) fields.1.0), tt)
+    (begun_first _ (answer_rule a.basis) method.Rule4 _ (from_entered a.basis a.served a.attorney (not-false (is_entered a.served) fields.0) fields.1.0), tt)
 made_first court found (action.FileWaiver a) lawful good =
     let fields = all_good (bad_values court (action.FileWaiver a)) good in
-    (begun_first _ (waiver_rule a.abroad) method.Rule4 a.sent (not_false (is_entered a.sent) fields.0), tt)
+    (begun_first _ (waiver_rule a.abroad) method.Rule4 a.sent (not-false (is_entered a.sent) fields.0), tt)
 made_first court found (action.ServePleading a) lawful good =
     let fields = all_good (bad_values court (action.ServePleading a)) good in
-    (begun_first _ (pleading_rule a.kind a.basis) _ _ (from_entered a.basis a.served a.attorney (not_false (is_entered a.served) fields.1.0) fields.1.1.0), tt)
+    (begun_first _ (pleading_rule a.kind a.basis) _ _ (from_entered a.basis a.served a.attorney (not-false (is_entered a.served) fields.1.0) fields.1.1.0), tt)
 made_first court found (action.OrderReply a) lawful good =
     let fields = all_good (bad_values court (action.OrderReply a)) good in
-    (or_set_first _ a.party rule.ReplyToAnswer _ a.served a.due field.Due (not_false (is_entered a.served) fields.0) fields.1.0, tt)
+    (or_set_first _ a.party rule.ReplyToAnswer _ a.served a.due field.Due (not-false (is_entered a.served) fields.0) fields.1.0, tt)
 made_first court found (action.Dispose a) lawful good =
     let fields = all_good (bad_values court (action.Dispose a)) good in
-    statement_first _ a.outcome a.party a.notice a.due field.Due (not_false (is_entered a.notice) fields.0) fields.1.1.0
+    statement_first _ a.outcome a.party a.notice a.due field.Due (not-false (is_entered a.notice) fields.0) fields.1.1.0
 made_first court found (action.NoticeHearing a) lawful good =
     let fields = all_good (bad_values court (action.NoticeHearing a)) good in
-    let entered = not_false (is_entered a.hearing) fields.0 in
+    let entered = not-false (is_entered a.hearing) fields.0 in
     (begun_first _ rule.MotionAndNotice method.Nothing a.hearing entered, (begun_first _ rule.OpposingAffidavit method.Nothing a.hearing entered, tt))
 made_first court found (action.OrderPeriod a) lawful good = ordered_first court a good
 made_first court found (action.EnterJudgment a) lawful good =
     let fields = all_good (bad_values court (action.EnterJudgment a)) good in
-    judgment_first _ a.entered a.discharged field.Discharged (not_false (is_entered a.entered) fields.0) fields.1.0
+    judgment_first _ a.entered a.discharged field.Discharged (not-false (is_entered a.entered) fields.0) fields.1.0
 made_first court None (action.LocalPeriod a) lawful good = tt
 made_first court (Some r) (action.LocalPeriod a) lawful good =
     let fields = all_good (bad_values court (action.LocalPeriod a)) good in
-    (local_first _ r a.method a.start lawful (not_false (is_entered a.start) fields.0), tt)
+    (local_first _ r a.method a.start lawful (not-false (is_entered a.start) fields.0), tt)
 made_first court found _ lawful good = tt

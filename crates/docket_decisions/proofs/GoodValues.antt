@@ -1,10 +1,11 @@
 -- What follows where no value of a command is bad.
-use Rattle.std.proofs.Common.{◌≡◌, ℕ, ◌+◌, ◌≤◌, Bool, true, false, not, cond, ◌&&◌, ◌||◌, Option, Some, None, List, [], ◌∷◌, ◌++◌, if◌then◌else◌, length, map, ℤ, pos, negsuc, ◌+ℤ◌, ◌-ℤ◌, ◌*ℤ◌, ◌≤ℤ◌, unsigned_abs, refl, arith, nat_le, rules}
+use Rattle.std.proofs.Common.{◌≡◌, ℕ, ◌+◌, ◌≤◌, Bool, true, false, not, cond, ◌&&◌, Option, Some, None, List, [], ◌∷◌, ◌++◌, if◌then◌else◌, length, map, ℤ, pos, negsuc, ◌+ℤ◌, ◌-ℤ◌, ◌*ℤ◌, ◌≤ℤ◌, unsigned_abs, refl, arith, nat_le, rules}
 use Rattle.std.specs.List.{All, AllByRecursion, list_all}
 use Rattle.std.specs.Prelude.{nat_lt}
 use Rattle.std.proofs.lemmas.Int.{ints}
 use Rattle.std.proofs.lemmas.List.Elements.{All-nil, All-cons, All-head, All-tail}
 use Rattle.std.proofs.lemmas.Bool.Decides.{nat_tests}
+use Rattle.std.proofs.lemmas.Bool.{and_parts, not-false, or_parts}
 use Rattle.civil_time.specs.LocalTime.{local_day, local_time, offset_in_force, is_summer, standard_time}
 use Rattle.civil_time.specs.Zone.{ZoneRules, IsZone}
 use Rattle.court_days.specs.Civil.{IsEnteredDay}
@@ -22,14 +23,14 @@ use Rattle.docket_history.specs.declared.item.CalendarItem.{CalendarItem}
 use Rattle.docket_history.specs.declared.item.CalendarItem.TheVariants.{Day, Span, Short}
 use Rattle.docket_history.specs.declared.item.NewRow.{NewRow}
 use Rattle.docket_decisions.specs.CalendarRows.{is_sound_item, is_well_named}
-use Rattle.docket_decisions.proofs.Passed.{left_true, right_true}
 
 -- no field is bad
 abbrev pub AreGood : List (Bool × Field) → Type 0
 AreGood [] = Unit {0}
 AreGood (check ∷ checks) = (check.0 ≡ false) × AreGood checks
 
-passes : (b : Bool) (f : Field) (rest : Option Field) → (if b then Some f else rest) ≡ None → (b ≡ false) × (rest ≡ None)
+-- where a first check passes, so do the others
+pub passes : (b : Bool) (f : Field) (rest : Option Field) → (if b then Some f else rest) ≡ None → (b ≡ false) × (rest ≡ None)
 passes true f rest e = absurd (cc)
 passes false f rest e = (refl, e)
 
@@ -37,19 +38,10 @@ pub all_good : (checks : List (Bool × Field)) → first_bad checks ≡ None →
 all_good [] e = tt
 all_good (check ∷ checks) e = let both = passes check.0 check.1 (first_bad checks) e in (both.0, all_good checks both.1)
 
-pub not_false : (b : Bool) → not b ≡ false → b ≡ true
-not_false true e = refl
-not_false false e = absurd (cc)
-
-pub or_off : (a b : Bool) → (a || b) ≡ false → (a ≡ false) × (b ≡ false)
-or_off true b e = absurd (cc)
-or_off false b e = (refl, e)
-
 pub entered_day : (day : ℕ) → is_entered day ≡ true → IsEnteredDay day
 entered_day day e =
-    let low : nat_le 10_957 day ≡ true = left_true (nat_le 10_957 day) (nat_le day 47_481) e in
-    let high : nat_le day 47_481 ≡ true = right_true (nat_le 10_957 day) (nat_le day 47_481) e in
-    (grind (arith, nat_tests), grind (arith, nat_tests))
+    let both = and_parts (nat_le 10_957 day) (nat_le day 47_481) e in
+    (grind (arith, nat_tests, both.0), grind (arith, nat_tests, both.1))
 
 -- a clock is at most 13 hours from Greenwich
 near_abs : (z : ℤ) (t : ℕ) → (pos t -ℤ pos 46_800) ≤ℤ z → z ≤ℤ (pos t +ℤ pos 46_800) → (t ≤ unsigned_abs z + 46_800) × (unsigned_abs z ≤ t + 46_800)
@@ -78,43 +70,35 @@ entered_instant court t e =
 pub may_be_entered : (court : CourtSettings) (item : CalendarItem) → is_sound_item court item ≡ true → IsEnteredItem item
 may_be_entered court (Day kind day) sound = entered_day day sound
 may_be_entered court (Span start end) sound =
-    let parts = three (is_entered_at court start) (is_entered_at court end) (nat_lt start end) sound in
-    ((entered_instant court start parts.0).0, grind (arith, nat_tests, parts.2), (entered_instant court end parts.1).1)
-  where
-    three : (a b c : Bool) → (a && b && c) ≡ true → (a ≡ true) × (b ≡ true) × (c ≡ true)
-    three true true true e = (refl, refl, refl)
-    three true true false e = absurd cc
-    three true false c e = absurd cc
-    three false b c e = absurd cc
-may_be_entered court (Short day close) sound = entered_day day (left_true (is_entered day) (nat_lt close court.close_minute) sound)
+    let parts = and_parts _ (nat_lt start end) sound in
+    let ends = and_parts (is_entered_at court start) (is_entered_at court end) parts.0 in
+    ((entered_instant court start ends.0).0, grind (arith, nat_tests, parts.1), (entered_instant court end ends.1).1)
+may_be_entered court (Short day close) sound = entered_day day (and_parts (is_entered day) (nat_lt close court.close_minute) sound).0
 
 -- a row that the court may enter
 abbrev pub IsGoodRow : CourtSettings → NewRow → Type 0
 IsGoodRow court row = (is_sound_item court row.item && is_well_named row.item row.name) ≡ true
 
-both : (a b : Bool) → a ≡ true → b ≡ true → (a && b) ≡ true
-both a b x y = rw (x, y) refl
-
 days_good : (court : CourtSettings) (days : List NewDay) → list_all is_new_day days ≡ true → AllByRecursion (IsGoodRow court) (map imported days)
 days_good court [] all = tt
-days_good court (day ∷ days) all = (left_true (is_new_day day) (list_all is_new_day days) all, days_good court days (right_true (is_new_day day) (list_all is_new_day days) all))
+days_good court (day ∷ days) all = let both = and_parts (is_new_day day) (list_all is_new_day days) all in (both.0, days_good court days both.1)
 
 -- each row that is asked for is one
 pub rows_good : (court : CourtSettings) (a : Action) → first_bad (bad_values court a) ≡ None → AllByRecursion (IsGoodRow court) (rows_asked a)
 rows_good court (action.CloseSpan a) good =
     let fields = all_good (bad_values court (action.CloseSpan a)) good in
-    let ends = or_off (not (is_entered_at court a.end)) (nat_le a.end a.start) fields.1.0 in
+    let ends = or_parts (not (is_entered_at court a.end)) (nat_le a.end a.start) fields.1.0 in
     let later = ends.1 in
     let before : nat_lt a.start a.end ≡ true = grind (arith, nat_tests, later) in
-    (rw (not_false (is_entered_at court a.start) fields.0, not_false (is_entered_at court a.end) ends.0, before) refl, tt)
+    (rw (not-false (is_entered_at court a.start) fields.0, not-false (is_entered_at court a.end) ends.0, before) refl, tt)
 rows_good court (action.ShortDay a) good =
     let fields = all_good (bad_values court (action.ShortDay a)) good in
     let later = fields.1.0 in
     let sooner : nat_lt a.close court.close_minute ≡ true = grind (arith, nat_tests, later) in
-    (rw (not_false (is_entered a.day) fields.0, sooner, not_false (is_text 100 a.name) fields.1.1.0) refl, tt)
+    (rw (not-false (is_entered a.day) fields.0, sooner, not-false (is_text 100 a.name) fields.1.1.0) refl, tt)
 rows_good court (action.ImportCalendar a) good =
-    let rows = not_false (nat_le (length a.rows) 1000 && list_all is_new_day a.rows) (all_good (bad_values court (action.ImportCalendar a)) good).0 in
-    days_good court a.rows (right_true (nat_le (length a.rows) 1000) (list_all is_new_day a.rows) rows)
+    let rows = not-false (nat_le (length a.rows) 1000 && list_all is_new_day a.rows) (all_good (bad_values court (action.ImportCalendar a)) good).0 in
+    days_good court a.rows (and_parts (nat_le (length a.rows) 1000) (list_all is_new_day a.rows) rows).1
 rows_good court a good = search rules
 
 abbrev AreEntered : List NewRow → Type 0
@@ -124,7 +108,7 @@ all_entered : (court : CourtSettings) (rows : List NewRow) → AllByRecursion (I
 all_entered court [] good = All-nil (λ (r : NewRow). IsEnteredItem r.item)
 all_entered court (row ∷ rows) good =
     All-cons (λ (r : NewRow). IsEnteredItem r.item) row rows
-    (may_be_entered court row.item (left_true (is_sound_item court row.item) (is_well_named row.item row.name) good.0)) (all_entered court rows good.1)
+    (may_be_entered court row.item (and_parts (is_sound_item court row.item) (is_well_named row.item row.name) good.0).0) (all_entered court rows good.1)
 
 pub asked_entered : (court : CourtSettings) (a : Action) → first_bad (bad_values court a) ≡ None → AreEntered (rows_asked a)
 asked_entered court a good = all_entered court (rows_asked a) (rows_good court a good)

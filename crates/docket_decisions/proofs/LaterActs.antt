@@ -2,6 +2,7 @@
 use Rattle.std.proofs.Common.{◌≡◌, ◌⊎◌, inl, inr, ℕ, ◌+◌, ◌<◌, ◌≤◌, Bool, true, false, not, ◌&&◌, ◌||◌, Option, Some, None, List, [], ◌∷◌, ◌++◌, length, ℤ, pos, refl, sym, ap, ◌∙◌, arith, nat_le}
 use Rattle.std.specs.Prelude.{is_some, nat_lt}
 use Rattle.std.proofs.lemmas.Bool.Decides.{nat_tests}
+use Rattle.std.proofs.lemmas.Bool.{not-false, or_parts}
 use Rattle.civil_time.specs.Zone.{ZoneRules}
 use Rattle.court_days.specs.Calendar.{Entered}
 use Rattle.court_days.specs.Court.{CourtSettings, zone_of}
@@ -29,7 +30,7 @@ use Rattle.docket_values.specs.Values.{first_bad, bad_values, bad_choice, bad_da
 use Rattle.docket_history.specs.Views.{acts_in, count_deadlines, deadline_shown}
 use Rattle.docket_history.specs.declared.view.View.{View}
 use Rattle.docket_decisions.proofs.ActsKept.{AreSound, more_sound}
-use Rattle.docket_decisions.proofs.GoodValues.{all_good, not_false, or_off, entered_instant}
+use Rattle.docket_decisions.proofs.GoodValues.{all_good, entered_instant}
 
 -- an act that may come where a time stands so: it ends the deadline, or there is room for one more
 pub record IsNext (zone : ZoneRules) (s : Standing) (acts : List Act) (new : Act) : Type 0 where
@@ -94,9 +95,9 @@ done_within t way low high = grind (arith, nat_tests)
 ruled_within : (outcome : Ruling) (notice : ℕ) (due : Option ℕ) (f : Field) → is_entered notice ≡ true → (bad_choice due f).0 ≡ false → is_within (ruled outcome notice due) ≡ true
 ruled_within Statement notice due f e good = e
 ruled_within Denied notice None f e good = e
-ruled_within Denied notice (Some day) f e good = not_false (is_entered day) good
+ruled_within Denied notice (Some day) f e good = not-false (is_entered day) good
 ruled_within Postponed notice None f e good = e
-ruled_within Postponed notice (Some day) f e good = not_false (is_entered day) good
+ruled_within Postponed notice (Some day) f e good = not-false (is_entered day) good
 
 ruled_begins : (zone : ZoneRules) (outcome : Ruling) (notice : ℕ) (due : Option ℕ) → begins_on_entered_day zone (ruled outcome notice due) ≡ true
 ruled_begins zone Statement notice due = refl
@@ -108,7 +109,7 @@ ruled_begins zone Postponed notice (Some day) = refl
 -- there is room where the action is not refused as full
 few : (v : View) (a : Action) (made : Bool) → is_some (deadline_named a) ≡ true → (has_too_many_acts v a || made) ≡ false → length (acts_in (deadline_shown v)) < 99
 few v a made named e =
-    let off = (or_off (has_too_many_acts v a) made e).0 in
+    let off = (or_parts (has_too_many_acts v a) made e).0 in
     let short : nat_le 99 (length (acts_in (deadline_shown v))) ≡ false = ap (λ b. b && nat_le 99 (length (acts_in (deadline_shown v)))) (sym named) ∙ off in
     grind (arith, nat_tests, short)
 
@@ -119,8 +120,8 @@ IsNextOf zone s acts (new ∷ []) = IsNext zone s acts new
 IsNextOf zone s acts (new ∷ other ∷ more) = ⊥
 
 extension_next : (zone : ZoneRules) (s : Standing) (acts : List Act) (days until : Option ℕ) → bad_days days ≡ false → bad_until days until ≡ false → not (is_running s) ≡ false → length acts < 99 → IsNextOf zone s acts (extension days until)
-extension_next zone s acts (Some n) None d u running short = record { within = not_false (nat_le 1 n && nat_le n 3650) d; begins = refl; may = (extension_may s n running).0; room = inr short }
-extension_next zone s acts None (Some day) d u running short = record { within = not_false (is_entered day) u; begins = refl; may = (extension_may s day running).1; room = inr short }
+extension_next zone s acts (Some n) None d u running short = record { within = not-false (nat_le 1 n && nat_le n 3650) d; begins = refl; may = (extension_may s n running).0; room = inr short }
+extension_next zone s acts None (Some day) d u running short = record { within = not-false (is_entered day) u; begins = refl; may = (extension_may s day running).1; room = inr short }
 extension_next zone s acts (Some n) (Some day) d u running short = tt
 extension_next zone s acts None None d u running short = tt
 
@@ -130,7 +131,7 @@ pub may_follow : (court : CourtSettings) (v : View) (a : Action) → first_bad (
 may_follow court v (action.RuleMotion a) good opened awaited room =
     let fields = all_good (bad_values court (action.RuleMotion a)) good in
     record {
-      within = not_false (is_entered a.served) fields.0;
+      within = not-false (is_entered a.served) fields.0;
       begins = refl;
       may = motion_may (standing_shown court v) a.served a.kind opened;
       room = inr (few v (action.RuleMotion a) (nat_lt 1000 (count_deadlines v.case + length (deadlines_made v.local (action.RuleMotion a)))) refl room);
@@ -138,7 +139,7 @@ may_follow court v (action.RuleMotion a) good opened awaited room =
 may_follow court v (action.Dispose a) good opened awaited room =
     let fields = all_good (bad_values court (action.Dispose a)) good in
     record {
-      within = ruled_within a.outcome a.notice a.due field.Due (not_false (is_entered a.notice) fields.0) fields.1.1.0;
+      within = ruled_within a.outcome a.notice a.due field.Due (not-false (is_entered a.notice) fields.0) fields.1.1.0;
       begins = ruled_begins (zone_of court) a.outcome a.notice a.due;
       may = ruling_may (standing_shown court v) a.outcome a.notice a.due awaited;
       room = inr (few v (action.Dispose a) (nat_lt 1000 (count_deadlines v.case + length (deadlines_made v.local (action.Dispose a)))) refl room);
@@ -146,7 +147,7 @@ may_follow court v (action.Dispose a) good opened awaited room =
 may_follow court v (action.StatementServed a) good opened awaited room =
     let fields = all_good (bad_values court (action.StatementServed a)) good in
     record {
-      within = not_false (is_entered a.served) fields.0;
+      within = not-false (is_entered a.served) fields.0;
       begins = refl;
       may = resume_may (standing_shown court v) a.served _ awaited;
       room = inr (few v (action.StatementServed a) (nat_lt 1000 (count_deadlines v.case + length (deadlines_made v.local (action.StatementServed a)))) refl room);
@@ -156,7 +157,7 @@ may_follow court v (action.Extend a) good opened awaited room =
     extension_next (zone_of court) (standing_shown court v) _ a.days a.until fields.1.0 fields.1.1.0 opened (few v (action.Extend a) (nat_lt 1000 (count_deadlines v.case + length (deadlines_made v.local (action.Extend a)))) refl room)
 may_follow court v (action.Satisfy a) good opened awaited room =
     let fields = all_good (bad_values court (action.Satisfy a)) good in
-    let near = entered_instant court a.at (not_false (is_entered_at court a.at) fields.0) in
+    let near = entered_instant court a.at (not-false (is_entered_at court a.at) fields.0) in
     record {
       within = done_within a.at a.way near.0 near.1;
       begins = refl;

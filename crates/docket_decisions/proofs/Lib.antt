@@ -13,6 +13,7 @@ pub mod InOrderLemmas
 pub mod LaterActs
 pub mod Leading
 pub mod LimitsKept
+pub mod ListLemmas
 pub mod MovedEnds
 pub mod OneDeadline
 pub mod Passed

@@ -5,6 +5,7 @@ use Rattle.std.specs.List.{All, find}
 use Rattle.std.specs.Option.{option_map, option_map_or, option_and_then}
 use Rattle.std.specs.Str.{bytes_eq}
 use Rattle.std.proofs.lemmas.Bool.Decides.{nat_tests}
+use Rattle.std.proofs.lemmas.Bool.{and_from, not-false, or_parts}
 use Rattle.std.proofs.lemmas.List.{map-append, length-map}
 use Rattle.std.proofs.lemmas.List.Elements.{filter-append, All-nil, All-cons, All-head, All-tail, All-append}
 use Rattle.std.proofs.lemmas.Option.{slice_get_within}
@@ -45,7 +46,7 @@ use Rattle.docket_decisions.proofs.ActsKept.{AreSound, IsKept, with_firsts, with
 use Rattle.docket_history.proofs.Asked.{no_rows, added_same, asked_where_made, none_made, none_acted, none_acted_in}
 use Rattle.docket_decisions.proofs.FirstActs.{IsLawfulRule, made_first}
 use Rattle.docket_decisions.proofs.LaterActs.{IsNext, IsNextOf, next_sound, may_follow}
-use Rattle.docket_decisions.proofs.GoodValues.{all_good, not_false, or_off, asked_entered, fresh_entered, numbered_entered}
+use Rattle.docket_decisions.proofs.GoodValues.{all_good, asked_entered, fresh_entered, numbered_entered}
 use Rattle.docket_decisions.proofs.Leading.{is_accepted, made_found, seen, seen_of, deadline_seen, length-deadlines_from, length-numbered}
 use Rattle.docket_decisions.proofs.Passed.{is_free, rows_fit, calendar_room, deadlines_fit, not_above, not_at, one_of_all}
 
@@ -103,17 +104,12 @@ forward_only true true e = refl
 forward_only true false e = absurd (cc)
 forward_only false forward e = refl
 
-all_true : (a b c : Bool) → a ≡ true → b ≡ true → c ≡ true → (a && (b && c)) ≡ true
-all_true true true c p q r = r
-all_true true false c p q r = absurd (cc)
-all_true false b c p q r = absurd (cc)
-
 rule_lawful : (court : CourtSettings) (r : LocalRule) → first_bad (bad_values court (action.LocalRule r)) ≡ None → IsLawfulRule r
 unfolding is_local_rule
 rule_lawful court r good =
     let fields = all_good (bad_values court (action.LocalRule r)) good in
-    all_true (is_local_name r.name) (nat_le 1 r.days && nat_le r.days 3650) _
-    (not_false (is_local_name r.name) fields.0) (not_false (nat_le 1 r.days && nat_le r.days 3650) fields.1.0) (forward_only r.three (is_forward r.direction) fields.1.1.0)
+    and_from (is_local_name r.name) _ (not-false (is_local_name r.name) fields.0)
+    (and_from (nat_le 1 r.days && nat_le r.days 3650) _ (not-false (nat_le 1 r.days && nat_le r.days 3650) fields.1.0) (forward_only r.three (is_forward r.direction) fields.1.1.0))
 
 entered_lawful : (court : CourtSettings) (count : ℕ) (a : Action) → first_bad (bad_values court a) ≡ None → All IsLawfulRow (new_local_rule count a)
 entered_lawful court count (action.LocalRule r) good = All-cons IsLawfulRow _ [] (rule_lawful court r good) (All-nil IsLawfulRow)
@@ -318,7 +314,7 @@ rules_step court h _ is few = omega arith
 
 -- the calendar
 room_in : (v : View) (added : ℕ) → is_calendar_full v added ≡ false → length v.calendar + added ≤ 4000
-room_in v added e = not_above 4000 (length v.calendar + added) (or_off (nat_lt 4000 (length v.calendar + added)) (nat_lt 4_294_967_296 (v.next_row + added)) e).0
+room_in v added e = not_above 4000 (length v.calendar + added) (or_parts (nat_lt 4000 (length v.calendar + added)) (nat_lt 4_294_967_296 (v.next_row + added)) e).0
 
 rows_step : (court : CourtSettings) (h : History) (a : Action) → IsPassed court h a → length (standing_rows h) ≤ 4000 → length (standing_rows h) + length (rows_added (items_of (standing_rows h)) a) ≤ 4000
 rows_step court h a is few = at (asks_next_row a) refl

@@ -4,6 +4,7 @@ use Rattle.std.specs.List.{AllByRecursion, flat_map}
 use Rattle.std.specs.Option.{option_and_then}
 use Rattle.std.specs.Prelude.{is_some, is_none, unwrap_or}
 use Rattle.std.proofs.lemmas.Bool.Decides.{nat_tests}
+use Rattle.std.proofs.lemmas.Bool.{and_right}
 use Rattle.std.proofs.lemmas.List.{append_cancel_left}
 use Rattle.std.proofs.lemmas.Grind.{flat_map-append}
 use Rattle.std.proofs.lemmas.List.Sorted.{IsPermutation-refl}
@@ -33,12 +34,13 @@ use Rattle.docket_history.specs.declared.row.ActRow.{ActRow}
 use Rattle.docket_history.specs.declared.row.Change.{Change}
 use Rattle.docket_history.specs.declared.row.Change.TheVariants.{AddCalendar, RemoveCalendar, AddCase, AddParty, AddEntry, AddDeadline, AddAct, AddLocalRule}
 use Rattle.docket_history.specs.declared.row.DeadlineRow.{DeadlineRow}
-use Rattle.docket_decisions.proofs.AddedActs.{acts_both, one_act, both_same, turned, no_second, IsEarlier, is_earlier, no_firsts, no_later, its_later, named_before, acts_added, acts_are}
+use Rattle.docket_decisions.proofs.AddedActs.{acts_both, one_act, both_same, turned, IsEarlier, is_earlier, no_firsts, no_later, its_later, named_before, acts_added, acts_are}
 use Rattle.docket_decisions.proofs.EndChanges.{all_changed_ends-append}
-use Rattle.docket_decisions.proofs.OneDeadline.{AreOthers, one_changed, AreNot, IsOnce, both_append, front_of, back_of, is_deadline, deadline_once, IsWithin, all_within}
+use Rattle.docket_decisions.proofs.OneDeadline.{AreOthers, one_changed, AreNot, IsOnce, is_deadline, deadline_once, IsWithin, all_within}
 use Rattle.docket_history.proofs.Asked.{none_acted}
 use Rattle.docket_decisions.proofs.Leading.{seen}
 use Rattle.docket_decisions.proofs.LimitsKept.{IsPassed, passed, there_is, named_there, acts_are as acts_shown, all_kept}
+use Rattle.docket_decisions.proofs.ListLemmas.{all_both, all_front, all_later}
 
 -- the rows of deadlines
 
@@ -62,7 +64,7 @@ module _ (zone : ZoneRules) (entered : Entered) where
 
   rows_off : (k n : ℕ) (acts : List ActRow) (ds : List DeadlineRow) → AreNot (is_deadline k n) ds → AreOthers k n (rows acts ds)
   rows_off k n acts [] off = tt
-  rows_off k n acts (d ∷ ds) off = both_append (λ row. is_of k n row ≡ false) (row_of_deadline zone entered acts d) (rows acts ds) (row_off k n d.case d.number _ off.0) (rows_off k n acts ds off.1)
+  rows_off k n acts (d ∷ ds) off = all_both (λ row. is_of k n row ≡ false) (row_of_deadline zone entered acts d) (rows acts ds) (row_off k n d.case d.number _ off.0) (rows_off k n acts ds off.1)
 
   -- new deadlines
 
@@ -73,7 +75,7 @@ module _ (zone : ZoneRules) (entered : Entered) where
   pub first_off : (k n m : ℕ) (made : List NewDeadline) → n < m → AreOthers k n (first_ends k m made)
   first_off k n m [] low = tt
   first_off k n m (d ∷ made) low =
-      both_append (λ row. is_of k n row ≡ false) (end_row k m (end (d.first ∷ []))) (first_ends k (m + 1) made) (row_off k n k m (end (d.first ∷ [])) (is_earlier k n k m (inr low))) (first_off k n (m + 1) made (omega (arith, low)))
+      all_both (λ row. is_of k n row ≡ false) (end_row k m (end (d.first ∷ []))) (first_ends k (m + 1) made) (row_off k n k m (end (d.first ∷ [])) (is_earlier k n k m (inr low))) (first_off k n (m + 1) made (omega (arith, low)))
 
   added : (k m : ℕ) (at : Option EndTime) (ends : List StoredEnd) → all_changed_ends (end_changes k m None at) ends ≡ ends ++ end_row k m at
   added k m None ends = sym (append-nil ends)
@@ -105,7 +107,7 @@ module _ (zone : ZoneRules) (entered : Entered) where
       let still : (j : ℕ) → m + 1 ≤ j → acts_of_deadline k j (acts ++ row ∷ []) ≡ [] =
       λ j high.
       acts_both k j acts (row ∷ []) ∙ ap₂ (λ xs ys. xs ++ ys) (none j (omega (arith, high)))
-      (let other : (m == j) ≡ false = grind (arith, nat_tests, high) in one_act k j row [] false (ap (λ b. (k == k) && b) other ∙ no_second (k == k))) in
+      (let other : (m == j) ≡ false = grind (arith, nat_tests, high) in one_act k j row [] false (ap (λ b. (k == k) && b) other ∙ and_right (k == k) false refl)) in
       ap₂ (λ xs ys. end_row k m (end xs) ++ ys) own
       (ap (λ all. rows all (deadline_rows_from k (m + 1) made)) (sym (append_assoc acts (row ∷ []) (firsts ++ later)))
       ∙ firsts_are k (m + 1) made (acts ++ row ∷ []) later still (λ j high. after j (omega (arith, high))))
@@ -155,10 +157,10 @@ module _ (zone : ZoneRules) (entered : Entered) where
       split_within = subst (λ some. AllByRecursion (IsWithin ds) some) once.is within
 
       front_same : rows more once.front ≡ rows acts once.front
-      front_same = same_rows once.front (front_of (IsWithin ds) once.front (once.one ∷ once.back) split_within) (offs once.front once.before)
+      front_same = same_rows once.front (all_front (IsWithin ds) once.front (once.one ∷ once.back) split_within) (offs once.front once.before)
 
       back_same : rows more once.back ≡ rows acts once.back
-      back_same = same_rows once.back (back_of (IsWithin ds) once.front (once.one ∷ once.back) split_within).1 (offs once.back once.after)
+      back_same = same_rows once.back (all_later (IsWithin ds) once.front (once.one ∷ once.back) split_within).1 (offs once.back once.after)
 
       own : (all : List ActRow) → row_of_deadline zone entered all once.one ≡ end_row k n (end (acts_of_deadline k n all))
       own all =
@@ -191,7 +193,7 @@ module _ (zone : ZoneRules) (entered : Entered) where
           subst (λ xs. IsPermutation (all_changed_ends changes xs) (rows more ds ++ ends)) (sym (parts acts refl refl))
           (subst (λ ys. IsPermutation (all_changed_ends changes (rows acts once.front ++ (end_row k n stored ++ (rows acts once.back ++ ends)))) ys) (sym after)
           (one_changed k n (rows acts once.front) (rows acts once.back ++ ends) (rows_off k n acts once.front once.before)
-          (both_append (λ row. is_of k n row ≡ false) (rows acts once.back) ends (rows_off k n acts once.back once.after) apart) stored next))
+          (all_both (λ row. is_of k n row ≡ false) (rows acts once.back) ends (rows_off k n acts once.back once.after) apart) stored next))
 
     -- all deadlines, with the new ones
     module _ (none : (j : ℕ) → count + 1 ≤ j → acts_of_deadline k j acts ≡ []) (after : (j : ℕ) → count + 1 ≤ j → acts_of_deadline k j later ≡ []) (named : List Act) where
@@ -361,7 +363,7 @@ module _ (court : CourtSettings) (h : History) (c : Command) (is : IsHistory cou
         let off : (d : DeadlineRow) → is_deadline k n d ≡ false → acts_of_deadline d.case d.number later ≡ [] =
         λ d other. no_later d.case d.number k n (length its_acts + 1) (act ∷ []) (turned d.case d.number k n other) in
         let after : (j : ℕ) → many + 1 ≤ j → acts_of_deadline k j later ≡ [] =
-        λ j high. no_later k j k n (length its_acts + 1) (act ∷ []) (let other : (n == j) ≡ false = grind (arith, nat_tests, high, there.1) in ap (λ b. (k == k) && b) other ∙ no_second (k == k)) in
+        λ j high. no_later k j k n (length its_acts + 1) (act ∷ []) (let other : (n == j) ≡ false = grind (arith, nat_tests, high, there.1) in ap (λ b. (k == k) && b) other ∙ and_right (k == k) false refl) in
         let step = acted zone entered acts before (all_within h) k made later n (deadline_once h k n there.0 there.1) there.1 act (its_later k n (length its_acts + 1) (act ∷ [])) off grown (first_off zone entered k n (many + 1) made (omega (arith, there.1))) in
         let one : flat_map (moves_by_act zone entered its_acts) later ≡ end_changes k n (end zone entered its_acts) (end zone entered (its_acts ++ act ∷ [])) =
         append-nil _ ∙ ap (λ xs. end_changes k n (end zone entered xs) (end zone entered (xs ++ act ∷ []))) (named_before its_acts k n act) in

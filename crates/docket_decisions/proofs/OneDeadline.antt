@@ -18,6 +18,7 @@ use Rattle.docket_history.specs.declared.row.DeadlineRow.{DeadlineRow}
 use Rattle.docket_decisions.proofs.ActsKept.{no_fewer}
 use Rattle.docket_decisions.proofs.EndChanges.{same_end}
 use Rattle.docket_decisions.proofs.InOrderLemmas.{deadlines_in_order, length-from, of_case}
+use Rattle.docket_decisions.proofs.ListLemmas.{all_both}
 
 -- one deadline, among those of others
 
@@ -102,18 +103,6 @@ module _ {X : Type 0} (p : X → Bool) where
           let it = next (ap (λ b. cond b (x ∷ filter p xs) (filter p xs)) (sym is) ∙ f) in
           record { front = x ∷ it.front; one = it.one; back = it.back; is = ap (λ zs. x ∷ zs) it.is; passes = it.passes; before = (is, it.before); after = it.after }
 
-pub both_append : {X : Type 0} (P : X → Type 0) (xs ys : List X) → AllByRecursion P xs → AllByRecursion P ys → AllByRecursion P (xs ++ ys)
-both_append P [] ys a b = b
-both_append P (x ∷ xs) ys a b = (a.0, both_append P xs ys a.1 b)
-
-pub front_of : {X : Type 0} (P : X → Type 0) (xs ys : List X) → AllByRecursion P (xs ++ ys) → AllByRecursion P xs
-front_of P [] ys all = tt
-front_of P (x ∷ xs) ys all = (all.0, front_of P xs ys all.1)
-
-pub back_of : {X : Type 0} (P : X → Type 0) (xs ys : List X) → AllByRecursion P (xs ++ ys) → AllByRecursion P ys
-back_of P [] ys all = all
-back_of P (x ∷ xs) ys all = back_of P xs ys all.1
-
 -- the numbers of deadlines
 
 abbrev pub is_deadline : ℕ → ℕ → DeadlineRow → Bool
@@ -195,4 +184,4 @@ all_within (c ∷ h) =
     let all : length (deadlines_of_case k (ds ++ new)) ≡ count + length made =
     ap length (filter-append (λ (d : DeadlineRow). d.case == k) ds new ∙ ap (λ xs. deadlines_of_case k ds ++ xs) (of_case k k (count + 1) made true same))
     ∙ length-append (deadlines_of_case k ds) new ∙ ap (λ i. count + i) (length-from k (count + 1) made) in
-    both_append (IsWithin (ds ++ new)) ds new (still_within ds new ds (all_within h)) (new_within (ds ++ new) k (count + 1) made (omega (arith, all)))
+    all_both (IsWithin (ds ++ new)) ds new (still_within ds new ds (all_within h)) (new_within (ds ++ new) k (count + 1) made (omega (arith, all)))

@@ -4,6 +4,7 @@ use Rattle.std.specs.Prelude.{nat_lt, nat_le, slice_get, is_some, ◌&&◌, if�
 use Rattle.std.specs.Option.{option_and_then, option_map_or}
 use Rattle.std.specs.List.{All, list_all}
 use Rattle.std.proofs.lemmas.Bool.Decides.{nat_tests}
+use Rattle.std.proofs.lemmas.Bool.{and_parts, or_parts}
 use Rattle.std.proofs.lemmas.List.Elements.{All-get_or}
 use Rattle.std.proofs.lemmas.Option.{get_or_from_slice_get, slice_get_within}
 use Rattle.court_days.specs.Court.{CourtSettings, zone_of}
@@ -68,10 +69,6 @@ is_free court v c e =
       room = off _ _ all.1.1.1.1.1.1.1.1.1.1.1.1.1.1.1.1.1.1.1.1.0;
     }
 
-or_right_off : (a b : Bool) → (a || b) ≡ false → b ≡ false
-or_right_off true b e = absurd (cc)
-or_right_off false b e = e
-
 pub not_above : (m n : ℕ) → nat_lt m n ≡ false → n ≤ m
 not_above m n e = grind (arith, nat_tests)
 
@@ -83,9 +80,9 @@ pub rows_fit : (v : View) (a : Action) → is_full v a ≡ false → v.next_row 
 rows_fit v a e was = at (work a) e
   where
     at : (w : Work) → is_full_by v a w ≡ false → v.next_row + length (fresh v.calendar (option_map_or rows_of_work (calendar_in w) [])) ≤ 4_294_967_296
-    at (on_calendar (enters row)) e = not_above _ _ (or_right_off _ _ e)
-    at (on_calendar (imports rows)) e = not_above _ _ (or_right_off _ _ e)
-    at (on_calendar (shortens short)) e = not_above _ _ (or_right_off _ _ e)
+    at (on_calendar (enters row)) e = not_above _ _ (or_parts _ _ e).1
+    at (on_calendar (imports rows)) e = not_above _ _ (or_parts _ _ e).1
+    at (on_calendar (shortens short)) e = not_above _ _ (or_parts _ _ e).1
     at (on_calendar (withdraws number)) e = omega arith
     at (opens case) e = omega arith
     at (enters_rule rule) e = omega arith
@@ -97,7 +94,7 @@ one_row true new e = absurd (cc)
 one_row false new e = refl
 
 number_fits : (v : View) (added : ℕ) → is_calendar_full v added ≡ false → v.next_row + added ≤ 4_294_967_296
-number_fits v added room = not_above _ _ (or_right_off _ _ room)
+number_fits v added room = not_above _ _ (or_parts _ _ room).1
 
 -- so does the number of a single one
 pub row_fits : (v : View) (w : Work) → is_some (option_and_then entered_by (calendar_in w)) ≡ true → exists_by v w ≡ false → (a : Action) → is_full_by v a w ≡ false → v.next_row < 4_294_967_296
@@ -133,7 +130,7 @@ deadlines_fit v a e some = at (work a) e some
         → (if is_some o then has_too_many_acts v a || nat_lt 1000 (count_deadlines v.case + length (option_map_or (λ make. make v.local) o [])) else rest) ≡ false
         → option_map_or (λ make. make v.local) o [] ≢ [] → count_deadlines v.case + length (option_map_or (λ make. make v.local) o []) ≤ 1000
     by_made rest None e some = absurd (some refl)
-    by_made rest (Some make) e some = not_above _ _ (or_right_off (has_too_many_acts v a) _ e)
+    by_made rest (Some make) e some = not_above _ _ (or_parts (has_too_many_acts v a) _ e).1
 
     at : (w : Work) → is_full_by v a w ≡ false → option_map_or (made_by v.local) (case_in w) [] ≢ [] → count_deadlines v.case + length (option_map_or (made_by v.local) (case_in w) []) ≤ 1000
     at (on_calendar work) e some = absurd (some refl)
@@ -145,19 +142,11 @@ deadlines_fit v a e some = at (work a) e some
 pub one_of_all : {X : Type 0} (P : X → Type 0) (xs : List X) (i : ℕ) (x : X) → All P xs → slice_get xs i ≡ Some x → P x
 one_of_all P xs i x all e = subst P (get_or_from_slice_get xs i x x e) (All-get_or P xs i x (slice_get_within xs i x e) all)
 
-pub left_true : (a b : Bool) → (a && b) ≡ true → a ≡ true
-left_true true b e = refl
-left_true false b e = absurd (cc)
-
-pub right_true : (a b : Bool) → (a && b) ≡ true → b ≡ true
-right_true true b e = e
-right_true false b e = absurd (cc)
-
 -- lawful acts are at most a hundred
-few_acts : (acts : List Act) → acts_ok acts ≡ true → length acts ≤ 100
+pub few_acts : (acts : List Act) → acts_ok acts ≡ true → length acts ≤ 100
 few_acts acts e =
-    let lengths = left_true (nat_le 1 (length acts) && nat_le (length acts) 100) (list_all is_within acts) (left_true ((nat_le 1 (length acts) && nat_le (length acts) 100) && list_all is_within acts) _ e) in
-    let most : nat_le (length acts) 100 ≡ true = right_true (nat_le 1 (length acts)) _ lengths in
+    let lengths = (and_parts (nat_le 1 (length acts) && nat_le (length acts) 100) (list_all is_within acts) (and_parts ((nat_le 1 (length acts) && nat_le (length acts) 100) && list_all is_within acts) _ e).0).0 in
+    let most : nat_le (length acts) 100 ≡ true = (and_parts (nat_le 1 (length acts)) _ lengths).1 in
     grind (arith, nat_tests)
 
 -- the acts of a deadline that is shown

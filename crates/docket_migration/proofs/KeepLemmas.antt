@@ -1,8 +1,9 @@
 -- What the change keeps of the tables of any schema.
 use Rattle.std.proofs.Common.{◌≡◌, ◌≢◌, ◌∙◌, ◌++◌, ◌==◌, ◌&&◌, ◌||◌, inl, inr, ℕ, Bool, true, false, not, List, [], ◌∷◌, slice_get, Ok, Some, refl, sym, ap, subst, arith}
 use Rattle.std.specs.List.{AllByRecursion, list_any}
-use Rattle.std.proofs.lemmas.Bool.{and_from, and_parts, or_cases}
+use Rattle.std.proofs.lemmas.Bool.{and_from, and_parts, not-true, or_cases}
 use Rattle.std.proofs.lemmas.Bool.Decides.{nat_tests}
+use Rattle.std.proofs.lemmas.Option.{same_Some}
 use Rattle.sqlite_schema.specs.Names.{same_name, table_named}
 use Rattle.sqlite_schema.specs.declared.schema.Reference.{Reference}
 use Rattle.sqlite_schema.specs.declared.schema.Schema.{Schema}
@@ -70,16 +71,12 @@ none_refers (ref ∷ refs) none = go (none_refers refs) (same_name ref.parent (n
     go rest true is = absurd (let e = rw is at none in cc)
     go rest false is = (is, rest (rw is at none))
 
-is_false : (b : Bool) → not b ≡ true → b ≡ false
-is_false true is = absurd cc
-is_false false is = refl
-
 pub stands_alone : (schema : Schema) (court : Shape) → Has schema.tables court → is_courts court ≡ true → is_court_apart schema ≡ true → IsAlone (name_of Court) court.tree schema.tables
 stands_alone schema court there named apart = record {
-  refers = λ t h. none_refers t.references (is_false _ (tested t h).0);
+  refers = λ t h. none_refers t.references (not-true _ (tested t h).0);
   apart = λ t h same. elim (or_cases _ _ (tested t h).1) [
     | inl is ↦ is
-    | inr lacks ↦ absurd (let has = shared t same in let none = is_false _ lacks in cc)
+    | inr lacks ↦ absurd (let has = shared t same in let none = not-true _ lacks in cc)
   ];
 }
   where
@@ -90,9 +87,6 @@ stands_alone schema court there named apart = record {
     shared t same = some_from (λ (c : Shape). is_courts c && (c.tree == t.tree)) schema.tables court there (and_from _ _ named (let equal : (court.tree == t.tree) ≡ true = grind (arith, nat_tests) in equal))
 
 -- the version is set in the court's table, and no other changes
-same_some : {X : Type 0} (x y : X) → Some x ≡ Some y → x ≡ y
-same_some x y e = cc
-
 pub rewrites_court : (old : Database) (mid new : State) (count : ℕ) → GoesOnWith IsNew old mid.now → has_table old.schema Court ≡ true → is_court_apart old.schema ≡ true → Executes version_text [] mid new (Ok count)
     → RewritesCourt mid.now new.now
 unfolding there_on
@@ -102,7 +96,7 @@ rewrites_court old mid new count on has apart ran =
     let later = there_on Court old.schema mid.now.schema on.goes_on.more on.goes_on.tables first_one in
     let alone = alone_still (name_of Court) first_one.table old mid.now on.goes_on here (stands_alone old.schema first_one.table here first_one.same apart) in
     let found : (at : ℕ) (table : Shape) → table_named mid.now.schema (name_of Court) ≡ Some at → slice_get mid.now.schema.tables at ≡ Some table → table ≡ first_one.table =
-    λ at table named place. let ats = same_some at later.at (sym named ∙ later.named) in same_some table first_one.table (sym place ∙ ap (slice_get mid.now.schema.tables) ats ∙ later.is) in
+    λ at table named place. let ats = same_Some at later.at (sym named ∙ later.named) in same_Some table first_one.table (sym place ∙ ap (slice_get mid.now.schema.tables) ats ∙ later.is) in
     let it = rewrites version_text (name_of Court) sets_version mid new count ran (λ at table named place olds news.
     nothing_acts (name_of Court) mid.now.schema table.tree (subst (λ (t : Shape). IsAlone (name_of Court) t.tree mid.now.schema.tables) (sym (found at table named place)) alone) olds news) in
     let table = found it.at it.table it.named it.place in

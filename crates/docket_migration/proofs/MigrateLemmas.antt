@@ -144,10 +144,6 @@ module _ {S : Type 0} (g : Ghosts S) (old mid : Held S) (crash : Survives (state
     pub has_court : HasCleanDisk (state g mid) → has_table mid.schema Court ≡ true
     has_court clean = let it = told clean in subst (λ (d : Database). has_table d.schema Court ≡ true) (sym it.0.0.now_is) it.2.has_court.1.0
 
-    -- where the schema is another's, nothing is changed
-    pub not_tried : Tells g old mid (Err StoreFailed)
-    not_tried clean db may = inl (images_kept clean db may)
-
   -- and then the version was changed, or not
   module _ (end : Held S) (grows : doubt (state g mid).is_clean ≤ doubt (state g end).is_clean) where
     then_nothing : MakesNothing g mid end → MakesNothing g old end

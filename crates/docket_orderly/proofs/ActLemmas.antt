@@ -1,12 +1,12 @@
 -- The acts of a docket.
 use Rattle.std.proofs.Common.{◌≡◌, ◌⊎◌, inl, inr, ⊎_elim, ℕ, suc, ◌+◌, ◌<◌, ◌≤◌, Bool, true, false, ◌&&◌, cond, Option, Some, None, List, [], ◌∷◌, ◌++◌, map, length, refl, sym, ap, subst, ◌∙◌, arith, append-nil, append_assoc}
 use Rattle.std.specs.Prelude.{◌==◌, nat_le, unwrap_or}
-use Rattle.std.specs.List.{AllByRecursion, list_all}
+use Rattle.std.specs.List.{AllByRecursion}
 use Rattle.std.proofs.lemmas.Bool.Decides.{nat_tests}
+use Rattle.std.proofs.lemmas.Bool.{and_parts, and_right}
 use Rattle.std.proofs.lemmas.List.{map-append, length-map}
 use Rattle.std.proofs.lemmas.List.Elements.{filter-append}
 use Rattle.court_days.specs.Court.{CourtSettings}
-use Rattle.court_rules.specs.Acts.{acts_ok, is_within}
 use Rattle.court_rules.specs.declared.act.Act.{Act}
 use Rattle.docket_command.specs.declared.command.Action.{Action}
 use Rattle.docket_history.specs.Actions.{deadline_named, deadlines_made, acts_made}
@@ -17,20 +17,14 @@ use Rattle.docket_decisions.proofs.InOrderLemmas.{same_number}
 use Rattle.docket_history.proofs.Asked.{none_acted, none_acted_in}
 use Rattle.docket_decisions.proofs.Leading.{seen}
 use Rattle.docket_decisions.proofs.LimitsKept.{IsPassed, passed, all_kept, there_is, named_there, within_limits}
-use Rattle.docket_decisions.proofs.Passed.{left_true, right_true}
+use Rattle.docket_decisions.proofs.Passed.{few_acts}
+use Rattle.docket_decisions.proofs.ListLemmas.{all_both}
 use Rattle.docket_wire.specs.Valid.{IsCommand}
 use Rattle.docket_columns.specs.Fits.{IsCount, IsAct, IsActRow}
 use Rattle.docket_orderly.specs.Orderly.{RunsFrom, acts_on}
 use Rattle.docket_orderly.proofs.ActionLemmas.{NewDeadline, IsMaking, case_counts, deadline_counts, deadlines_fine, deadlines_few, acts_fine, acts_few}
-use Rattle.docket_orderly.proofs.ListLemmas.{all_both, runs_both}
+use Rattle.docket_orderly.proofs.ListLemmas.{runs_both}
 use Rattle.docket_orderly.proofs.LocalRuleLemmas.{found_for}
-
--- lawful acts are at most a hundred
-few_lawful : (acts : List Act) → acts_ok acts ≡ true → length acts ≤ 100
-few_lawful acts e =
-    let lengths = left_true (nat_le 1 (length acts) && nat_le (length acts) 100) (list_all is_within acts) (left_true ((nat_le 1 (length acts) && nat_le (length acts) 100) && list_all is_within acts) _ e) in
-    let most : nat_le (length acts) 100 ≡ true = right_true (nat_le 1 (length acts)) _ lengths in
-    grind (arith, nat_tests)
 
 -- a number is that of one of so many, or of none
 placed : (n count : ℕ) → ((n ≡ 0) ⊎ (count < n)) ⊎ ((1 ≤ n) × (n ≤ count))
@@ -41,11 +35,11 @@ placed n count = at (nat_le 1 n) (nat_le n count) refl refl
     at true false low high = inl (inr (grind (arith, nat_tests, high)))
     at false c low high = inl (inl (grind (arith, nat_tests, low)))
 
-few_acts : (court : CourtSettings) (h : History) → IsHistory court h → (k n : ℕ) → length (acts_of_deadline k n (act_rows h)) ≤ 100
-few_acts court h is k n =
+few_of_deadline : (court : CourtSettings) (h : History) → IsHistory court h → (k n : ℕ) → length (acts_of_deadline k n (act_rows h)) ≤ 100
+few_of_deadline court h is k n =
     ⊎_elim
     (λ none. omega (arith, ap length ((all_kept court h is k n).absent none)))
-    (λ there. few_lawful (acts_of_deadline k n (act_rows h)) ((all_kept court h is k n).sound there.0 there.1).lawful.0)
+    (λ there. few_acts (acts_of_deadline k n (act_rows h)) ((all_kept court h is k n).sound there.0 there.1).lawful.0)
     (placed n (length (deadlines_of_case k (deadline_rows h))))
 
 -- first acts and later ones
@@ -69,7 +63,7 @@ acts_held court (c ∷ h) is all =
     (all_both IsActRow (first_acts found made a) (later_acts acts a)
     (firsts_held (case_number a) (made + 1) (deadlines_made found a) (case_counts a all.0.1) (omega (arith, few, deadlines_few found a)) (deadlines_fine found a (found_for court h is.1 a) all.0.1))
     (later_held (case_number a) (deadline_number a) (acts + 1) (acts_made a) (case_counts a all.0.1) (deadline_counts a all.0.1)
-    (omega (arith, few_acts court h is.1 (case_number a) (deadline_number a), acts_few a)) (acts_fine a all.0.1)))
+    (omega (arith, few_of_deadline court h is.1 (case_number a) (deadline_number a), acts_few a)) (acts_fine a all.0.1)))
 
 abbrev numbers : List ActRow → List ℕ
 numbers rows = map (λ (row : ActRow). row.number) rows
@@ -86,15 +80,11 @@ module _ (k n : ℕ) where
   firsts_elsewhere j m [] off = refl
   firsts_elsewhere j m (d ∷ made) off = first_off j m d made (ap (λ b. b && m == n) off) (firsts_elsewhere j (m + 1) made off)
 
-  never : (b : Bool) → (b && false) ≡ false
-  never true = refl
-  never false = refl
-
   firsts_after : (j m : ℕ) (made : List NewDeadline) → n < m → acts_on k n (first_acts_from j m made) ≡ []
   firsts_after j m [] lt = refl
   firsts_after j m (d ∷ made) lt =
       let other : (m == n) ≡ false = grind (arith, nat_tests, lt) in
-      first_off j m d made (ap (λ b. j == k && b) other ∙ never (j == k)) (firsts_after j (m + 1) made (omega (arith, lt)))
+      first_off j m d made (ap (λ b. j == k && b) other ∙ and_right (j == k) false refl) (firsts_after j (m + 1) made (omega (arith, lt)))
 
   firsts_run : (j m : ℕ) (made : List NewDeadline) → RunsFrom 1 (numbers (acts_on k n (first_acts_from j m made)))
   firsts_run j m [] = tt
@@ -108,7 +98,7 @@ module _ (k n : ℕ) where
 
       at : (b : Bool) → (j == k && m == n) ≡ b → RunsFrom 1 (numbers rest) → RunsFrom 1 (numbers (cond (j == k && m == n) (row ∷ rest) rest))
       at true e more =
-          let here : m ≡ n = same_number m n (right_true (j == k) (m == n) e) in
+          let here : m ≡ n = same_number m n (and_parts (j == k) (m == n) e).1 in
           let none : rest ≡ [] = firsts_after j (m + 1) made (omega (arith, here)) in
           subst (λ b. RunsFrom 1 (numbers (cond b (row ∷ rest) rest))) (sym e) (subst (λ (rows : List ActRow). RunsFrom 1 (numbers (row ∷ rows))) (sym none) (refl, tt))
       at false e more = subst (λ b. RunsFrom 1 (numbers (cond b (row ∷ rest) rest))) (sym e) more
@@ -212,8 +202,8 @@ module _ (court : CourtSettings) (h : History) (is : IsHistory court h) (a : Act
       at : (b : Bool) → (j == k && d == n) ≡ b → AreRunWith (new ∷ more)
       at false other = none_later (new ∷ more) (later_if k n j d (size + 1) (new ∷ more) false other)
       at true both =
-          let here : j ≡ k = same_number j k (left_true (j == k) (d == n) both) in
-          let there : d ≡ n = same_number d n (right_true (j == k) (d == n) both) in
+          let here : j ≡ k = same_number j k (and_parts (j == k) (d == n) both).0 in
+          let there : d ≡ n = same_number d n (and_parts (j == k) (d == n) both).1 in
           let none = firsts_after k n j (count + 1) made (omega (arith, there, (deadline_there court h a new more p e).1)) in
           subst (λ (rows : List ActRow). AreRun ((old ++ firsts) ++ rows)) (sym (later_if k n j d (size + 1) (new ∷ more) true both))
           (some_later (new ∷ more) here there none)

@@ -4,6 +4,7 @@ use Rattle.std.specs.Prelude.{nat_le, unwrap_or, option_to_list}
 use Rattle.std.specs.List.{AllByRecursion}
 use Rattle.std.specs.Option.{option_map}
 use Rattle.std.proofs.lemmas.Bool.Decides.{nat_tests}
+use Rattle.std.proofs.lemmas.Bool.{and_parts}
 use Rattle.court_days.specs.declared.calendar.Direction.{Direction}
 use Rattle.court_rules.specs.LocalRules.{IsDeadlineRule, is_local_name, is_local_rule}
 use Rattle.court_rules.specs.Rules.{period_of, direction_of, adds_three, IsPeriod}
@@ -36,7 +37,6 @@ use Rattle.docket_history.specs.DeadlinesMade.{begun_by, begun, timed, timed_or_
 use Rattle.docket_history.specs.Histories.{case_number, deadline_number}
 use Rattle.docket_history.specs.declared.item.CalendarItem.{CalendarItem}
 use Rattle.docket_history.specs.declared.item.CalendarItem.TheVariants.{Short}
-use Rattle.docket_decisions.proofs.Passed.{left_true, right_true}
 use Rattle.docket_wire.specs.Valid.{IsAction, IsNewDay, IsMinute}
 use Rattle.docket_columns.specs.Codes.{unit_count}
 use Rattle.docket_columns.specs.Fits.{IsCount, IsItem, IsNameOf, IsAct}
@@ -194,13 +194,13 @@ IsFoundFor found _ = Unit {0}
 -- its name and its days
 lawful_name : (r : LocalRule) → is_local_rule r ≡ true → is_local_name r.name ≡ true
 unfolding is_local_rule
-lawful_name r lawful = left_true (is_local_name r.name) _ lawful
+lawful_name r lawful = (and_parts (is_local_name r.name) _ lawful).0
 
 lawful_days : (r : LocalRule) → is_local_rule r ≡ true → IsCount r.days
 unfolding is_local_rule
 lawful_days r lawful =
-    let days = left_true (nat_le 1 r.days && nat_le r.days 3650) _ (right_true (is_local_name r.name) _ lawful) in
-    let most : nat_le r.days 3650 ≡ true = right_true (nat_le 1 r.days) _ days in
+    let days = (and_parts (nat_le 1 r.days && nat_le r.days 3650) _ (and_parts (is_local_name r.name) _ lawful).1).0 in
+    let most : nat_le r.days 3650 ≡ true = (and_parts (nat_le 1 r.days) _ days).1 in
     grind (arith, nat_tests, most)
 
 locally_fine : (found : FoundRule) (a : local_period.LocalPeriod) → IfSome found (IsNamed a.rule) → IsCount a.party → IsDay a.start → AllByRecursion IsMaking (option_to_list (option_map (local_time a) found))

@@ -1,5 +1,5 @@
 -- The rows that an accepted command adds each stand once among the rows at that moment, and have their parents.
-use Rattle.std.proofs.Common.{◌≡◌, ℕ, Option, Some, None, List, [], ◌∷◌, ◌++◌, map, refl, sym, subst}
+use Rattle.std.proofs.Common.{ℕ, Option, Some, None, List, [], ◌∷◌, ◌++◌, map, sym, subst}
 use Rattle.std.specs.List.{AllByRecursion}
 use Rattle.court_days.specs.Court.{CourtSettings}
 use Rattle.docket_command.specs.declared.command.Action.{Action}
@@ -13,9 +13,9 @@ use Rattle.docket_decisions.specs.Outcomes.{IsHistory, shown, shown_fresh, recei
 use Rattle.docket_decisions.specs.Tables.{Tables, rows_of, changed, all_changed, with_receipt, withdrawal, action_changes, calendar_changes, case_changes, party_changes, entry_changes, deadline_changes, first_act_changes, act_changes, view_in}
 use Rattle.docket_decisions.proofs.Leading.{leads}
 use Rattle.docket_decisions.proofs.LimitsKept.{passed}
+use Rattle.docket_decisions.proofs.ListLemmas.{all_both}
 use Rattle.docket_orderly.specs.Additions.{MayAdd, MayAddAll, MayReceive}
 use Rattle.docket_orderly.proofs.ApartLemmas.{IsOtherDay, IsOtherCase, IsOtherParty, IsOtherEntry, IsOtherDeadline, IsOtherAct, IsOtherRule, IsOtherReceipt, AreApart, tables_apart, receipts_apart}
-use Rattle.docket_orderly.proofs.ListLemmas.{all_both}
 use Rattle.docket_orderly.proofs.PairLemmas.{all_before, front_apart}
 use Rattle.docket_orderly.proofs.ParentLemmas.{HasParents, AllHaveParents, additions_of, withdrawal_first, parents}
 
@@ -86,7 +86,7 @@ apart_after None xs t add all = (apart_all xs t add all).0
 apart_after (Some number) xs t add all = (tt, (apart_all xs (changed (change.RemoveCalendar number) t) add all).0)
 
 -- all but the withdrawal are additions
-all_add : {R : Type 0} (make : R → Change) → ((row : R) → IsAddition (make row)) → (rows : List R) → AllByRecursion IsAddition (map make rows)
+pub all_add : {R : Type 0} (make : R → Change) → ((row : R) → IsAddition (make row)) → (rows : List R) → AllByRecursion IsAddition (map make rows)
 all_add make is [] = tt
 all_add make is (row ∷ rows) = (is row, all_add make is rows)
 
@@ -140,10 +140,6 @@ may_be_added court h c is =
 pub may_be_received : (court : CourtSettings) (h : History) (c : Command) → IsHistory court (c ∷ h) → MayReceive c (rows_of court h)
 may_be_received court h c is =
     all_before IsOtherReceipt (receipts court h) (record { command = c; reply = replied (reply_to court (shown_fresh h c.action) c.action) }) (receipts_apart court (c ∷ h) is)
-
--- what a history shows is what its tables show
-pub shown_in : (court : CourtSettings) (h : History) (c : Command) → view_in (rows_of court h) c ≡ shown court h c
-shown_in court h c = refl
 
 -- the changes of an accepted command, and its receipt
 pub additions : (court : CourtSettings) (h : History) (c : Command) → IsHistory court (c ∷ h)

@@ -1,8 +1,9 @@
 -- The rows of each table of a docket are apart: no two have one number, or what stands once beside it.
-use Rattle.std.proofs.Common.{◌≡◌, ◌≢◌, ℕ, ◌+◌, Bool, true, false, ◌||◌, ◌&&◌, not, Option, Some, None, List, [], ◌∷◌, ◌++◌, map, refl, sym, ap, ◌∙◌, subst, arith, append_assoc, append-nil}
+use Rattle.std.proofs.Common.{◌≡◌, ◌≢◌, ℕ, ◌+◌, Bool, true, false, ◌&&◌, not, Option, Some, None, List, [], ◌∷◌, ◌++◌, map, refl, sym, ap, ◌∙◌, subst, arith, append_assoc, append-nil}
 use Rattle.std.specs.Prelude.{◌==◌, bytes_eq, if◌then◌else◌}
 use Rattle.std.specs.List.{AllByRecursion}
 use Rattle.std.proofs.lemmas.Bool.Decides.{nat_tests}
+use Rattle.std.proofs.lemmas.Bool.{or_parts}
 use Rattle.std.proofs.lemmas.List.{map-append}
 use Rattle.std.proofs.lemmas.Slice.Eq.{bytes_eq-Decides}
 use Rattle.court_days.specs.Court.{CourtSettings}
@@ -81,11 +82,7 @@ same_bytes a b e = (bytes_eq-Decides b a).1 (sym e)
 -- items of the calendar
 none_same : (items : List CalendarItem) (item : CalendarItem) → stands_among items item ≡ false → AllByRecursion (λ one. IsOtherItem one item) items
 none_same [] item e = tt
-none_same (one ∷ items) item e = let both = or_off (is_same_item one item) (stands_among items item) e in (both.0, none_same items item both.1)
-  where
-    or_off : (a b : Bool) → (a || b) ≡ false → (a ≡ false) × (b ≡ false)
-    or_off true b f = absurd (cc)
-    or_off false b f = (refl, f)
+none_same (one ∷ items) item e = let both = or_parts (is_same_item one item) (stands_among items item) e in (both.0, none_same items item both.1)
 
 -- new rows are apart from what stood before, and from one another
 abbrev new_items : List NewRow → List CalendarItem

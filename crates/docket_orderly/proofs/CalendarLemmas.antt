@@ -11,11 +11,12 @@ use Rattle.docket_history.specs.declared.item.CalendarItem.{CalendarItem}
 use Rattle.docket_history.specs.declared.item.CalendarItem.TheVariants.{Day, Span, Short}
 use Rattle.docket_history.specs.declared.row.CalendarRow.{CalendarRow}
 use Rattle.docket_decisions.proofs.Leading.{length-numbered}
+use Rattle.docket_decisions.proofs.ListLemmas.{all_both}
 use Rattle.docket_wire.specs.Valid.{IsCommand}
 use Rattle.docket_columns.specs.Fits.{IsCount, IsNameOf, IsCalendarRow, IsShortDayRow}
 use Rattle.docket_orderly.specs.Orderly.{Rises, RunsFrom}
 use Rattle.docket_orderly.proofs.ActionLemmas.{NewRow, IsHeldItem, IsAsked, rows_fine}
-use Rattle.docket_orderly.proofs.ListLemmas.{all_both, all_left, all_by, numbers_left, rises_left, runs_below, rises_both}
+use Rattle.docket_orderly.proofs.ListLemmas.{all_left, all_by, numbers_left, rises_left, runs_below, rises_both}
 
 abbrev numbers : List CalendarRow → List ℕ
 numbers rows = map (λ (row : CalendarRow). row.number) rows

@@ -3,6 +3,7 @@ use Rattle.std.proofs.Common.{◌≡◌, ◌∙◌, ◌≤◌, ◌<◌, ◌⊎�
 use Rattle.std.specs.Prelude.{nat_le, unwrap_or}
 use Rattle.std.specs.Option.{option_and_then}
 use Rattle.std.proofs.lemmas.Bool.Decides.{nat_tests}
+use Rattle.std.proofs.lemmas.Bool.{and_parts}
 use Rattle.std.proofs.lemmas.List.{length-append}
 use Rattle.std.proofs.lemmas.List.Elements.{filter-append}
 use Rattle.court_days.specs.Court.{CourtSettings}
@@ -52,14 +53,10 @@ range_of h a x is = at (case_named a) is
     at None e = absurd (let no = e in cc)
     at (Some k) e = within k (nat_le 1 k && nat_le k (length (case_rows h))) _ refl e
 
-both_true : (a b : Bool) → (a && b) ≡ true → (a ≡ true) × (b ≡ true)
-both_true true b e = (refl, e)
-both_true false b e = absurd (let no = e in cc)
-
 -- the number of the case that is shown is at most their count
 pub case_there : (h : History) (a : Action) (x : CaseView) → (shown_fresh h a).case ≡ Some x → (1 ≤ case_number a) × (case_number a ≤ length (case_rows h))
 case_there h a x is =
-    let range = both_true (nat_le 1 (case_number a)) (nat_le (case_number a) (length (case_rows h))) (range_of h a x is) in
+    let range = and_parts (nat_le 1 (case_number a)) (nat_le (case_number a) (length (case_rows h))) (range_of h a x is) in
     (grind (arith, nat_tests, range.0), grind (arith, nat_tests, range.1))
 
 -- a number past the cases has no deadline

@@ -18,18 +18,19 @@ use Rattle.docket_decisions.specs.Outcomes.{IsHistory}
 use Rattle.docket_decisions.specs.Tables.{rows_of}
 use Rattle.docket_decisions.proofs.EndBounds.{calendar_within, ends_are_due}
 use Rattle.docket_decisions.proofs.LimitsKept.{within_limits}
+use Rattle.docket_decisions.proofs.ListLemmas.{all_both}
 use Rattle.docket_wire.specs.Valid.{IsCommand}
 use Rattle.docket_columns.specs.Fits.{IsDeadlineRow, IsEndRow}
 use Rattle.docket_columns.proofs.EndLemmas.{end_time_fits}
 use Rattle.docket_orderly.specs.Orderly.{RunsFrom}
-use Rattle.docket_orderly.proofs.ListLemmas.{all_both, all_by}
+use Rattle.docket_orderly.proofs.ListLemmas.{all_by}
 use Rattle.docket_orderly.proofs.RowLemmas.{deadlines_held, deadlines_run}
 
 abbrev numbers : List DeadlineRow → List ℕ
 numbers ds = map (λ (d : DeadlineRow). d.number) ds
 
 -- what holds of the deadlines of each case holds of all
-of_each : (P : ℕ → DeadlineRow → Type 0) (ds : List DeadlineRow) → ((k : ℕ) → AllByRecursion (P k) (deadlines_of_case k ds)) → AllByRecursion (λ d. P d.case d) ds
+pub of_each : (P : ℕ → DeadlineRow → Type 0) (ds : List DeadlineRow) → ((k : ℕ) → AllByRecursion (P k) (deadlines_of_case k ds)) → AllByRecursion (λ d. P d.case d) ds
 of_each P [] all = tt
 of_each P (d ∷ ds) all = (first (d.case == d.case) (grind (arith, nat_tests)) (all d.case), of_each P ds (λ k. rest k (d.case == k) (all k)))
   where

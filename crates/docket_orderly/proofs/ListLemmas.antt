@@ -3,14 +3,11 @@ use Rattle.std.proofs.Common.{◌≡◌, ℕ, suc, ◌+◌, ◌<◌, Bool, true,
 use Rattle.std.specs.Prelude.{filter}
 use Rattle.std.specs.List.{AllByRecursion}
 use Rattle.docket_history.specs.InOrder.{numbered_by}
+use Rattle.docket_decisions.proofs.ListLemmas.{all_both}
 use Rattle.docket_orderly.specs.Orderly.{Rises, RunsFrom}
 
 -- what holds of all
 module _ {X : Type 0} (P : X → Type 0) where
-  pub all_both : (xs ys : List X) → AllByRecursion P xs → AllByRecursion P ys → AllByRecursion P (xs ++ ys)
-  all_both [] ys one two = two
-  all_both (x ∷ xs) ys one two = (one.0, all_both xs ys one.1 two)
-
   if_kept : (b : Bool) (x : X) (xs : List X) → P x → AllByRecursion P xs → AllByRecursion P (cond b (x ∷ xs) xs)
   if_kept true x xs here rest = (here, rest)
   if_kept false x xs here rest = rest

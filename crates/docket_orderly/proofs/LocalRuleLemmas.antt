@@ -19,11 +19,12 @@ use Rattle.docket_decisions.proofs.InOrderLemmas.{rules_in_order}
 use Rattle.docket_decisions.proofs.Leading.{is_accepted}
 use Rattle.docket_decisions.proofs.LimitsKept.{rules_lawful, within_limits}
 use Rattle.docket_decisions.proofs.Passed.{is_free}
+use Rattle.docket_decisions.proofs.ListLemmas.{all_both}
 use Rattle.docket_wire.specs.Valid.{IsAction, IsCommand}
 use Rattle.docket_columns.specs.Fits.{IsLocalRuleRow}
 use Rattle.docket_orderly.specs.Orderly.{RunsFrom, local_rules_named}
 use Rattle.docket_orderly.proofs.ActionLemmas.{IsFoundFor, IsNamed}
-use Rattle.docket_orderly.proofs.ListLemmas.{all_both, numbered_runs}
+use Rattle.docket_orderly.proofs.ListLemmas.{numbered_runs}
 
 -- the rule that is found under a name has that name, and is lawful
 

@@ -2,8 +2,9 @@
 use Rattle.std.proofs.Common.{◌≡◌, ◌≢◌, ℕ, ◌<◌, ◌≤◌, Bool, true, false, cond, List, [], ◌∷◌, ◌++◌, map, length, subst, arith}
 use Rattle.std.specs.Prelude.{filter}
 use Rattle.std.specs.List.{AllByRecursion}
+use Rattle.docket_decisions.proofs.ListLemmas.{all_both, all_front}
 use Rattle.docket_orderly.specs.Orderly.{Rises}
-use Rattle.docket_orderly.proofs.ListLemmas.{all_both, all_by}
+use Rattle.docket_orderly.proofs.ListLemmas.{all_by}
 
 -- what holds of each with all after it
 abbrev pub Pairwise : {X : Type 0} → (X → X → Type 0) → List X → Type 0
@@ -11,11 +12,7 @@ Pairwise R [] = Unit {0}
 Pairwise R (x ∷ xs) = AllByRecursion (R x) xs × Pairwise R xs
 
 module _ {X : Type 0} (P : X → Type 0) where
-  -- what holds of all holds of those in front, and of the last
-  all_front : (xs ys : List X) → AllByRecursion P (xs ++ ys) → AllByRecursion P xs
-  all_front [] ys all = tt
-  all_front (x ∷ xs) ys all = (all.0, all_front xs ys all.1)
-
+  -- what holds of all holds of the last
   all_last : (xs : List X) (y : X) → AllByRecursion P (xs ++ y ∷ []) → P y
   all_last [] y all = all.0
   all_last (x ∷ xs) y all = all_last xs y all.1

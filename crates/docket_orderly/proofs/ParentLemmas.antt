@@ -3,6 +3,7 @@ use Rattle.std.proofs.Common.{◌≡◌, ◌⊎◌, inl, inr, ⊎_elim, ℕ, suc
 use Rattle.std.specs.Prelude.{◌==◌, filter}
 use Rattle.std.specs.List.{AllByRecursion, list_any}
 use Rattle.std.proofs.lemmas.Bool.Decides.{nat_tests}
+use Rattle.std.proofs.lemmas.Bool.{or_left, or_right}
 use Rattle.std.proofs.lemmas.List.Folds.{list_any-append}
 use Rattle.court_days.specs.Court.{CourtSettings}
 use Rattle.court_rules.specs.declared.act.Act.{Act}
@@ -46,20 +47,12 @@ AllHaveParents [] t = Unit {0}
 AllHaveParents (x ∷ xs) t = HasParents x t × AllHaveParents xs (changed x t)
 
 -- what stands, stands with more
-or_true : (a b : Bool) → a ≡ true → (a || b) ≡ true
-or_true true b e = refl
-or_true false b e = absurd (cc)
-
 still_any : {X : Type 0} (p : X → Bool) (xs ys : List X) → list_any p xs ≡ true → list_any p (xs ++ ys) ≡ true
-still_any p xs ys e = list_any-append p xs ys ∙ or_true (list_any p xs) (list_any p ys) e
+still_any p xs ys e = list_any-append p xs ys ∙ or_left (list_any p xs) (list_any p ys) e
 
 any_last : {X : Type 0} (p : X → Bool) (xs : List X) (y : X) → p y ≡ true → list_any p (xs ++ y ∷ []) ≡ true
-any_last p [] y e = or_true (p y) false e
+any_last p [] y e = or_left (p y) false e
 any_last p (x ∷ xs) y e = or_right (p x) (list_any p (xs ++ y ∷ [])) (any_last p xs y e)
-  where
-    or_right : (a b : Bool) → b ≡ true → (a || b) ≡ true
-    or_right true b f = refl
-    or_right false b f = f
 
 -- no change takes a case or a deadline away
 case_kept : (x : Change) (t : Tables) (k : ℕ) → HasCase t k → HasCase (changed x t) k

@@ -1,5 +1,6 @@
 -- The receipts of a docket.
 use Rattle.std.proofs.Common.{◌≡◌, ℕ, ◌+◌, ◌≤◌, Bool, true, false, not, cond, Option, Some, None, List, [], ◌∷◌, ◌++◌, length, refl, sym, ap, subst, ◌∙◌, arith, append-nil}
+use Rattle.std.proofs.lemmas.Bool.{or_parts}
 use Rattle.std.specs.Prelude.{find, bytes_eq, if◌then◌else◌, nat_le, nat_lt, ◌&&◌}
 use Rattle.std.specs.List.{AllByRecursion}
 use Rattle.std.specs.Option.{option_and_then}
@@ -28,14 +29,13 @@ use Rattle.docket_history.specs.declared.row.Receipt.{Receipt}
 use Rattle.docket_history.specs.declared.view.UnderKey.{UnderKey}
 use Rattle.docket_history.specs.declared.view.UnderKey.TheVariants.{Fresh, Same, Other}
 use Rattle.docket_history.specs.declared.view.View.{View}
-use Rattle.docket_decisions.proofs.GoodValues.{or_off}
 use Rattle.docket_decisions.proofs.Leading.{is_accepted, case_numbered, length-deadlines_from}
 use Rattle.docket_decisions.proofs.LimitsKept.{within_limits}
 use Rattle.docket_decisions.proofs.Passed.{is_free, row_fits, not_above, not_at}
+use Rattle.docket_decisions.proofs.ListLemmas.{all_both}
 use Rattle.docket_wire.specs.Valid.{IsAction, IsCommand}
 use Rattle.docket_columns.specs.Fits.{IsCount, IsReceipt}
 use Rattle.docket_orderly.specs.Orderly.{receipts_under}
-use Rattle.docket_orderly.proofs.ListLemmas.{all_both}
 
 -- what is accepted has a fresh key
 not_reused : (b c : Bool) (r s : Refusal) (rest : List (Option Refusal)) → first_some (on b r ∷ on c s ∷ rest) ≡ None → c ≡ false
@@ -125,7 +125,7 @@ module _ (court : CourtSettings) (v : View) (few : count_deadlines v.case ≤ 10
   made_counts (on_calendar (enters row)) a is new room = omega (arith, row_fits v (on_calendar (enters row)) refl new a room)
   made_counts (on_calendar (imports rows)) a is new room =
       let added = length (fresh v.calendar rows) in
-      omega (arith, not_above 4000 (length v.calendar + added) (or_off (nat_lt 4000 (length v.calendar + added)) (nat_lt 4_294_967_296 (v.next_row + added)) room).0)
+      omega (arith, not_above 4000 (length v.calendar + added) (or_parts (nat_lt 4000 (length v.calendar + added)) (nat_lt 4_294_967_296 (v.next_row + added)) room).0)
   made_counts (on_calendar (shortens short)) a is new room = omega (arith, row_fits v (on_calendar (shortens short)) refl new a room)
   made_counts (on_calendar (withdraws number)) a is new room = is
   made_counts (opens case) a is new room = let few_cases = not_at 100_000 v.cases room in omega (arith, few_cases)

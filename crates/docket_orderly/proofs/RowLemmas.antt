@@ -14,11 +14,12 @@ use Rattle.docket_history.specs.declared.row.EntryRow.{EntryRow}
 use Rattle.docket_history.specs.declared.row.DeadlineRow.{DeadlineRow}
 use Rattle.docket_decisions.proofs.InOrderLemmas.{cases_in_order, parties_in_order, entries_in_order, deadlines_in_order}
 use Rattle.docket_decisions.proofs.LimitsKept.{within_limits}
+use Rattle.docket_decisions.proofs.ListLemmas.{all_both}
 use Rattle.docket_wire.specs.Valid.{IsAction, IsCommand}
 use Rattle.docket_columns.specs.Fits.{IsCount, IsCaseRow, IsPartyRow, IsEntryRow, IsDeadlineRow}
 use Rattle.docket_orderly.specs.Orderly.{RunsFrom}
 use Rattle.docket_orderly.proofs.ActionLemmas.{NewDeadline, IsMaking, case_counts, deadlines_fine, deadlines_few}
-use Rattle.docket_orderly.proofs.ListLemmas.{all_both, numbered_runs}
+use Rattle.docket_orderly.proofs.ListLemmas.{numbered_runs}
 use Rattle.docket_orderly.proofs.LocalRuleLemmas.{found_for}
 
 -- cases

@@ -18,6 +18,8 @@ use Rattle.docket_history.specs.Histories.{History, items_of, next_row, standing
 use Rattle.docket_decisions.specs.Outcomes.{IsHistory, receipts}
 use Rattle.docket_history.specs.ShortDays.{day_and_span_rows, short_day_rows}
 use Rattle.docket_decisions.specs.Tables.{rows_of}
+use Rattle.docket_decisions.proofs.ListLemmas.{all_front}
+use Rattle.docket_decisions.specs.Refusals.{is_running, is_suspended, is_awaiting}
 use Rattle.docket_history.specs.declared.row.LocalRuleRow.{LocalRuleRow}
 use Rattle.docket_columns.specs.Cells.{court_cells_of, calendar_cells, short_day_cells, case_cells, party_cells, entry_cells, deadline_cells, act_cells, receipt_cells, local_rule_cells}
 use Rattle.docket_columns.specs.declared.version.Version.{Version}
@@ -26,7 +28,7 @@ use Rattle.docket_sound.specs.KnownTexts.{is_one_of}
 use Rattle.docket_sound.specs.LocalRules.{rule_names}
 use Rattle.docket_sound.specs.Orders.{AreInOrder, local_rule_order}
 use Rattle.docket_sound.specs.Receipts.{AreOfKnownKinds}
-use Rattle.docket_sound.specs.Standings.{standings_of, is_running, is_suspended, is_awaiting, is_done, is_vacated}
+use Rattle.docket_sound.specs.Standings.{standings_of, is_done, is_vacated}
 use Rattle.docket_sound.proofs.HistoryReceipts.{all_kinds_known}
 use Rattle.docket_sound.proofs.HistoryShortDays.{in_two_tables}
 use Rattle.docket_sound.proofs.SortedRows.{sorted_local_rules}
@@ -55,10 +57,6 @@ use Rattle.docket_scan.proofs.DocketTables.{calendar_sound, short_days_sound, ca
 use Rattle.docket_scan.proofs.JudgingLemmas.{each_has}
 use Rattle.docket_scan.proofs.KindLemmas.{no_local_rules_made, no_short_days_made}
 use Rattle.docket_scan.proofs.LocalRuleLemmas.{names_are}
-
-all_front : (Is : Table → Type 0) (ts us : List Table) → AllByRecursion Is (ts ++ us) → AllByRecursion Is ts
-all_front Is [] us all = tt
-all_front Is (t ∷ ts) us all = (all.0, all_front Is ts us all.1)
 
 nothing : (a b : ⊥) → a ≡ b
 nothing a b = absurd a

@@ -1,11 +1,11 @@
 -- Tables that are judged one after another.
-use Rattle.std.proofs.Common.{◌≡◌, ◌∙◌, inl, inr, ℕ, List, [], ◌∷◌, ◌++◌, map, length, Result, Ok, Err, true, IfErr, IsErrAnd, ap, sym, subst, refl, rules}
+use Rattle.std.proofs.Common.{◌≡◌, ◌∙◌, inl, inr, ℕ, List, [], ◌∷◌, ◌++◌, map, length, Result, Ok, Err, true, IfErr, IsErrAnd, ap, sym, subst, refl}
 use Rattle.std.proofs.lemmas.List.{length-map}
 use Rattle.std.specs.List.{AllByRecursion}
 use Rattle.sqlite.specs.Effect.{Database}
 use Rattle.sqlite.specs.Held.{Held, state}
 use Rattle.sqlite.specs.Order.{Row}
-use Rattle.sqlite.specs.State.{State, IsUnchanged, Survives}
+use Rattle.sqlite.specs.State.{State, IsUnchanged}
 use Rattle.sqlite.specs.Store.{Ghosts}
 use Rattle.sqlite.specs.declared.error.Error.{Error}
 use Rattle.sqlite.specs.declared.error.Error.TheVariants.{SqliteFailure, SqlInputError}
@@ -152,7 +152,3 @@ pub first_judged : (v : Version) → v ≡ First → (court : CourtSettings) (ne
     → AreJudged v court next first new (λ r held. held ≡ holdings_of court r) (Ok read.held)
 first_judged First is court next first new read was = (was.same, was.rows, (was.said.short_days.unread, was.said.unread), was.named, was.sound, was.said.held)
 first_judged Second is court next first new read was = absurd cc
-
--- two steps, neither of which writes
-pub nothing_then : {a b c : State} → Survives a b (λ _. ⊥) → Survives b c (λ _. ⊥) → Survives a c (λ _. ⊥)
-nothing_then p q = search rules

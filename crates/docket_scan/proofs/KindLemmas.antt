@@ -1,8 +1,9 @@
 -- What the first version can hold: no short day, no local rule, and receipts that the second may hold too.
-use Rattle.std.proofs.Common.{◌≡◌, ◌∙◌, ℕ, ◌+◌, ◌==◌, ◌&&◌, Bool, true, false, not, if◌then◌else◌, Option, Some, None, List, [], ◌∷◌, ◌++◌, map, append-nil, refl, ap}
+use Rattle.std.proofs.Common.{◌≡◌, ◌∙◌, ℕ, ◌+◌, ◌==◌, Bool, true, false, not, if◌then◌else◌, Option, Some, None, List, [], ◌∷◌, ◌++◌, map, append-nil, refl, ap}
+use Rattle.std.proofs.lemmas.Bool.{and_parts, not-true}
 use Rattle.std.specs.List.{AllByRecursion, cons_option, list_all}
 use Rattle.sqlite.specs.Order.{Row}
-use Rattle.sqlite_trees.proofs.ListLemmas.{all-filter}
+use Rattle.sqlite_trees.proofs.ListLemmas.{all-filter, all-append}
 use Rattle.court_days.specs.Court.{CourtSettings}
 use Rattle.docket_command.specs.declared.command.Action.{Action}
 use Rattle.docket_command.specs.declared.command.Action.TheVariants as action
@@ -17,7 +18,6 @@ use Rattle.docket_history.specs.declared.item.NewRow.{NewRow}
 use Rattle.docket_history.specs.declared.row.CalendarRow.{CalendarRow}
 use Rattle.docket_columns.specs.declared.version.Version.TheVariants.{First, Second}
 use Rattle.docket_sound.specs.Receipts.{AreOfKnownKinds, is_known_kind}
-use Rattle.docket_sound.proofs.NumberLemmas.{all_both}
 use Rattle.docket_sound.proofs.ReceiptLemmas.{kinds_widen}
 use Rattle.docket_tables.specs.declared.table.Table.{Table}
 use Rattle.docket_tables.specs.declared.table.Table.TheVariants as table
@@ -40,15 +40,7 @@ days_long (day ∷ days) = (refl, days_long days)
 
 all_long : (rows : List NewRow) → list_all (λ (row : NewRow). not (is_short_day row.item)) rows ≡ true → AreLong rows
 all_long [] long = tt
-all_long (row ∷ rows) long = let parts = both_true (not (is_short_day row.item)) _ long in (not_true (is_short_day row.item) parts.0, all_long rows parts.1)
-  where
-    both_true : (a b : Bool) → (a && b) ≡ true → (a ≡ true) × (b ≡ true)
-    both_true true b e = (refl, e)
-    both_true false b e = absurd cc
-
-    not_true : (b : Bool) → not b ≡ true → b ≡ false
-    not_true true e = absurd cc
-    not_true false e = refl
+all_long (row ∷ rows) long = let parts = and_parts (not (is_short_day row.item)) _ long in (not-true (is_short_day row.item) parts.0, all_long rows parts.1)
 
 asked_long : (a : Action) → is_known_kind false a ≡ true → AreLong (rows_asked a)
 asked_long (action.ShortDay a) known = absurd cc
@@ -76,7 +68,7 @@ standing_long : (h : History) → AreOfKnownKinds false h → StandLong (standin
 standing_long [] known = tt
 standing_long (c ∷ h) known =
     let standing = items_of (standing_rows h) in
-    all_both (λ (row : CalendarRow). IsLong row.item) (without_row (row_withdrawn c.action) (standing_rows h)) (numbered (next_row h) (rows_added standing c.action))
+    all-append (λ (row : CalendarRow). IsLong row.item) (without_row (row_withdrawn c.action) (standing_rows h)) (numbered (next_row h) (rows_added standing c.action))
     (left_long (row_withdrawn c.action) (standing_rows h) (standing_long h known.1))
     (numbered_long (next_row h) (rows_added standing c.action) (fresh_long standing (rows_asked c.action) (asked_long c.action known.0)))
 

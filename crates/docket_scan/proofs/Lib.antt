@@ -18,5 +18,5 @@ pub mod KindLemmas
 pub mod LocalRuleLemmas
 mod NameLemmas
 pub mod RecordLemmas
-mod ScanLemmas
+pub mod ScanLemmas
 pub mod ShortDayLemmas

@@ -1,5 +1,5 @@
 -- The local names of rows, one row more at a time, and what an error in the reading of them tells.
-use Rattle.std.proofs.Common.{◌≡◌, ◌∙◌, ◌⊎◌, inl, inr, ℕ, ◌||◌, Bool, true, false, List, [], ◌∷◌, ◌++◌, append-nil, Option, Some, None, IsTrue, Result, Ok, Err, IfOk, IfErr, refl, sym, ap, subst}
+use Rattle.std.proofs.Common.{◌≡◌, ◌∙◌, ◌⊎◌, inl, inr, ℕ, ◌||◌, false, List, [], ◌∷◌, ◌++◌, append-nil, Option, Some, None, IsTrue, Result, Ok, Err, IfOk, IfErr, refl, sym, ap, subst}
 use Rattle.std.proofs.lemmas.List.Elements.{filter_map-append}
 use Rattle.std.proofs.lemmas.List.Folds.{list_any-append}
 use Rattle.std.specs.Str.{bytes_eq}
@@ -17,6 +17,7 @@ use Rattle.docket_columns.specs.declared.version.Version.{Version}
 use Rattle.docket_columns.specs.declared.version.Version.TheVariants.{First, Second}
 use Rattle.docket_sound.specs.KnownTexts.{is_known, is_one_of}
 use Rattle.docket_sound.specs.declared.known_texts.KnownTexts.{KnownTexts}
+use Rattle.docket_sound.proofs.TestLemmas.{or_last}
 use Rattle.docket_tables.specs.declared.table.Table.{Table}
 use Rattle.docket_tables.specs.declared.table.Table.TheVariants as table
 use Rattle.docket_scan.specs.Judging.{fault_in}
@@ -27,12 +28,6 @@ use Rattle.docket_scan.specs.declared.fault.AdoptFault.{AdoptFault}
 use Rattle.docket_scan.specs.declared.fault.AdoptFault.TheVariants.{Damaged, NoMemory, StoreFailed}
 use Rattle.docket_scan.proofs.JudgingLemmas.{with_now}
 
-swapped : (a b : Bool) → (a || b) ≡ (b || (a || false))
-swapped true true = refl
-swapped true false = refl
-swapped false true = refl
-swapped false false = refl
-
 named_more : (rows : List Row) (row : Row) (name : List ℕ) → local_name_in row ≡ Some name → names_of (rows ++ row ∷ []) ≡ names_of rows ++ name ∷ []
 named_more rows row name is = filter_map-append local_name_in rows (row ∷ []) ∙ ap (λ l. names_of rows ++ l) (rw is refl)
 
@@ -40,7 +35,7 @@ named_more rows row name is = filter_map-append local_name_in rows (row ∷ []) 
 pub with_name : (known new : KnownTexts) (rows : List Row) (row : Row) (name : List ℕ) → local_name_in row ≡ Some name → AreKnown known (names_of rows)
     → ((text : List ℕ) → is_known new text ≡ (bytes_eq name text || is_known known text)) → AreKnown new (names_of (rows ++ row ∷ []))
 with_name known new rows row name is has put = λ text.
-    put text ∙ ap (λ b. bytes_eq name text || b) (has text) ∙ swapped (bytes_eq name text) (is_one_of (names_of rows) text)
+    put text ∙ ap (λ b. bytes_eq name text || b) (has text) ∙ or_last (bytes_eq name text) (is_one_of (names_of rows) text)
     ∙ sym (ap (λ names. is_one_of names text) (named_more rows row name is) ∙ list_any-append (λ other. bytes_eq other text) (names_of rows) (name ∷ []))
 
 -- a row without one

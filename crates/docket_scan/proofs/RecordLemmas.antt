@@ -1,8 +1,8 @@
 -- Rows of SQL as typed records, one more at a time.
 use Rattle.std.proofs.Common.{◌≡◌, ◌∙◌, List, [], ◌∷◌, ◌++◌, map, refl, sym, ap, subst}
 use Rattle.std.proofs.lemmas.List.{map-append}
-use Rattle.std.specs.List.{AllByRecursion}
 use Rattle.sqlite.specs.Order.{Row}
+use Rattle.sqlite_trees.proofs.ListLemmas.{all-append}
 use Rattle.docket_scan.specs.Records.{AreRecords, IsTable}
 use Rattle.docket_scan.specs.Taken.{IsRead}
 
@@ -51,10 +51,6 @@ module _ {R : Type 0} (Is : R → Type 0) (cells : R → Row) where
   none_left [] e = refl
   none_left (x ∷ xs) e = absurd cc
 
-  all_both : (xs ys : List R) → AllByRecursion Is xs → AllByRecursion Is ys → AllByRecursion Is (xs ++ ys)
-  all_both [] ys a b = b
-  all_both (x ∷ xs) ys a b = (a.0, all_both xs ys a.1 b)
-
   pub none_read : (Has : List R → Type 0) → Has [] → IsRead Is cells Has []
   none_read Has has = record {
     records = [];
@@ -71,7 +67,7 @@ module _ {R : Type 0} (Is : R → Type 0) (cells : R → Row) where
   one_more Has New rows row r is same one t new = record {
     records = t.records ++ r ∷ [];
     are = record {
-      held = all_both t.records (r ∷ []) t.are.held (is, tt);
+      held = all-append Is t.records (r ∷ []) t.are.held (is, tt);
       same = ap (λ l. l ++ row ∷ []) t.are.same ∙ ap (λ x. map cells t.records ++ x ∷ []) same ∙ sym (map-append cells t.records (r ∷ []));
     };
     only = λ others are.

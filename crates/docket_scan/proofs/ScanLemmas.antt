@@ -47,8 +47,8 @@ pub clean_before : {old new : State} → Survives old new (λ _. ⊥) → HasCle
 clean_before kept clean = omega (arith, kept.clean)
 
 -- what wrote nothing, and then writes nothing
-pub writes_nothing_then : {first old new : State} → Survives first old (λ _. ⊥) → Survives old new (λ _. ⊥) → Survives first new (λ _. ⊥)
-writes_nothing_then {first} {old} {new} = survives_then first old new _ _ _ (λ clean db none. none) (λ clean db none. none)
+pub nothing_then : {first old new : State} → Survives first old (λ _. ⊥) → Survives old new (λ _. ⊥) → Survives first new (λ _. ⊥)
+nothing_then {first} {old} {new} = survives_then first old new _ _ _ (λ clean db none. none) (λ clean db none. none)
 
 module _ (t : Table) where
   pub never_commits : (s : State) (db : Trees) → CommitsShowing (scan_text t) [] s db → ⊥

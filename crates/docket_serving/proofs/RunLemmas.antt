@@ -1,5 +1,5 @@
 -- From each connection to all of them.
-use Rattle.std.proofs.Common.{inl, inr, ◌≡◌, ◌+◌, ◌++◌, ◌∷◌, ◌≤◌, ◌⊎◌, [], ℕ, true, false, List, Option, Some, None, Result, Ok, Err, IfOk, IfErr, IsErrAnd, length-append, append-nil, append_assoc, refl, sym, ap, ap₂, subst, ◌∙◌, arith}
+use Rattle.std.proofs.Common.{inl, inr, ◌≡◌, ◌+◌, ◌++◌, ◌∷◌, ◌≤◌, ◌⊎◌, [], ℕ, true, false, List, Option, Some, None, Result, Ok, Err, IfOk, IfErr, IsErrAnd, length-append, append_assoc, refl, sym, ap, ap₂, subst, ◌∙◌, arith}
 use Rattle.std.proofs.lemmas.Bool.{false≢true}
 use Rattle.std.specs.Io.KnownBytes.{Keeps}
 use Rattle.std.specs.List.{AllByRecursion}
@@ -27,10 +27,6 @@ use Rattle.docket_serving.proofs.StepLemmas.{Leaves, by_copy, leaves}
 use Rattle.docket_serving.specs.declared.serving.ServingFault.TheVariants.{AcceptFailed, DocketFailed}
 
 -- logs
-
-logs_none : (log : Option (List Exchange)) → Logs log log []
-logs_none None = tt
-logs_none (Some all) = sym (append-nil all)
 
 logs_then : (a b c : Option (List Exchange)) (first more : List Exchange) → Logs a b first → Logs b c more → Logs a c (first ++ more)
 logs_then None b c first more p q = tt
@@ -180,10 +176,6 @@ module _ {S : Type 0} (g : Ghosts S) (routes : Routes) where
       leads = λ h stands clean. each_leads all old new h each stands clean;
     }
 
-  -- no connection so far
-  pub served_none : (d : Docket S) (log : Option (List Exchange)) → ServesRun g routes d d 0 log log (Ok tt)
-  served_none d log = served_by d d 0 log log (Ok tt) [] (logs_none log) (refl, tt) refl
-
   pub served_then : (old left new : Docket S) (i n : ℕ) (a b c : Option (List Exchange)) (result : Result (Unit {0}) ServingFault)
       → ServesRun g routes old left i a b (Ok tt) → ServesRun g routes left new n b c result → ServesRun g routes old new (i + n) a c result
   served_then old left new i n a b c result p q =
@@ -200,10 +192,6 @@ module _ {S : Type 0} (g : Ghosts S) (routes : Routes) where
   served_failed old new e a b logged attended failed =
       served_by old new 1 a b (Err DocketFailed) (e ∷ []) logged
       (omega arith, record { first = []; last = e; is = refl; none_before = tt; failed = failed }) (new, attended, refl)
-
-  -- none could be taken
-  pub served_missed : (old new : Docket S) (a b : Option (List Exchange)) → Logs a b [] → new ≡ old → ServesRun g routes old new 1 a b (Err AcceptFailed)
-  served_missed old new a b logged same = served_by old new 1 a b (Err AcceptFailed) [] logged (omega arith, tt) same
 
   -- all were taken
   pub served_all : (old new : Docket S) (i count : ℕ) (a b : Option (List Exchange)) (result : Result (Unit {0}) ServingFault) → i ≡ count

@@ -1,5 +1,6 @@
 -- What an accepted command may rest on.
 use Rattle.std.proofs.Common.{◌≡◌, Bool, true, false, not, Option, Some, None, List, ◌∷◌, refl, sym, ap, ◌∙◌}
+use Rattle.std.proofs.lemmas.Bool.{not-false}
 use Rattle.std.specs.Prelude.{bytes_eq, find, if◌then◌else◌}
 use Rattle.court_days.specs.Court.{CourtSettings}
 use Rattle.docket_command.specs.Sameness.{is_same_command}
@@ -15,7 +16,6 @@ use Rattle.docket_values.specs.Values.{is_word, first_bad, bad_values}
 use Rattle.docket_history.specs.declared.row.Receipt.{Receipt}
 use Rattle.docket_history.specs.declared.view.UnderKey.TheVariants.{Same, Other}
 use Rattle.docket_history.specs.declared.view.View.{View}
-use Rattle.docket_decisions.proofs.GoodValues.{not_false}
 use Rattle.docket_decisions.proofs.Leading.{is_accepted}
 use Rattle.docket_decisions.proofs.Passed.{IsFree, is_free}
 
@@ -44,7 +44,7 @@ lawful court v c e =
     let values = value_first (first_bad (bad_values court c.action)) _ reused.1 in
     let case = on_first (lacks_case v c.action) refusal.NoSuchCase _ values in
     let parties = on_first (lacks_party v c.action) refusal.NoSuchParty _ case.1 in
-    record { key = not_false (is_word 64 c.key) key.0; reused = reused.0; parties = parties.0 }
+    record { key = not-false (is_word 64 c.key) key.0; reused = reused.0; parties = parties.0 }
 
 pub is_lawful : (court : CourtSettings) (h : History) (c : Command) (reply : Reply) → outcome court h c ≡ accepted reply → IsLawful (shown court h c) c
 is_lawful court h c reply answer = lawful court (shown court h c) c (is_accepted court (shown court h c) c reply answer).free

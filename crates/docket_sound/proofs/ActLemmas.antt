@@ -1,6 +1,6 @@
 -- Acts that come one after another.
 use Rattle.std.proofs.Common.{◌≡◌, ◌∙◌, ℕ, suc, ◌+◌, ◌-◌, ◌^◌, ◌<◌, ◌≤◌, ◌==◌, ◌&&◌, ◌||◌, not, nat_lt, nat_le, nat_eq, Bool, true, false, cond, List, [], ◌∷◌, ◌++◌, map, length, get_or, refl, sym, ap, subst, arith, inl, inr, append-nil}
-use Rattle.std.proofs.lemmas.Bool.{cases_Bool, false≢true}
+use Rattle.std.proofs.lemmas.Bool.{and_parts, cases_Bool, false≢true}
 use Rattle.std.proofs.lemmas.Bool.Decides.{nat_tests}
 use Rattle.std.proofs.lemmas.List.{length-append, map-append, append_assoc, length-map}
 use Rattle.std.specs.List.{AllByRecursion, list_all}
@@ -9,7 +9,7 @@ use Rattle.court_days.specs.Court.{CourtSettings, zone_of}
 use Rattle.court_rules.specs.Acts.{acts_ok, is_within}
 use Rattle.court_rules.specs.declared.act.Act.{Act}
 use Rattle.docket_history.specs.declared.row.ActRow.{ActRow}
-use Rattle.docket_decisions.proofs.Passed.{left_true, right_true}
+use Rattle.sqlite_trees.proofs.ListLemmas.{all-append}
 use Rattle.docket_sound.specs.Acts.{are_lawful, is_on_entered_day, IsSoundRun, AreSoundActs, continues, may_go_on, may_close, begins, HasTakenActs}
 use Rattle.docket_sound.specs.Counted.{counts_of, HasNumbered, cases_of, most_of}
 use Rattle.docket_sound.specs.Dues.{last_dues, due_of_acts, dues_of_runs, dues_of}
@@ -22,11 +22,12 @@ use Rattle.court_days.specs.Calendar.{Entered}
 use Rattle.std.specs.Prelude.{Vec}
 use Rattle.std.specs.declared.alloc.Global.{Global}
 use Rattle.docket_decisions.specs.declared.end_row.StoredEnd.{StoredEnd}
+use Rattle.docket_decisions.proofs.ListLemmas.{all_later}
 use Rattle.docket_sound.specs.Numbers.{RunsFrom, AreNumbered}
 use Rattle.docket_sound.specs.declared.act.ActCheck.{ActCheck}
 use Rattle.docket_sound.specs.declared.numbering.Key.{Key}
 use Rattle.docket_sound.specs.declared.numbering.Numbering.{Numbering}
-use Rattle.docket_sound.proofs.NumberLemmas.{all_both, all_later, runs_more, runs_next}
+use Rattle.docket_sound.proofs.NumberLemmas.{runs_more, runs_next}
 
 -- rows in two parts
 pub runs_split : (run : Run) (xs ys : List ActRow) → runs_from run (xs ++ ys) ≡ closed_after run xs ++ runs_from (open_after run xs) ys
@@ -86,22 +87,14 @@ first_run run (x ∷ xs) = at (is_on run x) (first_run (with_row run x) xs)
 -- lawful acts are at most a hundred
 few_lawful : (zone : ZoneRules) (acts : List Act) → are_lawful zone acts ≡ true → length acts ≤ 100
 few_lawful zone acts lawful =
-    let ok = left_true (acts_ok acts) (list_all (is_on_entered_day zone) acts) lawful in
-    let within = left_true ((nat_le 1 (length acts) && nat_le (length acts) 100) && list_all is_within acts) _ ok in
-    let lengths = left_true (nat_le 1 (length acts) && nat_le (length acts) 100) (list_all is_within acts) within in
-    let most : nat_le (length acts) 100 ≡ true = right_true (nat_le 1 (length acts)) _ lengths in
+    let ok = (and_parts (acts_ok acts) (list_all (is_on_entered_day zone) acts) lawful).0 in
+    let within = (and_parts ((nat_le 1 (length acts) && nat_le (length acts) 100) && list_all is_within acts) _ ok).0 in
+    let lengths = (and_parts (nat_le 1 (length acts) && nat_le (length acts) 100) (list_all is_within acts) within).0 in
+    let most : nat_le (length acts) 100 ≡ true = (and_parts (nat_le 1 (length acts)) _ lengths).1 in
     grind (arith, nat_tests)
-
-both : (a b : Bool) → (a && b) ≡ true → (a ≡ true) × (b ≡ true)
-both true b e = (refl, e)
-both false b e = absurd cc
 
 same_key : (case deadline : ℕ) (run : Run) (row : ActRow) → case ≡ run.case → deadline ≡ run.deadline → (row.case == case && row.deadline == deadline) ≡ is_on run row
 same_key case deadline run row c d = ap (λ k. row.case == k && row.deadline == deadline) c ∙ ap (λ n. row.case == run.case && row.deadline == n) d
-
--- the run of a row is not under way where nothing is
-is_none : (b c : Bool) → (not b && c) ≡ false → b ≡ false → c ≡ false
-is_none b c e none = rw none at e
 
 runs_whole : (run : Run) (xs : List ActRow) → runs_from run xs ≡ closed_after run xs ++ open_after run xs ∷ []
 runs_whole run xs = subst (λ l. runs_from run l ≡ closed_after run xs ++ open_after run xs ∷ []) (append-nil xs) (runs_split run xs [])
@@ -236,7 +229,7 @@ module _ (check : ActCheck) (r : ActRow) (rs : List ActRow) (row : ActRow) (has 
       let shut : closed_after (alone r) (rs ++ row ∷ []) ≡ closed = closed_split (alone r) rs (row ∷ []) ∙ ap (λ b. closed ++ cond b [] (last ∷ [])) here ∙ append-nil closed in
       let keys : map run_key (runs_from (alone r) (rs ++ row ∷ [])) ≡ map run_key (runs_from (alone r) rs) =
       ap (map run_key) (runs_on [] here) ∙ map-append run_key closed (with_row last row ∷ []) ∙ sym (map-append run_key closed (last ∷ [])) ∙ ap (map run_key) (sym (runs_whole (alone r) rs)) in
-      let number : row.number ≡ length check.acts.items + 1 = grind (arith, nat_tests, (both (nat_lt (length check.acts.items) 100) (row.number == length check.acts.items + 1) goes).1) in
+      let number : row.number ≡ length check.acts.items + 1 = grind (arith, nat_tests, (and_parts (nat_lt (length check.acts.items) 100) (row.number == length check.acts.items + 1) goes).1) in
       record {
         most = ap most_of runs ∙ has.most;
         cases = ap cases_of runs ∙ has.cases ∙ sym (ap cases_of deadlines);
@@ -277,7 +270,7 @@ module _ (check : ActCheck) (r : ActRow) (rs : List ActRow) (row : ActRow) (has 
         numbered = subst (λ (run : Run). RunsFrom 1 (map (λ (x : ActRow). x.number) run.rows)) (sym now) (first, tt);
         runs = subst (HasNumbered new.runs) (sym (keys_off [] there)) runs;
         lawful = subst (λ (k : CourtSettings). AllByRecursion (IsSoundRun (zone_of k)) (closed_after (alone r) (rs ++ row ∷ []))) (sym court)
-            (subst (AllByRecursion (IsSoundRun (zone_of check.court))) (sym shut) (all_both (IsSoundRun (zone_of check.court)) closed (last ∷ []) has.lawful (this, tt)));
+            (subst (AllByRecursion (IsSoundRun (zone_of check.court))) (sym shut) (all-append (IsSoundRun (zone_of check.court)) closed (last ∷ []) has.lawful (this, tt)));
         dues = dues ∙ ap (λ l. l ++ last_dues check) has.dues ∙ ap (λ l. dues_of_runs (zone_of check.court) check.calendar closed ++ l) last_is
             ∙ sym (dues_both (zone_of check.court) check.calendar closed (last ∷ [])) ∙ ap (dues_of_runs (zone_of check.court) check.calendar) (sym shut)
             ∙ ap (λ (k : CourtSettings). dues_of_runs (zone_of k) check.calendar (closed_after (alone r) (rs ++ row ∷ []))) (sym court)
@@ -338,7 +331,7 @@ pub new_taken : (check : ActCheck) (rows : List ActRow) (row : ActRow) (new : Ac
     → cases_of new.runs ≡ cases_of check.runs → HasNumbered new.runs (map run_key (runs_of rows) ++ run_key (alone row) ∷ []) → new.case ≡ row.case → new.deadline ≡ row.deadline → new.calendar ≡ check.calendar → new.dues.items ≡ check.dues.items ++ last_dues check
     → CountsLast check new.standings → new.acts.items ≡ row.act ∷ [] → continues check row ≡ false → (may_close check && begins row) ≡ true → HasTakenActs new (rows ++ row ∷ [])
 new_taken check [] row new has court deadlines most cases runs case deadline calendar dues standings acts off passes =
-    let first : row.number ≡ 1 = grind (arith, nat_tests, (both (may_close check) (begins row) passes).1) in
+    let first : row.number ≡ 1 = grind (arith, nat_tests, (and_parts (may_close check) (begins row) passes).1) in
     record {
       most = most ∙ has.most;
       cases = cases ∙ has.cases ∙ sym (ap cases_of deadlines);
@@ -353,7 +346,7 @@ new_taken check [] row new has court deadlines most cases runs case deadline cal
       standings = λ few. standings [] (has.standings (omega arith)) (omega arith) ∙ ap counts_of_standings (none_stands check has.acts);
     }
 new_taken check (r ∷ rs) row new has court deadlines most cases runs case deadline calendar dues standings acts off passes =
-    let parts = both (may_close check) (begins row) passes in
+    let parts = and_parts (may_close check) (begins row) passes in
     begin_taken check r rs row has new court deadlines most cases runs case deadline calendar dues standings acts off parts.0 parts.1
 
 -- where all rows were taken
@@ -370,7 +363,7 @@ module _ (check : ActCheck) where
   all_lawful [] has shut = tt
   all_lawful (r ∷ rs) has shut =
       let this : IsSoundRun (zone_of check.court) (open_after (alone r) rs) = record { numbered = has.numbered; lawful = sym (closes check r rs r has) ∙ shut } in
-      subst (AllByRecursion (IsSoundRun (zone_of check.court))) (sym (runs_whole (alone r) rs)) (all_both (IsSoundRun (zone_of check.court)) (closed_after (alone r) rs) (open_after (alone r) rs ∷ []) has.lawful (this, tt))
+      subst (AllByRecursion (IsSoundRun (zone_of check.court))) (sym (runs_whole (alone r) rs)) (all-append (IsSoundRun (zone_of check.court)) (closed_after (alone r) rs) (open_after (alone r) rs ∷ []) has.lawful (this, tt))
 
   pub finished : (rows : List ActRow) → HasTakenActs check rows → may_close check ≡ true → check.runs.counts.items ≡ check.deadlines.counts.items
       → AreSoundActs check.court (cases_of check.deadlines) (counts_of check.deadlines) rows

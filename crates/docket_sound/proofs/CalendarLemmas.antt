@@ -1,6 +1,6 @@
 -- Rows of a calendar that come one after another.
 use Rattle.std.proofs.Common.{◌≡◌, ◌∙◌, ◌≢◌, ℕ, ◌+◌, ◌<◌, ◌≤◌, ◌==◌, ◌&&◌, ◌||◌, nat_lt, Bool, true, false, IsTrue, cond, List, [], ◌∷◌, ◌++◌, map, length, Err, Some, is_some, refl, sym, ap, subst, arith}
-use Rattle.std.proofs.lemmas.Bool.{false≢true}
+use Rattle.std.proofs.lemmas.Bool.{and_parts, false≢true}
 use Rattle.std.proofs.lemmas.Bool.Decides.{nat_tests}
 use Rattle.std.proofs.lemmas.List.{length-append, map-append, append_assoc}
 use Rattle.std.proofs.lemmas.List.Folds.{list_any-append}
@@ -23,9 +23,11 @@ use Rattle.docket_history.specs.declared.item.CalendarItem.{CalendarItem}
 use Rattle.docket_history.specs.declared.item.CalendarItem.TheVariants.{Day, Span, Short}
 use Rattle.docket_history.specs.declared.row.CalendarRow.{CalendarRow}
 use Rattle.docket_decisions.proofs.GoodValues.{may_be_entered}
+use Rattle.docket_decisions.proofs.ListLemmas.{all_later}
+use Rattle.sqlite_trees.proofs.ListLemmas.{all-append}
 use Rattle.docket_sound.specs.Calendars.{is_sound_item, is_sound_row, is_well_named, EachIsNew, IsGiven, AreSoundCalendarRows, stands, Enters, may_come, last_of, HasEntered}
 use Rattle.docket_sound.specs.Numbers.{Rises}
-use Rattle.docket_sound.proofs.NumberLemmas.{all_both, all_later}
+use Rattle.docket_sound.proofs.TestLemmas.{or_last}
 
 -- numbers that rise, one more
 last_below : (n x : ℕ) (xs : List ℕ) → n < x → AllByRecursion (λ m. m < x) xs → last_of n xs < x
@@ -46,7 +48,7 @@ all_under a b (y ∷ ys) low all = (omega (arith, low, all.0), all_under a b ys 
 
 pub rises_more : (xs : List ℕ) (x : ℕ) → Rises xs → AllByRecursion (λ m. m < x) xs → Rises (xs ++ x ∷ [])
 rises_more [] x rises below = (tt, tt)
-rises_more (y ∷ ys) x rises below = (all_both (λ m. y < m) ys (x ∷ []) rises.0 (below.0, tt), rises_more ys x rises.1 below.1)
+rises_more (y ∷ ys) x rises below = (all-append (λ m. y < m) ys (x ∷ []) rises.0 (below.0, tt), rises_more ys x rises.1 below.1)
 
 rises_from : (xs : List ℕ) (x : ℕ) (more : List ℕ) → Rises (xs ++ x ∷ more) → AllByRecursion (λ m. m < x) xs
 rises_from [] x more rises = tt
@@ -173,14 +175,7 @@ module _ (court : CourtSettings) (next_row last : ℕ) (entered : Entered) (rows
   row_too_many more full all = absurd (omega (arith, full, has.counted, all.few, length-append rows (row ∷ more)))
 
   pub row_out_of_range : may_come court next_row last row ≡ true → IsEnteredItem row.item
-  row_out_of_range pass = let parts = three (nat_lt last row.number) (nat_lt row.number next_row) (is_sound_item court row.item) (is_well_named row.item row.name) pass in may_be_entered court row.item parts.2.0
-    where
-      three : (a b c d : Bool) → (a && b && (c && d)) ≡ true → (a ≡ true) × (b ≡ true) × ((c ≡ true) × (d ≡ true))
-      three true true true true h = (refl, refl, (refl, refl))
-      three true true true false h = absurd cc
-      three true true false d h = absurd cc
-      three true false c d h = absurd cc
-      three false b c d h = absurd cc
+  row_out_of_range pass = let sound = and_parts _ (is_sound_row court row) pass in may_be_entered court row.item (and_parts (is_sound_item court row.item) (is_well_named row.item row.name) sound.1).0
 
   pub row_faulty : (new : Entered) (why : CalendarFault) (more : List CalendarRow) → may_come court next_row last row ≡ true → Enters entered row.item new (Err why) → why ≢ fault.NoMemory
       → AreSoundCalendarRows court next_row (rows ++ row ∷ more) → ⊥
@@ -191,8 +186,9 @@ module _ (court : CourtSettings) (next_row last : ℕ) (entered : Entered) (rows
   pub row_taken : (new : Entered) → stands entered row.item ≡ false → new ≡ with_item entered row.item → rows_of new ≤ 4000 → may_come court next_row last row ≡ true
       → HasEntered court next_row row.number new (rows ++ row ∷ [])
   row_taken new none grown room pass =
-      let parts = three (nat_lt last row.number) (nat_lt row.number next_row) (is_sound_row court row) pass in
-      let at : last < row.number = grind (arith, nat_tests, parts.0) in
+      let sound = and_parts _ (is_sound_row court row) pass in
+      let between = and_parts (nat_lt last row.number) (nat_lt row.number next_row) sound.0 in
+      let at : last < row.number = grind (arith, nat_tests, between.0) in
       let below : AllByRecursion (λ m. m < row.number) (map (λ (r : CalendarRow). r.number) rows) =
       all_under (last_of 0 (map (λ (r : CalendarRow). r.number) rows)) row.number (map (λ (r : CalendarRow). r.number) rows) (omega (arith, at, has.highest)) (below_last 0 (map (λ (r : CalendarRow). r.number) rows) has.sound.rising) in
       let items : items_of (rows ++ row ∷ []) ≡ items_of rows ++ row.item ∷ [] = map-append (λ (r : CalendarRow). r.item) rows (row ∷ []) in
@@ -201,28 +197,16 @@ module _ (court : CourtSettings) (next_row last : ℕ) (entered : Entered) (rows
         highest = sym (ap (last_of 0) (map-append (λ (r : CalendarRow). r.number) rows (row ∷ [])) ∙ last_more 0 (map (λ (r : CalendarRow). r.number) rows) row.number);
         calendar = grown ∙ ap (λ e. with_item e row.item) has.calendar ∙ sym (ap calendar_of items ∙ entered_more no_days (items_of rows) row.item);
         standing = λ item. ap (λ e. stands e item) grown ∙ stands_more entered row.item item ∙ ap (λ b. is_same_item row.item item || b) (has.standing item)
-            ∙ swapped (is_same_item row.item item) (stands_among (items_of rows) item) ∙ sym (ap (λ l. stands_among l item) items ∙ list_any-append (λ other. is_same_item other item) (items_of rows) (row.item ∷ []));
+            ∙ or_last (is_same_item row.item item) (stands_among (items_of rows) item) ∙ sym (ap (λ l. stands_among l item) items ∙ list_any-append (λ other. is_same_item other item) (items_of rows) (row.item ∷ []));
         counted = count;
         sound = record {
           rising = subst Rises (sym (map-append (λ (r : CalendarRow). r.number) rows (row ∷ []))) (rises_more (map (λ (r : CalendarRow). r.number) rows) row.number has.sound.rising below);
-          given = all_both (λ (r : CalendarRow). IsGiven next_row r.number) rows (row ∷ []) has.sound.given ((omega (arith, at), grind (arith, nat_tests, parts.1)), tt);
+          given = all-append (λ (r : CalendarRow). IsGiven next_row r.number) rows (row ∷ []) has.sound.given ((omega (arith, at), grind (arith, nat_tests, between.1)), tt);
           apart = subst (EachIsNew []) (sym items) (new_more [] (items_of rows) row.item has.sound.apart (sym (has.standing row.item) ∙ none));
           few = omega (arith, room, count);
-          within = all_both (λ (r : CalendarRow). IsTrue (is_sound_row court r)) rows (row ∷ []) has.sound.within (parts.2, tt);
+          within = all-append (λ (r : CalendarRow). IsTrue (is_sound_row court r)) rows (row ∷ []) has.sound.within (sound.1, tt);
         };
       }
-    where
-      three : (a b c : Bool) → (a && b && c) ≡ true → (a ≡ true) × (b ≡ true) × (c ≡ true)
-      three true true true h = (refl, refl, refl)
-      three true true false h = absurd cc
-      three true false c h = absurd cc
-      three false b c h = absurd cc
-
-      swapped : (a b : Bool) → (a || b) ≡ (b || (a || false))
-      swapped true true = refl
-      swapped true false = refl
-      swapped false true = refl
-      swapped false false = refl
 
 pub none_entered : (court : CourtSettings) (next_row : ℕ) (entered : Entered) → entered ≡ no_days → HasEntered court next_row 0 entered []
 none_entered court next_row entered empty = record {

@@ -1,5 +1,5 @@
 -- Cases that come one after another.
-use Rattle.std.proofs.Common.{◌≡◌, ◌∙◌, ◌≢◌, ℕ, suc, ◌+◌, ◌==◌, ◌&&◌, ◌||◌, not, nat_lt, Bool, true, false, IsTrue, List, [], ◌∷◌, ◌++◌, map, length, refl, sym, ap, subst, arith}
+use Rattle.std.proofs.Common.{◌≡◌, ◌∙◌, ◌≢◌, ℕ, suc, ◌+◌, ◌==◌, ◌||◌, nat_lt, Bool, true, false, IsTrue, List, [], ◌∷◌, ◌++◌, map, length, refl, sym, ap, subst, arith}
 use Rattle.std.proofs.lemmas.Bool.{false≢true}
 use Rattle.std.proofs.lemmas.Bool.Decides.{nat_tests}
 use Rattle.std.proofs.lemmas.List.{length-append, map-append}
@@ -8,16 +8,19 @@ use Rattle.std.proofs.lemmas.Slice.Eq.{bytes_eq-Decides}
 use Rattle.std.specs.List.{AllByRecursion, list_any}
 use Rattle.std.specs.Str.{bytes_eq}
 use Rattle.docket_history.specs.declared.row.CaseRow.{CaseRow}
+use Rattle.sqlite_trees.proofs.ListLemmas.{all-append}
+use Rattle.docket_decisions.proofs.ListLemmas.{all_later}
 use Rattle.docket_sound.specs.KnownTexts.{is_known}
 use Rattle.docket_sound.specs.Numbers.{RunsFrom}
 use Rattle.docket_sound.specs.Cases.{AreApart, is_sound_case, AreSoundCases, HasTakenCases, may_follow}
 use Rattle.docket_sound.specs.declared.cases.CaseCheck.{CaseCheck}
-use Rattle.docket_sound.proofs.NumberLemmas.{all_both, all_later, runs_more, runs_next}
+use Rattle.docket_sound.proofs.NumberLemmas.{runs_more, runs_next}
+use Rattle.docket_sound.proofs.TestLemmas.{or_last, passed}
 
 -- texts apart, one more
 pub apart_more : (xs : List (List ℕ)) (x : List ℕ) → AreApart xs → AllByRecursion (λ y. x ≢ y) xs → AreApart (xs ++ x ∷ [])
 apart_more [] x apart other = (tt, tt)
-apart_more (y ∷ ys) x apart other = (all_both (λ z. z ≢ y) ys (x ∷ []) apart.0 (other.0, tt), apart_more ys x apart.1 other.1)
+apart_more (y ∷ ys) x apart other = (all-append (λ z. z ≢ y) ys (x ∷ []) apart.0 (other.0, tt), apart_more ys x apart.1 other.1)
 
 pub apart_from : (xs : List (List ℕ)) (x : List ℕ) (more : List (List ℕ)) → AreApart (xs ++ x ∷ more) → AllByRecursion (λ y. x ≢ y) xs
 apart_from [] x more apart = tt
@@ -69,31 +72,18 @@ module _ (check : CaseCheck) (rows : List CaseRow) (row : CaseRow) (has : HasTak
   pub case_taken : (new : CaseCheck) → new.count ≡ check.count + 1 → ((text : List ℕ) → is_known new.labels text ≡ (bytes_eq row.label text || is_known check.labels text))
       → may_follow check row ≡ true → HasTakenCases new (rows ++ row ∷ [])
   case_taken new count known pass =
-      let parts = tests (nat_lt check.count 100_000) (row.number == check.count + 1) (is_sound_case row) (is_known check.labels row.label) pass in
+      let parts = passed (nat_lt check.count 100_000) (row.number == check.count + 1) (is_sound_case row) (is_known check.labels row.label) pass in
       let long : length (rows ++ row ∷ []) ≡ length rows + 1 = length-append rows (row ∷ []) in
       let number : row.number ≡ 1 + length (map (λ (r : CaseRow). r.number) rows) = grind (arith, nat_tests, parts.1, has.counted, long_numbers rows) in
       record {
         counted = omega (arith, count, long, has.counted);
-        known = λ text. known text ∙ ap (λ b. bytes_eq row.label text || b) (has.known text) ∙ swapped (bytes_eq row.label text) (list_any (λ (r : CaseRow). bytes_eq r.label text) rows)
+        known = λ text. known text ∙ ap (λ b. bytes_eq row.label text || b) (has.known text) ∙ or_last (bytes_eq row.label text) (list_any (λ (r : CaseRow). bytes_eq r.label text) rows)
             ∙ sym (list_any-append (λ (r : CaseRow). bytes_eq r.label text) rows (row ∷ []));
         sound = record {
           numbered = subst (RunsFrom 1) (sym (map-append (λ (r : CaseRow). r.number) rows (row ∷ []))) (runs_more 1 (map (λ (r : CaseRow). r.number) rows) row.number has.sound.numbered number);
           few = grind (arith, nat_tests, parts.0, has.counted, long);
           apart = subst AreApart (sym (map-append (λ (r : CaseRow). r.label) rows (row ∷ [])))
               (apart_more (map (λ (r : CaseRow). r.label) rows) row.label has.sound.apart (none_labelled row.label rows (sym (has.known row.label) ∙ parts.3)));
-          within = all_both (λ r. IsTrue (is_sound_case r)) rows (row ∷ []) has.sound.within (parts.2, tt);
+          within = all-append (λ r. IsTrue (is_sound_case r)) rows (row ∷ []) has.sound.within (parts.2, tt);
         };
       }
-    where
-      tests : (a b c d : Bool) → (a && b && c && not d) ≡ true → (a ≡ true) × (b ≡ true) × (c ≡ true) × (d ≡ false)
-      tests true true true false h = (refl, refl, refl, refl)
-      tests true true true true h = absurd cc
-      tests true true false d h = absurd cc
-      tests true false c d h = absurd cc
-      tests false b c d h = absurd cc
-
-      swapped : (a b : Bool) → (a || b) ≡ (b || (a || false))
-      swapped true true = refl
-      swapped true false = refl
-      swapped false true = refl
-      swapped false false = refl

@@ -1,5 +1,6 @@
 -- Rows of running deadlines that come one after another.
 use Rattle.std.proofs.Common.{◌≡◌, ◌∙◌, ℕ, ◌+◌, true, List, [], ◌∷◌, ◌++◌, length, slice_get, Some, refl, sym, ap, subst, arith}
+use Rattle.std.proofs.lemmas.Bool.{and_parts}
 use Rattle.std.proofs.lemmas.List.{length-append, append_assoc}
 use Rattle.std.specs.List.{list_all}
 use Rattle.std.specs.Prelude.{Vec}
@@ -11,14 +12,13 @@ use Rattle.court_rules.specs.Standings.{AreActs, begins_on_entered_day}
 use Rattle.court_rules.specs.declared.act.Act.{Act}
 use Rattle.court_rules.specs.declared.act.Act.TheVariants as act
 use Rattle.court_rules.specs.declared.act.Start.TheVariants as start
-use Rattle.docket_decisions.proofs.Passed.{left_true, right_true}
 use Rattle.docket_sound.specs.Acts.{are_lawful, is_on_entered_day}
 use Rattle.docket_sound.specs.Dues.{HasTakenDues}
 use Rattle.docket_sound.specs.declared.due.DueCheck.{DueCheck}
 use Rattle.docket_decisions.specs.declared.end_row.StoredEnd.{StoredEnd}
 
 begins_so : (zone : ZoneRules) (a : Act) → is_on_entered_day zone a ≡ true → begins_on_entered_day zone a ≡ true
-begins_so zone (act.Start (start.Hours hours)) on = right_true (is_instant hours.at) (is_entered_day (local_day zone (seconds hours.at))) on
+begins_so zone (act.Start (start.Hours hours)) on = (and_parts (is_instant hours.at) (is_entered_day (local_day zone (seconds hours.at))) on).1
 begins_so zone (act.Start (start.Days days)) on = refl
 begins_so zone (act.Fixed day) on = refl
 begins_so zone (act.ExtendBy days) on = refl
@@ -32,14 +32,14 @@ begins_so zone act.Vacated on = refl
 all_begin : (zone : ZoneRules) (acts : List Act) → list_all (is_on_entered_day zone) acts ≡ true → list_all (begins_on_entered_day zone) acts ≡ true
 all_begin zone [] all = refl
 all_begin zone (a ∷ acts) all =
-    let here = begins_so zone a (left_true (is_on_entered_day zone a) (list_all (is_on_entered_day zone) acts) all) in
-    let rest = all_begin zone acts (right_true (is_on_entered_day zone a) (list_all (is_on_entered_day zone) acts) all) in
+    let here = begins_so zone a (and_parts (is_on_entered_day zone a) (list_all (is_on_entered_day zone) acts) all).0 in
+    let rest = all_begin zone acts (and_parts (is_on_entered_day zone a) (list_all (is_on_entered_day zone) acts) all).1 in
     rw (here, rest) refl
 
 -- lawful acts have a standing
 pub lawful_acts : (zone : ZoneRules) (acts : List Act) → are_lawful zone acts ≡ true → AreActs zone acts
 lawful_acts zone acts lawful =
-    (left_true (acts_ok acts) (list_all (is_on_entered_day zone) acts) lawful, all_begin zone acts (right_true (acts_ok acts) (list_all (is_on_entered_day zone) acts) lawful))
+    ((and_parts (acts_ok acts) (list_all (is_on_entered_day zone) acts) lawful).0, all_begin zone acts (and_parts (acts_ok acts) (list_all (is_on_entered_day zone) acts) lawful).1)
 
 record Next (rest : List StoredEnd) (x : StoredEnd) : Type 0 where
   more : List StoredEnd

@@ -2,6 +2,7 @@
 -- and what was done was done on a day that a court may enter.
 use Rattle.std.proofs.Common.{◌≡◌, ◌∙◌, ◌⊎◌, inl, inr, ⊎_elim, ℕ, ◌+◌, ◌<◌, ◌≤◌, ◌==◌, ◌&&◌, nat_le, Bool, true, false, cond, Option, Some, None, List, [], ◌∷◌, ◌++◌, map, filter, length, pos, refl, sym, ap, subst, arith, append-nil, append_assoc}
 use Rattle.std.proofs.lemmas.Bool.Decides.{nat_tests}
+use Rattle.std.proofs.lemmas.Bool.{and_from, and_parts, not-false}
 use Rattle.std.proofs.lemmas.List.{length-append, length-map, map-append}
 use Rattle.std.proofs.lemmas.List.Elements.{filter-append}
 use Rattle.std.specs.List.{AllByRecursion, list_all}
@@ -31,10 +32,9 @@ use Rattle.docket_history.specs.declared.row.ActRow.{ActRow}
 use Rattle.docket_history.specs.declared.row.DeadlineRow.{DeadlineRow}
 use Rattle.docket_decisions.proofs.ActsKept.{IsKept, count_more}
 use Rattle.docket_decisions.proofs.FirstActs.{AreFirst, made_first}
-use Rattle.docket_decisions.proofs.GoodValues.{all_good, not_false}
+use Rattle.docket_decisions.proofs.GoodValues.{all_good}
 use Rattle.docket_decisions.proofs.InOrderLemmas.{same_number}
 use Rattle.docket_decisions.proofs.LimitsKept.{all_kept, found_lawful}
-use Rattle.docket_decisions.proofs.Passed.{left_true, right_true}
 use Rattle.docket_sound.specs.Acts.{are_lawful, is_on_entered_day}
 use Rattle.docket_sound.specs.Numbers.{RunsFrom}
 use Rattle.docket_sound.proofs.AcceptedLemmas.{freed}
@@ -63,8 +63,8 @@ one_more rows row runs next k n = subst (λ (l : List ActRow). RunsFrom 1 (numbe
   where
     at : (b : Bool) → is_on_deadline k n row ≡ b → RunsFrom 1 (numbers (rows_on k n rows ++ cond b (row ∷ []) []))
     at true e =
-        let case : row.case ≡ k = same_number row.case k (left_true (row.case == k) (row.deadline == n) e) in
-        let deadline : row.deadline ≡ n = same_number row.deadline n (right_true (row.case == k) (row.deadline == n) e) in
+        let case : row.case ≡ k = same_number row.case k (and_parts (row.case == k) (row.deadline == n) e).0 in
+        let deadline : row.deadline ≡ n = same_number row.deadline n (and_parts (row.case == k) (row.deadline == n) e).1 in
         let number : row.number ≡ length (rows_on k n rows) + 1 = next ∙ (λ i. length (rows_on (case i) (deadline i) rows) + 1) in
         subst (RunsFrom 1) (sym (map-append (λ (r : ActRow). r.number) (rows_on k n rows) (row ∷ [])))
         (runs_more 1 (numbers (rows_on k n rows)) row.number (runs k n) (omega (arith, number, length-map (rows_on k n rows) (λ (r : ActRow). r.number))))
@@ -260,7 +260,7 @@ made_done court (action.RuleMotion a) good = (refl, tt)
 made_done court (action.Dispose a) good = (ruled_done (zone_of court) a.outcome a.notice a.due, tt)
 made_done court (action.StatementServed a) good = (refl, tt)
 made_done court (action.Extend a) good = extension_done (zone_of court) a.days a.until
-made_done court (action.Satisfy a) good = (not_false (is_entered_at court a.at) (all_good (bad_values court (action.Satisfy a)) good).0, tt)
+made_done court (action.Satisfy a) good = (not-false (is_entered_at court a.at) (all_good (bad_values court (action.Satisfy a)) good).0, tt)
 made_done court (action.Vacate a) good = (refl, tt)
 made_done court _ good = tt
 
@@ -278,27 +278,24 @@ acts_done court (c ∷ h) is =
     (firsts_done zone k (made + 1) (deadlines_made (rule_found h a) a) (made_first court (rule_found h a) a (found_lawful court h is.1 a) good)) (rows_done zone k (deadline_number a) (acts + 1) (acts_made a) (made_done court a good)))
 
 -- so the acts of each deadline are lawful
-two : (b c : Bool) → b ≡ true → c ≡ true → (b && c) ≡ true
-two b c p q = rw (p, q) refl
-
 on_entered_day : (zone : ZoneRules) (a : Act) → is_within a ≡ true → begins_on_entered_day zone a ≡ true → IsDone zone a → is_on_entered_day zone a ≡ true
 on_entered_day zone (act.Start (start.Hours hours)) within begins done =
-    two (is_instant hours.at) (is_entered_day (local_day zone (seconds hours.at))) (left_true (is_instant hours.at) (nat_le 1 hours.hours && nat_le hours.hours 8760) within) begins
-on_entered_day zone (act.Done at way) within begins done = two (is_instant at) (is_entered_day (local_day zone (seconds at))) within done
+    and_from (is_instant hours.at) (is_entered_day (local_day zone (seconds hours.at))) (and_parts (is_instant hours.at) (nat_le 1 hours.hours && nat_le hours.hours 8760) within).0 begins
+on_entered_day zone (act.Done at way) within begins done = and_from (is_instant at) (is_entered_day (local_day zone (seconds at))) within done
 on_entered_day zone (act.Start (start.Days days)) within begins done = refl
 on_entered_day zone _ within begins done = refl
 
 on_entered_days : (zone : ZoneRules) (acts : List Act) → list_all is_within acts ≡ true → list_all (begins_on_entered_day zone) acts ≡ true → AllByRecursion (IsDone zone) acts → list_all (is_on_entered_day zone) acts ≡ true
 on_entered_days zone [] within begins done = refl
 on_entered_days zone (a ∷ acts) within begins done =
-    two (is_on_entered_day zone a) (list_all (is_on_entered_day zone) acts)
-    (on_entered_day zone a (left_true (is_within a) (list_all is_within acts) within) (left_true (begins_on_entered_day zone a) (list_all (begins_on_entered_day zone) acts) begins) done.0)
-    (on_entered_days zone acts (right_true (is_within a) (list_all is_within acts) within) (right_true (begins_on_entered_day zone a) (list_all (begins_on_entered_day zone) acts) begins) done.1)
+    and_from (is_on_entered_day zone a) (list_all (is_on_entered_day zone) acts)
+    (on_entered_day zone a (and_parts (is_within a) (list_all is_within acts) within).0 (and_parts (begins_on_entered_day zone a) (list_all (begins_on_entered_day zone) acts) begins).0 done.0)
+    (on_entered_days zone acts (and_parts (is_within a) (list_all is_within acts) within).1 (and_parts (begins_on_entered_day zone a) (list_all (begins_on_entered_day zone) acts) begins).1 done.1)
 
 lawful_by : (zone : ZoneRules) (acts : List Act) → AreActs zone acts → AllByRecursion (IsDone zone) acts → are_lawful zone acts ≡ true
 lawful_by zone acts are done =
-    let within : ((nat_le 1 (length acts) && nat_le (length acts) 100) && list_all is_within acts) ≡ true = left_true ((nat_le 1 (length acts) && nat_le (length acts) 100) && list_all is_within acts) _ are.0 in
-    two (acts_ok acts) (list_all (is_on_entered_day zone) acts) are.0 (on_entered_days zone acts (right_true (nat_le 1 (length acts) && nat_le (length acts) 100) (list_all is_within acts) within) are.1 done)
+    let within : ((nat_le 1 (length acts) && nat_le (length acts) 100) && list_all is_within acts) ≡ true = (and_parts ((nat_le 1 (length acts) && nat_le (length acts) 100) && list_all is_within acts) _ are.0).0 in
+    and_from (acts_ok acts) (list_all (is_on_entered_day zone) acts) are.0 (on_entered_days zone acts (and_parts (nat_le 1 (length acts) && nat_le (length acts) 100) (list_all is_within acts) within).1 are.1 done)
 
 pub acts_lawful : (court : CourtSettings) (h : History) → IsHistory court h → (k n : ℕ) → 1 ≤ n → n ≤ length (deadlines_of_case k (deadline_rows h)) → are_lawful (zone_of court) (acts_of_deadline k n (act_rows h)) ≡ true
 acts_lawful court h is k n low high =

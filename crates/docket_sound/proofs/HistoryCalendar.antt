@@ -1,5 +1,6 @@
 -- The calendar of a history, by an induction on it.
-use Rattle.std.proofs.Common.{◌≡◌, ◌∙◌, ℕ, suc, ◌+◌, ◌<◌, ◌≤◌, ◌==◌, ◌||◌, not, Bool, true, false, cond, IsTrue, List, [], ◌∷◌, ◌++◌, map, length, refl, sym, subst, arith, append-nil, append_assoc}
+use Rattle.std.proofs.Common.{◌≡◌, ◌∙◌, ℕ, suc, ◌+◌, ◌<◌, ◌≤◌, ◌==◌, not, Bool, true, false, cond, IsTrue, List, [], ◌∷◌, ◌++◌, map, length, refl, sym, subst, arith, append-nil, append_assoc}
+use Rattle.std.proofs.lemmas.Bool.{or_from, or_parts}
 use Rattle.std.proofs.lemmas.List.{map-append}
 use Rattle.std.proofs.lemmas.List.Filters.{length-filter_both}
 use Rattle.std.proofs.lemmas.List.Folds.{list_any-append}
@@ -15,14 +16,14 @@ use Rattle.docket_decisions.specs.Outcomes.{IsHistory}
 use Rattle.docket_values.specs.Values.{first_bad, bad_values}
 use Rattle.docket_history.specs.declared.item.CalendarItem.{CalendarItem}
 use Rattle.docket_history.specs.declared.row.CalendarRow.{CalendarRow}
-use Rattle.docket_decisions.proofs.GoodValues.{IsGoodRow, or_off, rows_good}
+use Rattle.docket_decisions.proofs.GoodValues.{IsGoodRow, rows_good}
 use Rattle.docket_decisions.proofs.LimitsKept.{within_limits}
+use Rattle.sqlite_trees.proofs.ListLemmas.{all-append}
 use Rattle.docket_sound.specs.Calendars.{is_sound_row, EachIsNew, IsGiven, AreSoundCalendarRows}
 use Rattle.docket_sound.specs.Numbers.{Rises}
 use Rattle.docket_sound.proofs.AcceptedLemmas.{freed}
 use Rattle.docket_sound.proofs.CalendarLemmas.{rises_more, new_more}
 use Rattle.docket_history.specs.declared.item.NewRow.{NewRow}
-use Rattle.docket_sound.proofs.NumberLemmas.{all_both}
 
 abbrev numbers : List CalendarRow → List ℕ
 numbers rows = map (λ (row : CalendarRow). row.number) rows
@@ -55,10 +56,10 @@ kept_more court n rows new some kept none sound =
     let items : items_of (rows ++ row ∷ []) ≡ items_of rows ++ new.item ∷ [] = map-append (λ (r : CalendarRow). r.item) rows (row ∷ []) in
     record {
       rising = subst Rises (sym all_numbers) (rises_more (numbers rows) n kept.rising kept.below);
-      below = subst (AllByRecursion (λ m. m < n + 1)) (sym all_numbers) (all_both (λ m. m < n + 1) (numbers rows) (n ∷ []) (lower n (numbers rows) kept.below) (omega arith, tt));
-      given = all_both (λ (r : CalendarRow). IsGiven (n + 1) r.number) rows (row ∷ []) (still_given n rows kept.given) ((some, omega arith), tt);
+      below = subst (AllByRecursion (λ m. m < n + 1)) (sym all_numbers) (all-append (λ m. m < n + 1) (numbers rows) (n ∷ []) (lower n (numbers rows) kept.below) (omega arith, tt));
+      given = all-append (λ (r : CalendarRow). IsGiven (n + 1) r.number) rows (row ∷ []) (still_given n rows kept.given) ((some, omega arith), tt);
       apart = subst (EachIsNew []) (sym items) (new_more [] (items_of rows) new.item kept.apart none);
-      within = all_both (λ (r : CalendarRow). IsTrue (is_sound_row court r)) rows (row ∷ []) kept.within (sound, tt);
+      within = all-append (λ (r : CalendarRow). IsTrue (is_sound_row court r)) rows (row ∷ []) kept.within (sound, tt);
     }
 
 -- the rows that are added: those of the asked ones that are fresh
@@ -118,15 +119,12 @@ module _ (p : CalendarRow → Bool) where
 
   fewer_with : (more fewer : List CalendarItem) (x : CalendarItem) → AreFewer more fewer → AreFewer (more ++ x ∷ []) (fewer ++ x ∷ [])
   fewer_with more fewer x are item none =
-      let parts = or_off (stands_among more item) (stands_among (x ∷ []) item) (sym (list_any-append (λ other. is_same_item other item) more (x ∷ [])) ∙ none) in
-      list_any-append (λ other. is_same_item other item) fewer (x ∷ []) ∙ neither (stands_among fewer item) (stands_among (x ∷ []) item) (are item parts.0) parts.1
-    where
-      neither : (a b : Bool) → a ≡ false → b ≡ false → (a || b) ≡ false
-      neither a b x y = rw (x, y) refl
+      let parts = or_parts (stands_among more item) (stands_among (x ∷ []) item) (sym (list_any-append (λ other. is_same_item other item) more (x ∷ [])) ∙ none) in
+      list_any-append (λ other. is_same_item other item) fewer (x ∷ []) ∙ or_from (stands_among fewer item) (stands_among (x ∷ []) item) (are item parts.0) parts.1
 
   fewer_without : (more fewer : List CalendarItem) (x : CalendarItem) → AreFewer more fewer → AreFewer (more ++ x ∷ []) fewer
   fewer_without more fewer x are item none =
-      are item (or_off (stands_among more item) (stands_among (x ∷ []) item) (sym (list_any-append (λ other. is_same_item other item) more (x ∷ [])) ∙ none)).0
+      are item (or_parts (stands_among more item) (stands_among (x ∷ []) item) (sym (list_any-append (λ other. is_same_item other item) more (x ∷ [])) ∙ none)).0
 
   new_left : (more fewer : List CalendarItem) → AreFewer more fewer → (rows : List CalendarRow) → EachIsNew more (items_of rows) → EachIsNew fewer (items_of (filter p rows))
   new_left more fewer are [] new = tt

@@ -1,6 +1,7 @@
 -- The deadlines of a history, by an induction on it.
 use Rattle.std.proofs.Common.{◌≡◌, ◌∙◌, ℕ, zero, suc, ◌+◌, ◌≤◌, ◌==◌, ◌&&◌, ◌||◌, nat_le, Bool, true, false, IsTrue, Option, Some, None, List, [], ◌∷◌, ◌++◌, map, length, refl, sym, ap, subst, arith, inl, inr, ⊎_elim}
 use Rattle.std.proofs.lemmas.Bool.Decides.{nat_tests}
+use Rattle.std.proofs.lemmas.Bool.{or_parts}
 use Rattle.std.proofs.lemmas.List.{length-append, length-map}
 use Rattle.std.proofs.lemmas.List.Elements.{filter-append}
 use Rattle.std.specs.Prelude.{nat_lt, is_none, is_some, unwrap_or, option_to_list, ◌⊎◌, if◌then◌else◌}
@@ -35,12 +36,12 @@ use Rattle.docket_history.specs.Views.{parties_in}
 use Rattle.docket_history.specs.declared.row.DeadlineRow.{DeadlineRow}
 use Rattle.docket_history.specs.declared.row.PartyRow.{PartyRow}
 use Rattle.docket_history.specs.declared.view.View.{View}
-use Rattle.docket_decisions.proofs.GoodValues.{or_off}
 use Rattle.docket_decisions.proofs.InOrderLemmas.{deadlines_in_order}
 use Rattle.docket_history.proofs.Asked.{none_made}
 use Rattle.docket_decisions.proofs.Leading.{seen}
 use Rattle.docket_decisions.proofs.LimitsKept.{within_limits}
 use Rattle.docket_decisions.proofs.Passed.{IsFree}
+use Rattle.sqlite_trees.proofs.ListLemmas.{all-append}
 use Rattle.docket_sound.specs.Deadlines.{is_sound_deadline, has_party, deadline_key, AreSoundDeadlines}
 use Rattle.docket_sound.specs.KnownTexts.{is_one_of}
 use Rattle.docket_sound.specs.LocalRules.{rule_names}
@@ -49,7 +50,7 @@ use Rattle.docket_sound.proofs.AcceptedLemmas.{IsLawful, freed, is_lawful}
 use Rattle.docket_sound.proofs.HistoryLemmas.{is_case, no_fewer_cases}
 use Rattle.docket_sound.proofs.HistoryLocalRules.{NamedStands, found_stands, still_stands}
 use Rattle.docket_history.specs.declared.row.NewDeadline.{NewDeadline}
-use Rattle.docket_sound.proofs.NumberLemmas.{all_both, numbers_are}
+use Rattle.docket_sound.proofs.NumberLemmas.{numbers_are}
 
 -- how many parties each case of a history has
 abbrev pub parties_at : History → ℕ → ℕ
@@ -79,7 +80,7 @@ module _ (stands : List ℕ → Bool) where
   -- a party that is named
   one_party : (v : View) (party : ℕ) (rest : Bool) → (is_no_party v party || rest) ≡ false → nat_le party (parties_in v.case) ≡ true
   one_party v party rest e =
-      let low = (or_off (nat_lt party 1) (nat_lt (parties_in v.case) party) (or_off (is_no_party v party) rest e).0).1 in
+      let low = (or_parts (nat_lt party 1) (nat_lt (parties_in v.case) party) (or_parts (is_no_party v party) rest e).0).1 in
       grind (arith, nat_tests, low)
 
   answer_sound : (b : Basis) → is_sound_rule (Listed (answer_rule b)) true ≡ true
@@ -126,7 +127,7 @@ module _ (stands : List ℕ → Bool) where
   made_sound v found (action.OrderReply a) named stood = (timed_sound (parties_in v.case) a.party ReplyToAnswer (method_of a.method) a.served a.due (one_party v a.party false named) refl, tt)
   made_sound v found (action.Dispose a) named stood = statement_sound v a.outcome a.party a.notice a.due named
   made_sound v found (action.NoticeHearing a) named stood =
-      let other = (or_off (is_no_party v a.party) (is_no_party v a.opponent || false) named).1 in
+      let other = (or_parts (is_no_party v a.party) (is_no_party v a.opponent || false) named).1 in
       ((one_party v a.party (is_no_party v a.opponent || false) named, refl), ((one_party v a.opponent false other, refl), tt))
   made_sound v found (action.OrderPeriod a) named stood = ordered_sound v a.party (ordered a.unit a) named
   made_sound v found (action.EnterJudgment a) named stood =
@@ -212,7 +213,7 @@ all_at court (c ∷ h) is =
     let here = new_at court h c (freed court h c is.0.0 is.0.1) (is_lawful court h c is.0.0 is.0.1) in
     wider (length (case_rows h)) (length (case_rows (c ∷ h))) (parties_at h) (parties_at (c ∷ h)) (standing_at h) (standing_at (c ∷ h))
     (no_fewer_cases h c) (no_fewer_parties h c) (still_stands h c) (deadline_rows h ++ new)
-    (all_both (IsSoundAt (standing_at h) (length (case_rows h)) (parties_at h)) (deadline_rows h) new (all_at court h is.1) here)
+    (all-append (IsSoundAt (standing_at h) (length (case_rows h)) (parties_at h)) (deadline_rows h) new (all_at court h is.1) here)
 
 made_runs : (k n : ℕ) (ds : List NewDeadline) → RunsFrom n (map (λ (r : DeadlineRow). r.number) (deadline_rows_from k n ds))
 made_runs k n [] = tt

@@ -1,6 +1,7 @@
 -- The cases, parties and entries of a history, by an induction on it.
 use Rattle.std.proofs.Common.{◌≡◌, ◌∙◌, ℕ, suc, ◌+◌, ◌<◌, ◌≤◌, ◌==◌, ◌&&◌, nat_le, Bool, true, false, IsTrue, cond, Some, None, List, [], ◌∷◌, ◌++◌, map, length, refl, sym, ap, subst, arith, append-nil, ⊎_elim}
 use Rattle.std.proofs.lemmas.Bool.Decides.{nat_tests}
+use Rattle.std.proofs.lemmas.Bool.{and_from, not-false}
 use Rattle.std.proofs.lemmas.List.{length-append, map-append}
 use Rattle.std.specs.Prelude.{filter, is_none}
 use Rattle.std.specs.List.{AllByRecursion, list_any}
@@ -17,9 +18,10 @@ use Rattle.docket_history.specs.declared.row.CaseRow.{CaseRow}
 use Rattle.docket_history.specs.declared.row.EntryRow.{EntryRow}
 use Rattle.docket_history.specs.declared.row.PartyRow.{PartyRow}
 use Rattle.docket_history.specs.declared.view.CaseView.{CaseView}
-use Rattle.docket_decisions.proofs.GoodValues.{all_good, not_false}
+use Rattle.docket_decisions.proofs.GoodValues.{all_good}
 use Rattle.docket_decisions.proofs.Leading.{seen, case_numbered}
 use Rattle.docket_decisions.proofs.Passed.{IsFree, not_at}
+use Rattle.sqlite_trees.proofs.ListLemmas.{all-append}
 use Rattle.docket_sound.specs.Numbers.{RunsFrom, AreNumbered, IsOfCase, numbers_in}
 use Rattle.docket_sound.specs.Cases.{AreApart, is_sound_case, AreSoundCases}
 use Rattle.docket_sound.specs.Entries.{entry_key, is_sound_entry, AreSoundEntries}
@@ -27,7 +29,7 @@ use Rattle.docket_sound.specs.Parties.{party_key, is_sound_party, AreSoundPartie
 use Rattle.docket_sound.specs.declared.numbering.Key.{Key}
 use Rattle.docket_sound.proofs.AcceptedLemmas.{freed}
 use Rattle.docket_sound.proofs.CaseLemmas.{apart_more, none_labelled, long_numbers}
-use Rattle.docket_sound.proofs.NumberLemmas.{all_both, runs_more, numbered_next, none_numbered}
+use Rattle.docket_sound.proofs.NumberLemmas.{runs_more, numbered_next, none_numbered}
 
 -- cases
 case_more : (rows : List CaseRow) (row : CaseRow) → AreSoundCases rows → row.number ≡ length rows + 1 → length rows < 100_000
@@ -37,14 +39,8 @@ case_more rows row sound number room new within = record {
       (runs_more 1 (map (λ (r : CaseRow). r.number) rows) row.number sound.numbered (omega (arith, number, long_numbers rows)));
   few = omega (arith, room, length-append rows (row ∷ []));
   apart = subst AreApart (sym (map-append (λ (r : CaseRow). r.label) rows (row ∷ []))) (apart_more (map (λ (r : CaseRow). r.label) rows) row.label sound.apart (none_labelled row.label rows new));
-  within = all_both (λ r. IsTrue (is_sound_case r)) rows (row ∷ []) sound.within (within, tt);
+  within = all-append (λ r. IsTrue (is_sound_case r)) rows (row ∷ []) sound.within (within, tt);
 }
-
-three : (a b c : Bool) → a ≡ true → b ≡ true → c ≡ true → (a && b && c) ≡ true
-three a b c x y z = rw (x, y, z) refl
-
-two : (a b : Bool) → a ≡ true → b ≡ true → (a && b) ≡ true
-two a b x y = rw (x, y) refl
 
 case_step : (court : CourtSettings) (h : History) (c : Command) (a : Action) → c.action ≡ a → IsFree court (shown court h c) c → AreSoundCases (case_rows h) → AreSoundCases (case_rows h ++ new_case (length (case_rows h)) a)
 case_step court h c (action.OpenCase a) is free sound =
@@ -52,7 +48,7 @@ case_step court h c (action.OpenCase a) is free sound =
     let new = rw is at free.new in
     let room = rw is at free.room in
     case_more (case_rows h) (record { number = length (case_rows h) + 1; label = a.label; caption = a.caption; filed = a.filed }) sound refl (not_at 100_000 (length (case_rows h)) room) new
-    (three (is_word 40 a.label) (is_text 200 a.caption) (is_entered a.filed) (not_false (is_word 40 a.label) good.0) (not_false (is_text 200 a.caption) good.1.0) (not_false (is_entered a.filed) good.1.1.0))
+    (and_from _ (is_entered a.filed) (and_from (is_word 40 a.label) (is_text 200 a.caption) (not-false (is_word 40 a.label) good.0) (not-false (is_text 200 a.caption) good.1.0)) (not-false (is_entered a.filed) good.1.1.0))
 case_step court h c _ is free sound = subst AreSoundCases (sym (append-nil (case_rows h))) sound
 
 pub sound_cases : (court : CourtSettings) (h : History) → IsHistory court h → AreSoundCases (case_rows h)
@@ -109,7 +105,7 @@ party_step court h c (action.AddParty a) is free sound =
     let row : PartyRow = record { case = a.case; number = length (parties_of_case a.case (party_rows h)) + 1; name = a.name; role = a.role } in
     record {
       numbered = numbered_more party_key (λ (r : PartyRow). r.case) (λ r. refl) (length (case_rows h)) 1000 (party_rows h) row sound.numbered of_case refl (omega (arith, same, not_at 1000 _ room));
-      within = all_both (λ (r : PartyRow). IsTrue (is_sound_party r)) (party_rows h) (row ∷ []) sound.within (not_false (is_text 100 a.name) good.0, tt);
+      within = all-append (λ (r : PartyRow). IsTrue (is_sound_party r)) (party_rows h) (row ∷ []) sound.within (not-false (is_text 100 a.name) good.0, tt);
     }
 party_step court h c _ is free sound = subst (AreSoundParties (length (case_rows h))) (sym (append-nil (party_rows h))) sound
 
@@ -131,7 +127,7 @@ entry_step court h c (action.FileEntry a) is free sound =
     let row : EntryRow = record { case = a.case; number = length (entries_of_case a.case (entry_rows h)) + 1; day = a.day; text = a.text } in
     record {
       numbered = numbered_more entry_key (λ (r : EntryRow). r.case) (λ r. refl) (length (case_rows h)) 10_000 (entry_rows h) row sound.numbered of_case refl (omega (arith, same, not_at 10_000 _ room));
-      within = all_both (λ (r : EntryRow). IsTrue (is_sound_entry r)) (entry_rows h) (row ∷ []) sound.within (two (is_entered a.day) (is_text 2000 a.text) (not_false (is_entered a.day) good.0) (not_false (is_text 2000 a.text) good.1.0), tt);
+      within = all-append (λ (r : EntryRow). IsTrue (is_sound_entry r)) (entry_rows h) (row ∷ []) sound.within (and_from (is_entered a.day) (is_text 2000 a.text) (not-false (is_entered a.day) good.0) (not-false (is_text 2000 a.text) good.1.0), tt);
     }
 entry_step court h c _ is free sound = subst (AreSoundEntries (length (case_rows h))) (sym (append-nil (entry_rows h))) sound
 

@@ -13,11 +13,11 @@ use Rattle.docket_history.specs.Histories.{History}
 use Rattle.docket_decisions.specs.Outcomes.{IsHistory, receipts, reply_to, replied, shown_fresh}
 use Rattle.docket_history.specs.declared.row.Receipt.{Receipt}
 use Rattle.docket_wire.specs.Valid.{IsCommand}
+use Rattle.sqlite_trees.proofs.ListLemmas.{all-append}
 use Rattle.docket_sound.specs.Cases.{AreApart}
 use Rattle.docket_sound.specs.Receipts.{is_known_kind, AreOfKnownKinds, IsSoundReceipt, receipt_row, key_of}
 use Rattle.docket_sound.proofs.AcceptedLemmas.{is_lawful, no_receipt}
 use Rattle.docket_sound.proofs.CaseLemmas.{apart_more}
-use Rattle.docket_sound.proofs.NumberLemmas.{all_both}
 
 -- the receipt of a command, after a history
 abbrev receipt_after : CourtSettings → History → Command → Receipt
@@ -32,7 +32,7 @@ module _ (later : Bool) where
         body = record { command = c; lawful = all.0; known = known.0; named = refl; written = refl };
       } in
       subst (AllByRecursion (IsSoundReceipt later)) (sym (map-append receipt_row (receipts court h) (receipt_after court h c ∷ [])))
-      (all_both (IsSoundReceipt later) (map receipt_row (receipts court h)) (receipt_row (receipt_after court h c) ∷ []) (sound_receipts court h is.1 all.1 known.1) (this, tt))
+      (all-append (IsSoundReceipt later) (map receipt_row (receipts court h)) (receipt_row (receipt_after court h c) ∷ []) (sound_receipts court h is.1 all.1 known.1) (this, tt))
 
 -- every kind is known where the later ones are
 pub each_kind_known : (a : Action) → is_known_kind true a ≡ true

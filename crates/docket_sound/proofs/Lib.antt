@@ -21,3 +21,4 @@ pub mod SortedActs
 pub mod SortedEnds
 pub mod SortedReceipts
 pub mod SortedRows
+pub mod TestLemmas

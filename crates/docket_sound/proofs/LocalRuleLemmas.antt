@@ -1,5 +1,5 @@
 -- Local rules that come one after another.
-use Rattle.std.proofs.Common.{◌≡◌, ◌∙◌, ◌≢◌, ℕ, suc, ◌+◌, ◌==◌, ◌&&◌, ◌||◌, not, nat_lt, Bool, true, false, IsTrue, List, [], ◌∷◌, ◌++◌, map, length, refl, sym, ap, subst, arith}
+use Rattle.std.proofs.Common.{◌≡◌, ◌∙◌, ◌≢◌, ℕ, suc, ◌+◌, ◌==◌, ◌||◌, nat_lt, Bool, true, false, IsTrue, List, [], ◌∷◌, ◌++◌, map, length, refl, sym, ap, subst, arith}
 use Rattle.std.proofs.lemmas.Bool.{false≢true}
 use Rattle.std.proofs.lemmas.Bool.Decides.{nat_tests}
 use Rattle.std.proofs.lemmas.List.{length-append, length-map, map-append}
@@ -8,13 +8,16 @@ use Rattle.std.proofs.lemmas.Slice.Eq.{bytes_eq-Decides}
 use Rattle.std.specs.List.{AllByRecursion}
 use Rattle.std.specs.Str.{bytes_eq}
 use Rattle.docket_history.specs.declared.row.LocalRuleRow.{LocalRuleRow}
+use Rattle.sqlite_trees.proofs.ListLemmas.{all-append}
+use Rattle.docket_decisions.proofs.ListLemmas.{all_later}
 use Rattle.docket_sound.specs.Cases.{AreApart}
 use Rattle.docket_sound.specs.KnownTexts.{is_known, is_one_of}
 use Rattle.docket_sound.specs.LocalRules.{AreSoundLocalRules, HasTakenLocalRules, is_sound_local_rule, may_follow, rule_names}
 use Rattle.docket_sound.specs.Numbers.{RunsFrom}
 use Rattle.docket_sound.specs.declared.local_rule.LocalRuleCheck.{LocalRuleCheck}
 use Rattle.docket_sound.proofs.CaseLemmas.{apart_more, apart_from}
-use Rattle.docket_sound.proofs.NumberLemmas.{all_both, all_later, runs_more, runs_next}
+use Rattle.docket_sound.proofs.NumberLemmas.{runs_more, runs_next}
+use Rattle.docket_sound.proofs.TestLemmas.{or_last, passed}
 
 abbrev pub rule_numbers : List LocalRuleRow → List ℕ
 rule_numbers rows = map (λ row. row.number) rows
@@ -71,30 +74,17 @@ module _ (check : LocalRuleCheck) (rows : List LocalRuleRow) (row : LocalRuleRow
   pub rule_taken : (new : LocalRuleCheck) → new.count ≡ check.count + 1 → ((text : List ℕ) → is_known new.names text ≡ (bytes_eq row.rule.name text || is_known check.names text))
       → may_follow check row ≡ true → HasTakenLocalRules new (rows ++ row ∷ [])
   rule_taken new count known pass =
-      let parts = tests (nat_lt check.count 1000) (row.number == check.count + 1) (is_sound_local_rule row) (is_known check.names row.rule.name) pass in
+      let parts = passed (nat_lt check.count 1000) (row.number == check.count + 1) (is_sound_local_rule row) (is_known check.names row.rule.name) pass in
       let number : row.number ≡ length rows + 1 = grind (arith, nat_tests, parts.1, has.counted) in
       let long : length (rows ++ row ∷ []) ≡ length rows + 1 = length-append rows (row ∷ []) in
       let listed = listed_more rows row (record { numbered = has.sound.numbered; apart = has.sound.apart }) number (sym (has.known row.rule.name) ∙ parts.3) in
       record {
         counted = omega (arith, count, long, has.counted);
-        known = λ text. known text ∙ ap (λ b. bytes_eq row.rule.name text || b) (has.known text) ∙ swapped (bytes_eq row.rule.name text) (is_one_of (rule_names rows) text) ∙ sym (names_more rows (row ∷ []) text);
+        known = λ text. known text ∙ ap (λ b. bytes_eq row.rule.name text || b) (has.known text) ∙ or_last (bytes_eq row.rule.name text) (is_one_of (rule_names rows) text) ∙ sym (names_more rows (row ∷ []) text);
         sound = record {
           numbered = listed.numbered;
           few = grind (arith, nat_tests, parts.0, has.counted, long);
           apart = listed.apart;
-          within = all_both (λ (r : LocalRuleRow). IsTrue (is_sound_local_rule r)) rows (row ∷ []) has.sound.within (parts.2, tt);
+          within = all-append (λ (r : LocalRuleRow). IsTrue (is_sound_local_rule r)) rows (row ∷ []) has.sound.within (parts.2, tt);
         };
       }
-    where
-      tests : (a b c d : Bool) → (a && b && c && not d) ≡ true → (a ≡ true) × (b ≡ true) × (c ≡ true) × (d ≡ false)
-      tests true true true false h = (refl, refl, refl, refl)
-      tests true true true true h = absurd cc
-      tests true true false d h = absurd cc
-      tests true false c d h = absurd cc
-      tests false b c d h = absurd cc
-
-      swapped : (a b : Bool) → (a || b) ≡ (b || (a || false))
-      swapped true true = refl
-      swapped true false = refl
-      swapped false true = refl
-      swapped false false = refl

@@ -6,21 +6,12 @@ use Rattle.std.proofs.lemmas.List.{length-append, length-set, get_or-set_same, g
 use Rattle.std.proofs.lemmas.Option.{slice_get_past, slice_get-get_or}
 use Rattle.std.specs.Prelude.{filter}
 use Rattle.std.specs.List.{AllByRecursion}
-use Rattle.sqlite_trees.proofs.ListLemmas.{filter-map, map-map}
+use Rattle.sqlite_trees.proofs.ListLemmas.{filter-map, map-map, all-append}
+use Rattle.docket_decisions.proofs.ListLemmas.{all_later}
 use Rattle.docket_sound.specs.Numbers.{RunsFrom, numbers_in, IsOfCase, AreNumbered}
 use Rattle.docket_sound.specs.Counted.{HasNumbered, cases_of, most_of, count_at, follows, is_next}
 use Rattle.docket_sound.specs.declared.numbering.Key.{Key}
 use Rattle.docket_sound.specs.declared.numbering.Numbering.{Numbering}
-
--- what holds of all
-module _ {X : Type 0} (P : X → Type 0) where
-  pub all_both : (xs ys : List X) → AllByRecursion P xs → AllByRecursion P ys → AllByRecursion P (xs ++ ys)
-  all_both [] ys one two = two
-  all_both (x ∷ xs) ys one two = (one.0, all_both xs ys one.1 two)
-
-  pub all_later : (xs ys : List X) → AllByRecursion P (xs ++ ys) → AllByRecursion P ys
-  all_later [] ys all = all
-  all_later (x ∷ xs) ys all = all_later xs ys all.1
 
 -- numbers that run
 pub runs_more : (n : ℕ) (xs : List ℕ) (m : ℕ) → RunsFrom n xs → m ≡ n + length xs → RunsFrom n (xs ++ m ∷ [])
@@ -103,7 +94,7 @@ module _ (cases most : ℕ) (keys : List Key) (key : Key) (all : AreNumbered cas
   ]
 
   pub numbered_next : AreNumbered cases most (keys ++ key ∷ [])
-  numbered_next = record { met = all_both (IsOfCase cases) keys (key ∷ []) all.met (is.met, tt); run = run_next; few = few_next }
+  numbered_next = record { met = all-append (IsOfCase cases) keys (key ∷ []) all.met (is.met, tt); run = run_next; few = few_next }
 
   pub counted_next : (counts : List ℕ) → length counts ≡ cases + 1 → ((k : ℕ) → get_or counts k 0 ≡ length (numbers_in k keys))
       → (k : ℕ) → get_or (set counts key.case key.number) k 0 ≡ length (numbers_in k (keys ++ key ∷ []))

@@ -1,6 +1,6 @@
 -- Looking a number up among numbers that rise.
-use Rattle.std.proofs.Common.{◌≡◌, ◌≢◌, ℕ, zero, suc, ◌≤◌, ◌<◌, ◌==◌, ◌||◌, Bool, true, false, List, [], ◌∷◌, length, get_or, Result, Ok, Err, refl, sym, arith, ⊎_elim}
-use Rattle.std.proofs.lemmas.Bool.{cases_lt}
+use Rattle.std.proofs.Common.{◌≡◌, ◌≢◌, ℕ, zero, suc, ◌≤◌, ◌<◌, ◌==◌, true, false, List, [], ◌∷◌, length, get_or, Result, Ok, Err, refl, sym, arith, ⊎_elim}
+use Rattle.std.proofs.lemmas.Bool.{cases_lt, or_from, or_right}
 use Rattle.std.proofs.lemmas.Bool.Decides.{nat_tests}
 use Rattle.std.proofs.lemmas.List.Sorted.{searched}
 use Rattle.std.specs.Prelude.{is_ok}
@@ -25,22 +25,14 @@ no_lower (n ∷ ns) rises (suc i) (suc j) low high = no_lower ns rises.1 i j (om
 found_among : (ns : List ℕ) (x i : ℕ) → i < length ns → get_or ns i 0 ≡ x → is_among ns x ≡ true
 found_among [] x i low is = absurd (omega (arith, low))
 found_among (n ∷ ns) x zero low is = let own : (n == x) ≡ true = grind (arith, nat_tests, is) in rw own refl
-found_among (n ∷ ns) x (suc i) low is = or_true (n == x) (is_among ns x) (found_among ns x i (omega (arith, low)) is)
-  where
-    or_true : (a b : Bool) → b ≡ true → (a || b) ≡ true
-    or_true true b e = refl
-    or_true false b e = e
+found_among (n ∷ ns) x (suc i) low is = or_right (n == x) (is_among ns x) (found_among ns x i (omega (arith, low)) is)
 
 not_among : (ns : List ℕ) (x : ℕ) → ((k : ℕ) → k < length ns → get_or ns k 0 ≢ x) → is_among ns x ≡ false
 not_among [] x other = refl
 not_among (n ∷ ns) x other =
     let first = other zero (omega arith) in
     let own : (n == x) ≡ false = grind (arith, nat_tests, first) in
-    or_false (n == x) (is_among ns x) own (not_among ns x (λ k low. other (suc k) (omega (arith, low))))
-  where
-    or_false : (a b : Bool) → a ≡ false → b ≡ false → (a || b) ≡ false
-    or_false true b e f = e
-    or_false false b e f = f
+    or_from (n == x) (is_among ns x) own (not_among ns x (λ k low. other (suc k) (omega (arith, low))))
 
 pub among_searched : (ns : List ℕ) (x : ℕ) (r : Result ℕ ℕ) → Rises ns → IsBinarySearchResult (λ y. nat_cmp y x) ns r → is_ok r ≡ is_among ns x
 among_searched ns x (Ok i) rises found =

@@ -1,10 +1,10 @@
 -- Rows of short days that come one after another: as rows of a calendar, beside those of the other table.
-use Rattle.std.proofs.Common.{◌≡◌, ◌∙◌, ◌≢◌, ℕ, ◌+◌, ◌≤◌, ◌&&◌, nat_lt, not, Bool, true, false, IsTrue, List, [], ◌∷◌, ◌++◌, map, length, Err, refl, sym, ap, subst, arith}
-use Rattle.std.proofs.lemmas.Bool.{false≢true}
+use Rattle.std.proofs.Common.{◌≡◌, ◌∙◌, ◌≢◌, ℕ, ◌+◌, ◌≤◌, nat_lt, not, true, false, IsTrue, List, [], ◌∷◌, ◌++◌, map, length, Err, refl, sym, ap, subst, arith}
+use Rattle.std.proofs.lemmas.Bool.{and_parts, false≢true, not-true}
 use Rattle.std.proofs.lemmas.Bool.Decides.{nat_tests}
 use Rattle.std.proofs.lemmas.List.{length-append, length-map, map-append}
 use Rattle.std.specs.List.{AllByRecursion}
-use Rattle.sqlite_trees.proofs.ListLemmas.{map-map, all-map, all_from_map}
+use Rattle.sqlite_trees.proofs.ListLemmas.{map-map, all-map, all_from_map, all-append}
 use Rattle.court_days.specs.Calendar.{Entered, rows_of, no_days}
 use Rattle.court_days.specs.Court.{CourtSettings}
 use Rattle.court_days.specs.declared.calendar.CalendarFault.{CalendarFault}
@@ -14,12 +14,12 @@ use Rattle.docket_history.specs.ShortDays.{calendar_row}
 use Rattle.docket_history.specs.declared.item.CalendarItem.TheVariants.{Short}
 use Rattle.docket_history.specs.declared.row.CalendarRow.{CalendarRow}
 use Rattle.docket_history.specs.declared.row.ShortDayRow.{ShortDayRow}
+use Rattle.docket_decisions.proofs.ListLemmas.{all_later}
 use Rattle.docket_sound.specs.Calendars.{is_sound_row, IsGiven, AreSoundCalendarRows, stands, Enters, last_of, HasEntered}
 use Rattle.docket_sound.specs.Numbers.{Rises}
 use Rattle.docket_sound.specs.ShortDays.{numbers_of, is_among, AreSoundShortDays, has_place, may_be_next, HasTakenShortDays}
 use Rattle.docket_sound.specs.declared.short_day.ShortDayCheck.{ShortDayCheck}
 use Rattle.docket_sound.proofs.CalendarLemmas.{row_fails, row_twice, row_faulty, row_taken, none_entered}
-use Rattle.docket_sound.proofs.NumberLemmas.{all_both, all_later}
 
 -- some court whose office closes then
 abbrev pub closing : ℕ → CourtSettings
@@ -93,8 +93,8 @@ module _ (check : ShortDayCheck) (rows : List ShortDayRow) (row : ShortDayRow) (
   pub short_taken : (days : Entered) → stands check.days (Short row.day row.close) ≡ false → days ≡ with_item check.days (Short row.day row.close) → rows_of days ≤ 4000
       → may_be_next check row ≡ true → has_place check row ≡ true → HasTakenShortDays (record check { last = row.number; days = days }) (rows ++ row ∷ [])
   short_taken days none grown room pass place =
-      let place_parts = both (not (is_among check.calendar.items row.number)) (nat_lt (length check.calendar.items + rows_of check.days) 4000) place in
-      let free : is_among check.calendar.items row.number ≡ false = not_true (is_among check.calendar.items row.number) place_parts.0 in
+      let place_parts = and_parts (not (is_among check.calendar.items row.number)) (nat_lt (length check.calendar.items + rows_of check.days) 4000) place in
+      let free : is_among check.calendar.items row.number ≡ false = not-true (is_among check.calendar.items row.number) place_parts.0 in
       let few : length check.calendar.items + length (rows ++ row ∷ []) ≤ 4000 =
       grind (arith, nat_tests, place_parts.1, has.counted, length-append rows (row ∷ [])) in
       let all : HasEntered court check.next_row row.number days (map calendar_row (rows ++ row ∷ [])) =
@@ -107,17 +107,8 @@ module _ (check : ShortDayCheck) (rows : List ShortDayRow) (row : ShortDayRow) (
         standing = all.standing;
         counted = all.counted ∙ length-map (rows ++ row ∷ []) calendar_row;
         sound = from_calendar check.close check.next_row check.calendar.items (rows ++ row ∷ []) all.sound
-            (all_both (λ (r : ShortDayRow). is_among check.calendar.items r.number ≡ false) rows (row ∷ []) has.sound.others (free, tt)) few;
+            (all-append (λ (r : ShortDayRow). is_among check.calendar.items r.number ≡ false) rows (row ∷ []) has.sound.others (free, tt)) few;
       }
-    where
-      both : (a b : Bool) → (a && b) ≡ true → (a ≡ true) × (b ≡ true)
-      both true true h = (refl, refl)
-      both true false h = absurd cc
-      both false b h = absurd cc
-
-      not_true : (b : Bool) → not b ≡ true → b ≡ false
-      not_true true h = absurd cc
-      not_true false h = refl
 
 pub none_short : (check : ShortDayCheck) → check.last ≡ 0 → check.days ≡ no_days → length check.calendar.items ≤ 4000 → Rises check.calendar.items → HasTakenShortDays check []
 none_short check last empty few risen =

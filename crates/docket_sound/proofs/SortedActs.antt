@@ -1,6 +1,7 @@
 -- The acts of a history in the order of their keys: a run for each deadline, in the order of deadlines.
 use Rattle.std.proofs.Common.{◌≡◌, ◌∙◌, ℕ, suc, ◌+◌, ◌<◌, ◌≤◌, ◌==◌, ◌&&◌, ◌||◌, nat_le, Bool, true, false, cond, List, [], ◌∷◌, ◌++◌, map, flat_map, length, IsPermutation, refl, sym, ap, ap₂, subst, arith, append-nil, append_assoc}
 use Rattle.std.proofs.lemmas.Bool.Decides.{nat_tests}
+use Rattle.std.proofs.lemmas.Bool.{and_parts}
 use Rattle.std.proofs.lemmas.Cmp.{on_total, tied_itself}
 use Rattle.std.proofs.lemmas.List.{length-map}
 use Rattle.std.proofs.lemmas.List.Elements.{filter_passes, recursion_from_All}
@@ -19,7 +20,6 @@ use Rattle.docket_history.specs.declared.row.ActRow.{ActRow}
 use Rattle.docket_history.specs.declared.row.CaseRow.{CaseRow}
 use Rattle.docket_history.specs.declared.row.DeadlineRow.{DeadlineRow}
 use Rattle.docket_decisions.proofs.InOrderLemmas.{same_number}
-use Rattle.docket_decisions.proofs.Passed.{left_true, right_true}
 use Rattle.docket_sound.specs.Acts.{AreSoundActs, IsSoundRun, are_lawful, is_on_entered_day}
 use Rattle.docket_sound.specs.Deadlines.{deadline_key}
 use Rattle.docket_sound.specs.Numbers.{Rises, RunsFrom, AreNumbered, IsOfCase, numbers_in}
@@ -58,8 +58,8 @@ all_on k n rows = recursion_from_All (λ row. is_on_deadline k n row ≡ true) (
 
 key_is : (k n : ℕ) (row : ActRow) → is_on_deadline k n row ≡ true → deadline_of row ≡ record { case = k; number = n }
 key_is k n row on =
-    let case = same_number row.case k (left_true (row.case == k) (row.deadline == n) on) in
-    let deadline = same_number row.deadline n (right_true (row.case == k) (row.deadline == n) on) in
+    let case = same_number row.case k (and_parts (row.case == k) (row.deadline == n) on).0 in
+    let deadline = same_number row.deadline n (and_parts (row.case == k) (row.deadline == n) on).1 in
     λ i. record { case = case i; number = deadline i }
 
 module _ (k n : ℕ) where
@@ -94,8 +94,8 @@ one_run : (k n : ℕ) (rows rest : List ActRow) → 1 ≤ length rows → AllByR
     → runs_of (rows ++ rest) ≡ (record { case = k; deadline = n; rows = rows }) ∷ runs_of rest
 one_run k n [] rest some on off = absurd (omega (arith, some))
 one_run k n (x ∷ xs) rest some on off =
-    let case = same_number x.case k (left_true (x.case == k) (x.deadline == n) on.0) in
-    let deadline = same_number x.deadline n (right_true (x.case == k) (x.deadline == n) on.0) in
+    let case = same_number x.case k (and_parts (x.case == k) (x.deadline == n) on.0).0 in
+    let deadline = same_number x.deadline n (and_parts (x.case == k) (x.deadline == n) on.0).1 in
     let first : Run = record { case = k; deadline = n; rows = x ∷ [] } in
     (λ i. runs_from (record { case = case i; deadline = deadline i; rows = x ∷ [] }) (xs ++ rest))
     ∙ continues first xs rest on.1
@@ -257,10 +257,10 @@ module _ (court : CourtSettings) (h : History) (is : IsHistory court h) where
   -- lawful acts are some
   some_acts : (acts : List Act) → are_lawful (zone_of court) acts ≡ true → 1 ≤ length acts
   some_acts acts lawful =
-      let ok = left_true (acts_ok acts) (list_all (is_on_entered_day (zone_of court)) acts) lawful in
-      let within = left_true ((nat_le 1 (length acts) && nat_le (length acts) 100) && list_all is_within acts) _ ok in
-      let lengths = left_true (nat_le 1 (length acts) && nat_le (length acts) 100) (list_all is_within acts) within in
-      let least : nat_le 1 (length acts) ≡ true = left_true (nat_le 1 (length acts)) (nat_le (length acts) 100) lengths in
+      let ok = (and_parts (acts_ok acts) (list_all (is_on_entered_day (zone_of court)) acts) lawful).0 in
+      let within = (and_parts ((nat_le 1 (length acts) && nat_le (length acts) 100) && list_all is_within acts) _ ok).0 in
+      let lengths = (and_parts (nat_le 1 (length acts) && nat_le (length acts) 100) (list_all is_within acts) within).0 in
+      let least : nat_le 1 (length acts) ≡ true = (and_parts (nat_le 1 (length acts)) (nat_le (length acts) 100) lengths).0 in
       grind (arith, nat_tests, least)
 
   lawful_at : (d : DeadlineRow) → IsPlaced (deadline_rows h) d → are_lawful (zone_of court) (acts_of_deadline d.case d.number (act_rows h)) ≡ true

@@ -6,23 +6,12 @@ use Rattle.court_days.specs.Calendar.{Entered}
 use Rattle.court_days.specs.Court.{zone_of}
 use Rattle.court_rules.specs.Standings.{standing}
 use Rattle.court_rules.specs.declared.act.Standing.{Standing}
-use Rattle.court_rules.specs.declared.act.Standing.TheVariants.{Running, Suspended, Awaiting, Done, Vacated}
+use Rattle.court_rules.specs.declared.act.Standing.TheVariants.{Done, Vacated}
+use Rattle.docket_decisions.specs.Refusals.{is_running, is_suspended, is_awaiting}
 use Rattle.docket_history.specs.declared.row.ActRow.{ActRow}
 use Rattle.docket_sound.specs.Runs.{Run, runs_of}
 use Rattle.docket_sound.specs.declared.act.ActCheck.{ActCheck}
 use Rattle.docket_sound.specs.declared.standings.Standings.{Standings}
-
-abbrev pub is_running : Standing → Bool
-is_running (Running end) = true
-is_running _ = false
-
-abbrev pub is_suspended : Standing → Bool
-is_suspended Suspended = true
-is_suspended _ = false
-
-abbrev pub is_awaiting : Standing → Bool
-is_awaiting Awaiting = true
-is_awaiting _ = false
 
 abbrev pub is_done : Standing → Bool
 is_done Done = true

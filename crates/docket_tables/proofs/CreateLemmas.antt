@@ -1,5 +1,5 @@
 -- What each CREATE does, and what all of them leave.
-use Rattle.std.proofs.Common.{◌≡◌, ◌∙◌, ◌+◌, ◌<◌, ℕ, true, zero, suc, List, [], ◌∷◌, ◌++◌, get_or, length, Result, Ok, refl, sym, ap, subst, map, IsPermutation, false, arith}
+use Rattle.std.proofs.Common.{◌≡◌, ◌∙◌, ◌+◌, ◌<◌, ℕ, true, zero, suc, List, [], ◌∷◌, get_or, length, Result, Ok, refl, sym, ap, subst, map, IsPermutation, false, arith}
 use Rattle.std.specs.List.{AllByRecursion}
 use Rattle.std.proofs.lemmas.List.{get_or-map}
 use Rattle.std.proofs.lemmas.List.Sorted.{IsPermutation-refl}
@@ -11,6 +11,7 @@ use Rattle.sqlite.specs.Schema.{Schema}
 use Rattle.sqlite.specs.Tree.{Trees}
 use Rattle.sqlite_trees.specs.View.{IsShaped}
 use Rattle.sqlite_trees.specs.declared.store.Shape.TheVariants as shape
+use Rattle.sqlite_trees.proofs.ListLemmas.{all-append, all_both}
 use Rattle.sqlite.specs.Effect.{Database}
 use Rattle.sqlite.specs.Listing.{understood}
 use Rattle.sqlite.specs.Command.TheVariants.{CreateTable}
@@ -29,7 +30,6 @@ use Rattle.docket_tables.specs.Tables.{layout_of, tables}
 use Rattle.docket_tables.specs.Texts.{counted, create_text}
 use Rattle.docket_tables.specs.declared.table.Table.{Table}
 use Rattle.docket_tables.proofs.EachLemmas.{each_table}
-use Rattle.docket_tables.proofs.HoldsLemmas.{all_both}
 use Rattle.docket_tables.proofs.InsertLemmas.{went, same_value}
 use Rattle.docket_tables.proofs.LayoutLemmas.{of_each}
 use Rattle.docket_tables.proofs.TextLemmas.{IsRead, whole_text, is_read, read_command, read_plain, read_words}
@@ -91,10 +91,6 @@ at_place n table low is =
     let from_none : 0 + n ≡ n = omega arith in
     ap place is ∙ sym (get_or-map place tables n table 0 low) ∙ ap (λ ns. get_or ns n 0) numbers ∙ counted_at 0 n tables low ∙ from_none
 
-all_snoc : {X : Type 0} (P : X → Type 0) (xs : List X) (x : X) → AllByRecursion P xs → P x → AllByRecursion P (xs ++ x ∷ [])
-all_snoc P [] x p q = (q, tt)
-all_snoc P (y ∷ ys) x p q = (p.0, all_snoc P ys x p.1 q)
-
 pub one_more : (table : Table) (old new : State) (count : ℕ) → IsMade old (layout_of table).at → Executes (create_text table) [] old new (Ok count) → Turns old new new.now old.committed true
     → IsMade new (suc (layout_of table).at)
 one_more table old new count was ran turns =
@@ -116,7 +112,7 @@ one_more table old new count was ran turns =
     let before : AllByRecursion (λ (t : Shape). new.now.trees t.tree ≡ []) (made n).tables =
     all_both (λ (t : Shape). first.0.trees t.tree ≡ old.now.trees t.tree) (λ (t : Shape). old.now.trees t.tree ≡ []) (λ (t : Shape). new.now.trees t.tree ≡ []) (λ t p q. ap (λ f. f t.tree) trees ∙ p ∙ q) (made n).tables others was.empty in
     let fresh : new.now.trees (next_tree (made n)) ≡ [] = ap (λ f. f (next_tree (made n))) trees ∙ subst (λ s. first.0.trees (next_tree s) ≡ []) was.schema made_one.empty in
-    let added = all_snoc (λ (t : Shape). new.now.trees t.tree ≡ []) (made n).tables (record defined { tree = next_tree (made n) }) before fresh in
+    let added = all-append (λ (t : Shape). new.now.trees t.tree ≡ []) (made n).tables (record defined { tree = next_tree (made n) } ∷ []) before (fresh, tt) in
     record {
       schema = ap (λ (d : Database). d.schema) now ∙ schema;
       serves = λ low. (turns.is_open, turns.mode, w.sound);

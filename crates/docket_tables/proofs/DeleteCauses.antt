@@ -31,7 +31,7 @@ use Rattle.sqlite_schema.specs.declared.schema.Among.TheVariants as among
 use Rattle.sqlite_schema.specs.declared.schema.Constraint.TheVariants.{Datatype, NotNull, Check, PrimaryKey, Unique, ForeignKey}
 use Rattle.sqlite_schema.specs.declared.schema.Keys.TheVariants.{Enforced}
 use Rattle.sqlite_tied.specs.Compute.{everything}
-use Rattle.sqlite_trees.proofs.ListLemmas.{all-filter, all_of}
+use Rattle.sqlite_trees.proofs.ListLemmas.{all-filter, all_of, all_weaker, all_both}
 use Rattle.sqlite_trees.specs.Tree.{with_tree, has_rowid, without_rowid}
 use Rattle.sqlite_typing.specs.Types.{accepts_program}
 use Rattle.docket_tables.specs.Causes.{HasMakingCause}
@@ -43,7 +43,6 @@ use Rattle.docket_tables.specs.Statements.{delete_text, delete_short_day_text, d
 use Rattle.docket_tables.specs.Tables.{layout_of}
 use Rattle.docket_tables.specs.declared.table.Table.TheVariants.{Calendar, ShortDays, Due}
 use Rattle.docket_tables.proofs.DeleteLemmas.{numbered_in}
-use Rattle.docket_tables.proofs.HoldsLemmas.{all_both, all_each}
 use Rattle.docket_tables.proofs.InsertLemmas.{went, same_value}
 use Rattle.docket_tables.proofs.LayoutLemmas.{apart, together}
 use Rattle.docket_tables.proofs.MakingCauses.{IsOne, write_caused}
@@ -90,7 +89,7 @@ unique_left schema old new t (ids, is) row =
 
 -- what holds of each row holds of each row that is left
 rows_left : (P R : Row → Type 0) (old new : Trees) (t : Shape) → LosesRows old new t → ((row : Row) → P row → R row) → AllByRecursion P (old t.tree) → AllByRecursion R (new t.tree)
-rows_left P R old new t (ids, is) f all = subst (AllByRecursion R) (sym is) (all_left R ids (old t.tree) (all_each P R f (old t.tree) all))
+rows_left P R old new t (ids, is) f all = subst (AllByRecursion R) (sym is) (all_left R ids (old t.tree) (all_weaker P R f (old t.tree) all))
 
 -- where tables lose rows, what was unique still is
 pub keeps_unique : (schema : Schema) (old new : Trees) → AllByRecursion (LosesRows old new) schema.tables → Keeps Unique schema old → Keeps Unique schema new
@@ -158,7 +157,7 @@ refers_still schema tree old new away kept lose keeps =
 -- each table loses rows where one does and the others are as they were
 pub lose_at : (tables : List Shape) (tree : ℕ) (ids : List ℤ) (old new : Trees) → new tree ≡ without_all (old tree) ids → AllByRecursion (λ t. t.tree ≢ tree → new t.tree ≡ old t.tree) tables
     → AllByRecursion (LosesRows old new) tables
-lose_at tables tree ids old new here = all_each _ _ (λ t kept. go t kept (t.tree == tree) refl) tables
+lose_at tables tree ids old new here = all_weaker _ _ (λ t kept. go t kept (t.tree == tree) refl) tables
   where
     go : (t : Shape) → (t.tree ≢ tree → new t.tree ≡ old t.tree) → (b : Bool) → (t.tree == tree) ≡ b → LosesRows old new t
     go t kept true is = (ids, subst (λ n. new n ≡ without_all (old n) ids) (sym (together t.tree tree is)) here)

@@ -6,7 +6,7 @@ use Rattle.std.proofs.lemmas.Int.{ints}
 use Rattle.std.proofs.lemmas.List.{length-map}
 use Rattle.std.proofs.lemmas.List.Elements.{All-from_recursion, recursion_from_All}
 use Rattle.std.proofs.lemmas.List.Sorted.{IsPermutation-sym, All-permutation, length_permutation}
-use Rattle.sqlite_trees.proofs.ListLemmas.{filter-map, filter_all, filter_same, all-map, IsPermutation-filter}
+use Rattle.sqlite_trees.proofs.ListLemmas.{filter-map, filter_all, filter_same, all-map, IsPermutation-filter, all_weaker, all_both}
 use Rattle.sqlite_value.proofs.OrderLemmas.{value_cmp-Int}
 use Rattle.sqlite.specs.declared.types.Value.TheVariants.{Int}
 use Rattle.sqlite.specs.Order.{Row, column, value_cmp}
@@ -45,14 +45,6 @@ pub same_int : (o : Ordering) (z n : ℤ) → int_cmp z n ≡ o → is_eq o ≡ 
 same_int Less z n is e = absurd (let no = e in cc)
 same_int Equal z n is e = grind (arith, ints)
 same_int Greater z n is e = absurd (let no = e in cc)
-
-pub all_both : {X : Type 0} (P Q R : X → Type 0) → ((x : X) → P x → Q x → R x) → (xs : List X) → AllByRecursion P xs → AllByRecursion Q xs → AllByRecursion R xs
-all_both P Q R f [] p q = tt
-all_both P Q R f (x ∷ xs) p q = (f x p.0 q.0, all_both P Q R f xs p.1 q.1)
-
-pub all_each : {X : Type 0} (P R : X → Type 0) → ((x : X) → P x → R x) → (xs : List X) → AllByRecursion P xs → AllByRecursion R xs
-all_each P R f [] p = tt
-all_each P R f (x ∷ xs) p = (f x p.0, all_each P R f xs p.1)
 
 all_kept : {X : Type 0} (P : X → Type 0) (p : X → Bool) (xs : List X) → AllByRecursion P xs → AllByRecursion (λ x. P x × (p x ≡ true)) (filter p xs)
 all_kept P p [] h = tt
@@ -94,14 +86,14 @@ row_gone n rows found keyed same =
     let shown = map (cells (0 ∷ [])) rows in
     let kept = all_kept IsKeyed (keyed_by n) shown (all-map IsKeyed (cells (0 ∷ [])) rows keyed) in
     let each : AllByRecursion (λ r. id_in (rowid r) ≡ n) (filter (keyed_by n) shown) =
-    all_each _ _ (λ r h. ap id_in h.0.1 ∙ same_int _ h.0.0 n refl (sym (keyed_as n h.0.0 r h.0.1) ∙ h.1)) (filter (keyed_by n) shown) kept in
+    all_weaker _ _ (λ r h. ap id_in h.0.1 ∙ same_int _ h.0.0 n refl (sym (keyed_as n h.0.0 r h.0.1) ∙ h.1)) (filter (keyed_by n) shown) kept in
     let ids : AllByRecursion (λ i. i ≡ n) (ids_of found) =
     all-map (λ i. i ≡ n) (λ r. id_in (rowid r)) found (recursion_from_All (λ r. id_in (rowid r) ≡ n) found (All-permutation (λ r. id_in (rowid r) ≡ n) _ found same (All-from_recursion _ _ each))) in
     let none : ids_of found ≡ [] → without_rowid n rows ≡ rows = λ e.
     let nothing : length (filter (keyed_by n) shown) ≡ 0 = omega (arith, length_permutation _ _ same, no_ids found e) in
     let no_row : length (filter (λ r. keyed_by n (cells (0 ∷ []) r)) rows) ≡ 0 = sym (length-map _ (cells (0 ∷ []))) ∙ ap length (sym (filter-map (keyed_by n) (cells (0 ∷ [])) rows)) ∙ nothing in
     filter_all _ rows (all_both _ _ _ (λ r k no. ap not (rowid_as n k.0 r k.1 ∙ sym (keyed_as n k.0 r k.1) ∙ no)) rows keyed (all_false (λ r. keyed_by n r) rows no_row)) in
-    gone_once n (ids_of found) rows ids none ∙ filter_same _ _ rows (all_each _ _ (λ r k. ap not (rowid_as n k.0 r k.1 ∙ sym (keyed_as n k.0 r k.1))) rows keyed)
+    gone_once n (ids_of found) rows ids none ∙ filter_same _ _ rows (all_weaker _ _ (λ r k. ap not (rowid_as n k.0 r k.1 ∙ sym (keyed_as n k.0 r k.1))) rows keyed)
 
 -- a DELETE by the rowid leaves the rows with other keys
 pub holds_without : (tree : ℕ) (rest : List ℕ) (all : List Row) (n : ℤ) (found : List Row) (old new : Trees)

@@ -35,7 +35,7 @@ use Rattle.docket_tables.proofs.StoredRows.{stored_by, stored_is, IsLight, store
 use Rattle.std.proofs.lemmas.List.Elements.{All-from_recursion, recursion_from_All}
 use Rattle.std.proofs.lemmas.List.Sorted.{IsPermutation-sym, All-permutation}
 use Rattle.sqlite_rules.proofs.ListLemmas.{all_has, some_has, some_from, test_has, test_from, all_from}
-use Rattle.docket_tables.proofs.HoldsLemmas.{all_each, equal_int, and_yes}
+use Rattle.docket_tables.proofs.HoldsLemmas.{equal_int, and_yes}
 use Rattle.std.proofs.lemmas.Bool.{and_parts, both_ways, false_from_ne_true, not_from_false, or_right, and_from, or_from, or_left, or_cases, cases_eq, not-true}
 use Rattle.std.proofs.lemmas.Int.{ints}
 use Rattle.sqlite.specs.declared.types.Value.{Value}
@@ -43,7 +43,7 @@ use Rattle.sqlite.specs.declared.types.Value.TheVariants as value
 use Rattle.sqlite.specs.declared.types.Value.TheVariants.{Null}
 use Rattle.sqlite_value.proofs.OrderLemmas.{value_cmp-Int}
 use Rattle.docket_tables.proofs.CellLemmas.{truth_back}
-use Rattle.sqlite_trees.proofs.ListLemmas.{all-permutation}
+use Rattle.sqlite_trees.proofs.ListLemmas.{all-permutation, all_weaker}
 use Rattle.std.specs.Ordering.{is_ne}
 use Rattle.std.specs.Prelude.{nat_le}
 use Rattle.std.proofs.lemmas.Bool.Decides.{nat_tests}
@@ -286,7 +286,7 @@ module _ (table : Table) (given : Row) (rows : Rows) (db : Trees) (fits : Fits t
   module _ (may : MayStand table given rows) (here : (t : Table) → HoldsHere rows db t) where
     -- no stored row has what stands once
     alone_in : AllByRecursion (λ columns. AllByRecursion (λ r. are_alike columns (cells (places_of table) r) given ≡ false) (db (tree_of table))) (key_columns table ∷ (layout_of table).uniques)
-    alone_in = all_each _ _ (λ columns none. shown_all (λ other. are_alike columns other given ≡ false) (places_of table) (db (tree_of table)) (rows table) (here table).0 none) (key_columns table ∷ (layout_of table).uniques) may.alone
+    alone_in = all_weaker _ _ (λ columns none. shown_all (λ other. are_alike columns other given ≡ false) (places_of table) (db (tree_of table)) (rows table) (here table).0 none) (key_columns table ∷ (layout_of table).uniques) may.alone
 
     -- nor has any, among the columns as they are stored
     apart_in : (places : List ℕ) → Has (uniques_of table) places → (r : Row) → Has (db (tree_of table)) r → are_alike places r stored ≡ false
@@ -295,7 +295,7 @@ module _ (table : Table) (given : Row) (rows : Rows) (db : Trees) (fits : Fits t
         (unmapped (λ places. are_alike places r stored) (uniques_of table)
         (subst (AllByRecursion (λ b. b ≡ false)) (sym (alike_means table r stored ∙ ap (λ shown. map (λ columns. are_alike columns (cells (places_of table) r) shown) (once_in table)) stored_shown))
         (mapped (λ columns. are_alike columns (cells (places_of table) r) given) (once_in table)
-        (once_of (layout_of table).is_rowid (all_each _ _ (λ columns none. all_has _ (db (tree_of table)) r none there) (key_columns table ∷ (layout_of table).uniques) alone_in))))) known
+        (once_of (layout_of table).is_rowid (all_weaker _ _ (λ columns none. all_has _ (db (tree_of table)) r none there) (key_columns table ∷ (layout_of table).uniques) alone_in))))) known
       where
         mapped : {X : Type 0} (p : X → Bool) (xs : List X) → AllByRecursion (λ x. p x ≡ false) xs → AllByRecursion (λ b. b ≡ false) (map p xs)
         mapped p [] all = tt

@@ -1,6 +1,6 @@
 -- Questions inside a transaction.
 use Rattle.std.proofs.Common.{◌∙◌, ◌⊎◌, inl, inr, ℕ, List, Result, Ok, Err, IfOk, IfErr, IsErr, subst, sym, arith}
-use Rattle.std.proofs.lemmas.Result.{IfOk-weaker}
+use Rattle.std.proofs.lemmas.Result.{IfOk-weaker, IfOk-from_err}
 use Rattle.sqlite.specs.Order.{Row}
 use Rattle.sqlite.specs.Listing.{understood}
 use Rattle.sqlite.specs.declared.error.Error.{Error}
@@ -47,12 +47,8 @@ Went old new rows next A = (HasCleanDisk old → Sees old rows) → StaysInside 
 abbrev pub Stays : State → State → Rows → Type 0
 Stays old new rows = (HasCleanDisk old → Sees old rows) → StaysInside old new
 
-if_err : {Y F : Type 0} (r : Result Y F) (B : Y → Type 0) → IsErr r → IfOk r B
-if_err (Ok y) B bad = absurd (let no = bad in cc)
-if_err (Err e) B bad = tt
-
 pub failed_after : (old new : State) (rows other : Rows) {Y F : Type 0} (later : Result Y F) (B : Y → Type 0) → Stays old new rows → IsErr later → Inside old new rows other later B
-failed_after old new rows other later B stays failed sees = (stays sees, λ clean. if_err later _ failed)
+failed_after old new rows other later B stays failed sees = (stays sees, λ clean. IfOk-from_err later _ failed)
 
 pub stays_after : (old mid new : State) (rows next : Rows) (A : Type 0) → Went old mid rows next A → Stays mid new next → Stays old new rows
 stays_after old mid new rows next A first second sees =

@@ -41,7 +41,7 @@ use Rattle.std.specs.Float.{NotNan}
 use Rattle.std.proofs.lemmas.List.Elements.{All-from_recursion, recursion_from_All}
 use Rattle.std.proofs.lemmas.Nat.Bits.{bit_at-zero}
 use Rattle.docket_tables.proofs.CellLemmas.{cast_int}
-use Rattle.sqlite_trees.proofs.ListLemmas.{map-map, all-map, all-filter, filter-map}
+use Rattle.sqlite_trees.proofs.ListLemmas.{map-map, all-map, all-filter, filter-map, all_weaker}
 use Rattle.docket_tables.proofs.CourtLemmas.{found_by}
 use Rattle.sqlite_rules.specs.declared.error.Refusal.TheVariants.{Violates, Mismatch, NoRowid, BadReference, TooDeep}
 use Rattle.std.proofs.Math.Logic.{∥∥₁_elim}
@@ -55,7 +55,6 @@ use Rattle.std.proofs.lemmas.Bool.{and_parts, and_from, not-true, or_parts, or_f
 use Rattle.sqlite_value.specs.Keys.{plain}
 use Rattle.sqlite.specs.Kind.TheVariants.{Integer}
 use Rattle.docket_tables.proofs.RowidLemmas.{any_mapped, left}
-use Rattle.docket_tables.proofs.HoldsLemmas.{all_each}
 use Rattle.docket_tables.proofs.MoveLemmas.{moved_parts, numbered_given, put_all_permutes}
 use Rattle.std.proofs.lemmas.List.{length-map}
 use Rattle.sqlite_schema.specs.declared.schema.Index.{Index}
@@ -259,7 +258,7 @@ module _ (k d : ℕ) (day moment : ℤ) where
 
     news_int : AllByRecursion (λ r. is_int (rowid r) ≡ true) (map made found)
     news_int =
-        let moved_int : AllByRecursion (λ r. is_int (rowid (moved r)) ≡ true) hits = all_each IsNumbered _ (λ r is. ap is_int is.0) hits (all-filter IsNumbered matches due_rows numbered_rows) in
+        let moved_int : AllByRecursion (λ r. is_int (rowid (moved r)) ≡ true) hits = all_weaker IsNumbered _ (λ r is. ap is_int is.0) hits (all-filter IsNumbered matches due_rows numbered_rows) in
         recursion_from_All _ _ (All-permutation (λ r. is_int (rowid r) ≡ true) _ _ news_same (All-from_recursion _ _ (all-map (λ r. is_int (rowid r) ≡ true) moved hits moved_int)))
 
     fresh : are_fresh left_rows (map made found) ≡ true
@@ -282,7 +281,7 @@ module _ (k d : ℕ) (day moment : ℤ) where
     unique_after =
         let was = of_each (λ (t : Shape). AllByRecursion (λ row. passes Unique docket_schema db t row ≡ true) (db t.tree)) (obeyed.rules Unique) Due in
         keeps_unique ends db (edited db edit) ends_apart (obeyed.rules Unique)
-        (lifted (λ row. passes Unique docket_schema (with_tree db due (edited db edit)) ends row ≡ true) (all_each (λ r. passes Unique docket_schema db ends r ≡ true) _ passes_after due_rows was))
+        (lifted (λ row. passes Unique docket_schema (with_tree db due (edited db edit)) ends row ≡ true) (all_weaker (λ r. passes Unique docket_schema db ends r ≡ true) _ passes_after due_rows was))
       where
         passes_after : (r : Row) → passes Unique docket_schema db ends r ≡ true → passes Unique docket_schema (with_tree db due (edited db edit)) ends (after r) ≡ true
         passes_after r was =
@@ -297,18 +296,18 @@ module _ (k d : ℕ) (day moment : ℤ) where
     parents_after next is deadlines =
         let was = of_each (λ (t : Shape). AllByRecursion (λ row. passes ForeignKey docket_schema db t row ≡ true) (db t.tree)) (obeyed.rules ForeignKey) Due in
         subst (AllByRecursion (λ row. passes ForeignKey docket_schema next ends row ≡ true)) (sym is)
-        (lifted (λ row. passes ForeignKey docket_schema next ends row ≡ true) (all_each (λ r. passes ForeignKey docket_schema db ends r ≡ true) _ referred_after due_rows was))
+        (lifted (λ row. passes ForeignKey docket_schema next ends row ≡ true) (all_weaker (λ r. passes ForeignKey docket_schema db ends r ≡ true) _ referred_after due_rows was))
       where
         referred_after : (r : Row) → passes ForeignKey docket_schema db ends r ≡ true → passes ForeignKey docket_schema next ends (after r) ≡ true
         referred_after r was = ap₂ (λ (parents : List Row) (row : Row). list_all (has_parent docket_schema.tables (λ _. parents) row) ends.references) deadlines (core_after r) ∙ was
 
     news_are : AllByRecursion IsNew edit.news
     news_are =
-        let all_new = all_each IsNumbered (λ r. IsNew (moved r)) new_row hits (all-filter IsNumbered matches due_rows numbered_rows) in
+        let all_new = all_weaker IsNumbered (λ r. IsNew (moved r)) new_row hits (all-filter IsNumbered matches due_rows numbered_rows) in
         subst (AllByRecursion IsNew) (sym news_is) (recursion_from_All IsNew _ (All-permutation IsNew _ _ news_same (All-from_recursion IsNew _ (all-map IsNew moved hits all_new))))
 
     each_new : (p : Row → Bool) → ((a b c : ℤ) → p (Int a ∷ Int b ∷ Int c ∷ Int day ∷ Int moment ∷ []) ≡ true) → list_all p edit.news ≡ true
-    each_new p h = all_pass p edit.news (all_each IsNew (λ s. p s ≡ true) (λ s new. subst (λ x. p x ≡ true) (sym new.3) (h new.0 new.1 new.2)) edit.news news_are)
+    each_new p h = all_pass p edit.news (all_weaker IsNew (λ s. p s ≡ true) (λ s new. subst (λ x. p x ≡ true) (sym new.3) (h new.0 new.1 new.2)) edit.news news_are)
 
     -- the rowids are those that were there
     ids_fit : HasFitIds db → list_all (λ r. fits_i64 (id_in (rowid r))) edit.news ≡ true

@@ -49,11 +49,6 @@ pub gives_weaker : {S : Type 0} (g : Ghosts S) {X : Type 0} (new : Held S) (rows
 gives_weaker g new rows P Q (Ok x) f h = (h.0, λ clean. f x (h.1 clean))
 gives_weaker g new rows P Q (Err e) f h = h
 
--- the same where the disk is clean
-pub gives_clean : {S : Type 0} (g : Ghosts S) {X : Type 0} (new : Held S) (rows : Rows) (P Q : X → Type 0) (res : Result X ReadFault) → (HasCleanDisk (state g new) → (x : X) → P x → Q x) → Gives g new rows P res → Gives g new rows Q res
-gives_clean g new rows P Q (Ok x) f h = (h.0, λ clean. f clean x (h.1 clean))
-gives_clean g new rows P Q (Err e) f h = h
-
 pub read_ok : {X : Type 0} (answer : X → Type 0) (result : Result X ReadFault) (x : X) → result ≡ Ok x → answer x → IsReadAs answer result
 read_ok answer result x is holds = subst (IsReadAs answer) (sym is) holds
 

@@ -58,10 +58,6 @@ not_or : (a b : Bool) → (not a && not b) ≡ not (a || b)
 not_or true b = refl
 not_or false b = refl
 
-or_no : (b : Bool) → (b || false) ≡ b
-or_no true = refl
-or_no false = refl
-
 -- what is taken by rowids
 taken : (ids : List ℤ) (rows : List Row) → without_all rows ids ≡ filter (λ r. not (list_any (λ i. has_rowid i r) ids)) rows
 taken [] rows = sym (filter_all _ rows (all_of _ (λ r. refl) rows))

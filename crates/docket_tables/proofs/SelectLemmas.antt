@@ -49,7 +49,7 @@ pub record Answered (keep : Row → Bool) (picks : Row → Row) (keys : List Key
 pub not_overlaid : (db : Trees) (t : ℕ) → overlay db [] t ≡ db t
 not_overlaid db t = elim (nat_le (2 ^ 31) t) as (λ b. unwrap_or (cond {A = Option (List Row)} b None None) (db t) ≡ db t) [ true ↦ refl | false ↦ refl ]
 
-sorted_shown : (cmp : Row → Row → Ordering) (picks : Row → Row) (all : List Output) → All (λ o. o.0 ≡ picks o.1) all → IsSorted (on (λ o. o.0) cmp) all → IsSorted (on picks cmp) (map (λ o. o.1) all)
+pub sorted_shown : (cmp : Row → Row → Ordering) (picks : Row → Row) (all : List Output) → All (λ o. o.0 ≡ picks o.1) all → IsSorted (on (λ o. o.0) cmp) all → IsSorted (on picks cmp) (map (λ o. o.1) all)
 sorted_shown cmp picks all each sorted k d low high =
     let inside : k + 1 < length all = rw length-map at high in
     let e : Output = (picks d, d) in

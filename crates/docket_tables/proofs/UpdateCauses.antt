@@ -39,16 +39,16 @@ use Rattle.docket_tables.specs.Holds.{KeepsOthers, plain_query}
 use Rattle.docket_tables.specs.declared.table.Table.TheVariants.{Cases, Parties, Entries, Deadlines, Acts, Due}
 use Rattle.sqlite_schema.specs.declared.schema.Constraint.TheVariants.{Unique, ForeignKey}
 use Rattle.docket_tables.proofs.LayoutLemmas.{apart, others_same}
-use Rattle.sqlite_trees.proofs.ListLemmas.{all_of}
+use Rattle.sqlite_trees.proofs.ListLemmas.{all_of, all_weaker}
 use Rattle.sqlite_trees.specs.Tree.{with_tree}
 use Rattle.std.proofs.lemmas.Bool.Decides.{nat_tests}
+use Rattle.std.proofs.lemmas.Bool.{and_from}
 use Rattle.sqlite.specs.Term.{Term, lit}
 use Rattle.sqlite.specs.declared.types.Value.TheVariants.{Int}
 use lib.Ieee.{is_nan}
 use Rattle.std.specs.Float.{NotNan}
-use Rattle.docket_tables.proofs.HoldsLemmas.{all_each, and_yes}
+use Rattle.docket_tables.proofs.HoldsLemmas.{and_yes}
 use Rattle.sqlite_rules.specs.declared.error.Refusal.TheVariants.{NoRowid}
-use Rattle.sqlite_value.specs.Keys.{plain}
 
 -- what is left: a limit on steps was set, and came
 abbrev pub IsHalted : Option ℕ → Option Error → Type 0
@@ -152,7 +152,7 @@ module _ (table : Shape) (old new : Trees) (P R : Shape → Row → Type 0) (her
   still (t ∷ ts) parted kept step all = (one parted.0, still ts parted.1 kept.1 step.1 all.1)
     where
       one : ((t.tree == table.tree) ≡ false) ⊎ (t ≡ table) → AllByRecursion (R t) (new t.tree)
-      one (inl other) = let same = kept.0 (apart t.tree table.tree other) in subst (AllByRecursion (R t)) (sym same) (all_each (P t) (R t) (step.0 same) (old t.tree) all.0)
+      one (inl other) = let same = kept.0 (apart t.tree table.tree other) in subst (AllByRecursion (R t)) (sym same) (all_weaker (P t) (R t) (step.0 same) (old t.tree) all.0)
       one (inr is) = subst (λ (x : Shape). AllByRecursion (R x) (new x.tree)) (sym is) here
 
 -- one tree with other rows, the others as they were
@@ -208,10 +208,7 @@ keeps_parents table old new parted kept cases_apart deadlines_apart was here =
 -- references that fit whatever an edit adds and removes
 pub referred : (table : Shape) → list_all (is_key_of docket_schema) table.references ≡ true → list_all (λ (t : Shape). list_all (is_key_if_to docket_schema table) t.references) docket_schema.tables ≡ true
     → (adds removes : Bool) → references_fit docket_schema table adds removes ≡ true
-referred table own others true true = and_both own others
-  where
-    and_both : {b c : Bool} → b ≡ true → c ≡ true → (b && c) ≡ true
-    and_both h k = rw (h, k) refl
+referred table own others true true = and_from _ _ own others
 referred table own others true false = and_yes _ ∙ own
 referred table own others false true = others
 referred table own others false false = refl

@@ -1,23 +1,15 @@
 -- The days of a year are those whose date has that year.
-use Rattle.std.proofs.Common.{◌≡◌, ◌↔◌, ℕ, ◌+◌, ◌-◌, ◌<◌, ◌≤◌, ℤ, pos, unsigned_abs, inl, inr, refl, sym, ap, ◌∙◌, subst, arith, Contains}
-use Rattle.std.proofs.lemmas.Bool.{cases_lt}
+use Rattle.std.proofs.Common.{◌≡◌, ◌↔◌, ℕ, ◌+◌, ◌-◌, ◌<◌, ◌≤◌, ℤ, pos, unsigned_abs, refl, sym, ap, ◌∙◌, arith, Contains}
 use Rattle.std.proofs.lemmas.List.FromFn.{length-range_with_len, get_or-range_with_len}
 use Rattle.std.specs.List.Sorted.{IsStrictlyIncreasing}
 use Rattle.jiff_core.specs.Calendar.{day_count, days_from_civil, days_in_year}
 use Rattle.jiff_core.proofs.SignedLemmas.{signed_arith}
-use Rattle.jiff_core.proofs.CalendarLemmas.{days_from_civil-day_count, day_count-epoch, day_count-later_year, day_count-next_year, day_count-day_of_year, day_of_year_bound, day_count-year_is, day_count-year_bounds}
+use Rattle.jiff_core.proofs.CalendarLemmas.{days_from_civil-day_count, day_count-later_year, day_count-next_year, day_count-day_of_year, day_of_year_bound, day_count-year_is, day_count-year_bounds}
 use Rattle.jiff_core.proofs.MarchLemmas.{day_count-early}
 use Rattle.civil_time.specs.Civil.{day_at}
 use Rattle.civil_time.proofs.DateOf.{date_of_day}
+use Rattle.civil_time.proofs.MonthDays.{year_from}
 use Rattle.docket_text.specs.HolidayTexts.{days_of_year, IsOfYear}
-
--- how many days lie between the first day of the calendar and a new year
-new_year_count : (year : ℕ) → 1970 ≤ year → 4_371_953 ≤ day_count (pos year) 1 1
-new_year_count year low =
-    elim (cases_lt 1970 year) [
-      | inl lt ↦ omega (arith, day_count-later_year (pos 1970) (pos year) (omega (arith, signed_arith)) (omega (arith, signed_arith)), day_count-epoch)
-      | inr ge ↦ let same : 1970 ≡ year = omega arith in subst (λ (y : ℕ). 4_371_953 ≤ day_count (pos y) 1 1) same (omega (arith, day_count-epoch))
-    ]
 
 whole : (z : ℤ) (n : ℕ) → z ≡ pos n → unsigned_abs z ≡ n
 whole z n e = ap unsigned_abs e
@@ -26,7 +18,7 @@ new_year : (year : ℕ) → 1970 ≤ year → day_at year 1 1 + 4_371_953 ≡ da
 unfolding day_at
 new_year year low =
     let count = days_from_civil-day_count (pos year) 1 1 in
-    let enough = new_year_count year low in
+    let enough = year_from year low in
     let is : days_from_civil (pos year) 1 1 ≡ pos (day_count (pos year) 1 1 - 4_371_953) = omega (arith, signed_arith, count, enough) in
     omega (arith, whole _ _ is, enough)
 

@@ -1,6 +1,5 @@
 pub mod CanonicalLemmas
 pub mod CompactLemmas
-pub mod DayLemmas
 pub mod FaultLemmas
 pub mod MemberLemmas
 pub mod ReadingLemmas

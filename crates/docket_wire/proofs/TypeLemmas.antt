@@ -9,7 +9,7 @@ use Rattle.civil_time.specs.Zone.{IsZone}
 use Rattle.civil_time.proofs.DayTexts.{spells-text, day_of_text-spelled}
 use Rattle.civil_time.proofs.MomentGrammarLemmas.{moment_at-spelled}
 use Rattle.civil_time.proofs.ReadingLemmas.{clock_at-clock_text}
-use Rattle.civil_time.proofs.Written.{clock_text-utf8, moment_text-spells, moment_text-utf8}
+use Rattle.civil_time.proofs.Written.{clock_text-utf8, moment_text-spells, moment_text-utf8, day_text-utf8}
 use Rattle.civil_time.specs.MomentText.{clock_text}
 use Rattle.civil_time.specs.Reading.{◌>>=◌, time_of_day_at}
 use Rattle.serde_json.specs.View.{items_of}
@@ -53,7 +53,6 @@ use Rattle.docket_wire.specs.Reading.{is_known, new_day_at, new_days_of, meaning
 use Rattle.docket_wire.specs.Valid.{IsNewDay, IsLawful}
 use Rattle.docket_wire.specs.Writing.{written_as, new_day_data, new_day_members}
 use Rattle.docket_wire.proofs.CompactLemmas.{Reads, Reads-string, Reads-boolean, Reads-number, Reads-array, Reads-put_all, AllItems-of}
-use Rattle.docket_wire.proofs.DayLemmas.{day_text_utf8}
 
 -- ---- days and moments
 
@@ -141,7 +140,7 @@ way_utf8 way.Electronic = IsUtf8-are_ascii _ refl
 way_utf8 _ = IsUtf8-are_ascii _ refl
 
 new_day_reads : (n : NewDay) → IsNewDay n → Reads 1 (new_day_data n)
-new_day_reads n h = Reads-put_all 0 (new_day_members n) field_utf8 (Reads-string 0 _ (day_kind_utf8 n.kind), (Reads-string 0 _ (day_text_utf8 n.day), (Reads-string 0 _ h.1, tt)))
+new_day_reads n h = Reads-put_all 0 (new_day_members n) field_utf8 (Reads-string 0 _ (day_kind_utf8 n.kind), (Reads-string 0 _ (day_text-utf8 n.day), (Reads-string 0 _ h.1, tt)))
 
 -- ---- each type
 
@@ -170,7 +169,7 @@ type_back of.Way x h = way_back x
 
 pub type_reads : (t : FieldType) (x : ValueOf t) → IsLawful t x → Reads 2 (written_as t x)
 type_reads of.Number x h = Reads-number 2 x (omega (arith, h))
-type_reads of.Day x h = Reads-string 2 _ (day_text_utf8 x)
+type_reads of.Day x h = Reads-string 2 _ (day_text-utf8 x)
 type_reads of.Moment x h = Reads-string 2 _ (moment_text-utf8 utc utc_is x)
 type_reads of.TimeOfDay x h = Reads-string 2 _ (clock_text-utf8 x h)
 type_reads of.Flag x h = Reads-boolean 2 x

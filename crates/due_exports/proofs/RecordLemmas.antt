@@ -1,8 +1,7 @@
 -- A record with CR LF behind it, as csv's reader with its defaults reads it.
-use Rattle.std.specs.Prelude.{◌||◌}
-use Rattle.std.proofs.Common.{◌≡◌, ◌==◌, ◌++◌, ◌∷◌, ◌∙◌, [], ℕ, List, Bool, Some, None, refl, ap, subst, true, false, append_assoc, inl, inr}
+use Rattle.std.proofs.Common.{◌≡◌, ◌==◌, ◌++◌, ◌∷◌, ◌∙◌, [], ℕ, List, Some, None, refl, ap, subst, false, append_assoc, inl, inr}
 use Rattle.std.specs.List.{list_any}
-use Rattle.std.proofs.lemmas.Bool.{cases_Bool}
+use Rattle.std.proofs.lemmas.Bool.{cases_Bool, false_from_ne_true, or_parts}
 use Rattle.csv.specs.Machine.{next_record}
 use Rattle.csv.specs.Reading.{default_config}
 use Rattle.csv.specs.Writing.{default_writer, escaped, field_text, fields_text, is_blank, needs_byte, row_text}
@@ -24,21 +23,13 @@ unfolding fields_text
 fields-same [] = refl
 fields-same (x ∷ xs) = rw (field-same x, fields-same xs) refl
 
-or-left : (a b : Bool) → (a || b) ≡ false → a ≡ false
-or-left false b e = refl
-or-left true b e = cc e
-
 -- a byte that calls for no quotes is no mark of the format
-not-true : (x : Bool) → (x ≡ true → ⊥) → x ≡ false
-not-true true n = absurd (n refl)
-not-true false n = refl
-
 plain-byte : (b : ℕ) → needs_byte default_writer b ≡ false → ((b == 13) ≡ false) × ((b == 10) ≡ false)
 plain-byte b e =
-    let a = not-true (b == 44) (λ t. cc (rw t at e)) in
-    let q = not-true (b == 34) (λ t. cc (rw (a, t) at e)) in
-    let r = not-true (b == 13) (λ t. cc (rw (a, q, t) at e)) in
-    let n = not-true (b == 10) (λ t. cc (rw (a, q, r, t) at e)) in
+    let a = false_from_ne_true (b == 44) (λ t. cc (rw t at e)) in
+    let q = false_from_ne_true (b == 34) (λ t. cc (rw (a, t) at e)) in
+    let r = false_from_ne_true (b == 13) (λ t. cc (rw (a, q, t) at e)) in
+    let n = false_from_ne_true (b == 10) (λ t. cc (rw (a, q, r, t) at e)) in
     (r, n)
 
 -- a comma ends a field
@@ -84,7 +75,7 @@ first-plain : (x : List ℕ) (tail : List ℕ) → list_any (needs_byte default_
     → next_record default_config st.StartRecord [] [] (x ++ (44 ∷ tail)) ≡ next_record default_config st.StartField [] [] (x ++ (44 ∷ tail))
 first-plain [] tail p = record-same [] [] 44 tail refl refl
 first-plain (b ∷ rest) tail p =
-    let q = plain-byte b (or-left _ _ p) in
+    let q = plain-byte b (or_parts _ _ p).0 in
     record-same [] [] b (rest ++ (44 ∷ tail)) q.0 q.1
 
 first-field : (x : List ℕ) (tail : List ℕ)

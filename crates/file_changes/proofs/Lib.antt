@@ -1,4 +1,4 @@
 mod ApplyLemmas
 mod MigrateLemmas
-mod RunLemmas
+pub mod RunLemmas
 mod StandLemmas

@@ -3,6 +3,7 @@ use Rattle.std.proofs.Common.{◌≡◌, ◌∙◌, inl, inr, ℕ, ◌≤◌, Li
 use Rattle.std.proofs.Math.Seq.{take-append_seam}
 use Rattle.std.proofs.lemmas.List.{take-append-le, take-append-drop}
 use Rattle.std.specs.Io.KnownBytes.{Appends}
+use Rattle.std.proofs.KnownBytes.{Appends-nil}
 use Rattle.sqlite_disk.specs.declared.Disk.{Ghosts as Disk}
 use Rattle.sqlite_wal.specs.Recovery.{Image}
 use Rattle.sqlite.specs.Store.{Ghosts}
@@ -63,10 +64,6 @@ front : (a ys out lost : List ℕ) → a ++ ys ≡ out ++ lost → length a ≤ 
 front a ys out lost same within =
     let is : a ≡ take (length a) out = sym (take-append_seam a ys) ∙ ap (take (length a)) same ∙ take-append-le (length a) out lost within in
     sym (take-append-drop (length a) out) ∙ ap (λ t. t ++ drop (length a) out) (sym is)
-
-appends_none : (known : Option (List ℕ)) → Appends known known []
-appends_none None = tt
-appends_none (Some xs) = sym (append-nil xs)
 
 breaks_map : {S : Type 0} {answer_to : S → List ℕ → LineAnswer S} (L M : S → S → Type 0) → ((before next : S) → L before next → M before next)
     → (most : ℕ) (s : S) (lines : List (List ℕ)) (old new : Option (List ℕ)) → BreaksOff answer_to L most s lines old new → BreaksOff answer_to M most s lines old new
@@ -220,7 +217,7 @@ module _ {S : Type 0} (g : Ghosts S) (conn : Held S) where
       whole = refl;
       one_more = omega arith;
       out = [];
-      appends = subst (λ now. Appends before now []) (sym same) (appends_none before);
+      appends = subst (λ now. Appends before now []) (sym same) (Appends-nil before);
       begun = [];
       acknowledged = refl;
       lost = [];

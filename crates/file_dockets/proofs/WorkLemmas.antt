@@ -1,6 +1,5 @@
 -- What a job on a docket came to, and what its connection holds.
-use Rattle.std.proofs.Common.{◌≡◌, Result, Ok, Err, IfErr, IsErrAnd, OnOk, subst, sym}
-use Rattle.std.proofs.lemmas.Result.{IfErr-weaker, on_ok_weaker}
+use Rattle.std.proofs.Common.{◌≡◌, Result, Ok, Err, subst, sym}
 use Rattle.sqlite.specs.Store.{Ghosts}
 use Rattle.sqlite.specs.Held.{Held, state}
 use Rattle.sqlite.specs.State.{HasCleanDisk}
@@ -12,21 +11,6 @@ use Rattle.docket_store.specs.Opening.{IsNotAdopted}
 use Rattle.file_dockets.specs.Keeping.{HoldsBetween}
 use Rattle.file_dockets.specs.Works.{WorksTo}
 use Rattle.file_dockets.proofs.KeepLemmas.{held, lasting}
-
--- what is so of an error is so of the result that tells it
-pub err_told : {T E : Type 0} (P : E → Type 0) (r : Result T E) (e : E) → IsErrAnd r (λ f. f ≡ e) → P e → IfErr r P
-err_told P (Ok x) e told p = absurd told
-err_told P (Err f) e told p = subst P (sym told) p
-
-pub any_err : {T F : Type 0} (P : Type 0) (r : Result T F) → P → IfErr r (λ _. P)
-any_err P (Ok x) is = tt
-any_err P (Err fault) is = is
-
-pub err_map : {T F : Type 0} (P Q : F → Type 0) → ((fault : F) → P fault → Q fault) → (now was : Result T F) → now ≡ was → IfErr was P → IfErr now Q
-err_map P Q then now was same is = subst (λ r. IfErr r Q) (sym same) (IfErr-weaker was P Q then is)
-
-pub made_map : {T F : Type 0} (P Q : Type 0) → (P → Q) → (now was : Result T F) → now ≡ was → OnOk was P → OnOk now Q
-made_map P Q then now was same is = subst (λ r. OnOk r Q) (sym same) (on_ok_weaker was then is)
 
 pub works_map : {T : Type 0} (P Q : T → Type 0) → ((done : T) → P done → Q done) → (outcome : Result T AdoptFault) → WorksTo P outcome → WorksTo Q outcome
 works_map P Q then (Ok done) is = then done is

@@ -131,11 +131,7 @@ label_first h label part (row ∷ rows) =
     (with_party h part (of_label label rows)) (with_party h part (row ∷ of_label label rows)) (label_first h label part rows) refl
     ∙ with_if h part (bytes_eq row.label label) row (of_label label rows)
 
--- what is told of one case, by the test of it
-pub told_of_one : (h : History) (part : Option (List ℕ)) (row : CaseRow) (has : Bool) → has ≡ has_party h part row.number → with_party h part (row ∷ []) ≡ cond has (row ∷ []) []
-told_of_one h part row has is = ap (λ (b : Bool). cond b (row ∷ []) []) (sym is)
-
--- and of a label, by the case that is found
+-- what is told of a label, by the case that is found
 pub told_of_label : (court : CourtSettings) (h : History) → IsHistory court h → (label : List ℕ) (part : Option (List ℕ)) (found : Option CaseRow) → found ≡ case_labelled (case_rows h) label
     → cases_told h (Some label) part ≡ with_party h part (found_list found)
 told_of_label court h history label part found is =

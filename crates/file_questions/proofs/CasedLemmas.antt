@@ -1,12 +1,11 @@
 -- Each deadline that falls due has its case.
-use Rattle.std.proofs.Common.{◌≡◌, ◌==◌, ℕ, ◌<◌, ◌≤◌, ◌⊎◌, Bool, true, false, cond, inl, inr, suc, zero, List, [], ◌∷◌, length, Some, None, sym, ap, subst, ◌∙◌, arith, unwrap_or}
+use Rattle.std.proofs.Common.{◌≡◌, ℕ, ◌<◌, ◌≤◌, ◌⊎◌, inl, inr, suc, zero, List, [], ◌∷◌, length, Some, None, sym, ap, subst, ◌∙◌, arith, unwrap_or}
 use Rattle.std.specs.List.{AllByRecursion}
 use Rattle.std.specs.Prelude.{get_or}
-use Rattle.std.proofs.lemmas.Bool.Decides.{nat_tests}
 use Rattle.std.proofs.lemmas.List.Elements.{All-from_recursion, All-get_or}
 use Rattle.std.proofs.lemmas.List.Sorted.{All-permutation}
 use Rattle.std.proofs.lemmas.Option.{none-some, slice_get-get_or}
-use Rattle.sqlite_trees.proofs.ListLemmas.{all-filter, all-flat_map}
+use Rattle.sqlite_trees.proofs.ListLemmas.{all-filter, all-flat_map, all_weaker}
 use Rattle.court_days.specs.Court.{CourtSettings}
 use Rattle.court_rules.specs.declared.act.Standing.{Standing}
 use Rattle.court_rules.specs.declared.act.Standing.TheVariants.{Running, Suspended, Awaiting, Done, Vacated}
@@ -19,22 +18,10 @@ use Rattle.docket_history.specs.declared.row.CaseRow.{CaseRow}
 use Rattle.docket_history.specs.declared.row.DeadlineRow.{DeadlineRow}
 use Rattle.docket_decisions.specs.EndRows.{calendar_in}
 use Rattle.docket_orderly.proofs.DeadlineLemmas.{no_deadlines}
+use Rattle.docket_orderly.proofs.EndLemmas.{of_each}
 use Rattle.docket_calendar.specs.Calendar.{calendar_rows, due_of, due_within, row_where, running}
 use Rattle.docket_calendar.proofs.HistoryLemmas.{is_calendar}
 use Rattle.file_questions.specs.Exports.{HaveCases, IsCase, case_of, no_case}
-
--- what holds of the deadlines of each case holds of all
-of_each : (P : ℕ → DeadlineRow → Type 0) (ds : List DeadlineRow) → ((k : ℕ) → AllByRecursion (P k) (deadlines_of_case k ds)) → AllByRecursion (λ d. P d.case d) ds
-of_each P [] all = tt
-of_each P (d ∷ ds) all = (first (d.case == d.case) (grind (arith, nat_tests)) (all d.case), of_each P ds (λ k. rest k (d.case == k) (all k)))
-  where
-    first : (b : Bool) → b ≡ true → AllByRecursion (P d.case) (cond b (d ∷ deadlines_of_case d.case ds) (deadlines_of_case d.case ds)) → P d.case d
-    first true e h = h.0
-    first false e h = absurd (let no = e in cc)
-
-    rest : (k : ℕ) (b : Bool) → AllByRecursion (P k) (cond b (d ∷ deadlines_of_case k ds) (deadlines_of_case k ds)) → AllByRecursion (P k) (deadlines_of_case k ds)
-    rest k true h = h.1
-    rest k false h = h
 
 in_range : (n k : ℕ) → ((1 ≤ k) × (k ≤ n)) ⊎ ((k < 1) ⊎ (n < k))
 in_range n zero = inr (inl (omega arith))
@@ -46,10 +33,6 @@ in_range (suc n) (suc (suc k)) = more (in_range n (suc k))
     more (inl h) = inl (omega arith, omega (arith, h.1))
     more (inr (inl h)) = absurd (omega (arith, h))
     more (inr (inr h)) = inr (inr (omega (arith, h)))
-
-all_weaker : {X : Type 0} (P Q : X → Type 0) → ((x : X) → P x → Q x) → (xs : List X) → AllByRecursion P xs → AllByRecursion Q xs
-all_weaker P Q then [] all = tt
-all_weaker P Q then (x ∷ xs) all = (then x all.0, all_weaker P Q then xs all.1)
 
 all_so : {X : Type 0} (P : Type 0) → P → (xs : List X) → AllByRecursion (λ (x : X). P) xs
 all_so P p [] = tt

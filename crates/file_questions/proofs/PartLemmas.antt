@@ -1,8 +1,9 @@
 -- A part stands in a text just where the test finds it.
-use Rattle.std.proofs.Common.{◌≡◌, ◌∙◌, ◌↔◌, inl, inr, ℕ, Bool, true, false, List, [], ◌∷◌, ◌++◌, length, take, drop, refl, sym, ap, take-append-drop}
+use Rattle.std.proofs.Common.{◌≡◌, ◌∙◌, ◌↔◌, inl, inr, ℕ, Bool, true, List, [], ◌∷◌, ◌++◌, length, take, drop, sym, ap, take-append-drop}
 use Rattle.std.specs.Str.Iter.{HasSubslice}
 use Rattle.std.proofs.Math.Seq.{take-append_seam}
 use Rattle.std.proofs.lemmas.Bool.{or_cases, or_left, or_right}
+use Rattle.std.proofs.lemmas.Bool.Decides.{same_from_decides}
 use Rattle.std.proofs.lemmas.Slice.Eq.{bytes_eq-Decides}
 use Rattle.file_questions.specs.CaseLists.{begins, holds}
 
@@ -38,12 +39,6 @@ module _ (part : List ℕ) where
   pub holds-means : (text : List ℕ) → (holds part text ≡ true) ↔ HasSubslice text part
   holds-means text = (stands text, λ (a, b, is). found text a b is)
 
-same_test : (a b : Bool) → (a ≡ true → b ≡ true) → (b ≡ true → a ≡ true) → a ≡ b
-same_test true b there back = sym (there refl)
-same_test false true there back = back refl
-same_test false false there back = refl
-
 -- a test that tells this is the same test
 pub holds-is : (test : Bool) (part text : List ℕ) → (test ≡ true) ↔ HasSubslice text part → test ≡ holds part text
-holds-is test part text means =
-    same_test test (holds part text) (λ e. (holds-means part text).1 (means.0 e)) (λ e. means.1 ((holds-means part text).0 e))
+holds-is test part text means = same_from_decides test (holds part text) means (holds-means part text)

@@ -1,5 +1,5 @@
 -- What was taken, piece after piece.
-use Rattle.std.proofs.Common.{◌≡◌, ℕ, ◌+◌, ◌-◌, ◌<◌, List, [], ◌++◌, length, take, drop, refl, ap, sym, ◌∙◌, append_assoc, length-append, length-drop, Option, Some, None, rules, arith}
+use Rattle.std.proofs.Common.{◌≡◌, ℕ, ◌+◌, ◌-◌, ◌<◌, List, [], ◌++◌, length, take, drop, ap, sym, ◌∙◌, append_assoc, length-append, length-drop, Option, rules, arith}
 use Rattle.std.proofs.Math.Seq.{drop-append_seam}
 use Rattle.http_request.specs.declared.head.Scan.{Scan}
 use Rattle.http_request.specs.declared.head.HeadSearch.{HeadSearch}
@@ -7,27 +7,17 @@ use Rattle.http_request.specs.declared.head.HeadSearch.TheVariants.{More}
 use Rattle.std.proofs.lemmas.Grind.{common_steps}
 use Rattle.http_request.specs.Head.{head_of, found_over, start}
 use Rattle.http_request.proofs.HeadLemmas.{found_over-more}
-use Rattle.std.specs.Io.KnownBytes.{Consumes}
+use Rattle.std.proofs.KnownBytes.{Consumes-nil, Consumes-trans}
 use Rattle.http_request.specs.Input.{Takes}
 
-pub Consumes-append : (a b c : Option (List ℕ)) (x y : List ℕ) → Consumes a b x → Consumes b c y → Consumes a c (x ++ y)
-Consumes-append None b c x y h k = tt
-Consumes-append (Some p) None c x y h k = absurd h
-Consumes-append (Some p) (Some q) None x y h k = absurd k
-Consumes-append (Some p) (Some q) (Some r) x y h k = h ∙ ap (λ z. x ++ z) k ∙ sym (append_assoc x y r)
-
-pub Consumes-none : (a : Option (List ℕ)) → Consumes a a []
-Consumes-none None = tt
-Consumes-none (Some p) = refl
-
 pub Takes-none : (a : Option (List ℕ)) (x : List ℕ) → Takes a a x x
-Takes-none a x = record { piece = []; grows = search rules; consumes = Consumes-none a }
+Takes-none a x = record { piece = []; grows = search rules; consumes = Consumes-nil a }
 
 pub Takes-then : (a b c : Option (List ℕ)) (x y z : List ℕ) → Takes a b x y → Takes b c y z → Takes a c x z
 Takes-then a b c x y z h k = record {
   piece = h.piece ++ k.piece;
   grows = k.grows ∙ ap (λ s. s ++ k.piece) h.grows ∙ append_assoc x h.piece k.piece;
-  consumes = Consumes-append a b c h.piece k.piece h.consumes k.consumes;
+  consumes = Consumes-trans a b c h.piece k.piece h.consumes k.consumes;
 }
 
 -- what a slice from a place to the end holds

@@ -5,6 +5,7 @@ use Rattle.std.specs.Char.{is_ascii_digit, digit_value}
 use Rattle.std.specs.Str.Parse.{digits_value, digits_value_after}
 use Rattle.std.specs.List.{list_all}
 use Rattle.std.proofs.lemmas.Bool.Decides.{nat_tests}
+use Rattle.std.proofs.lemmas.Bool.{and_parts}
 use Rattle.http_request.specs.Number.{are_digits, digits_of}
 
 grows : (n : ℕ) (text : List ℕ) → n ≤ digits_value_after 10 n text
@@ -19,15 +20,11 @@ third true true z h = h
 third true false z h = absurd (cc)
 third false y z h = absurd (cc)
 
-first : (x y : Bool) → (x && y) ≡ true → x ≡ true
-first true y h = refl
-first false y h = absurd (cc)
-
 positive : (text : List ℕ) → are_digits text ≡ true → get_or text 0 0 ≢ 48 → 1 ≤ digits_value 10 text
 positive [] d h = absurd (cc)
 positive (b ∷ text) d h =
     let all : list_all is_ascii_digit (b ∷ text) ≡ true = third (nat_lt 0 (length (b ∷ text))) (nat_le (length (b ∷ text)) 10) (list_all is_ascii_digit (b ∷ text)) d in
-    let digit : 1 ≤ digit_value b = digit-positive b (first (is_ascii_digit b) (list_all is_ascii_digit text) all) h in
+    let digit : 1 ≤ digit_value b = digit-positive b (and_parts (is_ascii_digit b) (list_all is_ascii_digit text) all).0 h in
     let more : 0 * 10 + digit_value b ≤ digits_value_after 10 (0 * 10 + digit_value b) text = grows (0 * 10 + digit_value b) text in
     omega (arith, digit, more)
 

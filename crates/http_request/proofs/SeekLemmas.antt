@@ -1,7 +1,7 @@
 -- Which route a router of literal rows finds, by the text of the path.
 use Rattle.std.proofs.Common.{◌≡◌, ℕ, ◌+◌, ◌-◌, List, [], ◌∷◌, ◌++◌, length, drop, length-append, refl, ap, sym, subst, ◌∙◌, Option, Some, None, Bool, true, false, cond, ◌==◌, ◌&&◌, zero, suc, ltb, nat_eq, eqb, arith}
 use Rattle.std.proofs.Math.Seq.{drop-append_seam}
-use Rattle.std.proofs.lemmas.Bool.{lt-ltb, eqb-true, eqb-false, ne_eqb}
+use Rattle.std.proofs.lemmas.Bool.{and_from, and_right, eqb-false, eqb-true, lt-ltb, ne_eqb}
 use Rattle.std.specs.Cmp.Lexicographic.{pointwise}
 use Rattle.matchit.specs.Rows.{RowsOf, param_token, catch_all_token}
 use Rattle.matchit.specs.Seek.{seek, step, own, or_else, param_step, segment, has_slash, with_suffix, cuts}
@@ -255,21 +255,14 @@ ends-free zero (b ∷ text) h =
     ap (λ v. v && pointwise nat_eq [] text) other
 ends-free (suc n) (b ∷ text) h = ends-free n text (ends-cond (b == 47) (has_slash text) h).1
 
-and-false : (c d : Bool) → d ≡ false → (c && d) ≡ false
-and-false true d e = e
-and-false false d e = refl
-
-and-true : (c d : Bool) → c ≡ true → d ≡ true → (c && d) ≡ true
-and-true c d e f = ap (λ x. x && d) e ∙ f
-
 cuts-free : (text : List ℕ) → has_slash text ≡ false → cuts text (47 ∷ []) ≡ false
-cuts-free text h = and-false (ltb 1 (length text)) (pointwise nat_eq (47 ∷ []) (drop (length text - 1) text)) (ends-free (length text - 1) text h)
+cuts-free text h = and_right (ltb 1 (length text)) (pointwise nat_eq (47 ∷ []) (drop (length text - 1) text)) (ends-free (length text - 1) text h)
 
 cuts-part : (c : ℕ) (part : List ℕ) → cuts ((c ∷ part) ++ 47 ∷ []) (47 ∷ []) ≡ true
 cuts-part c part =
     let long : length ((c ∷ part) ++ 47 ∷ []) ≡ length (c ∷ part) + 1 = length-append (c ∷ part) (47 ∷ []) in
     let n : length ((c ∷ part) ++ 47 ∷ []) - 1 ≡ length (c ∷ part) = omega (arith, long) in
-    and-true (ltb 1 (length ((c ∷ part) ++ 47 ∷ []))) (pointwise nat_eq (47 ∷ []) (drop (length ((c ∷ part) ++ 47 ∷ []) - 1) ((c ∷ part) ++ 47 ∷ [])))
+    and_from (ltb 1 (length ((c ∷ part) ++ 47 ∷ []))) (pointwise nat_eq (47 ∷ []) (drop (length ((c ∷ part) ++ 47 ∷ []) - 1) ((c ∷ part) ++ 47 ∷ [])))
     (lt-ltb 1 (length ((c ∷ part) ++ 47 ∷ [])) (omega (arith, long)))
     (ap (λ m. pointwise nat_eq (47 ∷ []) (drop m ((c ∷ part) ++ 47 ∷ []))) n ∙ ap (λ xs. pointwise nat_eq (47 ∷ []) xs) (drop-append_seam (c ∷ part) (47 ∷ [])))
 

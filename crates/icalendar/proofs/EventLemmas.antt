@@ -7,11 +7,12 @@ use Rattle.std.proofs.lemmas.Str.{IsUtf8-append, IsUtf8-from_ascii}
 use Rattle.std.specs.List.{All}
 use Rattle.court_days.specs.declared.filing.End.{End}
 use Rattle.court_days.specs.declared.filing.End.TheVariants.{LastDay, Moment}
+use Rattle.civil_time.proofs.Written.{AreSmall, ascii_from}
 use Rattle.icalendar.specs.ContentLines.{begins_blank, named, IsLine}
 use Rattle.icalendar.specs.Events.{start_line, event_lines, head_lines, foot_lines}
 use Rattle.icalendar.specs.Texts.{text_value, IsInLine, HasNoBreak}
 use Rattle.icalendar.specs.Times.{date_value, told, digits_of_time, utc_value}
-use Rattle.icalendar.proofs.TimeLemmas.{AreSmall, ascii_from, date_value-utf8, utc_value-utf8}
+use Rattle.icalendar.proofs.TimeLemmas.{date_value-utf8, utc_value-utf8}
 use Rattle.icalendar.proofs.ValueLaws.{all_append, named_in_line, value_in_line, value_utf8}
 
 -- of a text that is written out: no byte ends a line, and each is ASCII

@@ -1,21 +1,12 @@
 -- The texts of dates and instants are ASCII, and the instants that are told.
-use Rattle.std.proofs.Common.{◌≡◌, ℕ, ◌+◌, ◌*◌, ◌/◌, ◌%◌, ◌<◌, ◌≤◌, List, [], ◌∷◌, ◌++◌, IsUtf8, refl, sym, ℤ, pos, negsuc, unsigned_abs, ◌<ℤ◌, ◌≤ℤ◌, arith}
-use Rattle.std.specs.Str.{IsAscii}
+use Rattle.std.proofs.Common.{◌≡◌, ℕ, ◌+◌, ◌*◌, ◌/◌, ◌%◌, ◌<◌, ◌≤◌, [], ◌∷◌, ◌++◌, IsUtf8, refl, sym, ℤ, pos, negsuc, unsigned_abs, ◌<ℤ◌, ◌≤ℤ◌, arith}
 use Rattle.std.proofs.lemmas.Int.{ints}
 use Rattle.std.proofs.lemmas.Str.{IsUtf8-append, IsUtf8-from_ascii}
-use Rattle.std.proofs.lemmas.Str.Ascii.{IsAscii-nil, IsAscii-cons}
 use Rattle.civil_time.specs.Civil.{HasYmd, year_of, month_of, day_of_month}
 use Rattle.civil_time.specs.MomentText.{two_digits}
 use Rattle.civil_time.proofs.DateOf.{date_of_day, year_of-is, month_of-is, day_of_month-is}
+use Rattle.civil_time.proofs.Written.{ascii_from}
 use Rattle.icalendar.specs.Times.{digits_of_date, date_value, told, digits_of_time, utc_value}
-
-abbrev pub AreSmall : List ℕ → Type 0
-AreSmall [] = Unit {0}
-AreSmall (x ∷ xs) = (x < 128) × AreSmall xs
-
-pub ascii_from : (bs : List ℕ) → AreSmall bs → IsAscii bs
-ascii_from [] h = IsAscii-nil
-ascii_from (x ∷ xs) h = IsAscii-cons x xs h.0 (ascii_from xs h.1)
 
 digit_small : (n : ℕ) → 48 + n % 10 < 128
 digit_small n = omega arith

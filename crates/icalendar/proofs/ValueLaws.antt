@@ -5,9 +5,9 @@ use Rattle.std.proofs.lemmas.Bool.Decides.{nat_tests}
 use Rattle.std.proofs.lemmas.Str.{encode_ascii, IsUtf8-append, IsUtf8-encode, IsUtf8-from_ascii, IsUtf8-nil}
 use Rattle.std.specs.List.{flat_map, AllByRecursion}
 use lib.Utf8.{scalar, scalars, encode, encodes}
+use Rattle.civil_time.proofs.Written.{AreSmall, ascii_from}
 use Rattle.icalendar.specs.ContentLines.{named}
 use Rattle.icalendar.specs.Texts.{single_breaks, plain_byte, plain_text, escaped_byte, text_value, meant_byte, read_behind, read_value, IsInLine, HasNoBreak, IsPlain}
-use Rattle.icalendar.proofs.TimeLemmas.{AreSmall, ascii_from}
 use Rattle.icalendar.proofs.Values.{escaped, Differs, single_breaks-other, wide_stands, char_stands, value_behind, value_end, value_skip, value_step}
 
 pub all_append : (P : ℕ → Type 0) (xs ys : List ℕ) → AllByRecursion P xs → AllByRecursion P ys → AllByRecursion P (xs ++ ys)

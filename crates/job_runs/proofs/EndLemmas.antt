@@ -1,9 +1,7 @@
 -- How a job on files ended, and what goes out of a text.
-use Rattle.std.proofs.Common.{◌≡◌, ℕ, List, [], Option, Some, None, Result, Ok, Err, IfErr, IfOk, IfSome, IsErr, IsOkAnd, MatchOption, MatchResult, OnOk, ◌∙◌, sym, subst, subst₂}
+use Rattle.std.proofs.Common.{◌≡◌, ℕ, List, Option, Some, None, Result, Ok, Err, IfErr, IfOk, IsErr, IsOkAnd, MatchOption, MatchResult, OnOk, ◌∙◌, sym, subst, subst₂}
 use Rattle.std.proofs.lemmas.Bool.{false≢true}
-use Rattle.std.proofs.lemmas.List.{append-nil}
 use Rattle.std.proofs.lemmas.Result.{IfErr-weaker}
-use Rattle.std.specs.Io.KnownBytes.{Appends}
 use Rattle.docket_scan.specs.declared.fault.AdoptFault.{AdoptFault}
 use Rattle.line_io.specs.Output.{AppendsFront}
 use Rattle.file_dockets.specs.Works.{WorksTo}
@@ -77,23 +75,6 @@ made_left (Err y) left_of Clean outcome K found left all is clean = absurd is
 -- something is left
 pub some_left : {L : Type 0} (o : Option L) (left : L) (N : Type 0) (Q : L → Type 0) → o ≡ Some left → Q left → MatchOption o N Q
 some_left o left N Q is holds = subst (λ o. MatchOption o N Q) (sym is) holds
-
-pub no_left : {L : Type 0} (o : Option L) (N : Type 0) (Q : L → Type 0) → o ≡ None → N → MatchOption o N Q
-no_left o N Q is holds = subst (λ o. MatchOption o N Q) (sym is) holds
-
--- nothing more went out
-pub nothing_more : (known : Option (List ℕ)) → Appends known known []
-nothing_more None = tt
-nothing_more (Some xs) = sym (append-nil xs)
-
--- of bytes that are known
-pub where_known : {A : Type 0} (known : Option A) (P Q : A → Type 0) → ((x : A) → P x → Q x) → IfSome known P → IfSome known Q
-where_known None P Q more holds = tt
-where_known (Some x) P Q more holds = more x holds
-
-pub whatever_known : {A : Type 0} (known : Option A) (Q : A → Type 0) → ((x : A) → Q x) → IfSome known Q
-whatever_known None Q all = tt
-whatever_known (Some x) Q all = all x
 
 -- a job that failed tells of nothing that is missing
 pub failed_otherwise : (line : List ℕ) (status : Status) (before after : Option (List ℕ)) → status ≡ Failed → SaysMissing line status before after

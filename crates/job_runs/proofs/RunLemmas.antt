@@ -2,6 +2,7 @@
 use Rattle.std.proofs.Common.{◌≡◌, ◌≢◌, ◌∙◌, ℕ, zero, suc, List, [], Option, Some, None, Result, Ok, Err, IfOk, IfSome, IsErr, IsOkAnd, MatchOption, MatchResult, refl, sym, ap, subst, subst₂, arith}
 use Rattle.std.proofs.lemmas.Bool.{false≢true}
 use Rattle.std.specs.Io.KnownBytes.{Appends}
+use Rattle.std.proofs.KnownBytes.{Appends-nil}
 use Rattle.docket_scan.specs.declared.fault.AdoptFault.{AdoptFault}
 use Rattle.docket_tables.specs.Layouts.{Rows}
 use Rattle.line_io.specs.Output.{AppendsFront, HasFront}
@@ -17,7 +18,7 @@ use Rattle.job_runs.specs.Jobs.{Runs, RunsInMemory}
 use Rattle.job_runs.specs.Runs.{TellsEnd}
 use Rattle.job_ends.specs.declared.status.Status.{Status}
 use Rattle.job_ends.specs.declared.status.Status.TheVariants.{Done, SomeBad, Failed}
-use Rattle.job_runs.proofs.EndLemmas.{nothing_more, some_left}
+use Rattle.job_runs.proofs.EndLemmas.{some_left}
 
 module _ (Left : Rows → Rows → Type 0) (docket : Docket) (input : List ℕ) (before : Option (List ℕ)) where
   -- all lines were answered: the status tells whether one of the answers is bad
@@ -38,7 +39,7 @@ module _ (Left : Rows → Rows → Type 0) (docket : Docket) (input : List ℕ) 
   -- the docket was not adopted
   pub untold : (after : Option (List ℕ)) (status : Status) → LeavesPrefix Left docket input before after → status ≡ Failed → Runs Left docket input before after status
   untold after status prefix is =
-      subst (Runs Left docket input before after) (sym is) (after, prefix, run.WriteFailed, record { count = 0; within = omega arith; front = nothing_more after })
+      subst (Runs Left docket input before after) (sym is) (after, prefix, run.WriteFailed, record { count = 0; within = omega arith; front = Appends-nil after })
 
 -- of a run on files that were opened, `outcome` is what it came to, and `left_of` what is left of them
 module _ {X Y L : Type 0} where
@@ -75,7 +76,7 @@ bad_in (Ok e) = e.bad
 bad_in (Err fault) = 0
 
 none_out : (known : Option (List ℕ)) (text : List ℕ) → HasFront known known text
-none_out known text = record { out = []; lost = text; whole = refl; appends = nothing_more known }
+none_out known text = record { out = []; lost = text; whole = refl; appends = Appends-nil known }
 
 module _ (docket : Docket) (input : List ℕ) (before : Option (List ℕ)) where
   whole_in_memory : (mid after : Option (List ℕ)) (bad : ℕ) (status : Status) → bad ≡ bad_answers docket input → Appends before mid (run_text docket input)

@@ -1,5 +1,5 @@
 -- What a session and a power failure leave is the docket of a prefix.
-use Rattle.std.proofs.Common.{◌≡◌, inl, inr, ℕ, zero, suc, ◌+◌, List, [], ◌∷◌, take, Option, None, Some, Result, Ok, Err, IfErr, IsErrAnd, MatchResult, refl, sym, subst, arith}
+use Rattle.std.proofs.Common.{◌≡◌, inl, inr, ℕ, zero, suc, ◌+◌, List, [], ◌∷◌, take, Option, None, Some, sym, subst, arith}
 use Rattle.std.proofs.Math.Logic.{∥∥₁_map}
 use Rattle.std.proofs.lemmas.List.{take_all}
 use Rattle.std.specs.List.{AllByRecursion}
@@ -9,7 +9,7 @@ use Rattle.sqlite.specs.Held.{Held}
 use Rattle.court_days.specs.Court.{CourtSettings}
 use Rattle.docket_command.specs.declared.command.Command.{Command}
 use Rattle.docket_history.specs.Histories.{History}
-use Rattle.docket_decisions.specs.Outcomes.{Answer, repeated, refused, accepted, outcome, after, after_answer, run}
+use Rattle.docket_decisions.specs.Outcomes.{after, run}
 use Rattle.docket_tables.specs.Stands.{LastsAsEither}
 use Rattle.docket_wire.specs.Valid.{IsCommand}
 use Rattle.docket_applying.specs.Applying.{IsDocket, StandsFor, docket_rows}
@@ -17,17 +17,10 @@ use Rattle.docket_store.specs.Reopening.{HoldDocket, HoldEither}
 use Rattle.docket_store.specs.Sessions.{LeftBy}
 use Rattle.docket_applying.specs.declared.fault.Fault.{Fault}
 use Rattle.docket_applying.specs.declared.fault.Fault.TheVariants.{Refused, NoMemory, StoreFailed, Closed, Damaged}
+use Rattle.docket_applying.proofs.ApplyLemmas.{docket_after}
 use Rattle.power_failure.specs.Headline.{IsPrefix, OfPrefix, StopsAt, Tells}
 use Rattle.power_failure.specs.declared.telling.Question.{Question}
 use Rattle.power_failure.specs.declared.telling.Told.{Told}
-
-docket_after : (court : CourtSettings) (h : History) (c : Command) → IsDocket court h → IsCommand c → IsDocket court (after court h c)
-docket_after court h c is lawful = at (outcome court h c) refl
-  where
-    at : (a : Answer) → outcome court h c ≡ a → IsDocket court (after_answer a h c)
-    at (repeated reply) e = is
-    at (refused r) e = is
-    at (accepted reply) e = record { settings = is.settings; zone = is.zone; history = ((reply, e), is.history); commands = (lawful, is.commands) }
 
 -- the first commands lead to a docket
 docket_of_prefix : (court : CourtSettings) (n : ℕ) (h : History) (cs : List Command) → IsDocket court h → AllByRecursion IsCommand cs
@@ -71,15 +64,6 @@ pub stops_at : {S : Type 0} (g : Ghosts S) (conn : Held S) (court : CourtSetting
     → LeftBy g conn court h cs n end → StopsAt cs n end
 stops_at g conn court h cs n None left = left.0
 stops_at g conn court h cs n (Some at) left = (left.0, left.1)
-
--- what holds of an error holds of the result that is told by it
-pub err_told : {T E : Type 0} (P : E → Type 0) (r : Result T E) (e : E) → IsErrAnd r (λ f. f ≡ e) → P e → IfErr r P
-err_told P (Ok x) e told p = absurd told
-err_told P (Err f) e told p = subst P (sym told) p
-
-pub match_told : {T E : Type 0} (A : T → Type 0) (P : E → Type 0) (r : Result T E) (e : E) → IsErrAnd r (λ f. f ≡ e) → P e → MatchResult r A P
-match_told A P (Ok x) e told p = absurd told
-match_told A P (Err f) e told p = subst P (sym told) p
 
 -- the court that is asked is the court of the docket
 pub told_by_court : (h : History) (asked : Question) (told : Told) {before after : Option (List ℕ)} {was is : CourtSettings} → was ≡ is

@@ -1,5 +1,6 @@
 -- Where 48 hours from Friday, 20 June 2025, 15:30, end, in a court as Arizona's.
-use Rattle.std.proofs.Common.{◌≡◌, ℕ, ◌-◌, Bool, true, false, not, ◌&&◌, nat_lt, List, [], ◌∷◌, refl, sym, ◌↔◌}
+use Rattle.std.proofs.Common.{◌≡◌, ℕ, ◌-◌, Bool, true, false, not, ◌&&◌, nat_lt, List, [], ◌∷◌, refl}
+use Rattle.std.proofs.lemmas.Bool.Decides.{same_from_decides}
 use Rattle.std.specs.FinSet.{contains, contains-empty, from_list}
 use Rattle.std.specs.List.{list_any}
 use Rattle.std.specs.Ordering.{nat_cmp}
@@ -18,13 +19,8 @@ use Rattle.worked_dockets.specs.Commands.{arizona}
 use Rattle.worked_dockets.proofs.Days.{on-2025-06-23, on-2025-06-24}
 use Rattle.worked_dockets.proofs.Ends.{on_from, ends_at, business_by, weekend_day}
 
-both : (a b : Bool) {P : Type 0} → (a ≡ true) ↔ P → (b ≡ true) ↔ P → a ≡ b
-both true b f g = sym (g.1 (f.0 refl))
-both false true f g = f.1 (g.0 refl)
-both false false f g = refl
-
 meets-by : (spans : List Span) (start end : ℕ) → meets (from_list spans) start end ≡ list_any (λ (span : Span). nat_lt span.start end && nat_lt start span.end) spans
-meets-by spans start end = both _ _ (meets-means (from_list spans) start end) (any-meets spans start end)
+meets-by spans start end = same_from_decides _ _ (meets-means (from_list spans) start end) (any-meets spans start end)
 
 -- where no day is closed, the spans alone decide
 accessible_by : (entered : Entered) (end : ℕ) (met : Bool) → ((day : ℕ) → contains entered.closed day ≡ false) → meets entered.spans (end - 3600) end ≡ met

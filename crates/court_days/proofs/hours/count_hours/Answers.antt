@@ -1,4 +1,4 @@
-use Rattle.std.proofs.Common.{◌≡◌, ℕ, ◌≤◌, ℤ, pos, negsuc, to_z, of_z, to_z-of_z, w64, FitsSigned, arith, ap, sym, ◌∙◌, subst}
+use Rattle.std.proofs.Common.{◌≡◌, ℕ, ◌≤◌, ℤ, pos, to_z, of_z, w64, FitsSigned, arith, ap, sym, ◌∙◌, subst}
 use Rattle.std.proofs.lemmas.Int.{ints, to_z_pos}
 use Rattle.civil_time.specs.LocalTime.{local_day, seconds}
 use Rattle.civil_time.specs.Zone.{ZoneRules, IsZone}
@@ -10,11 +10,8 @@ use Rattle.court_days.specs.Hours.{IsEndOfHours, IsNearEntered}
 use Rattle.court_days.specs.declared.calendar.Direction.{Direction}
 use Rattle.court_days.proofs.Accessible.{entered_start}
 use Rattle.court_days.proofs.EndsOfHours.{end_of_hours-only, end_of_hours-near}
+use Rattle.court_days.proofs.Instants.{at_is}
 use Rattle.court_days.proofs.hours.count_hours.Goals as goal
-
-at_is : (at : ℤ) → FitsSigned w64 at → 1 ≤ seconds at → to_z w64 (of_z w64 at) ≡ pos (seconds at)
-at_is (pos n) f h = to_z-of_z f
-at_is (negsuc n) f h = absurd (omega arith)
 
 -- the instant as the code holds it
 start_is : (zone given : ZoneRules) (at : ℤ) → IsZone given → given ≡ zone → FitsSigned w64 at → IsEnteredDay (local_day zone (seconds at)) → (to_z w64 (of_z w64 at) ≡ pos (seconds at)) × (946_598_400 ≤ seconds at) × (seconds at ≤ 4_102_531_200)

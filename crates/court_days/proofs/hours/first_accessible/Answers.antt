@@ -1,18 +1,10 @@
-use Rattle.std.proofs.Common.{◌≡◌, ℕ, ◌≤◌, ℤ, pos, negsuc, to_z, of_z, to_z-of_z, w64, FitsSigned, arith, subst}
-use Rattle.civil_time.specs.LocalTime.{seconds, IsInstant}
-use Rattle.civil_time.specs.Zone.{ZoneRules, IsZone}
-use Rattle.court_days.specs.Calendar.{Entered, IsWithinLimits}
+use Rattle.std.proofs.Common.{arith, subst}
+use Rattle.civil_time.specs.LocalTime.{seconds}
+use Rattle.civil_time.specs.Zone.{IsZone}
 use Rattle.court_days.specs.Court.{zone_of}
-use Rattle.court_days.specs.HourEnds.{first_accessible}
-use Rattle.court_days.specs.Hours.{IsAccessibleDay}
-use Rattle.court_days.specs.Period.{IsFirstFrom}
-use Rattle.court_days.specs.declared.calendar.Direction.{Direction}
 use Rattle.court_days.proofs.EndsOfHours.{first_accessible-is}
+use Rattle.court_days.proofs.Instants.{at_is}
 use Rattle.court_days.proofs.hours.first_accessible.Goals as goal
-
-at_is : (at : ℤ) → FitsSigned w64 at → 1 ≤ seconds at → to_z w64 (of_z w64 at) ≡ pos (seconds at)
-at_is (pos n) f h = to_z-of_z f
-at_is (negsuc n) f h = absurd (omega arith)
 
 pub returns-clause-value : goal.returns-clause-value
 returns-clause-value c =

@@ -1,16 +1,11 @@
-use Rattle.std.proofs.Common.{◌≡◌, ℕ, ◌-◌, ◌≤◌, ℤ, pos, negsuc, to_z, of_z, to_z-of_z, w64, FitsSigned, arith, ap, subst, IsTrue, ◌↔◌}
+use Rattle.std.proofs.Common.{◌-◌, arith, subst}
 use Rattle.civil_time.specs.LocalTime.{seconds, IsInstant}
-use Rattle.civil_time.specs.Zone.{ZoneRules, IsZone}
-use Rattle.court_days.specs.Calendar.{Entered}
+use Rattle.civil_time.specs.Zone.{IsZone}
 use Rattle.court_days.specs.Court.{zone_of}
-use Rattle.court_days.specs.Hours.{IsAccessible, IsNearEntered}
 use Rattle.court_days.proofs.Accessible.{is_accessible-means}
 use Rattle.court_days.proofs.TestLaws.{same_test}
+use Rattle.court_days.proofs.Instants.{at_is}
 use Rattle.court_days.proofs.hours.was_accessible.Goals as goal
-
-at_is : (at : ℤ) → FitsSigned w64 at → 1 ≤ seconds at → to_z w64 (of_z w64 at) ≡ pos (seconds at)
-at_is (pos n) f h = to_z-of_z f
-at_is (negsuc n) f h = absurd (omega arith)
 
 pub returns-clause-means : goal.returns-clause-means
 returns-clause-means c =

@@ -2,7 +2,8 @@ use Rattle.std.proofs.Common.{◌≡◌}
 use Rattle.sqlite.specs.Held.{state}
 use Rattle.docket_scan.specs.Holdings.{holdings_of}
 use Rattle.docket_scan.proofs.CauseLemmas.{err_caused, fault_after, result_after}
-use Rattle.docket_scan.proofs.JudgingLemmas.{nothing_then, told_of}
+use Rattle.docket_scan.proofs.JudgingLemmas.{told_of}
+use Rattle.docket_scan.proofs.ScanLemmas.{nothing_then}
 use Rattle.docket_scan.proofs.judging.judge_tables.Goals as goal
 
 pub returns-in_err-names-clause-told : goal.returns-in_err-names-clause-told

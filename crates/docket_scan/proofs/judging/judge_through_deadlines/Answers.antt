@@ -1,7 +1,8 @@
 use Rattle.sqlite.specs.Held.{state}
 use Rattle.docket_scan.specs.Reading.{FailsOver}
 use Rattle.docket_scan.proofs.CauseLemmas.{err_caused, result_after}
-use Rattle.docket_scan.proofs.JudgingLemmas.{handed, nothing_then}
+use Rattle.docket_scan.proofs.JudgingLemmas.{handed}
+use Rattle.docket_scan.proofs.ScanLemmas.{nothing_then}
 use Rattle.docket_scan.proofs.judging.judge_through_deadlines.Goals as goal
 
 pub returns-in_err-judge_before_deadlines-clause-err : goal.returns-in_err-judge_before_deadlines-clause-err

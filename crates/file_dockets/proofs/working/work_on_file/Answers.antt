@@ -1,5 +1,5 @@
 use Rattle.sqlite_wal.specs.Files.{image_at}
-use Rattle.file_dockets.proofs.WorkLemmas.{err_told}
+use Rattle.docket_store.proofs.ReopeningLemmas.{err_told}
 use Rattle.file_dockets.proofs.working.work_on_file.Goals as goal
 
 pub returns-clause-done : goal.returns-clause-done

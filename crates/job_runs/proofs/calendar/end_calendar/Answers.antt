@@ -4,12 +4,13 @@ use Rattle.sqlite.specs.Files.{IsCleanLeft}
 use Rattle.docket_store.specs.Left.{LeavesRows}
 use Rattle.file_dockets.specs.Keeping.{rows_told}
 use Rattle.std.specs.Io.KnownBytes.{Appends}
+use Rattle.std.proofs.KnownBytes.{Appends-nil}
 use Rattle.docket_calendar.specs.Calendar.{text_of_calendar}
 use Rattle.line_io.specs.Output.{HasFront}
 use Rattle.file_questions.specs.Tells.{ListsTo}
 use Rattle.job_ends.specs.Ends.{TellsNothing}
 use Rattle.job_runs.specs.Tells.{HasTold}
-use Rattle.job_runs.proofs.EndLemmas.{answered, nothing_more, some_left, unwritten}
+use Rattle.job_runs.proofs.EndLemmas.{answered, some_left, unwritten}
 use Rattle.job_runs.proofs.calendar.end_calendar.Goals as goal
 
 pub returns-in-Ok : goal.returns-in-Ok
@@ -29,5 +30,5 @@ returns-in-Err g c docket from to before after asked same =
     let wanted : List ℕ = text_of_calendar docket.court docket.history from to in
     unwritten c.args.ended (λ it. it.left) IsCleanLeft (λ it. it.outcome) (λ left. LeavesRows left (rows_told docket) (rows_told docket)) _
     (after ≡ before) (HasTold wanted before after (cow_str_bytes c.in-Err.end.text) c.in-Err.end.status) c.in-Err.end.left asked.1 same (λ unchanged.
-    let none : HasFront before after (wanted) = record { out = []; lost = wanted; whole = refl; appends = subst (λ a. Appends before a []) (sym unchanged) (nothing_more before) } in
+    let none : HasFront before after (wanted) = record { out = []; lost = wanted; whole = refl; appends = subst (λ a. Appends before a []) (sym unchanged) (Appends-nil before) } in
     subst (λ status. HasTold wanted before after (cow_str_bytes c.in-Err.end.text) status) (sym ended.0.0) (none, ended.0.1)) ended.1 ended.0

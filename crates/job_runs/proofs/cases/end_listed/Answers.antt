@@ -4,12 +4,13 @@ use Rattle.sqlite.specs.Files.{IsCleanLeft}
 use Rattle.docket_store.specs.Left.{LeavesRows}
 use Rattle.file_dockets.specs.Keeping.{rows_told}
 use Rattle.std.specs.Io.KnownBytes.{Appends}
+use Rattle.std.proofs.KnownBytes.{Appends-nil}
 use Rattle.docket_history.specs.declared.row.CaseRow.{CaseRow}
 use Rattle.line_io.specs.Output.{HasFront}
 use Rattle.file_questions.specs.CaseLists.{ListsCases, case_lines}
 use Rattle.job_ends.specs.Ends.{TellsNothing}
 use Rattle.job_runs.specs.Tells.{HasListed, no_such_case}
-use Rattle.job_runs.proofs.EndLemmas.{answered, failed_otherwise, nothing_more, said_missing, some_left, unwritten}
+use Rattle.job_runs.proofs.EndLemmas.{answered, failed_otherwise, said_missing, some_left, unwritten}
 use Rattle.job_runs.proofs.cases.end_listed.Goals as goal
 
 pub returns-in-Ok : goal.returns-in-Ok
@@ -34,7 +35,7 @@ returns-in-Err g c = record {
       let wanted : List CaseRow = cases in
       unwritten c.args.ended (λ it. it.left) IsCleanLeft (λ it. it.outcome) (λ left. LeavesRows left (rows_told docket) (rows_told docket)) _
       (after ≡ before) (HasListed wanted before after (cow_str_bytes c.in-Err.end.text) c.in-Err.end.status) c.in-Err.end.left asked.1 same (λ unchanged.
-      let none : HasFront before after (case_lines wanted) = record { out = []; lost = case_lines wanted; whole = refl; appends = subst (λ a. Appends before a []) (sym unchanged) (nothing_more before) } in
+      let none : HasFront before after (case_lines wanted) = record { out = []; lost = case_lines wanted; whole = refl; appends = subst (λ a. Appends before a []) (sym unchanged) (Appends-nil before) } in
       subst (λ status. HasListed wanted before after (cow_str_bytes c.in-Err.end.text) status) (sym ended.0.0) (none, ended.0.1)) ended.1 ended.0;
   missing = failed_otherwise no_such_case c.in-Err.end.status _ _ c.in-Err.ensures.done.0.0;
 }

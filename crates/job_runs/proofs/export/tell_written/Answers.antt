@@ -1,6 +1,7 @@
 use Rattle.std.proofs.Common.{◌≡◌, ◌∙◌, ℕ, List, [], Option, refl, sym, ap, subst, subst₂}
 use Rattle.std.specs.Cow.{cow_str_bytes}
 use Rattle.std.specs.Io.KnownBytes.{Appends}
+use Rattle.std.proofs.KnownBytes.{Appends-nil}
 use Rattle.sqlite.specs.Files.{IsCleanLeft}
 use Rattle.file_questions.specs.Exports.{ExportsTo, text_of_export}
 use Rattle.line_io.specs.Output.{HasFront}
@@ -8,7 +9,7 @@ use Rattle.file_dockets.specs.Keeping.{rows_told}
 use Rattle.docket_store.specs.Left.{LeavesRows}
 use Rattle.job_ends.specs.Ends.{TellsNothing}
 use Rattle.job_runs.specs.Tells.{HasTold}
-use Rattle.job_runs.proofs.EndLemmas.{answered, nothing_more, some_left, unwritten}
+use Rattle.job_runs.proofs.EndLemmas.{answered, some_left, unwritten}
 use Rattle.job_runs.proofs.export.tell_written.Goals as goal
 
 pub returns-in-Ok-done_on_docket : goal.returns-in-Ok-done_on_docket
@@ -36,6 +37,6 @@ returns-in-Err-done_on_docket g c = record {
       unwritten c.export_on_file-ended.result (λ it. it.left) IsCleanLeft (λ it. it.outcome) (λ left. LeavesRows left (rows_told docket) (rows_told docket)) _
       (c.export_on_file-ended.new.writer ≡ c.args.w.now) (HasTold wanted before after (cow_str_bytes c.in-Err-done_on_docket.end.text) c.in-Err-done_on_docket.end.status) c.in-Err-done_on_docket.end.left
       (c.export_on_file-ended.ensures.stays docket files) c.export_on_file-ended.ensures.unwritten (λ same.
-      let none : HasFront before after wanted = record { out = []; lost = wanted; whole = refl; appends = subst (λ a. Appends before a []) (ap g.W.Write.contents (sym same)) (nothing_more before) } in
+      let none : HasFront before after wanted = record { out = []; lost = wanted; whole = refl; appends = subst (λ a. Appends before a []) (ap g.W.Write.contents (sym same)) (Appends-nil before) } in
       subst (λ status. HasTold wanted before after (cow_str_bytes c.in-Err-done_on_docket.end.text) status) (sym ended.0.0) (none, ended.0.1)) ended.1 ended.0;
 }

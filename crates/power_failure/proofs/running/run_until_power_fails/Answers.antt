@@ -2,8 +2,9 @@ use Rattle.std.proofs.Common.{inl}
 use Rattle.sqlite.specs.Files.{image_of, over_files}
 use Rattle.docket_store.specs.Reopening.{IsNotOpened, IsNotRecovered}
 use Rattle.docket_store.specs.declared.recovering.RecoverFault.TheVariants.{NotOpened, NotAdopted}
+use Rattle.docket_store.proofs.ReopeningLemmas.{err_told, match_told}
 use Rattle.power_failure.specs.Headline.{LeavesPrefix}
-use Rattle.power_failure.proofs.HeadlineLemmas.{err_told, leaves_prefix, match_told, stops_at}
+use Rattle.power_failure.proofs.HeadlineLemmas.{leaves_prefix, stops_at}
 use Rattle.power_failure.proofs.running.run_until_power_fails.Goals as goal
 
 pub returns-in_err-conn-clause-opened : goal.returns-in_err-conn-clause-opened
