@@ -1,12 +1,12 @@
 -- Acts that come one after another.
-use Rattle.std.proofs.Common.{◌≡◌, ◌∙◌, ℕ, suc, ◌+◌, ◌-◌, ◌^◌, ◌<◌, ◌≤◌, ◌==◌, ◌&&◌, ◌||◌, not, nat_lt, nat_le, nat_eq, Bool, true, false, cond, List, [], ◌∷◌, ◌++◌, map, length, get_or, refl, sym, ap, subst, arith, inl, inr, append-nil}
+use Rattle.std.proofs.Common.{◌≡◌, ◌∙◌, ℕ, suc, ◌+◌, ◌-◌, ◌^◌, ◌<◌, ◌≤◌, ◌==◌, ◌&&◌, ◌||◌, not, nat_lt, nat_eq, Bool, true, false, cond, List, [], ◌∷◌, ◌++◌, map, length, get_or, refl, sym, ap, subst, arith, inl, inr, append-nil}
 use Rattle.std.proofs.lemmas.Bool.{and_parts, cases_Bool, false≢true}
 use Rattle.std.proofs.lemmas.Bool.Decides.{nat_tests}
 use Rattle.std.proofs.lemmas.List.{length-append, map-append, append_assoc, length-map}
 use Rattle.std.specs.List.{AllByRecursion, list_all}
 use Rattle.civil_time.specs.Zone.{ZoneRules}
 use Rattle.court_days.specs.Court.{CourtSettings, zone_of}
-use Rattle.court_rules.specs.Acts.{acts_ok, is_within}
+use Rattle.court_rules.specs.Acts.{acts_ok}
 use Rattle.court_rules.specs.declared.act.Act.{Act}
 use Rattle.docket_history.specs.declared.row.ActRow.{ActRow}
 use Rattle.sqlite_trees.proofs.ListLemmas.{all-append}
@@ -23,6 +23,7 @@ use Rattle.std.specs.Prelude.{Vec}
 use Rattle.std.specs.declared.alloc.Global.{Global}
 use Rattle.docket_decisions.specs.declared.end_row.StoredEnd.{StoredEnd}
 use Rattle.docket_decisions.proofs.ListLemmas.{all_later}
+use Rattle.docket_decisions.proofs.Passed.{few_acts}
 use Rattle.docket_sound.specs.Numbers.{RunsFrom, AreNumbered}
 use Rattle.docket_sound.specs.declared.act.ActCheck.{ActCheck}
 use Rattle.docket_sound.specs.declared.numbering.Key.{Key}
@@ -86,12 +87,7 @@ first_run run (x ∷ xs) = at (is_on run x) (first_run (with_row run x) xs)
 
 -- lawful acts are at most a hundred
 few_lawful : (zone : ZoneRules) (acts : List Act) → are_lawful zone acts ≡ true → length acts ≤ 100
-few_lawful zone acts lawful =
-    let ok = (and_parts (acts_ok acts) (list_all (is_on_entered_day zone) acts) lawful).0 in
-    let within = (and_parts ((nat_le 1 (length acts) && nat_le (length acts) 100) && list_all is_within acts) _ ok).0 in
-    let lengths = (and_parts (nat_le 1 (length acts) && nat_le (length acts) 100) (list_all is_within acts) within).0 in
-    let most : nat_le (length acts) 100 ≡ true = (and_parts (nat_le 1 (length acts)) _ lengths).1 in
-    grind (arith, nat_tests)
+few_lawful zone acts lawful = few_acts acts (and_parts (acts_ok acts) (list_all (is_on_entered_day zone) acts) lawful).0
 
 same_key : (case deadline : ℕ) (run : Run) (row : ActRow) → case ≡ run.case → deadline ≡ run.deadline → (row.case == case && row.deadline == deadline) ≡ is_on run row
 same_key case deadline run row c d = ap (λ k. row.case == k && row.deadline == deadline) c ∙ ap (λ n. row.case == run.case && row.deadline == n) d
