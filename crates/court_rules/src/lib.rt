@@ -23,6 +23,6 @@ pub use local_rule::{LocalRule, is_local_name};
 pub use method::Method;
 pub use order::acts_ok;
 pub use rule::Rule;
-pub use standing::{standing_after, standing_of};
+pub use standing::{due, standing_after};
 pub use table::{Period, RuleRow, rows as rule_rows};
 pub use text::Text;

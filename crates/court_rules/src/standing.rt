@@ -113,7 +113,7 @@ pub fn standing_after(court: &Court, calendar: &Calendar, before: Standing, act:
 ///
 /// The acts are ones that `acts_ok` accepts; periods of hours begin on a local day that a court may
 /// enter.
-pub fn standing_of(court: &Court, calendar: &Calendar, acts: &[Act]) -> Standing
+pub fn due(court: &Court, calendar: &Calendar, acts: &[Act]) -> Standing
     requires { AreActs (zone_of court.now) acts.now }
     ensures value { result ≡ standing (zone_of court.now) calendar.now acts.now }
     ensures near { StandsAfter 100 result }

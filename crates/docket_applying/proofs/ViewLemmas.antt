@@ -9,7 +9,7 @@ use Rattle.docket_command.specs.declared.command.Command.{Command}
 use Rattle.docket_history.specs.Actions.{case_named, asks_parties, asks_entries, asks_deadlines, if_asked}
 use Rattle.docket_decisions.specs.Outcomes.{under_key}
 use Rattle.docket_history.specs.declared.item.CalendarItem.{CalendarItem}
-use Rattle.docket_history.specs.declared.view.UnderKey.{UnderKey}
+use Rattle.docket_history.specs.declared.view.Kept.{Kept}
 use Rattle.docket_decisions.specs.Tables.{Tables, case_in, case_named_in, case_deadlines, deadlines_in, is_case_in, view_in}
 use Rattle.docket_history.specs.Views.{case_shown, deadline_at, deadline_of, is_served_among, named_in, rule_name_asked}
 use Rattle.docket_command.specs.declared.command.Action.{Action}
@@ -83,7 +83,7 @@ pub deadlines_told : (t : Tables) (k : ℕ) (deadlines : List DeadlineView) → 
 deadlines_told t k deadlines among are = ap (λ b. if b then Some (deadlines_in t k) else None) among ∙ ap Some (sym are)
 
 -- a view without a calendar
-pub whole_view : (t : Tables) (c : Command) (kept_is : UnderKey) (numbers : NumbersShown) (case : Option CaseView) (items : List CalendarItem) (local : Option LocalRule) → kept_is ≡ under_key t.receipts c
+pub whole_view : (t : Tables) (c : Command) (kept_is : Kept) (numbers : NumbersShown) (case : Option CaseView) (items : List CalendarItem) (local : Option LocalRule) → kept_is ≡ under_key t.receipts c
     → numbers ≡ numbers_in t c.action
     → case ≡ option_and_then (case_in t c.action) (case_named c.action) → items ≡ []
     → local ≡ option_and_then (local_rule_in t.local_rules) (rule_name_asked (named_in case) c.action)

@@ -12,7 +12,7 @@ use Rattle.docket_decisions.specs.declared.decision.Decision.{Decision}
 use Rattle.docket_decisions.specs.declared.decision.Decision.TheVariants.{Change as Changed, Repeat}
 use Rattle.docket_decisions.specs.declared.end_row.StoredEnd.{StoredEnd}
 use Rattle.docket_history.specs.declared.row.Change.{Change}
-use Rattle.docket_history.specs.declared.view.UnderKey.TheVariants.{Same}
+use Rattle.docket_history.specs.declared.view.Kept.TheVariants.{Same}
 use Rattle.docket_history.specs.declared.view.View.{View}
 use Rattle.docket_tables.specs.AnyRows.{AreDocketRows, HasReceipt, recorded, with_stored}
 use Rattle.docket_tables.specs.Layouts.{Rows}

@@ -14,7 +14,7 @@ use crate::asking::calendar_taken;
 use crate::fault::{Fault, read_fault};
 use court_days::{Calendar, Court, Day};
 use docket_calendar::due_rows;
-use docket_history::{DueLine, StandingCalendar};
+use docket_history::{DueRow, StandingCalendar};
 use sqlite::{Alter, Connection, Error};
 use std::alloc::Global;
 
@@ -28,7 +28,7 @@ fn due_by<S: Alter>(
     from: Day,
     to: Day,
     failure: &mut Option<Error>,
-) -> Result<Vec<DueLine>, Fault>
+) -> Result<Vec<DueRow>, Fault>
     requires { conn.old.in_transaction ≡ false }
     ensures leaves { LeavesIdle S.Store conn.old conn.new failure.new result }
     ensures answer { (kept : Option (List Item)) (h : History) → Stands S.Store (serving conn.old court.now kept) h
@@ -51,7 +51,7 @@ pub fn due_days<S: Alter>(
     from: Day,
     to: Day,
     failure: &mut Option<Error>,
-) -> Result<Vec<DueLine>, Fault>
+) -> Result<Vec<DueRow>, Fault>
     requires { conn.old.in_transaction ≡ false }
     ensures leaves { LeavesIdle S.Store conn.old conn.new failure.new result }
     ensures answer { (h : History) → Stands S.Store (serving conn.old court.now kept.old) h

@@ -9,7 +9,7 @@ ghost use Rattle.docket_history.specs.Views.{deadline_shown};
 ghost use Rattle.docket_applying.specs.Sound.{is_entered_item, begins_in_time, are_acts, are_lawful, is_lawful, has_room, is_lawful_rule, IsSoundCalendar, IsSoundCase};
 
 use court_days::{Court, Day, is_entered};
-use court_rules::{Act, Standing, Start, acts_ok, standing_of};
+use court_rules::{Act, Standing, Start, acts_ok, due};
 use docket_command::LocalRule;
 use docket_history::{CalendarItem, DeadlineView, View};
 use docket_sound::is_local_rule;
@@ -115,7 +115,7 @@ fn has_room(court: &Court, view: &View) -> bool
     if acts.len() < MOST_ACTS {
         return true;
     }
-    let standing = standing_of(court, view.calendar.calendar(), acts);
+    let standing = due(court, view.calendar.calendar(), acts);
     matches!(standing, Standing::Done | Standing::Vacated)
 }
 

@@ -10,7 +10,7 @@ ghost use Rattle.docket_applying.specs.Told.{AreEndsBy, IsNotTold};
 use crate::fault::Fault;
 use crate::sound::is_sound_case;
 use court_days::{Calendar, Court};
-use court_rules::{Act, Standing, standing_of};
+use court_rules::{Act, Standing, due};
 use docket_decisions::{EndTime, StoredEnd, after_first, first_end};
 use docket_history::{DeadlineLine, DeadlineView, line_of};
 use std::alloc::{AllocError, Global};
@@ -28,7 +28,7 @@ fn standing_told(
 {
     match stored {
         Some(stored) => Standing::Running(stored.end()),
-        None => standing_of(court, calendar, acts),
+        None => due(court, calendar, acts),
     }
 }
 

@@ -9,7 +9,7 @@ ghost use Rattle.docket_history.specs.Histories.{parties_of_case, entries_of_cas
 ghost use Rattle.docket_decisions.specs.Outcomes.{is_label_taken, is_row_standing};
 ghost use Rattle.docket_decisions.specs.Tables.{case_in, case_deadlines, deadlines_in, view_in};
 ghost use Rattle.docket_history.specs.Views.{deadline_at, is_served_among, named_in, rule_name_asked};
-ghost use Rattle.docket_history.specs.declared.view.UnderKey.TheVariants.{Same};
+ghost use Rattle.docket_history.specs.declared.view.Kept.TheVariants.{Same};
 ghost use Rattle.docket_wire.specs.Valid.{IsCommand};
 ghost use Rattle.docket_wire.specs.Writing.{canonical};
 ghost use Rattle.docket_tables.specs.Asking.{OnlyAsks};

@@ -37,7 +37,7 @@ use Rattle.docket_history.specs.Histories.{acts_of_deadline}
 use Rattle.docket_history.specs.Records.{close_of_end}
 use Rattle.docket_decisions.specs.Tables.{Tables}
 use Rattle.docket_decisions.specs.declared.end_row.StoredEnd.{StoredEnd}
-use Rattle.docket_history.specs.declared.record.DueLine.{DueLine}
+use Rattle.docket_history.specs.declared.record.DueRow.{DueRow}
 use Rattle.docket_history.specs.declared.row.ActRow.{ActRow}
 use Rattle.docket_history.specs.declared.row.DeadlineRow.{DeadlineRow}
 use Rattle.docket_columns.specs.Cells.{deadline_cells, end_cells, moment_cell}
@@ -158,7 +158,7 @@ module _ (court : CourtSettings) (from to : ℕ) where
   abbrev stored : DeadlineRow → End → StoredEnd
   stored d end = record { case = d.case; deadline = d.number; end = time_of (zone_of court) end }
 
-  abbrev listed_as : ℕ → DeadlineRow → End → DueLine
+  abbrev listed_as : ℕ → DeadlineRow → End → DueRow
   listed_as close d end = record { end = end; close = close; case = d.case; number = d.number; party = d.party; rule = deadline_rule_name d.rule }
 
   passes_as : (close : ℕ) (d other : DeadlineRow) (end : End) → IsDueEnd end → passes params (end_cells (stored d end)) (deadline_cells other) ≡ (is_same d other && is_within court from to (listed_as close d end))
@@ -229,10 +229,10 @@ module _ (court : CourtSettings) (from to : ℕ) where
       sym (map-flat_map (due_cells court) (λ d. filter within (due d)) t.deadlines) ∙ ap (map (due_cells court)) (sym (filter-flat_map within due t.deadlines))
 
   -- the order of the columns is that of the calendar
-  ordered_as : (a b : DueLine) → IsDueEnd a.end → IsDueEnd b.end → on order_cells (key_cmp 0 keys) (due_cells court a) (due_cells court b) ≡ calendar_cmp court a b
+  ordered_as : (a b : DueRow) → IsDueEnd a.end → IsDueEnd b.end → on order_cells (key_cmp 0 keys) (due_cells court a) (due_cells court b) ≡ calendar_cmp court a b
   ordered_as a b due last =
-      let day = λ (r : DueLine). pos (time_of (zone_of court) r.end).day in
-      let moment = λ (r : DueLine). moment_cell (time_of (zone_of court) r.end).moment in
+      let day = λ (r : DueRow). pos (time_of (zone_of court) r.end).day in
+      let moment = λ (r : DueRow). moment_cell (time_of (zone_of court) r.end).moment in
       let days : value_cmp (Int (day a)) (Int (day b)) ≡ nat_cmp (day_of_end court a.end) (day_of_end court b.end) = value_cmp-Int (day a) (day b) ∙ ap₂ (λ m n. int_cmp (pos m) (pos n)) (day_is court a.end due) (day_is court b.end last) ∙ as_numbers (day_of_end court a.end) (day_of_end court b.end) in
       let ends : value_cmp (Int (moment a)) (Int (moment b)) ≡ end_cmp a.end b.end = value_cmp-Int (moment a) (moment b) ∙ moments_as court a.end b.end due last in
       (λ i. first_of (days i) (ends i) ((value_cmp-Int (pos a.case) (pos b.case) ∙ as_numbers a.case b.case) i) ((value_cmp-Int (pos a.number) (pos b.number) ∙ as_numbers a.number b.number) i))
@@ -245,14 +245,14 @@ module _ (court : CourtSettings) (from to : ℕ) where
   abbrev order : Row → Row → Ordering
   order = on order_cells (key_cmp 0 keys)
 
-  apart_cells : (a b : DueLine) → (a.case == b.case && a.number == b.number) ≡ false → is_eq (order (due_cells court a) (due_cells court b)) ≡ false
+  apart_cells : (a b : DueRow) → (a.case == b.case && a.number == b.number) ≡ false → is_eq (order (due_cells court a) (due_cells court b)) ≡ false
   apart_cells a b off =
       let keys_off : (is_eq (value_cmp (Int (pos a.case)) (Int (pos b.case))) && is_eq (value_cmp (Int (pos a.number)) (Int (pos b.number)))) ≡ false = ap₂ (λ x y. x && y) (equal_as a.case b.case) (equal_as a.number b.number) ∙ off in
       not_equal (value_cmp (Int (pos (time_of (zone_of court) a.end).day)) (Int (pos (time_of (zone_of court) b.end).day))) (value_cmp (Int (moment_cell (time_of (zone_of court) a.end).moment)) (Int (moment_cell (time_of (zone_of court) b.end).moment))) _ _ keys_off
 
   -- the rows of one deadline are apart from those of others
   abbrev IsPart : DeadlineRow → List Row → Type 0
-  IsPart d rows = (rows ≡ []) ⊎ ((r : DueLine) × (rows ≡ due_cells court r ∷ []) × (r.case ≡ d.case) × (r.number ≡ d.number))
+  IsPart d rows = (rows ≡ []) ⊎ ((r : DueRow) × (rows ≡ due_cells court r ∷ []) × (r.case ≡ d.case) × (r.number ≡ d.number))
 
   one_part : (entered : Entered) (d : DeadlineRow) (s : Standing) → IsPart d (map (due_cells court) (filter (is_within court from to) (row_where court entered d s)))
   one_part entered d (Running end) = by (is_within court from to (listed_as (close_of_end court entered end) d end))
@@ -275,7 +275,7 @@ module _ (court : CourtSettings) (from to : ℕ) where
     abbrev IsNotTied : Row → Row → Type 0
     IsNotTied row other = is_eq (order row other) ≡ false
 
-    untied : (r : DueLine) (d other : DeadlineRow) (rows : List Row) → r.case ≡ d.case → r.number ≡ d.number → is_same d other ≡ false → IsPart other rows → AllByRecursion (IsNotTied (due_cells court r)) rows
+    untied : (r : DueRow) (d other : DeadlineRow) (rows : List Row) → r.case ≡ d.case → r.number ≡ d.number → is_same d other ≡ false → IsPart other rows → AllByRecursion (IsNotTied (due_cells court r)) rows
     untied r d other rows case number off (inl none) = subst (AllByRecursion (IsNotTied (due_cells court r))) (sym none) tt
     untied r d other rows case number off (inr (x, is, x_case, x_number)) =
         let keys_off : (r.case == x.case && r.number == x.number) ≡ false = differ r.case x.case r.number x.number off case number x_case x_number in
@@ -295,7 +295,7 @@ module _ (court : CourtSettings) (from to : ℕ) where
                 cases_apart : (other.case == d.case) ≡ false → (a == b) ≡ false
                 cases_apart e = grind (arith, nat_tests, e, p, u)
 
-    untied_all : (r : DueLine) (d : DeadlineRow) (ds : List DeadlineRow) → r.case ≡ d.case → r.number ≡ d.number → AllByRecursion (λ other. is_same d other ≡ false) ds
+    untied_all : (r : DueRow) (d : DeadlineRow) (ds : List DeadlineRow) → r.case ≡ d.case → r.number ≡ d.number → AllByRecursion (λ other. is_same d other ≡ false) ds
         → AllByRecursion (IsNotTied (due_cells court r)) (flat_map (part entered acts) ds)
     untied_all r d ds case number off =
         all-flat_map (IsNotTied (due_cells court r)) (part entered acts) ds (all_weaker _ (λ other. AllByRecursion (IsNotTied (due_cells court r)) (part entered acts other)) (λ other away. untied r d other _ case number away (is_part other)) ds off)
@@ -322,15 +322,15 @@ module _ (court : CourtSettings) (from to : ℕ) where
       let of_one : List Row → Row → List Row = λ rows d. flat_map (λ l. cond (passes params d l) (shown_cells d l ∷ []) []) rows in
       IsPermutation-trans _ _ _ (IsPermutation-flat_map (of_one L) D E ds) (IsPermutation-flat_map_each (of_one L) (of_one M) (λ d. IsPermutation-flat_map _ L M ls) E)
 
-  sorted_cells : (listed : List DueLine) → All (λ (r : DueLine). IsDueEnd r.end) listed → IsSorted (calendar_cmp court) listed → IsSorted order (map (due_cells court) listed)
+  sorted_cells : (listed : List DueRow) → All (λ (r : DueRow). IsDueEnd r.end) listed → IsSorted (calendar_cmp court) listed → IsSorted order (map (due_cells court) listed)
   sorted_cells listed due sorted k row low high =
       let inside : k + 1 < length listed = rw length-map at high in
-      let r : DueLine = record { end = LastDay 0; close = 0; case = 0; number = 0; party = 0; rule = [] } in
+      let r : DueRow = record { end = LastDay 0; close = 0; case = 0; number = 0; party = 0; rule = [] } in
       let is = ap is_lt (ordered_as (get_or listed (k + 1) r) (get_or listed k r) (due (k + 1) r inside) (due k r (omega arith))) in
       rw (get_or-map (due_cells court) listed (k + 1) r row inside, get_or-map (due_cells court) listed k r row (omega arith)) (is ∙ sorted k r low inside)
 
   -- the rows that answer the question are those of the calendar
-  pub the_rows : (t : Tables) (listed : List DueLine) (D L rows : List Row) → Apart t.deadlines → HaveEnds court (calendar_in t) t.acts t.deadlines → All (λ (r : DueLine). IsDueEnd r.end) listed
+  pub the_rows : (t : Tables) (listed : List DueRow) (D L rows : List Row) → Apart t.deadlines → HaveEnds court (calendar_in t) t.acts t.deadlines → All (λ (r : DueRow). IsDueEnd r.end) listed
       → IsPermutation D (map end_cells (end_rows court t)) → IsPermutation L (map deadline_cells t.deadlines) → IsCalendar court (due_within court from to t) listed
       → IsPermutation (joined (passes params) shown_cells D L) rows → IsSorted order rows → rows ≡ map (due_cells court) listed
   the_rows t listed D L rows apart ends due ds ls calendar same sorted =
@@ -343,6 +343,6 @@ module _ (court : CourtSettings) (from to : ℕ) where
       sorted_is-sort_by order total parts rows untied_parts (IsPermutation-trans _ _ _ (IsPermutation-sym _ _ held) same) sorted
       ∙ sym (sorted_is-sort_by order total parts (map (due_cells court) listed) untied_parts told (sorted_cells listed due calendar.ordered))
 
-  pub few_listed : (t : Tables) (listed : List DueLine) → IsCalendar court (due_within court from to t) listed → length listed ≤ length t.deadlines
+  pub few_listed : (t : Tables) (listed : List DueRow) → IsCalendar court (due_within court from to t) listed → length listed ≤ length t.deadlines
   few_listed t listed calendar =
       omega (arith, length_permutation _ _ calendar.same, ap length (listed_parts t), length-map (due_within court from to t) (due_cells court), few_parts (calendar_in t) t.acts t.deadlines)

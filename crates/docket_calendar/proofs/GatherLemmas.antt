@@ -9,7 +9,7 @@ use Rattle.sqlite.specs.State.{State, IsUnchanged}
 use Rattle.sqlite.specs.Held.{Held, state}
 use Rattle.sqlite.proofs.Callers.{unchanged_then}
 use Rattle.court_days.specs.Court.{CourtSettings}
-use Rattle.docket_history.specs.declared.record.DueLine.{DueLine}
+use Rattle.docket_history.specs.declared.record.DueRow.{DueRow}
 use Rattle.docket_tables.specs.Causes.{IsCausedFault}
 use Rattle.docket_tables.specs.declared.fault.ReadFault.{ReadFault}
 use Rattle.docket_tables.specs.declared.fault.ReadFault.TheVariants.{Store, NoMemory, Damaged}
@@ -20,11 +20,11 @@ use Rattle.docket_calendar.specs.Sending.{LeavesAt}
 use Rattle.docket_calendar.proofs.TellLemmas.{leaves_from, remains_at, unchanged_still}
 
 -- one deadline more
-take_more : (listed : List DueLine) (n : ℕ) (d : DueLine) → slice_get listed n ≡ Some d → take (n + 1) listed ≡ take n listed ++ d ∷ []
+take_more : (listed : List DueRow) (n : ℕ) (d : DueRow) → slice_get listed n ≡ Some d → take (n + 1) listed ≡ take n listed ++ d ∷ []
 take_more listed n d at =
     let within : n < length listed = slice_get_within listed n d at in
     let next : n + 1 ≡ suc n = omega arith in
-    ap (λ (k : ℕ). take k listed) next ∙ take-suc listed n d within ∙ ap (λ (x : DueLine). take n listed ++ x ∷ []) (get_or_from_slice_get listed n d d at)
+    ap (λ (k : ℕ). take k listed) next ∙ take-suc listed n d within ∙ ap (λ (x : DueRow). take n listed ++ x ∷ []) (get_or_from_slice_get listed n d d at)
 
 module _ {S : Type 0} (g : Ghosts S) where
   -- a fault of a part is one of the whole
@@ -36,14 +36,14 @@ module _ {S : Type 0} (g : Ghosts S) where
   remains_later old mid new (Ok x) same left = unchanged_then (state g old) (state g mid) (state g new) same left
   remains_later old mid new (Err f) same left = remains_at g old mid new f same left
 
-module _ {S : Type 0} (g : Ghosts S) (court : CourtSettings) (listed : List DueLine) where
+module _ {S : Type 0} (g : Ghosts S) (court : CourtSettings) (listed : List DueRow) where
   pub comes_from : {X : Type 0} (old mid new : Held S) (answer : X → Type 0) (res : Result X ReadFault) → IsUnchanged (state g old) (state g mid) → ComesTo g mid new answer res → ComesTo g old new answer res
   comes_from old mid new answer (Ok x) same comes = (unchanged_then (state g old) (state g mid) (state g new) same comes.0, comes.1)
   comes_from old mid new answer (Err f) same comes = leaves_from g court listed old mid new f same comes
 
   module _ (sql : List ℕ) (params : Row) where
     -- how far the list has come
-    pub record IsGathered (n : ℕ) (found : List DueLine) (old now : Held S) : Type 0 where
+    pub record IsGathered (n : ℕ) (found : List DueRow) (old now : Held S) : Type 0 where
       pub same : IsUnchanged (state g old) (state g now)
       pub gave : Gave g sql params court listed n now
       pub taken : found ≡ take n listed
@@ -52,12 +52,12 @@ module _ {S : Type 0} (g : Ghosts S) (court : CourtSettings) (listed : List DueL
     pub nothing_yet : (old : Held S) → IsTrue (state g old).is_open → Gave g sql params court listed 0 old → IsGathered 0 [] old old
     nothing_yet old is_open gave = record { same = unchanged_still (state g old) is_open; gave = gave; taken = refl }
 
-    module _ (n : ℕ) (found : List DueLine) (old now new : Held S) (so_far : IsGathered n found old now) where
-      pub goes_on : (d : DueLine) (more : List DueLine) → Next g sql params court listed n now new (Ok (Some d)) → more ≡ found ++ d ∷ [] → IsGathered (n + 1) more old new
+    module _ (n : ℕ) (found : List DueRow) (old now new : Held S) (so_far : IsGathered n found old now) where
+      pub goes_on : (d : DueRow) (more : List DueRow) → Next g sql params court listed n now new (Ok (Some d)) → more ≡ found ++ d ∷ [] → IsGathered (n + 1) more old new
       goes_on d more next is = record {
         same = unchanged_then (state g old) (state g now) (state g new) so_far.same next.0;
         gave = next.2;
-        taken = is ∙ ap (λ (l : List DueLine). l ++ d ∷ []) so_far.taken ∙ sym (take_more listed n d next.1);
+        taken = is ∙ ap (λ (l : List DueRow). l ++ d ∷ []) so_far.taken ∙ sym (take_more listed n d next.1);
       }
 
       pub whole : Next g sql params court listed n now new (Ok None) → IsUnchanged (state g old) (state g new) × (found ≡ listed)

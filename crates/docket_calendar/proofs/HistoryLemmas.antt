@@ -14,7 +14,7 @@ use Rattle.docket_decisions.specs.EndRows.{IsDueEnd, calendar_in}
 use Rattle.docket_history.specs.Histories.{History, case_rows, acts_of_deadline}
 use Rattle.docket_decisions.specs.Outcomes.{IsHistory}
 use Rattle.docket_decisions.specs.Tables.{Tables, rows_of}
-use Rattle.docket_history.specs.declared.record.DueLine.{DueLine}
+use Rattle.docket_history.specs.declared.record.DueRow.{DueRow}
 use Rattle.docket_history.specs.declared.row.DeadlineRow.{DeadlineRow}
 use Rattle.docket_decisions.proofs.LimitsKept.{within_limits}
 use Rattle.docket_columns.specs.Fits.{IsDeadlineRow}
@@ -66,10 +66,10 @@ module _ (court : CourtSettings) (from to : ℕ) (t : Tables) (can : IsListable 
       all-filter _ _ (running court t) (all-flat_map (IsDue court (calendar_in t)) (due_of court (calendar_in t) t.acts) t.deadlines
       (all_two _ _ (λ d. AllByRecursion (IsDue court (calendar_in t)) (due_of court (calendar_in t) t.acts d)) t.deadlines (λ d due fit. one_due d (standing (zone_of court) (calendar_in t) (acts_of_deadline d.case d.number t.acts)) due fit) can.ends can.fit))
 
-  pub listed_due : (listed : List DueLine) → IsCalendar court (due_within court from to t) listed → All (IsDue court (calendar_in t)) listed
+  pub listed_due : (listed : List DueRow) → IsCalendar court (due_within court from to t) listed → All (IsDue court (calendar_in t)) listed
   listed_due listed calendar = All-permutation (IsDue court (calendar_in t)) (due_within court from to t) listed calendar.same (All-from_recursion (IsDue court (calendar_in t)) _ all_due)
 
-  pub listed_few : (listed : List DueLine) → IsCalendar court (due_within court from to t) listed → length listed < 4_294_967_295
+  pub listed_few : (listed : List DueRow) → IsCalendar court (due_within court from to t) listed → length listed < 4_294_967_295
   listed_few listed calendar = omega (arith, few_listed court from to t listed calendar, can.few)
 
 -- the calendar that is written is one of these rows

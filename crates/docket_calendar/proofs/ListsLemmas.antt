@@ -17,7 +17,7 @@ use Rattle.sqlite.specs.Schema.{Schema}
 use Rattle.court_days.specs.Court.{CourtSettings}
 use Rattle.docket_decisions.specs.EndRows.{calendar_in}
 use Rattle.docket_decisions.specs.Tables.{Tables}
-use Rattle.docket_history.specs.declared.record.DueLine.{DueLine}
+use Rattle.docket_history.specs.declared.record.DueRow.{DueRow}
 use Rattle.docket_text.specs.CalendarOrder.{IsCalendar}
 use Rattle.docket_tables.specs.Contents.{rows_in}
 use Rattle.docket_tables.specs.Layouts.{AreRows}
@@ -37,12 +37,12 @@ front_is : (xs ys whole : List Row) → xs ++ ys ≡ whole → (length xs ≤ le
 front_is xs ys whole e = (omega (arith, ap length e, length-append xs ys), sym (take-append_seam xs ys) ∙ ap (take (length xs)) e)
 
 -- and of one that is shown
-shown_front : (court : CourtSettings) (listed : List DueLine) (xs ys : List Row) → xs ++ ys ≡ map (due_cells court) listed → (length xs ≤ length listed) × (xs ≡ map (due_cells court) (take (length xs) listed))
+shown_front : (court : CourtSettings) (listed : List DueRow) (xs ys : List Row) → xs ++ ys ≡ map (due_cells court) listed → (length xs ≤ length listed) × (xs ≡ map (due_cells court) (take (length xs) listed))
 shown_front court listed xs ys e =
     let front = front_is xs ys _ e in
     (omega (arith, front.0, length-map listed (due_cells court)), front.1 ∙ taken (length xs) listed)
   where
-    taken : (n : ℕ) (ds : List DueLine) → take n (map (due_cells court) ds) ≡ map (due_cells court) (take n ds)
+    taken : (n : ℕ) (ds : List DueRow) → take n (map (due_cells court) ds) ≡ map (due_cells court) (take n ds)
     taken n [] = take_none n
       where
         take_none : (k : ℕ) → take k (map (due_cells court) []) ≡ map (due_cells court) (take k [])
@@ -51,7 +51,7 @@ shown_front court listed xs ys e =
     taken zero (d ∷ ds) = refl
     taken (suc n) (d ∷ ds) = ap (λ (l : List Row). due_cells court d ∷ l) (taken n ds)
 
-pub lists : (court : CourtSettings) (from to : ℕ) (t : Tables) (listed : List DueLine) (db : Database) → IsListable court t → db.schema ≡ docket_schema → AreRows (rows_in court t) db.trees
+pub lists : (court : CourtSettings) (from to : ℕ) (t : Tables) (listed : List DueRow) (db : Database) → IsListable court t → db.schema ≡ docket_schema → AreRows (rows_in court t) db.trees
     → IsCalendar court (due_within court from to t) listed → Lists question (days_asked from to) court (calendar_in t) db listed
 lists court from to t listed db can schema holds calendar =
     let back = sym schema in

@@ -9,7 +9,7 @@ use Rattle.std.proofs.lemmas.List.{take-append-drop}
 use Rattle.std.proofs.lemmas.Grind.{flat_map-append}
 use Rattle.std.proofs.lemmas.Option.{get_or_from_slice_get, slice_get_within}
 use Rattle.court_days.specs.Court.{CourtSettings}
-use Rattle.docket_history.specs.declared.record.DueLine.{DueLine}
+use Rattle.docket_history.specs.declared.record.DueRow.{DueRow}
 use Rattle.docket_text.specs.CalendarTexts.{calendar_line, calendar_text, end_columns, end_line}
 use Rattle.line_io.specs.Output.{HasFront}
 use Rattle.docket_calendar.specs.Sending.{line_text, IsAt, opening, sent, HasBegun}
@@ -18,14 +18,14 @@ use Rattle.docket_calendar.specs.Sending.{line_text, IsAt, opening, sent, HasBeg
 line_some : (text part rest : List ℕ) → text ≡ part ++ (32 ∷ rest) → 1 ≤ length text
 line_some text part rest is = omega (arith, ap length is ∙ length-append part (32 ∷ rest))
 
-lines_some : (court : CourtSettings) (listed : List DueLine) (n : ℕ) → 1 ≤ n → n ≤ length listed → 1 ≤ length (flat_map (calendar_line court) (take n listed))
+lines_some : (court : CourtSettings) (listed : List DueRow) (n : ℕ) → 1 ≤ n → n ≤ length listed → 1 ≤ length (flat_map (calendar_line court) (take n listed))
 lines_some court listed zero some within = absurd (omega (arith, some))
 lines_some court [] (suc n) some within = absurd (omega (arith, within))
 lines_some court (due ∷ listed) (suc n) some within =
     let some_line : 1 ≤ length (calendar_line court due) = line_some (calendar_line court due) (end_columns court due.close due.end) _ refl in
     omega (arith, length-append (calendar_line court due) (flat_map (calendar_line court) (take n listed)), some_line)
 
-module _ (court : CourtSettings) (listed : List DueLine) where
+module _ (court : CourtSettings) (listed : List DueRow) where
   abbrev lines : ℕ → List ℕ
   lines n = flat_map (calendar_line court) (take n listed)
 
@@ -39,17 +39,17 @@ module _ (court : CourtSettings) (listed : List DueLine) where
       )
 
   -- one line more
-  pub one_more : (n : ℕ) (d : DueLine) → slice_get listed n ≡ Some d → flat_map (calendar_line court) (take (n + 1) listed) ≡ flat_map (calendar_line court) (take n listed) ++ calendar_line court d
+  pub one_more : (n : ℕ) (d : DueRow) → slice_get listed n ≡ Some d → flat_map (calendar_line court) (take (n + 1) listed) ≡ flat_map (calendar_line court) (take n listed) ++ calendar_line court d
   one_more n d at =
       let line = calendar_line court in
       let within : n < length listed = slice_get_within listed n d at in
       let next : n + 1 ≡ suc n = omega arith in
       let taken : take (n + 1) listed ≡ take n listed ++ d ∷ [] =
-      ap (λ (k : ℕ). take k listed) next ∙ take-suc listed n d within ∙ ap (λ (x : DueLine). take n listed ++ x ∷ []) (get_or_from_slice_get listed n d d at) in
+      ap (λ (k : ℕ). take k listed) next ∙ take-suc listed n d within ∙ ap (λ (x : DueRow). take n listed ++ x ∷ []) (get_or_from_slice_get listed n d d at) in
       ap (flat_map line) taken ∙ flat_map-append line (take n listed) (d ∷ []) ∙ ap (λ (t : List ℕ). flat_map line (take n listed) ++ t) (append-nil (line d))
 
   -- where the n-th line follows
-  pub line_follows : (n : ℕ) (d : DueLine) → slice_get listed n ≡ Some d
+  pub line_follows : (n : ℕ) (d : DueRow) → slice_get listed n ≡ Some d
       → (rest : List ℕ) × (calendar_text court listed ≡ flat_map (calendar_line court) (take n listed) ++ (calendar_line court d ++ rest))
   line_follows n d at =
       let front = front_at (n + 1) in
@@ -58,11 +58,11 @@ module _ (court : CourtSettings) (listed : List DueLine) where
   -- where the last line follows
   pub end_follows : (n : ℕ) → length listed ≡ n → calendar_text court listed ≡ flat_map (calendar_line court) (take n listed) ++ end_line n
   end_follows n is =
-      ap (λ (rows : List DueLine). flat_map (calendar_line court) rows ++ end_line (length listed)) (sym (ap (λ (k : ℕ). take k listed) (sym is) ∙ take-length listed))
+      ap (λ (rows : List DueRow). flat_map (calendar_line court) rows ++ end_line (length listed)) (sym (ap (λ (k : ℕ). take k listed) (sym is) ∙ take-length listed))
       ∙ ap (λ (k : ℕ). flat_map (calendar_line court) (take n listed) ++ end_line k) is
 
   -- what follows the first n lines begins with the text at n
-  pub follows : (n : ℕ) (due : Option DueLine) → IsAt listed n due → (rest : List ℕ) × (calendar_text court listed ≡ lines n ++ (line_text court n due ++ rest))
+  pub follows : (n : ℕ) (due : Option DueRow) → IsAt listed n due → (rest : List ℕ) × (calendar_text court listed ≡ lines n ++ (line_text court n due ++ rest))
   follows n (Some due) at = line_follows n due at
   follows n None at = ([], end_follows n at ∙ ap (λ (t : List ℕ). lines n ++ t) (sym (append-nil (end_line n))))
 
@@ -86,7 +86,7 @@ module _ (court : CourtSettings) (listed : List DueLine) where
         omega (arith, ap length is ∙ length-append front (lines n), lines_some court listed n some within)
 
     -- one line more went out
-    pub sent_more : (n : ℕ) (due : DueLine) → slice_get listed n ≡ Some due → sent court front listed n ++ (opening front n ++ calendar_line court due) ≡ sent court front listed (n + 1)
+    pub sent_more : (n : ℕ) (due : DueRow) → slice_get listed n ≡ Some due → sent court front listed n ++ (opening front n ++ calendar_line court due) ≡ sent court front listed (n + 1)
     sent_more n due at = joined n (calendar_line court due) ∙ ap (λ (t : List ℕ). front ++ t) (sym (one_more n due at)) ∙ sym (sent_lines n)
 
     -- the last line went out
@@ -105,7 +105,7 @@ module _ (court : CourtSettings) (listed : List DueLine) where
     begun_at n u v some within h = record { front = stopped_at n u v h; begun = sent_some n some within }
 
     -- a front of what goes out next did
-    pub stopped_in : (n : ℕ) (due : Option DueLine) (u v w : Option (List ℕ)) → IsAt listed n due → Appends u v (sent court front listed n)
+    pub stopped_in : (n : ℕ) (due : Option DueRow) (u v w : Option (List ℕ)) → IsAt listed n due → Appends u v (sent court front listed n)
         → HasFront v w (opening front n ++ line_text court n due) → HasFront u w (front ++ calendar_text court listed)
     stopped_in n due u v w at h k =
         let rest = follows n due at in

@@ -11,7 +11,7 @@ use Rattle.sqlite.specs.Held.{Held, state}
 use Rattle.sqlite.proofs.Callers.{unchanged_then}
 use Rattle.court_days.specs.Calendar.{Entered}
 use Rattle.court_days.specs.Court.{CourtSettings}
-use Rattle.docket_history.specs.declared.record.DueLine.{DueLine}
+use Rattle.docket_history.specs.declared.record.DueRow.{DueRow}
 use Rattle.line_io.specs.Output.{HasFront}
 use Rattle.docket_tables.specs.declared.fault.ReadFault.{ReadFault}
 use Rattle.docket_tables.specs.declared.fault.ReadFault.TheVariants.{Store, NoMemory, Damaged}
@@ -63,7 +63,7 @@ module _ {S : Type 0} (g : Ghosts S) where
   remains_from old mid new (Err (Broken fault)) same left = remains_at old mid new fault same left
   remains_from old mid new (Err WriteFailed) same still = unchanged_then (state g old) (state g mid) (state g new) same still
 
-module _ {S : Type 0} (g : Ghosts S) (court : CourtSettings) (listed : List DueLine) where
+module _ {S : Type 0} (g : Ghosts S) (court : CourtSettings) (listed : List DueRow) where
   pub lists_still : {entered : Entered} (sql : List ℕ) (params : Row) (old now : Held S) → IsUnchanged (state g old) (state g now) → Lists sql params court entered (state g old).now listed → Lists sql params court entered (state g now).now listed
   lists_still {entered} sql params old now same lists = subst (λ (d : Database). Lists sql params court entered d listed) (sym same.0.now_is) lists
 
@@ -74,11 +74,11 @@ module _ {S : Type 0} (g : Ghosts S) (court : CourtSettings) (listed : List DueL
   leaves_from old now new Damaged same never = never
 
   -- a line that could not be written whole
-  next_same : (sql : List ℕ) (params : Row) (n : ℕ) (old new : Held S) (due : Option DueLine) → Next g sql params court listed n old new (Ok due) → IsUnchanged (state g old) (state g new) × IsAt listed n due
+  next_same : (sql : List ℕ) (params : Row) (n : ℕ) (old new : Held S) (due : Option DueRow) → Next g sql params court listed n old new (Ok due) → IsUnchanged (state g old) (state g new) × IsAt listed n due
   next_same sql params n old new (Some d) next = (next.0, next.1)
   next_same sql params n old new None next = (next.0, next.1)
 
-  pub write_stops : (sql : List ℕ) (params : Row) (n : ℕ) (front text : List ℕ) (u v : Option (List ℕ)) (old new : Held S) (due : Option DueLine) (res : Result Bool Stop) (stop : Stop)
+  pub write_stops : (sql : List ℕ) (params : Row) (n : ℕ) (front text : List ℕ) (u v : Option (List ℕ)) (old new : Held S) (due : Option DueRow) (res : Result Bool Stop) (stop : Stop)
       → Next g sql params court listed n old new (Ok due) → text ≡ line_text court n due → HasFront u v (front ++ text) → stop ≡ WriteFailed → IsErrAnd res (λ f. f ≡ stop)
       → SendsNext g sql params court listed n front u v old new res
   write_stops sql params n front text u v old new due (Ok x) stop next is h failed same = absurd same
@@ -87,7 +87,7 @@ module _ {S : Type 0} (g : Ghosts S) (court : CourtSettings) (listed : List DueL
       subst (λ e. SendsNext g sql params court listed n front u v old new (Err e)) (sym (same ∙ failed)) (left.0, (due, left.1, subst (λ (t : List ℕ). HasFront u v (front ++ t)) is h))
 
   -- and one that was
-  pub line_sent : (sql : List ℕ) (params : Row) (n : ℕ) (front text : List ℕ) (u v : Option (List ℕ)) (old new : Held S) (due : Option DueLine) (more : Bool)
+  pub line_sent : (sql : List ℕ) (params : Row) (n : ℕ) (front text : List ℕ) (u v : Option (List ℕ)) (old new : Held S) (due : Option DueRow) (more : Bool)
       → Next g sql params court listed n old new (Ok due) → text ≡ line_text court n due → Appends u v (front ++ text) → more ≡ is_some due
       → SendsNext g sql params court listed n front u v old new (Ok more)
   line_sent sql params n front text u v old new (Some d) more next is went some =

@@ -14,7 +14,7 @@ use Rattle.sqlite.specs.State.{HasCleanDisk, IsUnchanged, IsRolledBack, Fails}
 use Rattle.sqlite.specs.Held.{Held, state}
 use Rattle.court_days.specs.Calendar.{Entered}
 use Rattle.court_days.specs.Court.{CourtSettings}
-use Rattle.docket_history.specs.declared.record.DueLine.{DueLine}
+use Rattle.docket_history.specs.declared.record.DueRow.{DueRow}
 use Rattle.docket_tables.specs.declared.fault.ReadFault.{ReadFault}
 use Rattle.docket_tables.specs.declared.fault.ReadFault.TheVariants.{Store, NoMemory, Damaged}
 use Rattle.docket_calendar.specs.DueCells.{due_cells, IsDue}
@@ -25,7 +25,7 @@ command_of (Ok c) = c.command
 command_of (Err e) = Nothing
 
 -- in this database the answer to the question is the rows of these due deadlines, in this order
-pub record Lists (sql : List ℕ) (params : Row) (court : CourtSettings) (entered : Entered) (db : Database) (listed : List DueLine) : Type 0 where
+pub record Lists (sql : List ℕ) (params : Row) (court : CourtSettings) (entered : Entered) (db : Database) (listed : List DueRow) : Type 0 where
   pub command : Command
   pub is : command_of (understood db.schema sql) ≡ command
   pub plain : IsPlain (understood db.schema sql)
@@ -37,17 +37,17 @@ pub record Lists (sql : List ℕ) (params : Row) (court : CourtSettings) (entere
 
 module _ {S : Type 0} (g : Ghosts S) where
   -- the question is asked, and the rows of so many of the deadlines were given
-  abbrev pub Gave : List ℕ → Row → CourtSettings → List DueLine → ℕ → Held S → Type 0
+  abbrev pub Gave : List ℕ → Row → CourtSettings → List DueRow → ℕ → Held S → Type 0
   Gave sql params court listed n h = HasGiven g sql params h (map (due_cells court) (take n listed)) × (n ≤ length listed)
 
   -- this is so of whatever question lists deadlines, where the rows of so many of them were given, unless the disk was not honest
-  abbrev pub OfAsked : CourtSettings → Entered → ℕ → Held S → Held S → (List ℕ → Row → List DueLine → Type 0) → Type 0
+  abbrev pub OfAsked : CourtSettings → Entered → ℕ → Held S → Held S → (List ℕ → Row → List DueRow → Type 0) → Type 0
   OfAsked court entered n old new P =
-      (sql : List ℕ) (params : Row) (listed : List DueLine) → HasCleanDisk (state g new) → Lists sql params court entered (state g old).now listed
+      (sql : List ℕ) (params : Row) (listed : List DueRow) → HasCleanDisk (state g new) → Lists sql params court entered (state g old).now listed
       → Gave sql params court listed n old → P sql params listed
 
   -- what the next row comes to
-  abbrev pub Next : List ℕ → Row → CourtSettings → List DueLine → ℕ → Held S → Held S → Result (Option DueLine) ReadFault → Type 0
+  abbrev pub Next : List ℕ → Row → CourtSettings → List DueRow → ℕ → Held S → Held S → Result (Option DueRow) ReadFault → Type 0
   Next sql params court listed n old new (Ok (Some d)) = IsUnchanged (state g old) (state g new) × (slice_get listed n ≡ Some d) × Gave sql params court listed (n + 1) new
   Next sql params court listed n old new (Ok None) = IsUnchanged (state g old) (state g new) × (length listed ≡ n)
   Next sql params court listed n old new (Err (Store e)) = Fails (state g old) (state g new) ⊥ e ⊎ IsUnchanged (state g old) (state g new)

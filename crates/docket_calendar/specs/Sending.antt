@@ -7,7 +7,7 @@ use Rattle.sqlite.specs.Store.{Ghosts}
 use Rattle.sqlite.specs.State.{IsUnchanged, IsRolledBack}
 use Rattle.sqlite.specs.Held.{Held, state}
 use Rattle.court_days.specs.Court.{CourtSettings}
-use Rattle.docket_history.specs.declared.record.DueLine.{DueLine}
+use Rattle.docket_history.specs.declared.record.DueRow.{DueRow}
 use Rattle.docket_tables.specs.declared.fault.ReadFault.{ReadFault}
 use Rattle.docket_tables.specs.declared.fault.ReadFault.TheVariants.{Store, NoMemory, Damaged}
 use Rattle.docket_text.specs.CalendarTexts.{calendar_line, calendar_text, end_line}
@@ -17,12 +17,12 @@ use Rattle.docket_calendar.specs.declared.stop.Stop.{Stop}
 use Rattle.docket_calendar.specs.declared.stop.Stop.TheVariants.{NotBegun, Broken, WriteFailed}
 
 -- the line of a deadline; where there is none, the last line
-abbrev pub line_text : CourtSettings → ℕ → Option DueLine → List ℕ
+abbrev pub line_text : CourtSettings → ℕ → Option DueRow → List ℕ
 line_text court lines (Some due) = calendar_line court due
 line_text court lines None = end_line lines
 
 -- the deadline of line n; none where there are n
-abbrev pub IsAt : List DueLine → ℕ → Option DueLine → Type 0
+abbrev pub IsAt : List DueRow → ℕ → Option DueRow → Type 0
 IsAt listed n (Some due) = slice_get listed n ≡ Some due
 IsAt listed n None = length listed ≡ n
 
@@ -31,7 +31,7 @@ abbrev pub opening : List ℕ → ℕ → List ℕ
 opening front n = if n == 0 then front else []
 
 -- what went out before line n
-abbrev pub sent : CourtSettings → List ℕ → List DueLine → ℕ → List ℕ
+abbrev pub sent : CourtSettings → List ℕ → List DueRow → ℕ → List ℕ
 sent court front listed n = if n == 0 then [] else front ++ flat_map (calendar_line court) (take n listed)
 
 -- a front of the text went out, and it is not empty
@@ -47,18 +47,18 @@ module _ {S : Type 0} (g : Ghosts S) where
   LeavesAt old new Damaged = ⊥
 
   -- line n goes out, or the last line; `true` where a line may follow
-  abbrev pub SendsNext : List ℕ → Row → CourtSettings → List DueLine → ℕ → List ℕ → Option (List ℕ) → Option (List ℕ) → Held S → Held S → Result Bool Stop → Type 0
+  abbrev pub SendsNext : List ℕ → Row → CourtSettings → List DueRow → ℕ → List ℕ → Option (List ℕ) → Option (List ℕ) → Held S → Held S → Result Bool Stop → Type 0
   SendsNext sql params court listed n front before after old new (Ok true) =
-      IsUnchanged (state g old) (state g new) × ((due : DueLine) × (slice_get listed n ≡ Some due) × Appends before after (front ++ calendar_line court due)) × Gave g sql params court listed (n + 1) new
+      IsUnchanged (state g old) (state g new) × ((due : DueRow) × (slice_get listed n ≡ Some due) × Appends before after (front ++ calendar_line court due)) × Gave g sql params court listed (n + 1) new
   SendsNext sql params court listed n front before after old new (Ok false) =
       IsUnchanged (state g old) (state g new) × (length listed ≡ n) × Appends before after (front ++ end_line n)
   SendsNext sql params court listed n front before after old new (Err (NotBegun fault)) = (n ≡ 0) × Appends before after [] × LeavesAt old new fault
   SendsNext sql params court listed n front before after old new (Err (Broken fault)) = (1 ≤ n) × Appends before after [] × LeavesAt old new fault
   SendsNext sql params court listed n front before after old new (Err WriteFailed) =
-      IsUnchanged (state g old) (state g new) × ((due : Option DueLine) × IsAt listed n due × HasFront before after (front ++ line_text court n due))
+      IsUnchanged (state g old) (state g new) × ((due : Option DueRow) × IsAt listed n due × HasFront before after (front ++ line_text court n due))
 
   -- the text went out whole behind the front, with so many lines; or nothing did, or a front of it all
-  abbrev pub SendsAll : CourtSettings → List DueLine → List ℕ → Option (List ℕ) → Option (List ℕ) → Held S → Held S → Result ℕ Stop → Type 0
+  abbrev pub SendsAll : CourtSettings → List DueRow → List ℕ → Option (List ℕ) → Option (List ℕ) → Held S → Held S → Result ℕ Stop → Type 0
   SendsAll court listed front before after old new (Ok lines) =
       IsUnchanged (state g old) (state g new) × Appends before after (front ++ calendar_text court listed) × (lines ≡ length listed)
   SendsAll court listed front before after old new (Err (NotBegun fault)) = Appends before after [] × LeavesAt old new fault

@@ -9,7 +9,7 @@ ghost use Rattle.sqlite.specs.View.{doubt};
 ghost use Rattle.docket_decisions.specs.EndRows.{calendar_in};
 ghost use Rattle.docket_history.specs.Histories.{History};
 ghost use Rattle.docket_decisions.specs.Tables.{rows_of};
-ghost use Rattle.docket_history.specs.declared.record.DueLine.{DueLine as Due};
+ghost use Rattle.docket_history.specs.declared.record.DueRow.{DueRow as Due};
 ghost use Rattle.docket_tables.specs.Layouts.{Rows};
 ghost use Rattle.docket_tables.specs.Stands.{HoldsRows};
 ghost use Rattle.docket_calendar.specs.Asked.{Lists};

@@ -9,7 +9,7 @@ ghost use Rattle.sqlite.specs.View.{doubt};
 ghost use Rattle.docket_decisions.specs.EndRows.{calendar_in};
 ghost use Rattle.docket_history.specs.Histories.{History};
 ghost use Rattle.docket_decisions.specs.Tables.{rows_of};
-ghost use Rattle.docket_history.specs.declared.record.DueLine.{DueLine as Due};
+ghost use Rattle.docket_history.specs.declared.record.DueRow.{DueRow as Due};
 ghost use Rattle.docket_tables.specs.Asking.{OnlyAsks};
 ghost use Rattle.docket_tables.specs.Causes.{IsCausedFault};
 ghost use Rattle.docket_tables.specs.Layouts.{Rows as Stored};
@@ -25,7 +25,7 @@ ghost use Rattle.docket_calendar.specs.Telling.{IsHistoryOf, docket_rows};
 use crate::calendar_of_days::question;
 use crate::next::next_due;
 use court_days::{Calendar, Court, Day};
-use docket_history::DueLine;
+use docket_history::DueRow;
 use docket_tables::ReadFault;
 use sqlite::types::ValueRef;
 use sqlite::{Alter, Connection, Rows, params};
@@ -37,7 +37,7 @@ fn gather_all<S: Alter>(
     court: &Court,
     entered: &Calendar,
     rows: &mut Rows<'_, S>,
-) -> Result<Vec<DueLine>, ReadFault>
+) -> Result<Vec<DueRow>, ReadFault>
     ensures same_reference { rows.new.conn.ghost_name ≡ rows.old.conn.ghost_name }
     ensures mode { rows.old.conn.now.in_transaction ≡ false → rows.new.conn.now.in_transaction ≡ false }
     ensures survives { Survives (state S.Store rows.old.conn.now) (state S.Store rows.new.conn.now) (λ _. ⊥) }
@@ -66,7 +66,7 @@ fn gather<S: Alter>(
     entered: &Calendar,
     sql: &str,
     values: &[ValueRef<'_>],
-) -> Result<Vec<DueLine>, ReadFault>
+) -> Result<Vec<DueRow>, ReadFault>
     ensures mode { conn.old.in_transaction ≡ false → conn.new.in_transaction ≡ false }
     ensures clean { doubt (state S.Store conn.old).is_clean ≤ doubt (state S.Store conn.new).is_clean }
     ensures counts { (state S.Store conn.old).faults ≤ (state S.Store conn.new).faults }
@@ -93,7 +93,7 @@ fn gather_days<S: Alter>(
     entered: &Calendar,
     from: Day,
     to: Day,
-) -> Result<Vec<DueLine>, ReadFault>
+) -> Result<Vec<DueRow>, ReadFault>
     ensures mode { conn.old.in_transaction ≡ false → conn.new.in_transaction ≡ false }
     ensures clean { doubt (state S.Store conn.old).is_clean ≤ doubt (state S.Store conn.new).is_clean }
     ensures counts { (state S.Store conn.old).faults ≤ (state S.Store conn.new).faults }
@@ -121,7 +121,7 @@ pub fn due_rows<S: Alter>(
     entered: &Calendar,
     from: Day,
     to: Day,
-) -> Result<Vec<DueLine>, ReadFault>
+) -> Result<Vec<DueRow>, ReadFault>
     ensures only { OnlyAsks S.Store conn.old conn.new result }
     ensures gives { (h : History) → IsHistoryOf court.now h → HoldsRows S.Store conn.old (docket_rows court.now h)
         → (HasCleanDisk (state S.Store conn.new) → entered.now ≡ calendar_in (rows_of court.now h))

@@ -8,7 +8,7 @@ ghost use Rattle.docket_calendar.specs.Stops.{IsUnderWay};
 
 use crate::row::due_of;
 use court_days::{Calendar, Court};
-use docket_history::DueLine;
+use docket_history::DueRow;
 use docket_tables::ReadFault;
 use sqlite::{Alter, Rows};
 use std::alloc::Global;
@@ -19,7 +19,7 @@ pub(crate) fn next_due<S: Alter>(
     court: &Court,
     entered: &Calendar,
     rows: &mut Rows<'_, S>,
-) -> Result<Option<DueLine>, ReadFault>
+) -> Result<Option<DueRow>, ReadFault>
     ensures same_reference { rows.new.conn.ghost_name ≡ rows.old.conn.ghost_name }
     ensures mode { rows.old.conn.now.in_transaction ≡ false → rows.new.conn.now.in_transaction ≡ false }
     ensures survives { Survives (state S.Store rows.old.conn.now) (state S.Store rows.new.conn.now) (λ _. ⊥) }

@@ -1,12 +1,12 @@
 //! Deadlines whose time runs, as rows of SQL.
 ghost use Rattle.std.specs.Prelude.{◌≡◌, Some, IfOk};
-ghost use Rattle.docket_history.specs.declared.record.DueLine.{DueLine as Due};
+ghost use Rattle.docket_history.specs.declared.record.DueRow.{DueRow as Due};
 ghost use Rattle.docket_calendar.specs.DueCells.{due_cells, IsDue};
 
 use court_days::{Calendar, Court};
 use docket_columns::{count_at, end_time_at, text_at};
 use docket_command::Text;
-use docket_history::{DueLine, close_of_end};
+use docket_history::{DueRow, close_of_end};
 use sqlite::Row;
 use std::alloc::{AllocError, Global};
 
@@ -17,7 +17,7 @@ pub(crate) fn due_of(
     court: &Court,
     entered: &Calendar,
     row: &Row,
-) -> Result<Option<DueLine>, AllocError>
+) -> Result<Option<DueRow>, AllocError>
     ensures { (d : Due) → IsDue court.now entered.now d → row.now ≡ due_cells court.now d
         → IfOk result (λ found. found ≡ Some d) }
 {
@@ -37,7 +37,7 @@ pub(crate) fn due_of(
         return Ok(None);
     };
     let end = stored.end();
-    Ok(Some(DueLine {
+    Ok(Some(DueRow {
         end,
         close: close_of_end(court, entered, end),
         case,

@@ -11,7 +11,7 @@ ghost use Rattle.docket_calendar.specs.Stops.{IsCausedStop, IsStopAt, IsUnderWay
 use crate::next::next_due;
 use crate::stop::Stop;
 use court_days::{Calendar, Court};
-use docket_history::DueLine;
+use docket_history::DueRow;
 use docket_tables::ReadFault;
 use docket_text::{calendar_line, end_line};
 use line_io::write_bytes;
@@ -42,7 +42,7 @@ fn line_text(
     alloc: Global,
     court: &Court,
     lines: u32,
-    due: Option<DueLine>,
+    due: Option<DueRow>,
 ) -> Result<String, AllocError>
     ensures { IfOk result (λ text. string_bytes text ≡ line_text court.now lines due) }
 {

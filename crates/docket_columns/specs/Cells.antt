@@ -16,8 +16,8 @@ use Rattle.docket_history.specs.declared.row.DeadlineRow.{DeadlineRow}
 use Rattle.docket_history.specs.declared.row.ActRow.{ActRow}
 use Rattle.docket_history.specs.declared.row.LocalRuleRow.{LocalRuleRow}
 use Rattle.docket_history.specs.declared.row.Receipt.{Receipt}
-use Rattle.docket_history.specs.declared.view.UnderKey.{UnderKey}
-use Rattle.docket_history.specs.declared.view.UnderKey.TheVariants.{Same, Other}
+use Rattle.docket_history.specs.declared.view.Kept.{Kept}
+use Rattle.docket_history.specs.declared.view.Kept.TheVariants.{Same, Other}
 use Rattle.docket_decisions.specs.Outcomes.{replied}
 use Rattle.docket_columns.specs.declared.court.CourtRow.{CourtRow}
 use Rattle.docket_columns.specs.declared.version.Version.{Version}
@@ -117,5 +117,5 @@ abbrev pub receipt_cells : Receipt → Row
 receipt_cells r = stored_cells r.command.key (canonical r.command) r.reply.number
 
 -- what is kept under a key, for a command with this body
-abbrev pub kept_as : List ℕ → ℕ → List ℕ → UnderKey
+abbrev pub kept_as : List ℕ → ℕ → List ℕ → Kept
 kept_as stored reply body = if bytes_eq stored body then Same (replied reply) else Other

@@ -13,7 +13,7 @@ ghost use Rattle.docket_columns.specs.Fits.{IsCount, IsReceipt};
 
 use crate::cell::{bytes_at, count_at, has_values};
 use docket_command::{Command, Reply};
-use docket_history::UnderKey;
+use docket_history::Kept;
 use sqlite::Row;
 use sqlite::types::{ToSql, ValueRef};
 
@@ -50,19 +50,19 @@ pub fn reply_of(row: &Row) -> Option<Reply>
     }
 }
 
-fn kept_as(stored: &[u8], reply: Reply, body: &str) -> UnderKey
+fn kept_as(stored: &[u8], reply: Reply, body: &str) -> Kept
     ensures { result ≡ kept_as stored.now reply.number body.now }
 {
     if stored == body.as_bytes() {
-        UnderKey::Same(reply)
+        Kept::Same(reply)
     } else {
-        UnderKey::Other
+        Kept::Other
     }
 }
 
 /// What is kept under the key of the row, for a command with this canonical text. `None`: it is no row
 /// of a receipt.
-pub fn kept_by(row: &Row, body: &str) -> Option<UnderKey>
+pub fn kept_by(row: &Row, body: &str) -> Option<Kept>
     ensures stored { (key stored : List ℕ) (reply : ℕ) → IsCount reply → row.now ≡ stored_cells key stored reply
         → result ≡ Some (kept_as stored reply body.now) }
     ensures kept { (r : Receipt) (c : Asked) → IsReceipt r → IsCommand c → body.now ≡ canonical c → row.now ≡ receipt_cells r

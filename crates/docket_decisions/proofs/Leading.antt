@@ -31,8 +31,8 @@ use Rattle.docket_history.specs.declared.row.ActRow.{ActRow}
 use Rattle.docket_history.specs.declared.row.LocalRuleRow.{LocalRuleRow}
 use Rattle.docket_history.specs.declared.view.CaseView.{CaseView}
 use Rattle.docket_history.specs.declared.view.DeadlineView.{DeadlineView}
-use Rattle.docket_history.specs.declared.view.UnderKey.{UnderKey}
-use Rattle.docket_history.specs.declared.view.UnderKey.TheVariants.{Fresh, Same, Other}
+use Rattle.docket_history.specs.declared.view.Kept.{Kept}
+use Rattle.docket_history.specs.declared.view.Kept.TheVariants.{Fresh, Same, Other}
 use Rattle.docket_history.specs.declared.view.View.{View}
 use Rattle.docket_history.proofs.Asked.{no_party, no_entry, none_made, none_acted, none_acted_in, added_same, case_asked, party_asked, entry_asked, rule_asked, made_asked, next_asked}
 use Rattle.docket_decisions.proofs.Passed.{is_free}
@@ -196,7 +196,7 @@ leads court h c free there =
     ∙ (λ i. record (rows_of court (c ∷ h)) { next_row = next_row h + length-numbered (next_row h) (rows_added (items_of (standing_rows h)) a) i })
 
 -- an answer that accepts met no refusal
-met_none : (court : CourtSettings) (kept : UnderKey) (r : Option Refusal) (v : View) (c : Command) (reply : Reply) → answer_kept court kept v c ≡ accepted reply → refusal_of court v c ≡ r → (r ≡ None) × (reply ≡ replied (reply_to court v c.action))
+met_none : (court : CourtSettings) (kept : Kept) (r : Option Refusal) (v : View) (c : Command) (reply : Reply) → answer_kept court kept v c ≡ accepted reply → refusal_of court v c ≡ r → (r ≡ None) × (reply ≡ replied (reply_to court v c.action))
 met_none court Fresh (Some r) v c n e is = absurd (let clash : refused r ≡ accepted n = ap (answer_by court v c.action) (sym is) ∙ e in cc)
 met_none court Other (Some r) v c n e is = absurd (let clash : refused r ≡ accepted n = ap (answer_by court v c.action) (sym is) ∙ e in cc)
 met_none court (Same m) r v c n e is = absurd (let clash : repeated m ≡ accepted n = e in cc)

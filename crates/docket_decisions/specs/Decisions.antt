@@ -27,7 +27,7 @@ use Rattle.docket_decisions.specs.declared.decision.Decision.TheVariants as deci
 use Rattle.docket_decisions.specs.declared.decision.DecideFault.{DecideFault}
 use Rattle.docket_decisions.specs.declared.decision.DecideFault.TheVariants.{Refused, NoMemory}
 use Rattle.docket_history.specs.declared.view.DeadlineView.{DeadlineView}
-use Rattle.docket_history.specs.declared.view.UnderKey.TheVariants.{Same}
+use Rattle.docket_history.specs.declared.view.Kept.TheVariants.{Same}
 use Rattle.docket_history.specs.declared.view.View.{View}
 use Rattle.court_days.specs.Limits.{most_rows}
 

@@ -18,8 +18,8 @@ use Rattle.docket_history.specs.Views.{parties_in, entries_in, count_deadlines, 
 use Rattle.docket_history.specs.declared.row.CalendarRow.{CalendarRow}
 use Rattle.docket_history.specs.declared.row.CaseRow.{CaseRow}
 use Rattle.docket_history.specs.declared.row.Receipt.{Receipt}
-use Rattle.docket_history.specs.declared.view.UnderKey.{UnderKey}
-use Rattle.docket_history.specs.declared.view.UnderKey.TheVariants.{Fresh, Same, Other}
+use Rattle.docket_history.specs.declared.view.Kept.{Kept}
+use Rattle.docket_history.specs.declared.view.Kept.TheVariants.{Fresh, Same, Other}
 use Rattle.docket_history.specs.declared.view.View.{View}
 use Rattle.docket_history.specs.declared.view.CaseView.{CaseView}
 
@@ -94,11 +94,11 @@ receipts court (c ∷ before) =
     ++ record { command = c; reply = replied (reply_to court (shown_fresh before c.action) c.action) } ∷ []
 
 -- what stands under a command's key: the command under it is the same or another
-abbrev pub kept_by : Option Receipt → Command → UnderKey
+abbrev pub kept_by : Option Receipt → Command → Kept
 kept_by None c = Fresh
 kept_by (Some r) c = if is_same_command r.command c then Same r.reply else Other
 
-abbrev pub under_key : List Receipt → Command → UnderKey
+abbrev pub under_key : List Receipt → Command → Kept
 under_key rs c = kept_by (find (λ r. bytes_eq r.command.key c.key) rs) c
 
 -- what a history shows about a command
@@ -115,7 +115,7 @@ abbrev pub answer_by : CourtSettings → View → Action → Option Refusal → 
 answer_by court v a (Some r) = refused r
 answer_by court v a None = accepted (replied (reply_to court v a))
 
-abbrev pub answer_kept : CourtSettings → UnderKey → View → Command → Answer
+abbrev pub answer_kept : CourtSettings → Kept → View → Command → Answer
 answer_kept court (Same reply) v c = repeated reply
 answer_kept court _ v c = answer_by court v c.action (refusal_of court v c)
 

@@ -34,13 +34,13 @@ use Rattle.docket_history.specs.Views.{parties_in, entries_in, count_deadlines, 
 use Rattle.docket_history.specs.declared.item.CalendarItem.{CalendarItem}
 use Rattle.docket_history.specs.declared.item.CalendarItem.TheVariants.{Short}
 use Rattle.docket_history.specs.declared.view.DeadlineView.{DeadlineView}
-use Rattle.docket_history.specs.declared.view.UnderKey.{UnderKey}
-use Rattle.docket_history.specs.declared.view.UnderKey.TheVariants.{Other}
+use Rattle.docket_history.specs.declared.view.Kept.{Kept}
+use Rattle.docket_history.specs.declared.view.Kept.TheVariants.{Other}
 use Rattle.docket_history.specs.declared.view.View.{View}
 use Rattle.court_days.specs.Limits.{most_rows}
 
 -- the key has a receipt for another command
-abbrev pub is_reused : UnderKey → Bool
+abbrev pub is_reused : Kept → Bool
 is_reused Other = true
 is_reused _ = false
 

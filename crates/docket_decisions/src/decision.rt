@@ -14,9 +14,9 @@ use crate::deadline::deadlines_made;
 use crate::moving::{EndUpdate, end_update};
 use crate::refusals::{Circumstances, is_in_time, refusal};
 use court_days::{Calendar, Court};
-use court_rules::{Standing, standing_of};
+use court_rules::{Standing, due};
 use docket_command::{Action, Command, Refusal, Reply, Ruling};
-use docket_history::{Change, Subject, UnderKey, View, rows_added};
+use docket_history::{Change, Kept, Subject, View, rows_added};
 use std::alloc::{AllocError, AllocFailed, Global};
 
 /// The rows that a command adds and removes, one after another, what is done about the stored ends of
@@ -71,7 +71,7 @@ fn standing_shown(court: &Court, calendar: &Calendar, view: &View) -> Standing
     ensures near { StandsAfter 100 result }
 {
     match view.deadline_named() {
-        Some(deadline) => standing_of(court, calendar, deadline.acts.as_slice()),
+        Some(deadline) => due(court, calendar, deadline.acts.as_slice()),
         None => Standing::Vacated,
     }
 }
@@ -155,7 +155,7 @@ fn decide_by_view(
     ensures changes { IfOk result (IsChange (action_changes view.now command.now.action)) }
     ensures repeats { IfOk result (IsKeptReply view.now) }
 {
-    if let UnderKey::Same(reply) = view.under_key {
+    if let Kept::Same(reply) = view.under_key {
         return Ok(Decision::Repeat(reply));
     }
     let action = &command.action;

@@ -12,7 +12,7 @@ ghost use Rattle.docket_decisions.specs.declared.end_row.StoredEnd.{StoredEnd as
 ghost use Rattle.docket_decisions.specs.declared.end_row.EndChange.TheVariants as change;
 
 use court_days::{Calendar, Court, Day, End};
-use court_rules::{Standing, standing_of};
+use court_rules::{Standing, due};
 use docket_history::DeadlineView;
 use std::alloc::{AllocError, Global};
 
@@ -205,7 +205,7 @@ fn changes_of_case(
     let mut rest = stored;
     let mut number = 1;
     for deadline in deadlines {
-        let standing = standing_of(court, calendar, deadline.acts.as_slice());
+        let standing = due(court, calendar, deadline.acts.as_slice());
         let end = end_running(court, standing);
         change_end(&mut changes, case, number, first_end(rest, number), end)?;
         rest = after_first(rest, number);

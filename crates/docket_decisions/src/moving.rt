@@ -11,7 +11,7 @@ ghost use Rattle.docket_history.specs.Actions.{subject_of};
 
 use crate::end_row::{EndChange, EndTime, change_end, end_running};
 use court_days::{Calendar, Court};
-use court_rules::{Act, standing_of};
+use court_rules::{Act, due};
 use docket_history::{ActRow, Change, Subject, View};
 use std::alloc::{AllocError, Global};
 
@@ -49,7 +49,7 @@ fn end_by(court: &Court, calendar: &Calendar, acts: &[Act]) -> Option<EndTime>
     if acts.is_empty() {
         return None;
     }
-    end_running(court, standing_of(court, calendar, acts))
+    end_running(court, due(court, calendar, acts))
 }
 
 /// Adds the change that the act of the row makes.

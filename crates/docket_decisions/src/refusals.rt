@@ -15,13 +15,13 @@ use crate::lacking::{lacks_case, lacks_deadline, lacks_local_rule, lacks_party, 
 use court_days::{Calendar, Court, Day, Direction, End, Way, count_days, timely};
 use court_rules::{Act, DeadlineRule, MotionKind, Standing};
 use docket_command::{Action, Command, LocalRule, Moment, Refusal, Ruling};
-use docket_history::{Subject, UnderKey, View, row_entered, stands_among};
+use docket_history::{Kept, Subject, View, row_entered, stands_among};
 use docket_values::{bad_field, is_word};
 
-fn is_reused(found: UnderKey) -> bool
+fn is_reused(found: Kept) -> bool
     ensures { result ≡ is_reused found }
 {
-    matches!(found, UnderKey::Other)
+    matches!(found, Kept::Other)
 }
 
 fn exists_already(view: &View, action: &Action) -> bool

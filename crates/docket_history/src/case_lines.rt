@@ -8,7 +8,7 @@ ghost use Rattle.docket_history.specs.Records.{close_of_end, close_of_standing, 
 use crate::record::DeadlineLine;
 use crate::view::DeadlineView;
 use court_days::{Calendar, Court, End, closing};
-use court_rules::{Standing, standing_of};
+use court_rules::{Standing, due};
 use docket_command::Text;
 use std::alloc::{AllocError, Global};
 
@@ -69,7 +69,7 @@ pub fn deadline_lines(
     let mut lines = Vec::new(alloc);
     let mut number = 1;
     for deadline in deadlines {
-        let standing = standing_of(court, calendar, deadline.acts.as_slice());
+        let standing = due(court, calendar, deadline.acts.as_slice());
         lines.push(line_of(alloc, court, calendar, number, deadline, standing)?)?;
         number += 1;
     }

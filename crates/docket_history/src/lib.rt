@@ -18,11 +18,11 @@ mod view;
 pub use calendar_rows::{calendar_of, rows_added};
 pub use case_lines::{close_of_end, close_of_standing, deadline_lines, line_of};
 pub use item::{CalendarItem, NewRow, stands_among};
-pub use record::{CaseRecord, DeadlineLine, DueLine, EntryRows, PartyRows};
+pub use record::{CaseRecord, DeadlineLine, DueRow, EntryRows, PartyRows};
 pub use row::{
     ActRow, CalendarRow, CaseRow, Change, DeadlineRow, EntryRow, LocalRuleRow, NewDeadline,
     PartyRow, Receipt, ShortDayRow,
 };
 pub use standing::StandingCalendar;
 pub use subject::{Asks, Subject, row_entered};
-pub use view::{Acts, CaseView, DeadlineView, UnderKey, View, is_served_among, rule_name_asked};
+pub use view::{Acts, CaseView, DeadlineView, Kept, View, is_served_among, rule_name_asked};

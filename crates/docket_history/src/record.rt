@@ -92,7 +92,7 @@ pub struct DeadlineLine {
 /// `close` is the minute of the day at which the clerk's office is scheduled to close on the last day,
 /// and 0 where the time ends at an instant.
 #[derive(Drop)]
-pub struct DueLine {
+pub struct DueRow {
     pub end: End,
     pub close: u32,
     pub case: u32,

@@ -12,7 +12,7 @@ use std::marker::Model;
 /// What stands under a command's key: nothing, the same command with the reply that it had, or
 /// another command.
 #[derive(Clone, Copy)]
-pub enum UnderKey {
+pub enum Kept {
     Fresh,
     Same(Reply),
     Other,
@@ -193,7 +193,7 @@ pub fn rule_name_asked<'a>(case: &'a Option<CaseView>, action: &'a Action) -> Op
 /// there are (0 where it enters none).
 #[derive(Drop)]
 pub struct View {
-    pub under_key: UnderKey,
+    pub under_key: Kept,
     pub cases: u32,
     pub label_taken: bool,
     pub case: Option<CaseView>,

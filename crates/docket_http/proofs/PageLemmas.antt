@@ -9,7 +9,7 @@ use Rattle.std.specs.Prelude.{get_or, slice_get}
 use Rattle.court_days.specs.Court.{CourtSettings}
 use Rattle.docket_history.specs.Histories.{History, case_rows}
 use Rattle.docket_history.specs.Records.{case_at}
-use Rattle.docket_history.specs.declared.record.DueLine.{DueLine}
+use Rattle.docket_history.specs.declared.record.DueRow.{DueRow}
 use Rattle.docket_history.specs.declared.row.CaseRow.{CaseRow}
 use Rattle.docket_applying.specs.declared.fault.Fault.{Fault}
 use Rattle.html_sheets.specs.Weeks.{due_row}
@@ -58,7 +58,7 @@ one_more rows from more case some found now next before added =
     added ∙ ap (λ (cases : List CaseRow). cases ++ case ∷ []) before ∙ sym (taken (drop (from - 1) rows) more case (sym (case_from rows from more some) ∙ next))
 
 -- the row of a deadline, by the court that the docket had before
-pub row_told : (h : History) (due : DueLine) (court now was : CourtSettings) (case : Option CaseRow) (row : List ℕ) → court ≡ now → now ≡ was → case ≡ case_at (case_rows h) due.case
+pub row_told : (h : History) (due : DueRow) (court now was : CourtSettings) (case : Option CaseRow) (row : List ℕ) → court ≡ now → now ≡ was → case ≡ case_at (case_rows h) due.case
     → row ≡ due_row Pages court due (caption_of case) → row ≡ due_told was h due
 row_told h due court now was case row same kept found is =
     is ∙ ap (λ (x : CourtSettings). due_row Pages x due (caption_of case)) (same ∙ kept) ∙ ap (λ (x : Option CaseRow). due_row Pages was due (caption_of x)) found
@@ -89,7 +89,7 @@ module _ {X : Type 0} (f : X → List ℕ) (xs : List X) where
       ∙ append_assoc head (flat_map f found) foot
 
 -- one more row, by the court that the docket had before
-pub one_added : (h : History) (now was : CourtSettings) (dues : List DueLine) (n : ℕ) (due : DueLine) → n < length dues → due ≡ get_or dues n due
+pub one_added : (h : History) (now was : CourtSettings) (dues : List DueRow) (n : ℕ) (due : DueRow) → n < length dues → due ≡ get_or dues n due
     → (first before text : List ℕ) → now ≡ was → before ≡ first ++ flat_map (due_told was h) (take n dues) → text ≡ before ++ due_told now h due
     → text ≡ first ++ flat_map (due_told was h) (take (n + 1) dues)
 one_added h now was dues n due inside is first before text kept so_far next =

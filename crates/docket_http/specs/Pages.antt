@@ -6,7 +6,7 @@ use Rattle.court_days.specs.Court.{CourtSettings}
 use Rattle.docket_calendar.specs.Calendar.{calendar_rows}
 use Rattle.docket_history.specs.Histories.{History, case_rows}
 use Rattle.docket_history.specs.Records.{case_at}
-use Rattle.docket_history.specs.declared.record.DueLine.{DueLine}
+use Rattle.docket_history.specs.declared.record.DueRow.{DueRow}
 use Rattle.docket_history.specs.declared.row.CaseRow.{CaseRow}
 use Rattle.html_sheets.specs.Sites.{cases_page, days_page_foot, days_page_head}
 use Rattle.html_sheets.specs.Weeks.{due_row}
@@ -34,7 +34,7 @@ abbrev pub caption_of : Option CaseRow → List ℕ
 caption_of None = []
 caption_of (Some case) = case.caption
 
-abbrev pub due_told : CourtSettings → History → DueLine → List ℕ
+abbrev pub due_told : CourtSettings → History → DueRow → List ℕ
 due_told court h due = due_row Pages court due (caption_of (case_at (case_rows h) due.case))
 
 -- the deadlines whose time runs to one of the days, in the order of the calendar

@@ -24,7 +24,7 @@ ghost use Rattle.docket_http.specs.Pages.{caption_of, cases_from, days_page, due
 use crate::asking::{Telling, case_reply};
 use crate::reply::{Reply, html_reply};
 use court_days::{Court, Day};
-use docket_history::{CaseRow, DueLine};
+use docket_history::{CaseRow, DueRow};
 use docket_store::{Docket, Fault};
 use html_sheets::{Links, cases_page, days_page_foot, days_page_head, due_row};
 use http_request::Page;
@@ -109,7 +109,7 @@ fn caption_of(case: Option<&CaseRow>) -> &str
 fn told_due(
     alloc: Global,
     court: &Court,
-    due: &DueLine,
+    due: &DueRow,
     case: Option<CaseRow>,
 ) -> Result<String, AllocError>
     ensures { IfOk result (λ row. string_bytes row ≡ due_row Pages court.now due.now (caption_of case)) }
@@ -122,7 +122,7 @@ fn push_due<S: Alter>(
     alloc: Global,
     docket: &mut Docket<S>,
     page: &mut String,
-    due: &DueLine,
+    due: &DueRow,
 ) -> Result<(), Fault>
     ensures court { docket.new.court ≡ docket.old.court }
     ensures clean { doubt (state S.Store docket.old.conn).is_clean ≤ doubt (state S.Store docket.new.conn).is_clean }
@@ -142,7 +142,7 @@ fn push_dues<S: Alter>(
     alloc: Global,
     docket: &mut Docket<S>,
     page: &mut String,
-    dues: &[DueLine],
+    dues: &[DueRow],
 ) -> Result<(), Fault>
     ensures court { docket.new.court ≡ docket.old.court }
     ensures clean { doubt (state S.Store docket.old.conn).is_clean ≤ doubt (state S.Store docket.new.conn).is_clean }
@@ -163,7 +163,7 @@ fn days_told<S: Alter>(
     docket: &mut Docket<S>,
     from: Day,
     to: Day,
-    dues: &[DueLine],
+    dues: &[DueRow],
 ) -> Result<String, Fault>
     ensures court { docket.new.court ≡ docket.old.court }
     ensures clean { doubt (state S.Store docket.old.conn).is_clean ≤ doubt (state S.Store docket.new.conn).is_clean }

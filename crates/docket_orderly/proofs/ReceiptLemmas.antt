@@ -26,8 +26,8 @@ use Rattle.docket_history.specs.Times.{standing_shown, is_in_time}
 use Rattle.docket_history.specs.Views.{parties_in, entries_in, count_deadlines}
 use Rattle.docket_decisions.specs.Values.{is_word, first_bad, bad_values}
 use Rattle.docket_history.specs.declared.row.Receipt.{Receipt}
-use Rattle.docket_history.specs.declared.view.UnderKey.{UnderKey}
-use Rattle.docket_history.specs.declared.view.UnderKey.TheVariants.{Fresh, Same, Other}
+use Rattle.docket_history.specs.declared.view.Kept.{Kept}
+use Rattle.docket_history.specs.declared.view.Kept.TheVariants.{Fresh, Same, Other}
 use Rattle.docket_history.specs.declared.view.View.{View}
 use Rattle.docket_decisions.proofs.Leading.{is_accepted, case_numbered, length-deadlines_from}
 use Rattle.docket_decisions.proofs.LimitsKept.{within_limits}
@@ -47,7 +47,7 @@ accepts : (court : CourtSettings) (o : Option Refusal) (v : View) (c : Command) 
 accepts court None v c reply e = refl
 accepts court (Some r) v c reply e = absurd (let clash : refused r ≡ accepted reply = e in cc)
 
-pub fresh_by : (court : CourtSettings) (k : UnderKey) (v : View) (c : Command) (reply : Reply) → v.under_key ≡ k → answer_kept court k v c ≡ accepted reply → k ≡ Fresh
+pub fresh_by : (court : CourtSettings) (k : Kept) (v : View) (c : Command) (reply : Reply) → v.under_key ≡ k → answer_kept court k v c ≡ accepted reply → k ≡ Fresh
 fresh_by court Fresh v c reply is e = refl
 fresh_by court (Same old) v c reply is e = absurd (let clash : repeated old ≡ accepted reply = e in cc)
 fresh_by court Other v c reply is e =

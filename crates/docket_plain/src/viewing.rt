@@ -16,8 +16,8 @@ use crate::vectors::Vectors;
 use court_rules::Act;
 use docket_command::{Action, Command, LocalRule, Text};
 use docket_history::{
-    ActRow, Acts, CalendarItem, CalendarRow, CaseRow, CaseView, DeadlineView, EntryRow,
-    LocalRuleRow, PartyRow, Receipt, StandingCalendar, Subject, UnderKey, View, rule_name_asked,
+    ActRow, Acts, CalendarItem, CalendarRow, CaseRow, CaseView, DeadlineView, EntryRow, Kept,
+    LocalRuleRow, PartyRow, Receipt, StandingCalendar, Subject, View, rule_name_asked,
 };
 use std::alloc::{AllocError, Global};
 
@@ -30,13 +30,13 @@ fn receipt_of<'a>(receipts: &'a [Receipt], key: &Text) -> Option<&'a Receipt>
         .find(|receipt| receipt.command.key.same(key))
 }
 
-fn under_key(receipts: &[Receipt], command: &Command) -> UnderKey
+fn under_key(receipts: &[Receipt], command: &Command) -> Kept
     ensures { result ≡ under_key receipts.now command.now }
 {
     match receipt_of(receipts, &command.key) {
-        Some(receipt) if receipt.command.same(command) => UnderKey::Same(receipt.reply),
-        Some(_) => UnderKey::Other,
-        None => UnderKey::Fresh,
+        Some(receipt) if receipt.command.same(command) => Kept::Same(receipt.reply),
+        Some(_) => Kept::Other,
+        None => Kept::Fresh,
     }
 }
 

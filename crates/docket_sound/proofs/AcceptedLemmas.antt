@@ -14,7 +14,7 @@ use Rattle.docket_decisions.specs.Outcomes.{outcome, answer_kept, accepted, repe
 use Rattle.docket_decisions.specs.Refusals.{on, on_value, first_some, refusal_of, is_reused, lacks_case, lacks_party}
 use Rattle.docket_values.specs.Values.{is_word, first_bad, bad_values}
 use Rattle.docket_history.specs.declared.row.Receipt.{Receipt}
-use Rattle.docket_history.specs.declared.view.UnderKey.TheVariants.{Same, Other}
+use Rattle.docket_history.specs.declared.view.Kept.TheVariants.{Same, Other}
 use Rattle.docket_history.specs.declared.view.View.{View}
 use Rattle.docket_decisions.proofs.Leading.{is_accepted}
 use Rattle.docket_decisions.proofs.Passed.{IsFree, is_free}

@@ -8,7 +8,7 @@ ghost use Rattle.docket_sound.specs.Acts.{are_lawful};
 ghost use Rattle.docket_sound.specs.Dues.{HasTakenDues};
 
 use court_days::{Calendar, Court};
-use court_rules::{Act, Standing, standing_of};
+use court_rules::{Act, Standing, due};
 use docket_decisions::{StoredEnd, end_running};
 use std::alloc::AllocError;
 
@@ -18,7 +18,7 @@ pub(crate) fn deadline_standing(court: &Court, calendar: &Calendar, acts: &[Act]
     ensures value { result ≡ standing (zone_of court.now) calendar.now acts.now }
     ensures near { StandsAfter 100 result }
 {
-    standing_of(court, calendar, acts)
+    due(court, calendar, acts)
 }
 
 /// Adds the row of a deadline that stands so, if its time runs.

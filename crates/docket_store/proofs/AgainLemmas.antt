@@ -15,8 +15,8 @@ use Rattle.docket_command.proofs.SamenessLemmas.{same_command}
 use Rattle.docket_history.specs.Histories.{History}
 use Rattle.docket_decisions.specs.Outcomes.{Answer, accepted, repeated, refused, answer_kept, under_key, kept_by, receipts, reply_to, replied, shown, shown_fresh, outcome, after, after_answer}
 use Rattle.docket_history.specs.declared.row.Receipt.{Receipt}
-use Rattle.docket_history.specs.declared.view.UnderKey.{UnderKey}
-use Rattle.docket_history.specs.declared.view.UnderKey.TheVariants.{Same, Other}
+use Rattle.docket_history.specs.declared.view.Kept.{Kept}
+use Rattle.docket_history.specs.declared.view.Kept.TheVariants.{Same, Other}
 use Rattle.docket_history.specs.declared.view.View.{View}
 use Rattle.docket_decisions.proofs.Leading.{is_accepted}
 use Rattle.docket_applying.proofs.ReceiptLemmas.{fresh_by, none_found}
@@ -27,7 +27,7 @@ use Rattle.docket_applying.specs.declared.fault.Fault.{Fault}
 use Rattle.docket_applying.proofs.ApplyLemmas.{after_repeated}
 
 -- the reply to an action does not tell what stands under the key
-reply_kept : (court : CourtSettings) (v : View) (k : UnderKey) (a : Action) → reply_to court (record v { under_key = k }) a ≡ reply_to court v a
+reply_kept : (court : CourtSettings) (v : View) (k : Kept) (a : Action) → reply_to court (record v { under_key = k }) a ≡ reply_to court v a
 reply_kept court v k (action.DeclareDay a) = refl
 reply_kept court v k a = refl
 

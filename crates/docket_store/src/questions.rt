@@ -33,7 +33,7 @@ use docket_applying::{
     grounds_of, lines_numbered, list_days, read_fault,
 };
 use docket_history::{
-    CalendarRow, CaseRecord, CaseRow, DeadlineLine, DueLine, LocalRuleRow, PartyRow,
+    CalendarRow, CaseRecord, CaseRow, DeadlineLine, DueRow, LocalRuleRow, PartyRow,
 };
 use docket_tables::{ReadFault, calendar, case, case_labelled, local_rules, parties};
 use sqlite::{Alter, Connection, Error};
@@ -186,7 +186,7 @@ impl<S: Alter> Docket<S> {
 
     /// The deadlines of the docket whose time runs to a day from one to another, both included, in the order
     /// of the calendar. All of them are held at once.
-    pub fn due_rows(&mut self, from: Day, to: Day) -> Result<Vec<DueLine>, Fault>
+    pub fn due_rows(&mut self, from: Day, to: Day) -> Result<Vec<DueRow>, Fault>
         ensures answer { (h : History) → Stands S.Store self.old h
             → Asks S.Store self.new h (λ found. found.items ≡ due_rows self.old.court h from to) result }
         ensures only { OnlyAnswers S.Store self.old self.new result }

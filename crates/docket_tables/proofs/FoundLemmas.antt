@@ -17,8 +17,8 @@ use Rattle.docket_history.specs.declared.row.CaseRow.{CaseRow}
 use Rattle.docket_history.specs.declared.row.DeadlineRow.{DeadlineRow}
 use Rattle.docket_history.specs.declared.row.LocalRuleRow.{LocalRuleRow}
 use Rattle.docket_history.specs.declared.row.Receipt.{Receipt}
-use Rattle.docket_history.specs.declared.view.UnderKey.{UnderKey}
-use Rattle.docket_history.specs.declared.view.UnderKey.TheVariants.{Fresh}
+use Rattle.docket_history.specs.declared.view.Kept.{Kept}
+use Rattle.docket_history.specs.declared.view.Kept.TheVariants.{Fresh}
 use Rattle.docket_columns.specs.Cells.{case_cells, deadline_cells, local_rule_cells, receipt_cells}
 use Rattle.docket_columns.specs.Fits.{IsCaseRow, IsDeadlineRow, IsLocalRuleRow, IsReceipt}
 use Rattle.docket_orderly.specs.Orderly.{RunsFrom, cases_labelled, local_rules_named, receipts_under}
@@ -86,7 +86,7 @@ alone : {X : Type 0} (x : X) (rest : List X) → length (x ∷ rest) ≤ 1 → x
 alone x [] few = refl
 alone x (y ∷ rest) few = absurd (omega (arith, few))
 
-pub kept_read : (c : Command) (result : Result UnderKey ReadFault) (found : List Row) (receipts : List Receipt) → AllByRecursion IsReceipt receipts → length (receipts_under c.key receipts) ≤ 1
+pub kept_read : (c : Command) (result : Result Kept ReadFault) (found : List Row) (receipts : List Receipt) → AllByRecursion IsReceipt receipts → length (receipts_under c.key receipts) ≤ 1
     → IsAnswer ask.Receipt (Text c.key ∷ []) (map receipt_cells receipts) found
     → (found ≡ [] → result ≡ Ok Fresh) → ((r : Receipt) → IsReceipt r → found ≡ receipt_cells r ∷ [] → result ≡ Ok (kept_by (Some r) c))
     → IsReadAs (λ k. k ≡ under_key receipts c) result

@@ -12,8 +12,8 @@ use Rattle.std.proofs.lemmas.Slice.Eq.{bytes_eq-Decides}
 use Rattle.sqlite.specs.declared.types.Value.TheVariants.{Int, Text}
 use Rattle.sqlite.specs.Order.{Row}
 use Rattle.docket_command.specs.declared.refusal.Reply.{Reply}
-use Rattle.docket_history.specs.declared.view.UnderKey.{UnderKey}
-use Rattle.docket_history.specs.declared.view.UnderKey.TheVariants.{Same, Other}
+use Rattle.docket_history.specs.declared.view.Kept.{Kept}
+use Rattle.docket_history.specs.declared.view.Kept.TheVariants.{Same, Other}
 use Rattle.docket_columns.specs.Cells.{kept_as, stored_cells}
 use Rattle.docket_tables.specs.Holds.{has_key}
 use Rattle.docket_tables.specs.Queries.{IsAnswer}
@@ -32,12 +32,12 @@ kept_same stored number body reply = at (bytes_eq stored body) refl
     at false other is = absurd (let no = is in cc)
 
 -- the row of a receipt whose reply is told has that body
-pub kept_told : (found : Option UnderKey) (result : Result UnderKey ReadFault) (row : Row) (body : List ℕ) → result ≡ ok_or found Damaged
+pub kept_told : (found : Option Kept) (result : Result Kept ReadFault) (row : Row) (body : List ℕ) → result ≡ ok_or found Damaged
     → IfSome found (λ kept. (key stored : List ℕ) × (number : ℕ) × (row ≡ stored_cells key stored number) × (kept ≡ kept_as stored number body))
     → (reply : Reply) → result ≡ Ok (Same reply) → (key : List ℕ) × (row ≡ stored_cells key body reply.number)
-kept_told None result row body is sound reply same = absurd (subst (λ (r : Result UnderKey ReadFault). IfErr r (λ _. ⊥)) (sym same ∙ is) tt)
+kept_told None result row body is sound reply same = absurd (subst (λ (r : Result Kept ReadFault). IfErr r (λ _. ⊥)) (sym same ∙ is) tt)
 kept_told (Some kept) result row body is sound reply same =
-    let kept_is = subst (λ (r : Result UnderKey ReadFault). IfOk r (λ k. k ≡ Same reply)) (sym same ∙ is) refl in
+    let kept_is = subst (λ (r : Result Kept ReadFault). IfOk r (λ k. k ≡ Same reply)) (sym same ∙ is) refl in
     let parts = kept_same sound.1 sound.2 body reply (sym sound.4 ∙ kept_is) in
     (sound.0, sound.3 ∙ (λ i. stored_cells sound.0 (parts.0 i) (parts.1 i)))
 

@@ -9,7 +9,7 @@ ghost use Rattle.docket_decisions.specs.EndRows.{end_rows};
 ghost use Rattle.docket_history.specs.Histories.{parties_of_case, entries_of_case, deadlines_of_case, acts_of_deadline, local_rule_in};
 ghost use Rattle.docket_decisions.specs.Outcomes.{under_key};
 ghost use Rattle.docket_history.specs.Records.{case_at, case_labelled};
-ghost use Rattle.docket_history.specs.declared.view.UnderKey.TheVariants.{Same};
+ghost use Rattle.docket_history.specs.declared.view.Kept.TheVariants.{Same};
 ghost use Rattle.docket_wire.specs.Valid.{IsCommand};
 ghost use Rattle.docket_wire.specs.Writing.{canonical};
 ghost use Rattle.docket_tables.specs.Asking.{OnlyAsks};
@@ -30,7 +30,7 @@ use docket_columns::CourtRow;
 use docket_command::{Command, LocalRule};
 use docket_decisions::StoredEnd;
 use docket_history::{
-    ActRow, CalendarRow, CaseRow, DeadlineRow, EntryRow, LocalRuleRow, PartyRow, UnderKey,
+    ActRow, CalendarRow, CaseRow, DeadlineRow, EntryRow, Kept, LocalRuleRow, PartyRow,
 };
 use sqlite::types::ToSql;
 use sqlite::{Alter, Connection};
@@ -278,7 +278,7 @@ pub fn under_key<S: Alter>(
     conn: &mut Connection<S>,
     command: &Command,
     body: &str,
-) -> Result<UnderKey, ReadFault>
+) -> Result<Kept, ReadFault>
     requires body { body.now ≡ canonical command.now }
     requires lawful { IsCommand command.now }
     ensures read { Reads S.Store conn.old conn.new result (λ _ t found. found ≡ under_key t.receipts command.now) }

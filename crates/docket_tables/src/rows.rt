@@ -12,7 +12,7 @@ ghost use Rattle.docket_history.specs.ShortDays.{day_and_span_rows, short_day_ro
 ghost use Rattle.docket_history.specs.declared.row.CalendarRow.{CalendarRow as Entered};
 ghost use Rattle.docket_history.specs.declared.row.LocalRuleRow.{LocalRuleRow as Entry};
 ghost use Rattle.docket_history.specs.declared.row.Receipt.{Receipt as Stored};
-ghost use Rattle.docket_history.specs.declared.view.UnderKey.TheVariants as under_key;
+ghost use Rattle.docket_history.specs.declared.view.Kept.TheVariants as under_key;
 ghost use Rattle.docket_wire.specs.Valid.{IsCommand};
 ghost use Rattle.docket_wire.specs.Writing.{canonical};
 ghost use Rattle.docket_columns.specs.Cells.{act_cells, calendar_cells, court_cells, local_rule_cells, receipt_cells, short_day_cells, stored_cells};
@@ -24,7 +24,7 @@ use crate::fault::ReadFault;
 use court_rules::Act;
 use docket_columns::{CourtRow, StoredRow, Version, count_at, court_of, kept_by};
 use docket_command::LocalRule;
-use docket_history::{ActRow, CalendarRow, LocalRuleRow, ShortDayRow, UnderKey};
+use docket_history::{ActRow, CalendarRow, Kept, LocalRuleRow, ShortDayRow};
 use sqlite::Row;
 use std::alloc::{AllocError, Global};
 
@@ -123,7 +123,7 @@ pub(crate) fn court_in(alloc: Global, rows: &[Row]) -> Result<CourtRow, ReadFaul
 }
 
 /// What is kept under the key of the first row, for a command with this canonical text.
-pub(crate) fn kept_in(rows: &[Row], body: &str) -> Result<UnderKey, ReadFault>
+pub(crate) fn kept_in(rows: &[Row], body: &str) -> Result<Kept, ReadFault>
     ensures none { rows.now ≡ [] → result ≡ Ok under_key.Fresh }
     ensures one { (r : Stored) (c : Asked) → IsReceipt r → IsCommand c → body.now ≡ canonical c → rows.now ≡ receipt_cells r ∷ []
         → result ≡ Ok (kept_by (Some r) c) }
@@ -132,7 +132,7 @@ pub(crate) fn kept_in(rows: &[Row], body: &str) -> Result<UnderKey, ReadFault>
     ensures own { IfErr result IsOwn }
 {
     let Some(row) = rows.first() else {
-        return Ok(UnderKey::Fresh);
+        return Ok(Kept::Fresh);
     };
     kept_by(row, body).ok_or(ReadFault::Damaged)
 }

@@ -16,7 +16,7 @@ use Rattle.court_rules.specs.declared.deadline_rule.DeadlineRule.{DeadlineRule}
 use Rattle.court_rules.specs.declared.deadline_rule.DeadlineRule.TheVariants.{Listed, Local}
 use Rattle.court_rules.specs.declared.rule.Rule.{Rule}
 use Rattle.court_rules.specs.declared.rule.Rule.TheVariants.{Ordered}
-use Rattle.docket_history.specs.declared.record.DueLine.{DueLine}
+use Rattle.docket_history.specs.declared.record.DueRow.{DueRow}
 use Rattle.docket_text.specs.CalendarTexts.{end_columns, calendar_line}
 use Rattle.docket_text.specs.Lines.{right_in, left_in}
 use Rattle.docket_text.specs.Parties.{party_text}
@@ -39,7 +39,7 @@ end_columns-length court close (LastDay day) = simp length-append (omega (arith,
 end_columns-length court close (Moment at) = simp length-append (omega (arith, day_text-length (local_day (zone_of court) (shown at))))
 
 -- 57 bytes and LF
-pub calendar_line-length : (court : CourtSettings) (row : DueLine) → row.case < 10_000_000 → row.number < 10_000 → length row.rule ≤ 16 → row.party < 10_000 → length (calendar_line court row) ≡ 58
+pub calendar_line-length : (court : CourtSettings) (row : DueRow) → row.case < 10_000_000 → row.number < 10_000 → length row.rule ≤ 16 → row.party < 10_000 → length (calendar_line court row) ≡ 58
 calendar_line-length court row case number rule party =
     let columns = end_columns-length court row.close row.end in
     let case_column = right_in-length 7 (decimal row.case) (length-decimal-le 7 row.case (omega arith) (omega arith) (omega arith)) in

@@ -11,7 +11,7 @@ use Rattle.std.proofs.lemmas.List.Sorted.{sorted_far, ranks_by}
 use Rattle.court_days.specs.Court.{CourtSettings}
 use Rattle.court_days.specs.declared.filing.End.{End}
 use Rattle.court_days.specs.declared.filing.End.TheVariants.{LastDay, Moment}
-use Rattle.docket_history.specs.declared.record.DueLine.{DueLine}
+use Rattle.docket_history.specs.declared.record.DueRow.{DueRow}
 use Rattle.docket_text.specs.CalendarOrder.{day_of_end, end_cmp, calendar_cmp}
 
 antisymm : (a b : End) → end_cmp a b ≡ ordering_reverse (end_cmp b a)
@@ -41,13 +41,13 @@ end_cmp_total = record { antisymm = antisymm; trans = trans; congr = congr }
 
 pub calendar_cmp_total : (court : CourtSettings) → IsTotalOrder (calendar_cmp court)
 calendar_cmp_total court =
-    then_total (on_total (λ (row : DueLine). day_of_end court row.end) nat_cmp_total)
-    (then_total (on_total (λ (row : DueLine). row.end) end_cmp_total)
-    (then_total (on_total (λ (row : DueLine). row.case) nat_cmp_total) (on_total (λ (row : DueLine). row.number) nat_cmp_total)))
+    then_total (on_total (λ (row : DueRow). day_of_end court row.end) nat_cmp_total)
+    (then_total (on_total (λ (row : DueRow). row.end) end_cmp_total)
+    (then_total (on_total (λ (row : DueRow). row.case) nat_cmp_total) (on_total (λ (row : DueRow). row.number) nat_cmp_total)))
 
 -- so no row stands before one that comes earlier, however far they are apart
-pub in_order : (court : CourtSettings) (listed : List DueLine) → IsSorted (calendar_cmp court) listed → AllPairs (λ a b. calendar_cmp court b a ≢ Less) listed
+pub in_order : (court : CourtSettings) (listed : List DueRow) → IsSorted (calendar_cmp court) listed → AllPairs (λ a b. calendar_cmp court b a ≢ Less) listed
 in_order court listed sorted i j d lt inside earlier =
     let order = calendar_cmp_total court in
-    let later = sorted_far (λ (a b : DueLine). is_lt (calendar_cmp court a b)) (ranks_by order (λ row. row)) listed sorted i j d (omega arith) inside in
+    let later = sorted_far (λ (a b : DueRow). is_lt (calendar_cmp court a b)) (ranks_by order (λ row. row)) listed sorted i j d (omega arith) inside in
     false≢true (sym later ∙ ap is_lt earlier)

@@ -12,11 +12,11 @@ use Rattle.court_days.specs.declared.filing.End.TheVariants.{LastDay, Moment}
 use Rattle.court_rules.specs.declared.act.Standing.{Standing}
 use Rattle.court_rules.specs.declared.act.Standing.TheVariants.{Running, Suspended, Awaiting, Done, Vacated}
 use Rattle.docket_history.specs.declared.record.DeadlineLine.{DeadlineLine}
-use Rattle.docket_history.specs.declared.record.DueLine.{DueLine}
+use Rattle.docket_history.specs.declared.record.DueRow.{DueRow}
 use Rattle.docket_text.specs.Times.{shown}
 
 -- the row of a deadline of the case that stands so, if its time runs
-abbrev pub row_where : ℕ → DeadlineLine → Standing → List DueLine
+abbrev pub row_where : ℕ → DeadlineLine → Standing → List DueRow
 row_where case line (Running end) =
     record { end = end; close = line.close; case = case; number = line.number; party = line.party; rule = line.rule } ∷ []
 row_where case line Suspended = []
@@ -25,7 +25,7 @@ row_where case line Done = []
 row_where case line Vacated = []
 
 -- the rows of the deadlines of a case whose time runs, in the order of the deadlines
-abbrev pub due_rows : ℕ → List DeadlineLine → List DueLine
+abbrev pub due_rows : ℕ → List DeadlineLine → List DueRow
 due_rows case lines = flat_map (λ line. row_where case line line.standing) lines
 
 -- the last day; of an instant, its local day
@@ -47,7 +47,7 @@ first_deciding (first ∷ []) = first
 first_deciding (first ∷ next ∷ rest) = ordering_then first (first_deciding (next ∷ rest))
 
 -- the order of the calendar: by the day, on a day by the end, then by the case and by the deadline's number there
-abbrev pub calendar_cmp : CourtSettings → DueLine → DueLine → Ordering
+abbrev pub calendar_cmp : CourtSettings → DueRow → DueRow → Ordering
 calendar_cmp court a b = first_deciding (
     nat_cmp (day_of_end court a.end) (day_of_end court b.end)
     ∷ end_cmp a.end b.end
@@ -56,6 +56,6 @@ calendar_cmp court a b = first_deciding (
     ∷ [])
 
 -- the calendar of these rows: the same rows, none before one that comes earlier
-pub record IsCalendar (court : CourtSettings) (rows listed : List DueLine) : Type 0 where
+pub record IsCalendar (court : CourtSettings) (rows listed : List DueRow) : Type 0 where
   pub same : IsPermutation rows listed
   pub ordered : IsSorted (calendar_cmp court) listed

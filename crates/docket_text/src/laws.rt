@@ -8,7 +8,7 @@ ghost use Rattle.court_days.specs.Court.{CourtSettings};
 ghost use Rattle.court_days.specs.Holiday.{is_fixed_date, is_monday_date, is_thursday_date, IsFixedHoliday, IsStatutory};
 ghost use Rattle.court_rules.specs.LocalRules.{IsDeadlineRule, deadline_rule_name};
 ghost use Rattle.court_rules.specs.declared.deadline_rule.DeadlineRule.{DeadlineRule};
-ghost use Rattle.docket_history.specs.declared.record.DueLine.{DueLine};
+ghost use Rattle.docket_history.specs.declared.record.DueRow.{DueRow};
 ghost use Rattle.docket_text.specs.CalendarOrder.{IsCalendar, calendar_cmp};
 ghost use Rattle.docket_text.specs.CalendarTexts.{calendar_line};
 ghost use Rattle.docket_text.specs.HolidayNames.{IsObserved, fixed_name, monday_name, holiday_name};
@@ -17,7 +17,7 @@ ghost use Rattle.docket_text.specs.HolidayTexts.{IsOfYear, days_of_year, holiday
 /// A line of the calendar has 57 bytes and LF where its parts fit their columns, as those of a docket
 /// and the names of the rules do.
 pub fn lines_have_57_bytes()
-    ensures lines { (court : CourtSettings) (row : DueLine) → row.case < 10_000_000
+    ensures lines { (court : CourtSettings) (row : DueRow) → row.case < 10_000_000
         → row.number < 10_000 → length row.rule ≤ 16 → row.party < 10_000
         → length (calendar_line court row) ≡ 58 }
     ensures rules { (rule : DeadlineRule) → IsDeadlineRule rule → length (deadline_rule_name rule) ≤ 16 }
@@ -25,7 +25,7 @@ pub fn lines_have_57_bytes()
 
 /// No row of a calendar stands before one that comes earlier.
 pub fn calendars_are_in_order()
-    ensures { (court : CourtSettings) (rows listed : List DueLine) → IsCalendar court rows listed
+    ensures { (court : CourtSettings) (rows listed : List DueRow) → IsCalendar court rows listed
         → AllPairs (λ a b. calendar_cmp court b a ≢ Less) listed }
 {}
 

@@ -5,17 +5,17 @@ ghost use Rattle.docket_text.specs.CalendarOrder.{row_where, due_rows, day_of_en
 use crate::time::shown;
 use court_days::{Court, Day, End};
 use court_rules::Standing;
-use docket_history::{DeadlineLine, DueLine};
+use docket_history::{DeadlineLine, DueRow};
 use std::alloc::{AllocError, Global};
 use std::cmp::Ordering;
 
 /// Adds the row of a deadline of the case, if its time runs.
-fn push_running(rows: &mut Vec<DueLine>, case: u32, line: &DeadlineLine) -> Result<(), AllocError>
+fn push_running(rows: &mut Vec<DueRow>, case: u32, line: &DeadlineLine) -> Result<(), AllocError>
     ensures { OnOk result (rows.new.items ≡ rows.old.items ++ row_where case line.now line.now.standing) }
 {
     match line.standing {
         Standing::Running(end) => {
-            rows.push(DueLine {
+            rows.push(DueRow {
                 end,
                 close: line.close,
                 case,
@@ -30,11 +30,7 @@ fn push_running(rows: &mut Vec<DueLine>, case: u32, line: &DeadlineLine) -> Resu
 }
 
 /// The rows of the deadlines of a case whose time runs, in the order of the deadlines.
-pub fn due_rows(
-    alloc: Global,
-    case: u32,
-    lines: &[DeadlineLine],
-) -> Result<Vec<DueLine>, AllocError>
+pub fn due_rows(alloc: Global, case: u32, lines: &[DeadlineLine]) -> Result<Vec<DueRow>, AllocError>
     ensures { IfOk result (λ rows. rows.items ≡ due_rows case lines.now) }
 {
     let mut rows = Vec::new(alloc);
@@ -67,7 +63,7 @@ fn compare_ends(a: End, b: End) -> Ordering
 }
 
 /// Which row comes first in the calendar.
-fn compare(court: &Court, a: &DueLine, b: &DueLine) -> Ordering
+fn compare(court: &Court, a: &DueRow, b: &DueRow) -> Ordering
     ensures { result ≡ calendar_cmp court.now a.now b.now }
 {
     day_of_end(court, a.end)
@@ -79,7 +75,7 @@ fn compare(court: &Court, a: &DueLine, b: &DueLine) -> Ordering
 
 /// Puts rows in the order of the calendar: by the day, on a day the instants in their order before
 /// the last days, then by the case and by the deadline's number there.
-pub fn sort_calendar(court: &Court, rows: &mut Vec<DueLine>)
+pub fn sort_calendar(court: &Court, rows: &mut Vec<DueRow>)
     ensures { IsCalendar court.now rows.old.items rows.new.items }
 {
     rows.sort_unstable_by(|a, b| compare(court, a, b));

@@ -1,7 +1,7 @@
 -- The object of a deadline, written and read.
 use Rattle.std.proofs.Common.{◌≡◌, ℕ, ◌<◌, ◌≤◌, ◌^◌, List, [], codes, Option, Some, None, option_and_then, refl, sym, ap, ◌∙◌, arith, append-nil}
 use Rattle.court_days.specs.Court.{CourtSettings}
-use Rattle.docket_history.specs.declared.record.DueLine.{DueLine}
+use Rattle.docket_history.specs.declared.record.DueRow.{DueRow}
 use Rattle.docket_history.specs.declared.row.CaseRow.{CaseRow}
 use Rattle.json.specs.Json as json
 use Rattle.json.specs.Lex.{tokens}
@@ -63,12 +63,12 @@ told-reads caption case None day deadline label party rule time c d p = record {
   shallow = omega arith;
 }
 
-pub due-reads : (court : CourtSettings) (due : DueLine) (case : CaseRow) → due.case < 2 ^ 64 → due.number < 2 ^ 64 → due.party < 2 ^ 64
+pub due-reads : (court : CourtSettings) (due : DueRow) (case : CaseRow) → due.case < 2 ^ 64 → due.number < 2 ^ 64 → due.party < 2 ^ 64
     → Reads (due_object court due case)
 due-reads court due case c n p =
     told-reads case.caption due.case (closing_of_end due.close due.end) (day_of_end court due.end)
     due.number case.label due.party due.rule (time_of_end court due.end) c n p
 
-pub object-read : (court : CourtSettings) (due : DueLine) (case : CaseRow) → due.case < 2 ^ 64 → due.number < 2 ^ 64 → due.party < 2 ^ 64
+pub object-read : (court : CourtSettings) (due : DueRow) (case : CaseRow) → due.case < 2 ^ 64 → due.number < 2 ^ 64 → due.party < 2 ^ 64
     → read (compact_text (due_object court due case)) ≡ Some (due_object court due case)
 object-read court due case c n p = reads (due_object court due case) (due-reads court due case c n p)

@@ -6,7 +6,7 @@ use Rattle.csv.specs.Machine.{next_record}
 use Rattle.csv.specs.Reading.{default_config, records, records_from, records_next}
 use Rattle.csv.specs.Writing.{is_blank, row_body}
 use Rattle.csv.specs.declared.parser.State.TheVariants as st
-use Rattle.docket_history.specs.declared.record.DueLine.{DueLine}
+use Rattle.docket_history.specs.declared.record.DueRow.{DueRow}
 use Rattle.docket_history.specs.declared.row.CaseRow.{CaseRow}
 use Rattle.docket_text.specs.Parties.{party_text}
 use Rattle.due_exports.specs.Ends.{day_of_end, time_of_end, closing_of_end}
@@ -20,7 +20,7 @@ header-read rest =
     row-read (codes "day") (codes "time")
     (codes "closing" ∷ codes "case" ∷ codes "label" ∷ codes "caption" ∷ codes "deadline" ∷ codes "rule" ∷ codes "party" ∷ []) rest
 
-due-read : (court : CourtSettings) (due : DueLine) (case : CaseRow) (rest : List ℕ)
+due-read : (court : CourtSettings) (due : DueRow) (case : CaseRow) (rest : List ℕ)
     → next_record default_config st.AfterCr [] [] (10 ∷ (due_record court due case ++ rest)) ≡ Some (due_fields court due case, st.AfterCr, 10 ∷ rest)
 due-read court due case rest =
     after-return (due_record court due case ++ rest)
@@ -42,7 +42,7 @@ rows-read court stamp place (t ∷ told) (suc n) h =
     ∙ ap (λ rows. due_fields court t.0 t.1 ∷ rows) (rows-read court stamp (place + 1) told n (omega arith))
 
 -- a record has a byte at least
-record-length : (court : CourtSettings) (due : DueLine) (case : CaseRow) → 1 ≤ length (due_record court due case)
+record-length : (court : CourtSettings) (due : DueRow) (case : CaseRow) → 1 ≤ length (due_record court due case)
 unfolding is_blank
 record-length court due case =
     let body = row_body record_writer (due_fields court due case) in

@@ -1,7 +1,7 @@
 -- An export of the deadlines that fall due: its head, an entry a deadline, and its foot.
 use Rattle.std.specs.Prelude.{ℕ, ℤ, Bool, true, false, List, [], ◌++◌, codes}
 use Rattle.court_days.specs.Court.{CourtSettings}
-use Rattle.docket_history.specs.declared.record.DueLine.{DueLine}
+use Rattle.docket_history.specs.declared.record.DueRow.{DueRow}
 use Rattle.docket_history.specs.declared.row.CaseRow.{CaseRow}
 use Rattle.html_sheets.specs.Pages.{page_head, page_foot}
 use Rattle.html_sheets.specs.Weeks.{days_head, due_row, week_foot}
@@ -22,7 +22,7 @@ export_head Json from to = array_head
 
 -- the entry of a deadline at a place, from 0, among the entries: with its case, and the text of why it is what it is. `stamp` is
 -- the instant of the writing
-abbrev pub export_entry : Form → CourtSettings → ℤ → ℕ → DueLine → CaseRow → List ℕ → List ℕ
+abbrev pub export_entry : Form → CourtSettings → ℤ → ℕ → DueRow → CaseRow → List ℕ → List ℕ
 export_entry Calendar court stamp place due case reasons = due_event stamp due case reasons
 export_entry Html court stamp place due case reasons = due_row None court due case.caption
 export_entry Csv court stamp place due case reasons = due_record court due case

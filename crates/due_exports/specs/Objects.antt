@@ -2,7 +2,7 @@
 use Rattle.std.specs.Prelude.{ℕ, List, [], ◌++◌, ◌==◌, if◌then◌else◌, codes, Option, Some, None}
 use Rattle.court_days.specs.Court.{CourtSettings}
 use Rattle.court_days.specs.declared.filing.End.{End}
-use Rattle.docket_history.specs.declared.record.DueLine.{DueLine}
+use Rattle.docket_history.specs.declared.record.DueRow.{DueRow}
 use Rattle.docket_history.specs.declared.row.CaseRow.{CaseRow}
 use Rattle.serde_json.specs.Data.{Data, null, number, unsigned, string, object, Members, no_members, member, put}
 use Rattle.serde_json.specs.Written.{compact_text}
@@ -21,7 +21,7 @@ put_end court close end members =
     (put (codes "day") (string (day_of_end court end)) members))
 
 -- its members, in the order of their names' bytes. The party is 0 for every party
-abbrev pub due_object : CourtSettings → DueLine → CaseRow → Data
+abbrev pub due_object : CourtSettings → DueRow → CaseRow → Data
 due_object court due case = object (
     member (codes "caption") (string case.caption)
     (member (codes "case") (number (unsigned due.case))
@@ -39,7 +39,7 @@ abbrev pub before_object : ℕ → List ℕ
 before_object place = if place == 0 then [] else codes ",\n"
 
 -- an object on a line, with no blank in it but within its strings
-abbrev pub due_member : CourtSettings → ℕ → DueLine → CaseRow → List ℕ
+abbrev pub due_member : CourtSettings → ℕ → DueRow → CaseRow → List ℕ
 due_member court place due case = before_object place ++ compact_text (due_object court due case)
 
 -- the brackets of the array

@@ -5,7 +5,7 @@ use Rattle.court_days.specs.declared.filing.End.{End}
 use Rattle.csv.specs.Writing.{row_text, default_writer, with_terminator}
 use Rattle.csv.specs.declared.parser.Terminator.TheVariants.{CRLF}
 use Rattle.csv.specs.declared.writer.WriterBuilder.{WriterBuilder}
-use Rattle.docket_history.specs.declared.record.DueLine.{DueLine}
+use Rattle.docket_history.specs.declared.record.DueRow.{DueRow}
 use Rattle.docket_history.specs.declared.row.CaseRow.{CaseRow}
 use Rattle.docket_text.specs.Parties.{party_text}
 use Rattle.due_exports.specs.Ends.{day_of_end, time_of_end, closing_of_end}
@@ -26,7 +26,7 @@ abbrev pub end_fields : CourtSettings → ℕ → End → List (List ℕ)
 end_fields court close end = day_of_end court end ∷ time_of_end court end ∷ unwrap_or (closing_of_end close end) [] ∷ []
 
 -- the end, the case, the number of the deadline there, its rule, and the party whose time it is
-abbrev pub due_fields : CourtSettings → DueLine → CaseRow → List (List ℕ)
+abbrev pub due_fields : CourtSettings → DueRow → CaseRow → List (List ℕ)
 due_fields court due case =
     end_fields court due.close due.end
     ++ (decimal due.case ∷ case.label ∷ case.caption ∷ decimal due.number ∷ due.rule ∷ party_text due.party ∷ [])
@@ -35,5 +35,5 @@ due_fields court due case =
 abbrev pub header_record : List ℕ
 header_record = row_text record_writer field_names
 
-abbrev pub due_record : CourtSettings → DueLine → CaseRow → List ℕ
+abbrev pub due_record : CourtSettings → DueRow → CaseRow → List ℕ
 due_record court due case = row_text record_writer (due_fields court due case)

@@ -2,7 +2,7 @@
 use Rattle.std.specs.Prelude.{ℕ, ◌+◌, ◌<◌, ◌^◌, ℤ, List, [], ◌∷◌, ◌++◌, map}
 use Rattle.std.specs.List.{flat_map}
 use Rattle.court_days.specs.Court.{CourtSettings}
-use Rattle.docket_history.specs.declared.record.DueLine.{DueLine}
+use Rattle.docket_history.specs.declared.record.DueRow.{DueRow}
 use Rattle.docket_history.specs.declared.row.CaseRow.{CaseRow}
 use Rattle.icalendar.specs.Events.{head_lines, foot_lines}
 use Rattle.serde_json.specs.Data.{Items}
@@ -14,7 +14,7 @@ use Rattle.due_exports.specs.declared.form.Form.{Form}
 
 -- a deadline with its case, and the text of why it is what it is
 abbrev pub Told : Type 0
-Told = DueLine × CaseRow × List ℕ
+Told = DueRow × CaseRow × List ℕ
 
 -- the entries, from a place on
 abbrev pub entries_text : Form → CourtSettings → ℤ → ℕ → List Told → List ℕ

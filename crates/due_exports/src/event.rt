@@ -3,12 +3,12 @@ ghost use Rattle.std.specs.Prelude.{◌≡◌, IfOk, string_bytes};
 ghost use Rattle.due_exports.specs.Events.{event_uid, event_summary, event_description, due_event};
 
 use crate::export::Entry;
-use docket_history::{CaseRow, DueLine};
+use docket_history::{CaseRow, DueRow};
 use icalendar::{Event, event_text};
 use std::alloc::{AllocError, Global};
 
 /// What tells the event from every other.
-fn event_uid(alloc: Global, due: &DueLine, case: &CaseRow) -> Result<String, AllocError>
+fn event_uid(alloc: Global, due: &DueRow, case: &CaseRow) -> Result<String, AllocError>
     ensures { IfOk result (λ text. string_bytes text ≡ event_uid due.now case.now) }
 {
     let number = due.number;
@@ -18,7 +18,7 @@ fn event_uid(alloc: Global, due: &DueLine, case: &CaseRow) -> Result<String, All
 }
 
 /// The rule and the caption.
-fn event_summary(alloc: Global, due: &DueLine, case: &CaseRow) -> Result<String, AllocError>
+fn event_summary(alloc: Global, due: &DueRow, case: &CaseRow) -> Result<String, AllocError>
     ensures { IfOk result (λ text. string_bytes text ≡ event_summary due.now case.now) }
 {
     let rule = due.rule.as_str();

@@ -9,7 +9,7 @@ use crate::form::Form;
 use crate::object::due_member;
 use crate::record::{due_record, header_record};
 use court_days::{Court, Day};
-use docket_history::{CaseRow, DueLine};
+use docket_history::{CaseRow, DueRow};
 use html_sheets::{Links, due_head, due_row, page_head};
 use icalendar::{calendar_foot, calendar_head};
 use std::alloc::{AllocError, Global};
@@ -17,7 +17,7 @@ use std::alloc::{AllocError, Global};
 /// A deadline that falls due, with its case.
 #[derive(Clone, Copy)]
 pub struct Entry<'a> {
-    pub due: &'a DueLine,
+    pub due: &'a DueRow,
     pub case: &'a CaseRow,
     /// Why it is what it is.
     pub reasons: &'a str,

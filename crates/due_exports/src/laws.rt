@@ -3,7 +3,7 @@ ghost use Rattle.std.specs.Prelude.{◌≡◌, ◌<◌, ◌≤◌, ◌^◌, ℕ,
 ghost use Rattle.std.specs.List.{flat_map};
 ghost use Rattle.court_days.specs.Court.{CourtSettings};
 ghost use Rattle.csv.specs.Reading.{default_config, records};
-ghost use Rattle.docket_history.specs.declared.record.DueLine.{DueLine};
+ghost use Rattle.docket_history.specs.declared.record.DueRow.{DueRow};
 ghost use Rattle.docket_history.specs.declared.row.CaseRow.{CaseRow};
 ghost use Rattle.icalendar.specs.ContentLines.{ended, physical_lines, unfolded};
 ghost use Rattle.serde_json.specs.Data.{array};
@@ -34,7 +34,7 @@ pub fn calendars_are_folded()
 /// An object of JSON, read, is the object with these members, whatever the texts are; and a whole export,
 /// read, is the array of the objects.
 pub fn objects_are_read_back()
-    ensures object { (court : CourtSettings) (due : DueLine) (case : CaseRow)
+    ensures object { (court : CourtSettings) (due : DueRow) (case : CaseRow)
         → due.case < 2 ^ 64 → due.number < 2 ^ 64 → due.party < 2 ^ 64
         → read (compact_text (due_object court due case)) ≡ Some (due_object court due case) }
     ensures whole { (court : CourtSettings) (stamp : ℤ) (from to : ℕ) (told : List Told) → All IsNumbered told

@@ -13,7 +13,7 @@ use Rattle.docket_history.specs.Histories.{History, case_rows, deadlines_of_case
 use Rattle.docket_decisions.specs.Outcomes.{IsHistory}
 use Rattle.docket_history.specs.Records.{case_at}
 use Rattle.docket_decisions.specs.Tables.{rows_of}
-use Rattle.docket_history.specs.declared.record.DueLine.{DueLine}
+use Rattle.docket_history.specs.declared.record.DueRow.{DueRow}
 use Rattle.docket_history.specs.declared.row.CaseRow.{CaseRow}
 use Rattle.docket_history.specs.declared.row.DeadlineRow.{DeadlineRow}
 use Rattle.docket_decisions.specs.EndRows.{calendar_in}
@@ -46,7 +46,7 @@ module _ (court : CourtSettings) (h : History) (is : IsHistory court h) where
       by (inl within) = all_so (IsCase (case_rows h) k) within (deadlines_of_case k (rows_of court h).deadlines)
       by (inr out) = subst (λ (ds : List DeadlineRow). AllByRecursion (λ (d : DeadlineRow). IsCase (case_rows h) k) ds) (sym (no_deadlines court h is k out)) tt
 
-  row_cased : (d : DeadlineRow) (s : Standing) → IsCase (case_rows h) d.case → AllByRecursion (λ (due : DueLine). IsCase (case_rows h) due.case) (row_where court (calendar_in (rows_of court h)) d s)
+  row_cased : (d : DeadlineRow) (s : Standing) → IsCase (case_rows h) d.case → AllByRecursion (λ (due : DueRow). IsCase (case_rows h) due.case) (row_where court (calendar_in (rows_of court h)) d s)
   row_cased d (Running end) cased = (cased, tt)
   row_cased d Suspended cased = tt
   row_cased d Awaiting cased = tt
@@ -57,7 +57,7 @@ module _ (court : CourtSettings) (h : History) (is : IsHistory court h) where
   pub cased : (from to : ℕ) → HaveCases h (calendar_rows court h from to)
   cased from to =
       let t = rows_of court h in
-      let P : DueLine → Type 0 = λ due. IsCase (case_rows h) due.case in
+      let P : DueRow → Type 0 = λ due. IsCase (case_rows h) due.case in
       All-permutation P (due_within court from to t) (calendar_rows court h from to) (is_calendar court h from to).same
       (All-from_recursion P (due_within court from to t)
       (all-filter P _ (running court t)
@@ -81,6 +81,6 @@ pub case_is : (rows : List CaseRow) (number : ℕ) (case : CaseRow) → Some cas
 case_is rows number case found = ap (λ o. unwrap_or o no_case) found
 
 -- the deadline at a place has its case
-pub case_at_place : (h : History) (dues : List DueLine) (place : ℕ) (due : DueLine) → place < length dues → due ≡ get_or dues place due → HaveCases h dues → IsCase (case_rows h) due.case
+pub case_at_place : (h : History) (dues : List DueRow) (place : ℕ) (due : DueRow) → place < length dues → due ≡ get_or dues place due → HaveCases h dues → IsCase (case_rows h) due.case
 case_at_place h dues place due within is have =
-    subst (λ (d : DueLine). IsCase (case_rows h) d.case) (sym is) (All-get_or (λ (d : DueLine). IsCase (case_rows h) d.case) dues place due within have)
+    subst (λ (d : DueRow). IsCase (case_rows h) d.case) (sym is) (All-get_or (λ (d : DueRow). IsCase (case_rows h) d.case) dues place due within have)

@@ -10,7 +10,7 @@ use Rattle.sqlite.specs.State.{HasCleanDisk}
 use Rattle.sqlite.specs.Store.{Ghosts}
 use Rattle.court_days.specs.Court.{CourtSettings}
 use Rattle.docket_history.specs.Histories.{History}
-use Rattle.docket_history.specs.declared.record.DueLine.{DueLine}
+use Rattle.docket_history.specs.declared.record.DueRow.{DueRow}
 use Rattle.docket_applying.specs.Applying.{Asks, Stands}
 use Rattle.docket_applying.specs.Dockets.{Docket}
 use Rattle.docket_applying.specs.declared.fault.Fault.{Fault}
@@ -71,7 +71,7 @@ pub none_out : (known : Option (List ℕ)) (text : List ℕ) (m : ℕ) (end : Ca
 none_out known text m end = record { out = []; lost = text; whole = refl; appends = Appends-nil known }
 
 module _ (export : Export) (court : CourtSettings) (h : History) where
-  entries_append : (place : ℕ) (xs ys : List DueLine) → entries_from export court h place (xs ++ ys) ≡ entries_from export court h place xs ++ entries_from export court h (place + length xs) ys
+  entries_append : (place : ℕ) (xs ys : List DueRow) → entries_from export court h place (xs ++ ys) ≡ entries_from export court h place xs ++ entries_from export court h (place + length xs) ys
   entries_append place [] ys = let same : place ≡ place + 0 = omega arith in ap (λ k. entries_from export court h k ys) same
   entries_append place (x ∷ xs) ys =
       let next : place + 1 + length xs ≡ place + suc (length xs) = omega arith in
@@ -79,41 +79,41 @@ module _ (export : Export) (court : CourtSettings) (h : History) where
       ∙ sym (append_assoc (entry_of export court h place x) (entries_from export court h (place + 1) xs) (entries_from export court h (place + suc (length xs)) ys))
 
   -- the entries before a place
-  abbrev pub entries_to : List DueLine → ℕ → List ℕ
+  abbrev pub entries_to : List DueRow → ℕ → List ℕ
   entries_to dues n = entries_from export court h 0 (take n dues)
 
   -- and one more
-  pub one_more : (dues : List DueLine) (n : ℕ) (d : DueLine) → slice_get dues n ≡ Some d → entries_to dues (n + 1) ≡ entries_to dues n ++ entry_of export court h n d
+  pub one_more : (dues : List DueRow) (n : ℕ) (d : DueRow) → slice_get dues n ≡ Some d → entries_to dues (n + 1) ≡ entries_to dues n ++ entry_of export court h n d
   one_more dues n d at =
       let within : n < length dues = slice_get_within dues n d at in
       let next : n + 1 ≡ suc n = omega arith in
       let many : 0 + length (take n dues) ≡ n = omega (arith, length-take-le n dues (omega (arith, within))) in
       let taken : take (n + 1) dues ≡ take n dues ++ d ∷ [] =
-      ap (λ (k : ℕ). take k dues) next ∙ take-suc dues n d within ∙ ap (λ (x : DueLine). take n dues ++ x ∷ []) (get_or_from_slice_get dues n d d at) in
+      ap (λ (k : ℕ). take k dues) next ∙ take-suc dues n d within ∙ ap (λ (x : DueRow). take n dues ++ x ∷ []) (get_or_from_slice_get dues n d d at) in
       ap (entries_from export court h 0) taken ∙ entries_append 0 (take n dues) (d ∷ [])
       ∙ ap (λ k. entries_to dues n ++ (entry_of export court h k d ++ [])) many
       ∙ ap (λ l. entries_to dues n ++ l) (append-nil (entry_of export court h n d))
 
   -- what is behind the entries before a place
-  pub parted : (dues : List DueLine) (n : ℕ) → entries_from export court h 0 dues ≡ entries_to dues n ++ entries_from export court h (length (take n dues)) (drop n dues)
+  pub parted : (dues : List DueRow) (n : ℕ) → entries_from export court h 0 dues ≡ entries_to dues n ++ entries_from export court h (length (take n dues)) (drop n dues)
   parted dues n =
       let same : 0 + length (take n dues) ≡ length (take n dues) = omega arith in
       ap (entries_from export court h 0) (sym (take-append-drop n dues)) ∙ entries_append 0 (take n dues) (drop n dues)
       ∙ ap (λ k. entries_to dues n ++ entries_from export court h k (drop n dues)) same
 
   -- all of them
-  pub all_entries : (dues : List DueLine) → entries_to dues (length dues) ≡ entries_from export court h 0 dues
+  pub all_entries : (dues : List DueRow) → entries_to dues (length dues) ≡ entries_from export court h 0 dues
   all_entries dues = ap (entries_from export court h 0) (take-length dues)
 
   -- an entry more went out
-  pub goes_on : (dues : List DueLine) (n : ℕ) (d : DueLine) (before now after : Option (List ℕ)) (m j : ℕ) → slice_get dues n ≡ Some d → TextOut (entries_to dues n) n before now (Ok n)
+  pub goes_on : (dues : List DueRow) (n : ℕ) (d : DueRow) (before now after : Option (List ℕ)) (m j : ℕ) → slice_get dues n ≡ Some d → TextOut (entries_to dues n) n before now (Ok n)
       → TextOut (entry_of export court h n d) m now after (Ok j) → TextOut (entries_to dues (n + 1)) (n + 1) before after (Ok (n + 1))
   goes_on dues n d before now after m j at out more =
       subst (λ text. TextOut text (n + 1) before after (Ok (n + 1))) (sym (one_more dues n d at))
       (more_out before now (entries_to dues n) n n out after (entry_of export court h n d) m j (n + 1) (n + 1) refl more)
 
   -- a part of an entry behind those before it
-  pub stops_within : (dues : List DueLine) (n : ℕ) (d : DueLine) (before now after : Option (List ℕ)) (k m i : ℕ) (end : CalendarEnd) → slice_get dues n ≡ Some d → TextOut (entries_to dues n) k before now (Ok k)
+  pub stops_within : (dues : List DueRow) (n : ℕ) (d : DueRow) (before now after : Option (List ℕ)) (k m i : ℕ) (end : CalendarEnd) → slice_get dues n ≡ Some d → TextOut (entries_to dues n) k before now (Ok k)
       → TextOut (entry_of export court h n d) m now after (Err end) → TextOut (entries_from export court h 0 dues) i before after (Err end)
   stops_within dues n d before now after k m i end at out front =
       let rest : List ℕ = entries_from export court h (length (take (n + 1) dues)) (drop (n + 1) dues) in

@@ -10,7 +10,7 @@ use Rattle.docket_history.specs.Histories.{History, case_rows}
 use Rattle.docket_history.specs.Records.{case_at, case_record, deadline_lines}
 use Rattle.docket_history.specs.declared.record.CaseRecord.{CaseRecord}
 use Rattle.docket_history.specs.declared.record.DeadlineLine.{DeadlineLine}
-use Rattle.docket_history.specs.declared.record.DueLine.{DueLine}
+use Rattle.docket_history.specs.declared.record.DueRow.{DueRow}
 use Rattle.docket_history.specs.declared.row.CaseRow.{CaseRow}
 use Rattle.docket_applying.specs.Dockets.{Docket}
 use Rattle.docket_applying.specs.declared.listing.CalendarEnd.{CalendarEnd}
@@ -28,7 +28,7 @@ abbrev pub IsCase : List CaseRow → ℕ → Type 0
 IsCase rows number = (1 ≤ number) × (number ≤ length rows)
 
 -- each of these deadlines has its case
-abbrev pub HaveCases : History → List DueLine → Type 0
+abbrev pub HaveCases : History → List DueRow → Type 0
 HaveCases h dues = All (λ due. IsCase (case_rows h) due.case) dues
 
 -- the case of a number; what stands here for one that is not there is never told, since each deadline that falls due has its case
@@ -40,23 +40,23 @@ case_of rows number = unwrap_or (case_at rows number) no_case
 
 module _ (export : Export) (court : CourtSettings) (h : History) where
   -- why a deadline is what it is, where the form tells that
-  abbrev pub reasons_in : DueLine → List ℕ
+  abbrev pub reasons_in : DueRow → List ℕ
   reasons_in due = if tells_reasons export.form then unwrap_or (text_of_reasons court h due.case due.number) [] else []
 
   -- a deadline with its case, and why it is what it is
-  abbrev pub told_of : DueLine → Told
+  abbrev pub told_of : DueRow → Told
   told_of due = (due, case_of (case_rows h) due.case, reasons_in due)
 
   -- what a deadline at a place, from 0, comes to
-  abbrev pub entry_of : ℕ → DueLine → List ℕ
+  abbrev pub entry_of : ℕ → DueRow → List ℕ
   entry_of place due = export_entry export.form court export.stamp place due (case_of (case_rows h) due.case) (reasons_in due)
 
   -- an entry for each deadline, the first of them at that place
-  abbrev pub entries_from : ℕ → List DueLine → List ℕ
+  abbrev pub entries_from : ℕ → List DueRow → List ℕ
   entries_from place dues = entries_text export.form court export.stamp place (map told_of dues)
 
   -- the deadlines of the days, in the order of the calendar
-  abbrev pub rows_of_export : List DueLine
+  abbrev pub rows_of_export : List DueRow
   rows_of_export = calendar_rows court h export.from export.to
 
   abbrev pub text_of_export : List ℕ

@@ -16,7 +16,7 @@ ghost use Rattle.file_questions.specs.Exports.{HaveCases, IsCase, PutsExport, Pu
 use crate::explaining::text_of_reasons;
 use crate::question::Question;
 use court_days::Day;
-use docket_history::DueLine;
+use docket_history::DueRow;
 use docket_store::{CalendarEnd, Docket, Fault, Holdings};
 use due_exports::{Entry, Form, export_entry, export_foot, export_head, tells_reasons};
 use line_io::write_bytes;
@@ -41,7 +41,7 @@ fn reasons_in<S: Alter>(
     alloc: Global,
     docket: &mut Docket<S>,
     export: &Export,
-    due: &DueLine,
+    due: &DueRow,
 ) -> Result<String, Fault>
     ensures court { docket.new.court ≡ docket.old.court }
     ensures answer { (h : History) → Stands S.Store docket.old h
@@ -64,7 +64,7 @@ fn entry_of<S: Alter>(
     docket: &mut Docket<S>,
     export: &Export,
     place: usize,
-    due: &DueLine,
+    due: &DueRow,
 ) -> Result<String, Fault>
     ensures court { docket.new.court ≡ docket.old.court }
     ensures answer { (h : History) → Stands S.Store docket.old h
@@ -105,7 +105,7 @@ fn write_entry<S: Alter, W: Write>(
     docket: &mut Docket<S>,
     export: &Export,
     place: usize,
-    due: &DueLine,
+    due: &DueRow,
     writer: &mut W,
 ) -> Result<usize, CalendarEnd>
     ensures court { docket.new.court ≡ docket.old.court }
@@ -126,7 +126,7 @@ fn write_entries<S: Alter, W: Write>(
     alloc: Global,
     docket: &mut Docket<S>,
     export: &Export,
-    dues: &[DueLine],
+    dues: &[DueRow],
     writer: &mut W,
 ) -> Result<usize, CalendarEnd>
     ensures court { docket.new.court ≡ docket.old.court }
@@ -150,7 +150,7 @@ fn write_rest<S: Alter, W: Write>(
     alloc: Global,
     docket: &mut Docket<S>,
     export: &Export,
-    dues: &[DueLine],
+    dues: &[DueRow],
     writer: &mut W,
 ) -> Result<usize, CalendarEnd>
     ensures puts { (h : History) → Stands S.Store docket.old h
@@ -174,7 +174,7 @@ fn write_text<S: Alter, W: Write>(
     alloc: Global,
     docket: &mut Docket<S>,
     export: &Export,
-    dues: &[DueLine],
+    dues: &[DueRow],
     writer: &mut W,
 ) -> Result<usize, CalendarEnd>
     ensures puts { (h : History) → Stands S.Store docket.old h → (HasCleanDisk (state S.Store docket.old.conn) → dues.now ≡ rows_of_export export.now docket.old.court h)

@@ -10,7 +10,7 @@ use Rattle.court_days.specs.declared.filing.End.{End}
 use Rattle.court_days.specs.declared.filing.End.TheVariants.{LastDay, Moment}
 use Rattle.docket_history.specs.declared.record.CaseRecord.{CaseRecord}
 use Rattle.docket_history.specs.declared.record.DeadlineLine.{DeadlineLine}
-use Rattle.docket_history.specs.declared.record.DueLine.{DueLine}
+use Rattle.docket_history.specs.declared.record.DueRow.{DueRow}
 use Rattle.docket_history.specs.declared.row.CaseRow.{CaseRow}
 use Rattle.docket_history.specs.declared.row.EntryRow.{EntryRow}
 use Rattle.docket_history.specs.declared.row.PartyRow.{PartyRow}
@@ -206,7 +206,7 @@ ends_same court place close late (LastDay day) (Moment at) = ends _ _ _ _ _ _ (b
 ends_same court place close late (Moment at) (LastDay day) = ends _ _ _ _ _ _ (bare (local_bare _ _) midnight) (bare no_closing (close_bare late))
 ends_same court place close late (Moment at) (Moment other) = ends _ _ _ _ _ _ (bare (local_bare _ _) (local_bare _ _)) (bare no_closing no_closing)
 
-pub due_rows : (lead : Links) (court place : CourtSettings) (a b : DueLine) (caption name : List ℕ) → Same (due_row lead court a caption) (due_row lead place b name)
+pub due_rows : (lead : Links) (court place : CourtSettings) (a b : DueRow) (caption name : List ℕ) → Same (due_row lead court a caption) (due_row lead place b name)
 due_rows lead court place a b caption name = rows _ _ (
     both _ _ _ _ (ends_same court place a.close b.close a.end b.end)
     (both _ _ _ _ (number_cells _ _ (case_numbers lead a.case b.case))

@@ -6,7 +6,7 @@ use Rattle.civil_time.specs.MomentText.{clock_text}
 use Rattle.court_days.specs.Court.{CourtSettings, zone_of}
 use Rattle.court_days.specs.declared.filing.End.{End}
 use Rattle.court_days.specs.declared.filing.End.TheVariants.{LastDay, Moment}
-use Rattle.docket_history.specs.declared.record.DueLine.{DueLine}
+use Rattle.docket_history.specs.declared.record.DueRow.{DueRow}
 use Rattle.docket_text.specs.Parties.{party_text}
 use Rattle.docket_text.specs.Times.{shown, shown_minute}
 use Rattle.html_sheets.specs.Elements.{element, told, weekday_told, link, nav, case_number, cell, number_cell, head_cell, row, table_head, table_foot}
@@ -58,7 +58,7 @@ end_of_row court close (Moment at) =
 
 -- a deadline whose time runs: its end, its case, which leads to its page where there are pages, its number within the case, its
 -- rule, the party whose time it is, and the caption of the case
-abbrev pub due_row : Links → CourtSettings → DueLine → List ℕ → List ℕ
+abbrev pub due_row : Links → CourtSettings → DueRow → List ℕ → List ℕ
 due_row links court due caption =
     row (end_of_row court due.close due.end
     ++ (number_cell (case_number links due.case)

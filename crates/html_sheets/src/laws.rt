@@ -3,7 +3,7 @@ ghost use Rattle.std.specs.Prelude.{◌≡◌, ℕ, List, [], length, filter, ma
 ghost use Rattle.court_days.specs.Court.{CourtSettings};
 ghost use Rattle.docket_history.specs.declared.record.CaseRecord.{CaseRecord};
 ghost use Rattle.docket_history.specs.declared.record.DeadlineLine.{DeadlineLine};
-ghost use Rattle.docket_history.specs.declared.record.DueLine.{DueLine};
+ghost use Rattle.docket_history.specs.declared.record.DueRow.{DueRow};
 ghost use Rattle.docket_history.specs.declared.row.CaseRow.{CaseRow};
 ghost use Rattle.html_sheets.specs.Escapes.{is_control, blanked_byte, escaped};
 ghost use Rattle.html_sheets.specs.Marks.{marks};
@@ -37,7 +37,7 @@ pub fn tags_are_the_pages_own()
     ensures cases { (case other : CaseRow) → marks (case_row case) ≡ marks (case_row other) }
     ensures weeks { (from to day later : ℕ) → marks (week_head from to) ≡ marks (week_head day later) }
     ensures days { (from to day later : ℕ) → marks (days_head from to) ≡ marks (days_head day later) }
-    ensures dues { (links : Links) (court place : CourtSettings) (due other : DueLine) (caption name : List ℕ)
+    ensures dues { (links : Links) (court place : CourtSettings) (due other : DueRow) (caption name : List ℕ)
         → marks (due_row links court due caption) ≡ marks (due_row links place other name) }
     ensures sheets { (court place : CourtSettings) (case other : CaseRecord) (deadlines lines : List DeadlineLine)
         → length case.parties ≡ length other.parties → length case.entries ≡ length other.entries

@@ -5,7 +5,7 @@ ghost use Rattle.html_sheets.specs.Weeks.{week_before, week_after, due_columns, 
 use crate::links::Links;
 use crate::piece::{CaseNumber, Told, WeekdayTold, table_foot};
 use court_days::{Court, Day, End};
-use docket_history::DueLine;
+use docket_history::DueRow;
 use docket_text::{ClockText, DayText, PartyText, shown, shown_minute};
 use std::alloc::{AllocError, Global};
 use std::fmt;
@@ -145,7 +145,7 @@ pub fn due_row(
     alloc: Global,
     links: Links,
     court: &Court,
-    due: &DueLine,
+    due: &DueRow,
     caption: &str,
 ) -> Result<String, AllocError>
     ensures { IfOk result (λ text. string_bytes text ≡ due_row links court.now due.now caption.now) }

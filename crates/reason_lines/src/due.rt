@@ -66,13 +66,13 @@ impl fmt::Display for DueDay<'_> {
 
 /// When the deadline is due.
 #[derive(Clone, Copy)]
-struct DueLine<'a> {
+struct DueRow<'a> {
     court: &'a Court,
     calendar: &'a Calendar,
     end: &'a End,
 }
 
-impl fmt::Display for DueLine<'_> {
+impl fmt::Display for DueRow<'_> {
     ghost use Rattle.std.specs.Prelude.{Some};
     ghost use Rattle.reason_lines.specs.Lines.{due_line};
 
@@ -115,7 +115,7 @@ impl fmt::Display for StandingLine<'_> {
 
     fn fmt<W: fmt::Write>(&self, f: &mut fmt::Formatter<W>) -> fmt::Result {
         match self.standing {
-            Standing::Running(end) => DueLine {
+            Standing::Running(end) => DueRow {
                 court: self.court,
                 calendar: self.calendar,
                 end,

@@ -3,7 +3,7 @@ use court_days::{Day, End, read_day, read_moment};
 use court_rules::Standing;
 use docket_command::{Role, Text};
 use docket_history::{
-    CaseRecord, CaseRow, DeadlineLine, DueLine, EntryRow, EntryRows, PartyRow, PartyRows,
+    CaseRecord, CaseRow, DeadlineLine, DueRow, EntryRow, EntryRows, PartyRow, PartyRows,
 };
 use std::alloc::{AllocError, Global};
 use std::test::Fail;
@@ -93,8 +93,8 @@ pub fn case(alloc: Global) -> Result<CaseRow, Fail> {
 }
 
 /// A deadline of that case.
-pub fn due(alloc: Global, end: End) -> Result<DueLine, AllocError> {
-    Ok(DueLine {
+pub fn due(alloc: Global, end: End) -> Result<DueRow, AllocError> {
+    Ok(DueRow {
         end,
         close: 17 * 60,
         case: 12,

@@ -2,7 +2,7 @@
 //! calendar of all days.
 use anyhow::{Error, anyhow};
 use court_days::{Court, Day, read_day};
-use docket_history::{CaseRecord, DeadlineLine, DueLine};
+use docket_history::{CaseRecord, DeadlineLine, DueRow};
 use docket_plain::Plain;
 use docket_store::Docket;
 use docket_text::{calendar_text, case_text, due_rows, sort_calendar};
@@ -64,7 +64,7 @@ fn push_rows(
     alloc: Global,
     number: u32,
     lines: &[DeadlineLine],
-    rows: &mut Vec<DueLine>,
+    rows: &mut Vec<DueRow>,
 ) -> Result<(), Error> {
     for row in due_rows(alloc, number, lines)? {
         rows.push(row)?;
@@ -80,7 +80,7 @@ fn push_plain_case(
     court: &Court,
     number: u32,
     text: &mut Vec<u8>,
-    rows: &mut Vec<DueLine>,
+    rows: &mut Vec<DueRow>,
 ) -> Result<(), Error> {
     let Some(lines) = docket.deadlines(number)? else {
         return Ok(());

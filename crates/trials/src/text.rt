@@ -2,7 +2,7 @@
 use anyhow::{Error, anyhow};
 use court_days::{Day, End};
 use docket_command::Text;
-use docket_history::DueLine;
+use docket_history::DueRow;
 use docket_text::calendar_text;
 use plain_plays::eastern_court;
 use std::alloc::Global;
@@ -36,9 +36,9 @@ fn close_of(end: End) -> u32 {
     }
 }
 
-fn row(alloc: Global, number: u32) -> Result<DueLine, Error> {
+fn row(alloc: Global, number: u32) -> Result<DueRow, Error> {
     let end = end_of(number)?;
-    Ok(DueLine {
+    Ok(DueRow {
         end,
         close: close_of(end),
         case: 1 + number % 100_000,

@@ -1,6 +1,6 @@
 use Rattle.std.proofs.Common.{◌≡◌, Vec, Global, arith}
 use Rattle.docket_calendar.specs.Calendar.{calendar_rows}
-use Rattle.docket_history.specs.declared.record.DueLine.{DueLine}
+use Rattle.docket_history.specs.declared.record.DueRow.{DueRow}
 use Rattle.docket_applying.specs.Applying.{docket_rows}
 use Rattle.docket_applying.proofs.AskLemmas.{asks_failed}
 use Rattle.docket_applying.proofs.ListingLemmas.{history_of}
@@ -16,7 +16,7 @@ pub returns-in-Err-clause-answer : goal.returns-in-Err-clause-answer
 returns-in-Err-clause-answer g c kept h stands entered =
     let court = c.args.court.now in
     let gives = c.in-Err.ensures.gives h (history_of court h stands.docket) stands.rows (λ clean. entered (omega (arith, c.due_rows.ensures.only.clean))) in
-    asks_failed g.S.Store {X = Vec DueLine Global} c.read_fault.new.conn court kept h (λ found. found.items ≡ calendar_rows court h c.args.from c.args.to) c.read_fault.result stands.docket
+    asks_failed g.S.Store {X = Vec DueRow Global} c.read_fault.new.conn court kept h (λ found. found.items ≡ calendar_rows court h c.args.from c.args.to) c.read_fault.result stands.docket
     (λ clean. stands.calendar (omega (arith, c.due_rows.ensures.only.clean, c.read_fault.ensures.clean)))
     (c.read_fault.ensures.left (docket_rows court h) (docket_rows court h) gives)
 

@@ -3,7 +3,7 @@ use Rattle.docket_calendar.specs.Calendar.{calendar_rows}
 use Rattle.docket_history.specs.CalendarItems.{calendar_of}
 use Rattle.docket_history.specs.Histories.{items_of, standing_rows}
 use Rattle.docket_history.specs.declared.item.CalendarItem.{CalendarItem}
-use Rattle.docket_history.specs.declared.record.DueLine.{DueLine}
+use Rattle.docket_history.specs.declared.record.DueRow.{DueRow}
 use Rattle.docket_applying.specs.Dockets.{serving}
 use Rattle.docket_applying.proofs.AskLemmas.{asks_err, keeping}
 use Rattle.docket_applying.proofs.IdleLemmas.{idle_err, idle_then}
@@ -13,7 +13,7 @@ pub returns-in_err-standing-clause-answer : goal.returns-in_err-standing-clause-
 returns-in_err-standing-clause-answer g c h stands =
     let told = c.calendar_taken in
     asks_err g.S.Store (serving told.new.conn c.args.court.now told.new.kept) h (λ (items : List CalendarItem). items ≡ items_of (standing_rows h))
-    (λ (found : Vec DueLine Global). found.items ≡ calendar_rows c.args.court.now h c.args.from c.args.to)
+    (λ (found : Vec DueRow Global). found.items ≡ calendar_rows c.args.court.now h c.args.from c.args.to)
     c.in_err-standing.field-0.0 c.from_residual.result c.from_residual.ensures.1 (c.in_err-standing.ensures.answer c.args.court.now h stands)
 
 pub returns-clause-answer : goal.returns-clause-answer

@@ -10,4 +10,4 @@ returns-in-Some c same =
     ap Running (c.end.ensures.stored (zone_of c.args.court.now) it.0 it.1) ∙ sym it.2
 
 pub returns-in-None : goal.returns-in-None
-returns-in-None c same = c.standing_of.ensures.value
+returns-in-None c same = c.due.ensures.value

@@ -2,7 +2,7 @@ use Rattle.std.proofs.Common.{◌≡◌, Vec, Global, sym, subst, arith}
 use Rattle.sqlite.specs.State.{HasCleanDisk}
 use Rattle.sqlite.specs.Held.{state}
 use Rattle.court_days.specs.Calendar.{Entered}
-use Rattle.docket_history.specs.declared.record.DueLine.{DueLine}
+use Rattle.docket_history.specs.declared.record.DueRow.{DueRow}
 use Rattle.docket_calendar.specs.Asked.{Lists}
 use Rattle.docket_calendar.specs.Calendar.{calendar_rows}
 use Rattle.docket_calendar.specs.Question.{question, days_asked}
@@ -16,7 +16,7 @@ returns-clause-gives g c = λ h is holds entered.
     let court = c.args.court.now in
     let rows = calendar_rows court h c.args.from c.args.to in
     gives g.S.Store court h old new is holds
-    c.gather_days.ensures.mode c.gather_days.ensures.clean c.gather_days.ensures.survives (λ (found : Vec DueLine Global). found.items ≡ rows) c.gather_days.result
+    c.gather_days.ensures.mode c.gather_days.ensures.clean c.gather_days.ensures.survives (λ (found : Vec DueRow Global). found.items ≡ rows) c.gather_days.result
     (λ clean.
     let before : HasCleanDisk (state g.S.Store old) = omega (arith, c.gather_days.ensures.clean, clean) in
     let lists = subst (λ (k : Entered). Lists question (days_asked c.args.from c.args.to) court k (state g.S.Store old).now rows) (sym (entered clean)) (lists_of g.S.Store court h c.args.from c.args.to old is holds before) in

@@ -6,7 +6,7 @@ use Rattle.sqlite.specs.Values.{bound}
 use Rattle.sqlite.specs.View.{doubt}
 use Rattle.sqlite.proofs.StateLemmas.{survives_then}
 use Rattle.sqlite.proofs.Callers.{begun_plain}
-use Rattle.docket_history.specs.declared.record.DueLine.{DueLine}
+use Rattle.docket_history.specs.declared.record.DueRow.{DueRow}
 use Rattle.docket_tables.specs.Causes.{IsCausedFault}
 use Rattle.docket_tables.proofs.StandsLemmas.{failed_query}
 use Rattle.docket_calendar.specs.Asked.{RemainsAfter}
@@ -50,8 +50,8 @@ returns-in-Ok-clause-gathers g c = λ listed clean lists.
     let early : HasCleanDisk (state g.S.Store mid) = omega (arith, c.gather_all.ensures.survives.clean, late) in
     let begun = begun_plain g.S.Store sql params old mid lists.plain (c.in-Ok.ensures.begun early) in
     let comes = c.gather_all.ensures.gathers sql params listed late (lists_still g.S.Store court listed sql params old mid begun.1 lists) (begun.0, omega arith) begun.1.0.is_open in
-    let from_old = comes_from g.S.Store court listed old mid new (λ (found : Vec DueLine Global). found.items ≡ listed) c.gather_all.result begun.1 comes in
-    subst (λ h. ComesTo g.S.Store old h (λ (found : Vec DueLine Global). found.items ≡ listed) c.gather_all.result) end from_old
+    let from_old = comes_from g.S.Store court listed old mid new (λ (found : Vec DueRow Global). found.items ≡ listed) c.gather_all.result begun.1 comes in
+    subst (λ h. ComesTo g.S.Store old h (λ (found : Vec DueRow Global). found.items ≡ listed) c.gather_all.result) end from_old
 
 pub returns-in-Err-clause-survives : goal.returns-in-Err-clause-survives
 returns-in-Err-clause-survives g c = λ plain.

@@ -3,7 +3,7 @@ use Rattle.sqlite.specs.State.{HasCleanDisk}
 use Rattle.sqlite.specs.Held.{state}
 use Rattle.sqlite.proofs.Callers.{unchanged_then}
 use Rattle.sqlite.proofs.StateLemmas.{survives_then}
-use Rattle.docket_history.specs.declared.record.DueLine.{DueLine}
+use Rattle.docket_history.specs.declared.record.DueRow.{DueRow}
 use Rattle.docket_tables.proofs.PassedCauses.{fault_after}
 use Rattle.docket_calendar.proofs.GatherLemmas.{caused_after, err_comes, goes_on, stops, whole}
 use Rattle.docket_calendar.proofs.TellLemmas.{lists_still}
@@ -28,7 +28,7 @@ returns-in_err-due-clause-gathers g c = λ sql params listed clean lists gave is
     let early : HasCleanDisk (state g.S.Store now) = omega (arith, c.next_due.ensures.survives.clean, clean) in
     let so_far = c.rows.invariant.gathered early sql params listed lists gave is_open in
     let next = c.in_err-due.ensures.next c.rows.counter sql params listed clean (lists_still g.S.Store court listed sql params old now so_far.same lists) so_far.gave in
-    err_comes g.S.Store old new (λ (found : Vec DueLine Global). found.items ≡ listed) _ c.from_residual.result c.from_residual.ensures.1
+    err_comes g.S.Store old new (λ (found : Vec DueRow Global). found.items ≡ listed) _ c.from_residual.result c.from_residual.ensures.1
     (stops g.S.Store court listed sql params c.rows.counter c.rows.found.items old now new so_far _ next)
 
 pub returns-in_default-clause-gathers : goal.returns-in_default-clause-gathers

@@ -3,7 +3,7 @@ use Rattle.std.specs.Prelude.{IsTrue}
 use Rattle.sqlite.specs.Order.{Row}
 use Rattle.sqlite.specs.State.{HasCleanDisk, IsUnchanged, Survives}
 use Rattle.sqlite.specs.Held.{state}
-use Rattle.docket_history.specs.declared.record.DueLine.{DueLine}
+use Rattle.docket_history.specs.declared.record.DueRow.{DueRow}
 use Rattle.docket_calendar.specs.Asked.{Lists, Gave}
 use Rattle.docket_calendar.specs.Stops.{IsUnderWay}
 use Rattle.docket_calendar.proofs.GatherLemmas.{IsGathered}
@@ -19,6 +19,6 @@ invariant-rows g l =
       survives : Survives (state g.S.Store old) (state g.S.Store now) (λ _. ⊥);
       way : HasCleanDisk (state g.S.Store now) → IsUnderWay g.S.Store old → IsUnderWay g.S.Store now;
       remains : HasCleanDisk (state g.S.Store now) → IsTrue (state g.S.Store old).is_open → IsUnchanged (state g.S.Store old) (state g.S.Store now);
-      gathered : HasCleanDisk (state g.S.Store now) → (sql : List ℕ) (params : Row) (listed : List DueLine) → Lists sql params l.court l.entered (state g.S.Store old).now listed → Gave g.S.Store sql params l.court listed 0 old
+      gathered : HasCleanDisk (state g.S.Store now) → (sql : List ℕ) (params : Row) (listed : List DueRow) → Lists sql params l.court l.entered (state g.S.Store old).now listed → Gave g.S.Store sql params l.court listed 0 old
           → IsTrue (state g.S.Store old).is_open → IsGathered g.S.Store l.court listed sql params l.counter l.found.items old now;
     }

@@ -6,7 +6,7 @@ use Rattle.sqlite.specs.Store.{Ghosts}
 use Rattle.court_days.specs.Court.{CourtSettings}
 use Rattle.docket_calendar.specs.Calendar.{calendar_rows}
 use Rattle.docket_history.specs.Histories.{History}
-use Rattle.docket_history.specs.declared.record.DueLine.{DueLine}
+use Rattle.docket_history.specs.declared.record.DueRow.{DueRow}
 use Rattle.docket_applying.specs.Dockets.{Docket}
 use Rattle.docket_applying.proofs.AnyLemmas.{err_preserves, short_preserves}
 use Rattle.http_request.specs.declared.page.Page.TheVariants.{Days}
@@ -17,7 +17,7 @@ use Rattle.docket_http.proofs.HandedOn.{clean_after, court_after, err_closed, no
 use Rattle.docket_http.proofs.pages.days_reply.Goals as goal
 
 -- the deadlines that were read, by the court that the docket then has
-same_court : {S : Type 0} (g : Ghosts S) (now was : Docket S) (h : History) (from to : ℕ) (dues found : List DueLine) → now.court ≡ was.court → dues ≡ found
+same_court : {S : Type 0} (g : Ghosts S) (now was : Docket S) (h : History) (from to : ℕ) (dues found : List DueRow) → now.court ≡ was.court → dues ≡ found
     → (HasCleanDisk (state g now.conn) → found ≡ calendar_rows was.court h from to) → HasCleanDisk (state g now.conn) → dues ≡ calendar_rows now.court h from to
 same_court g now was h from to dues found kept same is clean = same ∙ is clean ∙ ap (λ (court : CourtSettings). calendar_rows court h from to) (sym kept)
 

@@ -2,5 +2,5 @@ use Rattle.court_days.specs.Court.{zone_of}
 use Rattle.docket_sound.proofs.DueLemmas.{lawful_acts}
 use Rattle.docket_sound.proofs.due.deadline_standing.Goals as goal
 
-pub standing_of-requires : goal.standing_of-requires
-standing_of-requires c = lawful_acts (zone_of c.args.court.now) c.args.acts.now c.requires.lawful
+pub due-requires : goal.due-requires
+due-requires c = lawful_acts (zone_of c.args.court.now) c.args.acts.now c.requires.lawful

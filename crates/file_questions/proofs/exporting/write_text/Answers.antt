@@ -1,7 +1,7 @@
 use Rattle.std.proofs.Common.{◌∙◌, ◌++◌, ℕ, List, Ok, Err, length, sym, subst, arith}
 use Rattle.sqlite.specs.Held.{state}
 use Rattle.sqlite.specs.State.{HasCleanDisk}
-use Rattle.docket_history.specs.declared.record.DueLine.{DueLine}
+use Rattle.docket_history.specs.declared.record.DueRow.{DueRow}
 use Rattle.due_exports.specs.Exports.{export_foot, export_head}
 use Rattle.file_questions.specs.Exports.{HaveCases, TextOut, entries_from, rows_of_export}
 use Rattle.file_questions.proofs.CasedLemmas.{cased}
@@ -22,7 +22,7 @@ returns-in-Ok-write_piece-clause-puts g c h stands are =
       λ clean.
           let early : HasCleanDisk (state g.S.Store c.args.docket.now.conn) = omega (arith, clean, c.write_rest.ensures.clean) in
           let out = subst (λ (text : List ℕ). TextOut text 1 before mid (Ok c.in-Ok-write_piece.field-0)) (c.as_str.ensures.value ∙ c.in-Ok.ensures) c.in-Ok-write_piece.ensures.out in
-          subst (λ (dues : List DueLine). TextOut (head ++ (entries_from export court h 0 dues ++ foot)) (length dues) before after c.write_rest.result) (are early)
+          subst (λ (dues : List DueRow). TextOut (head ++ (entries_from export court h 0 dues ++ foot)) (length dues) before after c.write_rest.result) (are early)
           (joined before mid head 1 c.in-Ok-write_piece.field-0 out after (entries_from export court h 0 c.args.dues.now ++ foot) (length c.args.dues.now) c.write_rest.result (rest.1 clean)),
     )
 

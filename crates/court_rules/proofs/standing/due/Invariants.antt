@@ -1,7 +1,7 @@
 use Rattle.std.proofs.Common.{◌≡◌, drop}
 use Rattle.court_days.specs.Court.{zone_of}
 use Rattle.court_rules.specs.Standings.{standing, standing_through, StandsAfter}
-use Rattle.court_rules.proofs.standing.standing_of.Given as goal
+use Rattle.court_rules.proofs.standing.due.Given as goal
 
 -- what is left of the acts leads from here where all of them lead, and so many acts have moved the end
 abbrev pub invariant-loop-act : goal.invariant-loop-act
