@@ -1,5 +1,5 @@
 #!/usr/bin/env python3
-"""Writes the gate's stored requests for pages and their whole answers (crates/trials/data/pages.in, pages.out): a docket of two cases
+"""Writes the gate's stored requests for pages and their whole answers (crates/rows/data/pages.in, pages.out): a docket of two cases
 whose deadlines were worked out by hand, and pages put together here from what they are to show. Usage: checks/pages_data.py"""
 import html
 import json
@@ -153,7 +153,7 @@ def escaped(data):
 
 
 def main():
-    data = os.path.join(TOP, "crates/trials/data")
+    data = os.path.join(TOP, "crates/rows/data")
     with open(os.path.join(data, "pages.in"), "w") as requests, open(os.path.join(data, "pages.out"), "w") as answers:
         for request, reply in exchanges():
             requests.write(json.dumps(request.decode("latin-1")) + "\n")

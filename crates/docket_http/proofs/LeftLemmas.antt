@@ -38,6 +38,7 @@ rejected_fine rejection.Method = refl
 rejected_fine rejection.BadPathValue = refl
 rejected_fine rejection.LengthRequired = refl
 rejected_fine rejection.TooLong = refl
+rejected_fine rejection.Foreign = refl
 
 outcome_fine : (a : Answer) → ((outcome_response a).status == 503) ≡ false
 outcome_fine (accepted reply) = refl

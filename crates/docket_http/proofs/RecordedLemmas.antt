@@ -51,6 +51,7 @@ no_rejection rejection.Method is = omega (arith, is)
 no_rejection rejection.BadPathValue is = omega (arith, is)
 no_rejection rejection.LengthRequired is = omega (arith, is)
 no_rejection rejection.TooLong is = omega (arith, is)
+no_rejection rejection.Foreign is = omega (arith, is)
 
 no_problem : (p : Problem) → problem_status p ≡ 200 → ⊥
 no_problem (problem.Rejected r) is = no_rejection r is

@@ -2,7 +2,7 @@
 use Rattle.std.specs.Prelude.{ℕ, List, [], ◌∷◌, ◌++◌, length, codes, decimal}
 use Rattle.http.specs.StatusCode.{status_text}
 use Rattle.http_request.specs.declared.fields.Rejection.{Rejection}
-use Rattle.http_request.specs.declared.fields.Rejection.TheVariants.{HeadTooLong, BadHead, NotFound, Method, BadPathValue, LengthRequired, TooLong}
+use Rattle.http_request.specs.declared.fields.Rejection.TheVariants.{HeadTooLong, BadHead, NotFound, Method, BadPathValue, LengthRequired, TooLong, Foreign}
 use Rattle.docket_http.specs.declared.head.Form.{Form}
 use Rattle.docket_http.specs.declared.head.Form.TheVariants.{Json, Text, OpenText, Html, File}
 use Rattle.docket_http.specs.declared.problem.Problem.{Problem}
@@ -77,6 +77,7 @@ rejection_status Method = 405
 rejection_status BadPathValue = 400
 rejection_status LengthRequired = 411
 rejection_status TooLong = 413
+rejection_status Foreign = 403
 
 abbrev pub rejection_word : Rejection → List ℕ
 rejection_word HeadTooLong = codes "head-too-long"
@@ -86,6 +87,7 @@ rejection_word Method = codes "method"
 rejection_word BadPathValue = codes "bad-path-value"
 rejection_word LengthRequired = codes "length-required"
 rejection_word TooLong = codes "too-long"
+rejection_word Foreign = codes "foreign"
 
 abbrev pub problem_status : Problem → ℕ
 problem_status (Rejected rejection) = rejection_status rejection

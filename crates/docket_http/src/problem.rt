@@ -31,6 +31,7 @@ fn status_of(rejection: Rejection) -> StatusCode
         Rejection::Method => StatusCode::METHOD_NOT_ALLOWED,
         Rejection::LengthRequired => StatusCode::LENGTH_REQUIRED,
         Rejection::TooLong => StatusCode::PAYLOAD_TOO_LARGE,
+        Rejection::Foreign => StatusCode::FORBIDDEN,
     }
 }
 
@@ -52,6 +53,8 @@ fn rejection_answer(rejection: Rejection) -> &'static [u8]
             b"HTTP/1.1 411 Length Required\r\ncontent-type: application/json\r\ncontent-length: 28\r\nconnection: close\r\n\r\n{\"error\":\"length-required\"}\n",
         Rejection::TooLong =>
             b"HTTP/1.1 413 Payload Too Large\r\ncontent-type: application/json\r\ncontent-length: 21\r\nconnection: close\r\n\r\n{\"error\":\"too-long\"}\n",
+        Rejection::Foreign =>
+            b"HTTP/1.1 403 Forbidden\r\ncontent-type: application/json\r\ncontent-length: 20\r\nconnection: close\r\n\r\n{\"error\":\"foreign\"}\n",
     }
 }
 

@@ -86,30 +86,30 @@ pub fn serve_one<R: Read, W: Write, S: Alter>(
     reader: &mut R,
     writer: &mut W,
     docket: &mut Docket<S>,
-    routes: Routes,
+    routes: &Routes,
 ) -> Result<Served, ServeFault>
     ensures court { docket.new.court ≡ docket.old.court }
     ensures clean { doubt (state S.Store docket.old.conn).is_clean ≤ doubt (state S.Store docket.new.conn).is_clean }
     ensures any { WritesAtMostOne S.Store docket.old docket.new }
     ensures closed { docket.old.closed ≡ true → (docket.new ≡ docket.old)
-        × ServesClosed routes (R.remaining reader.old) (W.contents writer.old) (W.contents writer.new) result }
+        × ServesClosed routes.now (R.remaining reader.old) (W.contents writer.old) (W.contents writer.new) result }
     ensures served { IfOk result (λ served. (h : History) → Stands S.Store docket.old h
         → HasCleanDisk (state S.Store docket.new.conn)
-        → Serves S.Store routes (R.remaining reader.old) docket.old docket.new h
+        → Serves S.Store routes.now (R.remaining reader.old) docket.old docket.new h
         (W.contents writer.old) (W.contents writer.new) served.status) }
     ensures fails { IfErr result (λ e. (h : History) → Stands S.Store docket.old h
         → HasCleanDisk (state S.Store docket.new.conn)
-        → Fails S.Store routes (R.remaining reader.old) docket.old docket.new h
+        → Fails S.Store routes.now (R.remaining reader.old) docket.old docket.new h
         (W.contents writer.old) (W.contents writer.new) e) }
     // Of any docket, a command that is told its reply has its receipt.
     ensures recorded { HoldsDocketRows S.Store docket.old
-        → ServesBacked S.Store routes (R.remaining reader.old) docket.new (W.contents writer.old) (W.contents writer.new) result }
+        → ServesBacked S.Store routes.now (R.remaining reader.old) docket.new (W.contents writer.old) (W.contents writer.new) result }
     // Where no request was read, nothing was written and the docket is as it was.
     ensures untouched { IfErr result (λ e. (e ≡ ServeFault.ReadFailed) ⊎ (e ≡ ServeFault.EndedEarly)
         → (docket.new ≡ docket.old) × Keeps (W.contents writer.old) (W.contents writer.new)) }
     // A copy is wanted where one is asked for of an open docket, and nowhere else.
     ensures copy { result ≡ Err ServeFault.CopyWanted
-        → WantsCopy routes (R.remaining reader.old) docket.old docket.new × (writer.new ≡ writer.old) }
+        → WantsCopy routes.now (R.remaining reader.old) docket.old docket.new × (writer.new ≡ writer.old) }
 {
     let request = match read_request(alloc, reader, routes) {
         Ok(request) => request,

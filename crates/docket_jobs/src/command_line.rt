@@ -294,6 +294,12 @@ fn serve_command<'a>(alloc: Global) -> Result<Command<'a>, AllocError>
         alloc,
         "pages",
         "Show pages of the docket to a browser as well, under /pages",
+    ))?
+    .arg(option(
+        alloc,
+        "origin",
+        "ORIGIN",
+        "Where a browser finds the pages besides, as https://docket.example of a proxy",
     ))
 }
 

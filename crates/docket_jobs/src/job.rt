@@ -1,11 +1,11 @@
 //! What a command line asks for.
-ghost use Rattle.std.specs.Prelude.{◌≡◌, IfOk, MatchResult, None, Some, map, string_bytes};
+ghost use Rattle.std.specs.Prelude.{◌≡◌, IfOk, MatchResult, None, Some, map, option_copied, string_bytes};
 ghost use Rattle.clap.specs.Kinds.{FailsBy};
 ghost use Rattle.clap.specs.Matches.{found_of};
 ghost use Rattle.clap.specs.Simple.{subcommand_rows_of};
 ghost use Rattle.clap.specs.Values.{kind_of};
 ghost use Rattle.clap.specs.Walk.{rows_of};
-ghost use Rattle.docket_jobs.specs.Jobs.{IsLimited, asked, asked_by, asked_in, asked_of, backup_asked, case_asked, cases_asked, check_asked, court_asked, create_asked, explain_asked, explain_numbers, import_asked, line_faults, migrate_asked, number_of, rules_asked, run_asked, serve_asked};
+ghost use Rattle.docket_jobs.specs.Jobs.{IsLimited, asked, asked_by, asked_in, asked_of, backup_asked, is_origin, origin_if, case_asked, cases_asked, check_asked, court_asked, create_asked, explain_asked, explain_numbers, import_asked, line_faults, migrate_asked, number_of, rules_asked, run_asked, serve_asked};
 
 use crate::command_line::command;
 use crate::day_jobs::{calendar_job, export_job, holidays_job};
@@ -97,13 +97,14 @@ pub enum Job<'a> {
         file: &'a str,
     },
     /// `serve`: answer the requests of 1 to 1,000,000 connections, at a port of this machine alone, of the
-    /// docket in a file, and show its pages as well where they are asked for. Port 0 is one that the system
-    /// chooses.
+    /// docket in a file, and show its pages as well where they are asked for, at another origin besides where
+    /// one is given. Port 0 is one that the system chooses.
     Serve {
         file: &'a str,
         port: u16,
         count: u32,
         pages: bool,
+        origin: Option<&'a str>,
     },
     /// `rules`: tell the rules by which deadlines run, with the local rules of the docket in a file, where
     /// one is given.
@@ -256,17 +257,44 @@ fn migrate_job<'a>(found: &ArgMatches<'a>) -> Job<'a>
     }
 }
 
+/// Whether a text begins as an origin does.
+fn is_origin(text: &str) -> bool
+    ensures { result ≡ is_origin text.now }
+{
+    text.as_bytes().starts_with(b"http://") || text.as_bytes().starts_with(b"https://")
+}
+
+/// The other origin at which pages are shown, which goes with pages alone.
+fn read_origin<'a>(pages: bool, origin: Option<&'a str>) -> Result<Option<&'a str>, BadValue<'a>>
+    ensures { MatchResult result (λ other. origin_if pages (option_copied origin.entry) ≡ Some (option_copied other))
+        (λ _. origin_if pages (option_copied origin.entry) ≡ None) }
+{
+    let Some(origin) = origin else {
+        return Ok(None);
+    };
+    if pages && is_origin(origin) {
+        Ok(Some(origin))
+    } else {
+        Err(BadValue::Origin)
+    }
+}
+
+#[tactic(auto, using(crate::proofs::MatchLemmas::first_value_is))]
 fn serve_job<'a>(found: &ArgMatches<'a>) -> Result<Job<'a>, BadValue<'a>>
-    ensures { MatchResult result (λ job. serve_asked (rows_of (found_of found.now)) ≡ Some (asked job))
+    ensures limited { IfOk result IsLimited }
+    ensures job { MatchResult result (λ job. serve_asked (rows_of (found_of found.now)) ≡ Some (asked job))
         (λ _. serve_asked (rows_of (found_of found.now)) ≡ None) }
 {
     let port = read_port(value(found, "port")).ok_or(BadValue::Port)?;
     let count = read_count(value(found, "count")).ok_or(BadValue::Count)?;
+    let pages = flag(found, "pages");
+    let origin = read_origin(pages, found.get_str("origin"))?;
     Ok(Job::Serve {
         file: value(found, "db"),
         port,
         count,
-        pages: flag(found, "pages"),
+        pages,
+        origin,
     })
 }
 

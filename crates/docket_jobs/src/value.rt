@@ -20,6 +20,7 @@ pub(crate) enum BadValue<'a> {
     Form,
     Sheet,
     Port,
+    Origin,
     Count,
     Year,
     Days,
@@ -53,6 +54,9 @@ impl fmt::Display for BadValue<'_> {
                 "--case goes with --as html alone, and without it go FROM and TO",
             ),
             BadValue::Port => f.write_str("P is a port from 0 to 65535, without a leading zero"),
+            BadValue::Origin => f.write_str(
+                "--origin goes with --pages, and is one as https://docket.example",
+            ),
             BadValue::Count => f.write_str(
                 "N is a number from 1 to 1000000, without a leading zero",
             ),

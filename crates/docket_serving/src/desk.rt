@@ -55,6 +55,13 @@ impl<'a, S: Alter> Desk<'a, S> {
         }
     }
 
+    /// Serves these routes from now on.
+    pub fn show(&mut self, routes: Routes)
+        ensures { self.new ≡ record { docket = self.old.docket; routes = routes } }
+    {
+        self.routes = routes;
+    }
+
     /// The docket as the connections left it.
     pub fn into_docket(self) -> Docket<S>
         ensures { result ≡ self.entry.docket }
@@ -86,7 +93,7 @@ impl<S: Alter> Attendant for Desk<'_, S> {
         reader: &mut R,
         writer: &mut W,
     ) -> Result<Served, ServeFault> {
-        let served = serve_one(self.alloc, reader, writer, &mut self.docket, self.routes);
+        let served = serve_one(self.alloc, reader, writer, &mut self.docket, &self.routes);
         if is_copy_wanted(&served) {
             return give_copy(self.alloc, self.files, writer);
         }

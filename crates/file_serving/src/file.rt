@@ -27,7 +27,7 @@ pub fn serve_on_file<S: Start, V: Watch + Drop, W: Write, E: Write>(
     path: &str,
     start: S,
     watch: V,
-    service: &Service,
+    service: &Service<'_>,
     w: &mut W,
     e: &mut E,
 ) -> OnFile<S, Result<(), ServeEnd>>

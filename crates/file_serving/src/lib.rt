@@ -5,6 +5,5 @@
 mod file;
 mod serving;
 
-pub use docket_serving::Routes;
 pub use file::serve_on_file;
-pub use serving::{ServeEnd, Service};
+pub use serving::{ServeEnd, Service, Shown};

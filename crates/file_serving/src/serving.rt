@@ -1,25 +1,33 @@
 //! The docket of a database, served by HTTP.
-ghost use Rattle.std.specs.Prelude.{◌≤◌};
+ghost use Rattle.std.specs.Prelude.{◌≤◌, ℕ, IfOk};
 ghost use Rattle.sqlite.specs.Held.{state};
 ghost use Rattle.sqlite.specs.View.{doubt};
-ghost use Rattle.file_serving.specs.Serves.{ServesPort};
+ghost use Rattle.file_serving.specs.Serves.{AreServedAt, ServesPort};
 
 use docket_serving::{Desk, DocketFiles, Listening, Routes, ServingFault, serve_run};
 use docket_store::{AdoptFault, Watch};
 use file_dockets::{Work, Worked, adopt};
 use sqlite::{Alter, Connection};
-use std::alloc::Global;
+use std::alloc::{AllocError, Global};
 use std::io;
 use std::io::{ErrorKind, Write};
 use std::net::TcpListener;
 use std::rt::HostRuntime;
 
-/// At which port of this machine a docket is served, to how many connections, and by which routes.
+/// Whether the pages of a docket are shown.
 #[derive(Clone, Copy)]
-pub struct Service {
+pub enum Shown<'a> {
+    NoPages,
+    /// At the port of this machine, and at another origin where that is given, as that of a proxy.
+    Pages(Option<&'a str>),
+}
+
+/// At which port of this machine a docket is served, to how many connections, and whether its pages are shown.
+#[derive(Clone, Copy)]
+pub struct Service<'a> {
     pub port: u16,
     pub count: u32,
-    pub routes: Routes,
+    pub shown: Shown<'a>,
 }
 
 /// Why a docket was not served to the end.
@@ -40,27 +48,49 @@ fn announce<W: Write>(alloc: Global, listener: &TcpListener, w: &mut W) -> io::R
     w.flush()
 }
 
+/// The routes that are served at a port.
+fn routes_at(alloc: Global, shown: Shown<'_>, port: u16) -> Result<Routes, AllocError>
+    ensures { IfOk result (AreServedAt port shown.entry) }
+{
+    match shown {
+        Shown::NoPages => Ok(Routes::Docket),
+        Shown::Pages(other) => Routes::with_pages(alloc, port, other),
+    }
+}
+
+/// The routes that are served where connections are taken.
+fn routes_of(alloc: Global, shown: Shown<'_>, listener: &TcpListener) -> io::Result<Routes>
+    ensures { IfOk result (λ routes. (port : ℕ) × AreServedAt port shown.entry routes) }
+{
+    let port = listener.local_addr()?.port();
+    Ok(routes_at(alloc, shown, port)?)
+}
+
 /// Listens at a port of this machine alone, and serves so many connections.
 fn listen<S: Alter, W: Write, E: Write>(
     rt: &HostRuntime,
-    port: u16,
-    count: u32,
+    service: &Service<'_>,
     desk: &mut Desk<'_, S>,
     w: &mut W,
     e: &mut E,
 ) -> Result<(), ServeEnd>
-    ensures served { ServesPort S.Store desk.old desk.new count result }
+    ensures served { ServesPort S.Store desk.old desk.new service.now result }
     ensures clean { doubt (state S.Store desk.old.docket.conn).is_clean ≤ doubt (state S.Store desk.new.docket.conn).is_clean }
 {
-    let listener = match TcpListener::bind(rt, ("127.0.0.1", port)) {
+    let listener = match TcpListener::bind(rt, ("127.0.0.1", service.port)) {
         Ok(listener) => listener,
         Err(error) => return Err(ServeEnd::NotListening(error.kind())),
+    };
+    let routes = match routes_of(rt.alloc(), service.shown, &listener) {
+        Ok(routes) => routes,
+        Err(why) => return Err(ServeEnd::NotListening(why.kind())),
     };
     if let Err(error) = announce(rt.alloc(), &listener, w) {
         return Err(ServeEnd::NotAnnounced(error.kind()));
     }
+    desk.show(routes);
     let mut connections = Listening::new(rt, &listener);
-    match serve_run(rt.alloc(), &mut connections, count, desk, e) {
+    match serve_run(rt.alloc(), &mut connections, service.count, desk, e) {
         Ok(()) => Ok(()),
         Err(fault) => Err(ServeEnd::Stopped(fault)),
     }
@@ -73,7 +103,7 @@ pub(crate) struct Serve<'a, V> {
     pub(crate) rt: &'a HostRuntime,
     pub(crate) path: &'a str,
     pub(crate) watch: V,
-    pub(crate) service: &'a Service,
+    pub(crate) service: &'a Service<'a>,
 }
 
 impl<V: Watch + Drop, W: Write, E: Write> Work<W, E> for Serve<'_, V> {
@@ -97,9 +127,8 @@ impl<V: Watch + Drop, W: Write, E: Write> Work<W, E> for Serve<'_, V> {
             Err(returned) => return Worked::from(returned),
         };
         let files = DocketFiles::new(self.rt, self.path);
-        let service = self.service;
-        let mut desk = Desk::new(alloc, docket, service.routes, Some(files));
-        let end = listen(self.rt, service.port, service.count, &mut desk, w, e);
+        let mut desk = Desk::new(alloc, docket, Routes::Docket, Some(files));
+        let end = listen(self.rt, self.service, &mut desk, w, e);
         Worked {
             outcome: Ok(end),
             connection: desk.into_docket().close(),

@@ -13,7 +13,7 @@ use Rattle.http_request.specs.Days.{days_of, week_of}
 -- what a path has behind "/pages", where pages are served
 abbrev pub pages_rest : Routes → List ℕ → Option (List ℕ)
 pages_rest Docket path = None
-pages_rest WithPages path = behind (codes "/pages") path
+pages_rest (WithPages origins) path = behind (codes "/pages") path
 
 -- what a query has behind "from="
 abbrev pub from_of : Option (List ℕ) → Option (List ℕ)

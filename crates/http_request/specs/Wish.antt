@@ -7,7 +7,7 @@ use Rattle.http_request.specs.declared.route.Route.{Route}
 use Rattle.http_request.specs.declared.route.Route.TheVariants.{Commands, Case as CaseRoute, Deadlines as DeadlinesRoute, Calendar as CalendarRoute, Holidays as HolidaysRoute}
 use Rattle.http_request.specs.Path.{Place, place_of}
 use Rattle.http_request.specs.declared.fields.Rejection.{Rejection}
-use Rattle.http_request.specs.declared.fields.Rejection.TheVariants.{BadHead, NotFound, Method, BadPathValue}
+use Rattle.http_request.specs.declared.fields.Rejection.TheVariants.{BadHead, NotFound, Method, BadPathValue, Foreign}
 use Rattle.http_request.specs.declared.wish.Wish.{Wish}
 use Rattle.http_request.specs.declared.wish.Wish.TheVariants.{Reject, Command, Case, Deadlines, Calendar, Holidays, Page as PageWish, Copy}
 use Rattle.http_request.specs.declared.page.Routes.{Routes}
@@ -15,6 +15,7 @@ use Rattle.http_request.specs.declared.page.Page.{Page}
 use Rattle.http_request.specs.Number.{number_of, year_of}
 use Rattle.http_request.specs.Days.{days_of}
 use Rattle.http_request.specs.Fields.{body_length}
+use Rattle.http_request.specs.Guard.{is_foreign}
 use Rattle.http_request.specs.Target.{path_of, query_of}
 use Rattle.http_request.specs.Pages.{pages_rest, page_of, IsPageWithinLimits}
 
@@ -78,9 +79,11 @@ abbrev pub path_wish : List ℕ → List ℕ → List (List ℕ × List ℕ) →
 path_wish method target fields None = place_wish method fields (place_of (path_of target))
 path_wish method target fields (Some rest) = rest_wish method rest (query_of target)
 
--- what a head of this method, target and fields asks for, where these routes are served
+-- what a head of this method, target and fields asks for, where these routes are served; what comes from elsewhere asks for nothing,
+-- whatever its method and its target
 abbrev pub wish_of : Routes → List ℕ → List ℕ → List (List ℕ × List ℕ) → Wish
-wish_of routes method target fields = path_wish method target fields (pages_rest routes (path_of target))
+wish_of routes method target fields =
+    if is_foreign routes fields then Reject Foreign else path_wish method target fields (pages_rest routes (path_of target))
 
 -- the bytes are no head of the grammar with at most 64 fields
 abbrev pub HasNoHead : List ℕ → Type 0

@@ -12,12 +12,12 @@ use civil_time::Day;
 use matchit::Router;
 
 /// Which routes are served.
-#[derive(Clone, Copy)]
+#[derive(Drop)]
 pub enum Routes {
     /// The five of the docket.
     Docket,
-    /// Those, and the pages.
-    WithPages,
+    /// Those, and the pages, at these origins, as `http://127.0.0.1:8080`. What comes from elsewhere is refused.
+    WithPages(Vec<String>),
 }
 
 /// A page of a docket.
@@ -35,12 +35,12 @@ pub enum Page {
 const MAX_CASES: u32 = 100_000;
 
 /// What a path has behind "/pages", where pages are served.
-pub fn behind_pages(routes: Routes, path: &str) -> Option<&str>
-    ensures { option_copied result ≡ pages_rest routes path.now }
+pub fn behind_pages<'p>(routes: &Routes, path: &'p str) -> Option<&'p str>
+    ensures { option_copied result ≡ pages_rest routes.now path.now }
 {
     match routes {
         Routes::Docket => None,
-        Routes::WithPages => behind(path, "/pages"),
+        Routes::WithPages(_) => behind(path, "/pages"),
     }
 }
 

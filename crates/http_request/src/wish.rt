@@ -8,6 +8,7 @@ ghost use Rattle.http_request.specs.Wish.{route_wish, place_wish, page_wish as w
 
 use crate::days::read_range;
 use crate::fields::{Rejection, body_length};
+use crate::guard::is_foreign;
 use crate::input::InputFault;
 use crate::number::{read_number, read_year};
 use crate::page::{Page, Routes, behind_pages, find_page};
@@ -153,7 +154,7 @@ fn rest_wish(router: &Router<Route>, method: &[u8], rest: &str, query: Option<&s
 
 // What a head of this method, target and fields asks for.
 fn parts_wish(
-    routes: Routes,
+    routes: &Routes,
     router: &Router<Route>,
     method: &[u8],
     target: &[u8],
@@ -163,9 +164,12 @@ fn parts_wish(
     requires routes { router.now ≡ route_rows }
     requires text { IsUtf8 target.now }
     requires within { All (IsHeaderWithin (length head.now)) headers.now }
-    ensures asks { result ≡ wish_of routes method.now target.now (map (header_bytes head.now) headers.now) }
+    ensures asks { result ≡ wish_of routes.now method.now target.now (map (header_bytes head.now) headers.now) }
     ensures within { IsWithinLimits result }
 {
+    if is_foreign(routes, head, headers) {
+        return Wish::Reject(Rejection::Foreign);
+    }
     let Ok(target) = from_utf8(target) else {
         return Wish::Reject(Rejection::NotFound);
     };
@@ -177,8 +181,8 @@ fn parts_wish(
 }
 
 /// What the bytes of a whole head ask for.
-pub fn head_wish(alloc: Global, head: &[u8], routes: Routes) -> Result<Wish, InputFault>
-    ensures asks { IfOk result (IsHeadWish routes head.now) }
+pub fn head_wish(alloc: Global, head: &[u8], routes: &Routes) -> Result<Wish, InputFault>
+    ensures asks { IfOk result (IsHeadWish routes.now head.now) }
     ensures within { IfOk result IsWithinLimits }
     ensures fault { IfErr result (λ e. e ≡ InputFault.NoMemory) }
 {

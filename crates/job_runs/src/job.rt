@@ -116,8 +116,9 @@ pub fn run_job<S: Start, P: Write + Drop, R: Read, W: Write + Drop, E: Write>(
             port,
             count,
             pages,
+            origin,
         } => {
-            let service = service_of(port, count, pages);
+            let service = service_of(port, count, pages, origin);
             let end = serve_docket(rt, start, screen, file, &service, &mut w, e);
             (end, w)
         }

@@ -1,30 +1,26 @@
 //! The docket in a file, served by HTTP.
 ghost use Rattle.std.specs.Prelude.{◌≡◌, [], if◌then◌else◌};
 ghost use Rattle.std.specs.Cow.{cow_str_bytes};
-ghost use Rattle.http_request.specs.declared.page.Routes.TheVariants.{Docket, WithPages};
+ghost use Rattle.file_serving.specs.declared.serving.Shown.TheVariants.{NoPages, Pages};
 
 use crate::opening::ready;
-use file_serving::{Routes, ServeEnd, Service, serve_on_file};
+use file_serving::{ServeEnd, Service, Shown, serve_on_file};
 use job_ends::{JobEnd, Status, done_on_docket, failed, failed_by};
 use sqlite::{FileFrom, Start};
 use std::alloc::Global;
 use std::fmt;
 use std::io::{ErrorKind, Write};
 
-/// What is asked for: a port, so many connections, and whether pages are shown.
-pub(crate) fn service_of(port: u16, count: u32, pages: bool) -> Service
-    ensures { result ≡ record { port = port; count = count; routes = if pages then WithPages else Docket } }
+/// What is asked for: a port, so many connections, and whether pages are shown, and at which origin besides.
+pub(crate) fn service_of(port: u16, count: u32, pages: bool, origin: Option<&str>) -> Service<'_>
+    ensures { result ≡ record { port = port; count = count; shown = if pages then Pages origin.entry else NoPages } }
 {
-    let routes = if pages {
-        Routes::WithPages
+    let shown = if pages {
+        Shown::Pages(origin)
     } else {
-        Routes::Docket
+        Shown::NoPages
     };
-    Service {
-        port,
-        count,
-        routes,
-    }
+    Service { port, count, shown }
 }
 
 /// Why nobody listens at a port.
@@ -69,7 +65,7 @@ pub(crate) fn serve_docket<S: Start, P: Write + Drop, W: Write, E: Write>(
     start: S,
     screen: Option<P>,
     path: &str,
-    service: &Service,
+    service: &Service<'_>,
     w: &mut W,
     e: &mut E,
 ) -> JobEnd<FileFrom<S>>

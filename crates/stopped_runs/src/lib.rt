@@ -13,10 +13,9 @@ mod sweeping;
 mod trial;
 mod whole_text;
 
-pub use making::made;
 pub use migrating::migrations;
 pub use session::sessions;
-pub use stopping::{stopped, told};
+pub use stopping::stopped;
 pub use sweeping::Tally;
 
 /// How many frames of the log are copied into the database at a time where a checkpoint is to be stopped

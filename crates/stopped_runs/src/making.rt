@@ -74,7 +74,7 @@ fn stopped_once<D: Tried>(alloc: Global, frames: usize, stop: Stop) -> Result<bo
 
 /// How many stops there are of the making of a docket, which is made whole or not at all wherever it is
 /// stopped.
-pub fn made(alloc: Global) -> Result<Tally, Error> {
+pub(crate) fn made(alloc: Global) -> Result<Tally, Error> {
     let mut tally = Tally::NONE;
     for frames in FRAMES {
         tally = tally.with(swept(alloc, &Making { frames })?);

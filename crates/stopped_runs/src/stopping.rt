@@ -119,27 +119,17 @@ fn answered(alloc: Global, lines: &[u8], line: &[u8]) -> Result<(String, Tally),
 }
 
 /// The answers to the commands behind the line `?` of an input, each of which comes to the docket of the
-/// lines before that one and stands whole wherever it is stopped, as the making of a docket does.
-pub fn stopped(alloc: Global, input: &[u8]) -> Result<Vec<u8>, Error> {
-    made(alloc)?;
+/// lines before that one and stands whole wherever it is stopped, as the making of a docket does; and how
+/// many stops there were.
+pub fn stopped(alloc: Global, input: &[u8]) -> Result<(Vec<u8>, Tally), Error> {
+    let mut tally = made(alloc)?;
     let (lines, commands) = parted(input)?;
     let mut written = Vec::new(alloc);
     for line in commands.split_inclusive(|byte| *byte == b'\n') {
-        let (answer, _) = answered(alloc, lines, line)?;
+        let (answer, added) = answered(alloc, lines, line)?;
+        tally = tally.with(added);
         written.extend_from_slice(answer.as_bytes())?;
         written.push(b'\n')?;
     }
-    Ok(written)
-}
-
-/// Prints for each of these commands how many stops there were. How many in all.
-pub fn told(rt: &HostRuntime, input: &[u8]) -> Result<Tally, Error> {
-    let (lines, commands) = parted(input)?;
-    let mut all = Tally::NONE;
-    for line in commands.split_inclusive(|byte| *byte == b'\n') {
-        let (_, tally) = answered(rt.alloc(), lines, line)?;
-        println!(rt; "{tally}: {}", line.escape_ascii())?;
-        all = all.with(tally);
-    }
-    Ok(all)
+    Ok((written, tally))
 }

@@ -1,4 +1,4 @@
-use Rattle.std.proofs.Common.{◌≡◌, ◌∙◌, ℕ, Result, Ok, Err, sym, ap, subst, arith}
+use Rattle.std.proofs.Common.{◌≡◌, ◌∙◌, Result, Ok, Err, sym, ap, subst, arith}
 use Rattle.sqlite.specs.Held.{Held, state}
 use Rattle.sqlite.specs.State.{HasCleanDisk}
 use Rattle.sqlite.specs.Store.{Ghosts}
@@ -11,19 +11,20 @@ use Rattle.docket_applying.specs.CourtDockets.{StandsAs}
 use Rattle.file_dockets.specs.Keeping.{HoldsBetween, rows_told}
 use Rattle.file_serving.specs.Serves.{IfUnserved, Serves, ServesOver, ServesPort}
 use Rattle.file_serving.specs.declared.serving.ServeEnd.{ServeEnd}
+use Rattle.file_serving.specs.declared.serving.Service.{Service}
 use Rattle.file_serving.specs.declared.serving.ServeEnd.TheVariants.{NotAnnounced, NotListening, Stopped}
 use Rattle.file_dockets.proofs.KeepLemmas.{held}
 use Rattle.file_dockets.proofs.WorkLemmas.{kept_rejected, unadopted_works}
 use Rattle.file_serving.proofs.serving.ServeWork.work.Goals as goal
 
 -- where no connection was waited for the rows stay
-unserved_port : {S : Type 0} (g : Ghosts S) (old new : Desk S) (count : ℕ) (end : Result (Unit {0}) ServeEnd) (conn : Held S) (rows : Rows)
-    → ServesPort g old new count end → conn ≡ new.docket.conn → HoldsRows g old.docket.conn rows → IfUnserved (Ok end) (HoldsBetween g conn rows rows)
-unserved_port g old new count (Ok done) conn rows served left holds = tt
-unserved_port g old new count (Err (Stopped fault)) conn rows served left holds = tt
-unserved_port {S} g old new count (Err (NotListening kind)) conn rows served left holds =
+unserved_port : {S : Type 0} (g : Ghosts S) (old new : Desk S) (service : Service) (end : Result (Unit {0}) ServeEnd) (conn : Held S) (rows : Rows)
+    → ServesPort g old new service end → conn ≡ new.docket.conn → HoldsRows g old.docket.conn rows → IfUnserved (Ok end) (HoldsBetween g conn rows rows)
+unserved_port g old new service (Ok done) conn rows served left holds = tt
+unserved_port g old new service (Err (Stopped fault)) conn rows served left holds = tt
+unserved_port {S} g old new service (Err (NotListening kind)) conn rows served left holds =
     subst (λ (c : Held S). HoldsBetween g c rows rows) (sym (left ∙ ap (λ (d : Desk S). d.docket.conn) served)) (held g old.docket.conn rows holds)
-unserved_port {S} g old new count (Err (NotAnnounced kind)) conn rows served left holds =
+unserved_port {S} g old new service (Err (NotAnnounced kind)) conn rows served left holds =
     subst (λ (c : Held S). HoldsBetween g c rows rows) (sym (left ∙ ap (λ (d : Desk S). d.docket.conn) served)) (held g old.docket.conn rows holds)
 
 pub returns-in-Err-clause-comes : goal.returns-in-Err-clause-comes
@@ -50,12 +51,11 @@ returns-clause-comes g c =
             adopted = c.new-desk.result;
             last = c.listen-end.new.desk;
             stands = subst (λ (d : Desk g.row.S.Denot). StandsAs g.S.Store d.docket told) (sym c.new-desk.ensures) found;
-            routes = ap (λ (d : Desk g.row.S.Denot). d.routes) c.new-desk.ensures;
             served = c.listen-end.ensures.served;
             left = same;
           };
       stays = λ rows holds.
           let here : HoldsRows g.S.Store c.new-desk.result.docket.conn rows =
           subst (λ (d : Desk g.row.S.Denot). HoldsRows g.S.Store d.docket.conn rows) (sym c.new-desk.ensures) (c.in-Ok.ensures.stays rows holds) in
-          unserved_port g.S.Store c.new-desk.result c.listen-end.new.desk c.args.self.service.now.count c.listen-end.result c.close.result rows c.listen-end.ensures.served same here;
+          unserved_port g.S.Store c.new-desk.result c.listen-end.new.desk c.args.self.service.now c.listen-end.result c.close.result rows c.listen-end.ensures.served same here;
     }

@@ -1,0 +1,22 @@
+-- A docket changes by what the guard lets through.
+use Rattle.std.proofs.Common.{◌≡◌, ℕ, List, refl}
+use Rattle.court_days.specs.Court.{CourtSettings}
+use Rattle.docket_history.specs.Histories.{History}
+use Rattle.http_request.specs.Head.{head_of}
+use Rattle.http_request.specs.Request.{IsRequest, IsLetThrough}
+use Rattle.http_request.specs.declared.page.Routes.{Routes}
+use Rattle.http_request.specs.declared.wish.Wish.{Wish}
+use Rattle.http_request.specs.declared.wish.Wish.TheVariants.{Reject, Command, Case, Deadlines, Calendar, Holidays, Page, Copy}
+use Rattle.http_request.proofs.GuardLemmas.{let_through_by}
+use Rattle.docket_http.specs.Asking.{history_after}
+
+pub let_through : (routes : Routes) (input : List ℕ) (wish : Wish) (body : List ℕ) (court : CourtSettings) (h : History)
+    → IsRequest routes input wish body → ¬ (history_after court h wish body ≡ h) → IsLetThrough routes input
+let_through routes input (Reject r) body court h is changes = absurd (changes refl)
+let_through routes input (Command n) body court h is changes = let_through_by routes (head_of input) input (Command n) body refl is refl
+let_through routes input (Case n) body court h is changes = absurd (changes refl)
+let_through routes input (Deadlines n) body court h is changes = absurd (changes refl)
+let_through routes input (Calendar from to) body court h is changes = absurd (changes refl)
+let_through routes input (Holidays year) body court h is changes = absurd (changes refl)
+let_through routes input (Page page) body court h is changes = absurd (changes refl)
+let_through routes input Copy body court h is changes = absurd (changes refl)

@@ -1,0 +1,38 @@
+-- The guard, where pages are served: by its fields a request tells at which host it is asked, and, where a page of a browser asks it, of which
+-- origin that page is (RFC 9110, section 7.2; RFC 6454, section 7). What is asked of another host, or by a page from elsewhere, is foreign.
+use Rattle.std.specs.Prelude.{ℕ, List, [], ◌∷◌, map, Option, Some, None, Bool, false, not, ◌&&◌, codes, string_bytes}
+use Rattle.std.specs.List.{list_any}
+use Rattle.std.specs.Option.{option_map_or}
+use Rattle.http_request.specs.declared.page.Routes.{Routes}
+use Rattle.http_request.specs.declared.page.Routes.TheVariants.{Docket, WithPages}
+use Rattle.http_request.specs.Fields.{same_name, values_of}
+use Rattle.http_request.specs.Path.{behind}
+
+abbrev pub or_else : Option (List ℕ) → Option (List ℕ) → Option (List ℕ)
+or_else None other = other
+or_else (Some text) other = Some text
+
+-- the host of an origin, with its port where that is not the scheme's own
+abbrev pub host_of : List ℕ → Option (List ℕ)
+host_of origin = or_else (behind (codes "http://") origin) (behind (codes "https://") origin)
+
+-- the origin is at this host, without regard to ASCII case
+abbrev pub is_at : List ℕ → List ℕ → Bool
+is_at host origin = option_map_or (λ named. same_name host named) (host_of origin) false
+
+-- a request of one host at which one of the origins is, and where it has an origin, it is that one
+abbrev pub is_let_through : List (List ℕ) → List (List ℕ) → List (List ℕ) → Bool
+is_let_through origins [] from = false
+is_let_through origins (host ∷ other ∷ hosts) from = false
+is_let_through origins (host ∷ []) [] = list_any (λ origin. is_at host origin) origins
+is_let_through origins (host ∷ []) (page ∷ []) = list_any (λ origin. is_at host origin && same_name page origin) origins
+is_let_through origins (host ∷ []) (page ∷ other ∷ from) = false
+
+-- by its fields a request at one of these origins, from a page of that origin or from no page
+abbrev pub lets_through : List (List ℕ) → List (List ℕ × List ℕ) → Bool
+lets_through origins fields = is_let_through origins (values_of (codes "host") fields) (values_of (codes "origin") fields)
+
+-- a request with these fields is refused; without pages none is
+abbrev pub is_foreign : Routes → List (List ℕ × List ℕ) → Bool
+is_foreign Docket fields = false
+is_foreign (WithPages origins) fields = not (lets_through (map string_bytes origins.items) fields)

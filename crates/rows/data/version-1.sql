@@ -1,0 +1,21 @@
+-- a docket of version 1 with a case, two parties and a summons
+CREATE TABLE court (id INTEGER PRIMARY KEY, word TEXT NOT NULL, version INTEGER NOT NULL, zone TEXT NOT NULL, close INTEGER NOT NULL, next_row INTEGER NOT NULL) STRICT;
+CREATE TABLE calendar (row_no INTEGER PRIMARY KEY, kind INTEGER NOT NULL, a INTEGER NOT NULL, b INTEGER NOT NULL, name TEXT NOT NULL, UNIQUE (kind, a, b)) STRICT;
+CREATE TABLE cases (number INTEGER PRIMARY KEY, label TEXT NOT NULL UNIQUE, caption TEXT NOT NULL, filed INTEGER NOT NULL) STRICT;
+CREATE TABLE party (case_no INTEGER NOT NULL, number INTEGER NOT NULL, name TEXT NOT NULL, role INTEGER NOT NULL, PRIMARY KEY (case_no, number), FOREIGN KEY (case_no) REFERENCES cases (number)) STRICT;
+CREATE TABLE entry (case_no INTEGER NOT NULL, number INTEGER NOT NULL, day INTEGER NOT NULL, body TEXT NOT NULL, PRIMARY KEY (case_no, number), FOREIGN KEY (case_no) REFERENCES cases (number)) STRICT;
+CREATE TABLE deadline (case_no INTEGER NOT NULL, number INTEGER NOT NULL, party INTEGER NOT NULL, rule TEXT NOT NULL, initial INTEGER NOT NULL, PRIMARY KEY (case_no, number), FOREIGN KEY (case_no) REFERENCES cases (number)) STRICT;
+CREATE TABLE act (case_no INTEGER NOT NULL, deadline_no INTEGER NOT NULL, number INTEGER NOT NULL, kind INTEGER NOT NULL, p1 INTEGER NOT NULL, p2 INTEGER NOT NULL, p3 INTEGER NOT NULL, p4 INTEGER NOT NULL, p5 INTEGER NOT NULL, PRIMARY KEY (case_no, deadline_no, number), FOREIGN KEY (case_no, deadline_no) REFERENCES deadline (case_no, number)) STRICT;
+CREATE TABLE receipt (command_key TEXT NOT NULL PRIMARY KEY, body TEXT NOT NULL, reply INTEGER NOT NULL) STRICT;
+CREATE TABLE due (case_no INTEGER NOT NULL, deadline_no INTEGER NOT NULL, day INTEGER NOT NULL, moment INTEGER NOT NULL, PRIMARY KEY (case_no, deadline_no), UNIQUE (day, moment, case_no, deadline_no), FOREIGN KEY (case_no, deadline_no) REFERENCES deadline (case_no, number)) STRICT;
+INSERT INTO court VALUES (1, 'civil docket', 1, 'EST5EDT,M3.2.0,M11.1.0', 1020, 1);
+INSERT INTO cases VALUES (1, '1:25-cv-00001', 'Roe v. Doe', 20241);
+INSERT INTO party VALUES (1, 1, 'Doe', 2);
+INSERT INTO party VALUES (1, 2, 'Roe', 1);
+INSERT INTO deadline VALUES (1, 1, 1, '12(a)(1)(A)(i)', 1);
+INSERT INTO act VALUES (1, 1, 1, 1, 20252, 1, 21, 1, 0);
+INSERT INTO receipt VALUES ('k1', '{"caption":"Roe v. Doe","do":"open_case","filed":"2025-06-02","key":"k1","label":"1:25-cv-00001"}', 1);
+INSERT INTO receipt VALUES ('k2', '{"case":1,"do":"add_party","key":"k2","name":"Doe","role":"defendant"}', 1);
+INSERT INTO receipt VALUES ('k3', '{"case":1,"do":"add_party","key":"k3","name":"Roe","role":"plaintiff"}', 2);
+INSERT INTO receipt VALUES ('k4', '{"basis":"private","case":1,"do":"serve_summons","key":"k4","party":1,"served":"2025-06-13"}', 1);
+INSERT INTO due VALUES (1, 1, 20276, 9999999999999);

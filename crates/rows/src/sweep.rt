@@ -1,0 +1,23 @@
+//! Stops at each call of each of two disks in memory.
+use crate::compare::text_difference;
+use crate::script::Step;
+use anyhow::Error;
+use std::alloc::Global;
+use stopped_runs::{Tally, migrations, sessions, stopped};
+
+/// What the step prints, and how many stops there were.
+fn swept(alloc: Global, step: &Step) -> Result<(Vec<u8>, Tally), Error> {
+    match step.word(0) {
+        "session" => sessions(alloc, &step.input),
+        "migration" => migrations(alloc, &step.input),
+        _ => stopped(alloc, &step.input),
+    }
+}
+
+/// The first difference from what is wanted of the step. How many stops there were is printed on standard
+/// error.
+pub(crate) fn sweep_difference(rt: &HostRuntime, step: &Step) -> Result<Option<String>, Error> {
+    let (came, tally) = swept(rt.alloc(), step)?;
+    eprintln!(rt; "{}, line {}: {tally}", step.word(0), step.line)?;
+    Ok(text_difference(rt.alloc(), "output", &came, &step.wanted.output)?)
+}

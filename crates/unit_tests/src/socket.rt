@@ -1,0 +1,61 @@
+//! A docket served over a socket of this machine, by one thread: the client's request waits in the socket.
+use crate::dockets::new_docket;
+use docket_serving::{Desk, Listening, Routes, serve_run};
+use sqlite::MemStore;
+use std::io::{Read, Write};
+use std::net::{Shutdown, TcpListener, TcpStream};
+use std::test::Fail;
+
+const OPEN: &[u8] =
+    b"POST /commands HTTP/1.1\r\nHost: x\r\nContent-Length: 97\r\n\r\n{\"caption\":\"Roe v. Doe\",\"do\":\"open_case\",\"filed\":\"2025-06-02\",\"key\":\"k1\",\"label\":\"1:25-cv-00001\"}";
+
+const OPENED: &[u8] =
+    b"HTTP/1.1 200 OK\r\ncontent-type: application/json\r\ncontent-length: 13\r\nconnection: close\r\n\r\n{\"number\":1}\n";
+
+const NOT_FOUND: &[u8] =
+    b"HTTP/1.1 404 Not Found\r\ncontent-type: application/json\r\ncontent-length: 22\r\nconnection: close\r\n\r\n{\"error\":\"not-found\"}\n";
+
+/// Requests of one client after the other, each with its answer and what is printed as an error.
+const VISITS: [(&[u8], &[u8], &[u8]); 4] = [
+    (OPEN, OPENED, b""),
+    (OPEN, OPENED, b""),
+    (b"GET /courts HTTP/1.1\r\n\r\nmore", NOT_FOUND, b""),
+    (
+        b"GET /cases/1 HTTP/1.1\r\n",
+        b"",
+        b"docketctl: a request ended early\n",
+    ),
+];
+
+/// The answer to a client who ends its side at once, and what is printed as an error.
+fn visited(
+    rt: &HostRuntime,
+    listener: &TcpListener,
+    desk: &mut Desk<'_, MemStore>,
+    request: &[u8],
+) -> Result<(Vec<u8>, Vec<u8>), Fail> {
+    let mut client = TcpStream::connect(rt, listener.local_addr()?)?;
+    client.write_all(request)?;
+    client.shutdown(Shutdown::Write)?;
+    let mut errors = Vec::new(rt.alloc());
+    let mut connections = Listening::new(rt, listener);
+    if serve_run(rt.alloc(), &mut connections, 1, desk, &mut errors).is_err() {
+        return Err(Fail::new("serving ended"));
+    }
+    let mut answer = Vec::new(rt.alloc());
+    client.read_to_end(&mut answer)?;
+    Ok((answer, errors))
+}
+
+#[test]
+fn clients_of_a_socket(rt: HostRuntime) -> Result<(), Fail> {
+    let docket = new_docket(rt.alloc()).ok_or("no docket")?;
+    let mut desk = Desk::new(rt.alloc(), docket, Routes::Docket, None);
+    let listener = TcpListener::bind(&rt, "127.0.0.1:0")?;
+    for (request, wanted, fault) in VISITS {
+        let (answer, errors) = visited(&rt, &listener, &mut desk, request)?;
+        assert_eq!(rt; answer.as_slice(), wanted);
+        assert_eq!(rt; errors.as_slice(), fault);
+    }
+    Ok(())
+}
