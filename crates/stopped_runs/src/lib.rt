@@ -22,8 +22,11 @@ pub use sweeping::Tally;
 /// too.
 const FEW: usize = 2;
 
-/// The same, and so many that no checkpoint comes.
-const FRAMES: [usize; 2] = [FEW, 1000];
+/// A log that is copied into the database after a few frames, so that checkpoints are stopped too.
+pub const SHORT_LOG: [usize; 1] = [FEW];
+
+/// The same, and one that is not copied at all.
+pub const EACH_LOG: [usize; 2] = [FEW, 1000];
 
 /// More calls than any run here asks of a disk.
 const CALLS: u64 = 100_000;

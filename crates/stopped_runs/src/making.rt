@@ -1,5 +1,4 @@
 //! The making of a docket, stopped after each number of calls of each disk until it meets no stop.
-use crate::FRAMES;
 use crate::disks::{Bytes, Fused, LOSSES, NO_STOP, Stop, Tried, calls_of, files_with, left};
 use crate::going_on::{End, created, found};
 use crate::sweeping::{Stoppable, Stopping, Tally, swept};
@@ -74,10 +73,10 @@ fn stopped_once<D: Tried>(alloc: Global, frames: usize, stop: Stop) -> Result<bo
 
 /// How many stops there are of the making of a docket, which is made whole or not at all wherever it is
 /// stopped.
-pub(crate) fn made(alloc: Global) -> Result<Tally, Error> {
+pub(crate) fn made(alloc: Global, frames: &[usize]) -> Result<Tally, Error> {
     let mut tally = Tally::NONE;
-    for frames in FRAMES {
-        tally = tally.with(swept(alloc, &Making { frames })?);
+    for frames in frames {
+        tally = tally.with(swept(alloc, &Making { frames: *frames })?);
     }
     Ok(tally)
 }

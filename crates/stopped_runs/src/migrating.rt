@@ -6,7 +6,7 @@ use crate::disks::{
 };
 use crate::going_on::{End, executed, found, migrated};
 use crate::sweeping::{Stoppable, Stopping, Tally, swept};
-use crate::{FEW, FRAMES};
+use crate::{EACH_LOG, FEW};
 use anyhow::{Error, anyhow};
 use docket_store::{AdoptFault, MigrateFault, Version};
 use sqlite::Files;
@@ -141,7 +141,7 @@ pub fn migrations(alloc: Global, sql: &[u8]) -> Result<(Vec<u8>, Tally), Error> 
     let sql = str::from_utf8(sql).map_err(|_| anyhow!("the input is no text"))?;
     let told = told_after::<Fused>(alloc, &laid_out::<Fused>(alloc, sql, FEW)?, FEW)?;
     let mut tally = Tally::NONE;
-    for frames in FRAMES {
+    for frames in EACH_LOG {
         let migration = Migration {
             before: laid_out::<Fused>(alloc, sql, frames)?,
             frames,

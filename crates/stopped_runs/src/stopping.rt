@@ -1,6 +1,7 @@
 //! Each command of an input, stopped after each number of calls of each disk until it meets no stop.
-use crate::FRAMES;
-use crate::disks::{Bytes, Fused, LOSSES, NO_STOP, Stop, Tried, calls_of, files_with, left};
+use crate::disks::{
+    Bytes, Fused, LOSSES, NO_STOP, Remains, Stop, Tried, calls_of, files_with, left,
+};
 use crate::going_on::{End, found, given};
 use crate::making::made;
 use crate::sweeping::{Stoppable, Stopping, Tally, swept};
@@ -12,14 +13,9 @@ use docket_wire::reply_text;
 use sqlite::Files;
 use std::alloc::Global;
 
-/// After each of the four losses the files are opened to see what stands, and after one of them to give the
-/// command again, and to see that it stands once.
-const REOPENINGS: u64 = 6;
-
 impl Stoppable for Trial {
     fn stopped(&self, alloc: Global, stopping: Stopping, calls: u64) -> Result<(bool, u64), Error> {
-        let is_stopped = stopped_once::<Fused>(alloc, self, stopping.after(calls), calls % 4)?;
-        Ok((is_stopped, REOPENINGS))
+        stopped_once::<Fused>(alloc, self, stopping.after(calls), calls)
     }
 }
 
@@ -79,14 +75,64 @@ fn goes_on<D: Tried>(
     Ok(files)
 }
 
-/// Gives the command with a stop, goes on from what each power failure leaves, and gives it again after
-/// one of them. Whether a disk stopped.
+/// How many of the losses leave something of their own.
+fn losses_apart(left: &Remains) -> u64 {
+    let mut count = 0u64;
+    for loss in LOSSES {
+        if left.is_lost(loss) {
+            count = count.saturating_add(1);
+        }
+    }
+    count
+}
+
+/// Goes on from what is left, and gives the command again where that is asked for. How often the files were
+/// opened.
+fn reopened<D: Tried>(
+    alloc: Global,
+    trial: &Trial,
+    bytes: &Bytes,
+    acknowledged: bool,
+    again: bool,
+) -> Result<u64, Error> {
+    let files = goes_on::<D>(alloc, trial, bytes, acknowledged)?;
+    if !again {
+        return Ok(1);
+    }
+    stands_once(alloc, trial, files)?;
+    Ok(3)
+}
+
+/// Goes on from what each power failure leaves, and gives the command again after one of them, another after
+/// each number of calls. How often the files were opened.
+fn reopened_after_each<D: Tried>(
+    alloc: Global,
+    trial: &Trial,
+    left: &Remains,
+    acknowledged: bool,
+    calls: u64,
+) -> Result<u64, Error> {
+    let again = calls % losses_apart(left).max(1);
+    let (mut place, mut reopenings) = (0u64, 0u64);
+    for loss in LOSSES {
+        if left.is_lost(loss) {
+            let bytes = left.after(alloc, loss)?;
+            let opened = reopened::<D>(alloc, trial, &bytes, acknowledged, place == again)?;
+            reopenings = reopenings.saturating_add(opened);
+            place = place.saturating_add(1);
+        }
+    }
+    Ok(reopenings)
+}
+
+/// Gives the command with a stop, and goes on from what is left. Whether a disk stopped, and how often the
+/// files were opened anew.
 fn stopped_once<D: Tried>(
     alloc: Global,
     trial: &Trial,
     stop: Stop,
-    again: u64,
-) -> Result<bool, Error> {
+    calls: u64,
+) -> Result<(bool, u64), Error> {
     let files = files_with::<D>(alloc, &trial.before, stop)?;
     let (given, files) = given(alloc, files, trial.frames, &trial.command);
     let is_stopped = calls_of(&files).are_past(stop);
@@ -95,23 +141,22 @@ fn stopped_once<D: Tried>(
     if !is_stopped && !acknowledged {
         return Err(anyhow!("no stop, and no answer"));
     }
-    for (place, loss) in LOSSES.into_iter().enumerate() {
-        let bytes = left.after(alloc, loss)?;
-        let files = goes_on::<D>(alloc, trial, &bytes, acknowledged)?;
-        if place as u64 == again {
-            stands_once(alloc, trial, files)?;
-        }
-    }
-    Ok(is_stopped)
+    let reopenings = reopened_after_each::<D>(alloc, trial, &left, acknowledged, calls)?;
+    Ok((is_stopped, reopenings))
 }
 
 /// The answer to the command of a line, which comes to the docket of the lines and stands whole wherever
 /// it is stopped, and how many stops there were.
-fn answered(alloc: Global, lines: &[u8], line: &[u8]) -> Result<(String, Tally), Error> {
+fn answered(
+    alloc: Global,
+    lines: &[u8],
+    line: &[u8],
+    frames: &[usize],
+) -> Result<(String, Tally), Error> {
     let mut answer = String::new(alloc);
     let mut tally = Tally::NONE;
-    for frames in FRAMES {
-        let trial = Trial::new::<Fused>(alloc, lines, line, frames)?;
+    for frames in frames {
+        let trial = Trial::new::<Fused>(alloc, lines, line, *frames)?;
         tally = tally.with(swept(alloc, &trial)?);
         answer = trial.answer;
     }
@@ -120,13 +165,13 @@ fn answered(alloc: Global, lines: &[u8], line: &[u8]) -> Result<(String, Tally),
 
 /// The answers to the commands behind the line `?` of an input, each of which comes to the docket of the
 /// lines before that one and stands whole wherever it is stopped, as the making of a docket does; and how
-/// many stops there were.
-pub fn stopped(alloc: Global, input: &[u8]) -> Result<(Vec<u8>, Tally), Error> {
-    let mut tally = made(alloc)?;
+/// many stops there were. `frames` is `SHORT_LOG` or `EACH_LOG`.
+pub fn stopped(alloc: Global, input: &[u8], frames: &[usize]) -> Result<(Vec<u8>, Tally), Error> {
+    let mut tally = made(alloc, frames)?;
     let (lines, commands) = parted(input)?;
     let mut written = Vec::new(alloc);
     for line in commands.split_inclusive(|byte| *byte == b'\n') {
-        let (answer, added) = answered(alloc, lines, line)?;
+        let (answer, added) = answered(alloc, lines, line, frames)?;
         tally = tally.with(added);
         written.extend_from_slice(answer.as_bytes())?;
         written.push(b'\n')?;
