@@ -12,7 +12,7 @@ import time
 
 JSON = "application/json"
 TEXT = "text/plain; charset=utf-8"
-PHRASES = {200: "OK", 400: "Bad Request", 404: "Not Found", 405: "Method Not Allowed", 409: "Conflict", 411: "Length Required",
+PHRASES = {200: "OK", 400: "Bad Request", 403: "Forbidden", 404: "Not Found", 405: "Method Not Allowed", 409: "Conflict", 411: "Length Required",
            413: "Payload Too Large", 431: "Request Header Fields Too Large", 500: "Internal Server Error",
            503: "Service Unavailable"}
 PATIENCE = 60  # seconds that a check waits for what should come sooner
@@ -49,8 +49,8 @@ def error(status, word):
     return answer(status, f'{{"error":"{word}"}}\n')
 
 
-def get(target):
-    return f"GET {target} HTTP/1.1\r\nHost: x\r\n\r\n".encode()
+def get(target, fields="", host="x"):
+    return f"GET {target} HTTP/1.1\r\nHost: {host}\r\n{fields}\r\n".encode()
 
 
 def post(body, fields=""):
@@ -99,13 +99,13 @@ def limited(most):
 
 
 class Server:
-    """A run of `docketctl serve`, and how many connections it still takes."""
+    """A run of `docketctl serve`, and how many connections it still takes; without a count it is endless."""
 
     begun_so_far = []
 
     def __init__(self, program, file, count, port=0, most=None, surroundings=None, words=()):
-        self.left, self.seen, self.errors = count, 0, tempfile.TemporaryFile()
-        words = [program, "serve", "--db", file, "--port", str(port), "--count", str(count), *words]
+        self.left, self.seen, self.errors = count or 0, 0, tempfile.TemporaryFile()
+        words = [program, "serve", "--db", file, "--port", str(port), *(["--count", str(count)] if count else ["--endless"]), *words]
         self.process = subprocess.Popen(words, stdin=subprocess.DEVNULL, stdout=subprocess.PIPE, stderr=self.errors,
                                         preexec_fn=limited(most) if most else None, env=surroundings)
         self.begun_so_far.append(self)

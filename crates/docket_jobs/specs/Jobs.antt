@@ -1,5 +1,5 @@
 -- The job that a command line asks for: that of its subcommand, with the values that clap finds in the words.
-use Rattle.std.specs.Prelude.{ℕ, ◌==◌, ◌&&◌, ◌||◌, not, nat_eq, Bool, List, [], ◌∷◌, length, codes, nat_le, nat_lt, Option, Some, None, is_some, option_copied, option_map, option_and_then, unwrap_or, get_or, if◌then◌else◌, ⊤}
+use Rattle.std.specs.Prelude.{ℕ, ◌==◌, ◌&&◌, ◌||◌, not, nat_eq, Bool, true, false, List, [], ◌∷◌, length, codes, nat_le, nat_lt, Option, Some, None, is_some, option_copied, option_map, option_and_then, unwrap_or, get_or, if◌then◌else◌, ⊤}
 use Rattle.std.specs.Char.{is_ascii_digit}
 use Rattle.std.specs.Int.{IsInRange}
 use Rattle.std.specs.List.{list_all, starts_with}
@@ -38,7 +38,7 @@ pub data Asked : Type 0 where
   to_check : Text → Asked
   to_back_up : Text → Text → Asked
   to_migrate : Text → Asked
-  to_serve : Text → ℕ → ℕ → Bool → Option Text → Asked
+  to_serve : Text → ℕ → Option ℕ → Bool → Bool → Option Text → Asked
   to_tell_rules : Option Text → Asked
   to_tell_holidays : ℕ → Asked
   to_tell_court_calendar : Text → ℕ → ℕ → Asked
@@ -59,7 +59,7 @@ asked job.ExplainLines = to_explain_lines
 asked (job.Check file) = to_check file.now
 asked (job.Backup file to) = to_back_up file.now to.now
 asked (job.Migrate file) = to_migrate file.now
-asked (job.Serve file port count pages origin) = to_serve file.now port count pages (option_copied origin)
+asked (job.Serve file port count pages guard origin) = to_serve file.now port count pages guard (option_copied origin)
 asked (job.Rules file) = to_tell_rules (option_copied file)
 asked (job.Holidays year) = to_tell_holidays year
 asked (job.CourtCalendar file from to) = to_tell_court_calendar file.now from to
@@ -197,20 +197,27 @@ migrate_asked found = to_migrate (value_of (codes "db") found)
 abbrev pub is_origin : Text → Bool
 is_origin text = starts_with nat_eq text (codes "http://") || starts_with nat_eq text (codes "https://")
 
--- another origin goes with pages alone
+-- another origin goes with the guard, which pages have
 abbrev pub origin_if : Bool → Option Text → Option (Option Text)
-origin_if pages None = Some None
-origin_if pages (Some origin) = if pages && is_origin origin then Some (Some origin) else None
+origin_if guarded None = Some None
+origin_if guarded (Some origin) = if guarded && is_origin origin then Some (Some origin) else None
 
-abbrev pub serve_if : Text → Option ℕ → Option ℕ → Bool → Option (Option Text) → Option Asked
-serve_if file (Some port) (Some count) pages (Some origin) = Some (to_serve file port count pages origin)
-serve_if file _ _ pages origin = None
+-- so many connections, or all that come: one of the two is asked for
+abbrev pub limit_of : Option Text → Bool → Option (Option ℕ)
+limit_of (Some text) false = option_map Some (count_of text)
+limit_of None true = Some None
+limit_of _ _ = None
 
--- so many connections at a port, with pages where they are asked for, and at another origin where one is given
+abbrev pub serve_if : Text → Option ℕ → Option (Option ℕ) → Bool → Bool → Option (Option Text) → Option Asked
+serve_if file (Some port) (Some count) pages guard (Some origin) = Some (to_serve file port count pages guard origin)
+serve_if file _ _ pages guard origin = None
+
+-- connections at a port, with pages or with the guard alone where they are asked for, and at another origin where one is given
 abbrev pub serve_asked : List Row → Option Asked
 serve_asked found =
-    serve_if (value_of (codes "db") found) (port_of (value_of (codes "port") found)) (count_of (value_of (codes "count") found))
-    (flag_of (codes "pages") found) (origin_if (flag_of (codes "pages") found) (first_of (codes "origin") found))
+    serve_if (value_of (codes "db") found) (port_of (value_of (codes "port") found)) (limit_of (first_of (codes "count") found) (flag_of (codes "endless") found))
+    (flag_of (codes "pages") found) (flag_of (codes "guard") found)
+    (origin_if (flag_of (codes "pages") found || flag_of (codes "guard") found) (first_of (codes "origin") found))
 
 -- the table of the rules, and those of the docket in a file where one is given
 abbrev pub rules_asked : List Row → Asked

@@ -289,17 +289,23 @@ fn serve_command<'a>(alloc: Global) -> Result<Command<'a>, AllocError>
         "P",
         "The port at 127.0.0.1, or 0 for one that is free",
     ))?
-    .arg(needed_option(alloc, "count", "N", "How many connections are served"))?
+    .arg(option(alloc, "count", "N", "How many connections are served"))?
+    .arg(flag(alloc, "endless", "Serve until a signal ends the run"))?
     .arg(flag(
         alloc,
         "pages",
         "Show pages of the docket to a browser as well, under /pages",
     ))?
+    .arg(flag(
+        alloc,
+        "guard",
+        "Refuse what a page from elsewhere asks for, as with --pages",
+    ))?
     .arg(option(
         alloc,
         "origin",
         "ORIGIN",
-        "Where a browser finds the pages besides, as https://docket.example of a proxy",
+        "Where the docket is found besides, as https://docket.example of a proxy",
     ))
 }
 

@@ -239,9 +239,11 @@ when connections are taken; port 0 is one that is free:
   listening on 127.0.0.1:8080
   docketctl serve --db court.db --port 8080 --count 1000 --pages
   listening on 127.0.0.1:8080
-A browser on this machine then shows the docket at http://127.0.0.1:8080/pages. With --pages a request
-is answered only where its Host is 127.0.0.1, localhost or [::1] at that port, or that of --origin,
-and its Origin, where a browser sends one, is the same; else with 403.
+A browser on this machine then shows the docket at http://127.0.0.1:8080/pages. With --pages or --guard
+a request is answered only where its Host is 127.0.0.1, localhost or [::1] at that port, or that of
+--origin, its Origin, where a browser sends one, is the same, and no browser marks it as from another
+site, unless it follows a link; else with 403. With --endless in place of --count the docket is served
+until a signal ends the run.
 A client is waited for ten seconds in all for its request, and ten for its answer. What goes wrong
 with a connection is told in a line of standard error, and the next is served. A copy is made in
 memory and judged, which takes as long as the opening.

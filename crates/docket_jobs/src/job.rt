@@ -5,7 +5,7 @@ ghost use Rattle.clap.specs.Matches.{found_of};
 ghost use Rattle.clap.specs.Simple.{subcommand_rows_of};
 ghost use Rattle.clap.specs.Values.{kind_of};
 ghost use Rattle.clap.specs.Walk.{rows_of};
-ghost use Rattle.docket_jobs.specs.Jobs.{IsLimited, asked, asked_by, asked_in, asked_of, backup_asked, is_origin, origin_if, case_asked, cases_asked, check_asked, court_asked, create_asked, explain_asked, explain_numbers, import_asked, line_faults, migrate_asked, number_of, rules_asked, run_asked, serve_asked};
+ghost use Rattle.docket_jobs.specs.Jobs.{IsLimited, asked, asked_by, asked_in, asked_of, backup_asked, is_origin, limit_of, origin_if, case_asked, cases_asked, check_asked, court_asked, create_asked, explain_asked, explain_numbers, import_asked, line_faults, migrate_asked, number_of, rules_asked, run_asked, serve_asked};
 
 use crate::command_line::command;
 use crate::day_jobs::{calendar_job, export_job, holidays_job};
@@ -96,14 +96,16 @@ pub enum Job<'a> {
     Migrate {
         file: &'a str,
     },
-    /// `serve`: answer the requests of 1 to 1,000,000 connections, at a port of this machine alone, of the
-    /// docket in a file, and show its pages as well where they are asked for, at another origin besides where
-    /// one is given. Port 0 is one that the system chooses.
+    /// `serve`: answer the requests of 1 to 1,000,000 connections, or of all that come, at a port of this machine
+    /// alone, of the docket in a file. With `pages` its pages are shown as well. With them or with `guard` only
+    /// requests at its own origins are answered, and at another one where that is given. Port 0 is one that the
+    /// system chooses.
     Serve {
         file: &'a str,
         port: u16,
-        count: u32,
+        count: Option<u32>,
         pages: bool,
+        guard: bool,
         origin: Option<&'a str>,
     },
     /// `rules`: tell the rules by which deadlines run, with the local rules of the docket in a file, where
@@ -264,18 +266,33 @@ fn is_origin(text: &str) -> bool
     text.as_bytes().starts_with(b"http://") || text.as_bytes().starts_with(b"https://")
 }
 
-/// The other origin at which pages are shown, which goes with pages alone.
-fn read_origin<'a>(pages: bool, origin: Option<&'a str>) -> Result<Option<&'a str>, BadValue<'a>>
-    ensures { MatchResult result (λ other. origin_if pages (option_copied origin.entry) ≡ Some (option_copied other))
-        (λ _. origin_if pages (option_copied origin.entry) ≡ None) }
+/// The other origin at which a docket is served, which goes with the guard alone.
+fn read_origin<'a>(guarded: bool, origin: Option<&'a str>) -> Result<Option<&'a str>, BadValue<'a>>
+    ensures { MatchResult result (λ other. origin_if guarded (option_copied origin.entry) ≡ Some (option_copied other))
+        (λ _. origin_if guarded (option_copied origin.entry) ≡ None) }
 {
     let Some(origin) = origin else {
         return Ok(None);
     };
-    if pages && is_origin(origin) {
+    if guarded && is_origin(origin) {
         Ok(Some(origin))
     } else {
         Err(BadValue::Origin)
+    }
+}
+
+/// How many connections are served, none where all that come are.
+fn read_limit<'a>(count: Option<&'a str>, endless: bool) -> Result<Option<u32>, BadValue<'a>>
+    ensures { MatchResult result (λ limit. limit_of (option_copied count.entry) endless ≡ Some limit)
+        (λ _. limit_of (option_copied count.entry) endless ≡ None) }
+{
+    match (count, endless) {
+        (Some(text), false) => match read_count(text) {
+            Some(count) => Ok(Some(count)),
+            None => Err(BadValue::Count),
+        },
+        (None, true) => Ok(None),
+        _ => Err(BadValue::Limit),
     }
 }
 
@@ -286,14 +303,16 @@ fn serve_job<'a>(found: &ArgMatches<'a>) -> Result<Job<'a>, BadValue<'a>>
         (λ _. serve_asked (rows_of (found_of found.now)) ≡ None) }
 {
     let port = read_port(value(found, "port")).ok_or(BadValue::Port)?;
-    let count = read_count(value(found, "count")).ok_or(BadValue::Count)?;
+    let count = read_limit(found.get_str("count"), flag(found, "endless"))?;
     let pages = flag(found, "pages");
-    let origin = read_origin(pages, found.get_str("origin"))?;
+    let guard = flag(found, "guard");
+    let origin = read_origin(pages || guard, found.get_str("origin"))?;
     Ok(Job::Serve {
         file: value(found, "db"),
         port,
         count,
         pages,
+        guard,
         origin,
     })
 }

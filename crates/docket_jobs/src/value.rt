@@ -22,6 +22,7 @@ pub(crate) enum BadValue<'a> {
     Port,
     Origin,
     Count,
+    Limit,
     Year,
     Days,
 }
@@ -55,11 +56,12 @@ impl fmt::Display for BadValue<'_> {
             ),
             BadValue::Port => f.write_str("P is a port from 0 to 65535, without a leading zero"),
             BadValue::Origin => f.write_str(
-                "--origin goes with --pages, and is one as https://docket.example",
+                "--origin goes with --pages or --guard, and is one as https://docket.example",
             ),
             BadValue::Count => f.write_str(
                 "N is a number from 1 to 1000000, without a leading zero",
             ),
+            BadValue::Limit => f.write_str("--count N or --endless is needed, and not both"),
             BadValue::Year => f.write_str("YEAR is a year from 2000 to 2099"),
             BadValue::Days => f.write_str("YEAR goes alone, and --db with FROM and TO"),
         }

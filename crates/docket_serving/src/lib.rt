@@ -8,6 +8,7 @@
 mod connections;
 mod copying;
 mod desk;
+mod laws;
 mod listening;
 mod parting;
 mod serving;
@@ -16,5 +17,6 @@ pub use connections::{Attendant, Connections};
 pub use desk::Desk;
 pub use docket_copies::DocketFiles;
 pub use docket_http::Routes;
+pub use laws::who_changes_a_docket_is_let_through;
 pub use listening::Listening;
 pub use serving::{ServingFault, serve_run};

@@ -78,7 +78,7 @@ fn serve_next<C: Connections, S: Alter, E: Write>(
 pub fn serve_run<C: Connections, S: Alter, E: Write>(
     alloc: Global,
     connections: &mut C,
-    count: u32,
+    count: u64,
     desk: &mut Desk<'_, S>,
     e: &mut E,
 ) -> Result<(), ServingFault>

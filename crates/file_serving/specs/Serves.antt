@@ -4,7 +4,7 @@ use Rattle.sqlite.specs.Held.{Held, state}
 use Rattle.sqlite.specs.State.{HasCleanDisk}
 use Rattle.sqlite.specs.Store.{Ghosts}
 use Rattle.docket_scan.specs.declared.fault.AdoptFault.{AdoptFault}
-use Rattle.http_request.specs.Origins.{AreShownAt}
+use Rattle.http_request.specs.Origins.{AreGuardedAt, AreShownAt}
 use Rattle.http_request.specs.declared.page.Routes.{Routes}
 use Rattle.http_request.specs.declared.page.Routes.TheVariants.{Docket}
 use Rattle.docket_serving.specs.Desks.{Desk}
@@ -19,7 +19,7 @@ use Rattle.file_serving.specs.declared.serving.ServeEnd.{ServeEnd}
 use Rattle.file_serving.specs.declared.serving.ServeEnd.TheVariants.{Stopped}
 use Rattle.file_serving.specs.declared.serving.Service.{Service}
 use Rattle.file_serving.specs.declared.serving.Shown.{Shown}
-use Rattle.file_serving.specs.declared.serving.Shown.TheVariants.{NoPages, Pages}
+use Rattle.file_serving.specs.declared.serving.Shown.TheVariants.{NoPages, Guarded, Pages}
 
 -- what is so where no connection was waited for: the docket was not adopted, or nobody could listen or tell where
 abbrev pub IfUnserved : Result (Result (Unit {0}) ServeEnd) AdoptFault → Type 0 → Type 0
@@ -28,9 +28,10 @@ IfUnserved (Ok (Err (Stopped fault))) P = Unit {0}
 IfUnserved (Ok (Err _)) P = P
 IfUnserved (Err fault) P = P
 
--- these are the routes of the docket alone, or with the pages at their origins
+-- these are the routes of the docket alone, to whoever asks or at their origins, or with the pages at those
 abbrev pub AreServedAt : ℕ → Shown → Routes → Type 0
 AreServedAt port NoPages routes = routes ≡ Docket
+AreServedAt port (Guarded other) routes = AreGuardedAt port (option_copied other) routes
 AreServedAt port (Pages other) routes = AreShownAt port (option_copied other) routes
 
 module _ {S : Type 0} (g : Ghosts S) where

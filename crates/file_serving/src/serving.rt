@@ -14,11 +14,15 @@ use std::io::{ErrorKind, Write};
 use std::net::TcpListener;
 use std::rt::HostRuntime;
 
-/// Whether the pages of a docket are shown.
+/// Whether the pages of a docket are shown, and who is answered.
 #[derive(Clone, Copy)]
 pub enum Shown<'a> {
+    /// No pages, and whoever asks.
     NoPages,
-    /// At the port of this machine, and at another origin where that is given, as that of a proxy.
+    /// No pages, and who asks at the port of this machine, or at another origin where that is given, as that of
+    /// a proxy.
+    Guarded(Option<&'a str>),
+    /// The pages too, and who asks at those origins.
     Pages(Option<&'a str>),
 }
 
@@ -26,7 +30,7 @@ pub enum Shown<'a> {
 #[derive(Clone, Copy)]
 pub struct Service<'a> {
     pub port: u16,
-    pub count: u32,
+    pub count: u64,
     pub shown: Shown<'a>,
 }
 
@@ -54,6 +58,7 @@ fn routes_at(alloc: Global, shown: Shown<'_>, port: u16) -> Result<Routes, Alloc
 {
     match shown {
         Shown::NoPages => Ok(Routes::Docket),
+        Shown::Guarded(other) => Routes::guarded(alloc, port, other),
         Shown::Pages(other) => Routes::with_pages(alloc, port, other),
     }
 }

@@ -1,5 +1,5 @@
 -- What is asked was let through by the guard.
-use Rattle.std.proofs.Common.{Option, codes, ◌++◌, nat_eq, ◌≡◌, inl, inr, ℕ, Bool, true, false, ◌||◌, ◌&&◌, true≢false, cond, List, [], ◌∷◌, map, refl, ap, sym, ◌∙◌}
+use Rattle.std.proofs.Common.{Option, codes, ◌++◌, nat_eq, ◌≡◌, inl, inr, ℕ, Bool, true, false, ◌||◌, ◌&&◌, true≢false, cond, not, List, [], ◌∷◌, map, refl, ap, sym, ◌∙◌}
 use Rattle.std.specs.Char.{to_ascii_lowercase}
 use Rattle.std.specs.Cmp.Lexicographic.{pointwise}
 use Rattle.std.specs.List.{list_any, AllByRecursion}
@@ -13,8 +13,8 @@ use Rattle.http_request.specs.declared.page.Routes.{Routes}
 use Rattle.http_request.specs.declared.wish.Wish.{Wish}
 use Rattle.http_request.specs.declared.wish.Wish.TheVariants.{Reject}
 use Rattle.http_request.specs.Head.{head_of}
-use Rattle.http_request.specs.Fields.{same_name}
-use Rattle.http_request.specs.Guard.{is_at, is_foreign, is_let_through}
+use Rattle.http_request.specs.Fields.{same_name, values_of}
+use Rattle.http_request.specs.Guard.{is_at, is_cross_site, is_foreign, is_let_through, lets_through}
 use Rattle.http_request.specs.Origins.{host_at, listed, origin_at, origins_at, own_names}
 use Rattle.http_request.specs.Request.{IsRequestBy, IsLetThrough, is_refused}
 
@@ -52,7 +52,7 @@ let_through_by routes (Head n) input wish body e (inl read, fits, body_is) asked
       head = read.0;
       ends = e;
       reads = read.1;
-      through = through (is_foreign routes (map name_and_value read.0.fields)) wish _ read.3 asked;
+      through = through (is_foreign routes read.0.method (map name_and_value read.0.fields)) wish _ read.3 asked;
     }
 let_through_by routes (Head n) input wish body e (inr bad, fits, body_is) asked = absurd (not_refused wish _ bad.1 asked)
 
@@ -75,7 +75,7 @@ any_behind : {A : Type 0} (p : A → Bool) (x : A) (xs : List A) → list_any p 
 any_behind p x xs is = ap (λ b. p x || b) is ∙ or_true (p x)
 
 -- whoever asks at one of the names of this machine, and sends no origin
-pub own_name : (port : ℕ) (other : Option (List ℕ)) → AllByRecursion (λ name. is_let_through (origins_at port other) (host_at name port ∷ []) [] ≡ true) own_names
+own_name : (port : ℕ) (other : Option (List ℕ)) → AllByRecursion (λ name. is_let_through (origins_at port other) (host_at name port ∷ []) [] ≡ true) own_names
 own_name port other =
     let first : List ℕ = origin_at (codes "127.0.0.1") port in
     let second : List ℕ = origin_at (codes "localhost") port in
@@ -89,5 +89,28 @@ own_name port other =
           any_behind (at (codes "[::1]")) first (second ∷ third ∷ more) (any_behind (at (codes "[::1]")) second (third ∷ more) (any_here (at (codes "[::1]")) third more (at_own (host_at (codes "[::1]") port)))),
           tt,
         ),
+      ),
+    )
+
+-- with one host and neither an origin nor a mark of a browser
+unmarked : (origins : List (List ℕ)) (method host : List ℕ) (fields : List (List ℕ × List ℕ)) → values_of (codes "origin") fields ≡ []
+    → values_of (codes "sec-fetch-site") fields ≡ [] → is_let_through origins (host ∷ []) [] ≡ true → values_of (codes "host") fields ≡ host ∷ []
+    → lets_through origins method fields ≡ true
+unmarked origins method host fields none unsited is one =
+    ap (λ hosts. is_let_through origins hosts (values_of (codes "origin") fields) && not (is_cross_site method (values_of (codes "sec-fetch-site") fields) (values_of (codes "sec-fetch-mode") fields))) one
+    ∙ ap (λ pages. is_let_through origins (host ∷ []) pages && not (is_cross_site method (values_of (codes "sec-fetch-site") fields) (values_of (codes "sec-fetch-mode") fields))) none
+    ∙ ap (λ sites. is_let_through origins (host ∷ []) [] && not (is_cross_site method sites (values_of (codes "sec-fetch-mode") fields))) unsited
+    ∙ ap (λ b. b && true) is
+
+pub own_request : (port : ℕ) (other : Option (List ℕ)) (method : List ℕ) (fields : List (List ℕ × List ℕ)) → values_of (codes "origin") fields ≡ []
+    → values_of (codes "sec-fetch-site") fields ≡ []
+    → AllByRecursion (λ name. values_of (codes "host") fields ≡ host_at name port ∷ [] → lets_through (origins_at port other) method fields ≡ true) own_names
+own_request port other method fields none unsited =
+    let own = own_name port other in
+    let origins : List (List ℕ) = origins_at port other in (
+      unmarked origins method (host_at (codes "127.0.0.1") port) fields none unsited own.0,
+      (
+        unmarked origins method (host_at (codes "localhost") port) fields none unsited own.1.0,
+        (unmarked origins method (host_at (codes "[::1]") port) fields none unsited own.1.1.0, tt),
       ),
     )

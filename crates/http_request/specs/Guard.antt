@@ -1,10 +1,11 @@
--- The guard, where pages are served: by its fields a request tells at which host it is asked, and, where a page of a browser asks it, of which
--- origin that page is (RFC 9110, section 7.2; RFC 6454, section 7). What is asked of another host, or by a page from elsewhere, is foreign.
-use Rattle.std.specs.Prelude.{ℕ, List, [], ◌∷◌, map, Option, Some, None, Bool, false, not, ◌&&◌, codes, string_bytes}
+-- The guard: by its fields a request tells at which host it is asked, and, where a page of a browser asks it, of which origin that page is (RFC
+-- 9110, section 7.2; RFC 6454, section 7), and whether it is of another site (Fetch Metadata Request Headers, sections 2.2 and 2.3). What is asked
+-- of another host, or by a page from elsewhere, is foreign.
+use Rattle.std.specs.Prelude.{ℕ, List, [], ◌∷◌, map, Option, Some, None, Bool, true, false, not, ◌&&◌, bytes_eq, codes, string_bytes}
 use Rattle.std.specs.List.{list_any}
 use Rattle.std.specs.Option.{option_map_or}
 use Rattle.http_request.specs.declared.page.Routes.{Routes}
-use Rattle.http_request.specs.declared.page.Routes.TheVariants.{Docket, WithPages}
+use Rattle.http_request.specs.declared.page.Routes.TheVariants.{Docket, Guarded, WithPages}
 use Rattle.http_request.specs.Fields.{same_name, values_of}
 use Rattle.http_request.specs.Path.{behind}
 
@@ -28,11 +29,26 @@ is_let_through origins (host ∷ []) [] = list_any (λ origin. is_at host origin
 is_let_through origins (host ∷ []) (page ∷ []) = list_any (λ origin. is_at host origin && same_name page origin) origins
 is_let_through origins (host ∷ []) (page ∷ other ∷ from) = false
 
--- by its fields a request at one of these origins, from a page of that origin or from no page
-abbrev pub lets_through : List (List ℕ) → List (List ℕ × List ℕ) → Bool
-lets_through origins fields = is_let_through origins (values_of (codes "host") fields) (values_of (codes "origin") fields)
+-- a plain navigation: what a browser gets to show it in place of the page that leads there, as by a link
+abbrev pub is_navigation : List ℕ → List (List ℕ) → Bool
+is_navigation method [] = false
+is_navigation method (mode ∷ []) = bytes_eq method (codes "GET") && bytes_eq mode (codes "navigate")
+is_navigation method (mode ∷ other ∷ modes) = false
 
--- a request with these fields is refused; without pages none is
-abbrev pub is_foreign : Routes → List (List ℕ × List ℕ) → Bool
-is_foreign Docket fields = false
-is_foreign (WithPages origins) fields = not (lets_through (map string_bytes origins.items) fields)
+-- a browser marks the request as one from another site, and it is no plain navigation; several marks count as this one
+abbrev pub is_cross_site : List ℕ → List (List ℕ) → List (List ℕ) → Bool
+is_cross_site method [] modes = false
+is_cross_site method (site ∷ []) modes = bytes_eq site (codes "cross-site") && not (is_navigation method modes)
+is_cross_site method (site ∷ other ∷ sites) modes = true
+
+-- by its method and its fields a request at one of these origins, from a page of that origin or from no page, and not across sites
+abbrev pub lets_through : List (List ℕ) → List ℕ → List (List ℕ × List ℕ) → Bool
+lets_through origins method fields =
+    is_let_through origins (values_of (codes "host") fields) (values_of (codes "origin") fields)
+    && not (is_cross_site method (values_of (codes "sec-fetch-site") fields) (values_of (codes "sec-fetch-mode") fields))
+
+-- a request of this method and with these fields is refused; where no origins are guarded none is
+abbrev pub is_foreign : Routes → List ℕ → List (List ℕ × List ℕ) → Bool
+is_foreign Docket method fields = false
+is_foreign (Guarded origins) method fields = not (lets_through (map string_bytes origins.items) method fields)
+is_foreign (WithPages origins) method fields = not (lets_through (map string_bytes origins.items) method fields)

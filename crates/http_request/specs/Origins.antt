@@ -1,7 +1,7 @@
--- The origins at which pages are shown (RFC 6454, section 6.2).
+-- The origins at which a docket is served (RFC 6454, section 6.2).
 use Rattle.std.specs.Prelude.{◌≡◌, ℕ, List, [], ◌∷◌, ◌++◌, ◌==◌, map, Option, Some, None, if◌then◌else◌, codes, decimal, string_bytes}
 use Rattle.http_request.specs.declared.page.Routes.{Routes}
-use Rattle.http_request.specs.declared.page.Routes.TheVariants.{Docket, WithPages}
+use Rattle.http_request.specs.declared.page.Routes.TheVariants.{Docket, Guarded, WithPages}
 
 -- the host with the port behind it, but for 80, the port of HTTP, which is left out
 abbrev pub host_at : List ℕ → ℕ → List ℕ
@@ -23,7 +23,14 @@ abbrev pub origins_at : ℕ → Option (List ℕ) → List (List ℕ)
 origins_at port other =
     origin_at (codes "127.0.0.1") port ∷ origin_at (codes "localhost") port ∷ origin_at (codes "[::1]") port ∷ listed other
 
--- pages are shown at these origins
+-- the routes of the docket are served at these origins alone
+abbrev pub AreGuardedAt : ℕ → Option (List ℕ) → Routes → Type 0
+AreGuardedAt port other Docket = ⊥
+AreGuardedAt port other (Guarded origins) = map string_bytes origins.items ≡ origins_at port other
+AreGuardedAt port other (WithPages origins) = ⊥
+
+-- and the pages are shown at these
 abbrev pub AreShownAt : ℕ → Option (List ℕ) → Routes → Type 0
 AreShownAt port other Docket = ⊥
+AreShownAt port other (Guarded origins) = ⊥
 AreShownAt port other (WithPages origins) = map string_bytes origins.items ≡ origins_at port other

@@ -3,7 +3,7 @@ use Rattle.std.specs.Prelude.{◌≤◌, ℕ, List, [], Option, Some, None, Bool
 use Rattle.http_request.specs.declared.route.Route.{Route}
 use Rattle.http_request.specs.declared.route.Route.TheVariants.{Commands, Case as CaseRoute, Deadlines, Calendar, Holidays}
 use Rattle.http_request.specs.declared.page.Routes.{Routes}
-use Rattle.http_request.specs.declared.page.Routes.TheVariants.{Docket, WithPages}
+use Rattle.http_request.specs.declared.page.Routes.TheVariants.{Docket, Guarded, WithPages}
 use Rattle.http_request.specs.declared.page.Page.{Page}
 use Rattle.http_request.specs.declared.page.Page.TheVariants.{Cases, Case, Days}
 use Rattle.http_request.specs.Path.{place_of, behind}
@@ -13,6 +13,7 @@ use Rattle.http_request.specs.Days.{days_of, week_of}
 -- what a path has behind "/pages", where pages are served
 abbrev pub pages_rest : Routes → List ℕ → Option (List ℕ)
 pages_rest Docket path = None
+pages_rest (Guarded origins) path = None
 pages_rest (WithPages origins) path = behind (codes "/pages") path
 
 -- what a query has behind "from="

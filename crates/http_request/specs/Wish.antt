@@ -80,10 +80,10 @@ path_wish method target fields None = place_wish method fields (place_of (path_o
 path_wish method target fields (Some rest) = rest_wish method rest (query_of target)
 
 -- what a head of this method, target and fields asks for, where these routes are served; what comes from elsewhere asks for nothing,
--- whatever its method and its target
+-- whatever its target
 abbrev pub wish_of : Routes → List ℕ → List ℕ → List (List ℕ × List ℕ) → Wish
 wish_of routes method target fields =
-    if is_foreign routes fields then Reject Foreign else path_wish method target fields (pages_rest routes (path_of target))
+    if is_foreign routes method fields then Reject Foreign else path_wish method target fields (pages_rest routes (path_of target))
 
 -- the bytes are no head of the grammar with at most 64 fields
 abbrev pub HasNoHead : List ℕ → Type 0

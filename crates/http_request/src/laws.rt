@@ -1,8 +1,9 @@
 //! What the end of a head is, and what the guard keeps out, with nothing to run.
-ghost use Rattle.std.specs.Prelude.{◌≡◌, ℕ, ◌≤◌, List, ◌++◌, length, take, false, true, [], ◌∷◌, Option};
+ghost use Rattle.std.specs.Prelude.{◌≡◌, ℕ, ◌≤◌, List, ◌++◌, length, take, codes, false, true, [], ◌∷◌, Option};
 ghost use Rattle.std.specs.List.{AllByRecursion};
 ghost use Rattle.http_request.specs.Head.{head_of};
-ghost use Rattle.http_request.specs.Guard.{is_let_through};
+ghost use Rattle.http_request.specs.Fields.{values_of};
+ghost use Rattle.http_request.specs.Guard.{lets_through};
 ghost use Rattle.http_request.specs.Lines.{IsHeadWithin};
 ghost use Rattle.http_request.specs.Origins.{host_at, origins_at, own_names};
 ghost use Rattle.http_request.specs.declared.page.Routes.{Routes};
@@ -18,14 +19,17 @@ pub fn heads_end_with_an_empty_line()
     ensures found { (head rest : List ℕ) → IsHeadWithin head → head_of (head ++ rest) ≡ Head (length head) }
 {}
 
-/// Each request that is not refused was let through by its head: where pages are served it was asked at one of
-/// their origins, and by a page of that one or by no page, whatever it asks for.
+/// Each request that is not refused was let through by its head: where there is a guard it was asked at one of the
+/// origins, by a page of that one or by no page, and not across sites, whatever it asks for.
 pub fn what_is_asked_was_let_through()
     ensures { (routes : Routes) (input : List ℕ) (wish : Wish) (body : List ℕ)
         → IsRequest routes input wish body → is_refused wish ≡ false → IsLetThrough routes input }
 {}
 
-/// A program that sends no origin is let through, as it asks at a port of this machine under one of its names.
+/// A program that sends no origin and no mark of a browser is let through, whatever its method and its other fields, as
+/// it asks at a port of this machine under one of its names.
 pub fn who_sends_no_origin_is_let_through()
-    ensures { (port : ℕ) (other : Option (List ℕ)) → AllByRecursion (λ name. is_let_through (origins_at port other) (host_at name port ∷ []) [] ≡ true) own_names }
+    ensures { (port : ℕ) (other : Option (List ℕ)) (method : List ℕ) (fields : List (List ℕ × List ℕ))
+        → values_of (codes "origin") fields ≡ [] → values_of (codes "sec-fetch-site") fields ≡ []
+        → AllByRecursion (λ name. values_of (codes "host") fields ≡ host_at name port ∷ [] → lets_through (origins_at port other) method fields ≡ true) own_names }
 {}

@@ -16,7 +16,9 @@ use matchit::Router;
 pub enum Routes {
     /// The five of the docket.
     Docket,
-    /// Those, and the pages, at these origins, as `http://127.0.0.1:8080`. What comes from elsewhere is refused.
+    /// Those, at these origins, as `http://127.0.0.1:8080`. What comes from elsewhere is refused.
+    Guarded(Vec<String>),
+    /// Those and the pages, at these origins. What comes from elsewhere is refused.
     WithPages(Vec<String>),
 }
 
@@ -39,7 +41,7 @@ pub fn behind_pages<'p>(routes: &Routes, path: &'p str) -> Option<&'p str>
     ensures { option_copied result ≡ pages_rest routes.now path.now }
 {
     match routes {
-        Routes::Docket => None,
+        Routes::Docket | Routes::Guarded(_) => None,
         Routes::WithPages(_) => behind(path, "/pages"),
     }
 }

@@ -167,7 +167,7 @@ fn parts_wish(
     ensures asks { result ≡ wish_of routes.now method.now target.now (map (header_bytes head.now) headers.now) }
     ensures within { IsWithinLimits result }
 {
-    if is_foreign(routes, head, headers) {
+    if is_foreign(routes, method, head, headers) {
         return Wish::Reject(Rejection::Foreign);
     }
     let Ok(target) = from_utf8(target) else {

@@ -116,9 +116,10 @@ pub fn run_job<S: Start, P: Write + Drop, R: Read, W: Write + Drop, E: Write>(
             port,
             count,
             pages,
+            guard,
             origin,
         } => {
-            let service = service_of(port, count, pages, origin);
+            let service = service_of(port, count, pages, guard, origin);
             let end = serve_docket(rt, start, screen, file, &service, &mut w, e);
             (end, w)
         }

@@ -1,7 +1,7 @@
 //! The docket in a file, served by HTTP.
-ghost use Rattle.std.specs.Prelude.{◌≡◌, [], if◌then◌else◌};
+ghost use Rattle.std.specs.Prelude.{◌≡◌, [], if◌then◌else◌, unwrap_or};
 ghost use Rattle.std.specs.Cow.{cow_str_bytes};
-ghost use Rattle.file_serving.specs.declared.serving.Shown.TheVariants.{NoPages, Pages};
+ghost use Rattle.file_serving.specs.declared.serving.Shown.TheVariants.{NoPages, Guarded, Pages};
 
 use crate::opening::ready;
 use file_serving::{ServeEnd, Service, Shown, serve_on_file};
@@ -11,16 +11,47 @@ use std::alloc::Global;
 use std::fmt;
 use std::io::{ErrorKind, Write};
 
-/// What is asked for: a port, so many connections, and whether pages are shown, and at which origin besides.
-pub(crate) fn service_of(port: u16, count: u32, pages: bool, origin: Option<&str>) -> Service<'_>
-    ensures { result ≡ record { port = port; count = count; shown = if pages then Pages origin.entry else NoPages } }
+/// The number of connections, which no run reaches where all that come are served.
+fn limit(count: Option<u32>) -> u64
+    ensures { result ≡ unwrap_or count 18_446_744_073_709_551_615 }
 {
-    let shown = if pages {
-        Shown::Pages(origin)
-    } else {
-        Shown::NoPages
-    };
-    Service { port, count, shown }
+    match count {
+        Some(count) => u64::from(count),
+        None => u64::MAX,
+    }
+}
+
+/// Whether pages are shown, and who is answered.
+fn shown(pages: bool, guard: bool, origin: Option<&str>) -> Shown<'_>
+    ensures { result ≡ (if pages then Pages origin.entry else if guard then Guarded origin.entry else NoPages) }
+{
+    if pages {
+        return Shown::Pages(origin);
+    }
+    if guard {
+        return Shown::Guarded(origin);
+    }
+    Shown::NoPages
+}
+
+/// What is asked for: a port, so many connections or all that come, whether pages are shown, whether the docket is
+/// guarded, and at which origin besides.
+pub(crate) fn service_of(
+    port: u16,
+    count: Option<u32>,
+    pages: bool,
+    guard: bool,
+    origin: Option<&str>,
+) -> Service<'_>
+    ensures limit { result.count ≡ unwrap_or count 18_446_744_073_709_551_615 }
+    ensures shown { result.shown ≡ (if pages then Pages origin.entry else if guard then Guarded origin.entry else NoPages) }
+    ensures port { result.port ≡ port }
+{
+    Service {
+        port,
+        count: limit(count),
+        shown: shown(pages, guard, origin),
+    }
 }
 
 /// Why nobody listens at a port.

@@ -183,10 +183,11 @@ fn failing(alloc: Global, reads: bool, requests: &[u8]) -> Result<Option<String>
     found
 }
 
-/// Pages are shown at port 8080 of this machine and at the origin `http://x`.
+/// Pages are shown, or the docket is guarded, at port 8080 of this machine and at the origin `http://x`.
 fn routes_of(alloc: Global, word: &str) -> Result<Routes, Error> {
     match word {
         "pages" => Ok(Routes::with_pages(alloc, 8080, Some("http://x"))?),
+        "guard" => Ok(Routes::guarded(alloc, 8080, Some("http://x"))?),
         _ => Ok(Routes::Docket),
     }
 }

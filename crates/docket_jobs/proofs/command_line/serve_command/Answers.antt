@@ -8,6 +8,8 @@ unfolding serve_line
 returns c =
     let one = arg_added _ _ _ _ _ c.subcommand.ensures c.needed_option.ensures.rule c.needed_option.ensures.local c.in_ok-arg.ensures in
     let two = arg_added _ _ _ _ _ one c.needed_option-2.ensures.rule c.needed_option-2.ensures.local c.in_ok-arg-2.ensures in
-    let three = arg_added _ _ _ _ _ two c.needed_option-3.ensures.rule c.needed_option-3.ensures.local c.in_ok-arg-3.ensures in
+    let three = arg_added _ _ _ _ _ two c.option.ensures.rule c.option.ensures.local c.in_ok-arg-3.ensures in
     let four = arg_added _ _ _ _ _ three c.flag.ensures.rule c.flag.ensures.local c.in_ok-arg-4.ensures in
-    IfOk-weaker c.arg-5.result _ _ (λ _ adds. arg_added _ _ _ _ _ four c.option.ensures.rule c.option.ensures.local adds) c.arg-5.ensures
+    let five = arg_added _ _ _ _ _ four c.flag-2.ensures.rule c.flag-2.ensures.local c.in_ok-arg-5.ensures in
+    let six = arg_added _ _ _ _ _ five c.flag-3.ensures.rule c.flag-3.ensures.local c.in_ok-arg-6.ensures in
+    IfOk-weaker c.arg-7.result _ _ (λ _ adds. arg_added _ _ _ _ _ six c.option-2.ensures.rule c.option-2.ensures.local adds) c.arg-7.ensures

@@ -2,7 +2,7 @@ use Rattle.std.proofs.Common.{◌&&◌, ◌∷◌, [], ◌∙◌, ap, sym, map, 
 use Rattle.http_request.specs.Fields.{same_name}
 use Rattle.http_request.specs.Guard.{is_at}
 use Rattle.http_request.proofs.GuardLemmas.{any_of_map, from_no_page, from_page}
-use Rattle.http_request.proofs.guard.lets_through.Goals as goal
+use Rattle.http_request.proofs.guard.is_asked_here.Goals as goal
 
 pub returns-in-Missing : goal.returns-in-Missing
 returns-in-Missing c =
