@@ -1,3 +1,4 @@
 mod RunLemmas
 mod StepLemmas
 mod GuardLemmas
+mod WaitingLemmas

@@ -1,3 +1,4 @@
 pub mod Exchanges
 pub mod Serving
 pub mod Desks
+pub mod Waiting

@@ -1,10 +1,12 @@
 //! A docket served on a listener: one connection after the other, one request each.
 //!
-//! No peer holds the docket: each is waited for at most ten seconds in all for its request, and as long
-//! for its answer. What goes wrong with one connection is told in a line, and the next is served. Where pages
-//! are shown, a copy of the docket is given too.
+//! No peer holds the docket: a connection is attended to once its request has come, and those of which it has
+//! not wait beside, at most ten seconds from the first byte on. For its answer a peer is waited for as long. What
+//! goes wrong with one connection is told in a line, and the next is served. Where pages are shown, a copy of the
+//! docket is given too.
 #![tactic(auto)]
 
+mod caller;
 mod connections;
 mod copying;
 mod desk;
@@ -12,6 +14,7 @@ mod laws;
 mod listening;
 mod parting;
 mod serving;
+mod waiting;
 
 pub use connections::{Attendant, Connections};
 pub use desk::Desk;

@@ -2,44 +2,116 @@
 ghost use Rattle.std.specs.Prelude.{◌≡◌};
 ghost use Rattle.docket_serving.specs.Exchanges.{Exchange};
 
+use crate::caller::{Caller, PATIENCE};
 use crate::connections::{Attendant, Connections};
 use crate::parting::part;
+use crate::waiting::{MOST, Waiting};
 use docket_http::{ServeFault, Served};
+use mio::unix::SourceFd;
+use mio::{Events, Interest, Poll, Token};
 use patient_stream::{PatientReader, PatientWriter};
 use std::io;
+use std::io::{ErrorKind, Read};
 use std::net::{TcpListener, TcpStream};
+use std::os::fd::AsRawFd;
 use std::rt::HostRuntime;
 use std::time::Duration;
 
-/// How many seconds a peer is waited for while it sends its request, and as many while it takes its
-/// answer.
-const PATIENCE: u64 = 10;
+/// How many seconds pass before one is looked at again whose request was begun.
+const PAUSE: u64 = 1;
 
-/// The connections of a listener. What they send, and what is sent to them, is not known to contracts.
+/// The connections of a listener. Each waits until its request has come, and is then attended to; nobody waits
+/// for another's bytes. What they send, and what is sent to them, is not known to contracts.
 #[derive(Drop)]
 pub struct Listening<'a> {
     rt: &'a HostRuntime,
     listener: &'a TcpListener,
+    poll: Poll,
+    events: Events,
+    waiting: Waiting,
+}
+
+/// Has a wait end where something comes of this.
+fn watch<F: AsRawFd>(poll: &Poll, source: &F) -> io::Result<()> {
+    let fd = source.as_raw_fd();
+    poll.registry()
+        .register(&mut SourceFd(&fd), Token(0), Interest::READABLE)
 }
 
 impl<'a> Listening<'a> {
-    /// The connections that this listener takes.
-    pub fn new(rt: &'a HostRuntime, listener: &'a TcpListener) -> Listening<'a> {
-        Listening { rt, listener }
+    /// The connections that this listener takes. From now on its `accept` does not wait.
+    pub fn new(rt: &'a HostRuntime, listener: &'a TcpListener) -> io::Result<Listening<'a>> {
+        listener.set_nonblocking(true)?;
+        let poll = Poll::new(rt)?;
+        watch(&poll, listener)?;
+        Ok(Listening {
+            rt,
+            listener,
+            poll,
+            events: Events::with_capacity(rt.alloc(), MOST)?,
+            waiting: Waiting::new(rt.alloc())?,
+        })
+    }
+
+    /// Has the one at the other end wait, or lets it go where nothing could tell that something comes of it.
+    fn receive(&mut self, stream: TcpStream) {
+        if stream.set_nonblocking(true).is_ok() && watch(&self.poll, &stream).is_ok() {
+            let _ = self.waiting.join(Caller::new(self.rt.alloc(), stream));
+        }
+    }
+
+    /// Has a connection wait, if one has come, and tells whether one had. Where none can be taken, as where
+    /// too many files are open, the oldest of those who wait is let go.
+    fn admit(&mut self) -> io::Result<bool> {
+        match self.listener.accept() {
+            Ok((stream, _)) => {
+                self.receive(stream);
+                Ok(true)
+            }
+            Err(error) if error.kind() == ErrorKind::WouldBlock => Ok(false),
+            Err(error) => match self.waiting.let_go() {
+                Some(_) => Ok(true),
+                None => Err(error),
+            },
+        }
+    }
+
+    /// Waits until something comes, and at most a second where patience with somebody may end.
+    fn wait(&mut self) -> io::Result<()> {
+        let most = if self.waiting.have_begun() {
+            Some(Duration::from_secs(PAUSE))
+        } else {
+            None
+        };
+        self.poll.poll(&mut self.events, most)
+    }
+
+    /// The next to attend to. All who came are looked at before each wait: a wait tells only of what came
+    /// since.
+    fn next_caller(&mut self) -> io::Result<Caller> {
+        for _ in 0..u64::MAX {
+            if let Some(caller) = self.waiting.take_ready(self.rt) {
+                return Ok(caller);
+            }
+            if !self.admit()? {
+                self.wait()?;
+            }
+        }
+        Err(ErrorKind::TimedOut.into())
     }
 }
 
-/// Attends to a peer that is waited for only so long.
+/// Attends to a caller, who is waited for only so long.
 fn attend_patiently<A: Attendant>(
     rt: &HostRuntime,
-    stream: &TcpStream,
+    caller: &Caller,
     attendant: &mut A,
 ) -> Result<Served, ServeFault>
     ensures { (e : Exchange) × (e.end ≡ result) × A.Attends attendant.old e attendant.new }
 {
-    let patience = Duration::from_secs(PATIENCE);
-    let mut reader = PatientReader::new(rt, stream, patience);
-    let mut writer = PatientWriter::new(rt, stream, patience);
+    let rest = PatientReader::new(rt, &caller.stream, caller.left);
+    let mut reader = caller.came.as_slice().chain(rest);
+    let mut writer = PatientWriter::new(rt, &caller.stream, Duration::from_secs(PATIENCE));
     attendant.attend(&mut reader, &mut writer)
 }
 
@@ -50,9 +122,10 @@ impl Connections for Listening<'_> {
         &mut self,
         attendant: &mut A,
     ) -> io::Result<(TcpStream, Result<Served, ServeFault>)> {
-        let (stream, _) = self.listener.accept()?;
-        let served = attend_patiently(self.rt, &stream, attendant);
-        part(self.rt, &stream, &served);
-        Ok((stream, served))
+        let caller = self.next_caller()?;
+        caller.stream.set_nonblocking(false)?;
+        let served = attend_patiently(self.rt, &caller, attendant);
+        part(self.rt, &caller.stream, &served);
+        Ok((caller.stream, served))
     }
 }

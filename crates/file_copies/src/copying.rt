@@ -9,6 +9,9 @@ use std::os::fd::AsRawFd;
 use std::os::unix::fs::{MetadataExt, OpenOptionsExt};
 use std::{fs, io};
 
+/// The rights of a file that its owner alone may read and write.
+const OWNER: u32 = 0o600;
+
 /// What a file that belongs to the copy is called.
 fn beside(rt: &HostRuntime, to: &str, ending: &str) -> Result<String, CopyFault> {
     match name_beside(rt.alloc(), to, ending) {
@@ -113,7 +116,7 @@ pub fn is_free(rt: &HostRuntime, from: &str, to: &str) -> Result<(), CopyFault> 
 }
 
 /// Makes the file that is to be the copy, under its first name, which must be free still. It gives nobody a
-/// right that is not among these.
+/// right that is not among these, whatever the umask.
 fn make_part(rt: &HostRuntime, part: &str, rights: u32) -> Result<fs::File, CopyFault> {
     let made = OpenOptions::new()
         .write(true)
@@ -197,7 +200,7 @@ fn copy_by_part(rt: &HostRuntime, from: &str, part: &str, to: &str) -> Result<()
     let Ok(found) = source.metadata() else {
         return Err(CopyFault::ReadFailed);
     };
-    let mut target = make_part(rt, part, found.mode() & 0o777)?;
+    let mut target = make_part(rt, part, found.mode() & OWNER)?;
     let Ok(written) = target.metadata() else {
         return Err(CopyFault::WriteFailed);
     };
@@ -215,7 +218,7 @@ fn copy_by_part(rt: &HostRuntime, from: &str, part: &str, to: &str) -> Result<()
 /// whose name has `.part` behind it, and which is made anew: what has that name is left, and nothing is
 /// copied. Once the disk has the bytes the file gets the name of the copy, which fails where that was taken
 /// meanwhile. So a kill or a power failure at any moment leaves the copy whole under its name, or nothing
-/// there. The copy gives nobody a right that the file does not.
+/// there. The copy is its owner's alone, who has no right to it that the file does not give.
 pub fn copy_file(rt: &HostRuntime, from: &str, to: &str) -> Result<(), CopyFault> {
     is_free(rt, from, to)?;
     let part = beside(rt, to, ".part")?;

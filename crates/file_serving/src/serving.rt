@@ -90,11 +90,14 @@ fn listen<S: Alter, W: Write, E: Write>(
         Ok(routes) => routes,
         Err(why) => return Err(ServeEnd::NotListening(why.kind())),
     };
+    let mut connections = match Listening::new(rt, &listener) {
+        Ok(connections) => connections,
+        Err(why) => return Err(ServeEnd::NotListening(why.kind())),
+    };
     if let Err(error) = announce(rt.alloc(), &listener, w) {
         return Err(ServeEnd::NotAnnounced(error.kind()));
     }
     desk.show(routes);
-    let mut connections = Listening::new(rt, &listener);
     match serve_run(rt.alloc(), &mut connections, service.count, desk, e) {
         Ok(()) => Ok(()),
         Err(fault) => Err(ServeEnd::Stopped(fault)),

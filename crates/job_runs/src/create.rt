@@ -7,7 +7,37 @@ use file_changes::create_on_file;
 use job_ends::{AtPath, FileFault, JobEnd, Status, done, failed, test_file};
 use sqlite::{FileFrom, Start};
 use std::borrow::CowStr;
-use std::io::Write;
+use std::fs::OpenOptions;
+use std::io::{ErrorKind, Write};
+use std::os::unix::fs::OpenOptionsExt;
+
+/// Makes an empty file that its owner alone may read and write, where the path leads to none. The kit would give
+/// it the rights that the umask leaves. It gives the log those of the file. What is named like no file is left to
+/// the open, which refuses it; so is a link that leads nowhere.
+fn make_private(rt: &HostRuntime, path: &str) -> Result<(), FileFault> {
+    if path == ":memory:" || path.starts_with("file:") {
+        return Ok(());
+    }
+    let made = OpenOptions::new()
+        .write(true)
+        .create_new(true)
+        .mode(0o600)
+        .open(rt, path);
+    match made {
+        Ok(_) => Ok(()),
+        Err(error) if error.kind() == ErrorKind::AlreadyExists => Ok(()),
+        Err(error) if error.kind() == ErrorKind::OutOfMemory => Err(FileFault::NoMemory),
+        Err(_) => Err(FileFault::CannotOpen),
+    }
+}
+
+/// Tests the file in which a docket is to be made, or makes it where there is none.
+fn ready_file(rt: &HostRuntime, path: &str) -> Result<(), FileFault> {
+    match test_file(rt, path) {
+        Err(FileFault::Missing) => make_private(rt, path),
+        tested => tested,
+    }
+}
 
 /// Makes a docket of the court in a file that holds none.
 pub(crate) fn create_docket<S: Start, E: Write>(
@@ -19,8 +49,8 @@ pub(crate) fn create_docket<S: Start, E: Write>(
 ) -> JobEnd<FileFrom<S>>
     ensures made { FailsOr result (λ left. Makes court left (cow_str_bytes result.text) result.status) }
 {
-    match test_file(rt, path) {
-        Ok(()) | Err(FileFault::Missing) => {}
+    match ready_file(rt, path) {
+        Ok(()) => {}
         Err(fault) => return JobEnd::of(failed(rt.alloc(), e, &AtPath { path, fault })),
     }
     match done(rt.alloc(), path, create_on_file(rt, path, start, court), e) {

@@ -38,7 +38,7 @@ fn visited(
     client.write_all(request)?;
     client.shutdown(Shutdown::Write)?;
     let mut errors = Vec::new(rt.alloc());
-    let mut connections = Listening::new(rt, listener);
+    let mut connections = Listening::new(rt, listener)?;
     if serve_run(rt.alloc(), &mut connections, 1, desk, &mut errors).is_err() {
         return Err(Fail::new("serving ended"));
     }

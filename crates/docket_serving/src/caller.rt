@@ -1,0 +1,135 @@
+//! A connection that waits until its request has come.
+ghost use Rattle.std.specs.Prelude.{◌≡◌, ◌++◌, ℕ, List, [], false};
+ghost use Rattle.http_request.specs.Request.{EndsEarly};
+ghost use Rattle.http_request.specs.declared.page.Routes.TheVariants as routes;
+
+use http_request::{InputFault, Routes, read_request};
+use std::alloc::Global;
+use std::io::{ErrorKind, Read};
+use std::net::TcpStream;
+use std::time::{Clock, Duration, Instant};
+
+/// How many seconds a caller is waited for from its first byte on, until its request has come.
+pub(crate) const PATIENCE: u64 = 10;
+
+/// The most bytes of a read.
+const PIECE: usize = 4096;
+
+/// So many bytes are a whole request, or more than one may have: 8,192 of a head and 65,536 of a body.
+const ENOUGH: usize = 73_728;
+
+/// What one read came to.
+enum Taken {
+    Piece,
+    Nothing,
+    End,
+}
+
+/// A connection, what has come of it, and how long it may still be waited for.
+#[derive(Drop)]
+pub(crate) struct Caller {
+    pub(crate) stream: TcpStream,
+    pub(crate) came: Vec<u8>,
+    pub(crate) left: Duration,
+    begun: Option<Instant>,
+}
+
+/// Whether no more has to come of a request of the docket, or none can.
+fn is_whole(alloc: Global, came: &[u8]) -> bool
+    ensures { result ≡ false → EndsEarly routes.Docket came.now }
+{
+    let mut rest = came;
+    match read_request(alloc, &mut rest, &Routes::Docket) {
+        Err(InputFault::EndedEarly) => false,
+        _ => true,
+    }
+}
+
+impl Caller {
+    /// A connection of which nothing was read yet. Its reads do not wait.
+    pub(crate) fn new(alloc: Global, stream: TcpStream) -> Caller
+        ensures stream { result.stream ≡ stream }
+        ensures came { result.came.items ≡ [] }
+    {
+        Caller {
+            stream,
+            came: Vec::new(alloc),
+            left: Duration::from_secs(PATIENCE),
+            begun: None,
+        }
+    }
+
+    /// Reads once. Memory is asked for first, so that nothing that was read is lost; where there is none, the
+    /// rest is left to who attends. After a failed read no more is waited for.
+    fn take_piece(&mut self) -> Taken
+        ensures stream { self.new.stream ≡ self.old.stream }
+    {
+        if self.came.reserve(PIECE).is_err() {
+            return Taken::End;
+        }
+        let mut piece = [0u8; PIECE];
+        match (&self.stream).read(&mut piece) {
+            Ok(0) => Taken::End,
+            Ok(count) if self.came.extend_from_slice(&piece[..count]).is_ok() => Taken::Piece,
+            Err(error) if error.kind() == ErrorKind::WouldBlock => Taken::Nothing,
+            _ => {
+                self.left = Duration::ZERO;
+                Taken::End
+            }
+        }
+    }
+
+    /// Reads what has come, and tells whether more may come.
+    fn take_all(&mut self) -> bool
+        ensures stream { self.new.stream ≡ self.old.stream }
+    {
+        for _ in 0..ENOUGH {
+            if self.came.len() >= ENOUGH {
+                return false;
+            }
+            match self.take_piece() {
+                Taken::Piece => {}
+                Taken::Nothing => return true,
+                Taken::End => return false,
+            }
+        }
+        false
+    }
+
+    /// Takes off what has passed since its first bytes were read, or all where no clock tells it.
+    fn pass_time<C: Clock>(&mut self, clock: &C)
+        ensures stream { self.new.stream ≡ self.old.stream }
+        ensures came { self.new.came ≡ self.old.came }
+    {
+        if self.came.is_empty() {
+            return;
+        }
+        let most = Duration::from_secs(PATIENCE);
+        self.left = match (Instant::now(clock), self.begun) {
+            (Ok(now), Some(begun)) => most.saturating_sub(now.saturating_duration_since(begun)),
+            (Ok(now), None) => {
+                self.begun = Some(now);
+                most
+            }
+            (Err(_), _) => Duration::ZERO,
+        };
+    }
+
+    /// Whether a part of its request was read.
+    pub(crate) fn has_begun(&self) -> bool {
+        self.begun.is_some()
+    }
+
+    /// Reads what has come, and tells whether there is something to attend to: a whole request, one that can
+    /// be told to be none, the end of what comes, or the end of all patience.
+    pub(crate) fn is_ready<C: Clock>(&mut self, alloc: Global, clock: &C) -> bool
+        ensures stream { self.new.stream ≡ self.old.stream }
+        ensures waits { result ≡ false → EndsEarly routes.Docket self.new.came.items }
+    {
+        if !self.take_all() || is_whole(alloc, &self.came) {
+            return true;
+        }
+        self.pass_time(clock);
+        self.left.is_zero()
+    }
+}

@@ -1,0 +1,74 @@
+//! Those who wait to be attended to.
+ghost use Rattle.std.specs.Prelude.{◌≡◌, ◌<◌, ◌≤◌, [], ◌∷◌, ◌++◌, IfOk, IfSome, IfNone, vec_len, vec_capacity};
+ghost use Rattle.docket_serving.specs.Waiting.{streams, AreUnready, IsTakenOut, JoinsBehind};
+
+use crate::caller::Caller;
+use std::alloc::{AllocError, Global};
+use std::rt::HostRuntime;
+
+/// The most that wait.
+pub(crate) const MOST: usize = 64;
+
+/// Those who wait, the oldest first. Where one more comes than may wait, the oldest is let go.
+#[derive(Drop)]
+pub(crate) struct Waiting {
+    all: Vec<Caller>,
+    ghost most: { vec_len all ≤ 64 },
+    ghost room: { 64 ≤ vec_capacity all },
+}
+
+impl Waiting {
+    /// Nobody waits yet. No memory for the list is asked for later.
+    pub(crate) fn new(alloc: Global) -> Result<Waiting, AllocError>
+        ensures { IfOk result (λ waiting. waiting.all.items ≡ []) }
+    {
+        Ok(Waiting {
+            all: Vec::with_capacity(alloc, MOST)?,
+        })
+    }
+
+    /// The oldest waits no longer.
+    pub(crate) fn let_go(&mut self) -> Option<Caller>
+        ensures some { IfSome result (λ oldest. self.old.all.items ≡ oldest ∷ self.new.all.items) }
+        ensures none { IfNone result ((self.old.all.items ≡ []) × (self.new.all.items ≡ [])) }
+    {
+        if self.all.is_empty() {
+            return None;
+        }
+        Some(self.all.remove(0))
+    }
+
+    /// One more waits, behind all others. Where as many wait as may, the oldest is let go.
+    pub(crate) fn join(&mut self, last: Caller) -> Option<Caller>
+        ensures none { IfNone result ((vec_len self.old.all < 64) × (self.new.all.items ≡ self.old.all.items ++ last ∷ [])) }
+        ensures some { IfSome result (λ oldest. (vec_len self.old.all ≡ 64) × JoinsBehind oldest self.old.all.items last self.new.all.items) }
+    {
+        if self.all.len() < MOST {
+            self.all.push_reserved(last);
+            return None;
+        }
+        let oldest = self.all.remove(0);
+        self.all.push_reserved(last);
+        Some(oldest)
+    }
+
+    /// The oldest that there is something to attend to waits no longer. Where there is none, nobody's request
+    /// has come.
+    pub(crate) fn take_ready(&mut self, rt: &HostRuntime) -> Option<Caller>
+        ensures some { IfSome result (λ ready. IsTakenOut ready.stream (streams self.old.all.items) (streams self.new.all.items)) }
+        ensures none { IfNone result (streams self.new.all.items ≡ streams self.old.all.items) }
+        ensures unready { IfNone result (AreUnready self.new.all.items) }
+    {
+        for at in 0..self.all.len() {
+            if self.all[at].is_ready(rt.alloc(), rt) {
+                return Some(self.all.remove(at));
+            }
+        }
+        None
+    }
+
+    /// Whether a part of somebody's request was read.
+    pub(crate) fn have_begun(&self) -> bool {
+        self.all.iter().any(|caller| caller.has_begun())
+    }
+}
