@@ -1,6 +1,7 @@
-"""Mixed commands: mixed_commands.py CASES COMMANDS [local] prints commands that open so many cases, and so many over 1,000 of these:
-parties, entries, counterclaims that are served, and extensions of their deadlines, all accepted. With the third word 20 local rules
-are entered first, and a third of the deadlines run by them in the place of the counterclaim's. The same arguments give the same ones.
+"""Mixed commands: mixed_commands.py CASES COMMANDS [local|all] prints commands that open so many cases, and so many over 1,000 of these:
+parties, entries, counterclaims that are served, and extensions of their deadlines, all accepted. With `local` 20 local rules are
+entered first, and a third of the deadlines run by them in the place of the counterclaim's. With `all` the commands are over all
+cases. The same arguments give the same ones.
 mixed_commands.py calendar prints commands that fill the court calendar: 2,000 closed days and 2,000 closed spans, years after the
 deadlines."""
 import json
@@ -16,10 +17,11 @@ if sys.argv[1:] == ["calendar"]:
     sys.exit()
 
 cases, commands, local = int(sys.argv[1]), int(sys.argv[2]), sys.argv[3:] == ["local"]
+spread = cases if sys.argv[3:] == ["all"] else 1000
 random.seed(6103)
 day = lambda: str(date(2025, 1, 1) + timedelta(random.randrange(300)))
 served = 0
-filled = [[0, []] for _ in range(1000)]  # of each of the 1,000 its number of parties and its deadlines, each with its extensions
+filled = [[0, []] for _ in range(spread)]  # of each of these its number of parties and its deadlines, each with its extensions
 
 
 def time_served(numbered, party):
@@ -34,8 +36,8 @@ def time_served(numbered, party):
 
 
 def command():
-    number = random.randrange(1000)
-    case, numbered = filled[number], {"case": number * (cases // 1000) + 1}
+    number = random.randrange(spread)
+    case, numbered = filled[number], {"case": number * (cases // spread) + 1}
     if case[0] == 0 or (random.random() < 0.1 and case[0] < 900):
         case[0] += 1
         return {"do": "add_party", **numbered, "name": "Doe", "role": "defendant"}

@@ -1,5 +1,5 @@
 -- What an open that failed leaves of two files.
-use Rattle.std.proofs.Common.{◌≡◌, ◌≢◌, ◌∙◌, ℕ, ◌+◌, ◌*◌, ◌≤◌, ◌%◌, Bool, cond, List, [], ◌∷◌, take, Option, Some, None, option_map, IsTrue, take_all, refl, sym, ap, subst, inl, inr, arith}
+use Rattle.std.proofs.Common.{◌≡◌, ◌⊎◌, ◌≢◌, ◌∙◌, ℕ, ◌+◌, ◌*◌, ◌≤◌, ◌%◌, Bool, cond, List, [], ◌∷◌, take, Option, Some, None, option_map, IsTrue, take_all, refl, sym, ap, subst, inl, inr, arith}
 use Rattle.std.proofs.Math.Logic.{∥∥₁_elim, ∥∥₁_map}
 use Rattle.std.proofs.Math.Path.{fun_ext}
 use Rattle.std.proofs.lemmas.Bool.{cases_Bool, cases_eq, eq-eqb, ne_eqb}
@@ -23,6 +23,8 @@ use Rattle.sqlite.specs.Opening.{HoldsIn}
 use Rattle.sqlite.specs.Tree.{Trees}
 use Rattle.sqlite.specs.declared.file.Leftover.{Leftover}
 use Rattle.sqlite.specs.declared.file.Leftover.TheVariants as left
+use Rattle.database_files.specs.Making.{HoldsNone, LeavesNew}
+use Rattle.database_files.proofs.MakingLemmas.{holds_some}
 use Rattle.docket_store.specs.Left.{HaveSums, HoldSome, HoldsSummed, StillHolds}
 
 -- a file that was synced, and no more, is left as it was
@@ -138,11 +140,21 @@ module _ {D : Type 0} (g : Ghosts D) (files : Files D) (only : (image : Image) �
   as_before : (image : Image) → outcomes g files.log files.db image → HoldSome P image
   as_before image may = subst (HoldSome P) (sym (only image may)) held
 
-  pub still_holds : (rest : Leftover D g) → LeavesFiles {g = g} files rest → StillHolds (image_of g files) rest P
-  still_holds (left.Files now) leaves = λ image may. as_before image (leaves image may)
-  still_holds (left.Store now) leaves = λ db may. known db (∥∥₁_map held (λ one. subst P (sym ((leaves db may).1 one.0 one.1)) one.2))
-  still_holds (left.Unopened now) (inl none) = λ sums image may. ∥∥₁_elim held squash₁ (λ one. absurd (is_something (image_of g files) one.0 one.1 none.0))
-  still_holds (left.Unopened now) (inr some) = λ sums image may. elim (some.4 image may).same [
+  kept : (rest : Leftover D g) → LeavesFiles {g = g} files rest → StillHolds (image_of g files) rest P
+  kept (left.Files now) leaves = λ image may. as_before image (leaves image may)
+  kept (left.Store now) leaves = λ db may. known db (∥∥₁_map held (λ one. subst P (sym ((leaves db may).1 one.0 one.1)) one.2))
+  kept (left.Unopened now) (inl none) = λ sums image may. ∥∥₁_elim held squash₁ (λ one. absurd (is_something (image_of g files) one.0 one.1 none.0))
+  kept (left.Unopened now) (inr some) = λ sums image may. elim (some.4 image may).same [
     | inl old ↦ as_before image old
     | inr stands ↦ ∥∥₁_map held (λ one. (one.0, summed_again (image_of g files) image one.0 (sums one.0 one.1) _ some.1 some.3 stands, one.2))
   ]
+
+  -- no database is made in them, since they held one
+  not_made : (rest : Leftover D g) → HoldsNone (image_of g files) → StillHolds (image_of g files) rest P
+  not_made (left.Files now) none = λ image may. ∥∥₁_elim held squash₁ (λ one. absurd (holds_some (image_of g files) one.0 one.1 none))
+  not_made (left.Store now) none = λ db may. known db (∥∥₁_map held (λ one. absurd (holds_some (image_of g files) one.0 one.1 none)))
+  not_made (left.Unopened now) none = λ sums image may. ∥∥₁_elim held squash₁ (λ one. absurd (holds_some (image_of g files) one.0 one.1 none))
+
+  pub still_holds : (rest : Leftover D g) → LeavesFiles {g = g} files rest ⊎ LeavesNew {g = g} files rest → StillHolds (image_of g files) rest P
+  still_holds rest (inl leaves) = kept rest leaves
+  still_holds rest (inr new) = not_made rest new.0

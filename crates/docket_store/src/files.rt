@@ -2,11 +2,13 @@
 ghost use Rattle.std.specs.Prelude.{◌≡◌, true, false, IsTrue, IfOk, IfErr, IfSome};
 ghost use Rattle.sqlite_std_file.specs.File.{file_is_usable, IsFresh};
 ghost use Rattle.sqlite_wal.specs.Files.{image_at};
-ghost use Rattle.sqlite.specs.Files.{file_state, IsOpened, IsCleanLeft, FailsToOpenFiles, LeavesFiles};
+ghost use Rattle.sqlite.specs.Files.{file_state, IsOpened, HoldsDatabase};
 ghost use Rattle.sqlite.specs.Held.{IsNew};
-ghost use Rattle.sqlite.specs.Start.{FindsIn};
 ghost use Rattle.sqlite.specs.State.{HasCleanDisk};
+ghost use Rattle.sqlite.specs.Tree.{Trees};
+ghost use Rattle.database_files.specs.Making.{IsNotOpened};
 
+use database_files::open_files;
 use sqlite::{Connection, Error, ErrorCode, FileFrom, FileStore, Files, Leftover, Options, Start};
 use sqlite_std_file::OpenError;
 use std::hash::{BuildHasher, RandomState};
@@ -56,10 +58,9 @@ pub(crate) fn open_at<S: Start>(
     start: S,
 ) -> Result<Connection<FileStore<FileFrom<S>>>, (Error, Option<Leftover<FileFrom<S>>>)>
     ensures opened { IfOk result (λ c. HasCleanDisk (file_state c) → IsOpened c) }
-    ensures found { IfOk result (λ c. HasCleanDisk (file_state c) → FindsIn (image_at S.Start) (file_state c)) }
+    ensures found { IfOk result (λ c. HasCleanDisk (file_state c) → (db : Trees) → HoldsDatabase (image_at S.Start) db → (file_state c).committed.trees ≡ db) }
     ensures fresh { IfOk result IsNew }
-    ensures cause { IfErr result (λ e. IfSome e.1 (λ left. (files : _) × IsFresh true files.log × IsFresh false files.db
-        × (IsCleanLeft left → FailsToOpenFiles files left e.0 × LeavesFiles files left))) }
+    ensures failed { IfErr result (λ e. IfSome e.1 (λ left. (files : _) × IsFresh true files.log × IsFresh false files.db × IsNotOpened files (e.0, left))) }
 {
     let files = match pair_at(rt, path, start) {
         Ok(files) => files,
@@ -69,7 +70,7 @@ pub(crate) fn open_at<S: Start>(
         Ok(options) => options,
         Err(error) => return Err((error, None)),
     };
-    match Connection::open_files(rt.alloc(), files, options) {
+    match open_files(rt.alloc(), files, options) {
         Ok(conn) => Ok(conn),
         Err((error, left)) => Err((error, Some(left))),
     }
