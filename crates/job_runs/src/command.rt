@@ -20,6 +20,7 @@ use crate::opening::ready;
 use crate::progress::LineCounter;
 use command_lines::{Clerk, CountEnd, RunFault, command_run};
 use court_days::Court;
+use database_files::open_files;
 use docket_store::{CreateFault, Docket, Fault, Returned, Watch};
 use file_changes::run_on_file;
 use file_dockets::OnFile;
@@ -195,7 +196,7 @@ fn answer_in_files<D: Disk + Drop, P: Write + Drop, R: Read, W: Write + Drop, E:
     requires db { IsTrue (D.Disk.is_usable files.db) }
     ensures runs { IsHonest (over_files {g = D.Disk}) → IfSome (R.remaining r.old) (λ input. RunsInMemory (new_docket court) input (W.contents w) (W.contents result.1) result.0) }
 {
-    match Connection::open_files(rt.alloc(), files, Options::new(0)) {
+    match open_files(rt.alloc(), files, Options::new(0)) {
         Ok(conn) => answer_of_new(rt, screen, conn, court, r, w, e),
         Err(_) => (out_of_memory(&mut w), w),
     }

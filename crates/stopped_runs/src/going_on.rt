@@ -2,10 +2,10 @@
 use crate::disks::options;
 use crate::whole_text::told;
 use anyhow::{Error, anyhow};
+use database_files::open_files;
 use docket_command::{Command, Reply};
 use docket_store::{
-    AdoptFault, CreateFault, Docket, Fault, MigrateFault, RecoverFault, apply_again, recover,
-    reopen, stop,
+    AdoptFault, CreateFault, Docket, Fault, MigrateFault, RecoverFault, apply_again, recover, stop,
 };
 use docket_wire::read_command;
 use plain_plays::eastern_court;
@@ -54,7 +54,7 @@ fn closed<D: Disk + Drop>(docket: Docket<FileStore<D>>) -> Files<D> {
     docket.close().into_store().close()
 }
 
-/// The connection over the files, or why there is none, and its files.
+/// The connection over the files, as the program opens them, or why there is none, and its files.
 fn opened<D: Disk + Drop>(
     alloc: Global,
     files: Files<D>,
@@ -63,7 +63,7 @@ fn opened<D: Disk + Drop>(
     if !files.may_be_used() {
         return Err((End::NotUsable, files));
     }
-    match reopen(alloc, files, options(frames)) {
+    match open_files(alloc, files, options(frames)) {
         Ok(conn) => Ok(conn),
         Err((_, left)) => Err((End::NotOpened, left.into_files())),
     }
@@ -166,6 +166,28 @@ pub(crate) fn found<D: Disk + Drop>(
             (told, closed(docket))
         }
         Err((end, files)) => (Err(end), files),
+    }
+}
+
+/// What the docket tells, where one was made.
+pub(crate) fn found_if_made<D: Disk + Drop>(
+    alloc: Global,
+    files: Files<D>,
+    frames: usize,
+) -> (Result<Vec<u8>, End>, Files<D>) {
+    let conn = match opened(alloc, files, frames) {
+        Ok(conn) => conn,
+        Err((end, files)) => return (Err(end), files),
+    };
+    match Docket::adopt(alloc, conn) {
+        Ok(mut docket) => {
+            let told = told(alloc, &mut docket).map_err(|_| End::NotTold);
+            (told, closed(docket))
+        }
+        Err(returned) => (
+            Err(End::NotAdopted(returned.fault)),
+            stop(returned.connection).close(),
+        ),
     }
 }
 

@@ -1,6 +1,6 @@
 //! The making of a docket, stopped after each number of calls of each disk until it meets no stop.
 use crate::disks::{Bytes, Fused, LOSSES, NO_STOP, Stop, Tried, calls_of, files_with, left};
-use crate::going_on::{End, created, found};
+use crate::going_on::{End, created, found, found_if_made};
 use crate::sweeping::{Stoppable, Stopping, Tally, swept};
 use anyhow::{Error, anyhow};
 use docket_store::AdoptFault;
@@ -45,7 +45,7 @@ fn goes_on<D: Tried>(
     acknowledged: bool,
 ) -> Result<(), Error> {
     let files = files_with::<D>(alloc, bytes, NO_STOP)?;
-    let (told, files) = found(alloc, files, frames);
+    let (told, files) = found_if_made(alloc, files, frames);
     match told {
         Ok(told) if told.as_slice() == NOTHING => Ok(()),
         Err(End::NotAdopted(AdoptFault::Empty)) if !acknowledged => made_now(alloc, files, frames),
