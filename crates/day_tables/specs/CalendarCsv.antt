@@ -3,7 +3,7 @@
 -- kind `federal`, `state` or `closed`; a real day as YYYY-MM-DD; and a name in UTF-8. The first record that is otherwise
 -- decides what is told: the first of all, and none, are bad row 0; one with another number of fields is bad csv; and the
 -- n-th after the first is bad row n, also where it is the 1,001st.
-use Rattle.std.specs.Prelude.{◌≡◌, ◌+◌, ◌==◌, ◌&&◌, ℕ, List, [], ◌∷◌, length, codes, Bool, false, Option, Some, None, option_map, option_and_then, Result, Ok, Err, nat_lt, if◌then◌else◌}
+use Rattle.std.specs.Prelude.{◌≡◌, ◌+◌, ◌==◌, ◌&&◌, ℕ, List, [], ◌∷◌, ◌++◌, length, codes, decimal, Bool, false, Option, Some, None, option_map, option_and_then, Result, Ok, Err, nat_lt, if◌then◌else◌}
 use Rattle.std.specs.Str.{bytes_eq, is_utf8}
 use Rattle.csv.specs.Records.{field_at}
 use Rattle.civil_time.specs.DayText.{day_of_text}
@@ -66,3 +66,9 @@ GivesRow (Ok d) read = read ≡ Ok d
 GivesRow (Err NoMemory) read = Unit {0}
 GivesRow (Err (BadRow n)) read = read ≡ Err (BadRow n)
 GivesRow (Err BadCsv) read = read ≡ Err BadCsv
+
+-- what is told of it
+abbrev pub fault_text : CsvFault → List ℕ
+fault_text (BadRow n) = codes "bad row " ++ decimal n
+fault_text BadCsv = codes "bad csv"
+fault_text NoMemory = codes "there is not enough memory"

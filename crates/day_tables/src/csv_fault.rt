@@ -19,6 +19,11 @@ pub enum CsvFault {
 }
 
 impl fmt::Display for CsvFault {
+    ghost use Rattle.std.specs.Prelude.{Some};
+    ghost use Rattle.day_tables.specs.CalendarCsv.{fault_text};
+
+    ghost output = { λ fault. Some (fault_text fault) };
+
     fn fmt<W: fmt::Write>(&self, f: &mut fmt::Formatter<W>) -> fmt::Result {
         match self {
             CsvFault::BadRow(n) => write!(f, "bad row {n}"),

@@ -2,11 +2,10 @@
 //! under the Federal Rules of Civil Procedure.
 #![tactic(auto)]
 
-use clap::error::ErrorKind;
 use docket_jobs::read_job;
-use job_runs::{Progress, Status, run_job};
+use job_runs::{Progress, fail_unread, finish, run_job};
 use sqlite::Unknown;
-use std::io::{IsTerminal, Stderr, Write};
+use std::io::{IsTerminal, Stderr};
 use std::process::ExitCode;
 use std::{env, fs, io};
 
@@ -31,52 +30,25 @@ fn progress(rt: &HostRuntime) -> Progress<Stderr> {
     }
 }
 
-/// Tells that there is not enough memory, which takes none.
-fn out_of_memory(rt: &HostRuntime) -> Status {
-    let _ = rt
-        .stderr()
-        .write_all(b"docketctl: there is not enough memory\n");
-    Status::Failed
-}
-
-/// Tells what is wrong with words that are no job, or the help that they ask for.
-fn told(rt: &HostRuntime, error: &clap::Error) -> io::Result<Status> {
-    if error.kind() == ErrorKind::OutOfMemory {
-        return Ok(out_of_memory(rt));
-    }
-    error.print(rt)?;
-    Ok(if error.use_stderr() {
-        Status::BadLine
-    } else {
-        Status::Done
-    })
-}
-
-/// Does what the words after the program's name ask for, and answers the exit status.
-fn run(rt: &HostRuntime) -> io::Result<Status> {
+/// Does what the words after the program's name ask for, and returns the exit status.
+fn run(rt: &HostRuntime) -> io::Result<u8> {
     let words: Vec<String> = env::args(rt)?.collect(rt.alloc())?;
-    let job = match read_job(rt.alloc(), words.as_slice()) {
-        Ok(job) => job,
-        Err(error) => return told(rt, &error),
-    };
     let mut e = rt.stderr();
-    let (end, mut w) = run_job(
-        rt,
-        Unknown,
-        job,
-        progress(rt),
-        &mut rt.stdin(),
-        rt.stdout(),
-        &mut e,
-    );
-    Ok(end.finish(rt.alloc(), &mut w, &mut e))
+    let (end, mut w) = match read_job(rt.alloc(), words.as_slice()) {
+        Ok(job) => {
+            let mut r = rt.stdin();
+            let (end, w) = run_job(rt, Unknown, job, progress(rt), &mut r, rt.stdout(), &mut e);
+            (Ok(end), w)
+        }
+        Err(error) => (Err(error), rt.stdout()),
+    };
+    Ok(finish(rt.alloc(), end, &mut w, &mut e))
 }
 
 fn main(rt: HostRuntime) -> ExitCode {
-    let status = match run(&rt) {
-        Ok(status) => status,
-        Err(fault) if fault.kind() == io::ErrorKind::OutOfMemory => out_of_memory(&rt),
-        Err(_) => Status::Failed,
+    let code = match run(&rt) {
+        Ok(code) => code,
+        Err(fault) => fail_unread(rt.alloc(), &fault, &mut rt.stderr()),
     };
-    ExitCode::from(status.code())
+    ExitCode::from(code)
 }

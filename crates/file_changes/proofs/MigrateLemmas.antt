@@ -57,7 +57,8 @@ stays_map L M more docket migrate.OtherVersion is = is
 stays_map L M more docket (migrate.Damaged table) is = is
 
 module _ {D : Type 0} {g : Disk D} where
-  leaves_map : (rest : Leftover D g) (P Q : Trees → Type 0) → ((db : Trees) → P db → Q db) → Leaves rest P → Leaves rest Q
+  -- what is left is of another kind too
+  pub leaves_map : (rest : Leftover D g) (P Q : Trees → Type 0) → ((db : Trees) → P db → Q db) → Leaves rest P → Leaves rest Q
   leaves_map (left.Files files) P Q then leaves = λ image may. ∥∥₁_map (leaves image may) (λ one. (one.0, one.1, then one.0 one.2))
   leaves_map (left.Unopened files) P Q then leaves = λ image may. ∥∥₁_map (leaves image may) (λ one. (one.0, one.1, then one.0 one.2))
   leaves_map (left.Store it) P Q then leaves = λ db may. then db (leaves db may)

@@ -1,22 +1,31 @@
 -- A docket that stands is kept by its connection.
-use Rattle.std.proofs.Common.{◌≡◌, [], Result, OnOk, subst, sym}
+use Rattle.std.proofs.Common.{◌≡◌, [], Result, Ok, Err, IfErr, IsTrue, OnOk, subst, sym}
 use Rattle.std.proofs.lemmas.Result.{on_ok_weaker}
 use Rattle.sqlite_disk.specs.declared.Disk.{Ghosts as Disk}
 use Rattle.sqlite_wal.specs.Recovery.{Image}
 use Rattle.sqlite.specs.Files.{IsCleanLeft, over_files}
 use Rattle.sqlite.specs.declared.file.Leftover.{Leftover}
-use Rattle.docket_store.specs.Left.{LeavesRows}
+use Rattle.docket_columns.specs.declared.version.Version.{Version}
+use Rattle.docket_tables.specs.Layouts.{Rows}
+use Rattle.docket_tables.specs.Recognition.{has_docket_table}
+use Rattle.docket_tables.specs.Stands.{HoldsRowsIn, IsImageIn}
+use Rattle.docket_store.specs.Left.{Leaves, LeavesRows}
+use Rattle.docket_store.specs.Opening.{IsNotMade}
+use Rattle.docket_store.specs.Reopening.{HoldRows}
 use Rattle.docket_store.specs.declared.creating.CreateFault.{CreateFault}
+use Rattle.docket_store.specs.declared.creating.CreateFault.TheVariants as create
 use Rattle.docket_applying.specs.Applying.{IsDocket, docket_rows}
 use Rattle.file_dockets.specs.Working.{IsDoneOn}
 use Rattle.file_changes.specs.Works.{CreatesOver}
 use Rattle.sqlite.specs.Store.{Ghosts}
-use Rattle.sqlite.specs.Held.{Held}
+use Rattle.sqlite.specs.Held.{Held, state}
+use Rattle.sqlite.specs.State.{HasCleanDisk}
 use Rattle.court_days.specs.Court.{CourtSettings}
 use Rattle.docket_applying.specs.Dockets.{Docket as Stored}
 use Rattle.docket_applying.specs.CourtDockets.{CourtDocket as Docket, StandsAs}
 use Rattle.file_dockets.specs.Keeping.{HoldsBetween, Keeps}
 use Rattle.file_dockets.proofs.KeepLemmas.{held}
+use Rattle.file_changes.proofs.MigrateLemmas.{leaves_map}
 
 module _ {S : Type 0} (g : Ghosts S) where
   -- the connection of the docket keeps it
@@ -29,8 +38,39 @@ module _ {S : Type 0} (g : Ghosts S) where
   pub keeps_closed : (stored : Stored S) (conn : Held S) (docket : Docket) → conn ≡ stored.conn → StandsAs g stored docket → Keeps (HoldsBetween g conn) docket
   keeps_closed stored conn docket same is = subst (λ (c : Held S). Keeps (HoldsBetween g c) docket) (sym same) (keeps_held stored docket is)
 
--- a docket that was made, from its connection to the files that it leaves
-pub made_on : {D : Type 0} {g : Disk D} (start : Image) (court : CourtSettings) (outcome : Result (Unit {0}) CreateFault) (rest : Leftover D g)
-    → IsDoneOn start (λ old new. CreatesOver over_files old new court) outcome rest → IsCleanLeft rest
-    → OnOk outcome (IsDocket court [] × LeavesRows rest (docket_rows court []) (docket_rows court []))
-made_on start court outcome rest done clean = on_ok_weaker outcome (λ made. (made.0, done.left _ _ made.1 clean)) done.comes
+-- none was made, by the connection that comes back
+pub not_created : {S : Type 0} (g : Ghosts S) (old new now : Held S) (court : CourtSettings) (fault : CreateFault) (outcome : Result (Unit {0}) CreateFault)
+    → now ≡ new → outcome ≡ Err fault → (IsTrue (has_docket_table old.schema) → fault ≡ create.NotEmpty) → IsNotMade g old new court fault
+    → CreatesOver g old now court outcome
+not_created {S} g old new now court fault outcome same is full left =
+    subst (CreatesOver g old now court) (sym is) (subst (λ (conn : Held S). CreatesOver g old conn court (Err fault)) (sym same) (record {
+      made = tt;
+      empty = tt;
+      full = full;
+      not_made = left;
+    }))
+
+-- a docket that is found is left as it was
+kept : {S D : Type 0} {d : Disk D} (g : Ghosts S) (court : CourtSettings) (v : Version) (rows : Rows) (old new : Held S) (outcome : Result (Unit {0}) CreateFault)
+    (rest : Leftover D d) → HoldsRowsIn g v old rows → HasCleanDisk (state g new) → IfErr outcome (IsNotMade g old new court)
+    → IfErr outcome (λ _. Leaves rest (state g new).may_leave) → IfErr outcome (λ fault. fault ≡ create.NotEmpty → Leaves rest (IsImageIn v rows))
+kept g court v rows old new (Ok done) rest holds clean left images = tt
+kept {S} g court v rows old new (Err create.NotEmpty) rest holds clean left images =
+    let now = subst (λ (conn : Held S). HoldsRowsIn g v conn rows) (sym left.1) holds in
+    λ is. leaves_map rest (state g new).may_leave (IsImageIn v rows) (λ db may. (now.1 clean).images db may) images
+kept g court v rows old new (Err create.NoMemory) rest holds clean left images = λ is. absurd (cc)
+kept g court v rows old new (Err create.StoreFailed) rest holds clean left images = λ is. absurd (cc)
+
+module _ {D : Type 0} {g : Disk D} (start : Image) (court : CourtSettings) where
+  -- a docket that was made, from its connection to the files that it leaves
+  pub made_on : (outcome : Result (Unit {0}) CreateFault) (rest : Leftover D g)
+      → IsDoneOn start (λ old new. CreatesOver over_files old new court) outcome rest → IsCleanLeft rest
+      → OnOk outcome (IsDocket court [] × LeavesRows rest (docket_rows court []) (docket_rows court []))
+  made_on outcome rest done clean = on_ok_weaker outcome (λ made. (made.0, done.left _ _ made.1 clean)) done.comes.made
+
+  -- and one that was found
+  pub kept_on : (v : Version) (rows : Rows) (outcome : Result (Unit {0}) CreateFault) (rest : Leftover D g)
+      → IsDoneOn start (λ old new. CreatesOver over_files old new court) outcome rest → HoldRows v start rows → IsCleanLeft rest
+      → IfErr outcome (λ fault. fault ≡ create.NotEmpty → Leaves rest (IsImageIn v rows))
+  kept_on v rows outcome rest done files clean =
+      kept over_files court v rows done.opened done.back outcome rest (done.holds v rows files) (done.trust clean) done.comes.not_made done.images

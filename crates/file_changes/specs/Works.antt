@@ -1,5 +1,5 @@
 -- What each work comes to over a connection: by what it held, `old`, and as it comes back, `new`.
-use Rattle.std.specs.Prelude.{ℕ, List, [], Option, Result, IfErr, IfSome, OnOk}
+use Rattle.std.specs.Prelude.{◌≡◌, ℕ, false, List, [], Option, Result, IfErr, IfSome, IsErrAnd, IsTrue, OnOk}
 use Rattle.sqlite.specs.Held.{Held, state}
 use Rattle.sqlite.specs.State.{HasCleanDisk}
 use Rattle.sqlite.specs.Store.{Ghosts}
@@ -9,12 +9,15 @@ use Rattle.docket_command.specs.declared.command.Command.{Command}
 use Rattle.docket_command.specs.declared.refusal.Reply.{Reply}
 use Rattle.docket_scan.specs.Dockets.{MayHold}
 use Rattle.docket_scan.specs.declared.fault.AdoptFault.{AdoptFault}
+use Rattle.docket_tables.specs.Recognition.{has_docket_table}
 use Rattle.docket_tables.specs.Stands.{HoldsRowsIn}
 use Rattle.docket_applying.specs.Applying.{IsDocket, StandsFor, docket_rows}
 use Rattle.docket_applying.specs.CourtDockets.{CourtDocket as Docket}
 use Rattle.docket_applying.specs.declared.fault.Fault.{Fault}
 use Rattle.docket_store.specs.Migrating.{first_rows}
+use Rattle.docket_store.specs.Opening.{IsNotMade}
 use Rattle.docket_store.specs.declared.creating.CreateFault.{CreateFault}
+use Rattle.docket_store.specs.declared.creating.CreateFault.TheVariants.{NotEmpty}
 use Rattle.docket_store.specs.declared.migrating.MigrateFault.{MigrateFault}
 use Rattle.line_io.specs.declared.ending.CountEnd.{CountEnd}
 use Rattle.command_lines.specs.declared.fault.RunFault.{RunFault}
@@ -39,9 +42,13 @@ module _ {S : Type 0} (g : Ghosts S) (old new : Held S) where
     pub prefix : (told : Docket) → IsDocket told.court told.history → StandsFor g old told.court told.history → HasCleanDisk (state g new)
         → IfSome known (λ input. LeavesPrefix (HoldsBetween g new) told input before after)
 
-  -- a new docket
-  abbrev pub CreatesOver : CourtSettings → Result (Unit {0}) CreateFault → Type 0
-  CreatesOver court outcome = OnOk outcome (IsDocket court [] × HoldsBetween g new (docket_rows court []) (docket_rows court []))
+  -- a new docket, or what is left where none was made
+  pub record CreatesOver (court : CourtSettings) (outcome : Result (Unit {0}) CreateFault) : Type 0 where
+    pub made : OnOk outcome (IsDocket court [] × HoldsBetween g new (docket_rows court []) (docket_rows court []))
+    -- one is made only where no table of a docket is
+    pub empty : OnOk outcome (has_docket_table old.schema ≡ false)
+    pub full : IsTrue (has_docket_table old.schema) → IsErrAnd outcome (λ fault. fault ≡ NotEmpty)
+    pub not_made : IfErr outcome (IsNotMade g old new court)
 
   -- a docket in the first version of the tables
   pub record MigratesOver (outcome : Result (Unit {0}) MigrateFault) : Type 0 where

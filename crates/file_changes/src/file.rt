@@ -6,13 +6,15 @@
 ghost use Rattle.std.specs.Prelude.{◌≡◌, [], IfErr, IfOk, IfSome, MatchResult, OnOk};
 ghost use Rattle.sqlite_wal.specs.Files.{image_at};
 ghost use Rattle.sqlite.specs.Files.{IsCleanLeft};
+ghost use Rattle.docket_columns.specs.declared.version.Version.{Version};
 ghost use Rattle.docket_columns.specs.declared.version.Version.TheVariants.{First};
 ghost use Rattle.docket_scan.specs.Dockets.{MayHold};
-ghost use Rattle.docket_tables.specs.Stands.{IsImage};
+ghost use Rattle.docket_tables.specs.Layouts.{Rows};
+ghost use Rattle.docket_tables.specs.Stands.{IsImage, IsImageIn};
 ghost use Rattle.docket_applying.specs.Applying.{IsDocket, docket_rows};
-ghost use Rattle.docket_store.specs.Left.{IsUnharmed, LeavesRows};
+ghost use Rattle.docket_store.specs.Left.{IsUnharmed, Leaves, LeavesRows};
 ghost use Rattle.docket_store.specs.Migrating.{HoldFirst};
-ghost use Rattle.docket_store.specs.Reopening.{HoldDocket};
+ghost use Rattle.docket_store.specs.Reopening.{HoldDocket, HoldRows};
 ghost use Rattle.docket_applying.specs.CourtDockets.{CourtDocket as Told};
 ghost use Rattle.file_dockets.specs.Keeping.{rows_told};
 ghost use Rattle.file_dockets.specs.Works.{WorksTo};
@@ -80,7 +82,8 @@ pub fn apply_on_file<S: Start, V: Watch + Drop>(
     work_on_file(rt, path, start, apply, &mut (), &mut ())
 }
 
-/// Makes the docket of a court, without any record, in the files at a path, which hold nothing.
+/// Makes the docket of a court, without any record, in the files at a path, which hold nothing. A docket
+/// that is found there is left as it was, of whichever version.
 pub fn create_on_file<S: Start>(
     rt: &HostRuntime,
     path: &str,
@@ -89,6 +92,10 @@ pub fn create_on_file<S: Start>(
 ) -> OnFile<S, (), CreateFault>
     ensures made { IfOk result (λ done. IsCleanLeft done.left
         → OnOk done.outcome (IsDocket court [] × LeavesRows done.left (docket_rows court []) (docket_rows court []))) }
+    ensures stays { (v : Version) (rows : Rows) → HoldRows v (image_at S.Start) rows
+        → IfOk result (λ done. IsCleanLeft done.left → IfErr done.outcome (λ fault. fault ≡ CreateFault.NotEmpty → Leaves done.left (IsImageIn v rows))) }
+    ensures unopened { (v : Version) (rows : Rows) → HoldRows v (image_at S.Start) rows
+        → IfErr result (IsUnharmed (image_at S.Start) (IsImageIn v rows)) }
 {
     let create = Create { court };
     work_on_file(rt, path, start, create, &mut (), &mut ())

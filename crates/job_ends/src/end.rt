@@ -1,7 +1,7 @@
 //! How a job ended, and what is still to be told.
 ghost use Rattle.std.specs.Prelude.{◌≡◌, [], None, string_bytes};
 ghost use Rattle.std.specs.Cow.{cow_str_bytes};
-ghost use Rattle.job_ends.specs.Ends.{Writes};
+ghost use Rattle.job_ends.specs.Ends.{Exits};
 
 use crate::messages::write_text;
 use crate::status::Status;
@@ -65,13 +65,13 @@ impl<D: Disk + Drop> JobEnd<D> {
         JobEnd { left, ..self }
     }
 
-    /// Lets the files go, writes the text, and answers the status, which is `Failed` where it can't be
-    /// written.
-    pub fn finish<W: Write, E: Write>(self, alloc: Global, w: &mut W, e: &mut E) -> Status
-        ensures { Writes (cow_str_bytes self.text) self.status (W.contents w.old) (W.contents w.new) result }
+    /// Lets the files go, writes the text, and returns the exit status of the program: that of a job that
+    /// failed, where the text can't be written.
+    pub fn finish<W: Write, E: Write>(self, alloc: Global, w: &mut W, e: &mut E) -> u8
+        ensures { Exits (cow_str_bytes self.text) self.status (W.contents w.old) (W.contents w.new) result }
     {
         let JobEnd { text, status, left } = self;
         drop(left);
-        write_text(alloc, text.as_str(), status, w, e)
+        write_text(alloc, text.as_str(), status, w, e).code()
     }
 }

@@ -1,4 +1,6 @@
 //! How a job ended.
+ghost use Rattle.std.specs.Prelude.{◌≡◌};
+ghost use Rattle.job_ends.specs.Ends.{exit_code};
 
 /// How a job ended, for the exit status of the program.
 #[derive(Clone, Copy)]
@@ -15,7 +17,9 @@ pub enum Status {
 
 impl Status {
     /// The exit status of the program.
-    pub fn code(self) -> u8 {
+    pub fn code(self) -> u8
+        ensures { result ≡ exit_code self }
+    {
         match self {
             Status::Done => 0,
             Status::SomeBad => 1,

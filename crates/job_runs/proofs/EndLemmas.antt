@@ -66,6 +66,19 @@ pub unbegun : {X Y T : Type 0} (ended : Result X Y) (outcome : X → Result T Ad
 unbegun (Ok it) outcome A B then is = IfErr-weaker (outcome it) (λ _. A) (λ _. B) (λ fault. then) is
 unbegun (Err y) outcome A B then is = then is
 
+-- and so it is of a job where the files were not opened
+pub unopened : {X Y L T : Type 0} (ended : Result X Y) (left_of : X → L) (outcome : X → Result T AdoptFault) (W : Type 0) (left : Option L)
+    → MatchResult ended (λ it. IfErr (outcome it) (λ _. W)) (λ _. W) → MatchResult ended (λ it. (left ≡ Some (left_of it)) × IsErr (outcome it)) (λ _. left ≡ None)
+    → MatchOption left W (λ _. Unit {0})
+unopened (Ok it) left_of outcome W left same is = subst (λ o. MatchOption o W (λ _. Unit {0})) (sym is.0) tt
+unopened (Err y) left_of outcome W left same is = subst (λ o. MatchOption o W (λ _. Unit {0})) (sym is) same
+
+-- or the job ended so anyway
+pub unopened_end : {X Y L : Type 0} (ended : Result X Y) (left_of : X → L) (A : X → Type 0) (N : Type 0) (left : Option L)
+    → MatchResult ended (λ it. (left ≡ Some (left_of it)) × A it) (λ _. left ≡ None) → N → MatchOption left N (λ _. Unit {0})
+unopened_end (Ok it) left_of A N left is none = subst (λ o. MatchOption o N (λ _. Unit {0})) (sym is.0) tt
+unopened_end (Err y) left_of A N left is none = subst (λ o. MatchOption o N (λ _. Unit {0})) (sym is) none
+
 -- a work that was done leaves this
 pub made_left : {X Y L T E : Type 0} (ended : Result X Y) (left_of : X → L) (Clean : L → Type 0) (outcome : X → Result T E) (K : L → Type 0) (found : T) (left : L)
     → IfOk ended (λ it. Clean (left_of it) → OnOk (outcome it) (K (left_of it))) → IsOkAnd ended (λ it. (outcome it ≡ Ok found) × (left_of it ≡ left)) → Clean left → K left

@@ -47,7 +47,7 @@ use Rattle.file_questions.specs.Tells.{text_of_case, text_of_reasons}
 use Rattle.job_runs.specs.Checks.{check_text}
 use Rattle.job_ends.specs.Ends.{TellsNothing}
 use Rattle.job_runs.specs.Tells.{HasListed, HasTold, SaysMissing, TellsIfAny, TellsText, last_line, no_such_case, no_such_deadline}
-use Rattle.job_runs.specs.Imports.{TellsApplied}
+use Rattle.job_runs.specs.Imports.{TellsApplied, TellsFault}
 use Rattle.job_ends.specs.declared.end.JobEnd.{JobEnd}
 use Rattle.job_ends.specs.declared.status.Status.{Status}
 use Rattle.job_ends.specs.declared.status.Status.TheVariants.{Done, SomeBad, BadLine, Failed}
@@ -118,6 +118,10 @@ module _ {D : Type 0} {g : Ghosts D} where
   abbrev pub FailsOr : JobEnd D g → (Leftover D g → Type 0) → Type 0
   FailsOr end P = MatchOption end.left (TellsNothing (cow_str_bytes end.text) end.status) (λ left. IsCleanLeft left → P left)
 
+  -- this is so where the job opened no files
+  abbrev pub IfUnopened : JobEnd D g → Type 0 → Type 0
+  IfUnopened end P = MatchOption end.left P (λ _. Unit {0})
+
   -- a question is told as it is answered, and the docket is left as it was
   abbrev pub TellsOf : Docket → (List ℕ → Status → Type 0) → JobEnd D g → Type 0
   TellsOf docket P end = FailsOr end (λ left. P (cow_str_bytes end.text) end.status × LeavesRows left (rows_told docket) (rows_told docket))
@@ -134,6 +138,10 @@ module _ {D : Type 0} {g : Ghosts D} where
   Migrates docket left text Failed = (text ≡ []) × ((fault : MigrateFault) × MigratesTo left docket (Err fault))
   Migrates docket left text _ = ⊥
 
+  -- Where no files were opened nothing is entered, and nothing is still to be told; where some were nothing went out before they are let go.
+  abbrev pub AnswersLast : Option (List ℕ) → Option (List ℕ) → Option (List ℕ) → JobEnd D g → Type 0
+  AnswersLast input before after end = MatchOption end.left (TellsFault input before after end.status × (cow_str_bytes end.text ≡ [])) (λ left. after ≡ before)
+
   -- the table of the input is entered by one command
   abbrev pub Imports : Docket → List ℕ → List ℕ → Leftover D g → List ℕ → Status → Type 0
   Imports docket key input left text status = (days : List NewDay) × IsTable input days × Applies (LeavesRows left) docket (import_command key days) text status
@@ -147,24 +155,25 @@ module _ {D : Type 0} {g : Ghosts D} where
   Does (job.RunInMemory court) files input before after end =
       IfSome input (λ bytes. RunsInMemory (new_docket court) bytes before after end.status) × (cow_str_bytes end.text ≡ []) × (end.left ≡ None)
   Does (job.Run file) files input before after end =
-      OfDocket files (λ docket. IfSome input (λ bytes. FailsOr end (λ left. Runs (LeavesRows left) docket bytes before after end.status)))
+      IfUnopened end (after ≡ before) × OfDocket files (λ docket. IfSome input (λ bytes. FailsOr end (λ left. Runs (LeavesRows left) docket bytes before after end.status)))
   Does (job.Create file court) files input before after end = FailsOr end (λ left. Makes court left (cow_str_bytes end.text) end.status) × (after ≡ before)
   Does (job.Rules None) files input before after end = TellsText (rules_text []) (cow_str_bytes end.text) end.status × (end.left ≡ None) × (after ≡ before)
   Does (job.Rules (Some file)) files input before after end =
       OfDocket files (λ docket. TellsOf docket (TellsText (rules_text (local_rule_rows docket.history))) end) × (after ≡ before)
   Does (job.Import file key) files input before after end =
-      OfDocket files (λ docket. IfSome input (λ bytes. MatchOption end.left ((end.status ≢ Done) × (cow_str_bytes end.text ≡ []))
-      (λ left. IsCleanLeft left → Imports docket key.now bytes left (cow_str_bytes end.text) end.status)))
+      AnswersLast input before after end
+      × OfDocket files (λ docket. IfSome input (λ bytes. IfSome end.left (λ left. IsCleanLeft left → Imports docket key.now bytes left (cow_str_bytes end.text) end.status)))
   Does (job.Case file number) files input before after end =
       OfDocket files (λ docket. TellsOf docket (TellsIfAny (text_of_case docket.court docket.history number)) end) × (after ≡ before)
   Does (job.Cases file label party) files input before after end =
-      OfDocket files (λ docket. TellsOf docket (HasListed (cases_told docket.history (option_copied label) (option_copied party)) before after) end)
+      IfUnopened end (after ≡ before) × OfDocket files (λ docket. TellsOf docket (HasListed (cases_told docket.history (option_copied label) (option_copied party)) before after) end)
   Does (job.Calendar file from to) files input before after end =
-      OfDocket files (λ docket. TellsOf docket (HasTold (text_of_calendar docket.court docket.history from to) before after) end)
+      IfUnopened end (after ≡ before) × OfDocket files (λ docket. TellsOf docket (HasTold (text_of_calendar docket.court docket.history from to) before after) end)
   Does (job.Explain file case deadline) files input before after end =
       OfDocket files (λ docket. TellsOf docket (TellsIfAny (text_of_reasons docket.court docket.history case deadline)) end) × (after ≡ before)
   Does (job.Export file from to form) files input before after end =
-      (stamp : ℤ) × OfDocket files (λ docket. TellsOf docket (HasTold (text_of_export (record { from = from; to = to; form = form; stamp = stamp }) docket.court docket.history) before after) end)
+      IfUnopened end (after ≡ before)
+      × ((stamp : ℤ) × OfDocket files (λ docket. TellsOf docket (HasTold (text_of_export (record { from = from; to = to; form = form; stamp = stamp }) docket.court docket.history) before after) end))
   Does (job.Sheet file number) files input before after end =
       OfDocket files (λ docket. TellsOf docket (TellsIfAny (page_of_sheet docket.court docket.history number)) end) × (after ≡ before)
   Does job.ExplainLines files input before after end = IfSome input (λ bytes. Explains bytes before after end.status) × (cow_str_bytes end.text ≡ []) × (end.left ≡ None)

@@ -4,3 +4,4 @@ pub mod Imports
 pub mod Jobs
 pub mod Runs
 pub mod Tells
+pub mod Words

@@ -8,7 +8,7 @@ ghost use Rattle.docket_history.specs.Histories.{History};
 ghost use Rattle.file_questions.specs.Tells.{ListsTo};
 ghost use Rattle.job_runs.specs.Asked.{IfUnasked, IsAsked};
 ghost use Rattle.job_runs.specs.Tells.{HasTold};
-ghost use Rattle.job_runs.specs.Jobs.{OfDocket, TellsOf};
+ghost use Rattle.job_runs.specs.Jobs.{IfUnopened, OfDocket, TellsOf};
 
 use crate::opening::ready;
 use court_days::Day;
@@ -39,9 +39,10 @@ fn end_calendar<S: Start, E: Write>(
     ended: OnFile<S, Result<u32, CalendarEnd>>,
     e: &mut E,
 ) -> JobEnd<FileFrom<S>>
-    ensures { (docket : Told) (from to : ℕ) (before after : Option (List ℕ))
+    ensures told { (docket : Told) (from to : ℕ) (before after : Option (List ℕ))
         → IsAsked docket (ListsTo docket.court docket.history from to before after) ended → IfUnasked (after ≡ before) ended
         → TellsOf docket (HasTold (text_of_calendar docket.court docket.history from to) before after) result }
+    ensures unopened { (before after : Option (List ℕ)) → IfUnasked (after ≡ before) ended → IfUnopened result (after ≡ before) }
 {
     match done_on_docket(alloc, path, ended, e) {
         Ok((end, left)) => JobEnd::of(calendar_told(alloc, end, e)).with(Some(left)),
@@ -62,6 +63,7 @@ pub(crate) fn tell_calendar<S: Start, P: Write + Drop, W: Write, E: Write>(
     e: &mut E,
 ) -> JobEnd<FileFrom<S>>
     ensures told { OfDocket (image_at S.Start) (λ docket. TellsOf docket (HasTold (text_of_calendar docket.court docket.history from to) (W.contents w.old) (W.contents w.new)) result) }
+    ensures unopened { IfUnopened result (W.contents w.new ≡ W.contents w.old) }
 {
     let rows = match ready(rt, path, screen, e) {
         Ok(rows) => rows,

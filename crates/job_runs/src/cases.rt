@@ -6,7 +6,7 @@ ghost use Rattle.docket_history.specs.declared.row.CaseRow.{CaseRow};
 ghost use Rattle.file_questions.specs.CaseLists.{ListsCases, cases_told};
 ghost use Rattle.job_runs.specs.Asked.{IfUnasked, IsAsked};
 ghost use Rattle.job_runs.specs.Tells.{HasListed, SaysMissing, no_such_case};
-ghost use Rattle.job_runs.specs.Jobs.{OfDocket, TellsOf};
+ghost use Rattle.job_runs.specs.Jobs.{IfUnopened, OfDocket, TellsOf};
 
 use crate::case::NO_SUCH_CASE;
 use crate::opening::ready;
@@ -46,6 +46,7 @@ fn end_listed<S: Start, E: Write>(
     ensures told { (docket : Told) (cases : List CaseRow) (before after : Option (List ℕ))
         → IsAsked docket (ListsCases cases before after) ended → IfUnasked (after ≡ before) ended
         → TellsOf docket (HasListed cases before after) result }
+    ensures unopened { (before after : Option (List ℕ)) → IfUnasked (after ≡ before) ended → IfUnopened result (after ≡ before) }
     ensures missing { SaysMissing no_such_case result.status (E.contents e.old) (E.contents e.new) }
 {
     match done_on_docket(alloc, path, ended, e) {
@@ -66,6 +67,7 @@ pub(crate) fn tell_cases<S: Start, P: Write + Drop, W: Write, E: Write>(
     e: &mut E,
 ) -> JobEnd<FileFrom<S>>
     ensures told { OfDocket (image_at S.Start) (λ docket. TellsOf docket (HasListed (cases_told docket.history (option_copied wanted.now.label) (option_copied wanted.now.party)) (W.contents w.old) (W.contents w.new)) result) }
+    ensures unopened { IfUnopened result (W.contents w.new ≡ W.contents w.old) }
     ensures missing { SaysMissing no_such_case result.status (E.contents e.old) (E.contents e.new) }
 {
     let rows = match ready(rt, path, screen, e) {

@@ -13,7 +13,8 @@ ghost use Rattle.docket_store.specs.Left.{LeavesRows};
 ghost use Rattle.file_changes.specs.Runs.{Answers, LeavesPrefix};
 ghost use Rattle.file_dockets.specs.Works.{WorksTo};
 ghost use Rattle.job_runs.specs.Tells.{last_line};
-ghost use Rattle.job_runs.specs.Jobs.{FailsOr, IsHonest, OfDocket, Runs, RunsInMemory, new_docket};
+ghost use Rattle.job_runs.specs.Asked.{IfUnasked};
+ghost use Rattle.job_runs.specs.Jobs.{FailsOr, IfUnopened, IsHonest, OfDocket, Runs, RunsInMemory, new_docket};
 ghost use Rattle.job_runs.specs.Runs.{TellsEnd};
 
 use crate::opening::ready;
@@ -81,6 +82,7 @@ fn run_told<S: Start, V: Watch + Drop, P: Write + Drop, R: Read, W: Write + Drop
     ensures prefix { (told : Told) → IsDocket told.court told.history → HoldDocket (image_at S.Start) told.court told.history
         → IfOk result.0 (λ done. IsCleanLeft done.left → IfSome (R.remaining r.old) (λ input.
         LeavesPrefix (LeavesRows done.left) told input (W.contents w) (W.contents result.1))) }
+    ensures unwritten { IfUnasked (W.contents result.1 ≡ W.contents w) result.0 }
 {
     let mut answers = LineCounter::new(rt, w, screen);
     let ended = run_on_file(rt, path, start, rows, r, &mut answers);
@@ -101,6 +103,7 @@ pub(crate) fn run_commands<S: Start, P: Write + Drop, R: Read, W: Write + Drop, 
 ) -> (JobEnd<FileFrom<S>>, W)
     ensures runs { OfDocket (image_at S.Start) (λ docket. IfSome (R.remaining r.old) (λ input.
         FailsOr result.0 (λ left. Runs (LeavesRows left) docket input (W.contents w) (W.contents result.1) result.0.status))) }
+    ensures unopened { IfUnopened result.0 (W.contents result.1 ≡ W.contents w) }
     ensures untold { cow_str_bytes result.0.text ≡ [] }
 {
     let rows = match ready(rt, path, opening, e) {

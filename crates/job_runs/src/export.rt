@@ -1,12 +1,12 @@
 //! The deadlines that fall due by the docket in a file, in a format of another program.
-ghost use Rattle.std.specs.Prelude.{[], ℕ, ℤ, List, Option};
+ghost use Rattle.std.specs.Prelude.{◌≡◌, [], ℕ, ℤ, List, Option};
 ghost use Rattle.sqlite_wal.specs.Files.{image_at};
 ghost use Rattle.court_days.specs.Court.{CourtSettings};
 ghost use Rattle.docket_history.specs.Histories.{History};
 ghost use Rattle.file_questions.specs.Exports.{ExportsTo, text_of_export};
 ghost use Rattle.file_questions.specs.declared.exporting.Export.{Export as Wanted};
 ghost use Rattle.job_runs.specs.Tells.{HasTold};
-ghost use Rattle.job_runs.specs.Jobs.{OfDocket, TellsOf};
+ghost use Rattle.job_runs.specs.Jobs.{IfUnopened, OfDocket, TellsOf};
 
 use crate::opening::ready;
 use court_days::Day;
@@ -53,6 +53,7 @@ fn tell_written<S: Start, P: Write + Drop, W: Write, E: Write>(
     e: &mut E,
 ) -> JobEnd<FileFrom<S>>
     ensures told { OfDocket (image_at S.Start) (λ docket. TellsOf docket (HasTold (text_of_export export.now docket.court docket.history) (W.contents w.old) (W.contents w.new)) result) }
+    ensures unopened { IfUnopened result (W.contents w.new ≡ W.contents w.old) }
 {
     let rows = match ready(rt, path, screen, e) {
         Ok(rows) => rows,
@@ -80,6 +81,7 @@ pub(crate) fn tell_export<S: Start, P: Write + Drop, W: Write, E: Write>(
 ) -> JobEnd<FileFrom<S>>
     ensures told { (stamp : ℤ) × OfDocket (image_at S.Start) (λ docket. TellsOf docket
         (HasTold (text_of_export (record { from = from; to = to; form = form; stamp = stamp }) docket.court docket.history) (W.contents w.old) (W.contents w.new)) result) }
+    ensures unopened { IfUnopened result (W.contents w.new ≡ W.contents w.old) }
 {
     let export = Export {
         from,

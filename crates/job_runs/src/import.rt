@@ -1,14 +1,15 @@
 //! A table of days, entered in the calendar of the docket in a file by one command.
-ghost use Rattle.std.specs.Prelude.{◌≡◌, ◌≢◌, ◌∷◌, ◌++◌, [], List, IfOk, IfSome, MatchOption, MatchResult, None, Ok, Err, string_bytes};
+ghost use Rattle.std.specs.Prelude.{◌≡◌, ◌≢◌, ◌∷◌, ◌++◌, [], ℕ, List, Option, IfErr, IfOk, IfSome, OnOk, None, Ok, Err, string_bytes};
 ghost use Rattle.std.specs.Cow.{cow_str_bytes};
 ghost use Rattle.sqlite_wal.specs.Files.{image_at};
 ghost use Rattle.sqlite.specs.Files.{IsCleanLeft};
 ghost use Rattle.docket_command.specs.declared.new_day.NewDay.{NewDay as Entered};
-ghost use Rattle.day_tables.specs.CalendarCsv.{IsTable};
+ghost use Rattle.day_tables.specs.CalendarCsv.{HasFault, IsTable};
 ghost use Rattle.docket_wire.specs.Texts.{reply_text};
 ghost use Rattle.docket_store.specs.Left.{LeavesRows};
-ghost use Rattle.job_runs.specs.Imports.{TellsAnswer, TellsApplied};
-ghost use Rattle.job_runs.specs.Jobs.{Applies, FailsOr, Imports, OfDocket, import_command};
+ghost use Rattle.job_ends.specs.Ends.{TellsNothing};
+ghost use Rattle.job_runs.specs.Imports.{TellsAnswer, TellsApplied, TellsFault, fault_line};
+ghost use Rattle.job_runs.specs.Jobs.{AnswersLast, Applies, FailsOr, IfUnopened, Imports, OfDocket, import_command};
 
 use crate::opening::ready;
 use day_tables::{CsvFault, read_calendar_csv};
@@ -20,6 +21,7 @@ use job_ends::{JobEnd, Status, done_on_docket, failed, failed_by, no_memory, wri
 use sqlite::{FileFrom, Start};
 use sqlite_disk::Disk;
 use std::alloc::{AllocError, Global};
+use std::io;
 use std::io::{Read, Write};
 
 /// The one command that enters the days.
@@ -88,6 +90,7 @@ fn import_by<S: Start, P: Write + Drop, E: Write>(
     e: &mut E,
 ) -> JobEnd<FileFrom<S>>
     ensures applied { OfDocket (image_at S.Start) (λ docket. FailsOr result (λ left. Applies (LeavesRows left) docket command.now (cow_str_bytes result.text) result.status)) }
+    ensures unopened { IfUnopened result (TellsNothing (cow_str_bytes result.text) result.status) }
 {
     let rows = match ready(rt, path, screen, e) {
         Ok(rows) => rows,
@@ -100,20 +103,37 @@ fn import_by<S: Start, P: Write + Drop, E: Write>(
     }
 }
 
+/// The line that tells why a text is no table.
+fn fault_line(alloc: Global, fault: CsvFault) -> Result<String, AllocError>
+    ensures { IfOk result (λ line. string_bytes line ≡ fault_line fault) }
+{
+    format!(in alloc; "{fault}\n")
+}
+
 /// Tells why the input is no table.
 fn refuse<W: Write, E: Write>(alloc: Global, fault: CsvFault, w: &mut W, e: &mut E) -> Status
-    ensures { result ≢ Status.Done }
+    ensures { (input : Option (List ℕ)) → IfSome input (λ bytes. fault ≢ CsvFault.NoMemory → HasFault bytes fault)
+        → TellsFault input (W.contents w.old) (W.contents w.new) result }
 {
-    match fault {
-        CsvFault::NoMemory => no_memory(e),
-        CsvFault::BadRow(_) | CsvFault::BadCsv => match format!(in alloc; "{fault}\n") {
-            Ok(line) => write_text(alloc, line.as_str(), Status::SomeBad, w, e),
-            Err(_) => no_memory(e),
-        },
+    if let CsvFault::NoMemory = fault {
+        return no_memory(e);
+    }
+    match fault_line(alloc, fault) {
+        Ok(line) => write_text(alloc, line.as_str(), Status::SomeBad, w, e),
+        Err(_) => no_memory(e),
     }
 }
 
-/// The command that enters the days of the input's table, or how the job ends.
+/// All bytes of the input.
+fn read_all<R: Read>(alloc: Global, r: &mut R) -> io::Result<Vec<u8>>
+    ensures { IfOk result (λ bytes. IfSome (R.remaining r.old) (λ input. bytes.items ≡ input)) }
+{
+    let mut bytes = Vec::new(alloc);
+    r.read_to_end(&mut bytes)?;
+    Ok(bytes)
+}
+
+/// The command that enters the days of the input's table; or how the job ends, once it is told why.
 fn read_import<R: Read, W: Write, E: Write>(
     alloc: Global,
     key: &str,
@@ -121,14 +141,18 @@ fn read_import<R: Read, W: Write, E: Write>(
     w: &mut W,
     e: &mut E,
 ) -> Result<Command, Status>
-    ensures read { MatchResult result
-        (λ command. IfSome (R.remaining r.old) (λ input. (days : List Entered) × IsTable input days × (command ≡ import_command key.now days)))
-        (λ status. status ≢ Status.Done) }
+    ensures read { IfOk result
+        (λ command. IfSome (R.remaining r.old) (λ input. (days : List Entered) × IsTable input days × (command ≡ import_command key.now days))) }
+    ensures silent { OnOk result (w.new ≡ w.old) }
+    ensures refused { IfErr result (TellsFault (R.remaining r.old) (W.contents w.old) (W.contents w.new)) }
 {
-    let mut table = Vec::new(alloc);
-    if let Err(error) = r.read_to_end(&mut table) {
-        return Err(failed_by(alloc, e, error.kind(), "the input could not be read"));
-    }
+    let table = match read_all(alloc, r) {
+        Ok(table) => table,
+        Err(error) => {
+            let what = "the input could not be read";
+            return Err(failed_by(alloc, e, error.kind(), what));
+        }
+    };
     match read_calendar_csv(alloc, table.as_slice()) {
         Ok(days) => match import_of(alloc, key, days) {
             Ok(command) => Ok(command),
@@ -150,8 +174,9 @@ pub(crate) fn import_days<S: Start, P: Write + Drop, R: Read, W: Write, E: Write
     w: &mut W,
     e: &mut E,
 ) -> JobEnd<FileFrom<S>>
-    ensures entered { OfDocket (image_at S.Start) (λ docket. IfSome (R.remaining r.old) (λ input.
-        MatchOption result.left ((result.status ≢ Status.Done) × (cow_str_bytes result.text ≡ []))
+    // Until the files are let go nothing goes out but the line of a fault.
+    ensures last { AnswersLast (R.remaining r.old) (W.contents w.old) (W.contents w.new) result }
+    ensures entered { OfDocket (image_at S.Start) (λ docket. IfSome (R.remaining r.old) (λ input. IfSome result.left
         (λ left. IsCleanLeft left → Imports docket key.now input left (cow_str_bytes result.text) result.status))) }
 {
     match read_import(rt.alloc(), key, r, w, e) {

@@ -9,6 +9,7 @@ mod check;
 mod command;
 mod court_calendar;
 mod create;
+mod ending;
 mod explain;
 mod export;
 mod holdings;
@@ -22,6 +23,7 @@ mod rules;
 mod serving;
 mod sheet;
 
+pub use ending::{fail_unread, finish};
 pub use job::run_job;
 pub use job_ends::{JobEnd, Status};
 pub use progress::Progress;

@@ -1,5 +1,5 @@
 //! The docket in a file, served by HTTP.
-ghost use Rattle.std.specs.Prelude.{◌≡◌, [], if◌then◌else◌, unwrap_or};
+ghost use Rattle.std.specs.Prelude.{◌≡◌, [], if◌then◌else◌, unwrap_or, MatchResult};
 ghost use Rattle.std.specs.Cow.{cow_str_bytes};
 ghost use Rattle.file_serving.specs.declared.serving.Shown.TheVariants.{NoPages, Guarded, Pages};
 
@@ -74,12 +74,9 @@ impl fmt::Display for NotListening {
 }
 
 /// How the serving of a docket ended.
-fn serving_told<E: Write>(
-    alloc: Global,
-    port: u16,
-    end: Result<(), ServeEnd>,
-    e: &mut E,
-) -> Status {
+fn serving_told<E: Write>(alloc: Global, port: u16, end: Result<(), ServeEnd>, e: &mut E) -> Status
+    ensures { MatchResult end (λ _. result ≡ Status.Done) (λ _. result ≡ Status.Failed) }
+{
     match end {
         Ok(()) => Status::Done,
         Err(ServeEnd::NotListening(kind)) => failed(alloc, e, &NotListening { port, kind }),

@@ -4,8 +4,7 @@ use crate::script::{Step, Way};
 use crate::streams::{Pieces, Taker};
 use anyhow::Error;
 use docket_jobs::read_job;
-use job_runs::{Progress, Status, run_job};
-use line_io::write_bytes;
+use job_runs::{Progress, Status, finish, run_job};
 use sqlite::Unknown;
 use std::alloc::{AllocError, Global};
 
@@ -49,37 +48,23 @@ fn located_outcome(alloc: Global, wanted: Outcome, folder: &str) -> Result<Outco
     })
 }
 
-/// Prints the help that the words ask for, or what is wrong with them.
-fn explain_words(
-    alloc: Global,
-    error: &clap::Error,
-    output: &mut Taker,
-    errors: &mut Taker,
-) -> Result<Status, AllocError> {
-    let text = format!(in alloc; "{error}")?;
-    if error.use_stderr() {
-        let _ = write_bytes(errors, text.as_bytes());
-        return Ok(Status::BadLine);
-    }
-    let _ = write_bytes(output, text.as_bytes());
-    Ok(Status::Done)
-}
-
-/// Does what the words ask for.
+/// Does what the words ask for, and returns the exit status.
 fn done(
     rt: &HostRuntime,
     words: &[String],
     input: &mut Pieces<'_>,
     output: &mut Taker,
     errors: &mut Taker,
-) -> Result<Status, AllocError> {
-    let job = match read_job(rt.alloc(), words) {
-        Ok(job) => job,
-        Err(error) => return explain_words(rt.alloc(), &error, output, errors),
-    };
+) -> u8 {
     let untold: Progress<Taker> = Progress::untold();
-    let (end, output) = run_job(rt, Unknown, job, untold, input, output, errors);
-    Ok(end.finish(rt.alloc(), output, errors))
+    let (end, output) = match read_job(rt.alloc(), words) {
+        Ok(job) => {
+            let (end, output) = run_job(rt, Unknown, job, untold, input, output, errors);
+            (Ok(end), output)
+        }
+        Err(error) => (Err(error), output),
+    };
+    finish(rt.alloc(), end, output, errors)
 }
 
 /// The first difference from what is wanted of the words, over these ends.
@@ -91,7 +76,7 @@ fn once(
     wanted: &Outcome,
 ) -> Result<Option<String>, AllocError> {
     let mut errors = Taker::whole(rt.alloc());
-    let status = done(rt, words, &mut input, &mut output, &mut errors)?.code();
+    let status = done(rt, words, &mut input, &mut output, &mut errors);
     let came = Outcome {
         output: output.taken,
         errors: errors.taken,

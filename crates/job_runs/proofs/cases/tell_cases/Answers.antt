@@ -9,6 +9,11 @@ returns-clause-told g c docket is files =
     c.end_listed.ensures.told docket _ _ _ (ended.ensures.told docket is files, ended.ensures.stays docket files)
     (unbegun ended.result (λ it. it.outcome) _ _ (ap g.W.Write.contents) ended.ensures.unwritten)
 
+pub returns-clause-unopened : goal.returns-clause-unopened
+returns-clause-unopened g c =
+    let ended = c.cases_on_file-ended in
+    c.end_listed.ensures.unopened _ _ (unbegun ended.result (λ it. it.outcome) _ _ (ap g.W.Write.contents) ended.ensures.unwritten)
+
 pub returns-clause-missing : goal.returns-clause-missing
 returns-clause-missing g c =
     said_missing no_such_case c.end_listed.result.status c.end_listed.result.status (g.E.Write.contents c.args.e.now) (g.E.Write.contents c.ready.new.e) (g.E.Write.contents c.end_listed.new.e)

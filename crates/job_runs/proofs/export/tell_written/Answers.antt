@@ -9,7 +9,7 @@ use Rattle.file_dockets.specs.Keeping.{rows_told}
 use Rattle.docket_store.specs.Left.{LeavesRows}
 use Rattle.job_ends.specs.Ends.{TellsNothing}
 use Rattle.job_runs.specs.Tells.{HasTold}
-use Rattle.job_runs.proofs.EndLemmas.{answered, some_left, unwritten}
+use Rattle.job_runs.proofs.EndLemmas.{answered, some_left, unbegun, unopened, unwritten}
 use Rattle.job_runs.proofs.export.tell_written.Goals as goal
 
 pub returns-in-Ok-done_on_docket : goal.returns-in-Ok-done_on_docket
@@ -25,6 +25,7 @@ returns-in-Ok-done_on_docket g c = record {
       (c.export_on_file-ended.ensures.told docket is files) (c.export_on_file-ended.ensures.stays docket files) c.in-Ok-done_on_docket.ensures.done (λ lists.
       subst₂ (λ text status. HasTold wanted before after text status) (sym (ap cow_str_bytes c.with.ensures.text ∙ c.of-in-Ok-done_on_docket.ensures.text))
       (sym (c.with.ensures.status ∙ c.of-in-Ok-done_on_docket.ensures.status)) (c.export_told.ensures c.args.export.now docket.court docket.history before after lists)));
+  unopened = some_left c.with.result.left c.in-Ok-done_on_docket.left (g.W.Write.contents c.export_on_file-ended.new.writer ≡ g.W.Write.contents c.args.w.now) (λ left. Unit {0}) c.with.ensures.left tt;
 }
 
 pub returns-in-Err-done_on_docket : goal.returns-in-Err-done_on_docket
@@ -39,4 +40,7 @@ returns-in-Err-done_on_docket g c = record {
       (c.export_on_file-ended.ensures.stays docket files) c.export_on_file-ended.ensures.unwritten (λ same.
       let none : HasFront before after wanted = record { out = []; lost = wanted; whole = refl; appends = subst (λ a. Appends before a []) (ap g.W.Write.contents (sym same)) (Appends-nil before) } in
       subst (λ status. HasTold wanted before after (cow_str_bytes c.in-Err-done_on_docket.end.text) status) (sym ended.0.0) (none, ended.0.1)) ended.1 ended.0;
+  unopened =
+      unopened c.export_on_file-ended.result (λ it. it.left) (λ it. it.outcome) _ c.in-Err-done_on_docket.end.left
+      (unbegun c.export_on_file-ended.result (λ it. it.outcome) _ _ (ap g.W.Write.contents) c.export_on_file-ended.ensures.unwritten) c.in-Err-done_on_docket.ensures.done.1;
 }
