@@ -161,7 +161,7 @@ fn case_command<'a>(alloc: Global) -> Result<Command<'a>, AllocError>
     subcommand(
         alloc,
         "case",
-        "Tell a case with its parties, entries and deadlines",
+        "Print a case with its parties, entries and deadlines",
         CASE_HELP,
     )
     .arg(needed_option(alloc, "db", "FILE", FILE_TEXT))?
@@ -171,7 +171,7 @@ fn case_command<'a>(alloc: Global) -> Result<Command<'a>, AllocError>
 fn cases_command<'a>(alloc: Global) -> Result<Command<'a>, AllocError>
     ensures { IfOk result (HasLine cases_line) }
 {
-    subcommand(alloc, "cases", "Tell the cases, a line each", CASES_HELP)
+    subcommand(alloc, "cases", "Print the cases, a line each", CASES_HELP)
         .arg(needed_option(alloc, "db", "FILE", FILE_TEXT))?
         .arg(option(alloc, "label", "LABEL", "Only the case with this label"))?
         .arg(option(
@@ -188,7 +188,7 @@ fn calendar_command<'a>(alloc: Global) -> Result<Command<'a>, AllocError>
     subcommand(
         alloc,
         "calendar",
-        "Tell the deadlines that fall due from one day to another",
+        "Print the deadlines that fall due from one day to another",
         CALENDAR_HELP,
     )
     .arg(needed_option(alloc, "db", "FILE", FILE_TEXT))?
@@ -202,7 +202,7 @@ fn export_command<'a>(alloc: Global) -> Result<Command<'a>, AllocError>
     subcommand(
         alloc,
         "export",
-        "Tell what falls due, or a docket sheet, in a format of other programs",
+        "Write what falls due, or a docket sheet, in a format of other programs",
         EXPORT_HELP,
     )
     .arg(needed_option(alloc, "db", "FILE", FILE_TEXT))?
@@ -223,7 +223,7 @@ fn explain_command<'a>(alloc: Global) -> Result<Command<'a>, AllocError>
     subcommand(
         alloc,
         "explain",
-        "Tell the steps by which the end of a deadline was found",
+        "Print the steps by which the end of a deadline was found",
         EXPLAIN_HELP,
     )
     .arg(option(alloc, "db", "FILE", FILE_TEXT))?
@@ -237,7 +237,7 @@ fn check_command<'a>(alloc: Global) -> Result<Command<'a>, AllocError>
     subcommand(
         alloc,
         "check",
-        "Tell whether the tables of a docket are sound",
+        "Check whether the tables of a docket are sound",
         CHECK_HELP,
     )
     .arg(needed_option(alloc, "db", "FILE", FILE_TEXT))
@@ -315,7 +315,7 @@ fn rules_command<'a>(alloc: Global) -> Result<Command<'a>, AllocError>
     subcommand(
         alloc,
         "rules",
-        "Tell the rules by which deadlines run",
+        "Print the rules by which deadlines run",
         RULES_HELP,
     )
     .arg(option(alloc, "db", "FILE", FILE_TEXT))
@@ -327,7 +327,7 @@ fn holidays_command<'a>(alloc: Global) -> Result<Command<'a>, AllocError>
     subcommand(
         alloc,
         "holidays",
-        "Tell the statutory holidays of a year, or the court calendar of some days",
+        "Print the statutory holidays of a year, or the court calendar of some days",
         HOLIDAYS_HELP,
     )
     .arg(option(alloc, "db", "FILE", FILE_TEXT))?

@@ -1,4 +1,4 @@
-//! What `--help` tells of each command.
+//! What `--help` prints of each command.
 
 pub(crate) const COUNT_HELP: &str = "\
 Each line is answered by one line. Lines that enter something answer `ok`:
@@ -22,7 +22,7 @@ Lines that ask answer the end of a period, or the closing of the office:
   closing DAY     when the clerk's office closes on DAY, as HH:MM
 DAY is YYYY-MM-DD from 2000-01-01 to 2099-12-31, MOMENT is YYYY-MM-DDTHH:MM+HH:00, ZONE is as
 EST5EDT,M3.2.0,M11.1.0, and N is 1 to 3650 days, 120 months or 8760 hours. What would be new
-where 4,000 days, spans and short days stand answers `full`, an empty line an empty line, and
+where 4,000 days, spans and short days are entered answers `full`, an empty line an empty line, and
 any other line `bad`.
 
 Exit status: 0 all lines were answered, 1 one of them with `bad` or `full`, 2 bad command
@@ -66,14 +66,14 @@ A command that is sent again under its key has the reply that it had, and acts o
 refused, or a line that is no command, changes nothing:
   {\"name\":\"Exists\",\"refused\":8}
   {\"fault\":4,\"field\":\"case\",\"name\":\"MissingField\"}
-With --db the docket is that in the file, and an answer is written when its command stands in the
+With --db the docket is that in the file, and an answer is written once its command is stored in the
 file; zone and closing time are the docket's own:
   docketctl run --db court.db < commands.jsonl
 Without it the docket is kept in a database in memory and ends with the program. ZONE is as
 EST5EDT,M3.2.0,M11.1.0: hours west of Greenwich, and the dates on which clocks change. HH:MM is
 from 00:00 to 23:59.
-Where the input is a file and the answers go to no terminal, a terminal that shows standard error
-is told once a second how many lines were answered.
+Where the input is a file and the answers go to no terminal, standard error has once a second, on a
+terminal, how many lines were answered.
 
 Exit status: 0 all commands were accepted, 1 a line was refused or no command, 2 bad command
 line, 3 reading, writing, memory or the database failed.";
@@ -83,12 +83,12 @@ Standard input is a table of comma-separated values: first the line `kind,day,na
 1,000 days, each of the kind federal, state or closed:
   kind,day,name
   state,2027-04-19,Patriots' Day
-The days that do not stand yet are entered by one command under KEY, all or none; its answer tells
-how many they were, and sent again it has the same answer and acts once:
+The new days are entered by one command under KEY, all or none. Its answer has their number. Sent
+again, it has the same answer and acts once:
   docketctl import --db court.db --key holidays-2027 < holidays.csv
   {\"number\":1}
-A table that is none is told, by the number of its first bad row behind the first line, and nothing is
-entered:
+Nothing of a bad table is entered. The answer has the number of its first bad row after the first
+line:
   bad row 1
   bad csv
 
@@ -96,7 +96,7 @@ Exit status: 0 the days are entered, 1 the table is bad or the command was refus
 line, 3 reading, writing, memory or the database failed.";
 
 pub(crate) const CASE_HELP: &str = "\
-A case is told with its parties, its entries, and where each of its deadlines stands:
+A case is printed with its parties, its entries, and the state of each of its deadlines:
   docketctl case --db court.db 1
   case 1 1:25-cv-00001 filed 2025-06-02
   Roe v. Doe
@@ -105,35 +105,35 @@ A case is told with its parties, its entries, and where each of its deadlines st
   deadline 1 party 1 12(a)(1)(A)(i) due 2025-07-07 24:00 17:00
 NUMBER is from 1 to 4294967295, without a leading zero.
 
-Exit status: 0 the case was told, 1 there is no such case, 2 bad command line, 3 reading, writing,
+Exit status: 0 the case was printed, 1 there is no such case, 2 bad command line, 3 reading, writing,
 memory or the database failed.";
 
 pub(crate) const CASES_HELP: &str = "\
 Each case has a line: its number, its label, the day on which it was filed, and its caption:
   docketctl cases --db court.db --party Roe
   case 1 1:25-cv-00001 filed 2025-06-02 Roe v. Doe
-Without --label and --party all cases are told, in the order of their numbers. TEXT is looked for as it
-stands, in large and small letters: `Roe` is in `John Roe`, and `roe` is not.
+Without --label and --party all cases are printed, by their numbers. TEXT is looked for as it is
+written, in large and small letters: `Roe` is in `John Roe`, and `roe` is not.
 
-Exit status: 0 a case was told, 1 there is none, 2 bad command line, 3 reading, writing, memory or
+Exit status: 0 a case was printed, 1 there is none, 2 bad command line, 3 reading, writing, memory or
 the database failed.";
 
 pub(crate) const CALENDAR_HELP: &str = "\
 Each deadline that runs and falls due from FROM to TO, both included, has a line: its day, its time
 of the day and the closing of the clerk's office, the case, the deadline's number there, its rule,
 and the party. A deadline of a day runs to its midnight for electronic filing, and to the closing
-for other filing; one of hours ends at an instant. The last line tells how many there are:
+for other filing; one of hours ends at an instant. The last line has their number:
   docketctl calendar --db court.db 2025-07-01 2025-07-31
   2025-07-07 10:00 --:--       1    5 order               -
   2025-07-07 24:00 17:00       1    4 12(a)(1)(A)(i)      1
   end 2
 FROM and TO are days from 1980-01-01 to 3999-12-31, and TO is not before FROM.
 
-Exit status: 0 the calendar was told, 2 bad command line, 3 writing, memory or the database failed.";
+Exit status: 0 the calendar was printed, 2 bad command line, 3 writing, memory or the database failed.";
 
 pub(crate) const EXPORT_HELP: &str = "\
 The deadlines of `docketctl calendar`, those that run and fall due from FROM to TO, both included, are
-told in the format that FORM names:
+written in the format that FORM names:
   ics   iCalendar (RFC 5545): an event a deadline, a last day as a date and a moment as UTC, with why
         the deadline is what it is in the description
   html  a page that prints well
@@ -142,11 +142,11 @@ told in the format that FORM names:
   docketctl export --db court.db 2025-07-01 2025-07-31 --as ics > july.ics
 FROM and TO are days from 1980-01-01 to 3999-12-31, and TO is not before FROM.
 
-With --case, and without FROM and TO, the docket sheet of a case is told, as a page alone:
+With --case, and without FROM and TO, the docket sheet of a case is written, as a page alone:
   docketctl export --db court.db --case 1 --as html > case-1.html
 NUMBER is from 1 to 4294967295, without a leading zero.
 
-Exit status: 0 the deadlines or the sheet were told, 1 there is no such case, 2 bad command line,
+Exit status: 0 the deadlines or the sheet were written, 1 there is no such case, 2 bad command line,
 3 writing, memory or the database failed.";
 
 pub(crate) const EXPLAIN_HELP: &str = "\
@@ -166,13 +166,13 @@ CASE and DEADLINE are numbers from 1 to 4294967295, without a leading zero.
 With no file, standard input has the lines of `docketctl count`. A line that asks for the end of a
 period, of days, months or hours or by a rule, is answered by its steps, and any other as there.
 
-Exit status: 0 the steps were told, 1 there is no such case or deadline, or a line was answered with
+Exit status: 0 the steps were printed, 1 there is no such case or deadline, or a line was answered with
 `bad` or `full`, 2 bad command line, 3 reading, writing, memory or the database failed.";
 
 pub(crate) const CHECK_HELP: &str = "\
 A file that comes from a backup or from another program is read whole, table by table, and its rows
-stay as they are. Where each table is sound, that is told, and how much each holds: the rows of the
-calendar that stand, the local rules, the deadlines by where they stand, and a receipt for each
+stay as they are. Where all tables are sound, `sound` is printed, and how much each holds: the rows of
+the calendar in force, the local rules, the deadlines by their state, and a receipt for each
 accepted command:
   docketctl check --db court.db
   sound
@@ -198,9 +198,9 @@ The docket in FILE is copied whole to COPY, a file that must not be there yet:
   docketctl backup --db court.db --to copy.db
   copied
 The docket is held while it is copied, so that no command comes between, and the copy is synced to the
-disk before it is told. It is never put over a file that is there. A docket that another program serves
-is told as in use, and then there is no copy. `docketctl check` tells whether the tables of a copy are
-sound.
+disk before `copied` is printed. It is never put over a file that is there. A docket that another program
+serves is reported as in use, and then there is no copy. `docketctl check` says whether the tables of a
+copy are sound.
 
 Exit status: 0 the docket was copied, 2 bad command line, 3 it was not, which standard error says in
 one line.";
@@ -212,7 +212,7 @@ it up, then:
   migrated
 The tables are judged as by `docketctl check`; where one is not sound, nothing is changed. The change
 is made in one step: a power failure leaves the docket in version 1, and then the command is given
-again, or in version 2. No case, deadline or answer changes, and `docketctl check` tells `version 2`
+again, or in version 2. No case, deadline or answer changes, and `docketctl check` prints `version 2`
 afterwards.
 
 Exit status: 0 the docket is in version 2, 2 bad command line, 3 it is not: the file holds no sound
@@ -265,7 +265,7 @@ with the clerk or by other means adds three days (Rule 6(d)), whether a Rule 12 
 and whether the court may extend it. A time that the court orders has the period, the direction and
 the end that are entered with it.
 
-Exit status: 0 the rules were told, 2 bad command line, 3 writing, memory or the database failed, or
+Exit status: 0 the rules were printed, 2 bad command line, 3 writing, memory or the database failed, or
 there is no docket.";
 
 pub(crate) const HOLIDAYS_HELP: &str = "\
@@ -279,12 +279,12 @@ Saturday is observed on the Friday before, and one that falls on a Sunday on the
   2027-06-18 Fri Juneteenth (observed)
   2027-06-19 Sat Juneteenth
   and so on to 2027-12-31 Fri New Year's Day (observed)
-With --db the court calendar is told, from FROM to TO, both included: these holidays, and behind them
-what the court entered for these days. `row` stands before the number that `withdraw_calendar` wants:
+With --db the court calendar is printed, from FROM to TO, both included: these holidays, and after them
+what the court entered for these days. The number after `row` is that for `withdraw_calendar`:
   docketctl holidays --db court.db 2027-01-01 2027-01-31
   2027-01-01 Fri New Year's Day
   2027-01-18 Mon Martin Luther King Jr.'s Birthday
   row 3 closed 2027-01-05 Storm
 
-Exit status: 0 they were told, 2 bad command line, 3 reading, writing, memory or the database
+Exit status: 0 they were printed, 2 bad command line, 3 reading, writing, memory or the database
 failed.";
