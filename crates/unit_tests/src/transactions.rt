@@ -63,40 +63,50 @@ fn applied<S: Alter>(alloc: Global, docket: &mut Docket<S>, line: &str) -> Optio
     Some(reply.number)
 }
 
-/// A docket with one deadline.
-fn docket_with_deadline(alloc: Global) -> Option<Docket<MemStore>> {
+/// Roe is to answer a counterclaim by 2025-11-28.
+const COUNTERCLAIM: &str =
+    r#"{"do":"serve_pleading","key":"k5","case":1,"party":2,"kind":"counterclaim","basis":"private","served":"2025-11-01","method":"C"}"#;
+
+/// A motion of Doe is due on 2025-11-28, and the affidavit of Roe on 2025-12-05.
+const HEARING: &str =
+    r#"{"do":"notice_hearing","key":"k6","case":1,"party":1,"opponent":2,"hearing":"2025-12-12"}"#;
+
+/// A docket with three deadlines.
+fn docket_with_deadlines(alloc: Global) -> Option<Docket<MemStore>> {
     let mut docket = new_docket(alloc)?;
-    for line in [OPEN_CASE, ADD_DOE, SERVE_DOE] {
+    for line in [OPEN_CASE, ADD_DOE, ADD_ROE, COUNTERCLAIM, HEARING] {
         applied(alloc, &mut docket, line)?;
     }
     Some(docket)
 }
 
-/// The calendar of July behind a line.
-const JULY: &str = "\
-July
-2025-07-07 24:00 17:00       1    1 12(a)(1)(A)(i)      1
-end 1
+/// The calendar of the end of the year behind a line.
+const LISTED: &str = "\
+Due
+2025-11-28 24:00 17:00       1    1 12(a)(1)(B)         2
+2025-11-28 24:00 17:00       1    2 6(c)(1)             1
+2025-12-05 24:00 17:00       1    3 6(c)(2)             2
+end 3
 ";
 
 /// Whether the calendar fills the room, and the write behind it fails.
 fn is_cut_off<S: Alter>(alloc: Global, docket: &mut Docket<S>, room: usize) -> Option<bool> {
-    let (from, to) = (read_day(b"2025-07-01")?, read_day(b"2025-07-31")?);
-    let written = JULY.as_bytes().get(..room)?;
+    let (from, to) = (read_day(b"2025-11-01")?, read_day(b"2025-12-31")?);
+    let written = LISTED.as_bytes().get(..room)?;
     let taken = Vec::new(alloc);
     let mut writer = Limited { taken, room };
-    let listed = docket.calendar_after(b"July\n", from, to, &mut writer);
+    let listed = docket.calendar_after(b"Due\n", from, to, &mut writer);
     let is_failure = matches!(listed, Err(ListingEnd::WriteFailed));
     Some(is_failure && writer.taken.as_slice() == written)
 }
 
 #[test]
 fn failing_writers_leave_the_docket(rt: HostRuntime) -> Result<(), Fail> {
-    let mut docket = docket_with_deadline(rt.alloc()).ok_or("no docket")?;
-    for room in 0..JULY.len() {
+    let mut docket = docket_with_deadlines(rt.alloc()).ok_or("no docket")?;
+    for room in 0..LISTED.len() {
         let is_cut_off = is_cut_off(rt.alloc(), &mut docket, room);
         assert!(rt; is_cut_off == Some(true), "room for {room}");
     }
-    assert!(rt; applied(rt.alloc(), &mut docket, ADD_ROE) == Some(2));
+    assert!(rt; applied(rt.alloc(), &mut docket, SERVE_DOE) == Some(4));
     Ok(())
 }
