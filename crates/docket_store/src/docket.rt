@@ -261,7 +261,7 @@ impl<S: Alter> Docket<S> {
     pub fn apply(&mut self, command: &Command) -> Result<Reply, Fault>
         ensures court { self.new.court ≡ self.old.court }
         ensures answer { (h : History) → Stands S.Store self.old h → Applies S.Store self.new h command.now result }
-        // A closed docket takes no memory and touches no disk.
+        // A closed docket says so, and stays as it is.
         ensures closed { self.old.closed ≡ true → (result ≡ Err fault.Closed) × (self.new ≡ self.old) }
         // Of any docket, the command is written whole, with its receipt, or not at all.
         ensures any { (rows : Rows) (n : ℕ) (stored : List StoredEnd) → AreDocketRows self.old.court n stored rows → n < 2 ^ 62 → HoldsRows S.Store self.old.conn rows
