@@ -7,4 +7,5 @@ pub mod QuestionLemmas
 pub mod ReopeningLemmas
 pub mod RunLemmas
 pub mod SessionLemmas
+pub mod SoundLemmas
 pub mod StopLemmas

@@ -1,5 +1,5 @@
 -- What the making and the adopting of a docket leave of a database.
-use Rattle.std.specs.Prelude.{◌≡◌, ◌⊎◌, [], Result, Ok, Err, IsTrue}
+use Rattle.std.specs.Prelude.{◌≡◌, ◌⊎◌, ◌<◌, ◌^◌, ℕ, List, [], Result, Ok, Err, IsTrue}
 use Rattle.sqlite.specs.Tree.{Trees}
 use Rattle.sqlite.specs.Store.{Ghosts}
 use Rattle.sqlite.specs.State.{State, HasCleanDisk, IsUnchanged}
@@ -7,6 +7,7 @@ use Rattle.sqlite.specs.Held.{Held, state}
 use Rattle.court_days.specs.Court.{CourtSettings}
 use Rattle.docket_history.specs.Histories.{History}
 use Rattle.docket_columns.specs.declared.version.Version.TheVariants.{Second}
+use Rattle.docket_decisions.specs.declared.end_row.StoredEnd.{StoredEnd}
 use Rattle.docket_scan.specs.Dockets.{IsFoundOfDocket}
 use Rattle.docket_scan.specs.Finding.{AreSound, HasCause}
 use Rattle.docket_scan.specs.Holdings.{holdings_of}
@@ -15,6 +16,7 @@ use Rattle.docket_scan.specs.declared.fault.AdoptFault.{AdoptFault}
 use Rattle.docket_scan.specs.declared.fault.AdoptFault.TheVariants as adopt
 use Rattle.docket_scan.specs.declared.finding.FoundDocket.{FoundDocket}
 use Rattle.docket_scan.specs.declared.holdings.Holdings.{Holdings}
+use Rattle.docket_tables.specs.AnyRows.{AreDocketRows}
 use Rattle.docket_tables.specs.Recognition.{has_docket_table}
 use Rattle.docket_tables.specs.Layouts.{Rows}
 use Rattle.docket_tables.specs.Stands.{HoldsRows, IsImage, Lasts}
@@ -28,6 +30,10 @@ abbrev pub Spares : State → State → AdoptFault → Type 0
 Spares old new adopt.NoMemory = Unit {0}
 Spares old new adopt.StoreFailed = Unit {0}
 Spares old new _ = StaysOpen old new
+
+-- the rows are those of a docket's tables, to which a command can be applied
+abbrev pub TakeCommands : CourtSettings → Rows → Type 0
+TakeCommands court rows = (next_row : ℕ) × (stored : List StoredEnd) × AreDocketRows court next_row stored rows × (next_row < 2 ^ 62)
 
 module _ {S : Type 0} (g : Ghosts S) where
   -- what is left where no docket was made: a power failure leaves what it could leave before, or, where the database failed, the

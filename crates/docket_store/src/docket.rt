@@ -25,7 +25,7 @@ ghost use Rattle.docket_applying.specs.Applying.{IsDocket, StandsFor, Stands, Ap
 ghost use Rattle.docket_applying.specs.Causes.{IsClosedByWrite, IsClosedForCause, IsNotAccepted};
 ghost use Rattle.docket_store.specs.Causes.{IsCausedCreating, IsCausedOpening};
 ghost use Rattle.docket_store.specs.Migrating.{cause_of};
-ghost use Rattle.docket_store.specs.Opening.{IsAdopted, IsNotAdopted, IsNotMade, IsRejected, IsSoundDocket, IsSoundWith};
+ghost use Rattle.docket_store.specs.Opening.{IsAdopted, IsNotAdopted, IsNotMade, IsRejected, IsSoundDocket, IsSoundWith, TakeCommands};
 ghost use Rattle.docket_store.specs.declared.creating.CreateFault.TheVariants.{NotEmpty};
 ghost use Rattle.docket_applying.specs.declared.fault.Fault.TheVariants as fault;
 
@@ -85,6 +85,9 @@ impl<S: Alter> Docket<S> {
         ensures fault { IfErr result (λ returned. IsNotMade S.Store conn returned.connection court returned.fault) }
         ensures cause { IfErr result (λ returned. HasCleanDisk (state S.Store returned.connection)
             → IsCausedCreating (state S.Store conn) (state S.Store returned.connection) returned.failure returned.fault) }
+        ensures clean { MatchResult result
+            (λ docket. doubt (state S.Store conn).is_clean ≤ doubt (state S.Store docket.conn).is_clean)
+            (λ returned. doubt (state S.Store conn).is_clean ≤ doubt (state S.Store returned.connection).is_clean) }
     {
         let mut connection = conn;
         let mut failure = None;
@@ -119,6 +122,9 @@ impl<S: Alter> Docket<S> {
         // Of any database, the docket is that of sound tables, and a fault tells why there is none.
         ensures told { MatchResult result (λ docket. IsSoundDocket S.Store conn docket)
             (λ returned. IsRejected S.Store conn returned.connection returned.fault) }
+        // Rows that the connection held, be they of a history or of none, are ones to which commands can be applied.
+        ensures rows { (rows : Rows) → HoldsRows S.Store conn rows
+            → IfOk result (λ docket. HasCleanDisk (state S.Store docket.conn) → TakeCommands docket.court rows) }
         // Without a court there is no docket, and the connection comes back as it was.
         ensures empty { has_named conn.schema table.Court ≡ false
             → IsErrAnd result (λ returned. (returned.fault ≡ Empty) × (returned.connection ≡ conn)) }
@@ -155,6 +161,8 @@ impl<S: Alter> Docket<S> {
             → IfOk result (λ found. HasCleanDisk (state S.Store found.0.conn) → found.1 ≡ holdings_in court h) }
         ensures told { MatchResult result (λ found. IsSoundWith S.Store conn found.0 found.1)
             (λ returned. IsRejected S.Store conn returned.connection returned.fault) }
+        ensures rows { (rows : Rows) → HoldsRows S.Store conn rows
+            → IfOk result (λ found. HasCleanDisk (state S.Store found.0.conn) → TakeCommands found.0.court rows) }
         ensures empty { has_named conn.schema table.Court ≡ false
             → IsErrAnd result (λ returned. (returned.fault ≡ Empty) × (returned.connection ≡ conn)) }
         // The database failed only for a cause.
@@ -258,7 +266,7 @@ impl<S: Alter> Docket<S> {
     pub fn apply(&mut self, command: &Command) -> Result<Reply, Fault>
         ensures court { self.new.court ≡ self.old.court }
         ensures answer { (h : History) → Stands S.Store self.old h → Applies S.Store self.new h command.now result }
-        // A closed docket takes no memory and touches no disk.
+        // A closed docket says so, and stays as it is.
         ensures closed { self.old.closed ≡ true → (result ≡ Err fault.Closed) × (self.new ≡ self.old) }
         // Of any docket, the command is written whole, with its receipt, or not at all.
         ensures any { (rows : Rows) (n : ℕ) (stored : List StoredEnd) → AreDocketRows self.old.court n stored rows → n < 2 ^ 62 → HoldsRows S.Store self.old.conn rows

@@ -16,7 +16,7 @@ ghost use Rattle.docket_store.specs.Opening.{PreservesRejected};
 ghost use Rattle.docket_applying.specs.Applying.{IsDocket, StandsFor, Stands, docket_rows};
 ghost use Rattle.docket_store.specs.Causes.{IsCausedOpening, StopsForCause, IsUnfailed};
 ghost use Rattle.docket_applying.specs.Dockets.{Docket as Kept};
-ghost use Rattle.docket_store.specs.Opening.{IsNotAdopted, IsRejected, WasSound};
+ghost use Rattle.docket_store.specs.Opening.{IsNotAdopted, IsRejected, TakeCommands, WasSound};
 ghost use Rattle.docket_store.specs.Sessions.{EndsSession};
 
 use crate::docket::Docket;
@@ -82,7 +82,8 @@ pub fn session<S: Alter>(
         → IsErrAnd result (λ returned. (returned.fault ≡ Empty) × (returned.connection ≡ connection)) }
     // Of any docket, each command wrote nothing, or was written whole, with its receipt.
     ensures steps { IfOk result (λ end. (adopted last : Kept S)
-        × ((rows : Rows) → HoldsRows S.Store connection rows → HoldsRows S.Store adopted.conn rows)
+        × ((rows : Rows) → HoldsRows S.Store connection rows
+        → HoldsRows S.Store adopted.conn rows × (HasCleanDisk (state S.Store adopted.conn) → TakeCommands adopted.court rows))
         × Reaches (WritesAtMostOne S.Store) adopted last × (last.conn ≡ end.connection)) }
     ensures stays { (rows : Rows) → HoldsRows S.Store connection rows
         → IfErr result (λ returned. PreservesRejected S.Store returned.connection rows returned.fault) }

@@ -36,7 +36,8 @@ returns-in_err-docket-clause-stays g c rows holds =
 pub returns-in-Ok-clause-steps : goal.returns-in-Ok-clause-steps
 returns-in-Ok-clause-steps g c =
     let until = c.answer_until-stopped_at in
-    (c.in_ok-docket.docket, until.new.docket, c.in_ok-docket.ensures.stays, until.ensures.steps, sym c.close.ensures.conn)
+    let adopt = c.in_ok-docket.ensures in
+    (c.in_ok-docket.docket, until.new.docket, λ rows holds. (adopt.stays rows holds, adopt.rows rows holds), until.ensures.steps, sym c.close.ensures.conn)
 
 pub returns-in-Err-clause-stays : goal.returns-in-Err-clause-stays
 returns-in-Err-clause-stays g c rows holds = subst (λ (conn : Held g.row.S.Denot). HoldsRows g.S.Store conn rows) (sym c.close-in-Err.ensures.conn) (c.in_ok-docket.ensures.stays rows holds)
