@@ -24,8 +24,7 @@ use Rattle.court_days.specs.Court.{CourtSettings}
 use Rattle.docket_applying.specs.Dockets.{Docket as Stored}
 use Rattle.docket_applying.specs.CourtDockets.{CourtDocket as Docket, StandsAs}
 use Rattle.file_dockets.specs.Keeping.{HoldsBetween, Keeps}
-use Rattle.file_dockets.proofs.KeepLemmas.{held}
-use Rattle.file_changes.proofs.MigrateLemmas.{leaves_map}
+use Rattle.file_dockets.proofs.KeepLemmas.{held, leaves_map}
 
 module _ {S : Type 0} (g : Ghosts S) where
   -- the connection of the docket keeps it
