@@ -85,6 +85,9 @@ impl<S: Alter> Docket<S> {
         ensures fault { IfErr result (λ returned. IsNotMade S.Store conn returned.connection court returned.fault) }
         ensures cause { IfErr result (λ returned. HasCleanDisk (state S.Store returned.connection)
             → IsCausedCreating (state S.Store conn) (state S.Store returned.connection) returned.failure returned.fault) }
+        ensures clean { MatchResult result
+            (λ docket. doubt (state S.Store conn).is_clean ≤ doubt (state S.Store docket.conn).is_clean)
+            (λ returned. doubt (state S.Store conn).is_clean ≤ doubt (state S.Store returned.connection).is_clean) }
     {
         let mut connection = conn;
         let mut failure = None;
