@@ -56,6 +56,8 @@ module _ {S : Type 0} (g : Ghosts S) (old new : Held S) where
     pub empty : OnOk outcome (has_docket_table old.schema ≡ false)
     pub full : IsTrue (has_docket_table old.schema) → IsErrAnd outcome (λ fault. fault ≡ NotEmpty)
     pub not_made : IfErr outcome (IsNotMade g old new court)
+    -- a disk that is honest then was honest before
+    pub trust : HasCleanDisk (state g new) → HasCleanDisk (state g old)
 
   -- a docket in the first version of the tables
   pub record MigratesOver (outcome : Result (Unit {0}) MigrateFault) : Type 0 where

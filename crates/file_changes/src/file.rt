@@ -3,7 +3,7 @@
 //!
 //! `start` stands for what the two files hold as they are opened. Each theorem here is one for every
 //! start, and a program hands `Unknown`.
-ghost use Rattle.std.specs.Prelude.{◌≡◌, [], IfErr, IfOk, IfSome, MatchResult, OnOk};
+ghost use Rattle.std.specs.Prelude.{◌≡◌, [], Err, IfErr, IfOk, IfSome, MatchResult, OnOk};
 ghost use Rattle.sqlite_wal.specs.Files.{image_at};
 ghost use Rattle.sqlite.specs.Files.{IsCleanLeft};
 ghost use Rattle.docket_columns.specs.declared.version.Version.{Version};
@@ -90,7 +90,7 @@ pub fn apply_on_file<S: Start, V: Watch + Drop>(
 }
 
 /// Makes the docket of a court, without any record, in the files at a path, which hold nothing. A docket
-/// that is found there is left as it was, of whichever version.
+/// that is there, of whichever version, is left as it was, and none is made.
 pub fn create_on_file<S: Start>(
     rt: &HostRuntime,
     path: &str,
@@ -100,7 +100,7 @@ pub fn create_on_file<S: Start>(
     ensures made { IfOk result (λ done. IsCleanLeft done.left
         → OnOk done.outcome (IsDocket court [] × LeavesRows done.left (docket_rows court []) (docket_rows court []))) }
     ensures stays { (v : Version) (rows : Rows) → HoldRows v (image_at S.Start) rows
-        → IfOk result (λ done. IsCleanLeft done.left → IfErr done.outcome (λ fault. fault ≡ CreateFault.NotEmpty → Leaves done.left (IsImageIn v rows))) }
+        → IfOk result (λ done. IsCleanLeft done.left → (done.outcome ≡ Err CreateFault.NotEmpty) × Leaves done.left (IsImageIn v rows)) }
     ensures unopened { (v : Version) (rows : Rows) → HoldRows v (image_at S.Start) rows
         → IfErr result (IsUnharmed (image_at S.Start) (IsImageIn v rows)) }
 {
