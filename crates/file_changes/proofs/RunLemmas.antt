@@ -10,6 +10,7 @@ use Rattle.sqlite.specs.Store.{Ghosts}
 use Rattle.sqlite.specs.Files.{IsCleanLeft, over_files}
 use Rattle.sqlite.specs.Held.{Held, state}
 use Rattle.sqlite.specs.State.{HasCleanDisk}
+use Rattle.sqlite.specs.declared.error.Error.{Error}
 use Rattle.sqlite.specs.declared.file.Leftover.{Leftover}
 use Rattle.docket_columns.specs.declared.version.Version.TheVariants.{Second}
 use Rattle.docket_scan.specs.declared.fault.AdoptFault.{AdoptFault}
@@ -31,6 +32,7 @@ use Rattle.command_lines.specs.declared.fault.RunFault.TheVariants as run
 use Rattle.docket_store.specs.Left.{LeavesRows}
 use Rattle.docket_store.specs.Opening.{IsNotAdopted}
 use Rattle.docket_store.specs.Reopening.{HoldDocket}
+use Rattle.file_dockets.specs.Adopting.{AdoptsOver}
 use Rattle.file_dockets.specs.Keeping.{HoldsBetween, Keeps, rows_told}
 use Rattle.file_dockets.specs.Working.{IsDoneOn}
 use Rattle.file_dockets.specs.Works.{WorksTo}
@@ -229,28 +231,30 @@ works_of : {T : Type 0} (P : T → Type 0) (outcome : Result T AdoptFault) → I
 works_of P (Ok done) is = is
 works_of P (Err fault) is = absurd is
 
-module _ {S : Type 0} (g : Ghosts S) (old new : Held S) (known before after : Option (List ℕ)) where
+module _ {S : Type 0} (g : Ghosts S) (old new : Held S) (known before after : Option (List ℕ)) (failure : Option Error) where
   -- the docket was adopted, and answered the lines
-  pub ran : (outcome : Result (Result CountEnd RunFault) AdoptFault)
+  pub ran : (outcome : Result (Result CountEnd RunFault) AdoptFault) → AdoptsOver g old new failure outcome
       → ((told : Docket) → IsDocket told.court told.history → StandsFor g old told.court told.history → HasCleanDisk (state g new)
       → IfSome known (λ input. IsOkAnd outcome (Answers (HoldsBetween g new) told input before after)))
-      → RunsOver g old new known before after outcome
-  ran outcome answers = record {
+      → RunsOver g old new known before after failure outcome
+  ran outcome adopts answers = record {
+    adopts = adopts;
     runs = λ told is stands clean. some_map known _ _ (λ input. works_of _ outcome) (answers told is stands clean);
     prefix = λ told is stands clean. some_map known _ _ (λ input. prefix_done g new told input before after outcome) (answers told is stands clean);
   }
 
   -- it was not adopted, and nothing went out
-  pub unran : (fault : AdoptFault) → after ≡ before
+  pub unran : (fault : AdoptFault) → AdoptsOver g old new failure {T = Result CountEnd RunFault} (Err fault) → after ≡ before
       → ((told : Docket) → IsDocket told.court told.history → StandsFor g old told.court told.history → IsNotAdopted g new (rows_told told) fault)
-      → RunsOver g old new known before after (Err fault)
-  unran fault same unadopted = record {
+      → RunsOver g old new known before after failure (Err fault)
+  unran fault adopts same unadopted = record {
+    adopts = adopts;
     runs = λ told is stands clean. some_all known _ (λ input. unadopted_works g new (rows_told told) (Answers (HoldsBetween g new) told input before after) fault (unadopted told is stands) clean);
     prefix = λ told is stands clean. some_all known _ (λ input. prefix_unadopted g new told input before after (unadopted_keeps g new (rows_told told) fault (unadopted told is stands)) same);
   }
 
-module _ {D : Type 0} {g : Disk D} (start : Image) (known before after : Option (List ℕ)) (outcome : Result (Result CountEnd RunFault) AdoptFault) (rest : Leftover D g)
-    (told : Docket) (done : IsDoneOn start (λ old new. RunsOver over_files old new known before after) outcome rest) (is : IsDocket told.court told.history)
+module _ {D : Type 0} {g : Disk D} (start : Image) (known before after : Option (List ℕ)) (failure : Option Error) (outcome : Result (Result CountEnd RunFault) AdoptFault) (rest : Leftover D g)
+    (told : Docket) (done : IsDoneOn start (λ old new. RunsOver over_files old new known before after failure) outcome rest) (is : IsDocket told.court told.history)
     (files : HoldDocket start told.court told.history) (clean : IsCleanLeft rest) where
   left_of : (rows next : Rows) → HoldsBetween over_files done.back rows next → LeavesRows rest rows next
   left_of rows next holds = done.left rows next holds clean

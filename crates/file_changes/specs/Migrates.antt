@@ -1,15 +1,23 @@
 -- What a migration leaves of a docket in the first version of the tables.
-use Rattle.std.specs.Prelude.{◌⊎◌, Result, Ok, Err}
+use Rattle.std.specs.Prelude.{◌⊎◌, Result, Ok, Err, IfErr, OnOk}
 use Rattle.sqlite_disk.specs.declared.Disk.{Ghosts}
+use Rattle.sqlite_wal.specs.Recovery.{Image}
+use Rattle.sqlite_store.specs.declared.store.FileStore.{FileStore}
+use Rattle.sqlite.specs.Files.{over_files}
 use Rattle.sqlite.specs.Held.{Held, state}
-use Rattle.sqlite.specs.State.{HasCleanDisk}
+use Rattle.sqlite.specs.State.{HasCleanDisk, State}
 use Rattle.sqlite.specs.Store.{Ghosts as Store}
 use Rattle.sqlite.specs.Tree.{Trees}
 use Rattle.sqlite.specs.declared.file.Leftover.{Leftover}
+use Rattle.docket_columns.specs.declared.version.Version.{Version}
 use Rattle.docket_columns.specs.declared.version.Version.TheVariants.{First}
-use Rattle.docket_tables.specs.Stands.{IsImage, IsImageIn}
+use Rattle.docket_migration.specs.Migrating.{HasMoved, IsImageOfMoved}
+use Rattle.docket_scan.specs.Finding.{HasCause}
+use Rattle.docket_tables.specs.Layouts.{Rows}
+use Rattle.docket_tables.specs.Stands.{IsImage, IsImageIn, ShowsIn}
 use Rattle.docket_store.specs.Left.{Leaves, LeavesRows}
-use Rattle.docket_store.specs.Migrating.{first_rows}
+use Rattle.docket_store.specs.Migrating.{cause_of, first_rows}
+use Rattle.docket_store.specs.Reopening.{HoldRows}
 use Rattle.docket_store.specs.declared.migrating.MigrateFault.{MigrateFault}
 use Rattle.docket_store.specs.declared.migrating.MigrateFault.TheVariants.{NoMemory, StoreFailed}
 use Rattle.docket_applying.specs.CourtDockets.{CourtDocket as Docket}
@@ -38,3 +46,20 @@ StaysIn g conn docket fault = HasCleanDisk (state g conn) → Stays (λ P. (db :
 abbrev pub MigratesTo : {D : Type 0} {g : Ghosts D} → Leftover D g → Docket → Result (Unit {0}) MigrateFault → Type 0
 MigratesTo rest docket (Ok done) = LeavesRows rest (rows_told docket) (rows_told docket)
 MigratesTo rest docket (Err fault) = Stays (Leaves rest) docket fault
+
+-- whatever database there was, of this kind: it is left, or where the database failed, it or the one that it moves to
+abbrev pub StaysOrMoves : {D : Type 0} {g : Ghosts D} → Leftover D g → State → (Trees → Type 0) → MigrateFault → Type 0
+StaysOrMoves rest was P StoreFailed = Leaves rest (λ db. P db ⊎ IsImageOfMoved was db)
+StaysOrMoves rest was P _ = Leaves rest P
+
+-- The files, which held `start`, were opened, and whatever database it was, its migration came to this.
+pub record IsMigrated {D : Type 0} {g : Ghosts D} (start : Image) (rest : Leftover D g) (outcome : Result (Unit {0}) MigrateFault) : Type 0 where
+  -- the connection, as it was opened and as it came back
+  pub opened : Held (FileStore D g)
+  pub back : Held (FileStore D g)
+  -- it showed the rows that the files held, in whichever version
+  pub shows : (v : Version) (rows : Rows) → HoldRows v start rows → ShowsIn v (state over_files opened) rows
+  -- sound tables of the first version became those of the second, with the same rows; or the first cause is told why they were not sound
+  pub moved : OnOk outcome (HasMoved (state over_files opened) (state over_files back))
+  pub found : IfErr outcome (λ fault. HasCause First (state over_files opened) (cause_of fault))
+  pub spared : (v : Version) (rows : Rows) → HoldRows v start rows → IfErr outcome (StaysOrMoves rest (state over_files opened) (IsImageIn v rows))

@@ -19,7 +19,7 @@ impl Work<(), ()> for Create {
 
     type Fault = CreateFault;
 
-    ghost Comes = { λ it g old new _ _ _ _. CreatesOver g old new it.court };
+    ghost Comes = { λ it g old new _ _ _ _ _. CreatesOver g old new it.court };
 
     fn work<S: Alter>(
         self,
@@ -31,6 +31,7 @@ impl Work<(), ()> for Create {
         match Docket::create(alloc, conn, self.court) {
             Ok(docket) => Worked {
                 outcome: Ok(()),
+                failure: None,
                 connection: docket.close(),
             },
             Err(returned) => Worked::from(returned),

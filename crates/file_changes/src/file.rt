@@ -3,23 +3,24 @@
 //!
 //! `start` stands for what the two files hold as they are opened. Each theorem here is one for every
 //! start, and a program hands `Unknown`.
-ghost use Rattle.std.specs.Prelude.{◌≡◌, [], IfErr, IfOk, IfSome, MatchResult, OnOk};
+ghost use Rattle.std.specs.Prelude.{◌≡◌, [], Err, IfErr, IfOk, IfSome, MatchResult, OnOk};
 ghost use Rattle.sqlite_wal.specs.Files.{image_at};
 ghost use Rattle.sqlite.specs.Files.{IsCleanLeft};
 ghost use Rattle.docket_columns.specs.declared.version.Version.{Version};
 ghost use Rattle.docket_columns.specs.declared.version.Version.TheVariants.{First};
 ghost use Rattle.docket_scan.specs.Dockets.{MayHold};
 ghost use Rattle.docket_tables.specs.Layouts.{Rows};
-ghost use Rattle.docket_tables.specs.Stands.{IsImage, IsImageIn};
+ghost use Rattle.docket_tables.specs.Stands.{IsImageIn};
 ghost use Rattle.docket_applying.specs.Applying.{IsDocket, docket_rows};
 ghost use Rattle.docket_store.specs.Left.{IsUnharmed, Leaves, LeavesRows};
 ghost use Rattle.docket_store.specs.Migrating.{HoldFirst};
 ghost use Rattle.docket_store.specs.Reopening.{HoldDocket, HoldRows};
 ghost use Rattle.docket_applying.specs.CourtDockets.{CourtDocket as Told};
+ghost use Rattle.file_dockets.specs.Adopting.{IsJudged};
 ghost use Rattle.file_dockets.specs.Keeping.{rows_told};
 ghost use Rattle.file_dockets.specs.Works.{WorksTo};
-ghost use Rattle.file_changes.specs.Commands.{AppliesTo};
-ghost use Rattle.file_changes.specs.Migrates.{IsFirst, MigratesTo};
+ghost use Rattle.file_changes.specs.Commands.{AppliesTo, IsWrittenOn};
+ghost use Rattle.file_changes.specs.Migrates.{IsMigrated, MigratesTo};
 ghost use Rattle.file_changes.specs.Runs.{LeavesPrefix, RunsTo};
 
 use crate::creating::Create;
@@ -52,8 +53,10 @@ pub fn run_on_file<S: Start, V: Watch + Drop, R: Read, W: Write>(
     ensures prefix { (told : Told) → IsDocket told.court told.history → HoldDocket (image_at S.Start) told.court told.history
         → IfOk result (λ done. IsCleanLeft done.left → IfSome (R.remaining reader.old) (λ input.
         LeavesPrefix (LeavesRows done.left) told input (W.contents writer.old) (W.contents writer.new))) }
-    ensures unopened { (told : Told) → HoldDocket (image_at S.Start) told.court told.history
-        → IfErr result (IsUnharmed (image_at S.Start) (IsImage (rows_told told))) }
+    // Of any files, their tables are sound, or the fault tells why there is no docket, and they stay.
+    ensures judged { IfOk result (λ done. IsCleanLeft done.left → IsJudged (image_at S.Start) done.left done.failure done.outcome) }
+    ensures unopened { (v : Version) (rows : Rows) → HoldRows v (image_at S.Start) rows
+        → IfErr result (IsUnharmed (image_at S.Start) (IsImageIn v rows)) }
     // Where there is no docket nothing is read or written.
     ensures unread { MatchResult result (λ done. IfErr done.outcome (λ _. (reader.new ≡ reader.old) × (writer.new ≡ writer.old)))
         (λ _. (reader.new ≡ reader.old) × (writer.new ≡ writer.old)) }
@@ -75,15 +78,19 @@ pub fn apply_on_file<S: Start, V: Watch + Drop>(
         → WorksTo (AppliesTo (LeavesRows done.left) told command.now) done.outcome) }
     ensures stays { (told : Told) → IsDocket told.court told.history → HoldDocket (image_at S.Start) told.court told.history
         → IfOk result (λ done. IsCleanLeft done.left → IfErr done.outcome (λ _. LeavesRows done.left (rows_told told) (rows_told told))) }
-    ensures unopened { (told : Told) → HoldDocket (image_at S.Start) told.court told.history
-        → IfErr result (IsUnharmed (image_at S.Start) (IsImage (rows_told told))) }
+    // Of any sound tables, the command is written whole, with its receipt, or not at all.
+    ensures whole { IfOk result (λ done. IsCleanLeft done.left → IfOk done.outcome (IsWrittenOn (image_at S.Start) done.left command.now)) }
+    // Of any files, their tables are sound, or the fault tells why there is no docket, and they stay.
+    ensures judged { IfOk result (λ done. IsCleanLeft done.left → IsJudged (image_at S.Start) done.left done.failure done.outcome) }
+    ensures unopened { (v : Version) (rows : Rows) → HoldRows v (image_at S.Start) rows
+        → IfErr result (IsUnharmed (image_at S.Start) (IsImageIn v rows)) }
 {
     let apply = Apply { watch, command };
     work_on_file(rt, path, start, apply, &mut (), &mut ())
 }
 
 /// Makes the docket of a court, without any record, in the files at a path, which hold nothing. A docket
-/// that is found there is left as it was, of whichever version.
+/// that is there, of whichever version, is left as it was, and none is made.
 pub fn create_on_file<S: Start>(
     rt: &HostRuntime,
     path: &str,
@@ -93,7 +100,7 @@ pub fn create_on_file<S: Start>(
     ensures made { IfOk result (λ done. IsCleanLeft done.left
         → OnOk done.outcome (IsDocket court [] × LeavesRows done.left (docket_rows court []) (docket_rows court []))) }
     ensures stays { (v : Version) (rows : Rows) → HoldRows v (image_at S.Start) rows
-        → IfOk result (λ done. IsCleanLeft done.left → IfErr done.outcome (λ fault. fault ≡ CreateFault.NotEmpty → Leaves done.left (IsImageIn v rows))) }
+        → IfOk result (λ done. IsCleanLeft done.left → (done.outcome ≡ Err CreateFault.NotEmpty) × Leaves done.left (IsImageIn v rows)) }
     ensures unopened { (v : Version) (rows : Rows) → HoldRows v (image_at S.Start) rows
         → IfErr result (IsUnharmed (image_at S.Start) (IsImageIn v rows)) }
 {
@@ -111,8 +118,10 @@ pub fn migrate_on_file<S: Start, V: Watch + Drop>(
 ) -> OnFile<S, (), MigrateFault>
     ensures migrated { (told : Told) → IsDocket told.court told.history → MayHold First told.history → HoldFirst (image_at S.Start) told.court told.history
         → IfOk result (λ done. IsCleanLeft done.left → MigratesTo done.left told done.outcome) }
-    ensures unopened { (told : Told) → HoldFirst (image_at S.Start) told.court told.history
-        → IfErr result (IsUnharmed (image_at S.Start) (IsFirst told)) }
+    // Any files are moved where their tables of the first version are sound; else the fault tells why not.
+    ensures told { IfOk result (λ done. IsCleanLeft done.left → IsMigrated (image_at S.Start) done.left done.outcome) }
+    ensures unopened { (v : Version) (rows : Rows) → HoldRows v (image_at S.Start) rows
+        → IfErr result (IsUnharmed (image_at S.Start) (IsImageIn v rows)) }
 {
     let migrate = Migrate { watch };
     work_on_file(rt, path, start, migrate, &mut (), &mut ())

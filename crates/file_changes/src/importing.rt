@@ -36,6 +36,7 @@ impl<V: Watch + Drop> Work<(), ()> for Apply<'_, V> {
         let answer = docket.apply(self.command);
         Worked {
             outcome: Ok(answer),
+            failure: None,
             connection: docket.close(),
         }
     }

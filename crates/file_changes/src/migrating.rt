@@ -18,7 +18,7 @@ impl<V: Watch + Drop> Work<(), ()> for Migrate<V> {
 
     type Fault = MigrateFault;
 
-    ghost Comes = { λ _ g old new _ _ _ _. MigratesOver g old new };
+    ghost Comes = { λ _ g old new _ _ _ _ _. MigratesOver g old new };
 
     fn work<S: Alter>(
         self,
@@ -31,6 +31,7 @@ impl<V: Watch + Drop> Work<(), ()> for Migrate<V> {
         match Docket::migrate_watched(alloc, conn, &mut watch) {
             Ok(connection) => Worked {
                 outcome: Ok(()),
+                failure: None,
                 connection,
             },
             Err(returned) => Worked::from(returned),

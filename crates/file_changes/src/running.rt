@@ -30,6 +30,7 @@ fn answer_lines<S: Alter, R: Read, W: Write>(
     let outcome = command_run(alloc, reader, writer, &mut clerk);
     Worked {
         outcome: Ok(outcome),
+        failure: None,
         connection: clerk.into_docket().close(),
     }
 }
@@ -63,11 +64,12 @@ impl<V: Watch + Drop, R: Read, W: Write> Work<R, W> for Run<V> {
             Err(
                 Returned {
                     fault,
+                    failure,
                     connection,
-                    ..
                 },
             ) => Worked {
                 outcome: Err(fault),
+                failure,
                 connection,
             },
         }

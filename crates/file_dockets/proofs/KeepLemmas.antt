@@ -1,5 +1,6 @@
 -- What a connection holds is what is left of it.
 use Rattle.std.proofs.Common.{◌≡◌, ◌⊎◌, inl, inr, Bool, IsTrue, refl, sym, subst}
+use Rattle.std.proofs.Math.Logic.{∥∥₁_map}
 use Rattle.sqlite_disk.specs.declared.Disk.{Ghosts as Disk}
 use Rattle.sqlite_disk.specs.declared.Files.{Files}
 use Rattle.sqlite_wal.specs.Files.{outcomes}
@@ -15,8 +16,11 @@ use Rattle.sqlite.specs.State.{State}
 use Rattle.sqlite.specs.Store.{Ghosts}
 use Rattle.sqlite.specs.Tree.{Trees}
 use Rattle.sqlite.specs.View.{doubt}
+use Rattle.sqlite.specs.declared.file.Leftover.{Leftover}
+use Rattle.sqlite.specs.declared.file.Leftover.TheVariants as left
 use Rattle.docket_tables.specs.Layouts.{Rows}
 use Rattle.docket_tables.specs.Stands.{HoldsRows, IsEither, IsImage, IsLasting, IsSettled, Lasts, LastsAsEither}
+use Rattle.docket_store.specs.Left.{Leaves}
 use Rattle.file_dockets.specs.Keeping.{HoldsBetween, IsBetween}
 
 pub clean_of : (is_clean : Bool) → IsTrue is_clean → doubt is_clean ≡ 0
@@ -83,3 +87,9 @@ closed_leaves {D} {g} conn files rows next holds copied image may =
       committed_image (file_state conn) rows next ((holds copied.was_clean).settled copied.was_open),
     ) in
     ∣ found ∣₁
+
+-- what is left is of another kind too
+pub leaves_map : {D : Type 0} {g : Disk D} (rest : Leftover D g) (P Q : Trees → Type 0) → ((db : Trees) → P db → Q db) → Leaves rest P → Leaves rest Q
+leaves_map (left.Files files) P Q then leaves = λ image may. ∥∥₁_map (leaves image may) (λ one. (one.0, one.1, then one.0 one.2))
+leaves_map (left.Unopened files) P Q then leaves = λ image may. ∥∥₁_map (leaves image may) (λ one. (one.0, one.1, then one.0 one.2))
+leaves_map (left.Store it) P Q then leaves = λ db may. then db (leaves db may)

@@ -1,2 +1,3 @@
+pub mod AdoptLemmas
 pub mod KeepLemmas
 pub mod WorkLemmas

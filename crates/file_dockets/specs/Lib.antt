@@ -1,3 +1,4 @@
+pub mod Adopting
 pub mod Keeping
 pub mod Working
 pub mod Works

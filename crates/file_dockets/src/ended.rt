@@ -8,17 +8,20 @@ use sqlite_disk::Disk;
 #[derive(Drop)]
 pub struct Worked<S: Alter, T, F> {
     pub outcome: Result<T, F>,
+    /// The error of the database, where it is told with a fault.
+    pub failure: Option<Error>,
     pub connection: Connection<S>,
 }
 
 impl<S: Alter, T, F> From<Returned<S, F>> for Worked<S, T, F> {
     ghost use Rattle.std.specs.Prelude.{◌≡◌, Err};
 
-    ghost from_gives = { λ returned worked. (worked.outcome ≡ Err returned.fault) × (worked.connection ≡ returned.connection) };
+    ghost from_gives = { λ returned worked. (worked.outcome ≡ Err returned.fault) × (worked.connection ≡ returned.connection) × (worked.failure ≡ returned.failure) };
 
     fn from(returned: Returned<S, F>) -> Worked<S, T, F> {
         Worked {
             outcome: Err(returned.fault),
+            failure: returned.failure,
             connection: returned.connection,
         }
     }
@@ -28,6 +31,8 @@ impl<S: Alter, T, F> From<Returned<S, F>> for Worked<S, T, F> {
 #[derive(Drop)]
 pub struct Ended<D: Disk, T, F> {
     pub outcome: Result<T, F>,
+    /// The error of the database, where it is told with a fault.
+    pub failure: Option<Error>,
     pub left: Leftover<D>,
 }
 

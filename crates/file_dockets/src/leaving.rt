@@ -34,21 +34,25 @@ fn release<D: Disk + Drop>(conn: Connection<FileStore<D>>) -> Leftover<D>
 /// Lets the files of a database go, and copies its log where there is a docket.
 pub fn leave<D: Disk + Drop, T, F>(worked: Worked<FileStore<D>, T, F>) -> Ended<D, T, F>
     ensures outcome { result.outcome ≡ worked.outcome }
+    ensures failure { result.failure ≡ worked.failure }
     ensures trust { IsCleanLeft result.left → HasCleanDisk (state over_files worked.connection) }
     ensures left { (rows next : Rows) → HoldsBetween over_files worked.connection rows next → IsCleanLeft result.left → LeavesRows result.left rows next }
     ensures images { IfErr worked.outcome (λ _. Leaves result.left (state over_files worked.connection).may_leave) }
 {
     let Worked {
         outcome,
+        failure,
         connection,
     } = worked;
     match outcome {
         Ok(done) => Ended {
             outcome: Ok(done),
+            failure,
             left: close(connection),
         },
         Err(fault) => Ended {
             outcome: Err(fault),
+            failure,
             left: release(connection),
         },
     }

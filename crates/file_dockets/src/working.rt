@@ -2,10 +2,11 @@
 //!
 //! What is done is a method of a trait, since `work_and_leave` is then the one function that calls it at the
 //! store of files, whose proof takes the prover long.
-ghost use Rattle.std.specs.Prelude.{◌≡◌, IfErr, IfOk, MatchResult, Result};
+ghost use Rattle.std.specs.Prelude.{◌≡◌, IfErr, IfOk, MatchResult, Option, Result};
 ghost use Rattle.sqlite.specs.Files.{over_files};
 ghost use Rattle.sqlite.specs.Held.{Held};
 ghost use Rattle.sqlite.specs.Store.{Ghosts};
+ghost use Rattle.sqlite.specs.declared.error.Error.{Error};
 ghost use Rattle.sqlite_wal.specs.Files.{image_at};
 ghost use Rattle.sqlite_wal.specs.Recovery.{Image};
 ghost use Rattle.docket_columns.specs.declared.version.Version.{Version};
@@ -30,9 +31,9 @@ pub trait Work<R, W> {
 
     type Fault;
 
-    // What the work comes to, by the connection as it was given and as it comes back, and by what there was
-    // to read, what there is, and the same of what is written.
-    ghost Comes: { Self → {S : Type 0} → Ghosts S → Held S → Held S → R → R → W → W → Result Self.Done Self.Fault → Type 0 };
+    // What the work comes to, by the connection as it was given and as it comes back, by what there was to
+    // read, what there is, and the same of what is written, and by the error that is told with a fault.
+    ghost Comes: { Self → {S : Type 0} → Ghosts S → Held S → Held S → R → R → W → W → Option Error → Result Self.Done Self.Fault → Type 0 };
 
     /// Does the work over a connection, which comes back.
     fn work<S: Alter>(
@@ -42,7 +43,7 @@ pub trait Work<R, W> {
         reader: &mut R,
         writer: &mut W,
     ) -> Worked<S, Self::Done, Self::Fault>
-        ensures comes { Comes self S.Store conn result.connection reader.old reader.new writer.old writer.new result.outcome }
+        ensures comes { Comes self S.Store conn result.connection reader.old reader.new writer.old writer.new result.failure result.outcome }
         // Where it was not done nothing was read or written.
         ensures unread { IfErr result.outcome (λ _. (reader.new ≡ reader.old) × (writer.new ≡ writer.old)) };
 }
@@ -56,7 +57,7 @@ fn work_and_leave<D: Disk + Drop, R, W, J: Work<R, W>>(
     writer: &mut W,
 ) -> Ended<D, J::Done, J::Fault>
     ensures done { (start : Image) → ((v : Version) (rows : Rows) → HoldRows v start rows → HoldsRowsIn over_files v conn rows)
-        → IsDoneOn start (λ opened back. J.Comes job over_files opened back reader.old reader.new writer.old writer.new) result.outcome result.left }
+        → IsDoneOn start (λ opened back. J.Comes job over_files opened back reader.old reader.new writer.old writer.new result.failure) result.outcome result.left }
     ensures unread { IfErr result.outcome (λ _. (reader.new ≡ reader.old) × (writer.new ≡ writer.old)) }
 {
     leave(job.work(alloc, conn, reader, writer))
@@ -74,7 +75,7 @@ pub fn work_on_file<S: Start, R, W, J: Work<R, W> + Drop>(
     writer: &mut W,
 ) -> OnFile<S, J::Done, J::Fault>
     ensures done { IfOk result (λ done. IsDoneOn (image_at S.Start)
-        (λ opened back. J.Comes job over_files opened back reader.old reader.new writer.old writer.new) done.outcome done.left) }
+        (λ opened back. J.Comes job over_files opened back reader.old reader.new writer.old writer.new done.failure) done.outcome done.left) }
     ensures unopened { (v : Version) (rows : Rows) → HoldRows v (image_at S.Start) rows
         → IfErr result (IsUnharmed (image_at S.Start) (IsImageIn v rows)) }
     ensures unread { MatchResult result (λ done. IfErr done.outcome (λ _. (reader.new ≡ reader.old) × (writer.new ≡ writer.old)))

@@ -1,10 +1,11 @@
 -- What a question comes to over a connection, and from there on the files.
-use Rattle.std.proofs.Common.{◌≡◌, Result, Err, subst, sym}
+use Rattle.std.proofs.Common.{◌≡◌, Option, Result, Err, subst, sym}
 use Rattle.sqlite_disk.specs.declared.Disk.{Ghosts as Disk}
 use Rattle.sqlite_wal.specs.Recovery.{Image}
 use Rattle.sqlite.specs.Files.{IsCleanLeft, over_files}
 use Rattle.sqlite.specs.Held.{Held}
 use Rattle.sqlite.specs.Store.{Ghosts}
+use Rattle.sqlite.specs.declared.error.Error.{Error}
 use Rattle.sqlite.specs.declared.file.Leftover.{Leftover}
 use Rattle.court_days.specs.Court.{CourtSettings}
 use Rattle.docket_columns.specs.declared.version.Version.TheVariants.{Second}
@@ -16,7 +17,8 @@ use Rattle.docket_applying.specs.Applying.{IsDocket, StandsFor}
 use Rattle.docket_applying.specs.CourtDockets.{CourtDocket as Docket}
 use Rattle.docket_store.specs.Left.{LeavesRows}
 use Rattle.docket_store.specs.Opening.{IsNotAdopted, PreservesRejected}
-use Rattle.docket_store.specs.Reopening.{HoldDocket}
+use Rattle.docket_store.specs.Reopening.{HoldDocket, HoldRows}
+use Rattle.file_dockets.specs.Adopting.{AdoptsOver}
 use Rattle.file_dockets.specs.Keeping.{rows_told}
 use Rattle.file_dockets.specs.Working.{IsDoneOn}
 use Rattle.file_dockets.specs.Works.{WorksTo}
@@ -24,21 +26,24 @@ use Rattle.file_dockets.proofs.WorkLemmas.{kept_rejected, unadopted_works}
 use Rattle.file_questions.specs.Asking.{AsksOver}
 
 -- a docket that was not adopted stays, by the connection that comes back
-pub unasked : {S : Type 0} (g : Ghosts S) (old new : Held S) {T : Type 0} (Tells : CourtSettings → History → T → Type 0) (fault : AdoptFault) (now : Held S) (outcome : Result T AdoptFault)
-    → now ≡ new → outcome ≡ Err fault → ((told : Docket) → IsDocket told.court told.history → StandsFor g old told.court told.history → IsNotAdopted g new (rows_told told) fault)
+pub unasked : {S : Type 0} (g : Ghosts S) (old new : Held S) {T : Type 0} (Tells : CourtSettings → History → T → Type 0) (failure : Option Error) (fault : AdoptFault) (now : Held S)
+    (told : Option Error) (outcome : Result T AdoptFault) → now ≡ new → told ≡ failure → outcome ≡ Err fault → AdoptsOver g old new failure {T = T} (Err fault)
+    → ((told : Docket) → IsDocket told.court told.history → StandsFor g old told.court told.history → IsNotAdopted g new (rows_told told) fault)
     → ((rows : Rows) → HoldsRows g old rows → PreservesRejected g new rows fault)
-    → AsksOver g old now Tells outcome
-unasked {S} g old new Tells fault now outcome same is unadopted stays =
-    subst (AsksOver g old now Tells) (sym is) (subst (λ (conn : Held S). AsksOver g old conn Tells (Err fault)) (sym same) (record {
+    → AsksOver g old now Tells told outcome
+unasked {S} g old new {T} Tells failure fault now told outcome same error is adopts unadopted stays =
+    let Over : Held S → Option Error → Result T AdoptFault → Type 0 = λ conn error outcome. AsksOver g old conn Tells error outcome in
+    subst (Over now told) (sym is) (subst (λ (e : Option Error). Over now e (Err fault)) (sym error) (subst (λ (conn : Held S). Over conn failure (Err fault)) (sym same) (record {
+      adopts = adopts;
       told = λ told stands holds clean. unadopted_works g new (rows_told told) (Tells told.court told.history) fault (unadopted told stands holds) clean;
       stays = λ rows holds. kept_rejected g new rows fault (stays rows holds);
-    }))
+    })))
 
 -- from a connection to the files that it leaves
-module _ {D : Type 0} {g : Disk D} {T : Type 0} (start : Image) (Tells : CourtSettings → History → T → Type 0) (outcome : Result T AdoptFault) (rest : Leftover D g) (told : Docket)
-    (done : IsDoneOn start (λ old new. AsksOver over_files old new Tells) outcome rest) (files : HoldDocket start told.court told.history) (clean : IsCleanLeft rest) where
-  pub told_on : IsDocket told.court told.history → WorksTo (Tells told.court told.history) outcome
-  told_on is = done.comes.told told is (done.holds Second (rows_told told) files) (done.trust clean)
+module _ {D : Type 0} {g : Disk D} {T : Type 0} (start : Image) (Tells : CourtSettings → History → T → Type 0) (failure : Option Error) (outcome : Result T AdoptFault) (rest : Leftover D g)
+    (done : IsDoneOn start (λ old new. AsksOver over_files old new Tells failure) outcome rest) (clean : IsCleanLeft rest) where
+  pub told_on : (told : Docket) → IsDocket told.court told.history → HoldDocket start told.court told.history → WorksTo (Tells told.court told.history) outcome
+  told_on told is files = done.comes.told told is (done.holds Second (rows_told told) files) (done.trust clean)
 
-  pub stays_on : LeavesRows rest (rows_told told) (rows_told told)
-  stays_on = done.left (rows_told told) (rows_told told) (done.comes.stays (rows_told told) (done.holds Second (rows_told told) files)) clean
+  pub stays_on : (rows : Rows) → HoldRows Second start rows → LeavesRows rest rows rows
+  stays_on rows files = done.left rows rows (done.comes.stays rows (done.holds Second rows files)) clean

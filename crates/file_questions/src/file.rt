@@ -9,15 +9,13 @@ ghost use Rattle.sqlite_wal.specs.Files.{image_at};
 ghost use Rattle.sqlite.specs.Files.{IsCleanLeft};
 ghost use Rattle.docket_history.specs.Histories.{local_rule_rows, standing_rows};
 ghost use Rattle.docket_scan.specs.Dockets.{holdings_in};
-ghost use Rattle.docket_tables.specs.Stands.{IsImage};
 ghost use Rattle.docket_text.specs.CourtCalendar.{court_calendar_text};
 ghost use Rattle.docket_text.specs.RuleTexts.{rules_text};
 ghost use Rattle.docket_applying.specs.Applying.{IsDocket};
-ghost use Rattle.docket_store.specs.Left.{IsUnharmed, LeavesRows};
 ghost use Rattle.docket_store.specs.Reopening.{HoldDocket};
 ghost use Rattle.docket_applying.specs.CourtDockets.{CourtDocket as Told};
-ghost use Rattle.file_dockets.specs.Keeping.{rows_told};
 ghost use Rattle.file_dockets.specs.Works.{WorksTo};
+ghost use Rattle.file_questions.specs.Asking.{OnlyAsks};
 ghost use Rattle.file_questions.specs.CaseLists.{ListsCases, cases_wanted};
 ghost use Rattle.file_questions.specs.Checks.{IsSoundDocket};
 ghost use Rattle.file_questions.specs.Exports.{ExportsTo, page_of_sheet};
@@ -49,10 +47,7 @@ pub fn case_on_file<S: Start, V: Watch + Drop>(
     ensures told { (told : Told) → IsDocket told.court told.history → HoldDocket (image_at S.Start) told.court told.history
         → IfOk result (λ done. IsCleanLeft done.left
         → WorksTo (AnswersTo (λ text. option_map string_bytes text ≡ text_of_case told.court told.history number)) done.outcome) }
-    ensures stays { (told : Told) → HoldDocket (image_at S.Start) told.court told.history
-        → IfOk result (λ done. IsCleanLeft done.left → LeavesRows done.left (rows_told told) (rows_told told)) }
-    ensures unopened { (told : Told) → HoldDocket (image_at S.Start) told.court told.history
-        → IfErr result (IsUnharmed (image_at S.Start) (IsImage (rows_told told))) }
+    ensures only { OnlyAsks (image_at S.Start) result }
 {
     ask_on_file(rt, path, start, watch, &CaseText { number }, &mut ())
 }
@@ -70,10 +65,7 @@ pub fn explain_on_file<S: Start, V: Watch + Drop>(
     ensures told { (told : Told) → IsDocket told.court told.history → HoldDocket (image_at S.Start) told.court told.history
         → IfOk result (λ done. IsCleanLeft done.left
         → WorksTo (AnswersTo (λ text. option_map string_bytes text ≡ text_of_reasons told.court told.history case deadline)) done.outcome) }
-    ensures stays { (told : Told) → HoldDocket (image_at S.Start) told.court told.history
-        → IfOk result (λ done. IsCleanLeft done.left → LeavesRows done.left (rows_told told) (rows_told told)) }
-    ensures unopened { (told : Told) → HoldDocket (image_at S.Start) told.court told.history
-        → IfErr result (IsUnharmed (image_at S.Start) (IsImage (rows_told told))) }
+    ensures only { OnlyAsks (image_at S.Start) result }
 {
     ask_on_file(
         rt,
@@ -96,10 +88,7 @@ pub fn rules_on_file<S: Start, V: Watch + Drop>(
     ensures told { (told : Told) → IsDocket told.court told.history → HoldDocket (image_at S.Start) told.court told.history
         → IfOk result (λ done. IsCleanLeft done.left
         → WorksTo (AnswersTo (λ text. string_bytes text ≡ rules_text (local_rule_rows told.history))) done.outcome) }
-    ensures stays { (told : Told) → HoldDocket (image_at S.Start) told.court told.history
-        → IfOk result (λ done. IsCleanLeft done.left → LeavesRows done.left (rows_told told) (rows_told told)) }
-    ensures unopened { (told : Told) → HoldDocket (image_at S.Start) told.court told.history
-        → IfErr result (IsUnharmed (image_at S.Start) (IsImage (rows_told told))) }
+    ensures only { OnlyAsks (image_at S.Start) result }
 {
     ask_on_file(rt, path, start, watch, &RulesText, &mut ())
 }
@@ -117,10 +106,7 @@ pub fn court_calendar_on_file<S: Start, V: Watch + Drop>(
     ensures told { (told : Told) → IsDocket told.court told.history → HoldDocket (image_at S.Start) told.court told.history
         → IfOk result (λ done. IsCleanLeft done.left
         → WorksTo (AnswersTo (λ text. string_bytes text ≡ court_calendar_text told.court (standing_rows told.history) from to)) done.outcome) }
-    ensures stays { (told : Told) → HoldDocket (image_at S.Start) told.court told.history
-        → IfOk result (λ done. IsCleanLeft done.left → LeavesRows done.left (rows_told told) (rows_told told)) }
-    ensures unopened { (told : Told) → HoldDocket (image_at S.Start) told.court told.history
-        → IfErr result (IsUnharmed (image_at S.Start) (IsImage (rows_told told))) }
+    ensures only { OnlyAsks (image_at S.Start) result }
 {
     ask_on_file(
         rt,
@@ -145,10 +131,7 @@ pub fn cases_on_file<S: Start, V: Watch + Drop, W: Write>(
     ensures told { (told : Told) → IsDocket told.court told.history → HoldDocket (image_at S.Start) told.court told.history
         → IfOk result (λ done. IsCleanLeft done.left
         → WorksTo (ListsCases (cases_wanted wanted.now told.history) (W.contents writer.old) (W.contents writer.new)) done.outcome) }
-    ensures stays { (told : Told) → HoldDocket (image_at S.Start) told.court told.history
-        → IfOk result (λ done. IsCleanLeft done.left → LeavesRows done.left (rows_told told) (rows_told told)) }
-    ensures unopened { (told : Told) → HoldDocket (image_at S.Start) told.court told.history
-        → IfErr result (IsUnharmed (image_at S.Start) (IsImage (rows_told told))) }
+    ensures only { OnlyAsks (image_at S.Start) result }
     ensures unwritten { MatchResult result (λ done. IfErr done.outcome (λ _. writer.new ≡ writer.old)) (λ _. writer.new ≡ writer.old) }
 {
     ask_on_file(rt, path, start, watch, wanted, writer)
@@ -168,10 +151,7 @@ pub fn calendar_on_file<S: Start, V: Watch + Drop, W: Write>(
     ensures told { (told : Told) → IsDocket told.court told.history → HoldDocket (image_at S.Start) told.court told.history
         → IfOk result (λ done. IsCleanLeft done.left
         → WorksTo (ListsTo told.court told.history from to (W.contents writer.old) (W.contents writer.new)) done.outcome) }
-    ensures stays { (told : Told) → HoldDocket (image_at S.Start) told.court told.history
-        → IfOk result (λ done. IsCleanLeft done.left → LeavesRows done.left (rows_told told) (rows_told told)) }
-    ensures unopened { (told : Told) → HoldDocket (image_at S.Start) told.court told.history
-        → IfErr result (IsUnharmed (image_at S.Start) (IsImage (rows_told told))) }
+    ensures only { OnlyAsks (image_at S.Start) result }
     ensures unwritten { MatchResult result (λ done. IfErr done.outcome (λ _. writer.new ≡ writer.old)) (λ _. writer.new ≡ writer.old) }
 {
     ask_on_file(rt, path, start, watch, &CalendarLines { from, to }, writer)
@@ -191,10 +171,7 @@ pub fn export_on_file<S: Start, V: Watch + Drop, W: Write>(
     ensures told { (told : Told) → IsDocket told.court told.history → HoldDocket (image_at S.Start) told.court told.history
         → IfOk result (λ done. IsCleanLeft done.left
         → WorksTo (ExportsTo export.now told.court told.history (W.contents writer.old) (W.contents writer.new)) done.outcome) }
-    ensures stays { (told : Told) → HoldDocket (image_at S.Start) told.court told.history
-        → IfOk result (λ done. IsCleanLeft done.left → LeavesRows done.left (rows_told told) (rows_told told)) }
-    ensures unopened { (told : Told) → HoldDocket (image_at S.Start) told.court told.history
-        → IfErr result (IsUnharmed (image_at S.Start) (IsImage (rows_told told))) }
+    ensures only { OnlyAsks (image_at S.Start) result }
     ensures unwritten { MatchResult result (λ done. IfErr done.outcome (λ _. writer.new ≡ writer.old)) (λ _. writer.new ≡ writer.old) }
 {
     ask_on_file(rt, path, start, watch, export, writer)
@@ -212,10 +189,7 @@ pub fn sheet_on_file<S: Start, V: Watch + Drop>(
     ensures told { (told : Told) → IsDocket told.court told.history → HoldDocket (image_at S.Start) told.court told.history
         → IfOk result (λ done. IsCleanLeft done.left
         → WorksTo (AnswersTo (λ text. option_map string_bytes text ≡ page_of_sheet told.court told.history number)) done.outcome) }
-    ensures stays { (told : Told) → HoldDocket (image_at S.Start) told.court told.history
-        → IfOk result (λ done. IsCleanLeft done.left → LeavesRows done.left (rows_told told) (rows_told told)) }
-    ensures unopened { (told : Told) → HoldDocket (image_at S.Start) told.court told.history
-        → IfErr result (IsUnharmed (image_at S.Start) (IsImage (rows_told told))) }
+    ensures only { OnlyAsks (image_at S.Start) result }
 {
     ask_on_file(rt, path, start, watch, &CaseSheet { number }, &mut ())
 }
@@ -230,10 +204,7 @@ pub fn check_on_file<S: Start, V: Watch + Drop>(
     ensures told { (told : Told) → IsDocket told.court told.history → HoldDocket (image_at S.Start) told.court told.history
         → IfOk result (λ done. IsCleanLeft done.left
         → WorksTo (IsSoundDocket told.court (holdings_in told.court told.history)) done.outcome) }
-    ensures stays { (told : Told) → HoldDocket (image_at S.Start) told.court told.history
-        → IfOk result (λ done. IsCleanLeft done.left → LeavesRows done.left (rows_told told) (rows_told told)) }
-    ensures unopened { (told : Told) → HoldDocket (image_at S.Start) told.court told.history
-        → IfErr result (IsUnharmed (image_at S.Start) (IsImage (rows_told told))) }
+    ensures only { OnlyAsks (image_at S.Start) result }
 {
     ask_on_file(rt, path, start, watch, &Judgment, &mut ())
 }

@@ -12,13 +12,13 @@ ghost use Rattle.court_days.specs.Court.{CourtSettings};
 ghost use Rattle.docket_history.specs.Histories.{History};
 ghost use Rattle.docket_scan.specs.Dockets.{holdings_in};
 ghost use Rattle.docket_tables.specs.Layouts.{Rows};
-ghost use Rattle.docket_tables.specs.Stands.{HoldsRows, IsImage};
+ghost use Rattle.docket_tables.specs.Stands.{HoldsRows};
 ghost use Rattle.docket_applying.specs.Applying.{IsDocket, Stands};
 ghost use Rattle.docket_applying.specs.CourtDockets.{CourtDocket as Told};
-ghost use Rattle.docket_store.specs.Left.{IsUnharmed, LeavesRows};
 ghost use Rattle.docket_store.specs.Reopening.{HoldDocket};
-ghost use Rattle.file_dockets.specs.Keeping.{HoldsBetween, rows_told};
+ghost use Rattle.file_dockets.specs.Keeping.{HoldsBetween};
 ghost use Rattle.file_dockets.specs.Works.{WorksTo};
+ghost use Rattle.file_questions.specs.Asking.{OnlyAsks};
 
 use docket_store::{AdoptFault, Docket, Holdings, Watch};
 use file_dockets::{OnFile, Work, Worked, adopt, work_on_file};
@@ -78,6 +78,7 @@ impl<V: Watch + Drop, W, Q: Question<W>> Work<(), W> for Asked<'_, V, Q> {
         let answer = self.question.ask(alloc, &mut docket, held, out);
         Worked {
             outcome: Ok(answer),
+            failure: None,
             connection: docket.close(),
         }
     }
@@ -95,10 +96,7 @@ pub(crate) fn ask_on_file<S: Start, V: Watch + Drop, W, Q: Question<W>>(
     ensures told { (told : Told) → IsDocket told.court told.history → HoldDocket (image_at S.Start) told.court told.history
         → IfOk result (λ done. IsCleanLeft done.left
         → WorksTo (Q.Tells question.now told.court told.history out.old out.new) done.outcome) }
-    ensures stays { (told : Told) → HoldDocket (image_at S.Start) told.court told.history
-        → IfOk result (λ done. IsCleanLeft done.left → LeavesRows done.left (rows_told told) (rows_told told)) }
-    ensures unopened { (told : Told) → HoldDocket (image_at S.Start) told.court told.history
-        → IfErr result (IsUnharmed (image_at S.Start) (IsImage (rows_told told))) }
+    ensures only { OnlyAsks (image_at S.Start) result }
     ensures unwritten { MatchResult result (λ done. IfErr done.outcome (λ _. out.new ≡ out.old)) (λ _. out.new ≡ out.old) }
 {
     let asked = Asked { watch, question };

@@ -1,8 +1,9 @@
 -- What a docket is brought to by the connections that come to a port.
-use Rattle.std.specs.Prelude.{◌≡◌, ℕ, None, Result, Ok, Err, option_copied}
+use Rattle.std.specs.Prelude.{◌≡◌, ℕ, Option, None, Result, Ok, Err, option_copied}
 use Rattle.sqlite.specs.Held.{Held, state}
 use Rattle.sqlite.specs.State.{HasCleanDisk}
 use Rattle.sqlite.specs.Store.{Ghosts}
+use Rattle.sqlite.specs.declared.error.Error.{Error}
 use Rattle.docket_scan.specs.declared.fault.AdoptFault.{AdoptFault}
 use Rattle.http_request.specs.Origins.{AreGuardedAt, AreShownAt}
 use Rattle.http_request.specs.declared.page.Routes.{Routes}
@@ -13,6 +14,7 @@ use Rattle.docket_tables.specs.Layouts.{Rows}
 use Rattle.docket_tables.specs.Stands.{HoldsRows}
 use Rattle.docket_applying.specs.Applying.{IsDocket, StandsFor}
 use Rattle.docket_applying.specs.CourtDockets.{CourtDocket as Stored, StandsAs}
+use Rattle.file_dockets.specs.Adopting.{AdoptsOver}
 use Rattle.file_dockets.specs.Keeping.{HoldsBetween}
 use Rattle.file_dockets.specs.Works.{WorksTo}
 use Rattle.file_serving.specs.declared.serving.ServeEnd.{ServeEnd}
@@ -54,7 +56,8 @@ module _ {S : Type 0} (g : Ghosts S) where
     pub left : conn ≡ last.docket.conn
 
   -- What serving comes to over a connection, by what it held, `old`, and as it comes back, `new`.
-  pub record ServesOver (old new : Held S) (service : Service) (outcome : Result (Result (Unit {0}) ServeEnd) AdoptFault) : Type 0 where
+  pub record ServesOver (old new : Held S) (service : Service) (failure : Option Error) (outcome : Result (Result (Unit {0}) ServeEnd) AdoptFault) : Type 0 where
+    pub adopts : AdoptsOver g old new failure outcome
     pub served : (told : Stored) → IsDocket told.court told.history → StandsFor g old told.court told.history → HasCleanDisk (state g new)
         → WorksTo (Serves new told service) outcome
     pub stays : (rows : Rows) → HoldsRows g old rows → IfUnserved outcome (HoldsBetween g new rows rows)

@@ -6,10 +6,13 @@
 ghost use Rattle.std.specs.Prelude.{◌≡◌, IfErr, IfOk, MatchResult};
 ghost use Rattle.sqlite_wal.specs.Files.{image_at};
 ghost use Rattle.sqlite.specs.Files.{IsCleanLeft};
-ghost use Rattle.docket_tables.specs.Stands.{IsImage};
+ghost use Rattle.docket_columns.specs.declared.version.Version.{Version};
+ghost use Rattle.docket_tables.specs.Layouts.{Rows};
+ghost use Rattle.docket_tables.specs.Stands.{IsImageIn};
 ghost use Rattle.docket_store.specs.Left.{IsUnharmed, LeavesRows};
-ghost use Rattle.docket_store.specs.Reopening.{HoldDocket};
+ghost use Rattle.docket_store.specs.Reopening.{HoldDocket, HoldRows};
 ghost use Rattle.docket_applying.specs.CourtDockets.{CourtDocket as Told};
+ghost use Rattle.file_dockets.specs.Adopting.{IsJudged};
 ghost use Rattle.file_dockets.specs.Keeping.{rows_told};
 ghost use Rattle.file_serving.specs.Serves.{IfUnserved};
 
@@ -34,8 +37,10 @@ pub fn serve_on_file<S: Start, V: Watch + Drop, W: Write, E: Write>(
     // Where no connection was waited for the docket stays.
     ensures stays { (told : Told) → HoldDocket (image_at S.Start) told.court told.history
         → IfOk result (λ done. IsCleanLeft done.left → IfUnserved done.outcome (LeavesRows done.left (rows_told told) (rows_told told))) }
-    ensures unopened { (told : Told) → HoldDocket (image_at S.Start) told.court told.history
-        → IfErr result (IsUnharmed (image_at S.Start) (IsImage (rows_told told))) }
+    // Of any files, their tables are sound, or the fault tells why there is no docket, and they stay.
+    ensures judged { IfOk result (λ done. IsCleanLeft done.left → IsJudged (image_at S.Start) done.left done.failure done.outcome) }
+    ensures unopened { (v : Version) (rows : Rows) → HoldRows v (image_at S.Start) rows
+        → IfErr result (IsUnharmed (image_at S.Start) (IsImageIn v rows)) }
     ensures unserved { MatchResult result (λ done. IfErr done.outcome (λ _. (w.new ≡ w.old) × (e.new ≡ e.old))) (λ _. (w.new ≡ w.old) × (e.new ≡ e.old)) }
 {
     let serve = Serve {

@@ -139,6 +139,7 @@ impl<V: Watch + Drop, W: Write, E: Write> Work<W, E> for Serve<'_, V> {
         let end = listen(self.rt, self.service, &mut desk, w, e);
         Worked {
             outcome: Ok(end),
+            failure: None,
             connection: desk.into_docket().close(),
         }
     }

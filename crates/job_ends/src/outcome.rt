@@ -56,7 +56,11 @@ pub fn done<S: Start, T, F: fmt::Display + Drop, E: Write>(
         (λ end. TellsNothing (cow_str_bytes end.text) end.status
         × MatchResult ended (λ it. (end.left ≡ Some it.left) × IsErr it.outcome) (λ _. end.left ≡ None)) }
 {
-    let Ended { outcome, left } = match ended {
+    let Ended {
+        outcome,
+        failure: _,
+        left,
+    } = match ended {
         Ok(it) => it,
         Err((error, _)) => {
             let fault = FileFault::from(error);
@@ -84,7 +88,11 @@ pub fn done_on_docket<S: Start, T, E: Write>(
         × MatchResult ended (λ it. (end.left ≡ Some it.left) × IsErr it.outcome) (λ _. end.left ≡ None)) }
     ensures silent { OnOk result (e.new ≡ e.old) }
 {
-    let Ended { outcome, left } = match ended {
+    let Ended {
+        outcome,
+        failure: _,
+        left,
+    } = match ended {
         Ok(it) => it,
         Err((error, _)) => {
             let fault = FileFault::from(error);

@@ -97,3 +97,8 @@ failed_otherwise line status before after failed = λ is. absurd (cc)
 pub said_missing : (line : List ℕ) (status found : Status) (before mid after : Option (List ℕ)) → status ≡ found → mid ≡ before
     → SaysMissing line found mid after → SaysMissing line status before after
 said_missing line status found before mid after same untouched says = λ is. subst (λ b. AppendsFront b after line) untouched (says (sym same ∙ is))
+
+-- what is so for each thing is so for all
+pub for_all : {I X Y : Type 0} (ended : Result X Y) (P : I → X → Type 0) → ((i : I) → IfOk ended (P i)) → IfOk ended (λ it. (i : I) → P i it)
+for_all (Ok it) P all = all
+for_all (Err y) P all = tt

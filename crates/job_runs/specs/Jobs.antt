@@ -19,14 +19,16 @@ use Rattle.docket_command.specs.declared.refusal.Reply.{Reply}
 use Rattle.docket_history.specs.Histories.{local_rule_rows, standing_rows}
 use Rattle.docket_jobs.specs.declared.job.Job.{Job}
 use Rattle.docket_jobs.specs.declared.job.Job.TheVariants as job
+use Rattle.docket_columns.specs.declared.version.Version.{Version}
 use Rattle.docket_columns.specs.declared.version.Version.TheVariants.{First}
 use Rattle.docket_scan.specs.Dockets.{MayHold, holdings_in}
 use Rattle.docket_applying.specs.Applying.{IsDocket, docket_rows}
 use Rattle.docket_store.specs.Migrating.{HoldFirst}
-use Rattle.docket_store.specs.Reopening.{HoldDocket}
+use Rattle.docket_store.specs.Reopening.{HoldDocket, HoldRows}
 use Rattle.docket_applying.specs.declared.fault.Fault.{Fault}
 use Rattle.docket_store.specs.declared.migrating.MigrateFault.{MigrateFault}
 use Rattle.docket_tables.specs.Layouts.{Rows}
+use Rattle.docket_tables.specs.Stands.{IsImageIn}
 use Rattle.docket_text.specs.CourtCalendar.{court_calendar_text}
 use Rattle.docket_text.specs.HolidayTexts.{holiday_text}
 use Rattle.docket_text.specs.RuleTexts.{rules_text}
@@ -39,7 +41,7 @@ use Rattle.file_questions.specs.CaseLists.{cases_told}
 use Rattle.file_changes.specs.Commands.{AppliesTo}
 use Rattle.file_questions.specs.Exports.{page_of_sheet, text_of_export}
 use Rattle.file_dockets.specs.Keeping.{Keeps, rows_told}
-use Rattle.docket_store.specs.Left.{LeavesRows}
+use Rattle.docket_store.specs.Left.{Leaves, LeavesRows}
 use Rattle.file_changes.specs.Migrates.{MigratesTo}
 use Rattle.file_changes.specs.Runs.{LeavesPrefix}
 use Rattle.explain_lines.specs.Explain.{explain_text}
@@ -77,6 +79,10 @@ new_docket court = record { court = court; history = [] }
 -- memory gives back what it took
 abbrev pub IsHonest : {S : Type 0} → Store S → Type 0
 IsHonest {S} g = (held : Held S) → HasCleanDisk (state g held)
+
+-- the files held no docket, of either version
+abbrev pub HoldNone : Image → Type 0
+HoldNone files = (v : Version) (rows : Rows) → HoldRows v files rows → ⊥
 
 -- of the docket that the files held
 abbrev pub OfDocket : Image → (Docket → Type 0) → Type 0
@@ -126,11 +132,11 @@ module _ {D : Type 0} {g : Ghosts D} where
   abbrev pub TellsOf : Docket → (List ℕ → Status → Type 0) → JobEnd D g → Type 0
   TellsOf docket P end = FailsOr end (λ left. P (cow_str_bytes end.text) end.status × LeavesRows left (rows_told docket) (rows_told docket))
 
-  -- a docket without any record is made, or the job failed
-  abbrev pub Makes : CourtSettings → Leftover D g → List ℕ → Status → Type 0
-  Makes court left text Done = (text ≡ codes "created\n") × IsDocket court [] × LeavesRows left (docket_rows court []) (docket_rows court [])
-  Makes court left text Failed = text ≡ []
-  Makes court left text _ = ⊥
+  -- a docket without any record is made where none was, of either version; or the job failed, and one that was there is left
+  abbrev pub Makes : Image → CourtSettings → Leftover D g → List ℕ → Status → Type 0
+  Makes files court left text Done = (text ≡ codes "created\n") × IsDocket court [] × LeavesRows left (docket_rows court []) (docket_rows court []) × HoldNone files
+  Makes files court left text Failed = (text ≡ []) × ((v : Version) (rows : Rows) → HoldRows v files rows → Leaves left (IsImageIn v rows))
+  Makes files court left text _ = ⊥
 
   -- a docket is taken from the first version of the tables to the second; or the job failed, and what is left is as of the fault
   abbrev pub Migrates : Docket → Leftover D g → List ℕ → Status → Type 0
@@ -156,7 +162,7 @@ module _ {D : Type 0} {g : Ghosts D} where
       IfSome input (λ bytes. RunsInMemory (new_docket court) bytes before after end.status) × (cow_str_bytes end.text ≡ []) × (end.left ≡ None)
   Does (job.Run file) files input before after end =
       IfUnopened end (after ≡ before) × OfDocket files (λ docket. IfSome input (λ bytes. FailsOr end (λ left. Runs (LeavesRows left) docket bytes before after end.status)))
-  Does (job.Create file court) files input before after end = FailsOr end (λ left. Makes court left (cow_str_bytes end.text) end.status) × (after ≡ before)
+  Does (job.Create file court) files input before after end = FailsOr end (λ left. Makes files court left (cow_str_bytes end.text) end.status) × (after ≡ before)
   Does (job.Rules None) files input before after end = TellsText (rules_text []) (cow_str_bytes end.text) end.status × (end.left ≡ None) × (after ≡ before)
   Does (job.Rules (Some file)) files input before after end =
       OfDocket files (λ docket. TellsOf docket (TellsText (rules_text (local_rule_rows docket.history))) end) × (after ≡ before)

@@ -1,5 +1,6 @@
 //! A new docket in a file.
 ghost use Rattle.std.specs.Cow.{cow_str_bytes};
+ghost use Rattle.sqlite_wal.specs.Files.{image_at};
 ghost use Rattle.job_runs.specs.Jobs.{FailsOr, Makes};
 
 use court_days::Court;
@@ -39,7 +40,7 @@ fn ready_file(rt: &HostRuntime, path: &str) -> Result<(), FileFault> {
     }
 }
 
-/// Makes a docket of the court in a file that holds none.
+/// Makes a docket of the court in a file that holds none. One that is there is left.
 pub(crate) fn create_docket<S: Start, E: Write>(
     rt: &HostRuntime,
     start: S,
@@ -47,7 +48,7 @@ pub(crate) fn create_docket<S: Start, E: Write>(
     court: Court,
     e: &mut E,
 ) -> JobEnd<FileFrom<S>>
-    ensures made { FailsOr result (λ left. Makes court left (cow_str_bytes result.text) result.status) }
+    ensures made { FailsOr result (λ left. Makes (image_at S.Start) court left (cow_str_bytes result.text) result.status) }
 {
     match ready_file(rt, path) {
         Ok(()) => {}

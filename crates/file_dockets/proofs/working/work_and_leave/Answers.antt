@@ -1,4 +1,4 @@
-use Rattle.std.proofs.Common.{◌≡◌, IfErr, sym, subst}
+use Rattle.std.proofs.Common.{◌≡◌, IfErr, sym, subst, subst₂}
 use Rattle.sqlite.specs.Files.{over_files}
 use Rattle.sqlite.specs.Held.{state}
 use Rattle.docket_store.specs.Left.{Leaves}
@@ -10,7 +10,8 @@ returns-clause-done g c start holds =
     record {
       opened = c.args.conn;
       back = c.work.result.connection;
-      comes = subst (g.J.Work.Comes c.args.job over_files c.args.conn c.work.result.connection c.args.reader.now c.work.new.reader c.args.writer.now c.work.new.writer) told c.work.ensures.comes;
+      comes = subst₂ (g.J.Work.Comes c.args.job over_files c.args.conn c.work.result.connection c.args.reader.now c.work.new.reader c.args.writer.now c.work.new.writer)
+          (sym c.leave.ensures.failure) told c.work.ensures.comes;
       holds = holds;
       trust = c.leave.ensures.trust;
       left = c.leave.ensures.left;

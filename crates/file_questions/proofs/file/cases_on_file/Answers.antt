@@ -3,11 +3,8 @@ use Rattle.file_questions.proofs.file.cases_on_file.Goals as goal
 pub returns-clause-told : goal.returns-clause-told
 returns-clause-told g c = c.ask_on_file.ensures.told
 
-pub returns-clause-stays : goal.returns-clause-stays
-returns-clause-stays g c = c.ask_on_file.ensures.stays
-
-pub returns-clause-unopened : goal.returns-clause-unopened
-returns-clause-unopened g c = c.ask_on_file.ensures.unopened
+pub returns-clause-only : goal.returns-clause-only
+returns-clause-only g c = c.ask_on_file.ensures.only
 
 pub returns-clause-unwritten : goal.returns-clause-unwritten
 returns-clause-unwritten g c = c.ask_on_file.ensures.unwritten

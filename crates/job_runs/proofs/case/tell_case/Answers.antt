@@ -1,12 +1,13 @@
 use Rattle.std.proofs.Common.{refl, ap}
 use Rattle.file_questions.specs.Tells.{text_of_case}
+use Rattle.file_dockets.specs.Keeping.{rows_told}
 use Rattle.job_runs.specs.Tells.{no_such_case}
 use Rattle.job_runs.proofs.EndLemmas.{said_missing}
 use Rattle.job_runs.proofs.case.tell_case.Goals as goal
 
 pub returns-clause-told : goal.returns-clause-told
 returns-clause-told g c docket is files =
-    c.end_if_any.ensures.told docket (text_of_case docket.court docket.history c.args.number) (c.case_on_file-ended.ensures.told docket is files, c.case_on_file-ended.ensures.stays docket files)
+    c.end_if_any.ensures.told docket (text_of_case docket.court docket.history c.args.number) (c.case_on_file-ended.ensures.told docket is files, c.case_on_file-ended.ensures.only.stays (rows_told docket) files)
 
 pub returns-clause-missing : goal.returns-clause-missing
 returns-clause-missing g c =

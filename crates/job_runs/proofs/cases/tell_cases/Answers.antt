@@ -1,4 +1,5 @@
 use Rattle.std.proofs.Common.{refl, ap}
+use Rattle.file_dockets.specs.Keeping.{rows_told}
 use Rattle.job_runs.specs.Tells.{no_such_case}
 use Rattle.job_runs.proofs.EndLemmas.{said_missing, unbegun}
 use Rattle.job_runs.proofs.cases.tell_cases.Goals as goal
@@ -6,7 +7,7 @@ use Rattle.job_runs.proofs.cases.tell_cases.Goals as goal
 pub returns-clause-told : goal.returns-clause-told
 returns-clause-told g c docket is files =
     let ended = c.cases_on_file-ended in
-    c.end_listed.ensures.told docket _ _ _ (ended.ensures.told docket is files, ended.ensures.stays docket files)
+    c.end_listed.ensures.told docket _ _ _ (ended.ensures.told docket is files, ended.ensures.only.stays (rows_told docket) files)
     (unbegun ended.result (λ it. it.outcome) _ _ (ap g.W.Write.contents) ended.ensures.unwritten)
 
 pub returns-clause-unopened : goal.returns-clause-unopened

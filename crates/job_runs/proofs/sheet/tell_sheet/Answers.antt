@@ -1,12 +1,13 @@
 use Rattle.std.proofs.Common.{refl, ap}
 use Rattle.file_questions.specs.Exports.{page_of_sheet}
+use Rattle.file_dockets.specs.Keeping.{rows_told}
 use Rattle.job_runs.specs.Tells.{no_such_case}
 use Rattle.job_runs.proofs.EndLemmas.{said_missing}
 use Rattle.job_runs.proofs.sheet.tell_sheet.Goals as goal
 
 pub returns-clause-told : goal.returns-clause-told
 returns-clause-told g c docket is files =
-    c.end_if_any.ensures.told docket (page_of_sheet docket.court docket.history c.args.number) (c.sheet_on_file-ended.ensures.told docket is files, c.sheet_on_file-ended.ensures.stays docket files)
+    c.end_if_any.ensures.told docket (page_of_sheet docket.court docket.history c.args.number) (c.sheet_on_file-ended.ensures.told docket is files, c.sheet_on_file-ended.ensures.only.stays (rows_told docket) files)
 
 pub returns-clause-missing : goal.returns-clause-missing
 returns-clause-missing g c =
