@@ -99,13 +99,14 @@ def limited(most):
 
 
 class Server:
-    """A run of `docketctl serve`, and how many connections it still takes; without a count it is endless."""
+    """A run of `docketctl serve` at a port, or at the socket of a path, and how many connections it still takes; without a count it is endless."""
 
     begun_so_far = []
 
-    def __init__(self, program, file, count, port=0, most=None, surroundings=None, words=()):
+    def __init__(self, program, file, count, port=0, most=None, surroundings=None, words=(), path=None):
         self.left, self.seen, self.errors = count or 0, 0, tempfile.TemporaryFile()
-        words = [program, "serve", "--db", file, "--port", str(port), *(["--count", str(count)] if count else ["--endless"]), *words]
+        self.path, place = path, ["--socket", path] if path else ["--port", str(port)]
+        words = [program, "serve", "--db", file, *place, *(["--count", str(count)] if count else ["--endless"]), *words]
         self.process = subprocess.Popen(words, stdin=subprocess.DEVNULL, stdout=subprocess.PIPE, stderr=self.errors,
                                         preexec_fn=limited(most) if most else None, env=surroundings)
         self.begun_so_far.append(self)
@@ -120,12 +121,14 @@ class Server:
 
     def connect(self, room=None):
         """A connection, whose client has room for so many bytes that it did not read yet."""
-        sock = socket.socket()
-        sock.setsockopt(socket.IPPROTO_TCP, socket.TCP_NODELAY, 1)
+        sock = socket.socket(socket.AF_UNIX if self.path else socket.AF_INET)
+        if not self.path:
+            sock.setsockopt(socket.IPPROTO_TCP, socket.TCP_NODELAY, 1)
         if room:
             sock.setsockopt(socket.SOL_SOCKET, socket.SO_RCVBUF, room)
         sock.settimeout(PATIENCE)
-        sock.connect(("127.0.0.1", self.taken()))
+        port = self.taken()
+        sock.connect(self.path or ("127.0.0.1", port))
         return sock
 
     def begun(self, request, room=None):
@@ -143,8 +146,10 @@ class Server:
 
     def curl(self, *words, body=None, targets=()):
         """What curl shows for one target, or for several: each answer whole, with its head."""
-        urls = [f"http://127.0.0.1:{self.taken()}{target}" for target in targets]
-        done = subprocess.run(["curl", "-q", "-sSi", "--noproxy", "*", "--max-time", str(PATIENCE), *words, *urls],
+        place = ["--unix-socket", self.path] if self.path else []
+        ports = [self.taken() for _ in targets]
+        urls = [f"http://localhost{target}" if self.path else f"http://127.0.0.1:{port}{target}" for port, target in zip(ports, targets)]
+        done = subprocess.run(["curl", "-q", "-sSi", "--noproxy", "*", "--max-time", str(PATIENCE), *place, *words, *urls],
                               input=body, stdout=subprocess.PIPE, stderr=subprocess.DEVNULL, check=False)
         return done.stdout
 

@@ -79,7 +79,7 @@ migrate_line = with_rule (new_app (codes "migrate")) (required file_rule)
 
 unfoldable pub serve_line : App
 serve_line =
-    with_rule (with_rule (with_rule (with_rule (with_rule (with_rule (with_rule (new_app (codes "serve")) (required file_rule)) (required (option_rule (codes "port")))) (option_rule (codes "count"))) (flag_rule (codes "endless"))) (flag_rule (codes "pages"))) (flag_rule (codes "guard"))) (option_rule (codes "origin"))
+    with_rule (with_rule (with_rule (with_rule (with_rule (with_rule (with_rule (with_rule (new_app (codes "serve")) (required file_rule)) (option_rule (codes "port"))) (option_rule (codes "socket"))) (option_rule (codes "count"))) (flag_rule (codes "endless"))) (flag_rule (codes "pages"))) (flag_rule (codes "guard"))) (option_rule (codes "origin"))
 
 unfoldable pub rules_line : App
 rules_line = with_rule (new_app (codes "rules")) file_rule

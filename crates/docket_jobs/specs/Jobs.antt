@@ -15,11 +15,22 @@ use Rattle.civil_time.specs.Reading.{time_of_day_at}
 use Rattle.civil_time.specs.Zone.{ZoneRules}
 use Rattle.civil_time.specs.ZoneText.{zone_at}
 use Rattle.court_days.specs.Court.{CourtSettings}
+use Rattle.patient_stream.specs.declared.place.Place.{Place}
+use Rattle.patient_stream.specs.declared.place.Place.TheVariants as place
 use Rattle.due_exports.specs.declared.form.Form.{Form}
 use Rattle.due_exports.specs.declared.form.Form.TheVariants as form
 use Rattle.docket_jobs.specs.CommandLine.{docketctl}
 use Rattle.docket_jobs.specs.declared.job.Job.{Job}
 use Rattle.docket_jobs.specs.declared.job.Job.TheVariants as job
+
+-- where connections are taken, with the text of a path
+pub data Where : Type 0 where
+  at_port : ℕ → Where
+  at_socket : Text → Where
+
+abbrev pub where_asked : Place → Where
+where_asked (place.Port port) = at_port port
+where_asked (place.Socket path) = at_socket path.now
 
 -- what is asked for, with the texts of files and keys, and the courts
 pub data Asked : Type 0 where
@@ -38,7 +49,7 @@ pub data Asked : Type 0 where
   to_check : Text → Asked
   to_back_up : Text → Text → Asked
   to_migrate : Text → Asked
-  to_serve : Text → ℕ → Option ℕ → Bool → Bool → Option Text → Asked
+  to_serve : Text → Where → Option ℕ → Bool → Bool → Option Text → Asked
   to_tell_rules : Option Text → Asked
   to_tell_holidays : ℕ → Asked
   to_tell_court_calendar : Text → ℕ → ℕ → Asked
@@ -59,7 +70,7 @@ asked job.ExplainLines = to_explain_lines
 asked (job.Check file) = to_check file.now
 asked (job.Backup file to) = to_back_up file.now to.now
 asked (job.Migrate file) = to_migrate file.now
-asked (job.Serve file port count pages guard origin) = to_serve file.now port count pages guard (option_copied origin)
+asked (job.Serve file place count pages guard origin) = to_serve file.now (where_asked place) count pages guard (option_copied origin)
 asked (job.Rules file) = to_tell_rules (option_copied file)
 asked (job.Holidays year) = to_tell_holidays year
 asked (job.CourtCalendar file from to) = to_tell_court_calendar file.now from to
@@ -208,14 +219,24 @@ limit_of (Some text) false = option_map Some (count_of text)
 limit_of None true = Some None
 limit_of _ _ = None
 
-abbrev pub serve_if : Text → Option ℕ → Option (Option ℕ) → Bool → Bool → Option (Option Text) → Option Asked
-serve_if file (Some port) (Some count) pages guard (Some origin) = Some (to_serve file port count pages guard origin)
+-- the socket of a file, whose path is not empty
+abbrev pub socket_if : Text → Option Where
+socket_if path = if length path == 0 then None else Some (at_socket path)
+
+-- a port, or the socket of a file: one of the two is asked for
+abbrev pub place_if : Option Text → Option Text → Option Where
+place_if (Some port) None = option_map at_port (port_of port)
+place_if None (Some path) = socket_if path
+place_if _ _ = None
+
+abbrev pub serve_if : Text → Option Where → Option (Option ℕ) → Bool → Bool → Option (Option Text) → Option Asked
+serve_if file (Some place) (Some count) pages guard (Some origin) = Some (to_serve file place count pages guard origin)
 serve_if file _ _ pages guard origin = None
 
--- connections at a port, with pages or with the guard alone where they are asked for, and at another origin where one is given
+-- connections at a place, with pages or with the guard alone where they are asked for, and at another origin where one is given
 abbrev pub serve_asked : List Row → Option Asked
 serve_asked found =
-    serve_if (value_of (codes "db") found) (port_of (value_of (codes "port") found)) (limit_of (first_of (codes "count") found) (flag_of (codes "endless") found))
+    serve_if (value_of (codes "db") found) (place_if (first_of (codes "port") found) (first_of (codes "socket") found)) (limit_of (first_of (codes "count") found) (flag_of (codes "endless") found))
     (flag_of (codes "pages") found) (flag_of (codes "guard") found)
     (origin_if (flag_of (codes "pages") found || flag_of (codes "guard") found) (first_of (codes "origin") found))
 

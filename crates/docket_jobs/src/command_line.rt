@@ -283,11 +283,17 @@ fn serve_command<'a>(alloc: Global) -> Result<Command<'a>, AllocError>
         SERVE_HELP,
     )
     .arg(needed_option(alloc, "db", "FILE", FILE_TEXT))?
-    .arg(needed_option(
+    .arg(option(
         alloc,
         "port",
         "P",
         "The port at 127.0.0.1, or 0 for one that is free",
+    ))?
+    .arg(option(
+        alloc,
+        "socket",
+        "PATH",
+        "In place of a port, the file of a socket",
     ))?
     .arg(option(alloc, "count", "N", "How many connections are served"))?
     .arg(flag(alloc, "endless", "Serve until a signal ends the run"))?

@@ -220,7 +220,8 @@ docket of version 1, or writing, memory or the database failed, which standard e
 line.";
 
 pub(crate) const SERVE_HELP: &str = "\
-The docket is served at 127.0.0.1 alone, one connection after the other and one request a connection:
+The docket is served at 127.0.0.1 alone, or at a socket, one connection after the other and one
+request a connection:
   POST /commands              a command, as a line of `docketctl run`
   GET /cases/NUMBER           a case, as of `docketctl case`
   GET /cases/NUMBER/deadlines its deadlines
@@ -244,12 +245,20 @@ a request is answered only where its Host is 127.0.0.1, localhost or [::1] at th
 --origin, its Origin, where a browser sends one, is the same, and no browser marks it as from another
 site, unless it follows a link; else with 403. With --endless in place of --count the docket is served
 until a signal ends the run.
+With --socket PATH in place of --port the docket is served at the socket of a file, which is made with
+rights for its owner alone: the rights of the file and of its folder say who may ask.
+  docketctl serve --db court.db --socket court.socket --count 1000
+  listening on court.socket
+  curl --unix-socket court.socket http://localhost/cases/1
+The file is removed at the end, but not where a signal ends the run. A socket at which nobody listens is
+made anew; any other file of that path stays, and nobody is served. With --pages or --guard the Host is
+without a port then.
 A client is waited for ten seconds in all for its request, and ten for its answer. What goes wrong
 with a connection is told in a line of standard error, and the next is served. A copy is made in
 memory and judged, which takes as long as the opening.
 
-Exit status: 0 N connections were served, 2 bad command line, 3 the docket or the port could not
-be opened, or writing, memory or the database failed.";
+Exit status: 0 N connections were served, 2 bad command line, 3 the docket, the port or the
+socket could not be opened, or writing, memory or the database failed.";
 
 pub(crate) const RULES_HELP: &str = "\
 Each rule of the Federal Rules of Civil Procedure by which a deadline runs has a line, and behind

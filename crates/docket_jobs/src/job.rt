@@ -5,7 +5,7 @@ ghost use Rattle.clap.specs.Matches.{found_of};
 ghost use Rattle.clap.specs.Simple.{subcommand_rows_of};
 ghost use Rattle.clap.specs.Values.{kind_of};
 ghost use Rattle.clap.specs.Walk.{rows_of};
-ghost use Rattle.docket_jobs.specs.Jobs.{IsLimited, asked, asked_by, asked_in, asked_of, backup_asked, is_origin, limit_of, origin_if, case_asked, cases_asked, check_asked, court_asked, create_asked, explain_asked, explain_numbers, import_asked, line_faults, migrate_asked, number_of, rules_asked, run_asked, serve_asked};
+ghost use Rattle.docket_jobs.specs.Jobs.{IsLimited, asked, asked_by, asked_in, asked_of, backup_asked, is_origin, limit_of, origin_if, case_asked, cases_asked, check_asked, court_asked, create_asked, explain_asked, explain_numbers, import_asked, line_faults, migrate_asked, number_of, place_if, rules_asked, run_asked, serve_asked, socket_if, where_asked};
 
 use crate::command_line::command;
 use crate::day_jobs::{calendar_job, export_job, holidays_job};
@@ -16,6 +16,7 @@ use clap::error::ErrorKind;
 use clap::{ArgMatches, Command, Error};
 use court_days::{Court, CourtFault};
 use due_exports::Form;
+use patient_stream::Place;
 use std::alloc::{AllocError, Global};
 
 /// What the program is to do.
@@ -96,13 +97,13 @@ pub enum Job<'a> {
     Migrate {
         file: &'a str,
     },
-    /// `serve`: answer the requests of 1 to 1,000,000 connections, or of all that come, at a port of this machine
+    /// `serve`: answer the requests of 1 to 1,000,000 connections, or of all that come, at a place of this machine
     /// alone, of the docket in a file. With `pages` its pages are shown as well. With them or with `guard` only
     /// requests at its own origins are answered, and at another one where that is given. Port 0 is one that the
     /// system chooses.
     Serve {
         file: &'a str,
-        port: u16,
+        place: Place<'a>,
         count: Option<u32>,
         pages: bool,
         guard: bool,
@@ -296,20 +297,45 @@ fn read_limit<'a>(count: Option<&'a str>, endless: bool) -> Result<Option<u32>, 
     }
 }
 
+/// The socket of a file, whose path has a byte or more.
+fn read_path<'a>(path: &'a str) -> Result<Place<'a>, BadValue<'a>>
+    ensures { MatchResult result (λ place. socket_if path.now ≡ Some (where_asked place)) (λ _. socket_if path.now ≡ None) }
+{
+    if path.is_empty() {
+        return Err(BadValue::Socket);
+    }
+    Ok(Place::Socket(path))
+}
+
+/// Where connections are taken, at a port or at the socket of a file.
+fn read_place<'a>(port: Option<&'a str>, socket: Option<&'a str>) -> Result<Place<'a>, BadValue<'a>>
+    ensures { MatchResult result (λ place. place_if (option_copied port.entry) (option_copied socket.entry) ≡ Some (where_asked place))
+        (λ _. place_if (option_copied port.entry) (option_copied socket.entry) ≡ None) }
+{
+    match (port, socket) {
+        (Some(text), None) => match read_port(text) {
+            Some(port) => Ok(Place::Port(port)),
+            None => Err(BadValue::Port),
+        },
+        (None, Some(path)) => read_path(path),
+        _ => Err(BadValue::Place),
+    }
+}
+
 #[tactic(auto, using(crate::proofs::MatchLemmas::first_value_is))]
 fn serve_job<'a>(found: &ArgMatches<'a>) -> Result<Job<'a>, BadValue<'a>>
     ensures limited { IfOk result IsLimited }
     ensures job { MatchResult result (λ job. serve_asked (rows_of (found_of found.now)) ≡ Some (asked job))
         (λ _. serve_asked (rows_of (found_of found.now)) ≡ None) }
 {
-    let port = read_port(value(found, "port")).ok_or(BadValue::Port)?;
+    let place = read_place(found.get_str("port"), found.get_str("socket"))?;
     let count = read_limit(found.get_str("count"), flag(found, "endless"))?;
     let pages = flag(found, "pages");
     let guard = flag(found, "guard");
     let origin = read_origin(pages || guard, found.get_str("origin"))?;
     Ok(Job::Serve {
         file: value(found, "db"),
-        port,
+        place,
         count,
         pages,
         guard,

@@ -20,6 +20,8 @@ pub(crate) enum BadValue<'a> {
     Form,
     Sheet,
     Port,
+    Socket,
+    Place,
     Origin,
     Count,
     Limit,
@@ -55,6 +57,8 @@ impl fmt::Display for BadValue<'_> {
                 "--case goes with --as html alone, and without it go FROM and TO",
             ),
             BadValue::Port => f.write_str("P is a port from 0 to 65535, without a leading zero"),
+            BadValue::Socket => f.write_str("PATH of --socket is the path of a file"),
+            BadValue::Place => f.write_str("--port P or --socket PATH is needed, and not both"),
             BadValue::Origin => f.write_str(
                 "--origin goes with --pages or --guard, and is one as https://docket.example",
             ),

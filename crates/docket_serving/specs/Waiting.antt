@@ -1,12 +1,12 @@
 -- Those who wait to be attended to.
 use Rattle.std.specs.Prelude.{◌≡◌, List, [], ◌∷◌, ◌++◌, map, All}
-use Rattle.std.specs.declared.net.tcp.TcpStream.{TcpStream}
+use Rattle.patient_stream.specs.declared.stream.Stream.{Stream}
 use Rattle.http_request.specs.Request.{EndsEarly}
 use Rattle.http_request.specs.declared.page.Routes.TheVariants.{Docket}
 use Rattle.docket_serving.specs.declared.caller.Caller.{Caller}
 
 -- their connections, the oldest first
-abbrev pub streams : List Caller → List TcpStream
+abbrev pub streams : List Caller → List Stream
 streams callers = map (λ (c : Caller). c.stream) callers
 
 -- what was read of each is no whole request yet

@@ -4,9 +4,9 @@ ghost use Rattle.http_request.specs.Request.{EndsEarly};
 ghost use Rattle.http_request.specs.declared.page.Routes.TheVariants as routes;
 
 use http_request::{InputFault, Routes, read_request};
+use patient_stream::Stream;
 use std::alloc::Global;
 use std::io::{ErrorKind, Read};
-use std::net::TcpStream;
 use std::time::{Clock, Duration, Instant};
 
 /// How many seconds a caller is waited for from its first byte on, until its request has come.
@@ -28,7 +28,7 @@ enum Taken {
 /// A connection, what has come of it, and how long it may still be waited for.
 #[derive(Drop)]
 pub(crate) struct Caller {
-    pub(crate) stream: TcpStream,
+    pub(crate) stream: Stream,
     pub(crate) came: Vec<u8>,
     pub(crate) left: Duration,
     begun: Option<Instant>,
@@ -47,7 +47,7 @@ fn is_whole(alloc: Global, came: &[u8]) -> bool
 
 impl Caller {
     /// A connection of which nothing was read yet. Its reads do not wait.
-    pub(crate) fn new(alloc: Global, stream: TcpStream) -> Caller
+    pub(crate) fn new(alloc: Global, stream: Stream) -> Caller
         ensures stream { result.stream ≡ stream }
         ensures came { result.came.items ≡ [] }
     {

@@ -22,4 +22,5 @@ pub use docket_copies::DocketFiles;
 pub use docket_http::Routes;
 pub use laws::who_changes_a_docket_is_let_through;
 pub use listening::Listening;
+pub use patient_stream::{Listener, Place};
 pub use serving::{ServingFault, serve_run};

@@ -9,10 +9,9 @@ use crate::waiting::{MOST, Waiting};
 use docket_http::{ServeFault, Served};
 use mio::unix::SourceFd;
 use mio::{Events, Interest, Poll, Token};
-use patient_stream::{PatientReader, PatientWriter};
+use patient_stream::{Listener, PatientReader, PatientWriter, Stream};
 use std::io;
 use std::io::{ErrorKind, Read};
-use std::net::{TcpListener, TcpStream};
 use std::os::fd::AsRawFd;
 use std::rt::HostRuntime;
 use std::time::Duration;
@@ -25,7 +24,7 @@ const PAUSE: u64 = 1;
 #[derive(Drop)]
 pub struct Listening<'a> {
     rt: &'a HostRuntime,
-    listener: &'a TcpListener,
+    listener: &'a Listener<'a>,
     poll: Poll,
     events: Events,
     waiting: Waiting,
@@ -40,7 +39,7 @@ fn watch<F: AsRawFd>(poll: &Poll, source: &F) -> io::Result<()> {
 
 impl<'a> Listening<'a> {
     /// The connections that this listener takes. From now on its `accept` does not wait.
-    pub fn new(rt: &'a HostRuntime, listener: &'a TcpListener) -> io::Result<Listening<'a>> {
+    pub fn new(rt: &'a HostRuntime, listener: &'a Listener<'a>) -> io::Result<Listening<'a>> {
         listener.set_nonblocking(true)?;
         let poll = Poll::new(rt)?;
         watch(&poll, listener)?;
@@ -54,7 +53,7 @@ impl<'a> Listening<'a> {
     }
 
     /// Has the one at the other end wait, or lets it go where nothing could tell that something comes of it.
-    fn receive(&mut self, stream: TcpStream) {
+    fn receive(&mut self, stream: Stream) {
         if stream.set_nonblocking(true).is_ok() && watch(&self.poll, &stream).is_ok() {
             let _ = self.waiting.join(Caller::new(self.rt.alloc(), stream));
         }
@@ -64,7 +63,7 @@ impl<'a> Listening<'a> {
     /// too many files are open, the oldest of those who wait is let go.
     fn admit(&mut self) -> io::Result<bool> {
         match self.listener.accept() {
-            Ok((stream, _)) => {
+            Ok(stream) => {
                 self.receive(stream);
                 Ok(true)
             }
@@ -116,12 +115,12 @@ fn attend_patiently<A: Attendant>(
 }
 
 impl Connections for Listening<'_> {
-    type Peer = TcpStream;
+    type Peer = Stream;
 
     fn next<A: Attendant>(
         &mut self,
         attendant: &mut A,
-    ) -> io::Result<(TcpStream, Result<Served, ServeFault>)> {
+    ) -> io::Result<(Stream, Result<Served, ServeFault>)> {
         let caller = self.next_caller()?;
         caller.stream.set_nonblocking(false)?;
         let served = attend_patiently(self.rt, &caller, attendant);

@@ -1,10 +1,9 @@
 //! Parting from a peer so that it has its answer.
 
 use docket_http::{ServeFault, Served};
-use patient_stream::PatientReader;
+use patient_stream::{PatientReader, Stream};
 use std::io;
 use std::io::Read;
-use std::net::{Shutdown, TcpStream};
 use std::time::Duration;
 
 /// How many seconds a peer is waited for to close its side.
@@ -21,18 +20,18 @@ fn is_early(served: &Result<Served, ServeFault>) -> bool {
     }
 }
 
-/// Whether bytes have come that were not read.
-fn has_unread(stream: &TcpStream) -> bool {
+/// Whether bytes have come that were not read. The first of them is read.
+fn has_unread(mut stream: &Stream) -> bool {
     let mut first = [0u8; 1];
     let _ = stream.set_nonblocking(true);
-    let peeked = stream.peek(&mut first);
+    let read = stream.read(&mut first);
     let _ = stream.set_nonblocking(false);
-    matches!(peeked, Ok(1))
+    matches!(read, Ok(1))
 }
 
 /// Reads and drops what still comes, until the peer closes its side.
-fn drop_rest(rt: &HostRuntime, stream: &TcpStream) -> io::Result<()> {
-    stream.shutdown(Shutdown::Write)?;
+fn drop_rest(rt: &HostRuntime, stream: &Stream) -> io::Result<()> {
+    stream.end_sending()?;
     let mut rest = PatientReader::new(rt, stream, Duration::from_secs(FAREWELL));
     let mut piece = [0u8; 4096];
     for _ in 0..MAX_PIECES {
@@ -45,7 +44,7 @@ fn drop_rest(rt: &HostRuntime, stream: &TcpStream) -> io::Result<()> {
 
 /// Ends a connection. To close a socket with unread bytes resets the connection, and the peer may lose
 /// its answer; so they are read and dropped for a while.
-pub(crate) fn part(rt: &HostRuntime, stream: &TcpStream, served: &Result<Served, ServeFault>) {
+pub(crate) fn part(rt: &HostRuntime, stream: &Stream, served: &Result<Served, ServeFault>) {
     if is_early(served) || has_unread(stream) {
         let _ = drop_rest(rt, stream);
     }

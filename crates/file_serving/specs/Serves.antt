@@ -1,10 +1,11 @@
--- What a docket is brought to by the connections that come to a port.
+-- What a docket is brought to by the connections that come to a place.
 use Rattle.std.specs.Prelude.{◌≡◌, ℕ, Option, None, Result, Ok, Err, option_copied}
 use Rattle.sqlite.specs.Held.{Held, state}
 use Rattle.sqlite.specs.State.{HasCleanDisk}
 use Rattle.sqlite.specs.Store.{Ghosts}
 use Rattle.sqlite.specs.declared.error.Error.{Error}
 use Rattle.docket_scan.specs.declared.fault.AdoptFault.{AdoptFault}
+use Rattle.patient_stream.specs.Places.{IsPortOf}
 use Rattle.http_request.specs.Origins.{AreGuardedAt, AreShownAt}
 use Rattle.http_request.specs.declared.page.Routes.{Routes}
 use Rattle.http_request.specs.declared.page.Routes.TheVariants.{Docket}
@@ -30,29 +31,32 @@ IfUnserved (Ok (Err (Stopped fault))) P = Unit {0}
 IfUnserved (Ok (Err _)) P = P
 IfUnserved (Err fault) P = P
 
--- these are the routes of the docket alone, to whoever asks or at their origins, or with the pages at those
+-- these are the routes of the docket alone, to whoever asks or at the origins with a port, or with the pages at those
 abbrev pub AreServedAt : ℕ → Shown → Routes → Type 0
 AreServedAt port NoPages routes = routes ≡ Docket
 AreServedAt port (Guarded other) routes = AreGuardedAt port (option_copied other) routes
 AreServedAt port (Pages other) routes = AreShownAt port (option_copied other) routes
 
+-- these are the routes that were asked for, at the origins of the place
+abbrev pub AreServed : Service → Routes → Type 0
+AreServed service routes = (port : ℕ) × IsPortOf service.place port × AreServedAt port service.shown routes
+
 module _ {S : Type 0} (g : Ghosts S) where
-  -- a docket was served to so many connections, whose bytes are not known, by the routes that are served at some port; where none was waited
+  -- a docket was served to so many connections, whose bytes are not known, by the routes that are served at a place; where none was waited
   -- for it is as it was
-  abbrev pub ServesPort : Desk S → Desk S → Service → Result (Unit {0}) ServeEnd → Type 0
-  ServesPort old new service (Ok done) =
-      (port : ℕ) × AreServedAt port service.shown new.routes × ServesRun g new.routes old.docket new.docket service.count None None (Ok done)
-  ServesPort old new service (Err (Stopped fault)) =
-      (port : ℕ) × AreServedAt port service.shown new.routes × ServesRun g new.routes old.docket new.docket service.count None None (Err fault)
-  ServesPort old new service (Err _) = new ≡ old
+  abbrev pub ServesPlace : Desk S → Desk S → Service → Result (Unit {0}) ServeEnd → Type 0
+  ServesPlace old new service (Ok done) = AreServed service new.routes × ServesRun g new.routes old.docket new.docket service.count None None (Ok done)
+  ServesPlace old new service (Err (Stopped fault)) =
+      AreServed service new.routes × ServesRun g new.routes old.docket new.docket service.count None None (Err fault)
+  ServesPlace old new service (Err _) = new ≡ old
 
   -- the docket of a history was adopted and served at a desk, by the routes that were asked for, and the connection is the one that it was left
-  -- with. Of a port's bytes nothing is known, so nothing is said of what was shown
+  -- with. Of a connection's bytes nothing is known, so nothing is said of what was shown
   pub record Serves (conn : Held S) (told : Stored) (service : Service) (end : Result (Unit {0}) ServeEnd) : Type 0 where
     pub adopted : Desk S
     pub last : Desk S
     pub stands : StandsAs g adopted.docket told
-    pub served : ServesPort adopted last service end
+    pub served : ServesPlace adopted last service end
     pub left : conn ≡ last.docket.conn
 
   -- What serving comes to over a connection, by what it held, `old`, and as it comes back, `new`.

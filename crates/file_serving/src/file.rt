@@ -23,7 +23,7 @@ use sqlite::Start;
 use std::io::Write;
 use std::rt::HostRuntime;
 
-/// Serves the connections that come to a port of this machine alone, by the docket in the files at a
+/// Serves the connections that come to a place of this machine alone, by the docket in the files at a
 /// path. It is told on `w` where they are taken, and on `e` what goes wrong with one.
 pub fn serve_on_file<S: Start, V: Watch + Drop, W: Write, E: Write>(
     rt: &HostRuntime,

@@ -5,5 +5,6 @@
 mod file;
 mod serving;
 
+pub use docket_serving::Place;
 pub use file::serve_on_file;
 pub use serving::{ServeEnd, Service, Shown};

@@ -1,17 +1,18 @@
 //! The docket of a database, served by HTTP.
-ghost use Rattle.std.specs.Prelude.{◌≤◌, ℕ, IfOk};
+ghost use Rattle.std.specs.Prelude.{◌≤◌, IfOk};
 ghost use Rattle.sqlite.specs.Held.{state};
 ghost use Rattle.sqlite.specs.View.{doubt};
-ghost use Rattle.file_serving.specs.Serves.{AreServedAt, ServesPort};
+ghost use Rattle.file_serving.specs.Serves.{AreServed, AreServedAt, ServesPlace};
 
-use docket_serving::{Desk, DocketFiles, Listening, Routes, ServingFault, serve_run};
+use docket_serving::{
+    Desk, DocketFiles, Listener, Listening, Place, Routes, ServingFault, serve_run,
+};
 use docket_store::{AdoptFault, Watch};
 use file_dockets::{Work, Worked, adopt};
 use sqlite::{Alter, Connection};
 use std::alloc::{AllocError, Global};
 use std::io;
 use std::io::{ErrorKind, Write};
-use std::net::TcpListener;
 use std::rt::HostRuntime;
 
 /// Whether the pages of a docket are shown, and who is answered.
@@ -19,17 +20,17 @@ use std::rt::HostRuntime;
 pub enum Shown<'a> {
     /// No pages, and whoever asks.
     NoPages,
-    /// No pages, and who asks at the port of this machine, or at another origin where that is given, as that of
-    /// a proxy.
+    /// No pages, and who asks at the origins of this machine, or at another one where that is given, as that of a
+    /// proxy.
     Guarded(Option<&'a str>),
     /// The pages too, and who asks at those origins.
     Pages(Option<&'a str>),
 }
 
-/// At which port of this machine a docket is served, to how many connections, and whether its pages are shown.
+/// At which place of this machine a docket is served, to how many connections, and whether its pages are shown.
 #[derive(Clone, Copy)]
 pub struct Service<'a> {
-    pub port: u16,
+    pub place: Place<'a>,
     pub count: u64,
     pub shown: Shown<'a>,
 }
@@ -37,7 +38,7 @@ pub struct Service<'a> {
 /// Why a docket was not served to the end.
 #[derive(Clone, Copy)]
 pub enum ServeEnd {
-    /// Nobody can listen at the port.
+    /// Nobody can listen at the place.
     NotListening(ErrorKind),
     /// It could not be told where connections are taken.
     NotAnnounced(ErrorKind),
@@ -45,14 +46,13 @@ pub enum ServeEnd {
 }
 
 /// Tells where connections are taken.
-fn announce<W: Write>(alloc: Global, listener: &TcpListener, w: &mut W) -> io::Result<()> {
-    let address = listener.local_addr()?;
-    let line = format!(in alloc; "listening on {address}\n")?;
+fn announce<W: Write>(alloc: Global, listener: &Listener<'_>, w: &mut W) -> io::Result<()> {
+    let line = format!(in alloc; "listening on {listener}\n")?;
     w.write_all(line.as_bytes())?;
     w.flush()
 }
 
-/// The routes that are served at a port.
+/// The routes that are served at origins with a port.
 fn routes_at(alloc: Global, shown: Shown<'_>, port: u16) -> Result<Routes, AllocError>
     ensures { IfOk result (AreServedAt port shown.entry) }
 {
@@ -63,15 +63,16 @@ fn routes_at(alloc: Global, shown: Shown<'_>, port: u16) -> Result<Routes, Alloc
     }
 }
 
-/// The routes that are served where connections are taken.
-fn routes_of(alloc: Global, shown: Shown<'_>, listener: &TcpListener) -> io::Result<Routes>
-    ensures { IfOk result (λ routes. (port : ℕ) × AreServedAt port shown.entry routes) }
+/// Listens at a place of this machine alone, with the routes that are served there.
+fn listen_at<'a>(rt: &'a HostRuntime, service: &Service<'a>) -> io::Result<(Listener<'a>, Routes)>
+    ensures { IfOk result (λ opened. AreServed service.now opened.1) }
 {
-    let port = listener.local_addr()?.port();
-    Ok(routes_at(alloc, shown, port)?)
+    let listener = Listener::bind(rt, service.place)?;
+    let routes = routes_at(rt.alloc(), service.shown, listener.port())?;
+    Ok((listener, routes))
 }
 
-/// Listens at a port of this machine alone, and serves so many connections.
+/// Listens at a place of this machine alone, and serves so many connections.
 fn listen<S: Alter, W: Write, E: Write>(
     rt: &HostRuntime,
     service: &Service<'_>,
@@ -79,16 +80,12 @@ fn listen<S: Alter, W: Write, E: Write>(
     w: &mut W,
     e: &mut E,
 ) -> Result<(), ServeEnd>
-    ensures served { ServesPort S.Store desk.old desk.new service.now result }
+    ensures served { ServesPlace S.Store desk.old desk.new service.now result }
     ensures clean { doubt (state S.Store desk.old.docket.conn).is_clean ≤ doubt (state S.Store desk.new.docket.conn).is_clean }
 {
-    let listener = match TcpListener::bind(rt, ("127.0.0.1", service.port)) {
-        Ok(listener) => listener,
+    let (listener, routes) = match listen_at(rt, service) {
+        Ok(opened) => opened,
         Err(error) => return Err(ServeEnd::NotListening(error.kind())),
-    };
-    let routes = match routes_of(rt.alloc(), service.shown, &listener) {
-        Ok(routes) => routes,
-        Err(why) => return Err(ServeEnd::NotListening(why.kind())),
     };
     let mut connections = match Listening::new(rt, &listener) {
         Ok(connections) => connections,

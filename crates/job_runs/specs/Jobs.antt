@@ -189,4 +189,4 @@ module _ {D : Type 0} {g : Ghosts D} where
   Does (job.Migrate file) files input before after end =
       ((docket : Docket) → IsDocket docket.court docket.history → MayHold First docket.history → HoldFirst files docket.court docket.history
       → FailsOr end (λ left. Migrates docket left (cow_str_bytes end.text) end.status)) × (after ≡ before)
-  Does (job.Serve file port count pages guard origin) files input before after end = cow_str_bytes end.text ≡ []
+  Does (job.Serve file place count pages guard origin) files input before after end = cow_str_bytes end.text ≡ []

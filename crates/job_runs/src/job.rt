@@ -113,13 +113,13 @@ pub fn run_job<S: Start, P: Write + Drop, R: Read, W: Write + Drop, E: Write>(
         Job::Migrate { file } => (migrate_docket(rt, start, screen, file, e), w),
         Job::Serve {
             file,
-            port,
+            place,
             count,
             pages,
             guard,
             origin,
         } => {
-            let service = service_of(port, count, pages, guard, origin);
+            let service = service_of(place, count, pages, guard, origin);
             let end = serve_docket(rt, start, screen, file, &service, &mut w, e);
             (end, w)
         }

@@ -4,7 +4,7 @@ ghost use Rattle.std.specs.Cow.{cow_str_bytes};
 ghost use Rattle.file_serving.specs.declared.serving.Shown.TheVariants.{NoPages, Guarded, Pages};
 
 use crate::opening::ready;
-use file_serving::{ServeEnd, Service, Shown, serve_on_file};
+use file_serving::{Place, ServeEnd, Service, Shown, serve_on_file};
 use job_ends::{JobEnd, Status, done_on_docket, failed, failed_by};
 use sqlite::{FileFrom, Start};
 use std::alloc::Global;
@@ -34,52 +34,78 @@ fn shown(pages: bool, guard: bool, origin: Option<&str>) -> Shown<'_>
     Shown::NoPages
 }
 
-/// What is asked for: a port, so many connections or all that come, whether pages are shown, whether the docket is
+/// What is asked for: a place, so many connections or all that come, whether pages are shown, whether the docket is
 /// guarded, and at which origin besides.
-pub(crate) fn service_of(
-    port: u16,
+pub(crate) fn service_of<'a>(
+    place: Place<'a>,
     count: Option<u32>,
     pages: bool,
     guard: bool,
-    origin: Option<&str>,
-) -> Service<'_>
+    origin: Option<&'a str>,
+) -> Service<'a>
     ensures limit { result.count ≡ unwrap_or count 18_446_744_073_709_551_615 }
     ensures shown { result.shown ≡ (if pages then Pages origin.entry else if guard then Guarded origin.entry else NoPages) }
-    ensures port { result.port ≡ port }
+    ensures place { result.place ≡ place.entry }
 {
     Service {
-        port,
+        place,
         count: limit(count),
         shown: shown(pages, guard, origin),
     }
 }
 
 /// Why nobody listens at a port.
+fn port_fault(kind: ErrorKind) -> &'static str {
+    match kind {
+        ErrorKind::AddrInUse => "it is in use",
+        ErrorKind::PermissionDenied => "it may not be used",
+        ErrorKind::OutOfMemory => "there is not enough memory",
+        _ => "it can't be listened at",
+    }
+}
+
+/// Why nobody listens at the socket of a file.
+fn socket_fault(kind: ErrorKind) -> &'static str {
+    match kind {
+        ErrorKind::AddrInUse => "it is in use, or is no socket",
+        ErrorKind::PermissionDenied => "it may not be made",
+        ErrorKind::NotFound | ErrorKind::NotADirectory => "there is no such folder",
+        ErrorKind::InvalidInput => "its path has more than 107 bytes",
+        ErrorKind::OutOfMemory => "there is not enough memory",
+        _ => "it can't be listened at",
+    }
+}
+
+/// Why nobody listens at a place.
 #[derive(Drop)]
-struct NotListening {
-    port: u16,
+struct NotListening<'a> {
+    place: Place<'a>,
     kind: ErrorKind,
 }
 
-impl fmt::Display for NotListening {
+impl fmt::Display for NotListening<'_> {
     fn fmt<W: fmt::Write>(&self, f: &mut fmt::Formatter<W>) -> fmt::Result {
-        let why = match self.kind {
-            ErrorKind::AddrInUse => "it is in use",
-            ErrorKind::PermissionDenied => "it may not be used",
-            ErrorKind::OutOfMemory => "there is not enough memory",
-            _ => "it can't be listened at",
-        };
-        write!(f, "port {} of 127.0.0.1: {why}", self.port)
+        match self.place {
+            Place::Port(port) => {
+                write!(f, "port {port} of 127.0.0.1: {}", port_fault(self.kind))
+            }
+            Place::Socket(path) => write!(f, "socket {path:?}: {}", socket_fault(self.kind)),
+        }
     }
 }
 
 /// How the serving of a docket ended.
-fn serving_told<E: Write>(alloc: Global, port: u16, end: Result<(), ServeEnd>, e: &mut E) -> Status
+fn serving_told<E: Write>(
+    alloc: Global,
+    place: Place<'_>,
+    end: Result<(), ServeEnd>,
+    e: &mut E,
+) -> Status
     ensures { MatchResult end (λ _. result ≡ Status.Done) (λ _. result ≡ Status.Failed) }
 {
     match end {
         Ok(()) => Status::Done,
-        Err(ServeEnd::NotListening(kind)) => failed(alloc, e, &NotListening { port, kind }),
+        Err(ServeEnd::NotListening(kind)) => failed(alloc, e, &NotListening { place, kind }),
         Err(ServeEnd::NotAnnounced(kind)) => {
             failed_by(alloc, e, kind, "the output could not be written")
         }
@@ -87,7 +113,7 @@ fn serving_told<E: Write>(alloc: Global, port: u16, end: Result<(), ServeEnd>, e
     }
 }
 
-/// Serves the docket in a file to the connections that come to a port of this machine alone.
+/// Serves the docket in a file to the connections that come to a place of this machine alone.
 pub(crate) fn serve_docket<S: Start, P: Write + Drop, W: Write, E: Write>(
     rt: &HostRuntime,
     start: S,
@@ -105,7 +131,7 @@ pub(crate) fn serve_docket<S: Start, P: Write + Drop, W: Write, E: Write>(
     };
     let ended = serve_on_file(rt, path, start, rows, service, w, e);
     match done_on_docket(rt.alloc(), path, ended, e) {
-        Ok((end, left)) => JobEnd::of(serving_told(rt.alloc(), service.port, end, e)).with(Some(
+        Ok((end, left)) => JobEnd::of(serving_told(rt.alloc(), service.place, end, e)).with(Some(
             left,
         )),
         Err(end) => end,

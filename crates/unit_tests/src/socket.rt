@@ -1,9 +1,12 @@
-//! A docket served over a socket of this machine, by one thread: the client's request waits in the socket.
+//! A docket served at places of this machine, by one thread: the client's request waits in the socket.
 use crate::dockets::new_docket;
-use docket_serving::{Desk, Listening, Routes, serve_run};
+use docket_serving::{Desk, Listener, Listening, Place, Routes, serve_run};
+use patient_stream::Stream;
 use sqlite::MemStore;
+use std::io;
 use std::io::{Read, Write};
-use std::net::{Shutdown, TcpListener, TcpStream};
+use std::net::TcpStream;
+use std::os::unix::net::UnixStream;
 use std::test::Fail;
 
 const OPEN: &[u8] =
@@ -27,16 +30,25 @@ const VISITS: [(&[u8], &[u8], &[u8]); 4] = [
     ),
 ];
 
+/// A connection to who listens at a place.
+fn client_of(rt: &HostRuntime, place: Place<'_>, listener: &Listener<'_>) -> io::Result<Stream> {
+    match place {
+        Place::Port(_) => Ok(Stream::Port(TcpStream::connect(rt, ("127.0.0.1", listener.port()))?)),
+        Place::Socket(path) => Ok(Stream::Socket(UnixStream::connect(rt, path)?)),
+    }
+}
+
 /// The answer to a client who ends its side at once, and what is printed as an error.
 fn visited(
     rt: &HostRuntime,
-    listener: &TcpListener,
+    client: &Stream,
+    listener: &Listener<'_>,
     desk: &mut Desk<'_, MemStore>,
     request: &[u8],
 ) -> Result<(Vec<u8>, Vec<u8>), Fail> {
-    let mut client = TcpStream::connect(rt, listener.local_addr()?)?;
+    let mut client = client;
     client.write_all(request)?;
-    client.shutdown(Shutdown::Write)?;
+    client.end_sending()?;
     let mut errors = Vec::new(rt.alloc());
     let mut connections = Listening::new(rt, listener)?;
     if serve_run(rt.alloc(), &mut connections, 1, desk, &mut errors).is_err() {
@@ -47,15 +59,27 @@ fn visited(
     Ok((answer, errors))
 }
 
-#[test]
-fn clients_of_a_socket(rt: HostRuntime) -> Result<(), Fail> {
+/// Plays all visits at a place.
+fn play_at(rt: &HostRuntime, place: Place<'_>) -> Result<(), Fail> {
     let docket = new_docket(rt.alloc()).ok_or("no docket")?;
     let mut desk = Desk::new(rt.alloc(), docket, Routes::Docket, None);
-    let listener = TcpListener::bind(&rt, "127.0.0.1:0")?;
+    let listener = Listener::bind(rt, place)?;
     for (request, wanted, fault) in VISITS {
-        let (answer, errors) = visited(&rt, &listener, &mut desk, request)?;
-        assert_eq!(rt; answer.as_slice(), wanted);
-        assert_eq!(rt; errors.as_slice(), fault);
+        let client = client_of(rt, place, &listener)?;
+        let (answer, errors) = visited(rt, &client, &listener, &mut desk, request)?;
+        if answer.as_slice() != wanted || errors.as_slice() != fault {
+            return Err(Fail::new("an answer is another"));
+        }
     }
     Ok(())
+}
+
+#[test]
+fn clients_of_a_port(rt: HostRuntime) -> Result<(), Fail> {
+    play_at(&rt, Place::Port(0))
+}
+
+#[test]
+fn clients_of_a_socket(rt: HostRuntime) -> Result<(), Fail> {
+    play_at(&rt, Place::Socket("visits.socket"))
 }

@@ -10,7 +10,7 @@ use Rattle.docket_serving.specs.Desks.{Desk}
 use Rattle.docket_applying.specs.Dockets.{Docket as Stored}
 use Rattle.docket_applying.specs.CourtDockets.{StandsAs}
 use Rattle.file_dockets.specs.Keeping.{HoldsBetween, rows_told}
-use Rattle.file_serving.specs.Serves.{IfUnserved, Serves, ServesOver, ServesPort}
+use Rattle.file_serving.specs.Serves.{IfUnserved, Serves, ServesOver, ServesPlace}
 use Rattle.file_serving.specs.declared.serving.ServeEnd.{ServeEnd}
 use Rattle.file_serving.specs.declared.serving.Service.{Service}
 use Rattle.file_serving.specs.declared.serving.ServeEnd.TheVariants.{NotAnnounced, NotListening, Stopped}
@@ -21,7 +21,7 @@ use Rattle.file_serving.proofs.serving.ServeWork.work.Goals as goal
 
 -- where no connection was waited for the rows stay
 unserved_port : {S : Type 0} (g : Ghosts S) (old new : Desk S) (service : Service) (end : Result (Unit {0}) ServeEnd) (conn : Held S) (rows : Rows)
-    → ServesPort g old new service end → conn ≡ new.docket.conn → HoldsRows g old.docket.conn rows → IfUnserved (Ok end) (HoldsBetween g conn rows rows)
+    → ServesPlace g old new service end → conn ≡ new.docket.conn → HoldsRows g old.docket.conn rows → IfUnserved (Ok end) (HoldsBetween g conn rows rows)
 unserved_port g old new service (Ok done) conn rows served left holds = tt
 unserved_port g old new service (Err (Stopped fault)) conn rows served left holds = tt
 unserved_port {S} g old new service (Err (NotListening kind)) conn rows served left holds =
