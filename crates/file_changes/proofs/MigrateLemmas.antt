@@ -77,7 +77,7 @@ module _ {D : Type 0} {g : Disk D} where
       done.images
       (IfErr-weaker outcome _ _ (λ fault kept. kept (done.trust clean)) (done.comes.stays docket is known holds))
 
-module _ {S D : Type 0} {d : Disk D} (g : Ghosts S) (old new : Held S) (clean : HasCleanDisk (state g new)) where
+module _ {S : Type 0} (g : Ghosts S) (old new : Held S) (clean : HasCleanDisk (state g new)) where
   -- the cause that is told is the first
   cause_found : (fault : MigrateFault) → Tells g old new (Err (cause_of fault)) → HasCause First (state g old) (cause_of fault)
   cause_found migrate.NoMemory is = tt
@@ -87,7 +87,7 @@ module _ {S D : Type 0} {d : Disk D} (g : Ghosts S) (old new : Held S) (clean : 
   cause_found migrate.OtherVersion is = is.1 clean
   cause_found (migrate.Damaged table) is = is.1 clean
 
-  module _ (P : Trees → Type 0) (held : (db : Trees) → (state g old).may_leave db → P db) (rest : Leftover D d) (images : Leaves rest (state g new).may_leave) where
+  module _ {D : Type 0} {d : Disk D} (P : Trees → Type 0) (held : (db : Trees) → (state g old).may_leave db → P db) (rest : Leftover D d) (images : Leaves rest (state g new).may_leave) where
     same : KeepsImages g old new → Leaves rest P
     same keeps = leaves_map rest (state g new).may_leave P (λ db may. held db (keeps clean db may)) images
 
