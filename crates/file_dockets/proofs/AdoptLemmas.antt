@@ -1,5 +1,5 @@
 -- What a work that adopts a docket first comes to, over any database, and from there on the files.
-use Rattle.std.proofs.Common.{◌≡◌, ◌≤◌, ◌⊎◌, inl, inr, Option, Result, Ok, Err, IfErr, IfOk, arith, subst, sym}
+use Rattle.std.proofs.Common.{◌≤◌, ◌⊎◌, inl, inr, Option, Result, Ok, Err, IfErr, arith}
 use Rattle.std.proofs.lemmas.Result.{IfErr-weaker, IfOk-weaker}
 use Rattle.sqlite_disk.specs.declared.Disk.{Ghosts as Disk}
 use Rattle.sqlite_wal.specs.Recovery.{Image}
@@ -18,7 +18,6 @@ use Rattle.docket_applying.specs.Dockets.{Docket}
 use Rattle.docket_store.specs.Causes.{IsCausedOpening}
 use Rattle.docket_store.specs.Left.{Leaves}
 use Rattle.docket_store.specs.Opening.{IsRejected, IsSoundWith}
-use Rattle.docket_store.specs.Reopening.{HoldRows}
 use Rattle.docket_tables.specs.Layouts.{Rows}
 use Rattle.docket_tables.specs.Stands.{HoldsRowsIn, IsImageIn}
 use Rattle.file_dockets.specs.Adopting.{AdoptsOver, IsJudged}
