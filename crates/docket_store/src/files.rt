@@ -19,8 +19,8 @@ use std::rt::HostRuntime;
 /// commit behind it syncs twice. The kit's own 1,000 are reached by some 150 commands.
 const LOG_PAGES: usize = 8000;
 
-/// How many pages that were read or written are kept in memory: 8 MB of pages of 1,024 bytes. The kit's own number,
-/// 2,000, is for pages of 4,096.
+/// How many pages that were read are kept in memory: 8 MB of pages of 1,024 bytes. The kit's own number, 2,000, is
+/// for pages of 4,096.
 const CACHE_PAGES: usize = 8000;
 
 const NO_MEMORY: Error = Error::SqliteFailure(ErrorCode::OutOfMemory);
