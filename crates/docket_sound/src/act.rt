@@ -15,11 +15,11 @@ ghost use Rattle.docket_sound.specs.declared.numbering.Key.{Key as Place};
 use crate::due::{deadline_standing, push_due};
 use crate::numbering::{Key, Numbering};
 use crate::standings::Standings;
-use crate::text::is_entered;
 use court_days::{Calendar, Court};
 use court_rules::{Act, Standing, Start, acts_ok};
 use docket_decisions::StoredEnd;
 use docket_history::ActRow;
+use docket_values::is_entered;
 use std::alloc::{AllocError, Global};
 
 /// How many acts a deadline has at most.

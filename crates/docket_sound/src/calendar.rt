@@ -9,10 +9,10 @@ ghost use Rattle.docket_sound.specs.Calendars.{is_sound_item, is_well_named, is_
 ghost use Rattle.docket_sound.specs.ShortDays.{GoesBy, HasTakenShortDays};
 
 use crate::short_day::ShortDayCheck;
-use crate::text::{is_entered, is_text};
 use court_days::{Calendar, CalendarFault, Court};
 use docket_command::{Moment, Text};
 use docket_history::{CalendarItem, CalendarRow};
+use docket_values::{is_entered, is_text};
 use std::alloc::{AllocError, Global};
 
 /// Whether a court may enter the local day of the moment.

@@ -5,8 +5,8 @@ ghost use Rattle.docket_sound.specs.Cases.{is_sound_case, AreSoundCases, HasTake
 ghost use Rattle.std.specs.Prelude.{true, false};
 
 use crate::known_texts::KnownTexts;
-use crate::text::{is_entered, is_text, is_word};
 use docket_history::CaseRow;
+use docket_values::{is_entered, is_text, is_word};
 use std::alloc::{AllocError, Global};
 
 /// How many cases there are at most.

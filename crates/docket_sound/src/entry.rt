@@ -4,8 +4,8 @@ ghost use Rattle.docket_history.specs.declared.row.EntryRow.{EntryRow as Entry};
 ghost use Rattle.docket_sound.specs.Entries.{is_sound_entry, entry_key, AreSoundEntries, HasTakenEntries, entries_checked};
 
 use crate::numbering::{Key, Numbering};
-use crate::text::{is_entered, is_text};
 use docket_history::EntryRow;
+use docket_values::{is_entered, is_text};
 use std::alloc::{AllocError, Global};
 
 /// How many entries a case has at most.

@@ -22,7 +22,6 @@ mod party;
 mod receipt;
 mod short_day;
 mod standings;
-mod text;
 
 pub use act::ActCheck;
 pub use calendar::CalendarCheck;

@@ -4,8 +4,8 @@ ghost use Rattle.docket_history.specs.declared.row.PartyRow.{PartyRow as Party};
 ghost use Rattle.docket_sound.specs.Parties.{is_sound_party, party_key, AreSoundParties, HasTakenParties, parties_checked};
 
 use crate::numbering::{Key, Numbering};
-use crate::text::is_text;
 use docket_history::PartyRow;
+use docket_values::is_text;
 use std::alloc::{AllocError, Global};
 
 /// How many parties a case has at most.

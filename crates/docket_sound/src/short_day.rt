@@ -6,9 +6,9 @@ ghost use Rattle.docket_sound.specs.ShortDays.{is_among, is_sound_short_day, may
 ghost use Rattle.court_days.specs.Limits.{most_rows};
 
 use crate::calendar::{enter, told_by};
-use crate::text::{is_entered, is_text};
 use court_days::Calendar;
 use docket_history::{CalendarItem, ShortDayRow};
+use docket_values::{is_entered, is_text};
 use std::alloc::{AllocError, Global};
 
 /// How many rows the calendar has at most, short days and others.

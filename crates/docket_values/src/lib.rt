@@ -4,4 +4,4 @@
 
 mod value;
 
-pub use value::{bad_field, is_word};
+pub use value::{bad_field, is_entered, is_text, is_word};

@@ -14,7 +14,7 @@ use docket_command::{
 };
 
 /// Whether a court may enter the day.
-fn is_entered(day: Day) -> bool
+pub fn is_entered(day: Day) -> bool
     ensures { result ≡ is_entered day }
 {
     court_days::is_entered(day)
@@ -60,7 +60,7 @@ fn is_short(limit: usize, text: &Text) -> bool
 }
 
 /// Whether it is 1 to `limit` bytes without a control byte.
-fn is_text(limit: usize, text: &Text) -> bool
+pub fn is_text(limit: usize, text: &Text) -> bool
     ensures { result ≡ is_text limit text.now }
 {
     is_short(limit, text) && are_plain(text.as_str().as_bytes())
