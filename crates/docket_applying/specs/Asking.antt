@@ -1,9 +1,8 @@
 -- What a question to an idle connection leaves.
-use Rattle.std.specs.Prelude.{◌≡◌, ◌≤◌, false, IfErr, Option, Result}
+use Rattle.std.specs.Prelude.{◌≡◌, false, IfErr, Option, Result}
 use Rattle.sqlite.specs.Held.{Held, state}
-use Rattle.sqlite.specs.State.{HasCleanDisk}
+use Rattle.sqlite.specs.State.{HasCleanDisk, Survives}
 use Rattle.sqlite.specs.Store.{Ghosts}
-use Rattle.sqlite.specs.View.{doubt}
 use Rattle.sqlite.specs.declared.error.Error.{Error}
 use Rattle.docket_tables.specs.Layouts.{Rows}
 use Rattle.docket_tables.specs.Stands.{HoldsRows}
@@ -15,13 +14,10 @@ module _ {S : Type 0} (g : Ghosts S) where
   -- nothing is changed, of rows, whatever they are, and of the connection
   pub record LeavesIdle {X : Type 0} (old new : Held S) (failure : Option Error) (result : Result X Fault) : Type 0 where
     pub idle : new.in_transaction ≡ false
-    -- a disk that was not clean is not clean after it
-    pub clean : doubt (state g old).is_clean ≤ doubt (state g new).is_clean
     -- rows that it held it holds still, but where the database failed it may be shut
     pub stays : (rows : Rows) → HoldsRows g old rows → Preserves g new rows result
-    -- no fault of the disk is forgotten
-    pub counts : (state g old).faults ≤ (state g new).faults
-    pub limit : (state g new).step_limit ≡ (state g old).step_limit
+    -- every database that a power failure may leave was one before
+    pub writes_nothing : Survives (state g old) (state g new) (λ _. ⊥)
     -- where the database failed, its error is known
     pub named : IfErr result (IsNamed failure)
     -- and has a cause, where the connection held rows and the disk is clean

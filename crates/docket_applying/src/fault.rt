@@ -1,7 +1,7 @@
 //! Why a docket gave no answer.
-ghost use Rattle.std.specs.Prelude.{◌≡◌, ◌↔◌, ◌≤◌, false, true, Option, Some, Err, IfErr, is_some};
+ghost use Rattle.std.specs.Prelude.{◌≡◌, ◌↔◌, false, true, Option, Some, Err, IfErr, is_some};
 ghost use Rattle.sqlite.specs.Held.{state};
-ghost use Rattle.sqlite.specs.View.{doubt};
+ghost use Rattle.sqlite.specs.State.{Survives};
 ghost use Rattle.sqlite.specs.declared.error.Error.{Error as Failure};
 ghost use Rattle.docket_tables.specs.Layouts.{Rows};
 ghost use Rattle.docket_tables.specs.Readings.{Fails, StaysAt};
@@ -76,11 +76,9 @@ pub(crate) fn store_fault<S: Alter>(
 ) -> Fault
     requires { conn.old.in_transaction ≡ false }
     ensures idle { conn.new.in_transaction ≡ false }
-    ensures clean { doubt (state S.Store conn.old).is_clean ≤ doubt (state S.Store conn.new).is_clean }
+    ensures writes_nothing { Survives (state S.Store conn.old) (state S.Store conn.new) (λ _. ⊥) }
     ensures stays { (rows : Rows) → Lasts S.Store conn.old rows → PreservesAt S.Store conn.new rows result }
     ensures left { (rows next : Rows) → LastsAsEither S.Store conn.old rows next → FailsAs S.Store conn.new rows next result }
-    ensures counts { (state S.Store conn.old).faults ≤ (state S.Store conn.new).faults }
-    ensures limit { (state S.Store conn.new).step_limit ≡ (state S.Store conn.old).step_limit }
     ensures named { IsNamed failure.new result }
     ensures kept { failure.new ≡ Some error }
 {
@@ -99,11 +97,9 @@ pub fn read_fault<S: Alter>(
 ) -> Fault
     requires { conn.old.in_transaction ≡ false }
     ensures idle { conn.new.in_transaction ≡ false }
-    ensures clean { doubt (state S.Store conn.old).is_clean ≤ doubt (state S.Store conn.new).is_clean }
+    ensures writes_nothing { Survives (state S.Store conn.old) (state S.Store conn.new) (λ _. ⊥) }
     ensures stays { (rows : Rows) → StaysAt S.Store conn.old rows fault → PreservesAt S.Store conn.new rows result }
     ensures left { (rows next : Rows) → Fails S.Store conn.old rows fault → FailsAs S.Store conn.new rows next result }
-    ensures counts { (state S.Store conn.old).faults ≤ (state S.Store conn.new).faults }
-    ensures limit { (state S.Store conn.new).step_limit ≡ (state S.Store conn.old).step_limit }
     ensures named { IsNamed failure.new result }
     ensures blames { result ≡ StoreFailed → (e : Failure) × (fault ≡ Store e) × (failure.new ≡ Some e) }
 {

@@ -1,8 +1,7 @@
 //! The calendar of a docket, written row by row.
-ghost use Rattle.std.specs.Prelude.{◌≡◌, ◌≤◌, ◌↔◌, List, Option, IfErr, is_some, true, false};
+ghost use Rattle.std.specs.Prelude.{◌≡◌, ◌↔◌, List, Option, IfErr, is_some, true, false};
 ghost use Rattle.sqlite.specs.Held.{state};
-ghost use Rattle.sqlite.specs.View.{doubt};
-ghost use Rattle.sqlite.specs.State.{HasCleanDisk};
+ghost use Rattle.sqlite.specs.State.{HasCleanDisk, Survives};
 ghost use Rattle.docket_history.specs.Histories.{History};
 ghost use Rattle.docket_history.specs.Records.{calendar as entered_by};
 ghost use Rattle.docket_history.specs.declared.item.CalendarItem.{CalendarItem as Item};
@@ -81,7 +80,7 @@ fn list_by<S: Alter, W: Write>(
 ) -> Result<u32, ListingEnd>
     requires { conn.old.in_transaction ≡ false }
     ensures idle { conn.new.in_transaction ≡ false }
-    ensures clean { doubt (state S.Store conn.old).is_clean ≤ doubt (state S.Store conn.new).is_clean }
+    ensures writes_nothing { Survives (state S.Store conn.old) (state S.Store conn.new) (λ _. ⊥) }
     ensures stays { (rows : Rows) → HoldsRows S.Store conn.old rows → PreservesListing S.Store conn.new rows result }
     ensures named { IsNamedEnd failure.new result }
     ensures cause { (rows : Rows) → HoldsRows S.Store conn.old rows → HasCleanDisk (state S.Store conn.new)
@@ -113,7 +112,7 @@ pub fn list_days<S: Alter, W: Write>(
 ) -> Result<u32, ListingEnd>
     requires { conn.old.in_transaction ≡ false }
     ensures idle { conn.new.in_transaction ≡ false }
-    ensures clean { doubt (state S.Store conn.old).is_clean ≤ doubt (state S.Store conn.new).is_clean }
+    ensures writes_nothing { Survives (state S.Store conn.old) (state S.Store conn.new) (λ _. ⊥) }
     ensures stays { (rows : Rows) → HoldsRows S.Store conn.old rows → PreservesListing S.Store conn.new rows result }
     ensures named { IsNamedEnd failure.new result }
     ensures cause { (rows : Rows) → HoldsRows S.Store conn.old rows → HasCleanDisk (state S.Store conn.new)

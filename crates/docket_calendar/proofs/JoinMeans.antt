@@ -1,5 +1,5 @@
 -- What the question means over the schema of a docket.
-use Rattle.std.proofs.Common.{◌≡◌, ℕ, List, [], ◌∷◌, pos, negsuc, codes, refl, false, None}
+use Rattle.std.proofs.Common.{◌≡◌, ◌∙◌, ℕ, List, [], ◌∷◌, pos, negsuc, codes, ap, refl, true, false, None}
 use Rattle.sqlite.specs.declared.types.Value.TheVariants.{Int}
 use Rattle.sqlite.specs.Collation.TheVariants.{Binary}
 use Rattle.sqlite_value.specs.declared.keys.Key.{Key}
@@ -10,10 +10,13 @@ use Rattle.sqlite_sql.specs.declared.ops.BinaryOp.TheVariants.{Compare}
 use Rattle.sqlite_sql.specs.declared.ops.CompareOp.TheVariants.{Eq, Le, Ge}
 use Rattle.sqlite.specs.Listing.{understood, reads_listing}
 use Rattle.sqlite.specs.Given.{IsPlain}
+use Rattle.sqlite.specs.Order.{Row}
+use Rattle.sqlite.specs.State.{CommitsShowing, State, Survives}
 use Rattle.sqlite_tied.specs.Compute.{everything}
 use Rattle.docket_calendar.specs.Asked.{command_of}
 use Rattle.docket_tables.specs.Schema.{docket_schema, places_of}
 use Rattle.docket_tables.specs.declared.table.Table.TheVariants.{Deadlines, Due}
+use Rattle.docket_tables.proofs.NothingLemmas.{is_select_text, select_writes_nothing}
 use Rattle.docket_calendar.specs.Question.{question}
 
 -- where the columns of the two tables stand in a stored row
@@ -59,3 +62,11 @@ asks_plainly = (refl, refl)
 pub asks_no_listing : reads_listing docket_schema question ≡ false
 unfolding understood everything
 asks_no_listing = refl
+
+asks_select : is_select_text question ≡ true
+unfolding everything
+asks_select = refl
+
+-- under any schema it writes nothing
+pub days_write_nothing : (sql : List ℕ) (params : Row) (old new : State) → sql ≡ question → Survives old new (CommitsShowing sql params old) → Survives old new (λ _. ⊥)
+days_write_nothing sql params old new is = select_writes_nothing sql params old new (ap is_select_text is ∙ asks_select)

@@ -1,15 +1,11 @@
 -- What a calendar leaves of a connection that holds a docket's rows.
-use Rattle.std.proofs.Common.{◌≡◌, ◌⊎◌, ◌≤◌, ℕ, List, false, Option, Result, Ok, Err, sym, subst, arith}
+use Rattle.std.proofs.Common.{◌≡◌, ◌⊎◌, ℕ, List, false, Option, Result, Ok, Err, sym, subst}
 use Rattle.sqlite.specs.Given.{IsPlain}
 use Rattle.sqlite.specs.Listing.{understood}
-use Rattle.sqlite.specs.Order.{Row}
 use Rattle.sqlite.specs.Schema.{Schema}
 use Rattle.sqlite.specs.Store.{Ghosts}
-use Rattle.sqlite.specs.State.{State, HasCleanDisk, Survives, IsUnchanged, IsRolledBack, CommitsShowing}
+use Rattle.sqlite.specs.State.{HasCleanDisk, Survives, IsUnchanged, IsRolledBack}
 use Rattle.sqlite.specs.Held.{Held, state}
-use Rattle.sqlite.specs.View.{doubt}
-use Rattle.sqlite.proofs.Callers.{never_commits}
-use Rattle.sqlite.proofs.StateLemmas.{survives_weaker}
 use Rattle.court_days.specs.Court.{CourtSettings}
 use Rattle.docket_decisions.specs.EndRows.{calendar_in}
 use Rattle.docket_history.specs.Histories.{History}
@@ -19,6 +15,7 @@ use Rattle.docket_tables.specs.Readings.{Fails, Gives, StaysAt, Stays as FoundSt
 use Rattle.docket_tables.specs.Stands.{HoldsRows, IsSettled, IsLasting}
 use Rattle.docket_tables.specs.declared.fault.ReadFault.{ReadFault}
 use Rattle.docket_tables.specs.declared.fault.ReadFault.TheVariants.{Store, NoMemory, Damaged}
+use Rattle.docket_tables.proofs.NothingLemmas.{clean_before}
 use Rattle.docket_tables.proofs.StandsLemmas.{unchanged_settled, undone_lasting}
 use Rattle.docket_calendar.specs.Asked.{Lists, RemainsAfter, RemainsAt}
 use Rattle.docket_calendar.specs.Calendar.{calendar_rows}
@@ -32,23 +29,20 @@ use Rattle.docket_calendar.proofs.HistoryLemmas.{listable, is_calendar}
 use Rattle.docket_calendar.proofs.JoinMeans.{asks_plainly}
 use Rattle.docket_calendar.proofs.ListsLemmas.{lists}
 
-pub reads_only : (sql : List ℕ) (params : Row) (old new : State) → IsPlain (understood old.now.schema sql) → Survives old new (CommitsShowing sql params old) → Survives old new (λ _. ⊥)
-reads_only sql params old new plain = survives_weaker old new _ _ (λ _ db. never_commits sql params old db plain)
-
 -- a question that is plain for the tables of a docket leaves any rows as they were
-module _ {S : Type 0} (g : Ghosts S) (rows : Rows) (old new : Held S) (was : HoldsRows g old rows) (mode : old.in_transaction ≡ false → new.in_transaction ≡ false) (early : doubt (state g old).is_clean ≤ doubt (state g new).is_clean)
-    (crash : IsPlain (understood old.schema question) → Survives (state g old) (state g new) (λ _. ⊥)) where
+module _ {S : Type 0} (g : Ghosts S) (rows : Rows) (old new : Held S) (was : HoldsRows g old rows) (mode : old.in_transaction ≡ false → new.in_transaction ≡ false)
+    (nothing : Survives (state g old) (state g new) (λ _. ⊥)) where
   before : HasCleanDisk (state g new) → HasCleanDisk (state g old)
-  before clean = omega (arith, early)
+  before = clean_before nothing
 
   plainly : HasCleanDisk (state g new) → IsPlain (understood old.schema question)
   plainly clean = subst (λ (s : Schema). IsPlain (understood s question)) (sym (was.1 (before clean)).shows.schema) asks_plainly
 
   settled : HasCleanDisk (state g new) → IsUnchanged (state g old) (state g new) → IsSettled (state g new) rows
-  settled clean same = unchanged_settled (state g old) (state g new) rows (crash (plainly clean)) clean (was.1 (before clean)) same
+  settled clean same = unchanged_settled (state g old) (state g new) rows nothing clean (was.1 (before clean)) same
 
   lasting : HasCleanDisk (state g new) → IsUnchanged (state g old) (state g new) ⊎ IsRolledBack (state g old) (state g new) → IsLasting (state g new) rows
-  lasting clean left = undone_lasting (state g old) (state g new) rows (crash (plainly clean)) clean (was.1 (before clean)) left
+  lasting clean left = undone_lasting (state g old) (state g new) rows nothing clean (was.1 (before clean)) left
 
   fails : (fault : ReadFault) → (HasCleanDisk (state g new) → LeavesAt g old new fault) → Fails g new rows fault
   fails (Store e) left = (mode was.0, λ clean. lasting clean (left clean))
@@ -72,21 +66,21 @@ module _ {S : Type 0} (g : Ghosts S) (rows : Rows) (old new : Held S) (was : Hol
   found_stays (Err fault) left = stays_at fault (λ clean. left (plainly clean) clean)
 
 module _ {S : Type 0} (g : Ghosts S) (court : CourtSettings) (h : History) (old new : Held S) (is : IsHistoryOf court h) (was : HoldsRows g old (docket_rows court h))
-    (mode : old.in_transaction ≡ false → new.in_transaction ≡ false) (early : doubt (state g old).is_clean ≤ doubt (state g new).is_clean)
-    (crash : IsPlain (understood old.schema question) → Survives (state g old) (state g new) (λ _. ⊥)) where
+    (mode : old.in_transaction ≡ false → new.in_transaction ≡ false)
+    (nothing : Survives (state g old) (state g new) (λ _. ⊥)) where
   -- a list that the question came to is given of the tables
   pub gives : {X : Type 0} (answer : X → Type 0) (res : Result X ReadFault) → (HasCleanDisk (state g new) → ComesTo g old new answer res) → Gives g new (docket_rows court h) answer res
-  gives answer (Ok x) comes = ((mode was.0, λ clean. settled g (docket_rows court h) old new was mode early crash clean (comes clean).0), λ clean. (comes clean).1)
-  gives answer (Err fault) comes = fails g (docket_rows court h) old new was mode early crash fault comes
+  gives answer (Ok x) comes = ((mode was.0, λ clean. settled g (docket_rows court h) old new was mode nothing clean (comes clean).0), λ clean. (comes clean).1)
+  gives answer (Err fault) comes = fails g (docket_rows court h) old new was mode nothing fault comes
 
 module _ {S : Type 0} (g : Ghosts S) (court : CourtSettings) (h : History) (from to : ℕ) (front : List ℕ) (u v : Option (List ℕ)) (old new : Held S) (is : IsHistoryOf court h) (was : HoldsRows g old (docket_rows court h))
-    (mode : old.in_transaction ≡ false → new.in_transaction ≡ false) (early : doubt (state g old).is_clean ≤ doubt (state g new).is_clean)
-    (crash : IsPlain (understood old.schema question) → Survives (state g old) (state g new) (λ _. ⊥)) where
+    (mode : old.in_transaction ≡ false → new.in_transaction ≡ false)
+    (nothing : Survives (state g old) (state g new) (λ _. ⊥)) where
   as_settled : HasCleanDisk (state g new) → IsUnchanged (state g old) (state g new) → IsSettled (state g new) (docket_rows court h)
-  as_settled = settled g (docket_rows court h) old new was mode early crash
+  as_settled = settled g (docket_rows court h) old new was mode nothing
 
   failing : (fault : ReadFault) → (HasCleanDisk (state g new) → LeavesAt g old new fault) → Fails g new (docket_rows court h) fault
-  failing = fails g (docket_rows court h) old new was mode early crash
+  failing = fails g (docket_rows court h) old new was mode nothing
 
   pub tells : (res : Result ℕ Stop) → (HasCleanDisk (state g new) → SendsAll g court (calendar_rows court h from to) front u v old new res) → Tells g court h from to front u v new res
   tells (Ok n) sends = ((mode was.0, λ clean. as_settled clean (sends clean).0), λ clean. ((sends clean).1, (sends clean).2))

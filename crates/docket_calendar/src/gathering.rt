@@ -1,11 +1,10 @@
 //! The deadlines of a calendar as values, all at once, for what asks more of the docket about each.
-ghost use Rattle.std.specs.Prelude.{◌≡◌, ◌≤◌, false, ℕ, List, IfErr, IsTrue};
+ghost use Rattle.std.specs.Prelude.{◌≡◌, false, ℕ, List, IfErr, IsTrue};
 ghost use Rattle.sqlite.specs.Given.{IsPlain};
 ghost use Rattle.sqlite.specs.Held.{state};
 ghost use Rattle.sqlite.specs.Listing.{understood};
-ghost use Rattle.sqlite.specs.State.{HasCleanDisk, Survives};
+ghost use Rattle.sqlite.specs.State.{CommitsShowing, HasCleanDisk, Survives};
 ghost use Rattle.sqlite.specs.Values.{bound};
-ghost use Rattle.sqlite.specs.View.{doubt};
 ghost use Rattle.docket_decisions.specs.EndRows.{calendar_in};
 ghost use Rattle.docket_history.specs.Histories.{History};
 ghost use Rattle.docket_decisions.specs.Tables.{rows_of};
@@ -68,12 +67,9 @@ fn gather<S: Alter>(
     values: &[ValueRef<'_>],
 ) -> Result<Vec<DueRow>, ReadFault>
     ensures mode { conn.old.in_transaction ≡ false → conn.new.in_transaction ≡ false }
-    ensures clean { doubt (state S.Store conn.old).is_clean ≤ doubt (state S.Store conn.new).is_clean }
-    ensures counts { (state S.Store conn.old).faults ≤ (state S.Store conn.new).faults }
-    ensures limit { (state S.Store conn.new).step_limit ≡ (state S.Store conn.old).step_limit }
+    ensures survives { Survives (state S.Store conn.old) (state S.Store conn.new) (CommitsShowing sql.now (bound values.now) (state S.Store conn.old)) }
     ensures cause { (first last : ℕ) (rows : Stored) → sql.now ≡ question → bound values.now ≡ days_asked first last → HoldsRows S.Store conn.old rows → HasCleanDisk (state S.Store conn.new)
         → IfErr result (IsCausedFault (state S.Store conn.old) (state S.Store conn.new)) }
-    ensures survives { IsPlain (understood conn.old.schema sql.now) → Survives (state S.Store conn.old) (state S.Store conn.new) (λ _. ⊥) }
     ensures remains { IsPlain (understood conn.old.schema sql.now) → HasCleanDisk (state S.Store conn.new) → RemainsAfter S.Store conn.old conn.new result }
     ensures gathers { (listed : List Due) → HasCleanDisk (state S.Store conn.new)
         → Lists sql.now (bound values.now) court.now entered.now (state S.Store conn.old).now listed
@@ -95,12 +91,9 @@ fn gather_days<S: Alter>(
     to: Day,
 ) -> Result<Vec<DueRow>, ReadFault>
     ensures mode { conn.old.in_transaction ≡ false → conn.new.in_transaction ≡ false }
-    ensures clean { doubt (state S.Store conn.old).is_clean ≤ doubt (state S.Store conn.new).is_clean }
-    ensures counts { (state S.Store conn.old).faults ≤ (state S.Store conn.new).faults }
-    ensures limit { (state S.Store conn.new).step_limit ≡ (state S.Store conn.old).step_limit }
+    ensures writes_nothing { Survives (state S.Store conn.old) (state S.Store conn.new) (λ _. ⊥) }
     ensures cause { (rows : Stored) → HoldsRows S.Store conn.old rows → HasCleanDisk (state S.Store conn.new)
         → IfErr result (IsCausedFault (state S.Store conn.old) (state S.Store conn.new)) }
-    ensures survives { IsPlain (understood conn.old.schema question) → Survives (state S.Store conn.old) (state S.Store conn.new) (λ _. ⊥) }
     ensures remains { IsPlain (understood conn.old.schema question) → HasCleanDisk (state S.Store conn.new) → RemainsAfter S.Store conn.old conn.new result }
     ensures gathers { (listed : List Due) → HasCleanDisk (state S.Store conn.new)
         → Lists question (days_asked from to) court.now entered.now (state S.Store conn.old).now listed

@@ -1,45 +1,32 @@
 -- From what the docket answers to what is replied.
-use Rattle.std.proofs.Common.{◌≡◌, ◌≤◌, IsTrue, IsErrAnd, inl, inr, ℕ, List, Option, Some, None, Result, Ok, Err, refl, sym, ap, subst, ◌∙◌, arith, true}
+use Rattle.std.proofs.Common.{◌≡◌, IsTrue, IsErrAnd, inl, inr, ℕ, List, Some, None, Result, Ok, Err, refl, sym, ap, subst, ◌∙◌, true}
 use Rattle.sqlite.specs.Store.{Ghosts}
 use Rattle.sqlite.specs.State.{HasCleanDisk}
 use Rattle.sqlite.specs.Held.{state}
-use Rattle.court_days.specs.Court.{CourtSettings}
 use Rattle.docket_command.specs.declared.command.Command.{Command}
 use Rattle.docket_command.specs.declared.refusal.Refusal.{Refusal}
 use Rattle.docket_command.specs.declared.refusal.Reply.{Reply as Number}
 use Rattle.docket_history.specs.Histories.{History}
 use Rattle.docket_decisions.specs.Outcomes.{Answer, outcome}
-use Rattle.docket_history.specs.Records.{case_record, deadline_lines}
-use Rattle.docket_history.specs.declared.record.CaseRecord.{CaseRecord}
-use Rattle.docket_history.specs.declared.record.DeadlineLine.{DeadlineLine}
 use Rattle.docket_applying.specs.Applying.{Stands, Asks, docket_rows}
 use Rattle.docket_applying.specs.Dockets.{Docket}
 use Rattle.docket_store.specs.Sequence.{Answers, Halts, IsSaid}
 use Rattle.docket_applying.specs.declared.fault.Fault.{Fault}
 use Rattle.docket_applying.specs.declared.fault.Fault.TheVariants as fault
 use Rattle.docket_tables.specs.Stands.{Lasts, LastsAsEither}
-use Rattle.docket_text.specs.CaseTexts.{deadlines_text}
+use Rattle.docket_store.specs.Asking.{OnlyAnswers}
 use Rattle.docket_wire.specs.Reading.{command_in}
 use Rattle.docket_wire.specs.Texts.{reply_text, fault_text}
 use Rattle.docket_wire.specs.declared.fault.WireFault.{WireFault}
-use Rattle.http_request.specs.declared.page.Page.{Page}
 use Rattle.http_request.specs.declared.wish.Wish.{Wish}
-use Rattle.http_request.specs.declared.wish.Wish.TheVariants.{Command as CommandWish, Deadlines, Page as PageWish}
-use Rattle.docket_http.specs.Answer.{Response, json, text, problem_response}
-use Rattle.docket_http.specs.Asking.{said_status, outcome_response, command_response, deadlines_response, response_to, after_reading, history_after, asks_docket, takes_memory, Replies, IsAnswered, problem_of_fault}
-use Rattle.docket_http.specs.Cases.{case_response, case_told, case_wish, response_of_case}
-use Rattle.docket_http.specs.Pages.{page_response}
+use Rattle.http_request.specs.declared.wish.Wish.TheVariants.{Command as CommandWish}
+use Rattle.docket_http.specs.Answer.{Response, json, problem_response}
+use Rattle.docket_http.specs.Asking.{said_status, outcome_response, command_response, response_to, after_reading, history_after, asks_docket, takes_memory, Replies, IsAnswered, problem_of_fault}
 use Rattle.docket_http.specs.Reply.{IsReply}
-use Rattle.docket_http.specs.declared.asking.Telling.{Telling}
-use Rattle.docket_http.specs.declared.asking.Telling.TheVariants as telling
 use Rattle.docket_http.specs.declared.problem.Problem.{Problem}
-use Rattle.docket_http.specs.declared.problem.Problem.TheVariants.{NoSuchCase, NoMemory, Store}
+use Rattle.docket_http.specs.declared.problem.Problem.TheVariants.{NoMemory, Store}
 use Rattle.docket_http.specs.declared.reply.Reply.{Reply}
 use Rattle.docket_http.specs.declared.reply.Reply.TheVariants.{Fixed}
-
--- what was clean after a call was so before it
-pub clean_before : (before now : ℕ) → before ≤ now → now ≡ 0 → before ≡ 0
-clean_before before now less clean = omega (arith, less, clean)
 
 said_response : (said : Result Number Refusal) (a : Answer) → IsSaid said a → json (said_status said) (reply_text said) ≡ outcome_response a
 said_response (Ok reply) a (inl e) = ap outcome_response (sym e)
@@ -49,27 +36,15 @@ said_response (Err r) a e = ap outcome_response (sym e)
 reply_as : (reply : Reply) (a b : Response) → a ≡ b → IsReply reply a → IsReply reply b
 reply_as reply a b same is = subst (λ (r : Response). IsReply reply r) same is
 
-no_record : (telling : Telling) (court : CourtSettings) (row : Option CaseRecord) → problem_response NoSuchCase ≡ case_response telling court row None
-no_record telling court None = refl
-no_record telling court (Some row) = refl
+pub no_error : {X E A : Type 0} (x : X) (f : E) → ◌≡◌ {A = Result X E} (Ok x) (Err f) → A
+no_error x f is = absurd (cc)
 
--- what is answered to the question for a case
-case_answer : (telling : Telling) (court : CourtSettings) (h : History) (number : ℕ) (body : List ℕ) → response_of_case telling court h number ≡ response_to court h (case_wish telling number) body
-case_answer telling.Text court h number body = refl
-case_answer telling.Page court h number body = refl
+pub as_short : {X : Type 0} (r : Result X Fault) (f : Fault) → IsErrAnd r (λ e. e ≡ f) → f ≡ fault.NoMemory → IsErrAnd r (λ e. e ≡ fault.NoMemory)
+as_short r f told same = subst (λ (x : Fault). IsErrAnd r (λ e. e ≡ x)) same told
 
--- a question for a case changes nothing, asks the docket and takes memory
-pub case_after : (telling : Telling) (court : CourtSettings) (h : History) (number : ℕ) (body : List ℕ) → history_after court h (case_wish telling number) body ≡ h
-case_after telling.Text court h number body = refl
-case_after telling.Page court h number body = refl
-
-pub case_asks : (telling : Telling) (number : ℕ) → IsTrue (asks_docket (case_wish telling number))
-case_asks telling.Text number = refl
-case_asks telling.Page number = refl
-
-pub case_takes : (telling : Telling) (number : ℕ) → IsTrue (takes_memory (case_wish telling number))
-case_takes telling.Text number = refl
-case_takes telling.Page number = refl
+pub err_closed : {X Y : Type 0} (r : Result X Fault) (f : Fault) → IsErrAnd r (λ e. e ≡ f) → ◌≡◌ {A = Result Y Fault} (Err f) (Err fault.Closed) → r ≡ Err fault.Closed
+err_closed (Ok x) f told is = absurd told
+err_closed (Err e) f told is = let same : f ≡ fault.Closed = cc in ap Err (told ∙ same)
 
 module _ {S : Type 0} (g : Ghosts S) where
   pub said_replied : (d : Docket S) (h : History) (c : Command) (said : Result Number Refusal) (len : ℕ) (body : List ℕ) (reply : Reply) (k : ℕ) (bytes : List ℕ)
@@ -88,6 +63,17 @@ module _ {S : Type 0} (g : Ghosts S) where
       → Replies g d h wish body (Err f) → Replies g d h wish body r
   passed_on d h wish body (Ok reply) f told replies = absurd told
   passed_on d h wish body (Err e) f told replies = subst (λ (x : Fault). Replies g d h wish body (Err x)) (sym told) replies
+
+  pub short_replied : (d : Docket S) (h : History) (wish : Wish) (body : List ℕ) (r : Result Reply Fault) → IsErrAnd r (λ e. e ≡ fault.NoMemory) → IsTrue (takes_memory wish) → Stands g d h
+      → Replies g d h wish body r
+  short_replied d h wish body r told takes stands = passed_on d h wish body r fault.NoMemory told (λ clean. (takes, inl stands))
+
+  -- a command whose answer could not be told
+  pub said_short : (d : Docket S) (h : History) (c : Command) (said : Result Number Refusal) (len : ℕ) (body : List ℕ) (r : Result Reply Fault) → IsErrAnd r (λ e. e ≡ fault.NoMemory)
+      → Answers g d h c said → command_in body ≡ Ok c → Replies g d h (CommandWish len) body r
+  said_short d h c said len body r told answers spells =
+      passed_on d h (CommandWish len) body r fault.NoMemory told
+      (λ clean. (refl, inr (subst (λ (x : Result Command WireFault). Stands g d (after_reading d.court h x)) (sym spells) (answers clean).0)))
 
   -- a command that got no answer
   pub halted_replied : (d : Docket S) (h : History) (c : Command) (f : Fault) (len : ℕ) (body : List ℕ) → command_in body ≡ Ok c → (f ≡ fault.StoreFailed → d.closed ≡ true) → Halts g d h c f
@@ -109,25 +95,16 @@ module _ {S : Type 0} (g : Ghosts S) where
   asked_replied d h wish body fault.Closed answer asks takes same closes left = absurd left
   asked_replied d h wish body (fault.Refused r) answer asks takes same closes left = absurd left
 
-  -- a reply to the question for a case
-  case_told_as : (d : Docket S) (h : History) (telling : Telling) (number : ℕ) (body : List ℕ) (reply : Reply) (response : Response) → Stands g d h
-      → (HasCleanDisk (state g d.conn) → response ≡ response_of_case telling d.court h number) → IsReply reply response → Replies g d h (case_wish telling number) body (Ok reply)
-  case_told_as d h telling number body reply response stands same is clean = (
-    reply_as reply _ _ (same clean ∙ case_answer telling d.court h number body) is,
-    subst (λ (k : History). Stands g d k) (sym (case_after telling d.court h number body)) stands,
+  -- a question, whether or not it got an answer
+  pub question_replied : (old d : Docket S) (h : History) (wish : Wish) (body : List ℕ) (r : Result Reply Fault)
+      → IsTrue (asks_docket wish) → IsTrue (takes_memory wish) → history_after d.court h wish body ≡ h → Stands g old h → OnlyAnswers g old d r
+      → Asks g d h (λ reply. IsReply reply (response_to old.court h wish body)) r → Replies g d h wish body r
+  question_replied old d h wish body (Ok reply) asks takes same stands only asked = λ clean. (
+    reply_as reply _ _ (ap (λ court. response_to court h wish body) (sym only.court)) (asked.1 clean),
+    subst (λ (k : History). Stands g d k) (sym same) asked.0,
   )
-
-  -- a case that is not there
-  pub unknown_case : (d : Docket S) (h : History) (telling : Telling) (number : ℕ) (body : List ℕ) → Stands g d h → (HasCleanDisk (state g d.conn) → None ≡ case_record h number)
-      → Replies g d h (case_wish telling number) body (Ok (Fixed NoSuchCase))
-  unknown_case d h telling number body stands unknown =
-      case_told_as d h telling number body (Fixed NoSuchCase) (problem_response NoSuchCase) stands
-      (λ clean. ap (λ o. case_response telling d.court o (deadline_lines d.court h number)) (unknown clean)) (refl, refl)
-
-  pub unknown_deadlines : (d : Docket S) (h : History) (number : ℕ) (body : List ℕ) (old : CourtSettings) → Stands g d h → d.court ≡ old
-      → (HasCleanDisk (state g d.conn) → None ≡ deadline_lines old h number) → Replies g d h (Deadlines number) body (Ok (Fixed NoSuchCase))
-  unknown_deadlines d h number body old stands kept unknown clean =
-      (reply_as (Fixed NoSuchCase) _ _ (ap (λ o. deadlines_response d.court o) (unknown clean ∙ ap (λ x. deadline_lines x h number) (sym kept))) (refl, refl), stands)
+  question_replied old d h wish body (Err f) asks takes same stands only asked =
+      asked_replied d h wish body f (λ reply. IsReply reply (response_to old.court h wish body)) asks takes same (λ is. (only.closes stands.serves).1 (ap Err is)) asked
 
   pub fault_replied : (d : Docket S) (h : History) (f : WireFault) (len : ℕ) (body : List ℕ) (reply : Reply)
       → Stands g d h → command_in body ≡ Err f → IsReply reply (json 400 (fault_text f)) → Replies g d h (CommandWish len) body (Ok reply)
@@ -135,37 +112,6 @@ module _ {S : Type 0} (g : Ghosts S) where
     reply_as reply _ _ (ap (λ r. command_response d.court h r) (sym spells)) is,
     subst (λ (r : Result Command WireFault). Stands g d (after_reading d.court h r)) (sym spells) stands,
   )
-
-  pub case_replied : (d : Docket S) (h : History) (telling : Telling) (number : ℕ) (body : List ℕ) (row : CaseRecord) (lines : List DeadlineLine) (court old : CourtSettings) (reply : Reply)
-      → Stands g d h → court ≡ d.court → d.court ≡ old → (HasCleanDisk (state g d.conn) → Some lines ≡ deadline_lines old h number)
-      → (HasCleanDisk (state g d.conn) → Some row ≡ case_record h number)
-      → IsReply reply (case_told telling court row lines) → Replies g d h (case_wish telling number) body (Ok reply)
-  case_replied d h telling number body row lines court old reply stands same kept lined recorded is =
-      case_told_as d h telling number body reply (case_told telling court row lines) stands
-      (λ clean. ap (λ x. case_told telling x row lines) same
-      ∙ ap (λ o. case_response telling d.court (Some row) o) (lined clean ∙ ap (λ x. deadline_lines x h number) (sym kept))
-      ∙ ap (λ o. case_response telling d.court o (deadline_lines d.court h number)) (recorded clean)) is
-
-  pub case_missing : (d : Docket S) (h : History) (telling : Telling) (number : ℕ) (body : List ℕ) (old : CourtSettings)
-      → Stands g d h → d.court ≡ old → (HasCleanDisk (state g d.conn) → None ≡ deadline_lines old h number) → Replies g d h (case_wish telling number) body (Ok (Fixed NoSuchCase))
-  case_missing d h telling number body old stands kept lined =
-      case_told_as d h telling number body (Fixed NoSuchCase) (problem_response NoSuchCase) stands
-      (λ clean. no_record telling d.court (case_record h number)
-      ∙ ap (λ o. case_response telling d.court (case_record h number) o) (lined clean ∙ ap (λ x. deadline_lines x h number) (sym kept))) (refl, refl)
-
-  pub deadlines_replied : (d : Docket S) (h : History) (number : ℕ) (body : List ℕ) (lines : List DeadlineLine) (court old : CourtSettings) (reply : Reply)
-      → Stands g d h → court ≡ d.court → d.court ≡ old → (HasCleanDisk (state g d.conn) → Some lines ≡ deadline_lines old h number)
-      → IsReply reply (text (deadlines_text court lines)) → Replies g d h (Deadlines number) body (Ok reply)
-  deadlines_replied d h number body lines court old reply stands same kept lined is clean = (
-    reply_as reply _ _ (ap (λ x. text (deadlines_text x lines)) same
-        ∙ ap (λ o. deadlines_response d.court o) (lined clean ∙ ap (λ x. deadline_lines x h number) (sym kept))) is,
-    stands,
-  )
-
-  -- a page that is replied
-  pub page_replied : (d : Docket S) (h : History) (page : Page) (body : List ℕ) (reply : Reply) (response : Response) → Stands g d h
-      → (HasCleanDisk (state g d.conn) → response ≡ page_response d.court h page) → IsReply reply response → Replies g d h (PageWish page) body (Ok reply)
-  page_replied d h page body reply response stands same is clean = (reply_as reply _ _ (same clean) is, stands)
 
   pub replies_as : (d : Docket S) (h : History) (a b : Wish) (x y : List ℕ) (result : Result Reply Fault) → a ≡ b → x ≡ y → Replies g d h a x result → Replies g d h b y result
   replies_as d h a b x y result same_wish same_body replies =

@@ -1,5 +1,5 @@
 -- What a closed docket answers.
-use Rattle.std.proofs.Common.{◌≡◌, ◌∙◌, IsErrAnd, IfOk, IfErr, inl, inr, ℕ, List, Option, Result, Ok, Err, refl, sym, ap, subst}
+use Rattle.std.proofs.Common.{◌≡◌, ◌∙◌, IsErrAnd, IfOk, IfErr, inl, inr, ℕ, List, Option, Result, Ok, Err, sym, ap, subst}
 use Rattle.std.specs.Io.KnownBytes.{Appends}
 use Rattle.docket_applying.specs.declared.fault.Fault.{Fault}
 use Rattle.docket_applying.specs.declared.fault.Fault.TheVariants as fault
@@ -11,7 +11,7 @@ use Rattle.docket_wire.specs.declared.fault.WireFault.{WireFault}
 use Rattle.line_io.specs.Output.{AppendsFront}
 use Rattle.http_request.specs.declared.page.Routes.{Routes}
 use Rattle.http_request.specs.declared.wish.Wish.{Wish}
-use Rattle.http_request.specs.declared.wish.Wish.TheVariants.{Command as CommandWish, Calendar}
+use Rattle.http_request.specs.declared.wish.Wish.TheVariants.{Command as CommandWish}
 use Rattle.docket_http.specs.Answer.{Response, response_bytes, json, problem_response, problem_status}
 use Rattle.docket_http.specs.Asking.{closed_command, problem_of_fault, IsClosedAnswer, IsClosedReply, RepliesClosed}
 use Rattle.docket_http.specs.Reply.{IsReply, reply_bytes, reply_status}
@@ -29,14 +29,9 @@ pub closed_faulty : (len : ℕ) (body : List ℕ) (f : WireFault) (reply : Reply
     → RepliesClosed (CommandWish len) body (Ok reply)
 closed_faulty len body f reply spells is = (json 400 (fault_text f), is, inl (ap closed_command (sym spells)))
 
-pub closed_as : (a b : Wish) (x y : List ℕ) (r : Result Reply Fault) → a ≡ b → x ≡ y → RepliesClosed a x r → RepliesClosed b y r
-closed_as a b x y r same_wish same_body closed =
-    subst (λ (w : Wish). RepliesClosed w y r) same_wish (subst (λ (z : List ℕ). RepliesClosed a z r) same_body closed)
-
 -- a question that is told that the docket is closed
-pub closed_told : (a b : Wish) (body : List ℕ) (r : Result Reply Fault) → b ≡ a → r ≡ Err fault.Closed → IsClosedAnswer a body (problem_response Closed) → RepliesClosed b body r
-closed_told a b body r same is answer =
-    subst (λ (w : Wish). RepliesClosed w body r) (sym same) (subst (λ (x : Result Reply Fault). RepliesClosed a body x) (sym is) answer)
+pub closed_told : (wish : Wish) (body : List ℕ) (r : Result Reply Fault) → r ≡ Err fault.Closed → IsClosedAnswer wish body (problem_response Closed) → RepliesClosed wish body r
+closed_told wish body r is answer = subst (λ (x : Result Reply Fault). RepliesClosed wish body x) (sym is) answer
 
 pub closed_short : (wish : Wish) (body : List ℕ) (r : Result Reply Fault) → IsErrAnd r (λ f. f ≡ fault.NoMemory) → IsClosedAnswer wish body (problem_response NoMemory) → RepliesClosed wish body r
 closed_short wish body (Ok reply) told answer = absurd told
@@ -76,11 +71,6 @@ begun_open e f is shut = absurd (cc)
 
 pub cut_open : {A : Type 0} (e : ListingEnd) → e ≡ listing.WriteFailed → ◌≡◌ {A = Result ℕ ListingEnd} (Err e) (Err (listing.NotBegun fault.Closed)) → A
 cut_open e is shut = absurd (cc)
-
-pub closed_calendar : (from to : ℕ) (wish : Wish) (body : List ℕ) (o n : Option (List ℕ)) (r : Result Served ServeFault) → wish ≡ Calendar from to
-    → Sends (problem_response Closed) o n r → SendsClosed wish body o n r
-closed_calendar from to wish body o n r same sent =
-    subst (λ (w : Wish). SendsClosed w body o n r) (sym same) (record { response = problem_response Closed; closed = refl; sent = sent })
 
 -- a request that was read
 pub read_closed : (routes : Routes) (input : Option (List ℕ)) (wish : Wish) (body : List ℕ) (o n : Option (List ℕ)) (r : Result Served ServeFault) → IsAsked routes input wish body

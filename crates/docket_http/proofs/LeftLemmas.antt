@@ -5,9 +5,7 @@ use Rattle.court_days.specs.Court.{CourtSettings}
 use Rattle.docket_command.specs.declared.command.Command.{Command}
 use Rattle.docket_history.specs.Histories.{History}
 use Rattle.docket_decisions.specs.Outcomes.{Answer, accepted, outcome, refused, repeated}
-use Rattle.docket_history.specs.Records.{case_record, deadline_lines}
-use Rattle.docket_history.specs.declared.record.CaseRecord.{CaseRecord}
-use Rattle.docket_history.specs.declared.record.DeadlineLine.{DeadlineLine}
+use Rattle.docket_questions.specs.Texts.{text_of_case, text_of_deadlines}
 use Rattle.docket_tables.specs.Stands.{LastsAsEither}
 use Rattle.docket_applying.specs.Applying.{Stands, docket_rows}
 use Rattle.docket_applying.specs.Dockets.{Docket}
@@ -15,16 +13,12 @@ use Rattle.docket_wire.specs.Reading.{command_in}
 use Rattle.docket_wire.specs.declared.fault.WireFault.{WireFault}
 use Rattle.http_request.specs.declared.fields.Rejection.{Rejection}
 use Rattle.http_request.specs.declared.fields.Rejection.TheVariants as rejection
-use Rattle.http_request.specs.declared.page.Page.{Page}
-use Rattle.http_request.specs.declared.page.Page.TheVariants as page
 use Rattle.http_request.specs.declared.wish.Wish.{Wish}
 use Rattle.http_request.specs.declared.wish.Wish.TheVariants.{Reject, Command as CommandWish, Case, Deadlines, Calendar, Holidays, Page as PageWish, Copy}
-use Rattle.docket_http.specs.Answer.{Response, rejection_status}
-use Rattle.docket_http.specs.Asking.{IsAnswered, LeftBy, command_response, deadlines_response, history_after, outcome_response, response_to, told}
-use Rattle.docket_http.specs.Cases.{case_response, case_told}
-use Rattle.docket_http.specs.Pages.{page_response}
-use Rattle.docket_http.specs.declared.asking.Telling.{Telling}
-use Rattle.docket_http.specs.declared.asking.Telling.TheVariants as telling
+use Rattle.docket_http.specs.Answer.{Response, found, rejection_status}
+use Rattle.docket_http.specs.Asking.{IsAnswered, LeftBy, command_response, history_after, outcome_response, response_to, text_of_page, told}
+use Rattle.docket_http.specs.declared.head.Form.{Form}
+use Rattle.docket_http.specs.declared.head.Form.TheVariants.{Html, Text}
 use Rattle.docket_http.specs.declared.problem.Problem.{Problem}
 use Rattle.docket_http.specs.declared.problem.Problem.TheVariants.{Rejected, NoSuchCase, NoCopy, NoMemory, Store, Closed, Damaged}
 
@@ -49,32 +43,18 @@ command_fine : (court : CourtSettings) (h : History) (r : Result Command WireFau
 command_fine court h (Ok c) = outcome_fine (outcome court h c)
 command_fine court h (Err fault) = refl
 
-told_fine : (telling : Telling) (court : CourtSettings) (row : CaseRecord) (lines : List DeadlineLine) → ((case_told telling court row lines).status == 503) ≡ false
-told_fine telling.Text court row lines = refl
-told_fine telling.Page court row lines = refl
-
-case_fine : (telling : Telling) (court : CourtSettings) (row : Option CaseRecord) (lines : Option (List DeadlineLine)) → ((case_response telling court row lines).status == 503) ≡ false
-case_fine telling court None lines = refl
-case_fine telling court (Some row) None = refl
-case_fine telling court (Some row) (Some lines) = told_fine telling court row lines
-
-page_fine : (court : CourtSettings) (h : History) (page : Page) → ((page_response court h page).status == 503) ≡ false
-page_fine court h (page.Cases from) = refl
-page_fine court h (page.Case number) = case_fine telling.Page court (case_record h number) (deadline_lines court h number)
-page_fine court h (page.Days from to) = refl
-
-deadlines_fine : (court : CourtSettings) (lines : Option (List DeadlineLine)) → ((deadlines_response court lines).status == 503) ≡ false
-deadlines_fine court None = refl
-deadlines_fine court (Some lines) = refl
+found_fine : (form : Form) (found_text : Option (List ℕ)) → ((found form found_text).status == 503) ≡ false
+found_fine form None = refl
+found_fine form (Some body) = refl
 
 response_fine : (court : CourtSettings) (h : History) (wish : Wish) (body : List ℕ) → ((response_to court h wish body).status == 503) ≡ false
 response_fine court h (Reject r) body = rejected_fine r
 response_fine court h (CommandWish len) body = command_fine court h (command_in body)
-response_fine court h (Case number) body = case_fine telling.Text court (case_record h number) (deadline_lines court h number)
-response_fine court h (Deadlines number) body = deadlines_fine court (deadline_lines court h number)
+response_fine court h (Case number) body = found_fine Text (text_of_case court h number)
+response_fine court h (Deadlines number) body = found_fine Text (text_of_deadlines court h number)
 response_fine court h (Calendar from to) body = refl
 response_fine court h (Holidays year) body = refl
-response_fine court h (PageWish page) body = page_fine court h page
+response_fine court h (PageWish page) body = found_fine Html (text_of_page court h page)
 response_fine court h Copy body = refl
 
 module _ {S : Type 0} (g : Ghosts S) (d : Docket S) (h : History) (wish : Wish) (body : List ℕ) (response : Response) where

@@ -1,18 +1,15 @@
 -- What is told of a command is recorded.
-use Rattle.std.proofs.Common.{◌≡◌, ◌≤◌, IfOk, IfErr, inl, inr, ℕ, List, Option, Result, Ok, Err, refl, sym, subst, arith}
+use Rattle.std.proofs.Common.{◌≡◌, IfOk, IfErr, inl, inr, ℕ, List, Option, Result, Ok, Err, refl, subst, arith}
 use Rattle.std.specs.Io.KnownBytes.{Appends}
-use Rattle.sqlite.specs.Held.{state}
 use Rattle.sqlite.specs.Store.{Ghosts}
-use Rattle.sqlite.specs.View.{doubt}
 use Rattle.court_days.specs.Court.{CourtSettings}
 use Rattle.docket_command.specs.declared.command.Command.{Command}
 use Rattle.docket_command.specs.declared.refusal.Refusal.{Refusal}
 use Rattle.docket_command.specs.declared.refusal.Reply.{Reply as Number}
 use Rattle.docket_tables.specs.Layouts.{Rows}
-use Rattle.docket_applying.specs.AnyRows.{AnswersWhole, WritesAtMostOne}
+use Rattle.docket_applying.specs.AnyRows.{AnswersWhole}
 use Rattle.docket_applying.specs.Dockets.{Docket}
-use Rattle.docket_applying.specs.declared.fault.Fault.{Fault}
-use Rattle.docket_applying.proofs.AnyLemmas.{lasting, whole_recorded}
+use Rattle.docket_applying.proofs.AnyLemmas.{whole_recorded}
 use Rattle.docket_wire.specs.Reading.{command_in}
 use Rattle.docket_wire.specs.Texts.{reply_text, fault_text}
 use Rattle.docket_wire.specs.declared.fault.WireFault.{WireFault}
@@ -36,11 +33,6 @@ use Rattle.docket_http.specs.declared.fault.ServeFault.TheVariants as serve
 use Rattle.docket_http.specs.declared.sending.Served.{Served}
 use Rattle.docket_http.proofs.ClosedLemmas.{sends_reply}
 
--- nothing is claimed of what is no command
-pub any_ok : (r : Result Reply Fault) → IfOk r (λ _. Unit {0})
-any_ok (Ok reply) = tt
-any_ok (Err f) = tt
-
 -- no problem is told by 200
 
 no_rejection : (r : Rejection) → rejection_status r ≡ 200 → ⊥
@@ -63,13 +55,6 @@ no_problem problem.Closed is = omega (arith, is)
 no_problem problem.Damaged is = omega (arith, is)
 
 module _ {S : Type 0} (g : Ghosts S) (d : Docket S) where
-  -- a docket that was left as it was
-  pub nothing_written : WritesAtMostOne g d d
-  nothing_written rows n stored are small holds = inl (lasting g d.conn rows holds)
-
-  pub still_clean : doubt (state g d.conn).is_clean ≤ doubt (state g d.conn).is_clean
-  still_clean = omega arith
-
   -- the answer to a command
 
   said_told : (court : CourtSettings) (n : ℕ) (rows : Rows) (c : Command) (said : Result Number Refusal) (body : List ℕ) → AnswersWhole g d.conn court n rows c (Ok said) → command_in body ≡ Ok c
@@ -99,10 +84,6 @@ module _ {S : Type 0} (g : Ghosts S) (d : Docket S) where
   problem_backed (PageWish page) body p = tt
   problem_backed Copy body p = tt
 
-  pub backed_as : (a b : Wish) (x y : List ℕ) (r : Result Reply Fault) → a ≡ b → x ≡ y → IfOk r (RepliesBacked g d a x) → IfOk r (RepliesBacked g d b y)
-  backed_as a b x y r same_wish same_body backed =
-      subst (λ (w : Wish). IfOk r (RepliesBacked g d w y)) same_wish (subst (λ (z : List ℕ). IfOk r (RepliesBacked g d a z)) same_body backed)
-
   -- the writing of it
 
   pub sent_backed : (wish : Wish) (body : List ℕ) (reply : Reply) (o n : Option (List ℕ)) (r : Result Served ServeFault) → RepliesBacked g d wish body reply
@@ -117,9 +98,6 @@ module _ {S : Type 0} (g : Ghosts S) (d : Docket S) where
   sent_backed (Holidays year) body reply o n r backed whole front = tt
   sent_backed (PageWish page) body reply o n r backed whole front = tt
   sent_backed Copy body reply o n r backed whole front = tt
-
-  pub calendar_backed : (from to : ℕ) (wish : Wish) (body : List ℕ) (o n : Option (List ℕ)) (r : Result Served ServeFault) → wish ≡ Calendar from to → SentBacked g d wish body o n r
-  calendar_backed from to wish body o n r same = subst (λ (w : Wish). SentBacked g d w body o n r) (sym same) tt
 
   pub read_backed : (routes : Routes) (input : Option (List ℕ)) (wish : Wish) (body : List ℕ) (o n : Option (List ℕ)) (r : Result Served ServeFault) → IsAsked routes input wish body
       → SentBacked g d wish body o n r → ServesBacked g routes input d o n r

@@ -1,5 +1,6 @@
 -- From the writing of a reply to what a connection is served.
-use Rattle.std.proofs.Common.{◌≡◌, ◌≢◌, ◌⊎◌, ◌+◌, ◌++◌, [], inl, inr, ℕ, List, Option, Some, None, Result, Ok, Err, IfOk, IfErr, true, false, length, take, take_at, length-append, append-nil, refl, sym, ap, subst, ◌∙◌, arith}
+use Rattle.std.proofs.Common.{◌≡◌, ◌⊎◌, ◌+◌, ◌++◌, [], inl, inr, ℕ, List, Option, None, Result, Ok, Err, IfOk, IfErr, true, false, length, take, take_at, length-append, refl, sym, ap, subst, ◌∙◌, arith}
+use Rattle.std.proofs.KnownBytes.{Appends-trans}
 use Rattle.std.specs.Io.KnownBytes.{Appends}
 use Rattle.sqlite.specs.Store.{Ghosts}
 use Rattle.sqlite.specs.State.{HasCleanDisk}
@@ -18,10 +19,10 @@ use Rattle.line_io.specs.Output.{AppendsFront, HasFront}
 use Rattle.http_request.specs.declared.page.Routes.{Routes}
 use Rattle.http_request.specs.declared.wish.Wish.{Wish}
 use Rattle.http_request.specs.declared.wish.Wish.TheVariants.{Calendar, Copy}
-use Rattle.docket_http.specs.Answer.{response_bytes, problem_response, head_bytes, open_text}
+use Rattle.docket_http.specs.Answer.{fine, response_bytes, problem_response, head_bytes}
 use Rattle.docket_http.specs.Asking.{problem_of_fault}
 use Rattle.docket_http.specs.Reply.{reply_bytes, reply_status}
-use Rattle.docket_http.specs.Serve.{Begins, IsServed, IsCut, IsBroken, IsAsked, Serves, Fails, WantsCopy, fault_of_broken}
+use Rattle.docket_http.specs.Serve.{Begins, Delivers, IsServed, IsCut, IsBroken, IsAsked, IsOfWriting, Serves, Fails, WantsCopy, fault_of_broken}
 use Rattle.docket_http.specs.declared.head.Form.TheVariants.{OpenText}
 use Rattle.docket_http.specs.declared.problem.Problem.{Problem}
 use Rattle.docket_http.specs.declared.problem.Problem.TheVariants.{NoMemory}
@@ -46,19 +47,10 @@ unfolding front_of
 begins_of a b text f = record { front = front_of a b text f.front; begun = f.begun }
 
 -- what comes behind nothing
-nothing_appends : (a b c : Option (List ℕ)) (x : List ℕ) → Appends a b [] → Appends b c x → Appends a c x
-nothing_appends None b c x k h = tt
-nothing_appends (Some p) None c x k h = absurd k
-nothing_appends (Some p) (Some q) None x k h = absurd h
-nothing_appends (Some p) (Some q) (Some r) x k h = h ∙ ap (λ z. z ++ x) (k ∙ append-nil p)
-
 nothing_front : (a b c : Option (List ℕ)) (x : List ℕ) → Appends a b [] → AppendsFront b c x → AppendsFront a c x
-nothing_front a b c x k f = record { count = f.count; within = f.within; front = nothing_appends a b c (take f.count x) k f.front }
+nothing_front a b c x k f = record { count = f.count; within = f.within; front = Appends-trans a b c [] (take f.count x) k f.front }
 
 -- what ends the writing of an answer is told by nothing else
-abbrev pub IsOfWriting : ServeFault → Type 0
-IsOfWriting e = (e ≢ serve.ReadFailed) × (e ≢ serve.EndedEarly) × (e ≢ serve.CopyWanted)
-
 pub writing_own : IsOfWriting serve.WriteFailed
 writing_own = (λ is. absurd (cc), λ is. absurd (cc), λ is. absurd (cc))
 
@@ -80,78 +72,32 @@ pub wants : {S : Type 0} (routes : Routes) (input : Option (List ℕ)) (wish : W
 wants routes input wish body d asked is = record { body = body; asked = subst (λ (w : Wish). IsAsked routes input w body) is.0 asked; same = refl; serves = is.1 }
 
 module _ {S : Type 0} (g : Ghosts S) where
-  -- a reply that went out
-  pub served_by : (d : Docket S) (h : History) (wish : Wish) (body : List ℕ) (reply : Reply) (o n : Option (List ℕ)) (status : ℕ) → Tells g d h wish body reply
-      → Appends o n (reply_bytes reply) → status ≡ reply_status reply → IsServed g d h wish body o n status
-  served_by d h wish body reply o n status tells written coded = record {
-    response = tells.0;
-    answered = tells.2;
-    written = subst (λ (b : List ℕ). Appends o n b) tells.1.0 written;
-    status_told = coded ∙ tells.1.1;
-  }
-
-  pub cut_by : (d : Docket S) (h : History) (wish : Wish) (body : List ℕ) (reply : Reply) (o n : Option (List ℕ)) → Tells g d h wish body reply
-      → AppendsFront o n (reply_bytes reply) → IsCut g d h wish body o n
-  cut_by d h wish body reply o n tells front = record {
-    response = tells.0;
-    answered = tells.2;
-    front = subst (λ (b : List ℕ). AppendsFront o n b) tells.1.0 front;
-  }
-
-  -- the writing of a reply that is what is told, whatever the history
-  pub sent_whole : (d old : Docket S) (r : Result Served ServeFault) (wish : Wish) (reply : Reply) (o m n : Option (List ℕ))
-      → ((h : History) (body : List ℕ) → Stands g old h → HasCleanDisk (state g d.conn) → Tells g d h wish body reply × Appends o m [])
+  -- a reply that went out behind nothing, or a front of it
+  pub delivered : (d : Docket S) (h : History) (wish : Wish) (body : List ℕ) (reply : Reply) (o m n : Option (List ℕ)) (r : Result Served ServeFault) → Tells g d h wish body reply
+      → Appends o m []
       → IfOk r (λ s. Appends m n (reply_bytes reply) × (s.status ≡ reply_status reply))
-      → IfOk r (λ s. (h : History) (body : List ℕ) → Stands g old h → HasCleanDisk (state g d.conn) → IsServed g d h wish body o n s.status)
-  sent_whole d old (Err e) wish reply o m n tells whole = tt
-  sent_whole d old (Ok s) wish reply o m n tells whole = λ h body stands clean.
-      let t = tells h body stands clean in
-      served_by d h wish body reply o n s.status t.0 (nothing_appends o m n (reply_bytes reply) t.1 whole.0) whole.1
-
-  pub sent_cut : (d old : Docket S) (r : Result Served ServeFault) (wish : Wish) (reply : Reply) (o m n : Option (List ℕ))
-      → ((h : History) (body : List ℕ) → Stands g old h → HasCleanDisk (state g d.conn) → Tells g d h wish body reply × Appends o m [])
       → IfErr r (λ e. (e ≡ serve.WriteFailed) × AppendsFront m n (reply_bytes reply))
-      → IfErr r (λ e. (h : History) (body : List ℕ) → Stands g old h → HasCleanDisk (state g d.conn) → IsBroken g d h wish body o n e)
-  sent_cut d old (Ok s) wish reply o m n tells front = tt
-  sent_cut d old (Err e) wish reply o m n tells front = λ h body stands clean.
-      let t = tells h body stands clean in
-      subst (λ (x : ServeFault). IsBroken g d h wish body o n x) (sym front.0) (cut_by d h wish body reply o n t.0 (nothing_front o m n (reply_bytes reply) t.1 front.1))
-
-  -- the same for one body
-  pub reply_whole : (d old : Docket S) (r : Result Served ServeFault) (wish : Wish) (body : List ℕ) (reply : Reply) (o n : Option (List ℕ))
-      → ((h : History) → Stands g old h → HasCleanDisk (state g d.conn) → Tells g d h wish body reply)
-      → IfOk r (λ s. Appends o n (reply_bytes reply) × (s.status ≡ reply_status reply))
-      → IfOk r (λ s. (h : History) → Stands g old h → HasCleanDisk (state g d.conn) → IsServed g d h wish body o n s.status)
-  reply_whole d old (Err e) wish body reply o n tells whole = tt
-  reply_whole d old (Ok s) wish body reply o n tells whole = λ h stands clean. served_by d h wish body reply o n s.status (tells h stands clean) whole.0 whole.1
-
-  pub reply_cut : (d old : Docket S) (r : Result Served ServeFault) (wish : Wish) (body : List ℕ) (reply : Reply) (o n : Option (List ℕ))
-      → ((h : History) → Stands g old h → HasCleanDisk (state g d.conn) → Tells g d h wish body reply)
-      → IfErr r (λ e. (e ≡ serve.WriteFailed) × AppendsFront o n (reply_bytes reply))
-      → IfErr r (λ e. (h : History) → Stands g old h → HasCleanDisk (state g d.conn) → IsBroken g d h wish body o n e)
-  reply_cut d old (Ok s) wish body reply o n tells front = tt
-  reply_cut d old (Err e) wish body reply o n tells front = λ h stands clean.
-      subst (λ (x : ServeFault). IsBroken g d h wish body o n x) (sym front.0) (cut_by d h wish body reply o n (tells h stands clean) front.1)
-
-  -- a calendar that was asked for
-  pub calendar_whole : (d old : Docket S) (r : Result Served ServeFault) (a b : Wish) (body : List ℕ) (o n : Option (List ℕ)) → b ≡ a
-      → IfOk r (λ s. (h : History) (body : List ℕ) → Stands g old h → HasCleanDisk (state g d.conn) → IsServed g d h a body o n s.status)
-      → IfOk r (λ s. (h : History) → Stands g old h → HasCleanDisk (state g d.conn) → IsServed g d h b body o n s.status)
-  calendar_whole d old (Err e) a b body o n same whole = tt
-  calendar_whole d old (Ok s) a b body o n same whole = λ h stands clean. subst (λ (w : Wish). IsServed g d h w body o n s.status) (sym same) (whole h body stands clean)
-
-  pub calendar_fails : (d old : Docket S) (r : Result Served ServeFault) (a b : Wish) (body : List ℕ) (o n : Option (List ℕ)) → b ≡ a
-      → IfErr r (λ e. (h : History) (body : List ℕ) → Stands g old h → HasCleanDisk (state g d.conn) → IsBroken g d h a body o n e)
-      → IfErr r (λ e. (h : History) → Stands g old h → HasCleanDisk (state g d.conn) → IsBroken g d h b body o n e)
-  calendar_fails d old (Ok s) a b body o n same fails = tt
-  calendar_fails d old (Err e) a b body o n same fails = λ h stands clean. subst (λ (w : Wish). IsBroken g d h w body o n e) (sym same) (fails h body stands clean)
+      → Delivers g d h wish body o n r
+  delivered d h wish body reply o m n (Ok s) tells nothing whole front = record {
+    response = tells.0;
+    answered = tells.2;
+    written = subst (λ (b : List ℕ). Appends o n b) tells.1.0 (Appends-trans o m n [] (reply_bytes reply) nothing whole.0);
+    status_told = whole.1 ∙ tells.1.1;
+  }
+  delivered d h wish body reply o m n (Err e) tells nothing whole front =
+      let cut : IsCut g d h wish body o n = record {
+        response = tells.0;
+        answered = tells.2;
+        front = subst (λ (b : List ℕ). AppendsFront o n b) tells.1.0 (nothing_front o m n (reply_bytes reply) nothing front.1);
+      } in
+      subst (λ (x : ServeFault). IsBroken g d h wish body o n x) (sym front.0) cut
 
   -- a request that was read
   pub read_whole : (d old : Docket S) (r : Result Served ServeFault) (routes : Routes) (input : Option (List ℕ)) (wish : Wish) (body : List ℕ) (o n : Option (List ℕ)) → IsAsked routes input wish body
-      → IfOk r (λ s. (h : History) → Stands g old h → HasCleanDisk (state g d.conn) → IsServed g d h wish body o n s.status)
+      → ((h : History) → Stands g old h → HasCleanDisk (state g d.conn) → Delivers g d h wish body o n r)
       → IfOk r (λ s. (h : History) → Stands g old h → HasCleanDisk (state g d.conn) → Serves g routes input old d h o n s.status)
-  read_whole d old (Err e) routes input wish body o n asked whole = tt
-  read_whole d old (Ok s) routes input wish body o n asked whole = λ h stands clean. inl (wish, body, asked, whole h stands clean)
+  read_whole d old (Err e) routes input wish body o n asked delivers = tt
+  read_whole d old (Ok s) routes input wish body o n asked delivers = λ h stands clean. inl (wish, body, asked, delivers h stands clean)
 
   read_broken : (d old : Docket S) (e : ServeFault) (h : History) (routes : Routes) (input : Option (List ℕ)) (wish : Wish) (body : List ℕ) (o n : Option (List ℕ)) → IsAsked routes input wish body
       → IsBroken g d h wish body o n e → Fails g routes input old d h o n e
@@ -163,10 +109,10 @@ module _ {S : Type 0} (g : Ghosts S) where
   read_broken d old serve.StoreFailed h routes input wish body o n asked is = (wish, body, asked, is)
 
   pub read_fails : (d old : Docket S) (r : Result Served ServeFault) (routes : Routes) (input : Option (List ℕ)) (wish : Wish) (body : List ℕ) (o n : Option (List ℕ)) → IsAsked routes input wish body
-      → IfErr r (λ e. (h : History) → Stands g old h → HasCleanDisk (state g d.conn) → IsBroken g d h wish body o n e)
+      → ((h : History) → Stands g old h → HasCleanDisk (state g d.conn) → Delivers g d h wish body o n r)
       → IfErr r (λ e. (h : History) → Stands g old h → HasCleanDisk (state g d.conn) → Fails g routes input old d h o n e)
-  read_fails d old (Ok s) routes input wish body o n asked fails = tt
-  read_fails d old (Err e) routes input wish body o n asked fails = λ h stands clean. read_broken d old e h routes input wish body o n asked (fails h stands clean)
+  read_fails d old (Ok s) routes input wish body o n asked delivers = tt
+  read_fails d old (Err e) routes input wish body o n asked delivers = λ h stands clean. read_broken d old e h routes input wish body o n asked (delivers h stands clean)
 
   -- memory was short before the request was read
   pub unread_whole : (old : Docket S) (r : Result Served ServeFault) (routes : Routes) (input : Option (List ℕ)) (o n : Option (List ℕ))
@@ -188,14 +134,14 @@ module _ {S : Type 0} (g : Ghosts S) where
 
   -- the bytes of a calendar's answer
   calendar_bytes : (court : CourtSettings) (h : History) (from to : ℕ) (front : List ℕ) → ((len : ℕ) → front ≡ head_bytes 200 OpenText len)
-      → front ++ text_of_calendar court h from to ≡ response_bytes (open_text (text_of_calendar court h from to))
+      → front ++ text_of_calendar court h from to ≡ response_bytes (fine OpenText (text_of_calendar court h from to))
   calendar_bytes court h from to front head = ap (λ x. x ++ text_of_calendar court h from to) (head (length (text_of_calendar court h from to)))
 
   pub calendar_served : (d : Docket S) (h : History) (from to : ℕ) (body front : List ℕ) (o n : Option (List ℕ)) (lines : ℕ)
       → ((len : ℕ) → front ≡ head_bytes 200 OpenText len) → Lists g d h from to front o n (Ok lines) → HasCleanDisk (state g d.conn)
       → IsServed g d h (Calendar from to) body o n 200
   calendar_served d h from to body front o n lines head lists clean = record {
-    response = open_text (text_of_calendar d.court h from to);
+    response = fine OpenText (text_of_calendar d.court h from to);
     answered = record { problem = None; is = refl; left = lists.0 };
     written = subst (λ (b : List ℕ). Appends o n b) (calendar_bytes d.court h from to front head) (lists.1 clean).0;
     status_told = refl;
@@ -205,7 +151,7 @@ module _ {S : Type 0} (g : Ghosts S) where
       → ((len : ℕ) → front ≡ head_bytes 200 OpenText len) → Lists g d h from to front o n (Err listing.WriteFailed) → HasCleanDisk (state g d.conn)
       → IsCut g d h (Calendar from to) body o n
   calendar_cut d h from to body front o n head lists clean = record {
-    response = open_text (text_of_calendar d.court h from to);
+    response = fine OpenText (text_of_calendar d.court h from to);
     answered = record { problem = None; is = refl; left = lists.0 };
     front = subst (λ (b : List ℕ). AppendsFront o n b) (calendar_bytes d.court h from to front head) (front_of o n _ (lists.1 clean));
   }

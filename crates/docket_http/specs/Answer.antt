@@ -1,5 +1,5 @@
 -- The bytes of an answer: a status line and two to five fields, each ended by CR LF, an empty line, and the body.
-use Rattle.std.specs.Prelude.{ℕ, List, [], ◌∷◌, ◌++◌, length, codes, decimal}
+use Rattle.std.specs.Prelude.{ℕ, List, [], ◌∷◌, ◌++◌, length, Option, Some, None, codes, decimal}
 use Rattle.http.specs.StatusCode.{status_text}
 use Rattle.http_request.specs.declared.fields.Rejection.{Rejection}
 use Rattle.http_request.specs.declared.fields.Rejection.TheVariants.{HeadTooLong, BadHead, NotFound, Method, BadPathValue, LengthRequired, TooLong, Foreign}
@@ -55,19 +55,9 @@ response_bytes r = head_bytes r.status r.form (length r.body) ++ r.body
 abbrev pub json : ℕ → List ℕ → Response
 json status text = record { status = status; form = Json; body = text ++ 10 ∷ [] }
 
-abbrev pub text : List ℕ → Response
-text body = record { status = 200; form = Text; body = body }
-
-abbrev pub html : List ℕ → Response
-html body = record { status = 200; form = Html; body = body }
-
--- the bytes of a file
-abbrev pub file : List ℕ → Response
-file body = record { status = 200; form = File; body = body }
-
--- its end is told by the end of the connection
-abbrev pub open_text : List ℕ → Response
-open_text body = record { status = 200; form = OpenText; body = body }
+-- what was asked for, in that form
+abbrev pub fine : Form → List ℕ → Response
+fine form body = record { status = 200; form = form; body = body }
 
 abbrev pub rejection_status : Rejection → ℕ
 rejection_status HeadTooLong = 431
@@ -110,3 +100,8 @@ problem_word Damaged = codes "damaged"
 -- {"error":"not-found"}
 abbrev pub problem_response : Problem → Response
 problem_response p = json (problem_status p) (codes "{\"error\":\"" ++ problem_word p ++ codes "\"}")
+
+-- the text of a question in that form, or that there is no such case
+abbrev pub found : Form → Option (List ℕ) → Response
+found form None = problem_response NoSuchCase
+found form (Some body) = fine form body

@@ -9,28 +9,26 @@ use Rattle.docket_command.specs.declared.refusal.Refusal.{Refusal}
 use Rattle.docket_command.specs.declared.refusal.Reply.{Reply as Number}
 use Rattle.docket_history.specs.Histories.{History}
 use Rattle.docket_decisions.specs.Outcomes.{Answer, accepted, repeated, refused, outcome, after}
-use Rattle.docket_history.specs.Records.{deadline_lines}
-use Rattle.docket_history.specs.declared.record.DeadlineLine.{DeadlineLine}
 use Rattle.docket_tables.specs.Stands.{LastsAsEither}
 use Rattle.docket_applying.specs.Applying.{Stands, docket_rows}
 use Rattle.docket_applying.specs.Dockets.{Docket}
 use Rattle.docket_applying.specs.declared.fault.Fault.{Fault}
 use Rattle.docket_applying.specs.declared.fault.Fault.TheVariants as fault
 use Rattle.docket_calendar.specs.Calendar.{text_of_calendar}
-use Rattle.docket_text.specs.CaseTexts.{deadlines_text}
+use Rattle.docket_questions.specs.Texts.{page_of_case, page_of_cases, page_of_days, text_of_case, text_of_deadlines}
 use Rattle.docket_text.specs.HolidayTexts.{holiday_text}
 use Rattle.docket_wire.specs.Reading.{command_in}
 use Rattle.docket_wire.specs.Texts.{reply_text, fault_text}
 use Rattle.docket_wire.specs.declared.fault.WireFault.{WireFault}
+use Rattle.http_request.specs.declared.page.Page.{Page}
+use Rattle.http_request.specs.declared.page.Page.TheVariants as page
 use Rattle.http_request.specs.declared.wish.Wish.{Wish}
 use Rattle.http_request.specs.declared.wish.Wish.TheVariants.{Reject, Command as CommandWish, Case, Deadlines, Calendar, Holidays, Page as PageWish, Copy}
-use Rattle.docket_http.specs.Answer.{Response, json, text, open_text, problem_response}
-use Rattle.docket_http.specs.Cases.{response_of_case}
-use Rattle.docket_http.specs.Pages.{page_response}
+use Rattle.docket_http.specs.Answer.{Response, fine, found, json, problem_response}
 use Rattle.docket_http.specs.Reply.{IsReply}
-use Rattle.docket_http.specs.declared.asking.Telling.TheVariants as telling
+use Rattle.docket_http.specs.declared.head.Form.TheVariants.{Text, OpenText, Html}
 use Rattle.docket_http.specs.declared.problem.Problem.{Problem}
-use Rattle.docket_http.specs.declared.problem.Problem.TheVariants.{Rejected, NoSuchCase, NoCopy, NoMemory, Store, Closed, Damaged}
+use Rattle.docket_http.specs.declared.problem.Problem.TheVariants.{Rejected, NoCopy, NoMemory, Store, Closed, Damaged}
 use Rattle.docket_http.specs.declared.reply.Reply.{Reply}
 
 -- the status of a reply, and of a refusal
@@ -49,19 +47,21 @@ abbrev pub command_response : CourtSettings → History → Result Command WireF
 command_response court h (Ok c) = outcome_response (outcome court h c)
 command_response court h (Err fault) = json 400 (fault_text fault)
 
-abbrev pub deadlines_response : CourtSettings → Option (List DeadlineLine) → Response
-deadlines_response court None = problem_response NoSuchCase
-deadlines_response court (Some lines) = text (deadlines_text court lines)
+-- the text of a page, if there is what it shows
+abbrev pub text_of_page : CourtSettings → History → Page → Option (List ℕ)
+text_of_page court h (page.Cases from) = Some (page_of_cases h from)
+text_of_page court h (page.Case number) = page_of_case court h number
+text_of_page court h (page.Days from to) = Some (page_of_days court h from to)
 
 -- the answer to what is asked, with this body; of the file in which it is kept a docket has no copy to give
 abbrev pub response_to : CourtSettings → History → Wish → List ℕ → Response
 response_to court h (Reject rejection) body = problem_response (Rejected rejection)
 response_to court h (CommandWish len) body = command_response court h (command_in body)
-response_to court h (Case number) body = response_of_case telling.Text court h number
-response_to court h (Deadlines number) body = deadlines_response court (deadline_lines court h number)
-response_to court h (Calendar from to) body = open_text (text_of_calendar court h from to)
-response_to court h (Holidays year) body = text (holiday_text year)
-response_to court h (PageWish page) body = page_response court h page
+response_to court h (Case number) body = found Text (text_of_case court h number)
+response_to court h (Deadlines number) body = found Text (text_of_deadlines court h number)
+response_to court h (Calendar from to) body = fine OpenText (text_of_calendar court h from to)
+response_to court h (Holidays year) body = fine Text (holiday_text year)
+response_to court h (PageWish page) body = found Html (text_of_page court h page)
 response_to court h Copy body = problem_response NoCopy
 
 abbrev pub after_reading : CourtSettings → History → Result Command WireFault → History
@@ -150,7 +150,7 @@ IsClosedAnswer (Deadlines number) body response = response ≡ problem_response 
 IsClosedAnswer (Calendar from to) body response = response ≡ problem_response Closed
 IsClosedAnswer (PageWish page) body response = response ≡ problem_response Closed
 IsClosedAnswer Copy body response = response ≡ problem_response NoCopy
-IsClosedAnswer (Holidays year) body response = (response ≡ text (holiday_text year)) ⊎ (response ≡ problem_response NoMemory)
+IsClosedAnswer (Holidays year) body response = (response ≡ fine Text (holiday_text year)) ⊎ (response ≡ problem_response NoMemory)
 
 -- the reply of a closed docket, and what it replies before a fault is told as a problem
 abbrev pub IsClosedReply : Wish → List ℕ → Reply → Type 0

@@ -1,9 +1,12 @@
--- What is told of a command is recorded, over any rows of a docket's tables, whether or not a history leads to them.
-use Rattle.std.specs.Prelude.{◌≡◌, ◌⊎◌, ℕ, List, Option, Result, Ok, Err}
+-- What an answer leaves of any docket, whether or not a history leads to its rows: what is told of a command is recorded.
+use Rattle.std.specs.Prelude.{◌≡◌, ◌≤◌, ◌⊎◌, true, ℕ, List, Option, Result, Ok, Err, IfOk, IfErr}
+use Rattle.sqlite.specs.Held.{state}
 use Rattle.sqlite.specs.Store.{Ghosts}
+use Rattle.sqlite.specs.View.{doubt}
 use Rattle.docket_command.specs.declared.command.Command.{Command}
 use Rattle.docket_command.specs.declared.refusal.Reply.{Reply as Number}
-use Rattle.docket_applying.specs.AnyRows.{IsRecorded}
+use Rattle.docket_applying.specs.AnyRows.{HoldsDocketRows, IsRecorded, WritesAtMostOne}
+use Rattle.docket_applying.specs.declared.fault.Fault.{Fault}
 use Rattle.docket_applying.specs.Dockets.{Docket}
 use Rattle.docket_wire.specs.Reading.{command_in}
 use Rattle.docket_wire.specs.Texts.{reply_text}
@@ -11,8 +14,9 @@ use Rattle.http_request.specs.declared.page.Routes.{Routes}
 use Rattle.http_request.specs.declared.wish.Wish.{Wish}
 use Rattle.http_request.specs.declared.wish.Wish.TheVariants.{Command as CommandWish}
 use Rattle.docket_http.specs.Answer.{Response, json, problem_response}
+use Rattle.docket_http.specs.Asking.{RepliesClosed}
 use Rattle.docket_http.specs.Reply.{IsReply}
-use Rattle.docket_http.specs.Serve.{IsAsked, Sends}
+use Rattle.docket_http.specs.Serve.{IsAsked, IsOfWriting, Sends, SendsClosed}
 use Rattle.docket_http.specs.declared.problem.Problem.TheVariants.{NoMemory}
 use Rattle.docket_http.specs.declared.fault.ServeFault.{ServeFault}
 use Rattle.docket_http.specs.declared.fault.ServeFault.TheVariants as serve
@@ -55,3 +59,23 @@ module _ {S : Type 0} (g : Ghosts S) where
   ServesBacked routes input d before after result =
       ((wish : Wish) × (body : List ℕ) × IsAsked routes input wish body × SentBacked d wish body before after result)
       ⊎ Sends (problem_response NoMemory) before after result
+
+  -- at most one command is written, whole, and nothing else
+  pub record OnlyWrites (old new : Docket S) : Type 0 where
+    pub court : new.court ≡ old.court
+    -- a disk that was not clean is not clean after it
+    pub clean : doubt (state g old.conn).is_clean ≤ doubt (state g new.conn).is_clean
+    pub any : WritesAtMostOne g old new
+
+  -- what a reply to a request leaves
+  pub record OnlyReplies (old new : Docket S) (wish : Wish) (body : List ℕ) (result : Result Reply Fault) : Type 0 where
+    pub writes : OnlyWrites old new
+    pub closed : old.closed ≡ true → (new ≡ old) × RepliesClosed wish body result
+    pub recorded : HoldsDocketRows g old → IfOk result (RepliesBacked new wish body)
+
+  -- the same once its answer went out, or a front of it
+  pub record OnlySends (old new : Docket S) (wish : Wish) (body : List ℕ) (before after : Option (List ℕ)) (result : Result Served ServeFault) : Type 0 where
+    pub writes : OnlyWrites old new
+    pub closed : old.closed ≡ true → (new ≡ old) × SendsClosed wish body before after result
+    pub recorded : HoldsDocketRows g old → SentBacked new wish body before after result
+    pub own : IfErr result IsOfWriting

@@ -1,5 +1,5 @@
 -- What a connection is served, and what is left where it is not served whole.
-use Rattle.std.specs.Prelude.{◌≡◌, ◌≤◌, ◌⊎◌, ℕ, false, List, Option, Some, None, IfSome, Result, Ok, Err}
+use Rattle.std.specs.Prelude.{◌≡◌, ◌≢◌, ◌≤◌, ◌⊎◌, ℕ, false, List, Option, Some, None, IfSome, Result, Ok, Err}
 use Rattle.std.specs.Io.KnownBytes.{Appends, Keeps}
 use Rattle.sqlite.specs.Store.{Ghosts}
 use Rattle.docket_history.specs.Histories.{History}
@@ -11,8 +11,9 @@ use Rattle.http_request.specs.Request.{IsRequest, EndsEarly}
 use Rattle.http_request.specs.declared.page.Routes.{Routes}
 use Rattle.http_request.specs.declared.wish.Wish.{Wish}
 use Rattle.http_request.specs.declared.wish.Wish.TheVariants.{Copy}
-use Rattle.docket_http.specs.Answer.{Response, file, response_bytes, problem_response}
+use Rattle.docket_http.specs.Answer.{Response, fine, response_bytes, problem_response}
 use Rattle.docket_http.specs.Asking.{IsAnswered, IsBuilt, IsClosedAnswer, LeftBy, response_to}
+use Rattle.docket_http.specs.declared.head.Form.TheVariants.{File}
 use Rattle.docket_http.specs.declared.problem.Problem.TheVariants.{NoCopy, NoMemory, Store}
 use Rattle.docket_http.specs.declared.fault.ServeFault.{ServeFault}
 use Rattle.docket_http.specs.declared.fault.ServeFault.TheVariants as serve
@@ -25,6 +26,10 @@ fault_of_broken fault.StoreFailed = serve.StoreFailed
 fault_of_broken fault.Closed = serve.StoreFailed
 fault_of_broken fault.Damaged = serve.StoreFailed
 fault_of_broken (fault.Refused r) = serve.StoreFailed
+
+-- why the writing of an answer ends: the reading was done, and no copy is wanted
+abbrev pub IsOfWriting : ServeFault → Type 0
+IsOfWriting e = (e ≢ serve.ReadFailed) × (e ≢ serve.EndedEarly) × (e ≢ serve.CopyWanted)
 
 -- a front of the bytes went out, and it is not empty
 pub record Begins (before after : Option (List ℕ)) (bytes : List ℕ) : Type 0 where
@@ -44,7 +49,7 @@ Sends response before after (Err _) = ⊥
 -- the answer where a copy was made of the docket's file, and where none was; memory may be short for the head of a copy
 abbrev pub IsCopyAnswer : Option (List ℕ) → Response → Type 0
 IsCopyAnswer None response = response ≡ problem_response NoCopy
-IsCopyAnswer (Some copy) response = (response ≡ file copy) ⊎ (response ≡ problem_response NoMemory)
+IsCopyAnswer (Some copy) response = (response ≡ fine File copy) ⊎ (response ≡ problem_response NoMemory)
 
 -- such an answer went out, or a front of it
 pub record SendsCopy (copy : Option (List ℕ)) (before after : Option (List ℕ)) (result : Result Served ServeFault) : Type 0 where
@@ -97,6 +102,11 @@ module _ {S : Type 0} (g : Ghosts S) where
   IsBroken d h wish body before after serve.StoreFailed =
       LeftBy g (Some Store) d h wish body × Begins before after (response_bytes (response_to d.court h wish body)) × (IsBuilt wish → ⊥)
   IsBroken d h wish body before after _ = ⊥
+
+  -- what came of a request that was read
+  abbrev pub Delivers : Docket S → History → Wish → List ℕ → Option (List ℕ) → Option (List ℕ) → Result Served ServeFault → Type 0
+  Delivers d h wish body before after (Ok served) = IsServed d h wish body before after served.status
+  Delivers d h wish body before after (Err e) = IsBroken d h wish body before after e
 
   -- memory was short before the request was read whole, and this was told, or a front of it
   pub record GivesUp (old new : Docket S) (before after : Option (List ℕ)) (status : ℕ) : Type 0 where

@@ -1,25 +1,24 @@
 //! The answer to a request that is answered whole.
-ghost use Rattle.std.specs.Prelude.{◌≡◌, ◌≤◌, true, vec_len, IfOk};
+ghost use Rattle.std.specs.Prelude.{◌≤◌, Ok, vec_len};
 ghost use Rattle.sqlite.specs.Held.{state};
 ghost use Rattle.sqlite.specs.State.{HasCleanDisk};
-ghost use Rattle.sqlite.specs.View.{doubt};
 ghost use Rattle.docket_history.specs.Histories.{History};
-ghost use Rattle.docket_applying.specs.AnyRows.{HoldsDocketRows, WritesAtMostOne};
 ghost use Rattle.docket_applying.specs.Applying.{Stands};
 ghost use Rattle.http_request.specs.Request.{body_of};
 ghost use Rattle.http_request.specs.Wish.{IsWithinLimits};
 ghost use Rattle.docket_http.specs.Answer.{Response};
-ghost use Rattle.docket_http.specs.Asking.{IsBuilt, Replies, RepliesClosed, IsAnswered, IsClosedReply};
-ghost use Rattle.docket_http.specs.Recorded.{RepliesBacked};
+ghost use Rattle.docket_http.specs.Asking.{IsBuilt, Replies, IsAnswered};
+ghost use Rattle.docket_http.specs.Recorded.{OnlyReplies};
 ghost use Rattle.docket_http.specs.Reply.{IsReply};
 
-use crate::asking::{Telling, case_reply, deadlines_reply, holidays_reply};
+use crate::asking::{holidays_reply, question_reply};
 use crate::commands::command_reply;
-use crate::pages::page_reply;
+use crate::head::Form;
 use crate::problem::{Problem, problem_of};
 use crate::reply::Reply;
+use docket_questions::{CasePage, CaseText, CasesPage, DaysPage, DeadlinesText};
 use docket_store::{Docket, Fault};
-use http_request::{Request, Wish};
+use http_request::{Page, Request, Wish};
 use sqlite::Alter;
 use std::alloc::Global;
 
@@ -32,26 +31,29 @@ fn reply_to<S: Alter>(
     requires whole { IsBuilt request.now.wish }
     requires limits { IsWithinLimits request.now.wish }
     requires within { request.now.start ≤ request.now.end × request.now.end ≤ vec_len request.now.came }
-    ensures court { docket.new.court ≡ docket.old.court }
-    ensures clean { doubt (state S.Store docket.old.conn).is_clean ≤ doubt (state S.Store docket.new.conn).is_clean }
-    ensures any { WritesAtMostOne S.Store docket.old docket.new }
-    ensures closed { docket.old.closed ≡ true → (docket.new ≡ docket.old)
-        × RepliesClosed request.now.wish (body_of request.now) result }
     ensures replies { (h : History) → Stands S.Store docket.old h
         → Replies S.Store docket.new h request.now.wish (body_of request.now) result }
-    ensures recorded { HoldsDocketRows S.Store docket.old → IfOk result (RepliesBacked S.Store docket.new request.now.wish (body_of request.now)) }
+    ensures only { OnlyReplies S.Store docket.old docket.new request.now.wish (body_of request.now) result }
 {
     match request.wish {
         Wish::Reject(rejection) => Ok(Reply::Fixed(Problem::Rejected(rejection))),
         Wish::Command(_) => {
             command_reply(alloc, docket, &request.came[request.start..request.end])
         }
-        Wish::Case(number) => case_reply(alloc, docket, Telling::Text, number),
-        Wish::Deadlines(number) => deadlines_reply(alloc, docket, number),
+        Wish::Case(number) => question_reply(alloc, docket, Form::Text, &CaseText { number }),
+        Wish::Deadlines(number) => {
+            question_reply(alloc, docket, Form::Text, &DeadlinesText { number })
+        }
+        Wish::Page(page) => match page {
+            Page::Cases(from) => question_reply(alloc, docket, Form::Html, &CasesPage { from }),
+            Page::Case(number) => question_reply(alloc, docket, Form::Html, &CasePage { number }),
+            Page::Days(from, to) => {
+                question_reply(alloc, docket, Form::Html, &DaysPage { from, to })
+            }
+        },
         // Never comes here: a calendar is not built before it is written.
         Wish::Calendar(..) => Ok(Reply::Fixed(Problem::Damaged)),
         Wish::Holidays(year) => Ok(holidays_reply(alloc, year)?),
-        Wish::Page(page) => page_reply(alloc, docket, page),
         // Comes here where the docket is closed: else the caller is told that a copy is wanted.
         Wish::Copy => Ok(Reply::Fixed(Problem::NoCopy)),
     }
@@ -62,15 +64,10 @@ pub(crate) fn reply_of<S: Alter>(alloc: Global, docket: &mut Docket<S>, request:
     requires whole { IsBuilt request.now.wish }
     requires limits { IsWithinLimits request.now.wish }
     requires within { request.now.start ≤ request.now.end × request.now.end ≤ vec_len request.now.came }
-    ensures court { docket.new.court ≡ docket.old.court }
-    ensures clean { doubt (state S.Store docket.old.conn).is_clean ≤ doubt (state S.Store docket.new.conn).is_clean }
-    ensures any { WritesAtMostOne S.Store docket.old docket.new }
-    ensures closed { docket.old.closed ≡ true → (docket.new ≡ docket.old)
-        × IsClosedReply request.now.wish (body_of request.now) result }
     ensures answered { (h : History) → Stands S.Store docket.old h → HasCleanDisk (state S.Store docket.new.conn)
         → (response : Response) × IsReply result response
         × IsAnswered S.Store docket.new h request.now.wish (body_of request.now) response }
-    ensures recorded { HoldsDocketRows S.Store docket.old → RepliesBacked S.Store docket.new request.now.wish (body_of request.now) result }
+    ensures only { OnlyReplies S.Store docket.old docket.new request.now.wish (body_of request.now) (Ok result) }
 {
     match reply_to(alloc, docket, request) {
         Ok(reply) => reply,

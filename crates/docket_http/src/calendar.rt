@@ -1,16 +1,12 @@
 //! The answer that goes out while the docket is read: a calendar.
-ghost use Rattle.std.specs.Prelude.{◌≡◌, ◌≢◌, ◌≤◌, ℕ, List, IfOk, IfErr, true};
+ghost use Rattle.std.specs.Prelude.{◌≡◌, ℕ, List};
 ghost use Rattle.sqlite.specs.Held.{state};
 ghost use Rattle.sqlite.specs.State.{HasCleanDisk};
-ghost use Rattle.sqlite.specs.View.{doubt};
 ghost use Rattle.docket_history.specs.Histories.{History};
-ghost use Rattle.docket_tables.specs.Layouts.{Rows};
-ghost use Rattle.docket_tables.specs.Stands.{HoldsRows, Lasts};
 ghost use Rattle.docket_applying.specs.Applying.{Stands};
 ghost use Rattle.http_request.specs.declared.wish.Wish.TheVariants.{Calendar};
-ghost use Rattle.docket_http.specs.Answer.{problem_response};
-ghost use Rattle.docket_http.specs.Serve.{IsServed, IsBroken, Sends, fault_of_broken};
-ghost use Rattle.docket_http.specs.declared.problem.Problem.TheVariants.{Closed};
+ghost use Rattle.docket_http.specs.Recorded.{OnlySends};
+ghost use Rattle.docket_http.specs.Serve.{Delivers, IsOfWriting, fault_of_broken};
 
 use crate::fault::ServeFault;
 use crate::head::open_head;
@@ -26,7 +22,7 @@ use std::io::Write;
 /// What a calendar comes to whose docket failed in the middle.
 fn broken(fault: Fault) -> ServeFault
     ensures fault { result ≡ fault_of_broken fault }
-    ensures own { (result ≢ ServeFault.ReadFailed) × (result ≢ ServeFault.EndedEarly) × (result ≢ ServeFault.CopyWanted) }
+    ensures own { IsOfWriting result }
 {
     match fault {
         Fault::NoMemory => ServeFault::NoMemory,
@@ -41,18 +37,9 @@ pub(crate) fn serve_calendar<W: Write, S: Alter>(
     to: Day,
     writer: &mut W,
 ) -> Result<Served, ServeFault>
-    ensures court { docket.new.court ≡ docket.old.court }
-    ensures clean { doubt (state S.Store docket.old.conn).is_clean ≤ doubt (state S.Store docket.new.conn).is_clean }
-    ensures stays { (rows : Rows) → HoldsRows S.Store docket.old.conn rows → Lasts S.Store docket.new.conn rows }
-    ensures closed { docket.old.closed ≡ true → (docket.new ≡ docket.old)
-        × Sends (problem_response Closed) (W.contents writer.old) (W.contents writer.new) result }
-    ensures served { IfOk result (λ served. (h : History) (body : List ℕ) → Stands S.Store docket.old h
-        → HasCleanDisk (state S.Store docket.new.conn)
-        → IsServed S.Store docket.new h (Calendar from to) body (W.contents writer.old) (W.contents writer.new) served.status) }
-    ensures fails { IfErr result (λ e. (h : History) (body : List ℕ) → Stands S.Store docket.old h
-        → HasCleanDisk (state S.Store docket.new.conn)
-        → IsBroken S.Store docket.new h (Calendar from to) body (W.contents writer.old) (W.contents writer.new) e) }
-    ensures own { IfErr result (λ e. (e ≢ ServeFault.ReadFailed) × (e ≢ ServeFault.EndedEarly) × (e ≢ ServeFault.CopyWanted)) }
+    ensures delivers { (h : History) (body : List ℕ) → Stands S.Store docket.old h → HasCleanDisk (state S.Store docket.new.conn)
+        → Delivers S.Store docket.new h (Calendar from to) body (W.contents writer.old) (W.contents writer.new) result }
+    ensures only { (body : List ℕ) → OnlySends S.Store docket.old docket.new (Calendar from to) body (W.contents writer.old) (W.contents writer.new) result }
 {
     match docket.calendar_after(open_head(), from, to, writer) {
         Ok(_) => Ok(Served {

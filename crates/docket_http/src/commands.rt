@@ -1,17 +1,14 @@
 //! Commands, and what they are answered.
-ghost use Rattle.std.specs.Prelude.{◌≡◌, ◌≤◌, ℕ, List, IfOk, IfErr, Ok, Err, true};
-ghost use Rattle.sqlite.specs.Held.{state};
-ghost use Rattle.sqlite.specs.View.{doubt};
+ghost use Rattle.std.specs.Prelude.{◌≡◌, ℕ, List, IfOk, IfErr, Ok};
 ghost use Rattle.docket_history.specs.Histories.{History};
-ghost use Rattle.docket_applying.specs.AnyRows.{HoldsDocketRows, WritesAtMostOne};
 ghost use Rattle.docket_applying.specs.Applying.{Stands};
 ghost use Rattle.http_request.specs.declared.wish.Wish.TheVariants.{Command as CommandWish};
 ghost use Rattle.docket_applying.specs.declared.fault.Fault.TheVariants as fault;
 ghost use Rattle.docket_wire.specs.Reading.{command_in};
 ghost use Rattle.docket_wire.specs.Texts.{fault_text};
 ghost use Rattle.docket_http.specs.Answer.{json};
-ghost use Rattle.docket_http.specs.Asking.{Replies, RepliesClosed, said_status};
-ghost use Rattle.docket_http.specs.Recorded.{RepliesBacked};
+ghost use Rattle.docket_http.specs.Asking.{Replies, said_status};
+ghost use Rattle.docket_http.specs.Recorded.{OnlyReplies};
 ghost use Rattle.docket_http.specs.Reply.{IsReply};
 
 use crate::reply::{Reply, json_reply};
@@ -37,14 +34,10 @@ fn applied_reply<S: Alter>(
     docket: &mut Docket<S>,
     command: &Command,
 ) -> Result<Reply, Fault>
-    ensures court { docket.new.court ≡ docket.old.court }
-    ensures clean { doubt (state S.Store docket.old.conn).is_clean ≤ doubt (state S.Store docket.new.conn).is_clean }
-    ensures any { WritesAtMostOne S.Store docket.old docket.new }
-    ensures closed { docket.old.closed ≡ true → (result ≡ Err fault.Closed) × (docket.new ≡ docket.old) }
     ensures replies { (h : History) (len : ℕ) (body : List ℕ) → Stands S.Store docket.old h → command_in body ≡ Ok command.now
         → Replies S.Store docket.new h (CommandWish len) body result }
-    ensures recorded { HoldsDocketRows S.Store docket.old → (len : ℕ) (body : List ℕ) → command_in body ≡ Ok command.now
-        → IfOk result (RepliesBacked S.Store docket.new (CommandWish len) body) }
+    ensures only { (len : ℕ) (body : List ℕ) → command_in body ≡ Ok command.now
+        → OnlyReplies S.Store docket.old docket.new (CommandWish len) body result }
 {
     let said = answer(docket, command)?;
     let text = reply_text(alloc, &said)?;
@@ -77,14 +70,9 @@ pub(crate) fn command_reply<S: Alter>(
     docket: &mut Docket<S>,
     body: &[u8],
 ) -> Result<Reply, Fault>
-    ensures court { docket.new.court ≡ docket.old.court }
-    ensures clean { doubt (state S.Store docket.old.conn).is_clean ≤ doubt (state S.Store docket.new.conn).is_clean }
-    ensures any { WritesAtMostOne S.Store docket.old docket.new }
-    ensures closed { docket.old.closed ≡ true → (docket.new ≡ docket.old)
-        × ((len : ℕ) → RepliesClosed (CommandWish len) body.now result) }
     ensures replies { (h : History) (len : ℕ) → Stands S.Store docket.old h
         → Replies S.Store docket.new h (CommandWish len) body.now result }
-    ensures recorded { HoldsDocketRows S.Store docket.old → (len : ℕ) → IfOk result (RepliesBacked S.Store docket.new (CommandWish len) body.now) }
+    ensures only { (len : ℕ) → OnlyReplies S.Store docket.old docket.new (CommandWish len) body.now result }
 {
     match reading(alloc, body)? {
         Ok(command) => applied_reply(alloc, docket, &command),

@@ -13,7 +13,6 @@ mod copies;
 mod fault;
 mod head;
 mod laws;
-mod pages;
 mod problem;
 mod reply;
 mod sending;

@@ -1,7 +1,8 @@
 //! Answers, whole.
 ghost use Rattle.std.specs.Prelude.{◌≡◌, IfOk, string_bytes};
-ghost use Rattle.docket_http.specs.Answer.{file, html, json, text};
+ghost use Rattle.docket_http.specs.Answer.{fine, json};
 ghost use Rattle.docket_http.specs.Reply.{IsReply, reply_status};
+ghost use Rattle.docket_http.specs.declared.head.Form.TheVariants.{File};
 
 use crate::head::{Form, Head};
 use crate::problem::Problem;
@@ -38,7 +39,13 @@ impl Reply {
     }
 }
 
-fn built(alloc: Global, status: StatusCode, form: Form, body: String) -> Result<Reply, AllocError>
+/// An answer of a status, with a body of that form.
+pub(crate) fn built(
+    alloc: Global,
+    status: StatusCode,
+    form: Form,
+    body: String,
+) -> Result<Reply, AllocError>
     ensures { IfOk result (λ reply. IsReply reply (record { status = status; form = form; body = string_bytes body })) }
 {
     let len = body.len();
@@ -59,23 +66,9 @@ pub(crate) fn json_reply(
     built(alloc, status, Form::Json, text)
 }
 
-/// An answer that is a text.
-pub(crate) fn text_reply(alloc: Global, body: String) -> Result<Reply, AllocError>
-    ensures { IfOk result (λ reply. IsReply reply (text (string_bytes body))) }
-{
-    built(alloc, StatusCode::OK, Form::Text, body)
-}
-
-/// An answer that is a page.
-pub(crate) fn html_reply(alloc: Global, body: String) -> Result<Reply, AllocError>
-    ensures { IfOk result (λ reply. IsReply reply (html (string_bytes body))) }
-{
-    built(alloc, StatusCode::OK, Form::Html, body)
-}
-
 /// An answer that is a file.
 pub(crate) fn file_reply(alloc: Global, body: Vec<u8>) -> Result<Reply, AllocError>
-    ensures { IfOk result (λ reply. IsReply reply (file body.items)) }
+    ensures { IfOk result (λ reply. IsReply reply (fine File body.items)) }
 {
     let head = Head {
         status: StatusCode::OK,

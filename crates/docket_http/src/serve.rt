@@ -1,5 +1,5 @@
 //! One connection: a request is read, and its answer is written.
-ghost use Rattle.std.specs.Prelude.{◌≡◌, ◌≢◌, ◌⊎◌, ◌≤◌, Err, IfOk, IfErr, MatchOption, false, true, vec_len};
+ghost use Rattle.std.specs.Prelude.{◌≡◌, ◌⊎◌, ◌≤◌, Err, IfOk, IfErr, MatchOption, false, true, vec_len};
 ghost use Rattle.std.specs.Io.KnownBytes.{Keeps};
 ghost use Rattle.sqlite.specs.Held.{state};
 ghost use Rattle.sqlite.specs.State.{HasCleanDisk};
@@ -11,8 +11,8 @@ ghost use Rattle.http_request.specs.Request.{body_of};
 ghost use Rattle.http_request.specs.Wish.{IsWithinLimits};
 ghost use Rattle.http_request.specs.declared.wish.Wish.TheVariants.{Calendar, Copy};
 ghost use Rattle.docket_http.specs.Asking.{IsBuilt};
-ghost use Rattle.docket_http.specs.Recorded.{SentBacked, ServesBacked};
-ghost use Rattle.docket_http.specs.Serve.{IsServed, IsBroken, Serves, Fails, SendsClosed, ServesClosed, WantsCopy};
+ghost use Rattle.docket_http.specs.Recorded.{OnlySends, ServesBacked};
+ghost use Rattle.docket_http.specs.Serve.{Delivers, Serves, Fails, ServesClosed, WantsCopy};
 
 use crate::answering::reply_of;
 use crate::calendar::serve_calendar;
@@ -46,20 +46,9 @@ fn serve_request<W: Write, S: Alter>(
 ) -> Result<Served, ServeFault>
     requires limits { IsWithinLimits request.now.wish }
     requires within { request.now.start ≤ request.now.end × request.now.end ≤ vec_len request.now.came }
-    ensures court { docket.new.court ≡ docket.old.court }
-    ensures clean { doubt (state S.Store docket.old.conn).is_clean ≤ doubt (state S.Store docket.new.conn).is_clean }
-    ensures any { WritesAtMostOne S.Store docket.old docket.new }
-    ensures closed { docket.old.closed ≡ true → (docket.new ≡ docket.old)
-        × SendsClosed request.now.wish (body_of request.now) (W.contents writer.old) (W.contents writer.new) result }
-    ensures served { IfOk result (λ served. (h : History) → Stands S.Store docket.old h
-        → HasCleanDisk (state S.Store docket.new.conn)
-        → IsServed S.Store docket.new h request.now.wish (body_of request.now) (W.contents writer.old) (W.contents writer.new) served.status) }
-    ensures fails { IfErr result (λ e. (h : History) → Stands S.Store docket.old h
-        → HasCleanDisk (state S.Store docket.new.conn)
-        → IsBroken S.Store docket.new h request.now.wish (body_of request.now) (W.contents writer.old) (W.contents writer.new) e) }
-    ensures own { IfErr result (λ e. (e ≢ ServeFault.ReadFailed) × (e ≢ ServeFault.EndedEarly) × (e ≢ ServeFault.CopyWanted)) }
-    ensures recorded { HoldsDocketRows S.Store docket.old
-        → SentBacked S.Store docket.new request.now.wish (body_of request.now) (W.contents writer.old) (W.contents writer.new) result }
+    ensures delivers { (h : History) → Stands S.Store docket.old h → HasCleanDisk (state S.Store docket.new.conn)
+        → Delivers S.Store docket.new h request.now.wish (body_of request.now) (W.contents writer.old) (W.contents writer.new) result }
+    ensures only { OnlySends S.Store docket.old docket.new request.now.wish (body_of request.now) (W.contents writer.old) (W.contents writer.new) result }
 {
     match days_of(&request.wish) {
         Some((from, to)) => serve_calendar(docket, from, to, writer),

@@ -1,5 +1,5 @@
 -- What the statement of a table does to any database: it shows rows, or is refused.
-use Rattle.std.proofs.Common.{◌≡◌, ◌⊎◌, inl, inr, ℕ, List, [], ◌∷◌, ◌++◌, true, false, IsTrue, IsSome, Some, None, Option, Ok, Err, Result, IsErrAnd, refl, sym, ap, subst, subst₂, ◌∙◌, arith}
+use Rattle.std.proofs.Common.{◌≡◌, ◌⊎◌, inl, inr, ℕ, List, [], ◌∷◌, ◌++◌, true, false, IsTrue, IsSome, Some, None, Option, Ok, Err, Result, IsErrAnd, refl, sym, ap, subst, subst₂, ◌∙◌}
 use Rattle.std.proofs.lemmas.Bool.{false≢true}
 use Rattle.std.proofs.lemmas.List.{append_assoc}
 use Rattle.sqlite.specs.Order.{Row}
@@ -13,18 +13,19 @@ use Rattle.sqlite_resolve.specs.declared.compiled.Compiled.{Compiled}
 use Rattle.sqlite_resolve.specs.declared.error.CompileError.{CompileError}
 use Rattle.sqlite.specs.Held.{Held, state}
 use Rattle.sqlite.specs.Listing.{understood, reads_listing, IsSourceOf}
-use Rattle.sqlite.specs.State.{State, HasCleanDisk, Survives, IsUnchanged, Shown, ShowsRows, Begins, CommitsShowing, FailsToQuery, FailsToShow, IsNotRun, IsNoStatement, store_error}
+use Rattle.sqlite.specs.State.{State, Survives, IsUnchanged, Shown, ShowsRows, Begins, CommitsShowing, FailsToQuery, FailsToShow, IsNotRun, IsNoStatement, store_error}
 use Rattle.sqlite.specs.Given.{Returns, HasGiven, HasBegun}
 use Rattle.sqlite.specs.declared.error.Error.{Error}
 use Rattle.sqlite.specs.declared.error.Error.TheVariants.{SqliteFailure}
 use Rattle.sqlite.specs.declared.error.ErrorCode.TheVariants.{OutOfMemory}
 use Rattle.sqlite_trees.specs.declared.error.StoreError.{StoreError}
 use Rattle.sqlite_trees.specs.declared.error.StoreError.TheVariants as store
-use Rattle.sqlite.proofs.StateLemmas.{survives_then, survives_weaker}
+use Rattle.sqlite.proofs.StateLemmas.{survives_weaker}
 use Rattle.sqlite.proofs.Callers.{unchanged_then}
 use Rattle.docket_scan.specs.Scans.{IsUnderstood, AreRowsOf, AreFirstRowsOf, IsUnreadable, is_refusal, FailsToScan, Scanned, StaysOrRollsBack}
 use Rattle.docket_tables.specs.Texts.{scan_text}
 use Rattle.docket_tables.specs.declared.table.Table.{Table}
+pub use Rattle.docket_tables.proofs.NothingLemmas.{clean_before, nothing_then}
 use Rattle.docket_scan.proofs.AnySchema.{understood_plain}
 
 -- what had stayed as it was, and then stays or is undone
@@ -41,14 +42,6 @@ stays_then first old new same (inr undone) = inr (record {
 no_some : {X : Type 0} (o : Option X) → o ≡ None → IsSome o → ⊥
 no_some None none some = absurd (let e = some in cc)
 no_some (Some x) none some = absurd cc
-
--- a disk that is clean was clean
-pub clean_before : {old new : State} → Survives old new (λ _. ⊥) → HasCleanDisk new → HasCleanDisk old
-clean_before kept clean = omega (arith, kept.clean)
-
--- what wrote nothing, and then writes nothing
-pub nothing_then : {first old new : State} → Survives first old (λ _. ⊥) → Survives old new (λ _. ⊥) → Survives first new (λ _. ⊥)
-nothing_then {first} {old} {new} = survives_then first old new _ _ _ (λ clean db none. none) (λ clean db none. none)
 
 module _ (t : Table) where
   pub never_commits : (s : State) (db : Trees) → CommitsShowing (scan_text t) [] s db → ⊥

@@ -2,10 +2,9 @@
 ghost use Rattle.std.specs.Prelude.{◌≡◌};
 ghost use Rattle.docket_scan.specs.Judging.{fault_in};
 
-use docket_tables::{Table, table_name};
+use docket_tables::Table;
 use sqlite::{Error, ErrorCode};
 use std::alloc::AllocError;
-use std::fmt;
 
 /// Why a database was not adopted.
 #[derive(Clone, Copy)]
@@ -21,23 +20,6 @@ pub enum AdoptFault {
     NoMemory,
     /// The database failed, or a transaction is open on it.
     StoreFailed,
-}
-
-impl fmt::Display for AdoptFault {
-    fn fmt<W: fmt::Write>(&self, f: &mut fmt::Formatter<W>) -> fmt::Result {
-        match self {
-            AdoptFault::Empty => f.write_str("the database holds no docket"),
-            AdoptFault::NotADocket => f.write_str("the database is not that of a docket"),
-            AdoptFault::OtherVersion => f.write_str("the docket is laid out in another version"),
-            AdoptFault::Damaged(table) => write!(
-                f,
-                "the table {} is not sound",
-                table_name(*table)
-            ),
-            AdoptFault::NoMemory => f.write_str("there is not enough memory"),
-            AdoptFault::StoreFailed => f.write_str("the database failed"),
-        }
-    }
 }
 
 impl From<AllocError> for AdoptFault {

@@ -1,7 +1,7 @@
 -- What a question to a docket leaves.
 use Rattle.std.specs.Prelude.{◌≡◌, ◌≤◌, ◌↔◌, true, false, Result, Err}
 use Rattle.sqlite.specs.Held.{state}
-use Rattle.sqlite.specs.State.{HasCleanDisk}
+use Rattle.sqlite.specs.State.{HasCleanDisk, Survives}
 use Rattle.sqlite.specs.Store.{Ghosts}
 use Rattle.sqlite.specs.View.{doubt}
 use Rattle.docket_tables.specs.Layouts.{Rows}
@@ -20,6 +20,8 @@ module _ {S : Type 0} (g : Ghosts S) where
     pub closed : old.closed ≡ true → (result ≡ Err Closed) × (new ≡ old)
     -- no row of any docket changes; where the database failed a power failure leaves them, and the connection may be shut
     pub stays : (rows : Rows) → HoldsRows g old.conn rows → Preserves g new.conn rows result
+    -- every database that a power failure may leave was one before
+    pub writes_nothing : Survives (state g old.conn) (state g new.conn) (λ _. ⊥)
     -- a disk that was not clean is not clean after it
     pub clean : doubt (state g old.conn).is_clean ≤ doubt (state g new.conn).is_clean
     -- the docket is closed just where its database failed

@@ -1,9 +1,9 @@
-//! What is asked of the docket. A question changes nothing; where the database fails under it, the docket is
+//! What is asked of the docket. A question writes nothing; where the database fails under it, the docket is
 //! closed.
 ghost use Rattle.std.specs.Prelude.{◌≡◌, ◌↔◌, ◌≤◌, Option, Some, None, true, false, Ok, Err, IfOk, IfSome, IsErrAnd, is_some};
 ghost use Rattle.std.specs.Option.{option_map};
 ghost use Rattle.sqlite.specs.Held.{state};
-ghost use Rattle.sqlite.specs.State.{HasCleanDisk};
+ghost use Rattle.sqlite.specs.State.{HasCleanDisk, Survives};
 ghost use Rattle.sqlite.specs.View.{doubt};
 ghost use Rattle.sqlite.specs.declared.error.Error.{Error as Failure};
 ghost use Rattle.court_days.specs.Court.{zone_of};
@@ -49,12 +49,11 @@ fn told<S: Alter, T>(
     requires idle { conn.old.in_transaction ≡ false }
     requires serves { closed_by.old ≡ None }
     ensures idle { conn.new.in_transaction ≡ false }
-    ensures clean { doubt (state S.Store conn.old).is_clean ≤ doubt (state S.Store conn.new).is_clean }
+    ensures writes_nothing { Survives (state S.Store conn.old) (state S.Store conn.new) (λ _. ⊥) }
     ensures ok { (found : T) → answer ≡ Ok found → (result ≡ Ok found) × (conn.new ≡ conn.old) × (closed_by.new ≡ None) }
     ensures left { (why : Unread) (rows next : Rows) → answer ≡ Err why → Fails S.Store conn.old rows why → IsErrAnd result (FailsAs S.Store conn.new rows next) }
     ensures stays { (rows : Rows) → Stays S.Store conn.old rows answer → Preserves S.Store conn.new rows result }
     ensures closes { (is_some closed_by.new ≡ true) ↔ (result ≡ Err fault.StoreFailed) }
-    ensures counts { (state S.Store conn.old).faults ≤ (state S.Store conn.new).faults }
     ensures blames { result ≡ Err fault.StoreFailed → (e : Failure) × (answer ≡ Err (Store e)) × (closed_by.new ≡ Some e) }
 {
     match answer {
@@ -220,6 +219,8 @@ impl<S: Alter> Docket<S> {
             → (result ≡ Err (listing_end.NotBegun fault.Closed)) × (self.new ≡ self.old) × (writer.new ≡ writer.old) }
         // Of any docket, no row changes.
         ensures stays { (rows : Rows) → HoldsRows S.Store self.old.conn rows → PreservesListing S.Store self.new.conn rows result }
+        // And every database that a power failure may leave was one before.
+        ensures writes_nothing { Survives (state S.Store self.old.conn) (state S.Store self.new.conn) (λ _. ⊥) }
         ensures clean { doubt (state S.Store self.old.conn).is_clean ≤ doubt (state S.Store self.new.conn).is_clean }
         ensures closes { self.old.closed ≡ false → (self.new.closed ≡ true) ↔ HasBroken result }
         // The database fails only for a cause.
@@ -256,6 +257,8 @@ impl<S: Alter> Docket<S> {
             → (result ≡ Err (calendar_end.Store fault.Closed)) × (self.new ≡ self.old) × (writer.new ≡ writer.old) }
         // Of any docket, no row changes.
         ensures stays { (rows : Rows) → HoldsRows S.Store self.old.conn rows → PreservesCalendar S.Store self.new.conn rows result }
+        // And every database that a power failure may leave was one before.
+        ensures writes_nothing { Survives (state S.Store self.old.conn) (state S.Store self.new.conn) (λ _. ⊥) }
         ensures clean { doubt (state S.Store self.old.conn).is_clean ≤ doubt (state S.Store self.new.conn).is_clean }
         ensures closes { self.old.closed ≡ false
             → (self.new.closed ≡ true) ↔ (result ≡ Err (calendar_end.Store fault.StoreFailed)) }

@@ -28,6 +28,7 @@ pub mod LayoutLemmas
 pub mod MakingCauses
 mod MoveCauses
 mod MoveLemmas
+pub mod NothingLemmas
 pub mod PassedCauses
 mod ProbeLemmas
 mod QueryLemmas

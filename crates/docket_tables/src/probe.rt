@@ -1,8 +1,7 @@
 //! Want of memory told from a database that failed.
-ghost use Rattle.std.specs.Prelude.{◌≡◌, ◌≢◌, ◌≤◌, false, IsTrue};
+ghost use Rattle.std.specs.Prelude.{◌≡◌, ◌≢◌, false, IsTrue};
 ghost use Rattle.sqlite.specs.Held.{state};
 ghost use Rattle.sqlite.specs.State.{Survives};
-ghost use Rattle.sqlite.specs.View.{doubt};
 ghost use Rattle.sqlite.specs.declared.error.Error.TheVariants.{SqliteFailure};
 ghost use Rattle.sqlite.specs.declared.error.ErrorCode.TheVariants.{OutOfMemory};
 ghost use Rattle.docket_tables.specs.declared.fault.StoreFault.TheVariants.{NoMemory, StoreFailed};
@@ -29,7 +28,6 @@ pub fn fault_of<S: Alter>(conn: &mut Connection<S>, error: Error) -> StoreFault
     requires { conn.old.in_transaction ≡ false }
     ensures idle { conn.new.in_transaction ≡ false }
     ensures writes_nothing { Survives (state S.Store conn.old) (state S.Store conn.new) (λ _. ⊥) }
-    ensures clean { doubt (state S.Store conn.old).is_clean ≤ doubt (state S.Store conn.new).is_clean }
     ensures other { error ≢ SqliteFailure OutOfMemory → result ≡ StoreFailed }
     ensures memory { result ≡ NoMemory → error ≡ SqliteFailure OutOfMemory }
     ensures left { (rows next : Rows) → LastsAsEither S.Store conn.old rows next → Leaves S.Store conn.new rows next result }

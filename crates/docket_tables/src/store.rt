@@ -3,7 +3,7 @@ ghost use Rattle.std.specs.Prelude.{◌≡◌, IsTrue, pos, ◌≤◌, ◌<◌, 
 ghost use Rattle.sqlite.specs.Given.{IsPlain};
 ghost use Rattle.sqlite.specs.Held.{state};
 ghost use Rattle.sqlite.specs.Listing.{understood};
-ghost use Rattle.sqlite.specs.State.{FailsToQuery, HasCleanDisk, Shown, ExecutesInside};
+ghost use Rattle.sqlite.specs.State.{CommitsShowing, ExecutesInside, FailsToQuery, HasCleanDisk, Shown, Survives};
 ghost use Rattle.sqlite.specs.Values.{bound};
 ghost use Rattle.sqlite.specs.View.{doubt};
 ghost use Rattle.court_days.specs.Court.{CourtSettings};
@@ -42,10 +42,8 @@ pub(crate) fn read<S: Alter>(
     ensures ok { (rows : Rows) → HoldsRows S.Store conn.old rows → IsPlain (understood docket_schema sql.now) → IfOk result (λ found. HoldsRows S.Store conn.new rows
         × (HasCleanDisk (state S.Store conn.new) → Shown sql.now (bound params.now) (state S.Store conn.old) (state S.Store conn.new) found.items)) }
     ensures err { (rows : Rows) → HoldsRows S.Store conn.old rows → IsPlain (understood docket_schema sql.now) → OnErr result (Lasts S.Store conn.new rows) }
-    ensures clean { doubt (state S.Store conn.old).is_clean ≤ doubt (state S.Store conn.new).is_clean }
+    ensures survives { Survives (state S.Store conn.old) (state S.Store conn.new) (CommitsShowing sql.now (bound params.now) (state S.Store conn.old)) }
     ensures mode { conn.old.in_transaction ≡ false → conn.new.in_transaction ≡ false }
-    ensures counts { (state S.Store conn.old).faults ≤ (state S.Store conn.new).faults }
-    ensures limit { (state S.Store conn.new).step_limit ≡ (state S.Store conn.old).step_limit }
     ensures fails { HasCleanDisk (state S.Store conn.new) → IfErr result (FailsToQuery sql.now (bound params.now) (state S.Store conn.old) (state S.Store conn.new)) }
 {
     conn.query_all(sql, params)
@@ -60,10 +58,8 @@ pub(crate) fn ask<S: Alter>(
     ensures ok { (rows : Rows) → HoldsRows S.Store conn.old rows → IfOk result (λ found. HoldsRows S.Store conn.new rows
         × (HasCleanDisk (state S.Store conn.new) → IsAnswer query (bound values.now) (rows (table_of query)) found.items)) }
     ensures err { (rows : Rows) → HoldsRows S.Store conn.old rows → OnErr result (Lasts S.Store conn.new rows) }
-    ensures clean { doubt (state S.Store conn.old).is_clean ≤ doubt (state S.Store conn.new).is_clean }
+    ensures writes_nothing { Survives (state S.Store conn.old) (state S.Store conn.new) (λ _. ⊥) }
     ensures mode { conn.old.in_transaction ≡ false → conn.new.in_transaction ≡ false }
-    ensures counts { (state S.Store conn.old).faults ≤ (state S.Store conn.new).faults }
-    ensures limit { (state S.Store conn.new).step_limit ≡ (state S.Store conn.old).step_limit }
     ensures cause { (rows : Rows) → HoldsRows S.Store conn.old rows → Suits query (bound values.now) → HasCleanDisk (state S.Store conn.new)
         → IfErr result (IsCaused (state S.Store conn.old) (state S.Store conn.new)) }
 {

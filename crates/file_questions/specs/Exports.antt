@@ -1,5 +1,5 @@
 -- What is exported of the docket of a history, and what of it goes out.
-use Rattle.std.specs.Prelude.{◌≡◌, ◌≤◌, ℕ, List, [], ◌++◌, length, map, All, Option, Some, None, Result, Ok, Err, IfErr, if◌then◌else◌, unwrap_or}
+use Rattle.std.specs.Prelude.{◌≡◌, ◌≤◌, ℕ, List, [], length, map, All, Option, Result, Ok, Err, IfErr, if◌then◌else◌, unwrap_or}
 use Rattle.std.specs.Io.KnownBytes.{Appends}
 use Rattle.sqlite.specs.Held.{state}
 use Rattle.sqlite.specs.State.{HasCleanDisk}
@@ -7,20 +7,16 @@ use Rattle.sqlite.specs.Store.{Ghosts}
 use Rattle.court_days.specs.Court.{CourtSettings}
 use Rattle.docket_calendar.specs.Calendar.{calendar_rows}
 use Rattle.docket_history.specs.Histories.{History, case_rows}
-use Rattle.docket_history.specs.Records.{case_at, case_record, deadline_lines}
-use Rattle.docket_history.specs.declared.record.CaseRecord.{CaseRecord}
-use Rattle.docket_history.specs.declared.record.DeadlineLine.{DeadlineLine}
+use Rattle.docket_history.specs.Records.{case_at}
 use Rattle.docket_history.specs.declared.record.DueRow.{DueRow}
 use Rattle.docket_history.specs.declared.row.CaseRow.{CaseRow}
 use Rattle.docket_applying.specs.Dockets.{Docket}
 use Rattle.docket_applying.specs.declared.listing.CalendarEnd.{CalendarEnd}
+use Rattle.docket_questions.specs.Texts.{text_of_reasons}
 use Rattle.due_exports.specs.Exports.{export_entry, tells_reasons}
 use Rattle.due_exports.specs.Texts.{Told, entries_text, export_text}
 use Rattle.file_questions.specs.CaseLists.{IsAsked, IsEarlyEnd}
-use Rattle.file_questions.specs.Tells.{text_of_reasons}
 use Rattle.file_questions.specs.declared.exporting.Export.{Export}
-use Rattle.html_sheets.specs.Pages.{page_foot, page_head}
-use Rattle.html_sheets.specs.Sheets.{case_sheet}
 use Rattle.line_io.specs.Output.{HasFront}
 
 -- there is a case of the number
@@ -81,15 +77,3 @@ module _ {S : Type 0} (g : Ghosts S) (d : Docket S) (h : History) where
   abbrev pub PutsExport : Export → CourtSettings → Option (List ℕ) → Option (List ℕ) → Result ℕ CalendarEnd → Type 0
   PutsExport export court before after result =
       PutsOut (text_of_export export court h) (length (rows_of_export export court h)) before after result
-
--- the docket sheet of a case, as a page
-abbrev pub sheet_page : CourtSettings → CaseRecord → List DeadlineLine → List ℕ
-sheet_page court case lines = page_head case.label ++ (case_sheet court case lines ++ page_foot)
-
-abbrev pub page_of_found : CourtSettings → Option CaseRecord → Option (List DeadlineLine) → Option (List ℕ)
-page_of_found court (Some case) (Some lines) = Some (sheet_page court case lines)
-page_of_found court _ _ = None
-
--- that of the case of a number, if there is such a case
-abbrev pub page_of_sheet : CourtSettings → History → ℕ → Option (List ℕ)
-page_of_sheet court h number = page_of_found court (case_record h number) (deadline_lines court h number)

@@ -1,7 +1,7 @@
 //! Judging the docket of a database, and telling what it holds.
 ghost use Rattle.file_questions.specs.Checks.{IsSoundDocket};
 
-use crate::question::Question;
+use crate::inquiry::Inquiry;
 use court_days::Court;
 use docket_command::TimeOfDay;
 use docket_store::{Docket, Holdings};
@@ -28,9 +28,9 @@ fn sound_docket(alloc: Global, court: &Court, held: Holdings) -> Result<Sound, A
 
 /// Whether the tables are sound, and what they hold. Adopting the docket has judged them.
 #[derive(Clone, Copy)]
-pub(crate) struct Judgment;
+pub struct Judgment;
 
-impl Question<()> for Judgment {
+impl Inquiry<()> for Judgment {
     ghost use Rattle.docket_scan.specs.Dockets.{holdings_in};
     ghost use Rattle.file_questions.specs.Checks.{IsSoundDocket};
 

@@ -13,10 +13,10 @@ ghost use Rattle.due_exports.specs.Exports.{export_foot, export_head};
 ghost use Rattle.file_questions.specs.CaseLists.{IsEarlyWrite};
 ghost use Rattle.file_questions.specs.Exports.{HaveCases, IsCase, PutsExport, PutsOut, TextOut, entries_from, entry_of, reasons_in, rows_of_export};
 
-use crate::explaining::text_of_reasons;
-use crate::question::Question;
+use crate::inquiry::Inquiry;
 use court_days::Day;
 use docket_history::DueRow;
+use docket_questions::{Question, ReasonsText};
 use docket_store::{CalendarEnd, Docket, Fault, Holdings};
 use due_exports::{Entry, Form, export_entry, export_foot, export_head, tells_reasons};
 use line_io::write_bytes;
@@ -52,7 +52,11 @@ fn reasons_in<S: Alter>(
     if !tells_reasons(export.form) {
         return Ok(String::new(alloc));
     }
-    match text_of_reasons(alloc, docket, due.case, due.number)? {
+    let reasons = ReasonsText {
+        case: due.case,
+        deadline: due.number,
+    };
+    match reasons.ask(alloc, docket)? {
         Some(text) => Ok(text),
         None => Ok(String::new(alloc)),
     }
@@ -209,7 +213,7 @@ fn write_export<S: Alter, W: Write>(
     }
 }
 
-impl<W: Write> Question<W> for Export {
+impl<W: Write> Inquiry<W> for Export {
     ghost use Rattle.file_questions.specs.Exports.{ExportsTo};
 
     type Answer = Result<usize, CalendarEnd>;

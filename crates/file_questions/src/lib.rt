@@ -1,21 +1,18 @@
-//! The jobs of `docketctl` that ask the docket in files and change nothing, each from the open to the last
-//! byte that it tells. A job is one call: its contract says what goes out, by what the files held, and
-//! that they hold it still.
+//! What the jobs of `docketctl` ask of the docket in files, each from the open to the last byte that it
+//! tells. A job asks by one call, `ask_on_file`: its contract says what goes out, by what the files held,
+//! and that they hold it still.
 #![tactic(auto)]
 
-mod asking;
+mod calendar;
 mod checking;
-mod explaining;
 mod exporting;
-mod file;
+mod inquiry;
 mod listing;
-mod question;
-mod sheet;
+mod texts;
 
-pub use checking::Sound;
+pub use calendar::CalendarLines;
+pub use checking::{Judgment, Sound};
 pub use exporting::Export;
-pub use file::{
-    calendar_on_file, case_on_file, cases_on_file, check_on_file, court_calendar_on_file,
-    explain_on_file, export_on_file, rules_on_file, sheet_on_file,
-};
+pub use inquiry::{Inquiry, ask_on_file};
 pub use listing::Wanted;
+pub use texts::{TextOf, Unconditional};

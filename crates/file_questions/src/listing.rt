@@ -11,7 +11,7 @@ ghost use Rattle.docket_applying.specs.AnyRows.{Preserves, PreservesCalendar};
 ghost use Rattle.docket_applying.specs.Applying.{Asks, Stands};
 ghost use Rattle.file_questions.specs.CaseLists.{GoesOut, IsEarlyWrite, Lists, cases_told, cases_wanted, has_party, holds};
 
-use crate::question::Question;
+use crate::inquiry::Inquiry;
 use docket_history::{CaseRow, PartyRow};
 use docket_store::{CalendarEnd, Docket, Fault, Holdings};
 use docket_text::case_list_line;
@@ -169,7 +169,7 @@ fn list_cases<S: Alter, W: Write>(
     }
 }
 
-impl<W: Write> Question<W> for Wanted<'_> {
+impl<W: Write> Inquiry<W> for Wanted<'_> {
     ghost use Rattle.file_questions.specs.CaseLists.{ListsCases, cases_wanted};
 
     type Answer = Result<u32, CalendarEnd>;

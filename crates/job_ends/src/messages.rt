@@ -1,15 +1,13 @@
 //! What a job tells on its writers.
-ghost use Rattle.std.specs.Prelude.{◌≡◌};
+ghost use Rattle.std.specs.Prelude.{◌≡◌, IfOk, IfSome, string_bytes};
 ghost use Rattle.line_io.specs.Output.{AppendsFront};
-ghost use Rattle.job_ends.specs.Ends.{Writes, no_memory_line};
+ghost use Rattle.job_ends.specs.Ends.{SaysFault, Writes, error_line, no_memory_error, no_memory_line};
 
 use crate::status::Status;
 use line_io::write_bytes;
 use std::alloc::{AllocError, Global};
 use std::fmt;
 use std::io::{ErrorKind, Write};
-
-const NO_MEMORY: &[u8] = b"docketctl: there is not enough memory\n";
 
 /// Writes the text, and tells where that fails.
 pub fn write_text<W: Write, E: Write>(
@@ -27,26 +25,31 @@ pub fn write_text<W: Write, E: Write>(
     }
 }
 
-fn line_of<F: fmt::Display>(alloc: Global, fault: &F) -> Result<String, AllocError> {
+/// The line that tells a fault.
+fn line_of<F: fmt::Display>(alloc: Global, fault: &F) -> Result<String, AllocError>
+    ensures { IfOk result (λ line. IfSome (error_line (F.output fault.now)) (λ bytes. string_bytes line ≡ bytes)) }
+{
     format!(in alloc; "docketctl: {fault}\n")
 }
 
 /// Tells in one line why the program failed. Where it can't be told, the status alone says it.
 pub fn failed<E: Write, F: fmt::Display>(alloc: Global, e: &mut E, fault: &F) -> Status
-    ensures { result ≡ Status.Failed }
+    ensures status { result ≡ Status.Failed }
+    ensures told { SaysFault (F.output fault.now) (E.contents e.old) (E.contents e.new) }
 {
-    let _ = match line_of(alloc, fault) {
-        Ok(line) => write_bytes(e, line.as_bytes()),
-        Err(_) => write_bytes(e, NO_MEMORY),
+    let Ok(line) = line_of(alloc, fault) else {
+        return no_memory(e);
     };
+    let _ = write_bytes(e, line.as_bytes());
     Status::Failed
 }
 
 /// Tells in one line that there is not enough memory, which takes none.
 pub fn no_memory<E: Write>(e: &mut E) -> Status
-    ensures { result ≡ Status.Failed }
+    ensures status { result ≡ Status.Failed }
+    ensures told { AppendsFront (E.contents e.old) (E.contents e.new) no_memory_error }
 {
-    let _ = write_bytes(e, NO_MEMORY);
+    let _ = write_bytes(e, b"docketctl: there is not enough memory\n");
     Status::Failed
 }
 

@@ -1,11 +1,12 @@
 //! What a job on files came to, or why it was not done.
-ghost use Rattle.std.specs.Prelude.{◌≡◌, Ok, None, Some, IsErr, IsOkAnd, MatchResult, OnOk};
+ghost use Rattle.std.specs.Prelude.{◌≡◌, Ok, None, Some, IfErr, IfOk, IsErr, IsOkAnd, MatchResult, OnOk};
 ghost use Rattle.std.specs.Cow.{cow_str_bytes};
-ghost use Rattle.job_ends.specs.Ends.{TellsNothing};
+ghost use Rattle.job_ends.specs.Ends.{SaysFault, TellsNothing, unadopted_at};
 
 use crate::end::JobEnd;
 use crate::file::FileFault;
 use crate::messages::failed;
+use docket_tables::table_name;
 use file_dockets::{AdoptFault, Ended, OnFile};
 use sqlite::{FileFrom, Leftover, Start};
 use std::alloc::Global;
@@ -20,6 +21,10 @@ pub struct AtPath<'a, F> {
 }
 
 impl<F: fmt::Display> fmt::Display for AtPath<'_, F> {
+    ghost use Rattle.job_ends.specs.Ends.{shown_at};
+
+    ghost output = { λ it. shown_at it.path.now (F.output it.fault) };
+
     fn fmt<W: fmt::Write>(&self, f: &mut fmt::Formatter<W>) -> fmt::Result {
         write!(f, "{:?}: {}", self.path, self.fault)
     }
@@ -32,14 +37,21 @@ struct NotAdopted {
 }
 
 impl fmt::Display for NotAdopted {
+    ghost use Rattle.std.specs.Prelude.{Some};
+    ghost use Rattle.job_ends.specs.Ends.{unadopted_text};
+
+    ghost output = { λ it. Some (unadopted_text it.fault) };
+
     fn fmt<W: fmt::Write>(&self, f: &mut fmt::Formatter<W>) -> fmt::Result {
         match self.fault {
-            AdoptFault::OtherVersion => write!(
-                f,
-                "{}; `docketctl migrate` takes version 1 further",
-                self.fault
+            AdoptFault::Empty => f.write_str("the database holds no docket"),
+            AdoptFault::NotADocket => f.write_str("the database is not that of a docket"),
+            AdoptFault::OtherVersion => f.write_str(
+                "the docket is laid out in another version; `docketctl migrate` takes version 1 further",
             ),
-            fault => write!(f, "{fault}"),
+            AdoptFault::Damaged(table) => write!(f, "the table {} is not sound", table_name(table)),
+            AdoptFault::NoMemory => f.write_str("there is not enough memory"),
+            AdoptFault::StoreFailed => f.write_str("the database failed"),
         }
     }
 }
@@ -86,6 +98,8 @@ pub fn done_on_docket<S: Start, T, E: Write>(
     ensures done { MatchResult result (λ found. IsOkAnd ended (λ it. (it.outcome ≡ Ok found.0) × (it.left ≡ found.1)))
         (λ end. TellsNothing (cow_str_bytes end.text) end.status
         × MatchResult ended (λ it. (end.left ≡ Some it.left) × IsErr it.outcome) (λ _. end.left ≡ None)) }
+    // Where the docket was not adopted, the line of its fault is told.
+    ensures said { IfOk ended (λ it. IfErr it.outcome (λ fault. SaysFault (unadopted_at path.now fault) (E.contents e.old) (E.contents e.new))) }
     ensures silent { OnOk result (e.new ≡ e.old) }
 {
     let Ended {

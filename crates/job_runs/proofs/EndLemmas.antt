@@ -4,7 +4,6 @@ use Rattle.std.proofs.lemmas.Bool.{false≢true}
 use Rattle.std.proofs.lemmas.Result.{IfErr-weaker}
 use Rattle.docket_scan.specs.declared.fault.AdoptFault.{AdoptFault}
 use Rattle.line_io.specs.Output.{AppendsFront}
-use Rattle.file_dockets.specs.Works.{WorksTo}
 use Rattle.job_ends.specs.declared.status.Status.{Status}
 use Rattle.job_ends.specs.declared.status.Status.TheVariants.{Failed}
 use Rattle.job_runs.specs.Tells.{SaysMissing}
@@ -25,40 +24,12 @@ pub gives : {X Y L R : Type 0} (ended : Result X Y) (left_of : X → L) (Clean :
 gives (Ok it) left_of Clean outcome Q found left all is clean = subst₂ Q is.1 is.0 (all (subst Clean (sym is.1) clean))
 gives (Err y) left_of Clean outcome Q found left all is clean = absurd is
 
--- and what is so of anything that is left is so of what was left then
-pub keeps : {X Y L : Type 0} (ended : Result X Y) (left_of : X → L) (Clean : L → Type 0) (A : X → Type 0) (K : L → Type 0) (left : L)
-    → IfOk ended (λ it. Clean (left_of it) → K (left_of it)) → IsOkAnd ended (λ it. A it × (left_of it ≡ left)) → Clean left → K left
-keeps (Ok it) left_of Clean A K left all is clean = subst K is.1 (all (subst Clean (sym is.1) clean))
-keeps (Err y) left_of Clean A K left all is clean = absurd is
-
 -- the work was not begun, or the files were not opened
 pub undone : {X Y L : Type 0} (ended : Result X Y) (left_of : X → L) (Clean : L → Type 0) (A : X → Type 0) (K : L → Type 0) (N : Type 0) (left : Option L)
     → IfOk ended (λ it. Clean (left_of it) → A it → K (left_of it)) → MatchResult ended (λ it. (left ≡ Some (left_of it)) × A it) (λ _. left ≡ None) → N
     → MatchOption left N (λ rest. Clean rest → K rest)
 undone (Ok it) left_of Clean A K N left all is none = subst (λ o. MatchOption o N (λ rest. Clean rest → K rest)) (sym is.0) (λ clean. all clean is.1)
 undone (Err y) left_of Clean A K N left all is none = subst (λ o. MatchOption o N (λ rest. Clean rest → K rest)) (sym is) none
-
--- a question to a docket was answered, and the docket is left as it was
-pub answered : {X Y L T : Type 0} (ended : Result X Y) (left_of : X → L) (Clean : L → Type 0) (outcome : X → Result T AdoptFault) (P : T → Type 0) (found : T) (left : L)
-    (K : L → Type 0) (Told : Type 0) → IfOk ended (λ it. Clean (left_of it) → WorksTo P (outcome it)) → IfOk ended (λ it. Clean (left_of it) → K (left_of it))
-    → IsOkAnd ended (λ it. (outcome it ≡ Ok found) × (left_of it ≡ left)) → (P found → Told) → Clean left → Told × K left
-answered ended left_of Clean outcome P found left K Told works kept is tells clean =
-    (tells (gives ended left_of Clean outcome (λ _. WorksTo P) (Ok found) left works is clean), keeps ended left_of Clean (λ it. outcome it ≡ Ok found) K left kept is clean)
-
--- and where it was not asked
-pub unasked : {X Y L T : Type 0} (ended : Result X Y) (left_of : X → L) (Clean : L → Type 0) (outcome : X → Result T AdoptFault) (K : L → Type 0) (N Told : Type 0) (left : Option L)
-    → IfOk ended (λ it. Clean (left_of it) → K (left_of it)) → MatchResult ended (λ it. (left ≡ Some (left_of it)) × IsErr (outcome it)) (λ _. left ≡ None) → N → Told
-    → MatchOption left N (λ rest. Clean rest → Told × K rest)
-unasked (Ok it) left_of Clean outcome K N Told left kept is none told = subst (λ o. MatchOption o N (λ rest. Clean rest → Told × K rest)) (sym is.0) (λ clean. (told, kept clean))
-unasked (Err y) left_of Clean outcome K N Told left kept is none told = subst (λ o. MatchOption o N (λ rest. Clean rest → Told × K rest)) (sym is) none
-
--- and where it was not asked, so that nothing was written
-pub unwritten : {X Y L T : Type 0} (ended : Result X Y) (left_of : X → L) (Clean : L → Type 0) (outcome : X → Result T AdoptFault) (K : L → Type 0) (N W Told : Type 0) (left : Option L)
-    → IfOk ended (λ it. Clean (left_of it) → K (left_of it)) → MatchResult ended (λ it. IfErr (outcome it) (λ _. W)) (λ _. W) → (W → Told)
-    → MatchResult ended (λ it. (left ≡ Some (left_of it)) × IsErr (outcome it)) (λ _. left ≡ None) → N → MatchOption left N (λ rest. Clean rest → Told × K rest)
-unwritten (Ok it) left_of Clean outcome K N W Told left kept same tells is none =
-    subst (λ o. MatchOption o N (λ rest. Clean rest → Told × K rest)) (sym is.0) (λ clean. (tells (err_holds (outcome it) W same is.1), kept clean))
-unwritten (Err y) left_of Clean outcome K N W Told left kept same tells is none = subst (λ o. MatchOption o N (λ rest. Clean rest → Told × K rest)) (sym is) none
 
 -- what is so where the work was not begun, or the files were not opened, gives what follows from it
 pub unbegun : {X Y T : Type 0} (ended : Result X Y) (outcome : X → Result T AdoptFault) (A B : Type 0) → (A → B)

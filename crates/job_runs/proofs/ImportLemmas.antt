@@ -19,6 +19,12 @@ pub entered : {L : Type 0} (o : Option L) (Clean : L → Type 0) (A : L → Comm
 entered None Clean A N command input key read none = tt
 entered (Some left) Clean A N command input key read applied = λ clean. (read.0, read.1, subst (A left) read.2 (applied clean))
 
+-- and whatever the files held, this is so of that command
+pub spared_import : {L : Type 0} (o : Option L) (Clean : L → Type 0) (A : L → Command → Type 0) (N : Type 0) (command : Command) (Read : Command → Type 0)
+    → Read command → MatchOption o N (λ left. Clean left → A left command) → IfSome o (λ left. Clean left → (c : Command) × Read c × A left c)
+spared_import None Clean A N command Read read is = tt
+spared_import (Some left) Clean A N command Read read is = λ clean. (command, read, is clean)
+
 -- no files were opened, so nothing was entered
 pub unentered : {L : Type 0} (o : Option L) (P : L → Type 0) → o ≡ None → IfSome o P
 unentered o P none = subst (λ o. IfSome o P) (sym none) tt

@@ -1,3 +1,5 @@
+mod AskLemmas
 mod EndLemmas
 mod ImportLemmas
+mod OutLemmas
 mod RunLemmas

@@ -1,5 +1,5 @@
 -- How a run over lines is told, and what it leaves.
-use Rattle.std.proofs.Common.{◌≡◌, ◌≢◌, ◌∙◌, ℕ, zero, suc, List, [], Option, Some, None, Result, Ok, Err, IfOk, IfSome, IsErr, IsOkAnd, MatchOption, MatchResult, refl, sym, ap, subst, subst₂, arith}
+use Rattle.std.proofs.Common.{◌≡◌, ◌≢◌, ◌∙◌, ℕ, zero, suc, List, Option, Some, None, Result, Ok, Err, IfOk, IfSome, IsErr, IsOkAnd, MatchOption, MatchResult, refl, sym, ap, subst, subst₂, arith}
 use Rattle.std.proofs.lemmas.Bool.{false≢true}
 use Rattle.std.specs.Io.KnownBytes.{Appends}
 use Rattle.std.proofs.KnownBytes.{Appends-nil}
@@ -18,6 +18,7 @@ use Rattle.job_runs.specs.Jobs.{Runs, RunsInMemory}
 use Rattle.job_runs.specs.Runs.{TellsEnd}
 use Rattle.job_ends.specs.declared.status.Status.{Status}
 use Rattle.job_ends.specs.declared.status.Status.TheVariants.{Done, SomeBad, Failed}
+use Rattle.job_runs.proofs.AskLemmas.{none_out}
 use Rattle.job_runs.proofs.EndLemmas.{some_left}
 
 module _ (Left : Rows → Rows → Type 0) (docket : Docket) (input : List ℕ) (before : Option (List ℕ)) where
@@ -75,9 +76,6 @@ abbrev bad_in : Result CountEnd RunFault → ℕ
 bad_in (Ok e) = e.bad
 bad_in (Err fault) = 0
 
-none_out : (known : Option (List ℕ)) (text : List ℕ) → HasFront known known text
-none_out known text = record { out = []; lost = text; whole = refl; appends = Appends-nil known }
-
 module _ (docket : Docket) (input : List ℕ) (before : Option (List ℕ)) where
   whole_in_memory : (mid after : Option (List ℕ)) (bad : ℕ) (status : Status) → bad ≡ bad_answers docket input → Appends before mid (run_text docket input)
       → (after ≡ mid) × (bad ≡ 0 → status ≡ Done) × (bad ≢ 0 → status ≡ SomeBad) → RunsInMemory docket input before after status
@@ -98,4 +96,4 @@ module _ (docket : Docket) (input : List ℕ) (before : Option (List ℕ)) where
 
   -- it was not begun
   pub not_begun : (after : Option (List ℕ)) (fault : RunFault) (status : Status) → status ≡ Failed → AppendsFront before after (last_line fault) → RunsInMemory docket input before after status
-  not_begun after fault status is front = subst (RunsInMemory docket input before after) (sym is) (before, none_out before (run_text docket input), fault, front)
+  not_begun after fault status is front = subst (RunsInMemory docket input before after) (sym is) (before, none_out before before (run_text docket input) refl, fault, front)

@@ -29,6 +29,7 @@ use Rattle.docket_applying.specs.declared.fault.Fault.{Fault}
 use Rattle.docket_store.specs.declared.migrating.MigrateFault.{MigrateFault}
 use Rattle.docket_tables.specs.Layouts.{Rows}
 use Rattle.docket_tables.specs.Stands.{IsImageIn}
+use Rattle.docket_questions.specs.Texts.{page_of_sheet, text_of_case, text_of_reasons}
 use Rattle.docket_text.specs.CourtCalendar.{court_calendar_text}
 use Rattle.docket_text.specs.HolidayTexts.{holiday_text}
 use Rattle.docket_text.specs.RuleTexts.{rules_text}
@@ -39,13 +40,12 @@ use Rattle.command_lines.specs.Lines.{bad_answers, docket_after, run_text}
 use Rattle.command_lines.specs.declared.fault.RunFault.{RunFault}
 use Rattle.file_questions.specs.CaseLists.{cases_told}
 use Rattle.file_changes.specs.Commands.{AppliesTo}
-use Rattle.file_questions.specs.Exports.{page_of_sheet, text_of_export}
+use Rattle.file_questions.specs.Exports.{text_of_export}
 use Rattle.file_dockets.specs.Keeping.{Keeps, rows_told}
 use Rattle.docket_store.specs.Left.{Leaves, LeavesRows}
 use Rattle.file_changes.specs.Migrates.{MigratesTo}
 use Rattle.file_changes.specs.Runs.{LeavesPrefix}
 use Rattle.explain_lines.specs.Explain.{explain_text}
-use Rattle.file_questions.specs.Tells.{text_of_case, text_of_reasons}
 use Rattle.job_runs.specs.Checks.{check_text}
 use Rattle.job_ends.specs.Ends.{TellsNothing}
 use Rattle.job_runs.specs.Tells.{HasListed, HasTold, SaysMissing, TellsIfAny, TellsText, last_line, no_such_case, no_such_deadline}

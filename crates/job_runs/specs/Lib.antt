@@ -3,5 +3,6 @@ pub mod Checks
 pub mod Imports
 pub mod Jobs
 pub mod Runs
+pub mod Spares
 pub mod Tells
 pub mod Words

@@ -4,11 +4,12 @@ ghost use Rattle.std.specs.Cow.{cow_str_bytes};
 ghost use Rattle.sqlite_wal.specs.Files.{image_at};
 ghost use Rattle.job_runs.specs.Tells.{TellsText};
 ghost use Rattle.job_runs.specs.Jobs.{OfDocket, TellsOf};
+ghost use Rattle.job_runs.specs.Spares.{SparesAsked};
 
-use crate::opening::ready;
+use crate::asking::ask;
 use file_copies::{copy_file, is_free};
-use file_questions::check_on_file;
-use job_ends::{AtPath, JobEnd, Status, done_on_docket, failed};
+use file_questions::Judgment;
+use job_ends::{AtPath, JobEnd, Status, failed};
 use sqlite::{FileFrom, Leftover, Start};
 use sqlite_disk::Disk;
 use std::borrow::CowStr;
@@ -51,16 +52,12 @@ pub(crate) fn back_up<S: Start, P: Write + Drop, E: Write>(
     e: &mut E,
 ) -> JobEnd<FileFrom<S>>
     ensures told { OfDocket (image_at S.Start) (λ docket. TellsOf docket (TellsText (codes "copied\n")) result) }
+    ensures spared { SparesAsked path.now (image_at S.Start) (E.contents e.old) (E.contents e.new) result }
 {
     if let Err(fault) = is_free(rt, path, to) {
         return JobEnd::of(failed(rt.alloc(), e, &AtPath { path: to, fault }));
     }
-    let rows = match ready(rt, path, screen, e) {
-        Ok(rows) => rows,
-        Err(status) => return JobEnd::of(status),
-    };
-    let ended = check_on_file(rt, path, start, rows);
-    match done_on_docket(rt.alloc(), path, ended, e) {
+    match ask(rt, start, screen, path, &Judgment, &mut (), e) {
         Ok((_, left)) => copied(rt, path, to, &left, e).with(Some(left)),
         Err(end) => end,
     }

@@ -2,21 +2,19 @@
 ghost use Rattle.std.specs.Prelude.{◌≡◌, IfOk, None, Ok, string_bytes};
 ghost use Rattle.std.specs.Cow.{cow_str_bytes};
 ghost use Rattle.sqlite_wal.specs.Files.{image_at};
-ghost use Rattle.docket_applying.specs.CourtDockets.{CourtDocket as Told};
 ghost use Rattle.court_days.specs.Court.{CourtSettings};
 ghost use Rattle.docket_scan.specs.Dockets.{holdings_in};
 ghost use Rattle.docket_scan.specs.declared.holdings.Holdings.{Holdings as Held};
 ghost use Rattle.file_questions.specs.Checks.{IsSoundDocket};
-ghost use Rattle.job_runs.specs.Asked.{IsAsked};
 ghost use Rattle.job_runs.specs.Checks.{check_text};
 ghost use Rattle.job_runs.specs.Tells.{TellsText};
 ghost use Rattle.job_runs.specs.Jobs.{OfDocket, TellsOf};
+ghost use Rattle.job_runs.specs.Spares.{SparesAsked};
 
+use crate::asking::ask;
 use crate::holdings::{court_line, holdings_text};
-use crate::opening::ready;
-use file_dockets::OnFile;
-use file_questions::{Sound, check_on_file};
-use job_ends::{JobEnd, done_on_docket, no_memory};
+use file_questions::{Judgment, Sound};
+use job_ends::{JobEnd, no_memory};
 use sqlite::{FileFrom, Start};
 use sqlite_disk::Disk;
 use std::alloc::{AllocError, Global};
@@ -49,23 +47,6 @@ fn check_told<D: Disk + Drop, E: Write>(
     }
 }
 
-/// The end of a job that judges the docket in files.
-fn end_judged<S: Start, E: Write>(
-    alloc: Global,
-    path: &str,
-    ended: OnFile<S, Result<Sound, AllocError>>,
-    e: &mut E,
-) -> JobEnd<FileFrom<S>>
-    ensures { (docket : Told) (held : Held)
-        → IsAsked docket (IsSoundDocket docket.court held) ended
-        → TellsOf docket (TellsText (check_text docket.court held)) result }
-{
-    match done_on_docket(alloc, path, ended, e) {
-        Ok((judged, left)) => check_told(alloc, judged, e).with(Some(left)),
-        Err(end) => end,
-    }
-}
-
 /// Tells that the tables of the docket in a file are sound, and what they hold. Where one is not sound it
 /// is told which.
 pub(crate) fn tell_check<S: Start, P: Write + Drop, E: Write>(
@@ -76,11 +57,10 @@ pub(crate) fn tell_check<S: Start, P: Write + Drop, E: Write>(
     e: &mut E,
 ) -> JobEnd<FileFrom<S>>
     ensures told { OfDocket (image_at S.Start) (λ docket. TellsOf docket (TellsText (check_text docket.court (holdings_in docket.court docket.history))) result) }
+    ensures spared { SparesAsked path.now (image_at S.Start) (E.contents e.old) (E.contents e.new) result }
 {
-    let rows = match ready(rt, path, screen, e) {
-        Ok(rows) => rows,
-        Err(status) => return JobEnd::of(status),
-    };
-    let ended = check_on_file(rt, path, start, rows);
-    end_judged(rt.alloc(), path, ended, e)
+    match ask(rt, start, screen, path, &Judgment, &mut (), e) {
+        Ok((judged, left)) => check_told(rt.alloc(), judged, e).with(Some(left)),
+        Err(end) => end,
+    }
 }

@@ -11,11 +11,13 @@ ghost use Rattle.docket_applying.specs.CourtDockets.{CourtDocket as Told, Stands
 ghost use Rattle.command_lines.specs.Lines.{bad_answers, run_text};
 ghost use Rattle.docket_store.specs.Left.{LeavesRows};
 ghost use Rattle.file_changes.specs.Runs.{Answers, LeavesPrefix};
+ghost use Rattle.file_dockets.specs.Adopting.{IsJudged};
 ghost use Rattle.file_dockets.specs.Works.{WorksTo};
 ghost use Rattle.job_runs.specs.Tells.{last_line};
 ghost use Rattle.job_runs.specs.Asked.{IfUnasked};
 ghost use Rattle.job_runs.specs.Jobs.{FailsOr, IfUnopened, IsHonest, OfDocket, Runs, RunsInMemory, new_docket};
 ghost use Rattle.job_runs.specs.Runs.{TellsEnd};
+ghost use Rattle.job_runs.specs.Spares.{SparesRun};
 
 use crate::opening::ready;
 use crate::progress::LineCounter;
@@ -82,6 +84,7 @@ fn run_told<S: Start, V: Watch + Drop, P: Write + Drop, R: Read, W: Write + Drop
     ensures prefix { (told : Told) → IsDocket told.court told.history → HoldDocket (image_at S.Start) told.court told.history
         → IfOk result.0 (λ done. IsCleanLeft done.left → IfSome (R.remaining r.old) (λ input.
         LeavesPrefix (LeavesRows done.left) told input (W.contents w) (W.contents result.1))) }
+    ensures judged { IfOk result.0 (λ done. IsCleanLeft done.left → IsJudged (image_at S.Start) done.left done.failure done.outcome) }
     ensures unwritten { IfUnasked (W.contents result.1 ≡ W.contents w) result.0 }
 {
     let mut answers = LineCounter::new(rt, w, screen);
@@ -105,6 +108,7 @@ pub(crate) fn run_commands<S: Start, P: Write + Drop, R: Read, W: Write + Drop, 
         FailsOr result.0 (λ left. Runs (LeavesRows left) docket input (W.contents w) (W.contents result.1) result.0.status))) }
     ensures unopened { IfUnopened result.0 (W.contents result.1 ≡ W.contents w) }
     ensures untold { cow_str_bytes result.0.text ≡ [] }
+    ensures spared { SparesRun path.now (image_at S.Start) (E.contents e.old) (E.contents e.new) result.0 (W.contents result.1 ≡ W.contents w) }
 {
     let rows = match ready(rt, path, opening, e) {
         Ok(rows) => rows,

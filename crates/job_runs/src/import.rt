@@ -10,6 +10,7 @@ ghost use Rattle.docket_store.specs.Left.{LeavesRows};
 ghost use Rattle.job_ends.specs.Ends.{TellsNothing};
 ghost use Rattle.job_runs.specs.Imports.{TellsAnswer, TellsApplied, TellsFault, fault_line};
 ghost use Rattle.job_runs.specs.Jobs.{AnswersLast, Applies, FailsOr, IfUnopened, Imports, OfDocket, import_command};
+ghost use Rattle.job_runs.specs.Spares.{IsWhole, SparesImport};
 
 use crate::opening::ready;
 use day_tables::{CsvFault, read_calendar_csv};
@@ -91,6 +92,7 @@ fn import_by<S: Start, P: Write + Drop, E: Write>(
 ) -> JobEnd<FileFrom<S>>
     ensures applied { OfDocket (image_at S.Start) (λ docket. FailsOr result (λ left. Applies (LeavesRows left) docket command.now (cow_str_bytes result.text) result.status)) }
     ensures unopened { IfUnopened result (TellsNothing (cow_str_bytes result.text) result.status) }
+    ensures spared { FailsOr result (IsWhole path.now (image_at S.Start) (E.contents e.old) (E.contents e.new) result command.now) }
 {
     let rows = match ready(rt, path, screen, e) {
         Ok(rows) => rows,
@@ -143,7 +145,7 @@ fn read_import<R: Read, W: Write, E: Write>(
 ) -> Result<Command, Status>
     ensures read { IfOk result
         (λ command. IfSome (R.remaining r.old) (λ input. (days : List Entered) × IsTable input days × (command ≡ import_command key.now days))) }
-    ensures silent { OnOk result (w.new ≡ w.old) }
+    ensures silent { OnOk result ((w.new ≡ w.old) × (e.new ≡ e.old)) }
     ensures refused { IfErr result (TellsFault (R.remaining r.old) (W.contents w.old) (W.contents w.new)) }
 {
     let table = match read_all(alloc, r) {
@@ -178,6 +180,7 @@ pub(crate) fn import_days<S: Start, P: Write + Drop, R: Read, W: Write, E: Write
     ensures last { AnswersLast (R.remaining r.old) (W.contents w.old) (W.contents w.new) result }
     ensures entered { OfDocket (image_at S.Start) (λ docket. IfSome (R.remaining r.old) (λ input. IfSome result.left
         (λ left. IsCleanLeft left → Imports docket key.now input left (cow_str_bytes result.text) result.status))) }
+    ensures spared { SparesImport path.now (image_at S.Start) (E.contents e.old) (E.contents e.new) result key.now (R.remaining r.old) }
 {
     match read_import(rt.alloc(), key, r, w, e) {
         Ok(command) => import_by(rt, start, screen, path, &command, e),

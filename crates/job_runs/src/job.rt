@@ -1,28 +1,28 @@
 //! A job, done.
-ghost use Rattle.std.specs.Prelude.{IfSome};
+ghost use Rattle.std.specs.Prelude.{◌≡◌, IfSome};
 ghost use Rattle.sqlite_wal.specs.Files.{image_at};
 ghost use Rattle.docket_jobs.specs.Jobs.{IsLimited};
 ghost use Rattle.job_runs.specs.Jobs.{Counts, Does, IfMissing};
+ghost use Rattle.job_runs.specs.Spares.{Spares};
 
 use crate::backup::back_up;
 use crate::calendar::tell_calendar;
-use crate::case::tell_case;
 use crate::cases::tell_cases;
 use crate::check::tell_check;
 use crate::command::{run_commands, run_in_memory};
-use crate::court_calendar::tell_court_calendar;
 use crate::create::create_docket;
-use crate::explain::{explain_all, explain_deadline};
+use crate::explain::explain_all;
 use crate::export::tell_export;
 use crate::holiday::tell_holidays;
 use crate::import::import_days;
 use crate::migrate::migrate_docket;
 use crate::progress::Progress;
-use crate::rules::{tell_rules, tell_table};
+use crate::rules::tell_table;
 use crate::serving::{serve_docket, service_of};
-use crate::sheet::tell_sheet;
+use crate::text::{NO_SUCH_CASE, NO_SUCH_DEADLINE, tell_text};
 use count_lines::count_run;
 use docket_jobs::Job;
+use docket_questions::{CaseSheet, CaseText, CourtCalendarText, ReasonsText, RulesText};
 use file_questions::Wanted;
 use job_ends::{JobEnd, Status, failed};
 use sqlite::{FileFrom, Start};
@@ -43,6 +43,7 @@ fn count<R: Read, W: Write, E: Write>(alloc: Global, r: &mut R, w: &mut W, e: &m
 /// Does a job, with `r`, `w` and `e` for the standard input, output and error. `start` stands for what
 /// the files of its docket hold. What is still to be told once the files are let go is told by
 /// `JobEnd::finish`, on the writer that comes back.
+#[tactic(auto, using(crate::proofs::AskLemmas::whole_told))]
 pub fn run_job<S: Start, P: Write + Drop, R: Read, W: Write + Drop, E: Write>(
     rt: &HostRuntime,
     start: S,
@@ -56,14 +57,17 @@ pub fn run_job<S: Start, P: Write + Drop, R: Read, W: Write + Drop, E: Write>(
     ensures does { Does job.entry (image_at S.Start) (R.remaining r.old) (W.contents w) (W.contents result.1) result.0 }
     // Where there is no such case, or no such deadline, the standard error says so.
     ensures missing { IfMissing job.entry result.0.status (E.contents e.old) (E.contents e.new) }
+    // Whatever the files held: a job works by sound tables, or says why it does not, and what it does not
+    // change stays.
+    ensures spared { Spares job.entry (image_at S.Start) (R.remaining r.old) (W.contents result.1 ≡ W.contents w) (E.contents e.old) (E.contents e.new) result.0 }
 {
     let screen = progress.of_opening;
     match job {
         Job::Count => (JobEnd::of(count(rt.alloc(), r, &mut w, e)), w),
         Job::Holidays { year } => (tell_holidays(rt.alloc(), year, e), w),
         Job::CourtCalendar { file, from, to } => {
-            let end = tell_court_calendar(rt, start, screen, file, from, to, e);
-            (end, w)
+            let days = CourtCalendarText { from, to };
+            (tell_text(rt, start, screen, file, days, "", e), w)
         }
         Job::RunInMemory { court } => {
             let (status, w) = run_in_memory(rt, progress.of_answers, court, r, w, e);
@@ -72,14 +76,17 @@ pub fn run_job<S: Start, P: Write + Drop, R: Read, W: Write + Drop, E: Write>(
         Job::Run { file } => { run_commands(rt, start, screen, progress.of_answers, file, r, w, e) }
         Job::Create { file, court } => (create_docket(rt, start, file, court, e), w),
         Job::Rules { file } => match file {
-            Some(file) => (tell_rules(rt, start, screen, file, e), w),
+            Some(file) => (tell_text(rt, start, screen, file, RulesText, "", e), w),
             None => (tell_table(rt.alloc(), e), w),
         },
         Job::Import { file, key } => {
             let end = import_days(rt, start, screen, file, key, r, &mut w, e);
             (end, w)
         }
-        Job::Case { file, number } => (tell_case(rt, start, screen, file, number, e), w),
+        Job::Case { file, number } => {
+            let case = CaseText { number };
+            (tell_text(rt, start, screen, file, case, NO_SUCH_CASE, e), w)
+        }
         Job::Cases { file, label, party } => {
             let wanted = Wanted { label, party };
             let end = tell_cases(rt, start, screen, file, &wanted, &mut w, e);
@@ -94,7 +101,8 @@ pub fn run_job<S: Start, P: Write + Drop, R: Read, W: Write + Drop, E: Write>(
             case,
             deadline,
         } => {
-            let end = explain_deadline(rt, start, screen, file, case, deadline, e);
+            let reasons = ReasonsText { case, deadline };
+            let end = tell_text(rt, start, screen, file, reasons, NO_SUCH_DEADLINE, e);
             (end, w)
         }
         Job::Export {
@@ -106,7 +114,11 @@ pub fn run_job<S: Start, P: Write + Drop, R: Read, W: Write + Drop, E: Write>(
             let end = tell_export(rt, start, screen, file, from, to, form, &mut w, e);
             (end, w)
         }
-        Job::Sheet { file, number } => (tell_sheet(rt, start, screen, file, number, e), w),
+        Job::Sheet { file, number } => {
+            let sheet = CaseSheet { number };
+            let end = tell_text(rt, start, screen, file, sheet, NO_SUCH_CASE, e);
+            (end, w)
+        }
         Job::ExplainLines => (JobEnd::of(explain_all(rt.alloc(), r, &mut w, e)), w),
         Job::Check { file } => (tell_check(rt, start, screen, file, e), w),
         Job::Backup { file, to } => (back_up(rt, start, screen, file, to, e), w),

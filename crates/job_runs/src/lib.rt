@@ -1,13 +1,12 @@
 //! The jobs of `docketctl`, each over any reader and writers in the place of the standard streams.
 #![tactic(auto)]
 
+mod asking;
 mod backup;
 mod calendar;
-mod case;
 mod cases;
 mod check;
 mod command;
-mod court_calendar;
 mod create;
 mod ending;
 mod explain;
@@ -21,7 +20,7 @@ mod opening;
 mod progress;
 mod rules;
 mod serving;
-mod sheet;
+mod text;
 
 pub use ending::{fail_unread, finish};
 pub use job::run_job;

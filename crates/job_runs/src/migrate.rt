@@ -7,6 +7,7 @@ ghost use Rattle.docket_applying.specs.Applying.{IsDocket};
 ghost use Rattle.docket_store.specs.Migrating.{HoldFirst};
 ghost use Rattle.docket_applying.specs.CourtDockets.{CourtDocket as Told};
 ghost use Rattle.job_runs.specs.Jobs.{FailsOr, Migrates};
+ghost use Rattle.job_runs.specs.Spares.{Moves};
 
 use crate::opening::ready;
 use file_changes::migrate_on_file;
@@ -25,6 +26,7 @@ pub(crate) fn migrate_docket<S: Start, P: Write + Drop, E: Write>(
 ) -> JobEnd<FileFrom<S>>
     ensures migrated { (told : Told) → IsDocket told.court told.history → MayHold First told.history → HoldFirst (image_at S.Start) told.court told.history
         → FailsOr result (λ left. Migrates told left (cow_str_bytes result.text) result.status) }
+    ensures spared { FailsOr result (λ left. Moves (image_at S.Start) left result.status) }
 {
     let rows = match ready(rt, path, screen, e) {
         Ok(rows) => rows,

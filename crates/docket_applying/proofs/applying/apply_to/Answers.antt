@@ -90,14 +90,14 @@ returns-clause-cause g c h stands clean =
     let judged = c.in_ok-decision.ensures.judged h stands in
     let accepts : HasCleanDisk (state g.S.Store c.judge.new.conn) → IsAccepted court h command c.in-Change.changes =
     λ clean. subst (IsDecided court h command) c.in-Change.is (judged.1 clean) in
-    writes_later command (state g.S.Store c.args.conn.now) (state g.S.Store c.judge.new.conn) (state g.S.Store c.write_accepted.new.conn) c.write_accepted.new.failure c.write_accepted.result c.judge.ensures.leaves.counts c.judge.ensures.leaves.limit
+    writes_later command (state g.S.Store c.args.conn.now) (state g.S.Store c.judge.new.conn) (state g.S.Store c.write_accepted.new.conn) c.write_accepted.new.failure c.write_accepted.result c.judge.ensures.leaves.writes_nothing.counts c.judge.ensures.leaves.writes_nothing.limit
     (c.write_accepted.ensures.cause h judged.0 accepts clean)
 
 pub returns-in_err-decision-clause-later : goal.returns-in_err-decision-clause-later
-returns-in_err-decision-clause-later g c h stands clean = (c.judge.ensures.leaves.counts, c.judge.ensures.leaves.limit)
+returns-in_err-decision-clause-later g c h stands clean = (c.judge.ensures.leaves.writes_nothing.counts, c.judge.ensures.leaves.writes_nothing.limit)
 
 pub returns-in-Repeat-clause-later : goal.returns-in-Repeat-clause-later
-returns-in-Repeat-clause-later g c h stands clean = (c.judge.ensures.leaves.counts, c.judge.ensures.leaves.limit)
+returns-in-Repeat-clause-later g c h stands clean = (c.judge.ensures.leaves.writes_nothing.counts, c.judge.ensures.leaves.writes_nothing.limit)
 
 pub returns-clause-later : goal.returns-clause-later
 returns-clause-later g c h stands clean =
@@ -106,5 +106,5 @@ returns-clause-later g c h stands clean =
     let judged = c.in_ok-decision.ensures.judged h stands in
     let accepts : HasCleanDisk (state g.S.Store c.judge.new.conn) → IsAccepted court h command c.in-Change.changes =
     λ clean. subst (IsDecided court h command) c.in-Change.is (judged.1 clean) in
-    later_then (state g.S.Store c.args.conn.now) (state g.S.Store c.judge.new.conn) (state g.S.Store c.write_accepted.new.conn) (c.judge.ensures.leaves.counts, c.judge.ensures.leaves.limit)
+    later_then (state g.S.Store c.args.conn.now) (state g.S.Store c.judge.new.conn) (state g.S.Store c.write_accepted.new.conn) (c.judge.ensures.leaves.writes_nothing.counts, c.judge.ensures.leaves.writes_nothing.limit)
     (c.write_accepted.ensures.later h judged.0 accepts clean)

@@ -43,7 +43,7 @@ returns-in-Err-clause-kept g c h stands accepts =
     let wrote = c.in-Err.ensures.either (rows_of court h) (numbers_fit court h _ stands.docket c.changes_fit.ensures) stands.rows ready in
     let fails = c.store_fault.ensures.left _ _ (either_same g.S.Store c.write.new.conn _ _ _ (λ clean. rows_after court h command changes (accepts (before clean))) wrote) in
     faults_of g.S.Store c.store_fault.new.conn court c.drop_changed_calendar.new.kept h command c.store_fault.result stands.docket
-    (λ clean. (c.drop_changed_calendar.ensures h command refl (stands.calendar (before (omega (arith, c.store_fault.ensures.clean))))).0) fails
+    (λ clean. (c.drop_changed_calendar.ensures h command refl (stands.calendar (before (omega (arith, c.store_fault.ensures.writes_nothing.clean))))).0) fails
 
 pub returns-in-Ok-clause-any : goal.returns-in-Ok-clause-any
 returns-in-Ok-clause-any g c rows n stored are small holds =
@@ -68,12 +68,12 @@ returns-in-Err-clause-cause g c h stands accepts clean =
     let start = state g.S.Store c.args.conn.now in
     let wrote = state g.S.Store c.write.new.conn in
     let last = state g.S.Store c.store_fault.new.conn in
-    let written : HasCleanDisk wrote = omega (arith, clean, c.store_fault.ensures.clean) in
+    let written : HasCleanDisk wrote = omega (arith, clean, c.store_fault.ensures.writes_nothing.clean) in
     let at_start : HasCleanDisk start = omega (arith, written, c.write.ensures.clean) in
     let accepted = accepts at_start in
     let e = c.in-Err.error in
     let cause : HasWriteCause command start last e = elim (lengths (length (canonical command)) (10 ^ 7)) [
-      | inl short ↦ inl (change_after start start wrote last e (omega arith) c.store_fault.ensures.counts refl
+      | inl short ↦ inl (change_after start start wrote last e (omega arith) c.store_fault.ensures.writes_nothing.counts refl
           (c.in-Err.ensures.cause written (rows_of court h) (numbers_fit court h _ stands.docket c.changes_fit.ensures) stands.rows (update_written court h command changes stands.docket c.requires.lawful accepted)
           (may_write court h command changes stands.docket c.requires.lawful accepted short)))
       | inr long ↦ inr long
@@ -94,8 +94,8 @@ returns-in-Err-clause-later g c h stands accepts clean =
     let command = c.args.command.now in
     let start = state g.S.Store c.args.conn.now in
     let wrote = state g.S.Store c.write.new.conn in
-    let written : HasCleanDisk wrote = omega (arith, clean, c.store_fault.ensures.clean) in
+    let written : HasCleanDisk wrote = omega (arith, clean, c.store_fault.ensures.writes_nothing.clean) in
     let at_start : HasCleanDisk start = omega (arith, written, c.write.ensures.clean) in
     let went : IsLater start wrote = c.write.ensures.later written (rows_of court h) (numbers_fit court h _ stands.docket c.changes_fit.ensures) stands.rows
     (update_written court h command c.args.changes.now stands.docket c.requires.lawful (accepts at_start)) in
-    later_then start wrote (state g.S.Store c.store_fault.new.conn) went (c.store_fault.ensures.counts, c.store_fault.ensures.limit)
+    later_then start wrote (state g.S.Store c.store_fault.new.conn) went (c.store_fault.ensures.writes_nothing.counts, c.store_fault.ensures.writes_nothing.limit)

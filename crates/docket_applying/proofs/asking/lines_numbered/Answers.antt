@@ -21,7 +21,7 @@ returns-in_err-lines-clause-answer g c h stands =
     let shown = c.in_ok-deadlines.ensures.answer court c.args.kept.now h stands in
     let told = c.in_ok-standing.ensures.answer court h shown.0 in
     let shows : HasCleanDisk (state g.S.Store c.calendar_taken.new.conn) → case_deadlines (rows_of court h) number ≡ Some c.as_slice.result.now = λ clean.
-    sym (shown.1 (omega (arith, c.calendar_taken.ensures.leaves.clean)))
+    sym (shown.1 (omega (arith, c.calendar_taken.ensures.leaves.writes_nothing.clean)))
     ∙ ap (option_map (λ (deadlines : Vec DeadlineView Global). deadlines.items)) c.in-Some.is ∙ ap Some (sym c.as_slice.ensures.value) in
     asks_err g.S.Store (serving c.lines_of_case-lines.new.conn court (Some standing)) h (λ (lines : Vec DeadlineLine Global). Some lines.items ≡ deadline_lines court h number)
     (λ (found : Option (Vec DeadlineLine Global)). option_map (λ lines. lines.items) found ≡ deadline_lines court h number)

@@ -23,7 +23,7 @@ returns-in_ok-record_of-in-Some-clause-read g c court t orderly holds =
     let second = c.in_ok-record_of-in-Some.ensures.read court t orderly first.0 in (
       second.0,
       λ clean.
-          let early : HasCleanDisk (state g.S.Store c.case.new.conn) = omega (arith, c.record_of.ensures.only.clean) in
+          let early : HasCleanDisk (state g.S.Store c.case.new.conn) = omega (arith, c.record_of.ensures.only.writes_nothing.clean) in
           second.1 clean ∙ ap (record_of t.parties t.entries) (sym c.in-Some.is ∙ first.1 early),
     )
 

@@ -22,7 +22,7 @@ returns-clause-read g c court t orderly holds =
     let second = c.in_ok-entries.ensures.read court t orderly first.0 in (
       second.0,
       λ clean.
-          let early : HasCleanDisk (state g.S.Store c.parties.new.conn) = omega (arith, c.entries.ensures.only.clean) in
+          let early : HasCleanDisk (state g.S.Store c.parties.new.conn) = omega (arith, c.entries.ensures.only.writes_nothing.clean) in
           λ i. Some (record { number = row.number; label = row.label; caption = row.caption; filed = row.filed; parties = (c.new.ensures ∙ first.1 early) i; entries = (c.new-2.ensures ∙ second.1 clean) i }),
     )
 

@@ -29,7 +29,7 @@ returns-clause-answer g c h stands =
     let shown = c.in_ok-deadline.ensures.answer court c.args.kept.now h stands in
     let told = c.in_ok-standing.ensures.answer court h shown.0 in (
       keeping g.S.Store c.calendar_taken.new.conn court c.calendar_taken.new.kept standing h told.0 told.1,
-      λ clean. (sym (shown.1 (omega (arith, clean, c.calendar_taken.ensures.leaves.clean))) ∙ c.in-Some.is, c.in_ok-calendar.ensures ∙ ap calendar_of (c.as_slice.ensures.items ∙ told.1 clean)),
+      λ clean. (sym (shown.1 (omega (arith, clean, c.calendar_taken.ensures.leaves.writes_nothing.clean))) ∙ c.in-Some.is, c.in_ok-calendar.ensures ∙ ap calendar_of (c.as_slice.ensures.items ∙ told.1 clean)),
     )
 
 pub returns-in_err-deadline-clause-leaves : goal.returns-in_err-deadline-clause-leaves

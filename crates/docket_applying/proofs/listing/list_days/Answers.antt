@@ -4,6 +4,7 @@ use Rattle.sqlite.specs.Held.{state}
 use Rattle.docket_history.specs.CalendarItems.{calendar_of}
 use Rattle.docket_history.specs.Histories.{items_of, standing_rows}
 use Rattle.docket_history.specs.declared.item.CalendarItem.{CalendarItem}
+use Rattle.docket_tables.proofs.NothingLemmas.{nothing_then}
 use Rattle.docket_applying.specs.Dockets.{serving}
 use Rattle.docket_applying.proofs.AskLemmas.{fault_of_other, keeping}
 use Rattle.docket_applying.proofs.FailureLemmas.{end_caused_after}
@@ -29,5 +30,8 @@ returns-clause-stays g c rows holds = c.list_by-listed.ensures.stays rows (c.in-
 pub returns-clause-cause : goal.returns-clause-cause
 returns-clause-cause g c rows holds clean =
     let told = c.calendar_taken in
-    end_caused_after (state g.S.Store c.args.conn.now) (state g.S.Store told.new.conn) (state g.S.Store c.list_by-listed.new.conn) c.list_by-listed.new.failure c.list_by-listed.result told.ensures.leaves.counts told.ensures.leaves.limit
+    end_caused_after (state g.S.Store c.args.conn.now) (state g.S.Store told.new.conn) (state g.S.Store c.list_by-listed.new.conn) c.list_by-listed.new.failure c.list_by-listed.result told.ensures.leaves.writes_nothing.counts told.ensures.leaves.writes_nothing.limit
     (c.list_by-listed.ensures.cause rows (c.in-Ok.ensures.leaves.stays rows holds) clean)
+
+pub returns-clause-writes_nothing : goal.returns-clause-writes_nothing
+returns-clause-writes_nothing g c = nothing_then c.calendar_taken.ensures.leaves.writes_nothing c.list_by-listed.ensures.writes_nothing

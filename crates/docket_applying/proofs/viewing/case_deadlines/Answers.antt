@@ -33,7 +33,7 @@ returns-clause-read g c court t orderly holds =
     let read1 = c.in_ok-deadline_views.ensures.read court t orderly read0.0 in (
       read1.0,
       λ clean1.
-          let clean0 : HasCleanDisk (state g.S.Store c.cases.new.conn) = omega (arith, c.deadline_views.ensures.only.clean) in
+          let clean0 : HasCleanDisk (state g.S.Store c.cases.new.conn) = omega (arith, c.deadline_views.ensures.only.writes_nothing.clean) in
           let among : is_case_in t c.args.number ≡ true =
           ap (λ n. nat_le 1 c.args.number && nat_le c.args.number n) (sym (read0.1 clean0)) ∙ sym c.is_among.ensures ∙ c.if-not-is_among.false in
           sym (deadlines_told t c.args.number _ among (read1.1 clean1)),

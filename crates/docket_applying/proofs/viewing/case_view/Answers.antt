@@ -73,11 +73,11 @@ returns-clause-read g c court t orderly holds =
     let read5 = c.in_ok-is_served.ensures.read court t orderly read4.0 in (
       read5.0,
       λ clean5.
-          let clean4 : HasCleanDisk (state g.S.Store c.deadline_asked.new.conn) = omega (arith, c.is_served.ensures.only.clean) in
-          let clean3 : HasCleanDisk (state g.S.Store c.deadlines_if_asked.new.conn) = omega (arith, c.deadline_asked.ensures.only.clean) in
-          let clean2 : HasCleanDisk (state g.S.Store c.entries_if_asked.new.conn) = omega (arith, c.deadlines_if_asked.ensures.only.clean) in
-          let clean1 : HasCleanDisk (state g.S.Store c.parties_if_asked.new.conn) = omega (arith, c.entries_if_asked.ensures.only.clean) in
-          let clean0 : HasCleanDisk (state g.S.Store c.cases.new.conn) = omega (arith, c.parties_if_asked.ensures.only.clean) in
+          let clean4 : HasCleanDisk (state g.S.Store c.deadline_asked.new.conn) = omega (arith, c.is_served.ensures.only.writes_nothing.clean) in
+          let clean3 : HasCleanDisk (state g.S.Store c.deadlines_if_asked.new.conn) = omega (arith, c.deadline_asked.ensures.only.writes_nothing.clean) in
+          let clean2 : HasCleanDisk (state g.S.Store c.entries_if_asked.new.conn) = omega (arith, c.deadlines_if_asked.ensures.only.writes_nothing.clean) in
+          let clean1 : HasCleanDisk (state g.S.Store c.parties_if_asked.new.conn) = omega (arith, c.entries_if_asked.ensures.only.writes_nothing.clean) in
+          let clean0 : HasCleanDisk (state g.S.Store c.cases.new.conn) = omega (arith, c.parties_if_asked.ensures.only.writes_nothing.clean) in
           let among : is_case_in t k ≡ true =
           ap (λ n. nat_le 1 k && nat_le k n) (sym (read0.1 clean0)) ∙ sym c.is_among.ensures ∙ c.if-not-is_among.false in
           sym (one_case t c.args.action.now k _ _ _ _ _ among

@@ -29,7 +29,7 @@ returns-clause-read g c court t orderly holds =
     let read1 = c.in_ok-acts.ensures.read court t orderly read0.0 in (
       read1.0,
       λ clean1.
-          let clean0 : HasCleanDisk (state g.S.Store c.deadline.new.conn) = omega (arith, c.acts_of_deadline.ensures.only.clean) in
+          let clean0 : HasCleanDisk (state g.S.Store c.deadline.new.conn) = omega (arith, c.acts_of_deadline.ensures.only.writes_nothing.clean) in
           sym (one_deadline t c.args.case c.args.number c.in-Some.row _ (sym (read0.1 clean0) ∙ c.in-Some.is) (c.new.ensures ∙ read1.1 clean1)),
     )
 

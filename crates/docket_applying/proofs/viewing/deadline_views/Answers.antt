@@ -29,7 +29,7 @@ returns-clause-read g c court t orderly holds =
     let k = c.args.case in (
       second.0,
       λ clean.
-          let rows = c.as_slice.ensures.value ∙ first.1 (omega (arith, c.acts_of_case.ensures.only.clean)) in
+          let rows = c.as_slice.ensures.value ∙ first.1 (omega (arith, c.acts_of_case.ensures.only.writes_nothing.clean)) in
           c.in_ok-with_acts.ensures k t.acts (subst (λ rs. RunsFrom 1 (map (λ r. r.number) rs)) (sym rows) (orderly.deadlines_run k)) (subst (AreActsOf k t.acts) (sym c.as_slice-2.ensures.value) (second.1 clean))
           ∙ ap (deadlines_from k 1 t.acts) rows,
     )

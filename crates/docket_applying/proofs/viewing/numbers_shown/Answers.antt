@@ -47,10 +47,10 @@ returns-clause-read g c court t orderly holds =
     let read4 = c.in_ok-local_rules.ensures.read court t orderly read3.0 in (
       read4.0,
       λ clean4.
-          let clean3 : HasCleanDisk (state g.S.Store c.next_row_if_asked.new.conn) = omega (arith, c.local_rules_if_asked.ensures.only.clean) in
-          let clean2 : HasCleanDisk (state g.S.Store c.is_asked_row_standing.new.conn) = omega (arith, c.next_row_if_asked.ensures.only.clean) in
-          let clean1 : HasCleanDisk (state g.S.Store c.is_asked_label_taken.new.conn) = omega (arith, c.is_asked_row_standing.ensures.only.clean) in
-          let clean0 : HasCleanDisk (state g.S.Store c.cases_if_asked.new.conn) = omega (arith, c.is_asked_label_taken.ensures.only.clean) in
+          let clean3 : HasCleanDisk (state g.S.Store c.next_row_if_asked.new.conn) = omega (arith, c.local_rules_if_asked.ensures.only.writes_nothing.clean) in
+          let clean2 : HasCleanDisk (state g.S.Store c.is_asked_row_standing.new.conn) = omega (arith, c.next_row_if_asked.ensures.only.writes_nothing.clean) in
+          let clean1 : HasCleanDisk (state g.S.Store c.is_asked_label_taken.new.conn) = omega (arith, c.is_asked_row_standing.ensures.only.writes_nothing.clean) in
+          let clean0 : HasCleanDisk (state g.S.Store c.cases_if_asked.new.conn) = omega (arith, c.is_asked_label_taken.ensures.only.writes_nothing.clean) in
           let counted : c.in_ok-cases.cases ≡ if_asked (asks_cases c.args.action.now) (length t.cases) = read0.1 clean0 ∙ ap (λ (asks : Asks). if_asked asks.cases (length t.cases)) c.requires in
           let next : c.in_ok-next_row.next_row ≡ if_asked (asks_next_row c.args.action.now) t.next_row = read3.1 clean3 ∙ ap (λ (asks : Asks). if_asked asks.next_row t.next_row) c.requires in
           let ruled : c.in_ok-local_rules.local_rules ≡ if_asked (asks_local_rules c.args.action.now) (length t.local_rules) = read4.1 clean4 ∙ ap (λ (asks : Asks). if_asked asks.local_rules (length t.local_rules)) c.requires in

@@ -37,15 +37,15 @@ returns-clause-read g c court t orderly holds =
     let read3 = c.in_ok-local.ensures.read court t orderly read2.0 in (
       read3.0,
       λ clean3.
-          let clean2 : HasCleanDisk (state g.S.Store c.case_asked.new.conn) = omega (arith, c.local_rule_asked.ensures.only.clean) in
-          let clean1 : HasCleanDisk (state g.S.Store c.numbers_shown.new.conn) = omega (arith, c.case_asked.ensures.only.clean) in
-          let clean0 : HasCleanDisk (state g.S.Store c.under_key.new.conn) = omega (arith, c.numbers_shown.ensures.only.clean) in
+          let clean2 : HasCleanDisk (state g.S.Store c.case_asked.new.conn) = omega (arith, c.local_rule_asked.ensures.only.writes_nothing.clean) in
+          let clean1 : HasCleanDisk (state g.S.Store c.numbers_shown.new.conn) = omega (arith, c.case_asked.ensures.only.writes_nothing.clean) in
+          let clean0 : HasCleanDisk (state g.S.Store c.under_key.new.conn) = omega (arith, c.numbers_shown.ensures.only.writes_nothing.clean) in
           whole_view t c.args.command.now _ _ _ _ _ (read0.1 clean0) (read1.1 clean1) (read2.1 clean2) c.empty.ensures (read3.1 clean3),
     )
 
 pub returns-clause-kept : goal.returns-clause-kept
 returns-clause-kept g c rows holds clean reply same =
-    let read : HasCleanDisk (state g.S.Store c.under_key.new.conn) = omega (arith, clean, c.numbers_shown.ensures.only.clean, c.case_asked.ensures.only.clean, c.local_rule_asked.ensures.only.clean) in
+    let read : HasCleanDisk (state g.S.Store c.under_key.new.conn) = omega (arith, clean, c.numbers_shown.ensures.only.writes_nothing.clean, c.case_asked.ensures.only.writes_nothing.clean, c.local_rule_asked.ensures.only.writes_nothing.clean) in
     c.in_ok-under_key.ensures.found rows holds read reply (ap Ok same)
 
 pub returns-in_err-under_key-clause-only : goal.returns-in_err-under_key-clause-only

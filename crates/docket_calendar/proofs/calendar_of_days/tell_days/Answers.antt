@@ -1,5 +1,11 @@
 use Rattle.std.proofs.Common.{rules}
+use Rattle.sqlite.specs.Held.{state}
+use Rattle.docket_calendar.proofs.JoinMeans.{days_write_nothing}
 use Rattle.docket_calendar.proofs.calendar_of_days.tell_days.Goals as goal
 
 pub returns-clause-cause : goal.returns-clause-cause
 returns-clause-cause g c = λ rows holds. c.tell.ensures.cause c.args.from c.args.to rows c.question.ensures (search rules) holds
+
+pub returns-clause-writes_nothing : goal.returns-clause-writes_nothing
+returns-clause-writes_nothing g c =
+    days_write_nothing _ _ (state g.S.Store c.args.conn.now) (state g.S.Store c.tell.new.conn) c.question.ensures c.tell.ensures.survives

@@ -16,19 +16,17 @@ returns-clause-gives g c = λ h is holds entered.
     let court = c.args.court.now in
     let rows = calendar_rows court h c.args.from c.args.to in
     gives g.S.Store court h old new is holds
-    c.gather_days.ensures.mode c.gather_days.ensures.clean c.gather_days.ensures.survives (λ (found : Vec DueRow Global). found.items ≡ rows) c.gather_days.result
+    c.gather_days.ensures.mode c.gather_days.ensures.writes_nothing (λ (found : Vec DueRow Global). found.items ≡ rows) c.gather_days.result
     (λ clean.
-    let before : HasCleanDisk (state g.S.Store old) = omega (arith, c.gather_days.ensures.clean, clean) in
+    let before : HasCleanDisk (state g.S.Store old) = omega (arith, c.gather_days.ensures.writes_nothing.clean, clean) in
     let lists = subst (λ (k : Entered). Lists question (days_asked c.args.from c.args.to) court k (state g.S.Store old).now rows) (sym (entered clean)) (lists_of g.S.Store court h c.args.from c.args.to old is holds before) in
     c.gather_days.ensures.gathers rows clean lists)
 
 pub returns-clause-only : goal.returns-clause-only
 returns-clause-only g c = record {
   stays = λ rows holds.
-      found_stays g.S.Store rows c.args.conn.now c.gather_days.new.conn holds c.gather_days.ensures.mode c.gather_days.ensures.clean c.gather_days.ensures.survives c.gather_days.result c.gather_days.ensures.remains;
-  clean = c.gather_days.ensures.clean;
+      found_stays g.S.Store rows c.args.conn.now c.gather_days.new.conn holds c.gather_days.ensures.mode c.gather_days.ensures.writes_nothing c.gather_days.result c.gather_days.ensures.remains;
+  writes_nothing = c.gather_days.ensures.writes_nothing;
   mode = c.gather_days.ensures.mode;
-  counts = c.gather_days.ensures.counts;
-  limit = c.gather_days.ensures.limit;
   cause = c.gather_days.ensures.cause;
 }

@@ -1,9 +1,8 @@
-use Rattle.std.proofs.Common.{◌≡◌, ◌≤◌, ◌∙◌, Vec, Global, arith, sym, subst, subst₂, rules, IfErr}
+use Rattle.std.proofs.Common.{◌≡◌, Vec, Global, arith, sym, subst, subst₂, rules, IfErr}
 use Rattle.sqlite.specs.Given.{HasBegun}
-use Rattle.sqlite.specs.State.{HasCleanDisk, FailsToQuery, Survives}
+use Rattle.sqlite.specs.State.{CommitsShowing, FailsToQuery, HasCleanDisk, Survives}
 use Rattle.sqlite.specs.Held.{state}
 use Rattle.sqlite.specs.Values.{bound}
-use Rattle.sqlite.specs.View.{doubt}
 use Rattle.sqlite.proofs.StateLemmas.{survives_then}
 use Rattle.sqlite.proofs.Callers.{begun_plain}
 use Rattle.docket_history.specs.declared.record.DueRow.{DueRow}
@@ -13,28 +12,16 @@ use Rattle.docket_calendar.specs.Asked.{RemainsAfter}
 use Rattle.docket_calendar.specs.Gathering.{ComesTo}
 use Rattle.docket_calendar.proofs.CauseLemmas.{begins, question_caused}
 use Rattle.docket_calendar.proofs.GatherLemmas.{comes_from, remains_later, whole_after}
-use Rattle.docket_calendar.proofs.StandsLemmas.{reads_only}
 use Rattle.docket_calendar.proofs.TellLemmas.{lists_still}
 use Rattle.docket_calendar.proofs.gathering.gather.Goals as goal
 
-pub returns-in-Ok-clause-clean : goal.returns-in-Ok-clause-clean
-returns-in-Ok-clause-clean g c =
-    let old = c.args.conn.now in
-    let new = c.gather_all.new.rows.conn.now in
-    let both : doubt (state g.S.Store old).is_clean ≤ doubt (state g.S.Store new).is_clean = omega (arith, c.in-Ok.ensures.survives.clean, c.gather_all.ensures.survives.clean) in
-    search rules
-
-pub returns-in-Err-clause-clean : goal.returns-in-Err-clause-clean
-returns-in-Err-clause-clean g c = let refused = rw c.in-Err.is at c.query.follows.holds-at-none in refused.survives.clean
-
 pub returns-in-Ok-clause-survives : goal.returns-in-Ok-clause-survives
-returns-in-Ok-clause-survives g c = λ plain.
-    let old = c.args.conn.now in
-    let mid = c.in-Ok.rows.conn.now in
-    let new = c.gather_all.new.rows.conn.now in
-    let first = reads_only c.args.sql.now (bound c.args.values.now) (state g.S.Store old) (state g.S.Store mid) plain c.in-Ok.ensures.survives in
-    let both : Survives (state g.S.Store old) (state g.S.Store new) (λ _. ⊥) =
-    survives_then (state g.S.Store old) (state g.S.Store mid) (state g.S.Store new) _ _ _ (λ _ db none. none) (λ _ db none. none) first c.gather_all.ensures.survives in
+returns-in-Ok-clause-survives g c =
+    let old = state g.S.Store c.args.conn.now in
+    let mid = state g.S.Store c.in-Ok.rows.conn.now in
+    let new = state g.S.Store c.gather_all.new.rows.conn.now in
+    let both : Survives old new (CommitsShowing c.args.sql.now (bound c.args.values.now) old) =
+    survives_then old mid new _ _ _ (λ _ db may. may) (λ _ db none. absurd none) c.in-Ok.ensures.survives c.gather_all.ensures.survives in
     search rules
 
 pub returns-in-Ok-clause-gathers : goal.returns-in-Ok-clause-gathers
@@ -54,9 +41,7 @@ returns-in-Ok-clause-gathers g c = λ listed clean lists.
     subst (λ h. ComesTo g.S.Store old h (λ (found : Vec DueRow Global). found.items ≡ listed) c.gather_all.result) end from_old
 
 pub returns-in-Err-clause-survives : goal.returns-in-Err-clause-survives
-returns-in-Err-clause-survives g c = λ plain.
-    let refused = rw c.in-Err.is at c.query.follows.holds-at-none in
-    reads_only c.args.sql.now (bound c.args.values.now) (state g.S.Store c.args.conn.now) (state g.S.Store c.query.follows.lender-at-none) plain refused.survives
+returns-in-Err-clause-survives g c = let refused = rw c.in-Err.is at c.query.follows.holds-at-none in refused.survives
 
 pub returns-in-Err-clause-gathers : goal.returns-in-Err-clause-gathers
 returns-in-Err-clause-gathers g c = λ listed clean lists.
@@ -100,23 +85,3 @@ returns-in-Err-clause-cause g c = λ first last rows is days holds clean.
     let before : HasCleanDisk old = omega (arith, refused.survives.clean, clean) in
     let shows = (holds.1 before).shows in
     question_caused first last old new c.in-Err.error shows.schema shows.is_open (subst₂ (λ sql params. FailsToQuery sql params old new c.in-Err.error) is days (refused.err clean))
-
-pub returns-in-Err-clause-counts : goal.returns-in-Err-clause-counts
-returns-in-Err-clause-counts g c = let refused = rw c.in-Err.is at c.query.follows.holds-at-none in refused.survives.counts
-
-pub returns-in-Err-clause-limit : goal.returns-in-Err-clause-limit
-returns-in-Err-clause-limit g c = let refused = rw c.in-Err.is at c.query.follows.holds-at-none in refused.survives.limit
-
-pub returns-in-Ok-clause-counts : goal.returns-in-Ok-clause-counts
-returns-in-Ok-clause-counts g c =
-    let old = c.args.conn.now in
-    let new = c.gather_all.new.rows.conn.now in
-    let both : (state g.S.Store old).faults ≤ (state g.S.Store new).faults = omega (arith, c.in-Ok.ensures.survives.counts, c.gather_all.ensures.survives.counts) in
-    search rules
-
-pub returns-in-Ok-clause-limit : goal.returns-in-Ok-clause-limit
-returns-in-Ok-clause-limit g c =
-    let old = c.args.conn.now in
-    let new = c.gather_all.new.rows.conn.now in
-    let both : (state g.S.Store new).step_limit ≡ (state g.S.Store old).step_limit = c.gather_all.ensures.survives.limit ∙ c.in-Ok.ensures.survives.limit in
-    search rules

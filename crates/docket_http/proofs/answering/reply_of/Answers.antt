@@ -12,26 +12,23 @@ pub returns-in-Ok : goal.returns-in-Ok
 returns-in-Ok g c =
     let done = c.in-Ok.ensures in
     record {
-      court = done.court;
-      clean = done.clean;
-      any = done.any;
-      closed = done.closed;
       answered = λ h stands clean. reply_told g.S.Store c.reply_to.new.docket h c.args.request.now.wish (body_of c.args.request.now) c.in-Ok.reply (done.replies h stands) clean;
-      recorded = done.recorded;
+      only = done.only;
     }
 
 pub returns-in-Err : goal.returns-in-Err
 returns-in-Err g c =
+    let now = c.reply_to.new.docket in
     let wish = c.args.request.now.wish in
     let body = body_of c.args.request.now in
     let done = c.in-Err.ensures in
     record {
-      court = done.court;
-      clean = done.clean;
-      any = done.any;
-      closed = λ shut.
-          let closed = done.closed shut in
-          (closed.0, subst (λ (p : Problem). IsClosedReply wish body (Fixed p)) (sym c.problem_of.ensures) (problem_response (problem_of_fault c.in-Err.fault), (refl, refl), closed.1));
-      answered = λ h stands clean. problem_told g.S.Store c.reply_to.new.docket h wish body c.in-Err.fault c.problem_of.result c.problem_of.ensures (done.replies h stands) clean;
-      recorded = λ rows. problem_backed g.S.Store c.reply_to.new.docket wish body c.problem_of.result;
+      answered = λ h stands clean. problem_told g.S.Store now h wish body c.in-Err.fault c.problem_of.result c.problem_of.ensures (done.replies h stands) clean;
+      only = record {
+        writes = done.only.writes;
+        closed = λ shut.
+            let closed = done.only.closed shut in
+            (closed.0, subst (λ (p : Problem). IsClosedReply wish body (Fixed p)) (sym c.problem_of.ensures) (problem_response (problem_of_fault c.in-Err.fault), (refl, refl), closed.1));
+        recorded = λ rows. problem_backed g.S.Store now wish body c.problem_of.result;
+      };
     }

@@ -1,7 +1,8 @@
 use Rattle.std.proofs.Common.{◌≡◌, ℕ, List, Option, None, Some, inl, inr, refl, subst, sym}
 use Rattle.std.specs.Option.{option_map}
-use Rattle.docket_http.specs.Answer.{Response, file, problem_response}
+use Rattle.docket_http.specs.Answer.{Response, fine, problem_response}
 use Rattle.docket_http.specs.Serve.{IsCopyAnswer}
+use Rattle.docket_http.specs.declared.head.Form.TheVariants.{File}
 use Rattle.docket_http.specs.declared.problem.Problem.TheVariants.{NoCopy, NoMemory}
 use Rattle.docket_http.proofs.copies.copy_reply.Goals as goal
 
@@ -10,7 +11,7 @@ answer_as {T} f a b response same is = subst (λ (o : Option T). IsCopyAnswer (o
 
 pub returns-in-Ok : goal.returns-in-Ok
 returns-in-Ok c =
-    (file c.in-Some.bytes.items, c.in-Ok.ensures, answer_as (λ bytes. bytes.items) (Some c.in-Some.bytes) c.args.copy (file c.in-Some.bytes.items) c.in-Some.is (inl refl))
+    (fine File c.in-Some.bytes.items, c.in-Ok.ensures, answer_as (λ bytes. bytes.items) (Some c.in-Some.bytes) c.args.copy (fine File c.in-Some.bytes.items) c.in-Some.is (inl refl))
 
 pub returns-in-Err : goal.returns-in-Err
 returns-in-Err c =

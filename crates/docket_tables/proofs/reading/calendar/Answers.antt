@@ -18,22 +18,22 @@ returns-clause-read g c court t orderly holds =
     let asked = c.in_ok-rows.ensures.ok rows holds in
     let next = c.in_ok-short_rows.ensures.ok rows asked.0 in
     gives g.S.Store c.ask-2.new.conn rows _ c.calendar_in.result next.0 (λ clean.
-    let days = days_shown t.calendar c.in_ok-rows.rows.items orderly.calendar_rises (asked.1 (omega (arith, clean, c.ask-2.ensures.clean))) in
+    let days = days_shown t.calendar c.in_ok-rows.rows.items orderly.calendar_rises (asked.1 (omega (arith, clean, c.ask-2.ensures.writes_nothing.clean))) in
     let short_days = short_days_shown t.calendar c.in_ok-short_rows.short_rows.items orderly.calendar_rises (next.1 clean) in
     c.calendar_in.ensures.read t.calendar orderly.calendar orderly.short_days orderly.calendar_rises (c.as_slice.ensures.value ∙ days) (c.as_slice-2.ensures.value ∙ short_days))
 
 pub returns-in_err-rows-clause-only : goal.returns-in_err-rows-clause-only
 returns-in_err-rows-clause-only g c =
-    rows_unread g.S.Store _ _ c.from_residual.result c.ask.ensures.clean c.ask.ensures.mode c.ask.ensures.counts c.ask.ensures.limit c.in_err-rows.field-0.0 c.from_residual.ensures.1 c.in_err-rows.ensures.err
+    rows_unread g.S.Store _ _ c.from_residual.result c.ask.ensures.mode c.ask.ensures.writes_nothing c.in_err-rows.field-0.0 c.from_residual.ensures.1 c.in_err-rows.ensures.err
     (λ rows holds clean. c.in_err-rows.ensures.cause rows holds refl clean)
 
 pub returns-in_err-short_rows-clause-only : goal.returns-in_err-short_rows-clause-only
 returns-in_err-short_rows-clause-only g c =
-    asked_then (rows_read g.S.Store c.args.conn.now c.ask.new.conn (Ok c.in_ok-rows.rows) c.ask.ensures.clean c.ask.ensures.mode c.ask.ensures.counts c.ask.ensures.limit (λ rows holds. (c.in_ok-rows.ensures.ok rows holds).0) tt)
-    (rows_unread g.S.Store c.ask.new.conn c.ask-2.new.conn c.from_residual-in_err-short_rows.result c.ask-2.ensures.clean c.ask-2.ensures.mode c.ask-2.ensures.counts c.ask-2.ensures.limit c.in_err-short_rows.field-0.0 c.from_residual-in_err-short_rows.ensures.1 c.in_err-short_rows.ensures.err
+    asked_then (rows_read g.S.Store c.args.conn.now c.ask.new.conn (Ok c.in_ok-rows.rows) c.ask.ensures.mode c.ask.ensures.writes_nothing (λ rows holds. (c.in_ok-rows.ensures.ok rows holds).0) tt)
+    (rows_unread g.S.Store c.ask.new.conn c.ask-2.new.conn c.from_residual-in_err-short_rows.result c.ask-2.ensures.mode c.ask-2.ensures.writes_nothing c.in_err-short_rows.field-0.0 c.from_residual-in_err-short_rows.ensures.1 c.in_err-short_rows.ensures.err
     (λ rows holds clean. c.in_err-short_rows.ensures.cause rows holds refl clean))
 
 pub returns-clause-only : goal.returns-clause-only
 returns-clause-only g c =
-    asked_then (rows_read g.S.Store c.args.conn.now c.ask.new.conn (Ok c.in_ok-rows.rows) c.ask.ensures.clean c.ask.ensures.mode c.ask.ensures.counts c.ask.ensures.limit (λ rows holds. (c.in_ok-rows.ensures.ok rows holds).0) tt)
-    (rows_read g.S.Store c.ask.new.conn c.ask-2.new.conn c.calendar_in.result c.ask-2.ensures.clean c.ask-2.ensures.mode c.ask-2.ensures.counts c.ask-2.ensures.limit (λ rows holds. (c.in_ok-short_rows.ensures.ok rows holds).0) c.calendar_in.ensures.own)
+    asked_then (rows_read g.S.Store c.args.conn.now c.ask.new.conn (Ok c.in_ok-rows.rows) c.ask.ensures.mode c.ask.ensures.writes_nothing (λ rows holds. (c.in_ok-rows.ensures.ok rows holds).0) tt)
+    (rows_read g.S.Store c.ask.new.conn c.ask-2.new.conn c.calendar_in.result c.ask-2.ensures.mode c.ask-2.ensures.writes_nothing (λ rows holds. (c.in_ok-short_rows.ensures.ok rows holds).0) c.calendar_in.ensures.own)

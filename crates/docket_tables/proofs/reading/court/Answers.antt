@@ -17,8 +17,8 @@ returns-clause-read g c court t orderly holds =
 
 pub returns-in_err-rows-clause-only : goal.returns-in_err-rows-clause-only
 returns-in_err-rows-clause-only g c =
-    rows_unread g.S.Store _ _ c.from_residual.result c.ask.ensures.clean c.ask.ensures.mode c.ask.ensures.counts c.ask.ensures.limit c.in_err-rows.field-0.0 c.from_residual.ensures.1 c.in_err-rows.ensures.err
+    rows_unread g.S.Store _ _ c.from_residual.result c.ask.ensures.mode c.ask.ensures.writes_nothing c.in_err-rows.field-0.0 c.from_residual.ensures.1 c.in_err-rows.ensures.err
     (λ rows holds clean. c.in_err-rows.ensures.cause rows holds refl clean)
 
 pub returns-clause-only : goal.returns-clause-only
-returns-clause-only g c = rows_read g.S.Store _ _ c.court_in.result c.ask.ensures.clean c.ask.ensures.mode c.ask.ensures.counts c.ask.ensures.limit (λ rows holds. (c.in_ok-rows.ensures.ok rows holds).0) c.court_in.ensures.own
+returns-clause-only g c = rows_read g.S.Store _ _ c.court_in.result c.ask.ensures.mode c.ask.ensures.writes_nothing (λ rows holds. (c.in_ok-rows.ensures.ok rows holds).0) c.court_in.ensures.own

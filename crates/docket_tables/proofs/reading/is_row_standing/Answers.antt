@@ -37,7 +37,7 @@ returns-clause-read g c court t orderly holds =
     let n = c.args.number in (
       next.0,
       λ clean.
-          let answer = rw c.to_sql.ensures at (asked.1 (omega (arith, clean, c.ask-2.ensures.clean))) in
+          let answer = rw c.to_sql.ensures at (asked.1 (omega (arith, clean, c.ask-2.ensures.writes_nothing.clean))) in
           let short_answer = rw c.to_sql-2.ensures at (next.1 clean) in
           let none : nat_lt 0 (length c.as_slice.result.now) ≡ false = grind (arith, nat_tests, c.if-as_slice-gt0.false) in
           let absent = sym (day_numbered n t.calendar c.in_ok-rows.rows.items answer) ∙ ap (nat_lt 0) (ap length (sym c.as_slice.ensures.value)) ∙ none in
@@ -48,19 +48,19 @@ returns-clause-read g c court t orderly holds =
 
 pub returns-in_err-rows-clause-only : goal.returns-in_err-rows-clause-only
 returns-in_err-rows-clause-only g c =
-    rows_unread g.S.Store _ _ c.from_residual.result c.ask.ensures.clean c.ask.ensures.mode c.ask.ensures.counts c.ask.ensures.limit c.in_err-rows.field-0.0 c.from_residual.ensures.1 c.in_err-rows.ensures.err
+    rows_unread g.S.Store _ _ c.from_residual.result c.ask.ensures.mode c.ask.ensures.writes_nothing c.in_err-rows.field-0.0 c.from_residual.ensures.1 c.in_err-rows.ensures.err
     (λ rows holds clean. c.in_err-rows.ensures.cause rows holds (number_suits c.to_sql.ensures) clean)
 
 pub returns-then-as_slice-gt0-clause-only : goal.returns-then-as_slice-gt0-clause-only
-returns-then-as_slice-gt0-clause-only g c = rows_read g.S.Store _ _ _ c.ask.ensures.clean c.ask.ensures.mode c.ask.ensures.counts c.ask.ensures.limit (λ rows holds. (c.in_ok-rows.ensures.ok rows holds).0) tt
+returns-then-as_slice-gt0-clause-only g c = rows_read g.S.Store _ _ _ c.ask.ensures.mode c.ask.ensures.writes_nothing (λ rows holds. (c.in_ok-rows.ensures.ok rows holds).0) tt
 
 pub returns-in_err-short_rows-clause-only : goal.returns-in_err-short_rows-clause-only
 returns-in_err-short_rows-clause-only g c =
-    asked_then (rows_read g.S.Store c.args.conn.now c.ask.new.conn (Ok c.in_ok-rows.rows) c.ask.ensures.clean c.ask.ensures.mode c.ask.ensures.counts c.ask.ensures.limit (λ rows holds. (c.in_ok-rows.ensures.ok rows holds).0) tt)
-    (rows_unread g.S.Store c.ask.new.conn c.ask-2.new.conn c.from_residual-in_err-short_rows.result c.ask-2.ensures.clean c.ask-2.ensures.mode c.ask-2.ensures.counts c.ask-2.ensures.limit c.in_err-short_rows.field-0.0 c.from_residual-in_err-short_rows.ensures.1 c.in_err-short_rows.ensures.err
+    asked_then (rows_read g.S.Store c.args.conn.now c.ask.new.conn (Ok c.in_ok-rows.rows) c.ask.ensures.mode c.ask.ensures.writes_nothing (λ rows holds. (c.in_ok-rows.ensures.ok rows holds).0) tt)
+    (rows_unread g.S.Store c.ask.new.conn c.ask-2.new.conn c.from_residual-in_err-short_rows.result c.ask-2.ensures.mode c.ask-2.ensures.writes_nothing c.in_err-short_rows.field-0.0 c.from_residual-in_err-short_rows.ensures.1 c.in_err-short_rows.ensures.err
     (λ rows holds clean. c.in_err-short_rows.ensures.cause rows holds (number_suits c.to_sql-2.ensures) clean))
 
 pub returns-clause-only : goal.returns-clause-only
 returns-clause-only g c =
-    asked_then (rows_read g.S.Store c.args.conn.now c.ask.new.conn (Ok c.in_ok-rows.rows) c.ask.ensures.clean c.ask.ensures.mode c.ask.ensures.counts c.ask.ensures.limit (λ rows holds. (c.in_ok-rows.ensures.ok rows holds).0) tt)
-    (rows_read g.S.Store c.ask.new.conn c.ask-2.new.conn _ c.ask-2.ensures.clean c.ask-2.ensures.mode c.ask-2.ensures.counts c.ask-2.ensures.limit (λ rows holds. (c.in_ok-short_rows.ensures.ok rows holds).0) tt)
+    asked_then (rows_read g.S.Store c.args.conn.now c.ask.new.conn (Ok c.in_ok-rows.rows) c.ask.ensures.mode c.ask.ensures.writes_nothing (λ rows holds. (c.in_ok-rows.ensures.ok rows holds).0) tt)
+    (rows_read g.S.Store c.ask.new.conn c.ask-2.new.conn _ c.ask-2.ensures.mode c.ask-2.ensures.writes_nothing (λ rows holds. (c.in_ok-short_rows.ensures.ok rows holds).0) tt)

@@ -29,5 +29,5 @@ returns g c = record {
   runs = λ honest.
       let before : Option (List ℕ) = g.W.Write.contents c.args.w in
       let none : AppendsFront before before [] = record { count = 0; within = omega arith; front = Appends-nil before } in
-      some_all (g.R.Read.remaining c.args.r.now) _ (λ input. not_begun (new_docket c.args.court) input before before run.WriteFailed c.failed.result c.failed.ensures none);
+      some_all (g.R.Read.remaining c.args.r.now) _ (λ input. not_begun (new_docket c.args.court) input before before run.WriteFailed c.failed.result c.failed.ensures.status none);
 }

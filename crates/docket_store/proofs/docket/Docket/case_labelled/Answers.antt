@@ -18,7 +18,7 @@ returns-clause-answer g c h stands =
     let court = c.self.inside.court in
     let here = subst (λ (d : Docket g.row.S.Denot). Stands g.S.Store d h) (sym c.self.view_is) stands in
     question_asks g.S.Store court c.self.inside.calendar h {X = Option CaseRow} conn c.told.new.conn (λ found. found ≡ case_labelled (case_rows h) c.args.label.now) c.case_labelled-found.result c.told.new.closed_by c.told.result here.docket
-    (λ clean. here.calendar (omega (arith, c.case_labelled-found.ensures.only.clean, clean))) c.told.ensures.clean (c.case_labelled-found.ensures.read court (rows_of court h) (docket_orderly court h here.docket) here.rows)
+    (λ clean. here.calendar (omega (arith, c.case_labelled-found.ensures.only.writes_nothing.clean, clean))) c.told.ensures.writes_nothing.clean (c.case_labelled-found.ensures.read court (rows_of court h) (docket_orderly court h here.docket) here.rows)
     c.told.ensures.ok c.told.ensures.left c.told.ensures.closes
 
 pub returns-clause-only : goal.returns-clause-only
@@ -29,4 +29,4 @@ returns-clause-only g c =
     let unclosed : is_some inside.closed_by ≡ false = search rules in
     subst (λ (d : Docket g.row.S.Denot). OnlyAnswers g.S.Store d (record { conn = new; court = inside.court; closed = is_some by; closed_by = by; calendar = inside.calendar }) c.told.result) c.self.view_is
     (told_only g.S.Store (record { conn = inside.conn; court = inside.court; closed = is_some inside.closed_by; closed_by = inside.closed_by; calendar = inside.calendar }) new inside.calendar by c.told.result unclosed
-    c.told.ensures.closes c.case_labelled-found.new.conn c.case_labelled-found.result c.case_labelled-found.ensures.only c.told.ensures.clean c.told.ensures.stays c.told.ensures.counts c.told.ensures.blames)
+    c.told.ensures.closes c.case_labelled-found.new.conn c.case_labelled-found.result c.case_labelled-found.ensures.only c.told.ensures.writes_nothing c.told.ensures.stays c.told.ensures.blames)

@@ -1,0 +1,91 @@
+-- The texts and the pages that answer questions to the docket of a history.
+use Rattle.std.specs.Prelude.{ℕ, ◌+◌, ◌-◌, List, [], ◌++◌, take, drop, max, nat_le, if◌then◌else◌, Option, Some, None}
+use Rattle.std.specs.List.{flat_map}
+use Rattle.std.specs.Option.{option_map}
+use Rattle.court_days.specs.Calendar.{Entered}
+use Rattle.court_days.specs.Court.{CourtSettings, zone_of}
+use Rattle.court_reasons.specs.Steps.{steps_of}
+use Rattle.docket_calendar.specs.Calendar.{calendar_rows}
+use Rattle.docket_history.specs.Histories.{History, case_rows, deadlines}
+use Rattle.docket_history.specs.Records.{calendar, case_at, case_record, deadline_lines}
+use Rattle.docket_history.specs.Views.{deadline_at}
+use Rattle.docket_history.specs.declared.record.CaseRecord.{CaseRecord}
+use Rattle.docket_history.specs.declared.record.DeadlineLine.{DeadlineLine}
+use Rattle.docket_history.specs.declared.record.DueRow.{DueRow}
+use Rattle.docket_history.specs.declared.row.CaseRow.{CaseRow}
+use Rattle.docket_history.specs.declared.view.DeadlineView.{DeadlineView}
+use Rattle.docket_questions.specs.declared.telling.Telling.{Telling}
+use Rattle.docket_questions.specs.declared.telling.Telling.TheVariants.{Page, Sheet, Text}
+use Rattle.docket_text.specs.CaseTexts.{case_text, deadlines_text}
+use Rattle.html_sheets.specs.Pages.{page_foot, page_head}
+use Rattle.html_sheets.specs.Sheets.{case_sheet}
+use Rattle.html_sheets.specs.Sites.{case_page, cases_page, days_page_foot, days_page_head}
+use Rattle.html_sheets.specs.Weeks.{due_row}
+use Rattle.html_sheets.specs.declared.links.Links.TheVariants.{Pages}
+use Rattle.reason_lines.specs.Lines.{reasons_text}
+
+-- the docket sheet of a case with its deadlines, as a page
+abbrev pub sheet_page : CourtSettings → CaseRecord → List DeadlineLine → List ℕ
+sheet_page court case lines = page_head case.label ++ (case_sheet court case lines ++ page_foot)
+
+-- a case with its deadlines, told so
+abbrev pub case_told : Telling → CourtSettings → CaseRecord → List DeadlineLine → List ℕ
+case_told Text = case_text
+case_told Sheet = sheet_page
+case_told Page = case_page
+
+-- what is told of a case with its deadlines, if there is such a case
+abbrev pub told_of_found : (CaseRecord → List DeadlineLine → List ℕ) → Option CaseRecord → Option (List DeadlineLine) → Option (List ℕ)
+told_of_found tell (Some case) (Some lines) = Some (tell case lines)
+told_of_found tell _ _ = None
+
+module _ (court : CourtSettings) (h : History) (number : ℕ) where
+  -- the case of a number, if there is such a case: as a text, as its docket sheet, and as a page of the docket, each with its deadlines
+  abbrev pub text_of_case : Option (List ℕ)
+  text_of_case = told_of_found (case_text court) (case_record h number) (deadline_lines court h number)
+
+  abbrev pub page_of_sheet : Option (List ℕ)
+  page_of_sheet = told_of_found (sheet_page court) (case_record h number) (deadline_lines court h number)
+
+  abbrev pub page_of_case : Option (List ℕ)
+  page_of_case = told_of_found (case_page court) (case_record h number) (deadline_lines court h number)
+
+  -- its deadlines alone, a line for each
+  abbrev pub text_of_deadlines : Option (List ℕ)
+  text_of_deadlines = option_map (deadlines_text court) (deadline_lines court h number)
+
+-- the steps by which a deadline's standing is found, by the calendar, a line a step
+abbrev pub reasons_of : CourtSettings → Entered → DeadlineView → List ℕ
+reasons_of court calendar deadline = reasons_text court calendar (Some deadline.rule) (steps_of (zone_of court) calendar deadline.acts)
+
+-- those of the deadline of a number, from 1, of a case, if there is one
+abbrev pub text_of_reasons : CourtSettings → History → ℕ → ℕ → Option (List ℕ)
+text_of_reasons court h case number = option_map (reasons_of court (calendar h)) (deadline_at (deadlines case h) number)
+
+-- at most a hundred cases from a number on, in the order of their numbers
+abbrev pub cases_from : History → ℕ → List CaseRow
+cases_from h from = take 100 (drop (from - 1) (case_rows h))
+
+-- the first of the hundred before them, where there are any
+abbrev pub earlier : ℕ → Option ℕ
+earlier from = if nat_le from 1 then None else Some (max 1 (from - 100))
+
+-- the first case behind them, where there is one
+abbrev pub later : History → ℕ → Option ℕ
+later h from = option_map (λ row. row.number) (case_at (case_rows h) (from + 100))
+
+-- the page of these cases, which leads to the earlier and the later ones
+abbrev pub page_of_cases : History → ℕ → List ℕ
+page_of_cases h from = cases_page (cases_from h from) (earlier from) (later h from)
+
+-- the row of a deadline with the caption of its case, which each deadline that falls due has
+abbrev pub caption_of : Option CaseRow → List ℕ
+caption_of None = []
+caption_of (Some case) = case.caption
+
+abbrev pub due_told : CourtSettings → History → DueRow → List ℕ
+due_told court h due = due_row Pages court due (caption_of (case_at (case_rows h) due.case))
+
+-- the page of the deadlines whose time runs to one of the days, in the order of the calendar
+abbrev pub page_of_days : CourtSettings → History → ℕ → ℕ → List ℕ
+page_of_days court h from to = days_page_head from to ++ (flat_map (due_told court h) (calendar_rows court h from to) ++ days_page_foot)

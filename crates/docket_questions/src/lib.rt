@@ -1,0 +1,20 @@
+//! Questions to a docket, as values. Each has a definition of the text or the page that answers it, by the
+//! history of the docket, and is asked in one way. Nothing is changed by it.
+#![tactic(auto)]
+
+mod cases;
+mod court;
+mod days;
+mod lists;
+mod question;
+mod reasons;
+mod sheets;
+mod telling;
+
+pub use cases::{CaseText, DeadlinesText};
+pub use court::{CourtCalendarText, RulesText};
+pub use days::DaysPage;
+pub use lists::CasesPage;
+pub use question::Question;
+pub use reasons::ReasonsText;
+pub use sheets::{CasePage, CaseSheet};
