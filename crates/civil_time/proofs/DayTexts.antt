@@ -37,7 +37,7 @@ one_day text a b in_a in_b spells_a spells_b =
     same_day a b (pos (four_at text)) (two_at text 5) (two_at text 8)
     (read_back text _ _ _ a refl refl refl in_a spells_a) (read_back text _ _ _ b refl refl refl in_b spells_b)
 
--- what the test of the search says
+-- what the test of the search means
 test-true : (text : List ℕ) (day : ℕ) → day ≤ 2_932_896 → bytes_eq text (day_text day) ≡ true → SpellsDay text day
 test-true text day limit same =
     subst (λ t. SpellsDay t day) (sym ((bytes_eq-Decides text (day_text day)).0 same)) (spells-text day limit)

@@ -205,7 +205,7 @@ by_function day months later is = subst (IsLater day months) (months_later-is da
 by_function_earlier : (day months earlier : ℕ) → months ≤ 120 → IsEarlier day months earlier → IsEarlier day months (months_earlier day months)
 by_function_earlier day months earlier h is = subst (IsEarlier day months) (months_earlier-is day months earlier h is.0) is
 
--- so the function gives such a day, near the one that is as many months away
+-- so the function returns such a day, near the one that is as many months away
 pub months_later-finds : (day months : ℕ) → IsDayNumber day → day ≤ 705_282 → months ≤ 120 → IsMonthsAfter day (pos months) (months_later day months) × (months_later day months ≤ day + 31 * months) × (day ≤ months_later day months + 3)
 months_later-finds day months limits h k =
     let bounds = number_bounds day limits in

@@ -1,10 +1,10 @@
--- What readers of a text's beginning say of it.
+-- What the readers of a text's beginning return.
 use Rattle.std.proofs.Common.{◌≡◌, ℕ, ◌+◌, ◌-◌, ◌*◌, ◌/◌, ◌%◌, ◌<◌, ◌≤◌, true, false, Bool, ◌&&◌, nat_le, nat_eq, cond, List, [], ◌∷◌, ◌++◌, length, Option, None, Some, refl, ap, ◌∙◌, arith}
 use Rattle.std.proofs.lemmas.Bool.Decides.{nat_tests}
 use Rattle.civil_time.specs.Reading.{◌>>=◌, is_digit, after, digit_at, two_digits_at, clock_at}
 use Rattle.civil_time.specs.MomentText.{two_digits, clock_text}
 
--- where a chain of readers gives something, each of them does
+-- where a chain of readers returns a value, each of them does
 pub bound : {A B : Type 0} (o : Option A) (f : A → Option B) (b : B) → (o >>= f) ≡ Some b → (a : A) × (o ≡ Some a) × (f a ≡ Some b)
 bound None f b h = cc
 bound (Some a) f b h = (a, refl, h)
@@ -35,7 +35,7 @@ pub empty : (text : List ℕ) → nat_eq (length text) 0 ≡ true → text ≡ [
 empty [] h = refl
 empty (x ∷ xs) h = let e : length (x ∷ xs) ≡ 0 = (let k = h in grind (arith, nat_tests)) in absurd (omega (arith, e))
 
--- and a digit is read where it stands
+-- and a digit at the beginning is read
 pub digit_at-digit : (d : ℕ) (rest : List ℕ) → d ≤ 9 → digit_at ((48 + d) ∷ rest) ≡ Some (d, rest)
 digit_at-digit d rest h =
     let low : nat_le 48 (48 + d) ≡ true = grind (arith, nat_tests) in

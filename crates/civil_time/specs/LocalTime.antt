@@ -15,7 +15,7 @@ seconds (negsuc n) = 0
 abbrev pub IsInstant : ℕ → Type 0
 IsInstant instant = (315_705_600 ≤ instant) × (instant ≤ 64_060_329_600)
 
--- the same of a number with a sign
+-- the same for a number with a sign
 abbrev pub IsMoment : ℤ → Type 0
 IsMoment at = IsInstant (seconds at)
 
@@ -106,7 +106,7 @@ instant_of zone local =
     let standard = instant_by_standard zone local in
     if local_time zone (standard - 3600) == local then standard - 3600 else standard
 
--- what that comes to: no earlier instant shows the local time, and this one does, or it lies in a gap and this is the instant by standard time
+-- what that means: no earlier instant shows the local time, and this one does, or it lies in a gap and this is the instant by standard time
 pub record IsInstantOf (zone : ZoneRules) (local instant : ℕ) : Type 0 where
   pub earliest : (other : ℕ) → local_time zone other ≡ local → instant ≤ other
   pub shows : (local_time zone instant ≡ local) ⊎ (IsInGap zone local × (instant ≡ instant_by_standard zone local))

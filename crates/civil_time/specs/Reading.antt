@@ -1,4 +1,4 @@
--- What a text begins with. Each reader gives a value and what follows it, or nothing.
+-- What a text begins with. Each reader returns a value and what follows it, or nothing.
 use Rattle.std.specs.Prelude.{ℕ, ◌+◌, ◌-◌, ◌*◌, ◌==◌, Bool, ◌&&◌, nat_le, if◌then◌else◌, List, [], ◌∷◌, length, Option, None, Some}
 
 -- one reader after another

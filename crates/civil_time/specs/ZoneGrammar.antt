@@ -41,7 +41,7 @@ SpellsSummer None text = text ≡ []
 SpellsSummer (Some summer) text =
     (name : List ℕ) × IsName name × IsSummerTime summer × (text ≡ name ++ (change_text summer.begins ++ change_text summer.ends))
 
--- the text is a name, the hours, and what it says of summer time
+-- the text is a name, the hours, and the part on summer time
 pub record SpellsZone (zone : ZoneRules) (text : List ℕ) : Type 0 where
   pub name : List ℕ
   pub hours : List ℕ

@@ -40,8 +40,8 @@ fn date_of(number: u32) -> Date
     Date::constant(-9999, 1, 1) + (number as i64 + DAYS_BEFORE_1970).days()
 }
 
-/// The year, the month (1 to 12) and the day of the month (1 to 31) of the day with that number,
-/// also of one just beyond the limits of `Day`.
+/// The year, the month (1 to 12) and the day of the month (1 to 31) of the day with that number. It
+/// may lie just beyond the limits of `Day`.
 pub fn ymd_of(number: u32) -> (i32, u32, u32)
     requires { number ≤ 1_000_000 }
     ensures { HasYmd number result.0 result.1 result.2 }
@@ -85,7 +85,7 @@ impl Day {
         self.number
     }
 
-    /// The day that many days later, which is to be one up to 3999-12-31.
+    /// The day that many days later, which must be at most 3999-12-31.
     pub fn plus(self, days: u32) -> Day
         requires { self + days ≤ 741_441 }
         ensures { result ≡ self + days }
@@ -95,7 +95,7 @@ impl Day {
         }
     }
 
-    /// The day that many days earlier, which is to be one from 1980-01-01 on.
+    /// The day that many days earlier, which must be at least 1980-01-01.
     pub fn minus(self, days: u32) -> Day
         requires { 3652 + days ≤ self }
         ensures { result ≡ self - days }

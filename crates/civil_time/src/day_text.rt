@@ -33,7 +33,7 @@ pub fn day_bytes(day: Day) -> [u8; 10]
     ]
 }
 
-/// What a digit stands for, and 0 to 207 for other bytes.
+/// The value of a digit, and 0 to 207 for other bytes.
 fn digit_value(byte: u8) -> u32
     ensures value { result ≡ byte - 48 }
     ensures small { result < 256 }

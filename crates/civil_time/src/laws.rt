@@ -1,10 +1,10 @@
-//! What the functions of specs/ say, with nothing to run.
+//! Laws of the functions in specs/. Nothing here runs.
 ghost use Rattle.std.specs.Prelude.{◌≡◌, ◌↔◌, ◌≤◌, ℕ, List, length, Some, pos, neg_ℤ};
 ghost use Rattle.civil_time.specs.Civil.{IsDayNumber};
 ghost use Rattle.civil_time.specs.DayText.{SpellsDay, day_text, day_of_text};
 ghost use Rattle.civil_time.specs.Months.{IsMonthsAfter, months_later, months_earlier};
 
-/// Each day's text is read as that day, and has ten bytes.
+/// The text of each day has ten bytes, and reads back as that day.
 pub fn texts_are_read_back()
     ensures read_back { (day : ℕ) → IsDayNumber day → day_of_text (day_text day) ≡ Some day }
     ensures ten_bytes { (day : ℕ) → length (day_text day) ≡ 10 }
@@ -12,7 +12,7 @@ pub fn texts_are_read_back()
         → (day_of_text text ≡ Some day) ↔ (IsDayNumber day × SpellsDay text day) }
 {}
 
-/// One day lies a number of months away, and it is the function's value.
+/// Exactly one day lies a number of months away, and the function returns it.
 pub fn months_are_found()
     ensures later { (day months later : ℕ) → IsDayNumber day → day ≤ 705_282 → months ≤ 120
         → IsMonthsAfter day (pos months) later ↔ (later ≡ months_later day months) }

@@ -1,4 +1,4 @@
-//! What texts begin with: bytes, digits and times of day. Each reader gives what follows, too.
+//! What texts begin with: bytes, digits and times of day. Each reader also returns what follows.
 ghost use Rattle.std.specs.Prelude.{◌≡◌, ◌↔◌, ℕ, ◌<◌, ◌≤◌, Some, option_map, option_copied, IfSome};
 ghost use Rattle.civil_time.specs.MomentGrammar.{SpellsTimeOfDay};
 ghost use Rattle.civil_time.specs.Reading.{after, digit_at, two_digits_at, clock_at, time_of_day_at};

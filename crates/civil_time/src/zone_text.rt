@@ -121,9 +121,9 @@ fn read_summer(text: &[u8]) -> Option<SummerTime>
     Some(SummerTime { begins, ends })
 }
 
-/// The zone that the text spells, if it spells one: a name of 3 to 6 ASCII letters, the hours west
-/// of Greenwich (0 to 12 in one or two digits, east of it after `-`), and for summer time another
-/// name and the two dates of the clock changes.
+/// The zone that the text spells, if it spells one: a name of 3 to 6 ASCII letters and the hours
+/// west of Greenwich (0 to 12 in one or two digits, east of it after `-`). For summer time another
+/// name and the two dates of the clock changes follow.
 pub fn read_zone(text: &[u8]) -> Option<Zone>
     ensures value { result ≡ zone_at text.now }
     ensures grammar { (zone : ZoneRules) → (result ≡ Some zone) ↔ SpellsZone zone text.now }

@@ -1,4 +1,4 @@
--- What is said of a command is what its line is judged by, and what a fault leaves.
+-- The reply to a command determines the answer to its line; and what a fault leaves.
 use Rattle.std.proofs.Common.{◌≡◌, ◌⊎◌, inl, inr, Result, Ok, Err, is_err, sym, ap, subst}
 use Rattle.sqlite.specs.Store.{Ghosts}
 use Rattle.sqlite.specs.Held.{state}
@@ -40,7 +40,7 @@ left_by g new docket c same clean StoreFailed plain faults =
 left_by g new docket c same clean Closed plain faults = absurd faults
 left_by g new docket c same clean Damaged plain faults = absurd (faults clean)
 
--- what a reply says, and the docket that it leaves
+-- the answer that a reply is, and the docket that it leaves
 pub says : {S : Type 0} (g : Ghosts S) (new : Stored S) (docket : Docket) (c : Command) → new.court ≡ docket.court → HasCleanDisk (state g new.conn) → (reply : Reply) → Applies g new docket.history c (Ok reply)
     → IsSaid (Ok reply) (outcome docket.court docket.history c) × StandsAs g new (docket_with docket c)
 says g new docket c same clean reply it = (

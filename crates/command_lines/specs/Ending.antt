@@ -21,15 +21,15 @@ run_fault (line.Unanswered NoMemory) = run.NoMemory
 run_fault (line.Unanswered fault) = run.Store fault
 
 module _ {S : Type 0} (g : Ghosts S) where
-  -- what is left where a line was not answered, by the docket before the line and the next after it: where memory was short the
-  -- docket is one of them, for the reply may have wanted it; where the database failed a power failure leaves one of them
+  -- what remains if a line was not answered, by the docket before the line and the next after it. If memory ran out, even for the
+  -- reply, the docket is one of them. If the database failed, a power failure leaves one of them
   abbrev pub FailsAt : Stored S → Fault → Docket → Docket → Type 0
   FailsAt stored NoMemory before next = StandsAs g stored before ⊎ StandsAs g stored next
   FailsAt stored StoreFailed before next =
       LastsAsEither g stored.conn (docket_rows before.court before.history) (docket_rows next.court next.history)
   FailsAt stored _ before next = ⊥
 
-  -- what is left where a run ended early, by the docket that the answered lines left and the next after at most one line more
+  -- what remains if a run ended early, by the docket that the answered lines left and the next after at most one line more
   abbrev pub Leaves : Stored S → RunFault → Docket → Docket → Type 0
   Leaves stored run.ReadFailed before next = StandsAs g stored before
   Leaves stored run.WriteFailed before next = StandsAs g stored next

@@ -1,4 +1,4 @@
--- What each line of `run` comes to.
+-- The outcome of each line of `run`.
 use Rattle.std.specs.Prelude.{◌≡◌, ◌⊎◌, ℕ, Bool, true, false, List, [], ◌∷◌, ◌++◌, Result, Ok, Err}
 use Rattle.docket_command.specs.declared.command.Command.{Command}
 use Rattle.docket_command.specs.declared.refusal.Refusal.{Refusal}
@@ -12,7 +12,7 @@ use Rattle.docket_wire.specs.declared.fault.WireFault.TheVariants.{NotJson}
 use Rattle.line_io.specs.Report.{LineAnswer, within, text_of, bad_of, after_of}
 use Rattle.line_io.specs.Lines.{lines_of}
 
--- the reply to a repeat is the one that it had
+-- a repeat gets the reply that the command got at first
 abbrev pub answer_text : Answer → List ℕ
 answer_text (repeated reply) = reply_text (Ok reply)
 answer_text (accepted reply) = reply_text (Ok reply)
@@ -26,7 +26,7 @@ is_refused _ = false
 abbrev pub docket_with : Docket → Command → Docket
 docket_with docket c = record { court = docket.court; history = after docket.court docket.history c }
 
--- what is said is this answer
+-- the reply or the refusal is this answer
 abbrev pub IsSaid : Result Reply Refusal → Answer → Type 0
 IsSaid (Ok reply) answer = (answer ≡ repeated reply) ⊎ (answer ≡ accepted reply)
 IsSaid (Err r) answer = answer ≡ refused r

@@ -7,7 +7,7 @@ use docket_store::Fault;
 use line_io::LineFault;
 use std::fmt;
 
-/// Why a run ended before its input did. What went out is a front of its answers.
+/// Why a run ended before its input did. What was written is a front of its answers.
 #[derive(Clone, Copy)]
 pub enum RunFault {
     /// A read failed, or 4,294,967,295 reads came to no end.
@@ -19,7 +19,7 @@ pub enum RunFault {
     Store(Fault),
 }
 
-/// What a line that was not answered comes to.
+/// Returns why a run ends at a line that was not answered.
 fn unanswered(fault: Fault) -> RunFault
     ensures { result ≡ run_fault (line.Unanswered fault) }
 {

@@ -23,14 +23,12 @@ use sqlite::Alter;
 use std::alloc::Global;
 use std::io::{Read, Write};
 
-/// Answers each line of the reader: a command of the docket with its reply or its refusal, and what
-/// spells no command with its fault; and counts the lines, and the refusals and faults among the
-/// answers. Each answer is written before the next command is applied. On a fault a front of the
-/// answers went out, and no further line was answered: `Store(Closed)` where the docket is closed at
-/// the start, and nothing is read then.
+/// Answers each line of the reader: a command of the docket with its reply or its refusal, and any other line
+/// with its fault. Counts the lines, and the refusals and faults among the answers. Writes each answer before
+/// it applies the next command. On a fault a front of the answers was written, and no further line was
+/// answered. Where the docket is closed at the start, fails with `Store(Closed)` and reads nothing.
 ///
-/// All this is said where the disk gives back what it took when the run ends; then it did from the
-/// start.
+/// All this holds where the disk gives back what it took when the run ends; then it did from the start.
 pub fn command_run<R: Read, W: Write, S: Alter>(
     alloc: Global,
     reader: &mut R,
@@ -44,7 +42,7 @@ pub fn command_run<R: Read, W: Write, S: Alter>(
     ensures front { OnErr result ((docket : Docket) → StandsAs S.Store clerk.old docket
         → HasCleanDisk (state S.Store clerk.new.conn) → IfSome (R.remaining reader.old) (λ input.
         HasFront (W.contents writer.old) (W.contents writer.new) (run_text docket input))) }
-    // The docket stands for the lines answered, and at most for one line more.
+    // The docket is that of the lines answered, and of at most one line more.
     ensures left { IfErr result (λ fault. (docket : Docket) → StandsAs S.Store clerk.old docket
         → HasCleanDisk (state S.Store clerk.new.conn) → IfSome (R.remaining reader.old) (λ input.
         BreaksOff answer_to_line (Leaves S.Store clerk.new fault) 0 docket (lines_of input)

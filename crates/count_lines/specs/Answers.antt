@@ -1,4 +1,4 @@
--- The lines of `count`: what each is answered, by what the lines before it entered.
+-- The lines of `count`: the answer to each, by what the lines before it entered.
 use Rattle.std.specs.Prelude.{ℕ, ◌==◌, Bool, true, false, ◌&&◌, nat_le, nat_lt, List, [], ◌∷◌, ◌++◌, Option, None, Some, codes, if◌then◌else◌}
 use Rattle.std.specs.FinMap.{contains_key}
 use Rattle.std.specs.FinSet.{contains}
@@ -92,7 +92,7 @@ outcome_of state (Some (CountHours direction at count)) = (after_hours state dir
 outcome_of state (Some (ByRule rule day method)) = (last_day (end_by_rule state.calendar rule day method), state)
 outcome_of state (Some (Closing day)) = (Clock (clock_text (closing state.court state.calendar day)), state)
 
--- what a line comes to
+-- the outcome of a line
 abbrev pub outcome : CourtState → List ℕ → Outcome
 outcome state [] = (Empty, state)
 outcome state (byte ∷ line) = outcome_of state (request_of (byte ∷ line))

@@ -13,7 +13,7 @@ pub enum Answer {
     Empty,
     /// `ok`: the day stands.
     Done,
-    /// `full`: the day is new, and as many days stand as may.
+    /// `full`: the day is new, and there are as many days as there may be.
     Full,
     /// `bad`: the line has none of the forms, or a value is out of its limits.
     Bad,
@@ -25,7 +25,7 @@ pub enum Answer {
     Clock([u8; 5]),
 }
 
-/// Writes the answer and a line feed behind `out`.
+/// Appends the answer and a line feed to `out`.
 pub(crate) fn write_answer(answer: &Answer, out: &mut Vec<u8>) -> Result<(), AllocError>
     ensures ok { OnOk result (out.new.items ≡ out.old.items ++ (answer_text answer.now ++ 10 ∷ [])) }
     ensures err { OnErr result (out.new.items ≡ out.old.items) }
@@ -41,7 +41,7 @@ pub(crate) fn write_answer(answer: &Answer, out: &mut Vec<u8>) -> Result<(), All
     }
 }
 
-/// Writes the day and a line feed behind `out`.
+/// Appends the day and a line feed to `out`.
 fn write_day(day: Day, out: &mut Vec<u8>) -> Result<(), AllocError>
     ensures ok { OnOk result (out.new.items ≡ out.old.items ++ (day_text day ++ 10 ∷ [])) }
     ensures err { OnErr result (out.new.items ≡ out.old.items) }
@@ -51,7 +51,7 @@ fn write_day(day: Day, out: &mut Vec<u8>) -> Result<(), AllocError>
     out.extend_from_slice(&line)
 }
 
-/// Writes the text of a moment and a line feed behind `out`.
+/// Appends the text of a moment and a line feed to `out`.
 fn write_moment(text: [u8; 22], out: &mut Vec<u8>) -> Result<(), AllocError>
     ensures ok { OnOk result (out.new.items ≡ out.old.items ++ (text ++ 10 ∷ [])) }
     ensures err { OnErr result (out.new.items ≡ out.old.items) }
@@ -61,7 +61,7 @@ fn write_moment(text: [u8; 22], out: &mut Vec<u8>) -> Result<(), AllocError>
     out.extend_from_slice(&line)
 }
 
-/// Writes the text of a time of day and a line feed behind `out`.
+/// Appends the text of a time of day and a line feed to `out`.
 fn write_clock(text: [u8; 5], out: &mut Vec<u8>) -> Result<(), AllocError>
     ensures ok { OnOk result (out.new.items ≡ out.old.items ++ (text ++ 10 ∷ [])) }
     ensures err { OnErr result (out.new.items ≡ out.old.items) }

@@ -50,7 +50,7 @@ impl Answerer for Counter {
 
     ghost Trusts = { λ _. ⊤ };
 
-    // The calendar is let go after a fault.
+    // The calendar is dropped after a fault.
     ghost Fails = { λ _ _ _ _. ⊤ };
 
     ghost Steps = { λ _ _. ⊤ };
@@ -71,7 +71,7 @@ impl Answerer for Counter {
     }
 }
 
-/// The end of a time, and bad where the time has none.
+/// Returns the end of a time, or `Bad` where the time has none.
 fn last_day(end: Option<Day>) -> Answer
     ensures { result ≡ last_day end }
 {
@@ -182,7 +182,7 @@ impl Counter {
         Answer::Moment(self.court.moment_bytes(end))
     }
 
-    /// Does what is asked for.
+    /// Answers a request.
     fn answer_request(&mut self, request: Request) -> Result<Answer, AllocError>
         requires { IsAsked request }
         ensures { IfOk result (λ answer. (answer, state_of self.new) ≡ outcome_of (state_of self.old) (Some request)) }
@@ -227,7 +227,7 @@ impl Counter {
 }
 
 /// Answers each line of the reader, by what the lines before it entered, and counts the
-/// lines and those answered `bad` or `full`. On a fault a front of the answers went out.
+/// lines and those answered `bad` or `full`. On a fault a front of the answers was written.
 pub fn count_run<R: Read, W: Write>(
     alloc: Global,
     reader: &mut R,

@@ -4,7 +4,7 @@ use line_io::LineFault;
 use std::alloc::AllocError;
 use std::fmt;
 
-/// Why a run ended before its input did. What went out is a front of its answers.
+/// Why a run ended before its input did. What was written is a front of its answers.
 #[derive(Clone, Copy, PartialEq, Eq)]
 pub enum RunFault {
     /// A read failed, or 4,294,967,295 reads came to no end.

@@ -1,4 +1,4 @@
-//! What the definitions say of one another, with nothing to run.
+//! Laws between the definitions, with no code to run.
 ghost use Rattle.std.specs.Prelude.{◌≡◌, ◌↔◌, ℕ, List, Some};
 ghost use Rattle.count_lines.specs.Requests.{request_of, IsAsked};
 ghost use Rattle.count_lines.specs.Spelling.{Spells};

@@ -35,7 +35,7 @@ pub enum Request {
     Closing(Day),
 }
 
-/// The first word, and what stands behind the space after it.
+/// The first word, and what follows the space after it.
 fn split_word(line: &[u8]) -> Option<(&[u8], &[u8])>
     ensures { option_map (λ words. (words.0.now, words.1.now)) result ≡ words_of line.now }
 {

@@ -46,7 +46,7 @@ module _ (entered : Entered) (zone : ZoneRules) (is : IsZone zone) (end : ℕ) w
   pub accessible_days : (instant : ℕ) → end - 3600 ≤ instant → instant < end → IsAccessible entered zone end → ¬ (Holds entered Closed (local_day zone instant))
   accessible_days instant a b free closed = free instant a b (inl closed)
 
-  -- the test tells
+  -- the test passes just where the fact holds
   pub is_accessible-means : IsWithinLimits entered → IsInstant (end - 3600) → IsInstant end → (is_accessible entered zone end ≡ true) ↔ IsAccessible entered zone end
   unfolding is_accessible
   is_accessible-means limits low high =

@@ -1,4 +1,4 @@
--- The functions of specs/ give the ends that the relations say.
+-- The functions of specs/ return the ends that the relations define.
 use Rattle.std.proofs.Common.{◌≡◌, ℕ, ◌+◌, ◌≤◌, max, min, ◌↔◌, true, false, inl, inr, refl, sym, arith, subst}
 use Rattle.std.proofs.lemmas.Bool.{cases_Bool, both_ways, false_from_ne_true}
 use Rattle.court_days.specs.Calendar.{Entered, IsWithinLimits}

@@ -1,4 +1,4 @@
--- The functions of specs/ give the ends of periods of hours that the relations say.
+-- The functions of specs/ return the ends of periods of hours that the relations define.
 use Rattle.std.proofs.Common.{◌≡◌, ℕ, ◌+◌, ◌-◌, ◌*◌, ◌≤◌, max, ◌↔◌, true, inl, inr, refl, sym, ap, ◌∙◌, arith, subst}
 use Rattle.std.proofs.lemmas.Bool.{cases_Bool, both_ways, false_from_ne_true}
 use Rattle.civil_time.specs.LocalTime.{local_day, IsInstant}

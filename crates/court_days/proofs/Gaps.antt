@@ -31,7 +31,7 @@ by_date day m t f (thursday w h) = absurd (t w)
 by_date day m t f (before_saturday w h) = absurd (f w)
 by_date day m t f (after_sunday w h) = absurd (m w)
 
--- of a Tuesday and the day after it one is no statutory holiday
+-- a Tuesday or the day after it is no statutory holiday
 midweek : (day : ℕ) → weekday day ≡ 2 → IsStatutory day → IsStatutory (day + 1) → ⊥
 midweek day w s t =
     fixed_apart day (by_date day (λ e. omega arith) (λ e. omega arith) (λ e. omega arith) s)
@@ -53,7 +53,7 @@ module _ (entered : Entered) (limits : IsWithinLimits entered) where
       state Forward s = out (limits.days State day s)
       state Backward s = s
 
-  -- so of a Tuesday and the day after it, beyond the days that may be entered, one is a business day
+  -- so beyond the days that may be entered a Tuesday or the day after it is a business day
   pub midweek_business : (direction : Direction) (day : ℕ) → weekday day ≡ 2 → ¬ (IsEnteredDay day) → ¬ (IsEnteredDay (day + 1)) → ¬ (IsBusinessDay entered direction day) → ¬ (IsBusinessDay entered direction (day + 1)) → ⊥
   midweek_business direction day w out out_next no_first no_second =
       no_first (business direction day out (λ e. elim e [ inl a ↦ omega arith | inr a ↦ omega arith ]) (λ s.

@@ -76,7 +76,7 @@ module _ (test : ℕ → Bool) where
         | inr (inr gt) ↦ omega arith
       ]
 
--- with a test that says what qualifies, from the start up to the limit
+-- with a test that decides what qualifies, from the start up to the limit
 pub finds-first_within : (Qualifies : ℕ → Type 0) (test : ℕ → Bool) (start limit day : ℕ) → ((day : ℕ) → start ≤ day → day ≤ limit → (test day ≡ true) ↔ Qualifies day) → Finds test start limit day → IsFirstFrom Qualifies start day
 finds-first_within Qualifies test start limit day means f = record {
   reached = f.reached;
@@ -87,7 +87,7 @@ finds-first_within Qualifies test start limit day means f = record {
   ];
 }
 
--- and with one that says so up to a million
+-- and with one that decides it up to a million
 module _ (Qualifies : ℕ → Type 0) (test : ℕ → Bool) (means : (day : ℕ) → day ≤ 1_000_000 → (test day ≡ true) ↔ Qualifies day) where
   pub finds-first : (start limit day : ℕ) → limit ≤ 1_000_000 → Finds test start limit day → IsFirstFrom Qualifies start day
   finds-first start limit day h f = finds-first_within Qualifies test start limit day (λ other a b. means other (omega arith)) f

@@ -82,7 +82,7 @@ module _ (closings : List (ℕ × ℕ)) (day place : ℕ) (gap : IsGapFor closin
   other : (i : ℕ) → i < length closings → day_at closings i ≢ day
   other i lt e = elim (cases_lt i place) [ inl below ↦ omega (arith, gap.before i below, e) | inr from ↦ omega (arith, gap.after i from lt, e) ]
 
-  -- a day that does not stand
+  -- a day that is not there
   pub get_none : map.get (map.from_entries {R = nat_cmp} closings) day ≡ None
   get_none = map.get-from_entries nat_cmp_total closings day ∙ find_none closings day other
 

@@ -1,4 +1,4 @@
--- No end looks at short days.
+-- No end depends on short days.
 use Rattle.std.proofs.Common.{◌≡◌, ℕ, refl}
 use Rattle.civil_time.specs.Zone.{ZoneRules}
 use Rattle.court_days.specs.Calendar.{Entered, with_short}

@@ -14,7 +14,7 @@ use Rattle.std.specs.Cmp.{nat_cmp_total}
 use Rattle.std.specs.FinSet as set
 use Rattle.court_days.specs.SortedDays.{IsSortedDays}
 
--- a binary search tells whether the day is a member
+-- a binary search finds whether the day is a member
 pub search-contains : (days : List ℕ) (day : ℕ) (r : Result ℕ ℕ) → IsNonDecreasing days → IsBinarySearchResult (λ y. nat_cmp y day) days r → is_ok r ≡ set.contains (set.from_list {R = nat_cmp} days) day
 search-contains days day (Ok place) ascending search =
     let found = searched days day (Ok place) search (λ i j le lt. ascending i j 0 le lt) in

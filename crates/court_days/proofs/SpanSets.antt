@@ -54,7 +54,7 @@ any_same : (p q : Span → Bool) → ((x : Span) → p x ≡ q x) → (spans : L
 any_same p q same [] = refl
 any_same p q same (x ∷ xs) = ap (λ b. b || list_any p xs) (same x) ∙ ap (λ b. q x || b) (any_same p q same xs)
 
--- a look-up tells whether the span is a member
+-- a look-up finds whether the span is a member
 pub contains-any : (spans : List Span) (span : Span) → list_any (is_same span) spans ≡ contains (from_list {R = span_cmp} spans) span
 contains-any spans span =
     sym (contains-from_list span_cmp_total spans span ∙ any_same (eq_by_cmp span_cmp span) (is_same span) (tie_test span) spans)

@@ -1,4 +1,4 @@
--- The tests of specs/ say what the relations say.
+-- The tests of specs/ agree with the relations.
 use Rattle.std.proofs.Common.{◌≡◌, ℕ, ◌+◌, ◌-◌, ◌≤◌, ◌==◌, ◌⊎◌, inl, inr, Bool, true, false, not, ◌&&◌, ◌||◌, refl, sym, IsTrue, ◌↔◌, arith}
 use Rattle.std.proofs.lemmas.Bool.{both_ways, or_cases, or_left, or_right, and_parts, and_from, cases_Bool, not-true, not_from_false, false_from_ne_true, eqb-true, eq-eqb}
 use Rattle.civil_time.specs.Civil.{weekday, FallsOn}

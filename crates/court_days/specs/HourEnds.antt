@@ -23,7 +23,7 @@ unfoldable pub is_accessible_day : Entered → ZoneRules → Direction → ℕ �
 is_accessible_day entered zone direction instant day =
     is_business_day entered direction day && is_accessible entered zone (same_time_on zone instant day)
 
--- the first such day from a day on; none of the 50,000 days runs out
+-- the first such day from a day on; the search of 50,000 days always finds one
 abbrev pub first_accessible : Entered → ZoneRules → Direction → ℕ → ℕ → ℕ
 first_accessible entered zone direction instant start =
     first_day (is_accessible_day entered zone direction instant) 50_000 start

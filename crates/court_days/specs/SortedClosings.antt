@@ -7,17 +7,17 @@ use Rattle.std.specs.FinMap.{from_entries, len}
 abbrev pub day_at : List (ℕ × ℕ) → ℕ → ℕ
 day_at closings place = let closing = slice_index_or closings place (0, 0) in closing.0
 
--- the days rise, and each stands once
+-- the days ascend, and each is there once
 pub record IsSortedByDay (closings : List (ℕ × ℕ)) : Type 0 where
   pub ascending : (i j : ℕ) → i < j → j < length closings → day_at closings i < day_at closings j
   pub once : len (from_entries {R = nat_cmp} closings) ≡ length closings
 
--- the day stands at the place
+-- the day is at the place
 pub record IsAt (closings : List (ℕ × ℕ)) (day place : ℕ) : Type 0 where
   pub within : place < length closings
   pub here : day_at closings place ≡ day
 
--- the day does not stand, and would go to the place
+-- the day is not there, and would go to the place
 pub record IsGapFor (closings : List (ℕ × ℕ)) (day place : ℕ) : Type 0 where
   pub within : place ≤ length closings
   pub before : (i : ℕ) → i < place → day_at closings i < day

@@ -49,9 +49,9 @@ pub enum DayKind {
     Closed,
 }
 
-/// Why a day or a span was not entered: the day is not one of 2000-01-01 to 2099-12-31, the minute at
-/// which the office closes is none of a day, or the span is empty or not within 1999-12-31T00:00Z to
-/// 2100-01-02T00:00Z; the calendar holds 4,000 rows already; or memory ran out.
+/// Why a day or a span was not entered. The day is not one of 2000-01-01 to 2099-12-31, the closing
+/// minute is not one of a day, or the span is empty or not within 1999-12-31T00:00Z to
+/// 2100-01-02T00:00Z. Or the calendar holds 4,000 rows already, or memory ran out.
 #[derive(Clone, Copy, PartialEq, Eq)]
 pub enum CalendarFault {
     OutOfRange,
@@ -59,9 +59,9 @@ pub enum CalendarFault {
     NoMemory,
 }
 
-/// What a court has entered: days of 2000-01-01 to 2099-12-31, each once under a kind, spans of time
-/// in which the clerk's office was closed, each once, and days on which it is scheduled to close
-/// earlier, each once. Together they are at most 4,000 rows.
+/// What a court has entered: days of 2000-01-01 to 2099-12-31, each once under a kind, and spans of
+/// time in which the clerk's office was closed, each once. Also days on which it is scheduled to
+/// close earlier, each once. Together they are at most 4,000 rows.
 #[derive(Drop)]
 pub struct Calendar {
     federal: DaySet,
@@ -149,7 +149,7 @@ impl Calendar {
         }
     }
 
-    /// How many rows stand, days, spans and short days: at most 4,000.
+    /// How many rows the calendar has, of days, spans and short days: at most 4,000.
     pub fn len(&self) -> usize
         ensures value { result ≡ rows_of self.now }
         ensures limits { IsWithinLimits self.now }
@@ -159,14 +159,14 @@ impl Calendar {
         days + self.spans.len() + self.short.len()
     }
 
-    /// Whether no row stands.
+    /// Whether the calendar has no rows.
     pub fn is_empty(&self) -> bool
         ensures { IsTrue result ↔ (rows_of self.now ≡ 0) }
     {
         self.len() == 0
     }
 
-    /// Whether the day stands under the kind.
+    /// Whether the day is entered under the kind.
     pub fn holds_day(&self, kind: DayKind, day: Day) -> bool
         ensures means { IsTrue result ↔ Holds self.now kind day }
         ensures limits { IsWithinLimits self.now }
@@ -179,16 +179,16 @@ impl Calendar {
         days.contains(day)
     }
 
-    /// Enters the day under the kind. `true`: it is new; `false`: it stood already, and nothing
+    /// Enters the day under the kind. `true`: it is new; `false`: it was there already, and nothing
     /// changed. After an error the calendar is as it was.
     pub fn add_day(&mut self, kind: DayKind, day: Day) -> Result<bool, CalendarFault>
-        // The faults, in the order in which they are looked for.
+        // The faults, in the order in which they are checked.
         ensures out_of_range { (result ≡ Err CalendarFault.OutOfRange) ↔ ¬ (IsEnteredDay day) }
         ensures full { (result ≡ Err CalendarFault.Full)
             ↔ (IsEnteredDay day × ¬ (Holds self.old kind day) × (rows_of self.old ≡ most_rows)) }
         ensures err { OnErr result (self.new ≡ self.old) }
 
-        // What stands already stays, and what is new is entered.
+        // What is there already stays, and what is new is entered.
         ensures stood { (result ≡ Ok false) ↔ (IsEnteredDay day × Holds self.old kind day) }
         ensures kept { result ≡ Ok false → self.new ≡ self.old }
         ensures entered { result ≡ Ok true → self.new ≡ with_day self.old kind day }
@@ -214,7 +214,7 @@ impl Calendar {
         }
         Ok(true)
     }
-    /// Whether the span from `start` up to but not with `end` stands, both in seconds since
+    /// Whether the span from `start` up to but not with `end` is entered, both in seconds since
     /// 1970-01-01T00:00Z.
     pub fn holds_span(&self, start: i64, end: i64) -> bool
         ensures means { IsTrue result ↔ HoldsSpan self.now (seconds start) (seconds end) }
@@ -229,10 +229,10 @@ impl Calendar {
 
     /// Enters a span of time in which the clerk's office was closed, from `start` up to but not with
     /// `end`, both in seconds since 1970-01-01T00:00Z. It counts for periods of hours alone. `true`:
-    /// it is new; `false`: it stood already, and nothing changed. After an error the calendar is as
-    /// it was.
+    /// it is new; `false`: it was there already, and nothing changed. After an error the calendar is
+    /// as it was.
     pub fn add_span(&mut self, start: i64, end: i64) -> Result<bool, CalendarFault>
-        // The faults, in the order in which they are looked for.
+        // The faults, in the order in which they are checked.
         ensures out_of_range { (result ≡ Err CalendarFault.OutOfRange)
             ↔ ¬ (IsEnteredSpan (seconds start) (seconds end)) }
         ensures full { (result ≡ Err CalendarFault.Full)
@@ -240,7 +240,7 @@ impl Calendar {
             × ¬ (HoldsSpan self.old (seconds start) (seconds end)) × (rows_of self.old ≡ most_rows)) }
         ensures err { OnErr result (self.new ≡ self.old) }
 
-        // What stands already stays, and what is new is entered.
+        // What is there already stays, and what is new is entered.
         ensures stood { (result ≡ Ok false)
             ↔ (IsEnteredSpan (seconds start) (seconds end) × HoldsSpan self.old (seconds start) (seconds end)) }
         ensures kept { result ≡ Ok false → self.new ≡ self.old }
@@ -266,16 +266,16 @@ impl Calendar {
 
     /// Enters a day on which the clerk's office is scheduled to close at the minute of the day, after
     /// 00:00. Such a day counts for filings at the office alone, and moves no end. `true`: it is new;
-    /// `false`: it stood already, whatever its minute, and nothing changed. After an error the calendar
-    /// is as it was.
+    /// `false`: it was there already, whatever its minute, and nothing changed. After an error the
+    /// calendar is as it was.
     pub fn add_short(&mut self, day: Day, minute: u32) -> Result<bool, CalendarFault>
-        // The faults, in the order in which they are looked for.
+        // The faults, in the order in which they are checked.
         ensures out_of_range { (result ≡ Err CalendarFault.OutOfRange) ↔ ¬ (IsEnteredShort day minute) }
         ensures full { (result ≡ Err CalendarFault.Full)
             ↔ (IsEnteredShort day minute × ¬ (IsShort self.old day) × (rows_of self.old ≡ most_rows)) }
         ensures err { OnErr result (self.new ≡ self.old) }
 
-        // What stands already stays, and what is new is entered.
+        // What is there already stays, and what is new is entered.
         ensures stood { (result ≡ Ok false) ↔ (IsEnteredShort day minute × IsShort self.old day) }
         ensures kept { result ≡ Ok false → self.new ≡ self.old }
         ensures entered { OnOk result (self.new ≡ with_short self.old day minute) }

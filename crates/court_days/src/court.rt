@@ -15,7 +15,7 @@ use std::marker::Model;
 
 const MINUTES_OF_A_DAY: u32 = 1440;
 
-/// Why a court was not read: the first text spells no zone, the second no closing time, or memory ran
+/// Why a court was not read: the first text is no zone, the second is no closing time, or memory ran
 /// out.
 #[derive(Clone, Copy, PartialEq, Eq)]
 pub enum CourtFault {
@@ -60,7 +60,7 @@ impl Court {
     /// The court whose zone and closing time the texts spell: a zone as in `EST5EDT,M3.2.0,M11.1.0`,
     /// and a time of day from `00:00` to `23:59`.
     pub fn read(alloc: Global, zone: &str, close: &str) -> Result<Court, CourtFault>
-        // The faults, in the order in which they are looked for.
+        // The faults, in the order in which they are checked.
         ensures bad_zone { (result ≡ Err CourtFault.BadZone) ↔ (zone_at zone.now ≡ None) }
         ensures bad_close { (result ≡ Err CourtFault.BadClose)
             ↔ (IsSome (zone_at zone.now) × (time_of_day_at close.now ≡ None)) }

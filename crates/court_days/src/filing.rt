@@ -62,9 +62,9 @@ fn is_by_end_of(court: &Court, calendar: &Calendar, last: Day, at: i64, way: Way
     }
 }
 
-/// Whether a filing at the instant is in time. A last day ends at midnight in the court's zone for
-/// electronic filing, and for other filing at the minute at which the clerk's office is scheduled to
-/// close on that day, which is still in time (Fed. R. Civ. P. 6(a)(4)). The instant is one from
+/// Whether a filing at the instant is in time. For electronic filing a last day ends at midnight in
+/// the court's zone. For other filing it ends at the minute at which the clerk's office is scheduled
+/// to close on that day, which is still in time (Fed. R. Civ. P. 6(a)(4)). The instant is one from
 /// 1980-01-03T00:00Z to 3999-12-29T00:00Z.
 pub fn timely(court: &Court, calendar: &Calendar, end: End, at: i64, way: Way) -> bool
     requires { IsMoment at }

@@ -168,10 +168,10 @@ fn end_of_hours(
 }
 
 /// The end of a period of `hours` hours (at most 8,760) from the instant, both in seconds since
-/// 1970-01-01T00:00Z. The period begins at once and counts every hour; where it would end on a
-/// Saturday, a Sunday or a legal holiday, or where the clerk's office was not accessible throughout
-/// the last hour, it runs on to the same time on the next day that is none of these, with the office
-/// accessible in the hour before (Fed. R. Civ. P. 6(a)(2), 6(a)(3)(B), 6(a)(5)).
+/// 1970-01-01T00:00Z. The period begins at once and counts every hour. It may not end on a Saturday,
+/// a Sunday or a legal holiday, or where the clerk's office was not accessible throughout the last
+/// hour. Where it would, it runs on to the same time on the next day that is none of these, with the
+/// office accessible in the hour before (Fed. R. Civ. P. 6(a)(2), 6(a)(3)(B), 6(a)(5)).
 ///
 /// The local day at the instant is one of 2000-01-01 to 2099-12-31. Where the office was not
 /// accessible at the time found backward, the end is at the same time on the first such day after it.

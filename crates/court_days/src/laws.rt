@@ -1,4 +1,4 @@
-//! What the tests and the ends of specs/ say, with nothing to run.
+//! Laws of the tests and the ends in specs/. Nothing here runs.
 ghost use Rattle.std.specs.Prelude.{◌≡◌, ◌↔◌, ℕ, ◌+◌, ◌-◌, ◌*◌, ◌≤◌, max, true};
 ghost use Rattle.civil_time.specs.Civil.{IsDayNumber};
 ghost use Rattle.civil_time.specs.LocalTime.{local_day, IsInstant};
@@ -16,7 +16,7 @@ ghost use Rattle.court_days.specs.declared.calendar.Direction.{Direction};
 ghost use Rattle.court_days.specs.declared.calendar.DayKind.{DayKind};
 ghost use Rattle.court_days.specs.Limits.{last_local_day};
 
-/// Each test says what the fact beside it says.
+/// Each test returns true exactly where the fact beside it holds.
 pub fn tests_tell()
     ensures statutory { (day : ℕ) → day ≤ 1_000_000 → (is_statutory day ≡ true) ↔ IsStatutory day }
     ensures legal_holiday { (entered : Entered) (direction : Direction) (day : ℕ) → day ≤ 1_000_000
@@ -28,7 +28,7 @@ pub fn tests_tell()
         → (is_open_business_day entered direction day ≡ true) ↔ IsOpenBusinessDay entered direction day }
 {}
 
-/// A period of days has one end, the function's value, and it lies near.
+/// A period of days has one end, which the function returns, and it lies near.
 pub fn ends_are_found()
     ensures one { (entered : Entered) (direction : Direction) (trigger count day : ℕ)
         → IsWithinLimits entered → IsTrigger direction trigger → count ≤ 3650
@@ -48,8 +48,8 @@ pub fn ends_of_months_are_found()
         → end_of_months entered direction trigger months ≤ max (trigger + 31 * months) 47_482 + 7 }
 {}
 
-/// So has a period of hours; the test of an hour says whether the clerk's office was accessible; and
-/// the local days of the ends lie near.
+/// So has a period of hours. The test of an hour shows whether the clerk's office was accessible,
+/// and the local days of the ends lie near.
 pub fn ends_of_hours_are_found()
     ensures one { (entered : Entered) (zone : ZoneRules) (direction : Direction) (start hours end : ℕ)
         → IsWithinLimits entered → IsZone zone → IsEnteredDay (local_day zone start) → hours ≤ 8760

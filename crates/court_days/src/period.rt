@@ -119,9 +119,9 @@ fn months_away(direction: Direction, day: Day, months: u32) -> Day
 }
 
 /// The end of a period of `count` days (at most 3,650) from the trigger, the day of the event. The
-/// trigger itself does not count; where the last day is a Saturday, a Sunday or a legal holiday, the
-/// period runs on to the next day that is none, and to one on which the clerk's office is open (Fed.
-/// R. Civ. P. 6(a)(1), 6(a)(3), 6(a)(5)).
+/// trigger itself does not count. Where the last day is a Saturday, a Sunday or a legal holiday, the
+/// period runs on to the next day that is none. It also runs on to a day on which the clerk's office
+/// is open (Fed. R. Civ. P. 6(a)(1), 6(a)(3), 6(a)(5)).
 ///
 /// Forward, the trigger is a day up to 3900-12-31; backward, one of 2000-01-01 to 2099-12-31. Where
 /// the office was closed on the day found backward, the end is the first open business day after it.

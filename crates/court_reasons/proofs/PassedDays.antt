@@ -17,7 +17,7 @@ use Rattle.court_reasons.proofs.Naming.{names, names_back}
 use Rattle.court_reasons.proofs.TrueCauses.{day_causes-true, back_causes-true, hour_causes-true}
 
 module _ (c : Causes) where
-  -- each cause that is told, refuted
+  -- each cause, refuted
   no_cause : ¬ (IsTrue c.saturday) → ¬ (IsTrue c.sunday) → ¬ (IsTrue (is_some c.statutory)) → ¬ (IsTrue c.federal) → ¬ (IsTrue c.state) → ¬ (IsTrue c.closed) → ¬ (IsTrue c.inaccessible) → ¬ (HasCause c)
   no_cause sa su st fe sta cl ina h =
       elim (or_cases c.saturday _ h) [
@@ -72,7 +72,7 @@ module _ (c : Causes) where
         no_cause (λ e. is.0 (inl (are.saturday.0 e))) (λ e. is.0 (inr (are.sunday.0 e))) (λ e. is.1 (inl (are.statutory.0 e)))
         (λ e. is.1 (inr (inl (are.federal.0 e)))) (λ e. is.1 (inr (inr (are.state.0 e)))) closed inaccessible
 
-  -- causes are told just where no period ends on the day
+  -- there are causes just where no period ends on the day
   pub day_causes-tell : (entered : Entered) (direction : Direction) (day : ℕ) → AreDayCauses entered direction day c → HasCause c ↔ ¬ (IsOpenBusinessDay entered direction day)
   day_causes-tell entered direction day are = (
     λ h q. none_of entered direction day are.business q.0 (λ e. q.1 (are.closed.0 e)) (λ e. both_ways _ are.inaccessible e) h,

@@ -1,4 +1,4 @@
--- A holiday of statute is told of a day just where the day is one.
+-- A day has a holiday of statute just where it is one.
 use Rattle.std.proofs.Common.{◌≡◌, ℕ, ◌+◌, ◌-◌, ◌≤◌, ◌==◌, Bool, true, false, ◌||◌, ◌&&◌, if◌then◌else◌, inl, inr, Option, Some, None, is_some, IsTrue, ◌↔◌, refl, sym, ap, ◌∙◌, arith}
 use Rattle.std.proofs.lemmas.Bool.{true≢false, eqb-true, cases_Bool}
 use Rattle.civil_time.specs.Civil.{weekday, month_of, day_of_month}
@@ -62,7 +62,7 @@ same_chain : (f m b t n : Option Holiday) (w₁ w₄ w₅ : Bool) → fixed_or f
 same_chain (Some h) m b t n w₁ w₄ w₅ = refl
 same_chain None m b t n w₁ w₄ w₅ = refl
 
--- what is told of a day
+-- the holiday of a day, by its parts
 abbrev pub had_on : ℕ → Option StatutoryHoliday
 had_on day =
     by_weekday (fixed_on day) (monday_holiday (month_of day) (day_of_month day)) (fixed_on (day - 1)) (thursday_holiday (month_of day) (day_of_month day)) (fixed_on (day + 1))

@@ -30,7 +30,7 @@ use Rattle.court_reasons.specs.Causes.{business_causes, day_causes, hour_causes}
 use Rattle.court_reasons.specs.Steps.{days_passed, passed, passed_back, way_on, from_last, counted_to, way, three_more, hours_on, from_last_hour, hours_from, hours_away, extended, steps_of_start, steps_of_resumed, steps_of_act, steps_through, steps_of}
 use Rattle.court_reasons.specs.Told.{act_of, acts_of}
 
--- these steps tell of no act
+-- these steps show no act
 abbrev Silent : List Step → Type 0
 Silent steps = acts_of steps ≡ []
 
@@ -87,7 +87,7 @@ hours-silent entered zone Backward instant =
     both (passed_back (business_causes entered Backward) from last) (from_last_hour entered zone instant last) (back-silent (business_causes entered Backward) from 0 (from - last)) (last_hour-silent entered zone instant last)
 
 module _ (zone : ZoneRules) (entered : Entered) where
-  -- the steps of an act tell of it
+  -- the steps of an act show it
   start-told : (begins : Start) → acts_of (steps_of_start zone entered begins) ≡ act.Start begins ∷ []
   start-told (start.Days days) =
       let from = counted_to days.direction days.trigger days.period in
@@ -111,7 +111,7 @@ module _ (zone : ZoneRules) (entered : Entered) where
       flat_map-append act_of (steps_of_act zone entered before a) (steps_through zone entered (standing_after zone entered before a) acts)
       ∙ ap₂ (λ x y. x ++ y) own rest
 
-  -- an act that may come is told
+  -- an act that may come is shown
   told_from : (before : Standing) (acts : List Act) → is_some (phase_through (phase_of before) acts) ≡ true → acts_of (steps_through zone entered before acts) ≡ acts
   told_from before [] ok = refl
   told_from (Running time) (act.ExtendBy days ∷ acts) ok =

@@ -1,4 +1,4 @@
--- The causes that are told of a day are those that are true of it.
+-- The causes of a day are exactly those that are true of it.
 use Rattle.std.proofs.Common.{ℕ, ◌≤◌, IsTrue, ◌↔◌, refl, sym, arith}
 use Rattle.std.proofs.lemmas.Bool.{true≢false, eqb-true, eq-eqb}
 use Rattle.civil_time.specs.Civil.{weekday}

@@ -1,4 +1,4 @@
--- The holiday of statute that is told of a day is the one that it is.
+-- The function returns the holiday of statute that the day is.
 use Rattle.std.proofs.Common.{◌≡◌, ℕ, ◌+◌, ◌-◌, ◌≤◌, ◌==◌, nat_le, ◌⊎◌, inl, inr, Bool, true, false, ◌&&◌, if◌then◌else◌, Option, Some, None, is_some, ◌↔◌, refl, sym, ap, ◌∙◌, subst, arith}
 use Rattle.std.proofs.lemmas.Bool.{true≢false, eqb-true, eq-eqb, and_parts, cases_Bool}
 use Rattle.std.proofs.lemmas.Option.{same_Some, none-some}
@@ -199,7 +199,7 @@ told None m b t (Some h) false false true s is = inr (h, same_Some _ _ is, inl (
 told None m b t None false false true s is = absurd (none-some _ is)
 told None m b t n false false false s is = absurd (none-some _ is)
 
--- and what the parts have is told, where no two parts have one
+-- and the function returns what the parts have, where no two parts have one
 record Apart (f m b t n : Option Holiday) (w₁ w₄ w₅ : Bool) : Type 0 where
   monday : (h : Holiday) → m ≡ Some h → f ≡ None
   thursday : (h : Holiday) → t ≡ Some h → f ≡ None

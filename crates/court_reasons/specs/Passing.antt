@@ -43,7 +43,7 @@ pub record AreHourCauses (entered : Entered) (zone : ZoneRules) (direction : Dir
   pub closed : causes.closed ≡ false
   pub inaccessible : IsTrue causes.inaccessible ↔ ¬ (IsAccessible entered zone (same_time_on zone instant day))
 
--- whether any cause is told
+-- whether there is any cause
 abbrev pub has_cause : Causes → Bool
 has_cause causes =
     causes.saturday || (causes.sunday || (is_some causes.statutory

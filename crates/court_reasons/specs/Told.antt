@@ -1,4 +1,4 @@
--- The acts that steps tell of.
+-- The acts that steps show.
 use Rattle.std.specs.Prelude.{List, [], ◌∷◌}
 use Rattle.std.specs.List.{flat_map}
 use Rattle.court_rules.specs.declared.act.Act.{Act}

@@ -1,4 +1,4 @@
-//! What the steps say in the terms of the rules, with nothing to run.
+//! Laws of the steps, in the terms of the rules. Nothing here runs.
 ghost use Rattle.std.specs.Prelude.{◌≡◌, ◌≤◌, ◌↔◌, ℕ, Bool, List, [], ◌∷◌, ◌++◌};
 ghost use Rattle.civil_time.specs.LocalTime.{IsInstant};
 ghost use Rattle.civil_time.specs.Zone.{ZoneRules, IsZone};
@@ -23,7 +23,7 @@ ghost use Rattle.court_reasons.specs.declared.step.Step.{Step};
 
 use court_rules::Standing;
 
-/// The steps end in the standing that `due` gives.
+/// The steps end in the standing that `due` returns.
 pub fn steps_end_in_the_standing()
     ensures { (zone : ZoneRules) (entered : Entered) (acts : List Act)
         → (front : List Step) × (steps_of zone entered acts ≡ front ++ Step.Stands (standing zone entered acts) ∷ []) }
@@ -86,8 +86,8 @@ pub fn causes_tell_of_ends()
         → HasCause causes ↔ ¬ (IsAccessibleDay entered zone direction instant day) }
 {}
 
-/// The days named as passed over are those from one up to the first on which the period may end, or
-/// back to the last business day, in order, each with its causes, of which there is at least one.
+/// The days named as passed over are those from one up to the first on which the period may end, or back
+/// to the last business day. They are in order, each with its causes, of which there is at least one.
 pub fn days_are_named()
     ensures on { (entered : Entered) (direction : Direction) (from end : ℕ) → end ≤ 1_000_000
         → IsFirstFrom (IsOpenBusinessDay entered direction) from end

@@ -137,10 +137,10 @@ fn steps_of_acts(
 }
 
 /// The steps by which the standing of a deadline is found: each act, the day or moment to which its
-/// period is counted, each day passed over with every cause, where the period ends, and at last
-/// where the deadline stands, as `due` gives it (Fed. R. Civ. P. 6(a), 6(b), 6(d), 12(a)(4)).
+/// period is counted, and each day passed over with every cause. Then where the period ends, and at
+/// last where the deadline stands, as `due` returns it (Fed. R. Civ. P. 6(a), 6(b), 6(d), 12(a)(4)).
 ///
-/// The acts are as in `due`. It fails where no memory is left for a step.
+/// The acts are as in `due`. It fails where memory runs out.
 pub fn reasons(
     alloc: Global,
     court: &Court,
@@ -152,8 +152,7 @@ pub fn reasons(
     ensures acts { IfOk result (λ steps. acts_of steps ≡ acts.now) }
     ensures means { IfOk result (λ steps. Explains (zone_of court.now) calendar.now Standing.Vacated acts.now steps) }
 {
-    // Its contract says that all that stands in a calendar is within its limits, so that each way
-    // ends.
+    // Its contract says that all rows of a calendar are within its limits, so that each way ends.
     let _rows = calendar.len();
     steps_of_acts(alloc, court, calendar, acts)
 }

@@ -84,8 +84,8 @@ impl Reasons {
     pub(crate) fn push(&mut self, step: Step) -> Result<(), AllocError>
         ensures { OnOk result (self.new ≡ self.old ++ step ∷ []) }
     {
-        // What stays as it was over the `?` is proved by the types of a step's parts, and those of
-        // other crates are known where they are named.
+        // The prover needs the types of a step's parts to show what stays as it was over the `?`,
+        // and knows those of other crates only where they are named.
         let _parts: Parts = (None, None, None, None, None, None);
         self.steps.push(step)?;
         Ok(())

@@ -20,7 +20,7 @@ standing_through-append zone entered before [] more = refl
 standing_through-append zone entered before (act ∷ acts) more =
     standing_through-append zone entered (standing_after zone entered before act) acts more
 
--- a phase and a standing agree before an act: the deadline is not made yet, or both say the same
+-- a phase and a standing agree before an act: the deadline is not made yet, or both are the same
 abbrev Agree : Phase → Standing → Type 0
 Agree p before = (p ≡ phase.Unmade) ⊎ (p ≡ phase_of before)
 
@@ -62,7 +62,7 @@ tells_from zone entered p before (act ∷ acts) last agree is =
     through None e rest = absurd (none-some last (rw e at is))
     through (Some next) e rest = rest next e (rw e at is)
 
--- where lawful acts lead, the table and the standing say the same
+-- after lawful acts the table and the standing agree
 pub tells : (zone : ZoneRules) (entered : Entered) (act : Act) (acts : List Act) (last : Phase) → phase_through phase.Unmade (act ∷ acts) ≡ Some last → last ≡ phase_of (standing zone entered (act ∷ acts))
 tells zone entered act acts last is = through (phase_after phase.Unmade act) refl
   where

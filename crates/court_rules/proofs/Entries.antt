@@ -4,7 +4,7 @@ use Rattle.std.specs.List.{find, slice_get}
 use Rattle.std.specs.Option.{option_map}
 
 module _ {A B C : Type 0} (f : A → C) (g : B → C) where
-  -- what stands at a place
+  -- the entries at a place
   pub entry_at : (xs : List A) (ys : List B) (k : ℕ) (y : B) (d : A) → map f xs ≡ map g ys → slice_get ys k ≡ Some y
       → (k < length xs) × (f (get_or xs k d) ≡ g y)
   entry_at [] [] k y d e s = absurd (cc)

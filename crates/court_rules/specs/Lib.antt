@@ -5,6 +5,6 @@ pub mod Methods
 pub mod Rows
 pub mod Rules
 pub mod Standings
--- of the crate below, what contracts above speak of
+-- what contracts of crates above use of the crate below
 pub use Rattle.court_days.specs.declared.calendar
 pub use Rattle.court_days.specs.declared.filing

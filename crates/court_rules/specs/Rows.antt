@@ -3,7 +3,7 @@ use Rattle.court_rules.specs.declared.rule.Rule.{Rule}
 use Rattle.court_rules.specs.declared.table.RuleRow.{RuleRow}
 use Rattle.court_rules.specs.Rules.{Line}
 
--- what a row says: its rule and the line of it
+-- the content of a row: its rule and the rule's line
 abbrev pub entry_in : RuleRow → Rule × Line
 entry_in row = (
   row.rule,

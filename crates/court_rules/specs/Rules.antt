@@ -10,7 +10,7 @@ use Rattle.court_rules.specs.declared.table.Period.{Period}
 use Rattle.court_rules.specs.declared.table.Period.TheVariants.{Days, Months}
 use Rattle.court_rules.specs.Methods.{gives_additional_time}
 
--- what the table says of a rule
+-- the line of a rule in the table
 pub record Line : Type 0 where
   pub name : List ℕ
   pub period : Option Period

@@ -1,4 +1,4 @@
-//! What the names and the chains of acts of specs/ say, with nothing to run.
+//! Laws of the names and the chains of acts in specs/. Nothing here runs.
 ghost use Rattle.std.specs.Prelude.{◌≡◌, ◌<◌, List, [], ◌∷◌, ◌++◌, length, ℕ, true, Some, None};
 ghost use Rattle.court_rules.specs.Methods.{method_name, method_named};
 ghost use Rattle.court_days.specs.Zone.{ZoneRules};
@@ -41,8 +41,8 @@ pub fn deadline_rules_read_back()
         → deadline_rule_named text ≡ Some rule → IsDeadlineRule rule }
 {}
 
-/// Where a deadline stands is a matter of its last act and of where it stood before it; the table of
-/// lawful orders tells where; and an act that may come there makes of lawful acts lawful acts.
+/// Where a deadline stands depends on its last act and on where it stood before; the table of lawful
+/// orders gives the phase. Lawful acts stay lawful with an act that may come next.
 pub fn acts_go_on()
     ensures step { (zone : ZoneRules) (entered : Entered) (acts : List Act) (act : Act)
         → standing zone entered (acts ++ act ∷ []) ≡ standing_after zone entered (standing zone entered acts) act }

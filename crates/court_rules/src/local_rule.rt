@@ -8,8 +8,8 @@ use crate::text::Text;
 use court_days::Direction;
 use std::alloc::AllocError;
 
-/// A rule of the court's own that sets a time in days from a day (Fed. R. Civ. P. 83(a)). It is the
-/// time of no responsive pleading.
+/// A rule of the court's own that sets a time in days from a day (Fed. R. Civ. P. 83(a)). It is not
+/// the time of a responsive pleading.
 #[derive(Clone, PartialEq, Drop)]
 pub struct LocalRule {
     pub name: Text,

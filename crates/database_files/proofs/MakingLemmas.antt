@@ -1,4 +1,4 @@
--- What the making of a database leaves on its way. The kit's own lemma speaks of pages of 4,096 bytes.
+-- What the making of a database leaves on its way. The kit's own lemma is about pages of 4,096 bytes.
 use Rattle.std.proofs.Common.{◌≡◌, ◌⊎◌, ◌∙◌, ◌≤◌, ℕ, [], true, Result, Ok, Err, IfErr, IfOk, refl, sym, subst, inl, inr, arith}
 use Rattle.std.proofs.Math.Logic.{∥∥₁_map}
 use Rattle.sqlite_disk.specs.declared.Disk.{Ghosts}
@@ -37,7 +37,7 @@ pub err_both : {T E : Type 0} (A B P : E → Type 0) (r : Result T E) → ((e : 
 err_both A B P (Ok x) then a b = a
 err_both A B P (Err e) then a b = then e a b
 
--- files that hold a database are not taken for files that hold none
+-- files that hold a database do not count as files that hold none
 pub holds_some : (image : Image) (db : Trees) → HoldsDatabase image db → ¬ HoldsNone image
 holds_some image db held =
     let few : reserved held.0 ≤ 8 = grind arith in
@@ -67,7 +67,7 @@ under_way size image valid (inr made) =
       | inr fresh ↦ ∥∥₁_map fresh (λ it. empty_database size image made.0 valid made.1 it.0)
     ])
 
--- what is found in files that were looked at is found in them as they were
+-- what is found in files that were read was in them before
 module _ {D : Type 0} {g : Ghosts D} (files seen : Files D) (log : OnlyReads g files.log seen.log) (db : OnlyReads g files.db seen.db) (c : Held (FileStore D g)) where
   pub finds_none : (AreClean g seen.log seen.db → HoldsNone (image_of g files)) → IsMadeIn seen c → Finds files c
   finds_none none made =

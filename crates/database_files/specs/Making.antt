@@ -40,7 +40,7 @@ module _ {D : Type 0} {g : Ghosts D} where
     pub honest : AreClean g files.log files.db
     pub nothing : IsEmpty (file_state c).committed.trees
 
-  -- what is left where none was made: the next open makes it in what a power failure leaves, or finds it empty
+  -- what remains if none was made: the next open makes it in what a power failure leaves, or finds it empty
   abbrev pub LeavesUnderWay : Files D → Leftover D g → Type 0
   LeavesUnderWay files (left.Files now) = (image : Image) → outcomes g now.log now.db image → outcomes g files.log files.db image
   LeavesUnderWay files (left.Unopened now) = (image : Image) → (state_of now).may_leave image → IsUnderWay g files image
@@ -49,8 +49,8 @@ module _ {D : Type 0} {g : Ghosts D} where
   abbrev pub LeavesNew : Files D → Leftover D g → Type 0
   LeavesNew files rest = HoldsNone (image_of g files) × LeavesUnderWay files rest
 
-  -- The files were not opened. They were looked at, `seen`; then the open failed for a cause, which names what they met, and left them so
-  -- that the next one takes them as this one did.
+  -- The files were not opened. They were read, `seen`; then the open failed for a cause, which names what failed, and left them so that
+  -- the next open finds them as this one did.
   pub record IsNotOpened (files : Files D) (failed : Error × Leftover D g) : Type 0 where
     pub seen : Files D
     pub log : OnlyReads g files.log seen.log

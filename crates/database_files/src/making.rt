@@ -33,8 +33,8 @@ pub(crate) fn page_size() -> PageSize
     PageSize::new(NEW_PAGE).unwrap()
 }
 
-/// Whether the files hold no database, or what a stop left of making one with such pages. Nothing is
-/// written. Where a read fails the open meets and names that.
+/// Whether the files hold no database, or what a stop left of making one with such pages. Nothing is written.
+/// Where a read fails, the open meets that failure and names it.
 pub(crate) fn is_blank<D: Disk>(alloc: Global, files: &mut Files<D>, size: PageSize) -> bool
     requires log { IsTrue (D.Disk.is_usable files.old.log) }
     requires db { IsTrue (D.Disk.is_usable files.old.db) }
@@ -72,7 +72,7 @@ fn open_error(error: OpenError) -> Error
     })
 }
 
-/// Each failure of the disk as one kind.
+/// Returns each failure of the disk as one kind of error.
 fn blurred(error: Error) -> Error
     ensures { result ≡ blurred error }
 {
@@ -84,7 +84,7 @@ fn blurred(error: Error) -> Error
     }
 }
 
-/// That kind by its name.
+/// Replaces that one kind by the name of the failure.
 fn renamed(kind: StoreError, error: Error) -> Error
     ensures { result ≡ renamed kind error }
 {
@@ -143,7 +143,7 @@ fn store_in<D: Disk>(files: Unopened<D>) -> Result<FileStore<D>, (Error, Unopene
     }
 }
 
-/// The same, and connects to it.
+/// Does the same, and connects to the database.
 fn connect<D: Disk + Drop>(
     alloc: Global,
     files: Files<D>,
@@ -174,8 +174,8 @@ fn connect<D: Disk + Drop>(
     }
 }
 
-/// Makes an empty database in files that hold none, with pages of this size. A failure of the disk is named
-/// by what the files met.
+/// Makes an empty database in files that hold none, with pages of this size. Names a failure of the disk by
+/// what the files met.
 pub(crate) fn make<D: Disk + Drop>(
     alloc: Global,
     files: Files<D>,

@@ -61,7 +61,7 @@ read_either bytes rs a b fields true at r took flexible =
     (found, sym found.expected ∙ (r.5 refl at.strict).1)
 read_either bytes rs a b fields false at r took flexible = read_none bytes rs a b fields at r
 
--- ---- a record that is refused stands there
+-- ---- a record that is refused is one of the text
 
 next_some : (o : Option Read) (fields : Record) (s : State) (rest : List ℕ) → NextIs o true fields s rest → (p : Read) × (o ≡ Some p) × (fields ≡ p.0)
 next_some None fields s rest h = cc h

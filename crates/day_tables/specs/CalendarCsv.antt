@@ -1,8 +1,8 @@
--- A table of days to be entered in the court's calendar, as comma-separated values by the crate csv, which takes away a byte
--- order mark that leads the text. The first record is `kind,day,name`. Each further one, at most 1,000, has three fields: the
--- kind `federal`, `state` or `closed`; a real day as YYYY-MM-DD; and a name in UTF-8. The first record that is otherwise
--- decides what is told: the first of all, and none, are bad row 0; one with another number of fields is bad csv; and the
--- n-th after the first is bad row n, also where it is the 1,001st.
+-- A table of days to be entered in the court's calendar, as comma-separated values by the crate csv, which drops a byte order
+-- mark at the beginning. The first record is `kind,day,name`. Each further one, at most 1,000, has three fields: the kind
+-- `federal`, `state` or `closed`; a real day as YYYY-MM-DD; and a name in UTF-8. The first bad record decides the fault. A
+-- bad first record, or none, is bad row 0; another number of fields is bad csv; and the n-th record after the first is bad
+-- row n, also where it is the 1,001st.
 use Rattle.std.specs.Prelude.{◌≡◌, ◌+◌, ◌==◌, ◌&&◌, ℕ, List, [], ◌∷◌, ◌++◌, length, codes, decimal, Bool, false, Option, Some, None, option_map, option_and_then, Result, Ok, Err, nat_lt, if◌then◌else◌}
 use Rattle.std.specs.Str.{bytes_eq, is_utf8}
 use Rattle.csv.specs.Records.{field_at}
@@ -20,7 +20,7 @@ field_is text (Some f) = bytes_eq f text
 abbrev pub is_header : Record → Bool
 is_header r = (length r == 3) && (field_is (codes "kind") (field_at r 0) && (field_is (codes "day") (field_at r 1) && field_is (codes "name") (field_at r 2)))
 
--- a text, where the bytes are one
+-- the bytes as a text, if they are UTF-8
 abbrev pub text_of : List ℕ → Option (List ℕ)
 text_of bytes = if is_utf8 bytes then Some bytes else None
 
@@ -56,7 +56,7 @@ csv_rows (r ∷ rs) = if is_header r then rows_from 1 rs else Err (BadRow 0)
 abbrev pub IsTable : List ℕ → List NewDay → Type 0
 IsTable bytes days = (rs : List Record) × AreAll bytes rs × (csv_rows rs ≡ Ok days)
 
--- the text is no table for this reason, which the records that it begins with already tell
+-- the text is no table for this reason, which the records at its beginning already show
 abbrev pub HasFault : List ℕ → CsvFault → Type 0
 HasFault bytes e = (rs : List Record) × StandsFirst bytes rs × (csv_rows rs ≡ Err e)
 
@@ -67,7 +67,7 @@ GivesRow (Err NoMemory) read = Unit {0}
 GivesRow (Err (BadRow n)) read = read ≡ Err (BadRow n)
 GivesRow (Err BadCsv) read = read ≡ Err BadCsv
 
--- what is told of it
+-- the text of a fault
 abbrev pub fault_text : CsvFault → List ℕ
 fault_text (BadRow n) = codes "bad row " ++ decimal n
 fault_text BadCsv = codes "bad csv"

@@ -24,12 +24,12 @@ abbrev pub StandsFirst : List ℕ → List Record → Type 0
 StandsFirst bytes [] = AreAll bytes []
 StandsFirst bytes (r ∷ rs) = BeginsWith bytes (r ∷ rs)
 
--- how many fields the reader wants the next record to have
+-- how many fields the reader expects in the next record
 abbrev pub expected_of : List Record → Option ℕ
 expected_of [] = None
 expected_of (r ∷ rs) = Some (length r)
 
--- the reader has given these records of the text
+-- the reader has returned these records of the text
 pub record IsAt (bytes : List ℕ) (rs : List Record) (reader : Reader (Bor (List ℕ))) : Type 0 where
   pub trim : reader_trim reader ≡ trim.None
   pub ready : Ready reader

@@ -15,8 +15,8 @@ use docket_command::{NewDay, Text, from_word};
 use std::alloc::Global;
 use std::str::from_utf8;
 
-/// Reads the next record, and answers whether there was one. A reader of bytes in memory has no fault
-/// of its own: what would be one is told as want of memory.
+/// Reads the next record, and returns whether there was one. A reader of bytes in memory never fails
+/// by itself: such a fault would be reported as out of memory.
 fn next_record(reader: &mut Reader<&[u8]>, row: &mut ByteRecord) -> Result<bool, CsvFault>
     ensures found { (bytes : List ℕ) (rs : List Record) → IsAt bytes rs reader.old → IfOk result
         (λ found. MatchBool found (IsAt bytes (rs ++ fields_of row.new ∷ []) reader.new
@@ -34,7 +34,7 @@ fn next_record(reader: &mut Reader<&[u8]>, row: &mut ByteRecord) -> Result<bool,
     }
 }
 
-/// The days of a table, or why the text is none.
+/// The days of a table, or why the text is no table.
 pub fn read_calendar_csv(alloc: Global, bytes: &[u8]) -> Result<Vec<NewDay>, CsvFault>
     ensures rows { IfOk result (λ v. IsTable bytes.now v.items) }
     ensures fault { IfErr result (λ e. e ≢ NoMemory → HasFault bytes.now e) }

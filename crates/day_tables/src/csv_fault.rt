@@ -5,8 +5,7 @@ ghost use Rattle.day_tables.specs.declared.csv_fault.CsvFault.TheVariants.{NoMem
 use std::alloc::{AllocError, AllocFailed};
 use std::fmt;
 
-/// Why a text is no table of days: what is true of its first record that is not as it should be, or
-/// want of memory.
+/// Why a text is no table of days: what is wrong with its first bad record, or that memory ran out.
 #[derive(Clone, Copy)]
 pub enum CsvFault {
     /// It is the first of all and not `kind,day,name`, or there is none (0); or the one of this number

@@ -1,4 +1,4 @@
--- The rows of any docket, after a question, after the judging of its database and after a command.
+-- The rows of any docket, after a question, after a check of its database and after a command.
 use Rattle.std.proofs.Common.{◌≡◌, ◌∙◌, ◌⊎◌, inl, inr, ℕ, false, Ok, Err, Result, IsErrAnd, IfErr, IfOk, MatchResult, sym, ap, subst}
 use Rattle.std.specs.List.{Contains}
 use Rattle.std.proofs.lemmas.List.Elements.{Contains-push}
@@ -35,7 +35,7 @@ pub repeat_has : (rows : Rows) (c : Command) (v : View) (d : Decision) → Shows
 repeat_has rows c v (Repeat reply) shows same = shows reply same
 repeat_has rows c v (Changed changes) shows same = tt
 
--- what was read is not told where there is none
+-- an error has no value of which anything has to hold
 pub err_ok : {T E : Type 0} (res : Result T E) (P : T → Type 0) (Q : E → Type 0) → IsErrAnd res Q → IfOk res P
 err_ok (Ok x) P Q told = absurd told
 err_ok (Err e) P Q told = tt
@@ -72,7 +72,7 @@ module _ {S : Type 0} (g : Ghosts S) (conn : Held S) (rows : Rows) where
   err_preserves fault (Ok x) same left = absurd same
   err_preserves fault (Err f) same left = subst (PreservesAt g conn rows) (sym same) left
 
-  -- want of memory
+  -- out of memory
   pub short_preserves : {X : Type 0} (res : Result X Fault) → IsErrAnd res (λ f. f ≡ NoMemory) → HoldsRows g conn rows → Preserves g conn rows res
   short_preserves = err_preserves NoMemory
 
@@ -90,7 +90,7 @@ module _ {S : Type 0} (g : Ghosts S) (conn : Held S) (rows : Rows) where
     unwritten fault (Ok x) same left = absurd same
     unwritten fault (Err f) same left = unwritten_at f (subst (PreservesAt g conn rows) (sym same) left)
 
-    -- a write under way that did not end well
+    -- a write under way that failed
     pub written_or_not : (reply : Reply) (next : Rows) → IsNext court n rows c reply next → conn.in_transaction ≡ false → (fault : Fault) → FailsAs g conn rows next fault
         → WritesWhole g conn court n rows c (Err fault)
     written_or_not reply next is idle (Refused r) fails = absurd fails
@@ -115,13 +115,13 @@ module _ {S : Type 0} (g : Ghosts S) (conn : Held S) (rows : Rows) where
     answered_one (Ok (Err r)) holds = inl (lasting holds)
     answered_one (Err fault) it = one_at_most (Err fault) it
 
--- where a command has a reply its receipt stands
+-- if a command has a reply, its receipt stands
 module _ {S : Type 0} (g : Ghosts S) (d : Docket S) where
   pub whole_recorded : (court : CourtSettings) (n : ℕ) (rows : Rows) (c : Command) (reply : Reply) → WritesWhole g d.conn court n rows c (Ok reply) → IsRecorded g d c reply
   whole_recorded court n rows c reply (inl it) = (rows, it.0, it.1)
   whole_recorded court n rows c reply (inr it) = (it.0, it.2, λ _. next_has court n rows c reply it.0 it.1)
 
--- an error that is handed on
+-- an error that is passed on
 pub err_match : {T E : Type 0} (res : Result T E) (P : T → Type 0) (Q : E → Type 0) (e : E) → IsErrAnd res (λ f. f ≡ e) → Q e → MatchResult res P Q
 err_match (Ok x) P Q e same q = absurd same
 err_match (Err f) P Q e same q = subst Q (sym same) q

@@ -97,7 +97,7 @@ module _ {S : Type 0} (g : Ghosts S) (conn : Held S) where
       same db (inl a) = a
       same db (inr b) = b
 
--- what is decided by what the docket shows, with the docket that stands
+-- the decision by what the docket shows, with the docket that stands
 pub judged_by : {S : Type 0} (g : Ghosts S) (d : Docket S) (h : History) (c : Command) (r : Result Decision Fault) → Stands g d h → IfErr r IsNoFailure → (HasCleanDisk (state g d.conn) → Decides d.court h c r) → Judges g d h c r
 judged_by g d h c (Ok decision) stands own told = (stands, told)
 judged_by g d h c (Err (Refused r)) stands own told = (stands, told)
@@ -106,7 +106,7 @@ judged_by g d h c (Err Damaged) stands own told = told
 judged_by g d h c (Err StoreFailed) stands own told = absurd own
 judged_by g d h c (Err Closed) stands own told = absurd own
 
--- no failure of the database has no error of it, and no cause
+-- a fault that is no failure of the database needs no error of it, and no cause
 pub none_named : {X : Type 0} (failure : Option Error) (r : Result X Fault) → IfErr r IsNoFailure → IfErr r (IsNamed failure)
 none_named failure (Ok x) own = tt
 none_named failure (Err (Refused r)) own = tt

@@ -44,14 +44,14 @@ module _ {S : Type 0} (g : Ghosts S) where
   asks_failed conn court kept h answer Closed is keeps fails = absurd fails
   asks_failed conn court kept h answer Damaged is keeps fails = fails
 
-  -- a docket is closed where its database failed, and there alone
+  -- a docket is closed exactly if its database failed
   pub asks_kept : {X : Type 0} (conn : Held S) (court : CourtSettings) (kept : Option (List CalendarItem)) (h : History) (answer : X → Type 0) (by : Option Error) (result : Result X Fault) → (is_some by ≡ true → result ≡ Err StoreFailed)
       → Asks g (serving conn court kept) h answer result → Asks g (record { conn = conn; court = court; closed = is_some by; closed_by = by; calendar = kept }) h answer result
   asks_kept conn court kept h answer None result failed asks = asks
   asks_kept conn court kept h answer (Some e) result failed asks =
       subst (λ r. Asks g (record { conn = conn; court = court; closed = true; closed_by = Some e; calendar = kept }) h answer r) (sym (failed refl)) (subst (λ r. Asks g (serving conn court kept) h answer r) (failed refl) asks)
 
-  -- and so it is where a command was given
+  -- the same after a command
   pub applies_kept : (conn : Held S) (court : CourtSettings) (kept : Option (List CalendarItem)) (h : History) (c : Command) (by : Option Error) (result : Result Reply Fault) → (is_some by ≡ true → result ≡ Err StoreFailed)
       → Applies g (serving conn court kept) h c result → Applies g (record { conn = conn; court = court; closed = is_some by; closed_by = by; calendar = kept }) h c result
   applies_kept conn court kept h c None result failed applies = applies
@@ -71,7 +71,7 @@ module _ {S : Type 0} (g : Ghosts S) where
   asks_err d h P Q f (Ok y) same asks = absurd same
   asks_err d h P Q f (Err e) same asks = subst (λ (k : Fault). Asks g d h Q (Err k)) (sym same) (fault_of_other d h P Q f asks)
 
-  -- what was told, where it is sound; and else why it was not
+  -- the answer, if the docket is sound; and otherwise why there is none
   pub asks_told : {X : Type 0} (d : Docket S) (h : History) (Sound : Type 0) (P answer : X → Type 0) (result : Result X Fault) → Stands g d h
       → (HasCleanDisk (state g d.conn) → Sound) → (HasCleanDisk (state g d.conn) → (x : X) → P x → answer x) → MatchResult result P (IsNotTold Sound) → Asks g d h answer result
   asks_told d h Sound P answer (Ok x) stands sound tells told = (stands, λ clean. tells clean x told)
@@ -125,7 +125,7 @@ if_some : {X : Type 0} (b : Bool) (x y : X) → (if b then Some x else None) ≡
 if_some true x y e = ap (λ o. unwrap_or o y) (sym e)
 if_some false x y e = absurd (cc)
 
--- the deadlines of the case that are shown are those that are told
+-- the deadlines of the case that are shown are those of the answer
 pub lines_shown : (court : CourtSettings) (h : History) (k : ℕ) → option_map (lines_from court (calendar h) 1) (case_deadlines (rows_of court h) k) ≡ deadline_lines court h k
 lines_shown court h k = if_mapped (lines_from court (calendar h) 1) (nat_le 1 k && nat_le k (length (case_rows h))) _
 

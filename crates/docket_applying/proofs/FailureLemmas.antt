@@ -22,7 +22,7 @@ caused_still : (first old new : State) (e : Error) → old.faults ≤ new.faults
 caused_still first old new e counts (inl disk) = inl (disk.0, omega (arith, disk.1, counts))
 caused_still first old new e counts (inr other) = inr other
 
--- what a question that the tables did not answer comes to
+-- the fault of a question that the tables did not answer
 pub blamed_caused : (first old new : State) (f : ReadFault) (failure : Option Error) (fault : Fault) → old.faults ≤ new.faults
     → (fault ≡ StoreFailed → (e : Error) × (f ≡ Store e) × (failure ≡ Some e)) → IsCausedFault first old f → IsCausedBy first new failure fault
 blamed_caused first old new f failure (Refused r) counts blames cause = tt
@@ -54,7 +54,7 @@ pub err_named : {X : Type 0} (failure : Option Error) (fault : Fault) (result : 
 err_named failure fault (Ok x) same named = absurd same
 err_named failure fault (Err f) same named = subst (IsNamed failure) (sym same) named
 
--- what was not told for another reason than the database
+-- no answer, for another reason than the database
 not_told_caused : (old new : State) (failure : Option Error) (Sound : Type 0) (fault : Fault) → IsNotTold Sound fault → IsCausedBy old new failure fault
 not_told_caused old new failure Sound (Refused r) why = tt
 not_told_caused old new failure Sound NoMemory why = tt
@@ -137,7 +137,7 @@ writes_later c first old new failure (Err fault.StoreFailed) counts limit cause 
 writes_later c first old new failure (Err fault.Closed) counts limit cause = tt
 writes_later c first old new failure (Err fault.Damaged) counts limit cause = tt
 
--- what an error that was kept comes to
+-- the fault that a kept error becomes
 pub kept_caused : (c : Command) (old new : State) (failure : Option Error) (e : Error) (fault : Fault) → failure ≡ Some e → HasWriteCause c old new e → IsCausedWrite c old new failure fault
 kept_caused c old new failure e (fault.Refused r) kept cause = tt
 kept_caused c old new failure e fault.NoMemory kept cause = tt
@@ -149,7 +149,7 @@ kept_caused c old new failure e fault.Damaged kept cause = tt
 pub failed_write : {X : Type 0} (c : Command) (old new : State) (failure : Option Error) (result : Result X Fault) → result ≡ Err StoreFailed → IfErr result (IsCausedWrite c old new failure) → IsCausedWrite c old new failure StoreFailed
 failed_write c old new failure result failed cause = subst (λ r. IfErr r (IsCausedWrite c old new failure)) failed cause
 
--- what came after what came after
+-- later than a later state is later
 pub later_then : (first old new : State) → IsLater first old → IsLater old new → IsLater first new
 later_then first old new one next = (omega (arith, one.0, next.0), next.1 ∙ one.1)
 

@@ -1,4 +1,4 @@
--- What a question to an idle connection leaves that is put together of others.
+-- What a question to an idle connection leaves that consists of others.
 use Rattle.std.proofs.Common.{◌≡◌, false, sym, subst, IfErr, IsErrAnd, Option, Some, Result, Ok, Err}
 use Rattle.sqlite.specs.Held.{Held, state}
 use Rattle.sqlite.specs.State.{Survives}
@@ -28,7 +28,7 @@ found_idle idle one = record {
   cause = λ rows holds clean. tt;
 }
 
--- they gave none, and the fault was made of theirs
+-- they gave none, and the fault comes from theirs
 module _ {S : Type 0} {g : Ghosts S} {X Y : Type 0} {old mid new : Held S} {why : ReadFault} {failure : Option Error} {fault : Fault} (one : OnlyAsks g {X = X} old mid (Err why)) where
   pub unread_idle : new.in_transaction ≡ false → ((rows : Rows) → StaysAt g mid rows why → PreservesAt g new rows fault) → Survives (state g mid) (state g new) (λ _. ⊥) → IsNamed failure fault
       → (fault ≡ StoreFailed → (e : Error) × (why ≡ Store e) × (failure ≡ Some e)) → LeavesIdle g {X = Y} old new failure (Err fault)
@@ -71,7 +71,7 @@ idle_told {S} {g} {X} {Y} {old} {new} {early} {failure} {x} result named caused 
 pub idle_ok : {S : Type 0} {g : Ghosts S} {X Y : Type 0} {old new : Held S} {early failure : Option Error} {x : X} {y : Y} → LeavesIdle g old new early (Ok x) → LeavesIdle g old new failure (Ok y)
 idle_ok {S} {g} {X} {Y} {old} {new} {early} {failure} {x} {y} one = idle_told (Ok y) tt tt one
 
--- memory ran short after a question
+-- memory ran out after a question
 pub idle_short : {S : Type 0} {g : Ghosts S} {X Y : Type 0} {old new : Held S} {early failure : Option Error} {x : X} (result : Result Y Fault) → IsErrAnd result (λ other. other ≡ NoMemory) → LeavesIdle g old new early (Ok x) → LeavesIdle g old new failure result
 idle_short (Ok y) same one = absurd same
 idle_short {S} {g} {X} {Y} {old} {new} {early} {failure} {x} (Err other) same one =

@@ -27,7 +27,7 @@ pub none_out : (before after : Option (List ℕ)) (text : List ℕ) → Appends 
 none_out before after text nothing = record { out = []; lost = text; whole = refl; appends = nothing }
 
 module _ {S : Type 0} (g : Ghosts S) (h : History) (from to : ℕ) (front : List ℕ) (before after : Option (List ℕ)) where
-  -- a docket is closed where its database failed, and there alone
+  -- a docket is closed exactly if its database failed
   pub lists_kept : (conn : Held S) (court : CourtSettings) (kept : Option (List CalendarItem)) (by : Option Error) (result : Result ℕ ListingEnd) → (is_some by ≡ true → HasBroken result)
       → Lists g (serving conn court kept) h from to front before after result → Lists g (record { conn = conn; court = court; closed = is_some by; closed_by = by; calendar = kept }) h from to front before after result
   lists_kept conn court kept None result broken lists = lists

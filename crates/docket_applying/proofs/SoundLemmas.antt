@@ -26,7 +26,7 @@ use Rattle.docket_history.specs.declared.view.DeadlineView.{DeadlineView}
 use Rattle.docket_history.specs.declared.view.View.{View}
 use Rattle.docket_applying.specs.Sound.{is_entered_item, begins_in_time, are_acts, are_lawful, is_lawful, has_room, is_lawful_rule, IsSoundCase}
 
--- a test of each element that tells a property
+-- a test of each element that decides a property
 module _ {X : Type 0} (p : X → Bool) (P : X → Type 0) where
   pub all_told : ((x : X) → p x ≡ true → P x) → (xs : List X) → list_all p xs ≡ true → All P xs
   all_told tells [] e = All-nil P

@@ -9,7 +9,7 @@ use Rattle.docket_tables.specs.declared.fault.ReadFault.{ReadFault}
 use Rattle.docket_tables.specs.declared.fault.ReadFault.TheVariants.{Store, NoMemory, Damaged}
 use Rattle.docket_tables.proofs.ChangeCauses.{change_after}
 
--- what a fault comes to has the cause of the fault
+-- the error that a fault becomes has the cause of the fault
 pub error_caused : (old new : State) (fault : ReadFault) (result : Error) → ((e : Error) → fault ≡ Store e → result ≡ e) → (fault ≡ NoMemory → result ≡ SqliteFailure OutOfMemory)
     → IsChangeFault old new fault → HasChangeCause old new result
 error_caused old new (Store e) result store short cause = subst (HasChangeCause old new) (sym (store e refl)) cause

@@ -1,5 +1,5 @@
--- What a question and a command leave of any docket: of the rows that its connection holds, whatever they are. `adopt` takes all tables
--- that are sound, also such that no history leads to.
+-- What a question and a command leave of any docket: of the rows that its connection holds, whatever they are. `adopt` accepts all sound
+-- tables, even those that no history leads to.
 use Rattle.std.specs.Prelude.{◌≡◌, ◌⊎◌, ◌<◌, ◌^◌, ℕ, List, Result, Ok, Err}
 use Rattle.sqlite.specs.Store.{Ghosts}
 use Rattle.sqlite.specs.Held.{Held, state}
@@ -25,14 +25,14 @@ use Rattle.docket_applying.specs.declared.listing.CalendarEnd.TheVariants as cal
 use Rattle.docket_applying.specs.declared.listing.ListingEnd.{ListingEnd}
 use Rattle.docket_applying.specs.declared.listing.ListingEnd.TheVariants as listing_end
 
--- the rows that a command leads to where it is accepted with this reply: some changes are made, its receipt stands behind the others, and
--- the stored ends are brought up to date
+-- the rows after a command that is accepted with this reply: some changes are made, its receipt stands behind the others, and the stored
+-- ends are brought up to date
 pub record IsNext (court : CourtSettings) (next_row : ℕ) (rows : Rows) (c : Command) (reply : Reply) (next : Rows) : Type 0 where
   pub changes : List Change
   pub stored : List StoredEnd
   pub is : next ≡ with_stored stored (recorded court next_row c reply changes rows)
 
--- what is shown as kept under the command's key stands among the rows
+-- a receipt that the view shows under the command's key stands among the rows
 abbrev pub ShowsReceipt : Rows → Command → View → Type 0
 ShowsReceipt rows c v = (reply : Reply) → v.under_key ≡ Same reply → HasReceipt c reply rows
 
@@ -42,7 +42,7 @@ RepeatsReceipt rows c (Repeat reply) = HasReceipt c reply rows
 RepeatsReceipt rows c (Changed changes) = Unit {0}
 
 module _ {S : Type 0} (g : Ghosts S) where
-  -- where there is no answer the rows stay; where the database failed, a power failure leaves them, and the connection may be shut
+  -- without an answer the rows stay; if the database failed, a power failure leaves them, and the connection may be shut
   abbrev pub PreservesAt : Held S → Rows → Fault → Type 0
   PreservesAt conn rows StoreFailed = Lasts g conn rows
   PreservesAt conn rows _ = HoldsRows g conn rows
@@ -62,7 +62,7 @@ module _ {S : Type 0} (g : Ghosts S) where
   PreservesCalendar conn rows (Err (calendar_end.Store fault)) = PreservesAt conn rows fault
   PreservesCalendar conn rows _ = HoldsRows g conn rows
 
-  -- a command led to the next rows: the connection holds them, or where the database failed a power failure leaves them or those of before
+  -- a command led to the next rows: the connection holds them, or, if the database failed, a power failure leaves them or those before
   pub record WritesOne (conn : Held S) (court : CourtSettings) (next_row : ℕ) (rows : Rows) : Type 0 where
     pub command : Command
     pub reply : Reply
@@ -70,15 +70,15 @@ module _ {S : Type 0} (g : Ghosts S) where
     pub is : IsNext court next_row rows command reply next
     pub left : HoldsRows g conn next ⊎ LastsAsEither g conn rows next
 
-  -- whatever was asked of a docket whose connection held rows of a docket's tables: nothing was written, and the connection may be shut
-  -- where the database failed; or one command was, whole, with its receipt
+  -- any request to a docket whose connection held rows of a docket's tables wrote nothing, or one command, whole, with its receipt. If the
+  -- database failed, the connection may be shut
   abbrev pub WritesAtMostOne : Docket S → Docket S → Type 0
   WritesAtMostOne old new =
       (rows : Rows) (n : ℕ) (stored : List StoredEnd) → AreDocketRows old.court n stored rows → n < 2 ^ 62 → HoldsRows g old.conn rows
       → Lasts g new.conn rows ⊎ WritesOne new.conn new.court n rows
 
-  -- a command is written whole, with its receipt, or not at all: where it has a reply, its receipt stands among the rows that are held then;
-  -- without a reply the rows stay, and where the database failed a power failure leaves them or the next ones
+  -- a command is written whole, with its receipt, or not at all. With a reply, its receipt stands among the rows that are held then. Without
+  -- a reply the rows stay; if the database failed, a power failure leaves them or the next ones
   abbrev pub WritesWhole : Held S → CourtSettings → ℕ → Rows → Command → Result Reply Fault → Type 0
   WritesWhole conn court next_row rows c (Ok reply) =
       (HoldsRows g conn rows × (HasCleanDisk (state g conn) → HasReceipt c reply rows)) ⊎ ((next : Rows) × IsNext court next_row rows c reply next × HoldsRows g conn next)
@@ -86,7 +86,7 @@ module _ {S : Type 0} (g : Ghosts S) where
       Lasts g conn rows ⊎ ((next : Rows) × (reply : Reply) × IsNext court next_row rows c reply next × LastsAsEither g conn rows next)
   WritesWhole conn court next_row rows c (Err _) = HoldsRows g conn rows
 
-  -- the same, where a refusal is an answer
+  -- the same, with a refusal as an answer
   abbrev pub AnswersWhole : Held S → CourtSettings → ℕ → Rows → Command → Result (Result Reply Refusal) Fault → Type 0
   AnswersWhole conn court next_row rows c (Ok (Ok reply)) = WritesWhole conn court next_row rows c (Ok reply)
   AnswersWhole conn court next_row rows c (Ok (Err r)) = HoldsRows g conn rows

@@ -38,8 +38,8 @@ abbrev pub Keeps : Option (List CalendarItem) → History → Type 0
 Keeps None h = Unit {0}
 Keeps (Some items) h = items ≡ items_of (standing_rows h)
 
--- the decision is the answer to the command; where that is accepted the changes are those of its action, and lead with its receipt to the
--- tables with it, and with what is done about the stored ends to the ends with it
+-- the decision is the answer to the command. If it is accepted, the changes are those of its action. With its receipt they lead to the next
+-- tables, and with the update of the stored ends to the next ends
 abbrev pub IsDecided : CourtSettings → History → Command → Decision → Type 0
 IsDecided court h c decision =
     IsAnswer (Ok decision) (outcome court h c)
@@ -51,7 +51,7 @@ IsDecided court h c decision =
 abbrev pub IsAccepted : CourtSettings → History → Command → Changes → Type 0
 IsAccepted court h c changes = IsDecided court h c (Change changes)
 
--- what is done with a command by what the docket shows about it: a sound docket shows what a decision goes by
+-- the decision about a command, by the view that the docket gives: a sound docket gives all that a decision needs
 abbrev pub Decides : CourtSettings → History → Command → Result Decision Fault → Type 0
 Decides court h c (Ok decision) = IsDecided court h c decision
 Decides court h c (Err (Refused r)) = outcome court h c ≡ refused r
@@ -81,15 +81,15 @@ module _ {S : Type 0} (g : Ghosts S) where
   abbrev pub IsJudged : Held S → CourtSettings → History → Command → Changes → Type 0
   IsJudged conn court h c changes = HasCleanDisk (state g conn) → IsAccepted court h c changes
 
-  -- what an error of the database comes to, where the rows were these or, by a write under way, the next
+  -- the fault that an error of the database becomes, if the rows were these or, with a write under way, the next
   abbrev pub FailsAs : Held S → Rows → Rows → Fault → Type 0
   FailsAs conn rows next NoMemory = HoldsRows g conn rows
   FailsAs conn rows next StoreFailed = LastsAsEither g conn rows next
   FailsAs conn rows next Damaged = HasCleanDisk (state g conn) → ⊥
   FailsAs conn rows next _ = ⊥
 
-  -- what a command that got no reply leaves, and why it got none: a refusal and want of memory leave the docket as it was. Where the
-  -- database failed, a power failure leaves the docket without the command or with it, and the connection may be shut
+  -- what a command that got no reply leaves, and why it got none: a refusal and out of memory leave the docket as it was. If the database
+  -- failed, a power failure leaves the docket without the command or with it, and the connection may be shut
   abbrev pub Faults : Docket S → History → Command → Fault → Type 0
   Faults d h c (Refused r) = Stands d h × (HasCleanDisk (state g d.conn) → outcome d.court h c ≡ refused r)
   Faults d h c NoMemory = Stands d h
@@ -97,14 +97,14 @@ module _ {S : Type 0} (g : Ghosts S) where
   Faults d h c Damaged = HasCleanDisk (state g d.conn) → ⊥
   Faults d h c _ = ⊥
 
-  -- what a command leaves: where it is answered, the docket after it
+  -- what a command leaves: if it is answered, the docket after it
   abbrev pub Applies : Docket S → History → Command → Result Reply Fault → Type 0
   Applies d h c (Ok reply) =
       Stands d (after d.court h c)
       × (HasCleanDisk (state g d.conn) → (outcome d.court h c ≡ accepted reply) ⊎ (outcome d.court h c ≡ repeated reply))
   Applies d h c (Err fault) = Faults d h c fault
 
-  -- what looking at the docket gives
+  -- the result of viewing the docket
   abbrev pub Shows : Docket S → History → Command → Result View Fault → Type 0
   Shows d h c (Ok view) = Stands d h × (HasCleanDisk (state g d.conn) → view ≡ shown d.court h c)
   Shows d h c (Err fault) = Faults d h c fault
@@ -114,7 +114,7 @@ module _ {S : Type 0} (g : Ghosts S) where
   Judges d h c (Ok decision) = Stands d h × (HasCleanDisk (state g d.conn) → IsDecided d.court h c decision)
   Judges d h c (Err fault) = Faults d h c fault
 
-  -- what a question gives: the docket stays, and so does what a power failure may leave; where the database failed the connection may be shut
+  -- a question's result: the docket stays, and so does what a power failure may leave; if the database failed, the connection may be shut
   abbrev pub Asks : {X : Type 0} → Docket S → History → (X → Type 0) → Result X Fault → Type 0
   Asks d h answer (Ok x) = Stands d h × (HasCleanDisk (state g d.conn) → answer x)
   Asks d h answer (Err NoMemory) = Stands d h

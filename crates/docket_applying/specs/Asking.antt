@@ -11,14 +11,14 @@ use Rattle.docket_applying.specs.Causes.{IsCausedBy, IsNamed}
 use Rattle.docket_applying.specs.declared.fault.Fault.{Fault}
 
 module _ {S : Type 0} (g : Ghosts S) where
-  -- nothing is changed, of rows, whatever they are, and of the connection
+  -- nothing changes, neither the rows, whatever they are, nor the connection
   pub record LeavesIdle {X : Type 0} (old new : Held S) (failure : Option Error) (result : Result X Fault) : Type 0 where
     pub idle : new.in_transaction ≡ false
-    -- rows that it held it holds still, but where the database failed it may be shut
+    -- the connection still holds the rows that it held, but may be shut if the database failed
     pub stays : (rows : Rows) → HoldsRows g old rows → Preserves g new rows result
     -- every database that a power failure may leave was one before
     pub writes_nothing : Survives (state g old) (state g new) (λ _. ⊥)
-    -- where the database failed, its error is known
+    -- if the database failed, its error is known
     pub named : IfErr result (IsNamed failure)
-    -- and has a cause, where the connection held rows and the disk is clean
+    -- and has a cause, if the connection held rows and the disk is clean
     pub cause : (rows : Rows) → HoldsRows g old rows → HasCleanDisk (state g new) → IfErr result (IsCausedBy (state g old) (state g new) failure)

@@ -17,7 +17,7 @@ use Rattle.docket_applying.specs.declared.fault.Fault.TheVariants.{StoreFailed}
 use Rattle.docket_applying.specs.declared.listing.ListingEnd.{ListingEnd}
 use Rattle.docket_applying.specs.declared.listing.ListingEnd.TheVariants.{NotBegun, Broken, WriteFailed}
 
--- where the database failed, its error is known
+-- if the database failed, its error is known
 abbrev pub IsNamed : Option Error → Fault → Type 0
 IsNamed failure StoreFailed = IsSome failure
 IsNamed failure _ = Unit {0}
@@ -27,12 +27,12 @@ IsNamedEnd failure (Err (NotBegun fault)) = IsNamed failure fault
 IsNamedEnd failure (Err (Broken fault)) = IsNamed failure fault
 IsNamedEnd failure _ = Unit {0}
 
--- where the database failed, its error is known and has a cause
+-- if the database failed, its error is known and has a cause
 abbrev pub IsCausedBy : State → State → Option Error → Fault → Type 0
 IsCausedBy old new failure StoreFailed = (e : Error) × (failure ≡ Some e) × IsCaused old new e
 IsCausedBy old new failure _ = Unit {0}
 
--- the same, where a calendar was not written whole
+-- the same for a calendar that was not written whole
 abbrev pub IsCausedEnd : State → State → Option Error → ListingEnd → Type 0
 IsCausedEnd old new failure (NotBegun fault) = IsCausedBy old new failure fault
 IsCausedEnd old new failure (Broken fault) = IsCausedBy old new failure fault
@@ -50,7 +50,7 @@ IsNotAccepted court h c = (reply : Reply) → outcome court h c ≡ accepted rep
 abbrev pub HasWriteCause : Command → State → State → Error → Type 0
 HasWriteCause c old new e = HasChangeCause old new e ⊎ (10 ^ 7 < length (canonical c))
 
--- where the database failed as a command was applied, its error is known and has a cause
+-- if the database failed while a command was applied, its error is known and has a cause
 abbrev pub IsCausedWrite : Command → State → State → Option Error → Fault → Type 0
 IsCausedWrite c old new failure StoreFailed = (e : Error) × (failure ≡ Some e) × HasWriteCause c old new e
 IsCausedWrite c old new failure _ = Unit {0}

@@ -1,4 +1,4 @@
--- A docket as its court and its commands make it, and when one in a database is that docket.
+-- A docket as its court and its commands define it, and when one in a database is that docket.
 use Rattle.std.specs.Prelude.{◌≡◌}
 use Rattle.sqlite.specs.Store.{Ghosts}
 use Rattle.court_days.specs.Court.{CourtSettings}
@@ -12,7 +12,7 @@ pub record CourtDocket : Type 0 where
   pub history : History
 
 module _ {S : Type 0} (g : Ghosts S) where
-  -- the docket in the database is this one: it is of this court, and stands for this history
+  -- the docket in the database is this one: it has this court and this history
   pub record StandsAs (stored : Docket S) (docket : CourtDocket) : Type 0 where
     pub court : stored.court ≡ docket.court
     pub stands : Stands g stored docket.history

@@ -21,7 +21,7 @@ abbrev pub HasBroken : Result ℕ ListingEnd → Type 0
 HasBroken result = (result ≡ Err (listing_end.NotBegun StoreFailed)) ⊎ (result ≡ Err (listing_end.Broken StoreFailed))
 
 module _ {S : Type 0} (g : Ghosts S) (d : Docket S) (h : History) (from to : ℕ) where
-  -- bytes and the calendar of the range behind them: all went out, with so many lines; or nothing did, or a front, which is not empty
+  -- some bytes, then the calendar of the range: all went out, with this many lines; or nothing did, or a front, which is not empty
   -- unless the writer failed. The docket is as after any question
   abbrev pub Lists : List ℕ → Option (List ℕ) → Option (List ℕ) → Result ℕ ListingEnd → Type 0
   Lists front before after (Ok lines) =

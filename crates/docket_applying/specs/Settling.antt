@@ -13,7 +13,7 @@ use Rattle.docket_tables.specs.Layouts.{Rows}
 use Rattle.docket_tables.specs.Stands.{Inside, Sees}
 use Rattle.docket_orderly.specs.Orderly.{IsOrderly}
 
--- the ends of case k are those, and the ends of other cases as they were
+-- the ends of case k as the calendar gives them, and the ends of other cases as they were
 abbrev pub settled_case : CourtSettings → Entered → Tables → ℕ → List StoredEnd → List StoredEnd
 settled_case court entered t k ends = filter (λ row. not (row.case == k)) ends ++ ends_in_case court entered t k
 
@@ -36,7 +36,7 @@ EachRunsWhereStored court t ends = (k : ℕ) → RunsOnlyWhereStored court t end
 abbrev pub Leads : {E : Type 0} → State → State → Rows → Rows → Result (Unit {0}) E → Type 0
 Leads old new rows next result = Inside old new rows next result (λ _. Unit {0})
 
--- where it saw these rows it fails only for such a cause
+-- a step that saw these rows fails only for such a cause
 abbrev pub FailsOnlyFor : {X E : Type 0} → (State → State → E → Type 0) → State → State → Rows → Result X E → Type 0
 FailsOnlyFor Cause old new rows result = Sees old rows → IfErr result (Cause old new)
 
@@ -44,8 +44,8 @@ FailsOnlyFor Cause old new rows result = Sees old rows → IfErr result (Cause o
 abbrev pub AreUntouched : CourtSettings → ℕ → Tables → Tables → Type 0
 AreUntouched court n t next = (j : ℕ) → (j < 1) ⊎ (n < j) → ends_of j (end_rows court t) ≡ ends_of j (end_rows court next)
 
--- what is asked of a write that leads from tables to the next ones, where the ends that may move are those of the first n cases,
--- and no time begins to run in a case where none ran
+-- what a write from tables to the next must meet: only ends of the first n cases move, and no time begins to run in a case where none
+-- ran
 pub record IsSettling (court : CourtSettings) (n : ℕ) (t next : Tables) : Type 0 where
   pub orderly : IsOrderly court t
   pub next_orderly : IsOrderly court next
@@ -57,17 +57,17 @@ abbrev pub IsUpdate : CourtSettings → EndUpdate → Tables → Tables → Type
 IsUpdate court (Moves moves) t next = IsPermutation (all_changed_ends moves.items (end_rows court t)) (end_rows court next)
 IsUpdate court (Calendar cases) t next = IsSettling court cases t next
 
--- the stored ends after it, by the tables that then stand
+-- the stored ends after the update, by the tables that then stand
 abbrev pub updated_ends : CourtSettings → EndUpdate → Tables → List StoredEnd → List StoredEnd
 updated_ends court (Moves moves) t ends = all_changed_ends moves.items ends
 updated_ends court (Calendar cases) t ends = settled_cases court (calendar_in t) t cases ends
 
--- what it asks of the tables, and of the ends that are stored
+-- what the update requires of the tables and of the stored ends
 abbrev pub MayUpdate : CourtSettings → EndUpdate → Tables → List StoredEnd → Type 0
 MayUpdate court (Moves moves) t ends = Unit {0}
 MayUpdate court (Calendar cases) t ends = IsOrderly court t × EachIsStored ends × EachRunsWhereStored court t ends
 
--- what may be stored after it, whether or not a history leads to the rows: where it is moves, the ends so moved
+-- the ends that may be stored after the update, whether or not a history leads to the rows: moves leave the ends so moved
 abbrev pub MayLeave : EndUpdate → List StoredEnd → List StoredEnd → Type 0
 MayLeave (Moves moves) stored next = next ≡ all_changed_ends moves.items stored
 MayLeave (Calendar cases) stored next = Unit {0}

@@ -1,4 +1,4 @@
--- Why what a docket shows was not told.
+-- Why a question to a docket has no answer.
 use Rattle.std.specs.Prelude.{◌≡◌, ℕ, List}
 use Rattle.court_days.specs.Calendar.{Entered}
 use Rattle.court_days.specs.Court.{CourtSettings, zone_of}
@@ -14,7 +14,7 @@ pub record AreEndsBy (court : CourtSettings) (entered : Entered) (k : ℕ) (dead
   pub sound : IsSoundCase court deadlines
   pub same : rows ≡ end_rows_of (zone_of court) entered k deadlines
 
--- why it was not told: want of memory, or what is so of every history is not so
+-- why there is no answer: out of memory, or what holds of every history does not hold
 abbrev pub IsNotTold : Type 0 → Fault → Type 0
 IsNotTold Sound NoMemory = Unit {0}
 IsNotTold Sound Damaged = Sound → ⊥

@@ -1,4 +1,4 @@
--- What may be written of a command, in one transaction.
+-- What a command may write, in one transaction.
 use Rattle.std.specs.Prelude.{ℕ, List, MatchResult, Result}
 use Rattle.std.specs.List.{AllByRecursion}
 use Rattle.sqlite.specs.Held.{Held, state}
@@ -35,16 +35,16 @@ UpdatesEnds court c changes t = IsUpdate court changes.ends t (with_changes c ch
 abbrev pub recorded_with : CourtSettings → ℕ → Command → Changes → List StoredEnd → Rows → Rows
 recorded_with court next c changes ends rows = with_stored ends (rows_changed court next c changes rows)
 
--- this is so unless the disk was not honest
+-- this holds unless the disk was not honest
 abbrev pub IfClean : {S : Type 0} → Ghosts S → Held S → Type 0 → Type 0
 IfClean g conn P = HasCleanDisk (state g conn) → P
 
--- it was written; or it was not, and a power failure may leave either
+-- the rows were written; or they were not, and a power failure may leave either
 abbrev pub Writes : {S E : Type 0} → Ghosts S → Held S → Rows → Rows → Result (Unit {0}) E → Type 0
 Writes g conn rows next result = MatchResult result (λ _. HoldsRows g conn next) (λ _. LastsAsEither g conn rows next)
 
--- where the changes of ends are given, each that is added is of a deadline that stands and has none then; where they follow from the
--- calendar, nothing is asked of them
+-- if the changes of ends are given, each added end is of a deadline that stands and has none then; if they follow from the calendar,
+-- nothing is required
 abbrev pub MayAddEnds : EndUpdate → Tables → List StoredEnd → Type 0
 MayAddEnds (Moves moves) t ends = AddsOnce moves.items ends × AddsAmong (HasDeadline t) moves.items
 MayAddEnds (Calendar cases) t ends = Unit {0}

@@ -28,14 +28,14 @@ use docket_wire::command_text;
 use sqlite::{Alter, Connection, Error};
 use std::alloc::Global;
 
-/// Changes lie in memory, so there are far fewer of them than a row may have numbers.
+/// Changes are in memory, so there are far fewer of them than a row may have numbers.
 fn changes_fit(changes: &Changes)
     ensures { length changes.now.rows.items < 2 ^ 62 }
 {
     let _rows = changes.rows.as_slice();
 }
 
-/// What stays of the calendar that is kept, after an accepted command.
+/// Drops the kept calendar after an accepted command that changes it.
 fn drop_changed_calendar(kept: &mut Option<StandingCalendar>, action: &Action)
     ensures { (h : History) (c : Asked) → c.action ≡ action.now → Keeps kept.old h
         → Keeps kept.new h × Keeps kept.new (c ∷ h) }
@@ -82,8 +82,8 @@ fn write_accepted<S: Alter>(
     }
 }
 
-/// Applies a command to the docket of the court in the database, in one transaction. `kept` is the
-/// calendar that is kept beside the connection; where the database fails, `failure` has its error.
+/// Applies a command to the docket of the court in the database, in one transaction. `kept` is the calendar
+/// that is kept beside the connection; if the database fails, `failure` has its error.
 pub fn apply_to<S: Alter>(
     conn: &mut Connection<S>,
     alloc: Global,
@@ -102,10 +102,10 @@ pub fn apply_to<S: Alter>(
         → Applies S.Store (serving conn.new court.now kept.new) h command.now result }
     ensures later { (h : History) → Stands S.Store (serving conn.old court.now kept.old) h → HasCleanDisk (state S.Store conn.new)
         → IsLater (state S.Store conn.old) (state S.Store conn.new) }
-    // What nothing is written for fails only for a cause.
+    // A command for which nothing is written fails only for a cause.
     ensures spared { (h : History) → Stands S.Store (serving conn.old court.now kept.old) h → HasCleanDisk (state S.Store conn.new) → IsNotAccepted court.now h command.now
         → IfErr result (IsCausedBy (state S.Store conn.old) (state S.Store conn.new) failure.new) }
-    // And so does what is accepted, but where its text is very long.
+    // So does an accepted command, unless its text is very long.
     ensures cause { (h : History) → Stands S.Store (serving conn.old court.now kept.old) h → HasCleanDisk (state S.Store conn.new)
         → IfErr result (IsCausedWrite command.now (state S.Store conn.old) (state S.Store conn.new) failure.new) }
 {

@@ -1,4 +1,4 @@
-//! What the docket that the tables hold tells of a case.
+//! The deadlines of a case, by the tables of the docket.
 ghost use Rattle.std.specs.Prelude.{◌≡◌, List, Option, Some, false};
 ghost use Rattle.std.specs.Option.{option_map};
 ghost use Rattle.court_days.specs.Court.{CourtSettings, zone_of};
@@ -42,7 +42,7 @@ fn deadlines_shown<S: Alter>(
     }
 }
 
-/// The calendar that stands. What is kept of it is taken: the caller keeps it again.
+/// Returns the calendar that stands. It takes the kept one, and the caller keeps it again.
 pub(crate) fn calendar_taken<S: Alter>(
     conn: &mut Connection<S>,
     alloc: Global,
@@ -60,7 +60,7 @@ pub(crate) fn calendar_taken<S: Alter>(
     }
 }
 
-/// The ends that are stored of the case of a number.
+/// The ends that are stored for the case of a number.
 fn ends_shown<S: Alter>(
     conn: &mut Connection<S>,
     alloc: Global,
@@ -78,8 +78,8 @@ fn ends_shown<S: Alter>(
     }
 }
 
-/// The deadlines of a case, with where each stands by the ends that are stored, and when the clerk's
-/// office closes on its last day.
+/// The deadlines of a case, with where each stands by the stored ends, and when the clerk's office closes on
+/// its last day.
 fn lines_of_case<S: Alter>(
     conn: &mut Connection<S>,
     alloc: Global,
@@ -100,8 +100,8 @@ fn lines_of_case<S: Alter>(
     lines_told(alloc, court, entered, deadlines, stored.as_slice())
 }
 
-/// The deadlines of the case of a number, with where each stands by the ends that are stored. The
-/// calendar is kept in `kept`; where the database fails, `failure` has its error.
+/// Returns the deadlines of the case of a number, with where each stands by the stored ends. The calendar is
+/// kept in `kept`; if the database fails, `failure` has its error.
 pub fn lines_numbered<S: Alter>(
     conn: &mut Connection<S>,
     alloc: Global,

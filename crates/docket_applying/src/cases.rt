@@ -1,4 +1,4 @@
-//! What a docket's tables tell of a case.
+//! A case, by the tables of the docket.
 ghost use Rattle.std.specs.Prelude.{◌≡◌, Some};
 ghost use Rattle.docket_history.specs.Records.{case_at, record_of};
 ghost use Rattle.docket_tables.specs.Asking.{OnlyAsks};

@@ -18,8 +18,7 @@ use docket_history::{DueRow, StandingCalendar};
 use sqlite::{Alter, Connection, Error};
 use std::alloc::Global;
 
-/// The deadlines whose time runs to a day of a range, by a calendar that tells when the clerk's office
-/// closes.
+/// The deadlines whose time runs to a day of a range, by a calendar that has when the clerk's office closes.
 fn due_by<S: Alter>(
     conn: &mut Connection<S>,
     alloc: Global,
@@ -41,8 +40,8 @@ fn due_by<S: Alter>(
     }
 }
 
-/// The deadlines whose time runs to a day of a range, in the order of the calendar. What the court
-/// entered is kept in `kept`; where the database fails, `failure` has its error.
+/// Returns the deadlines whose time runs to a day of a range, in the order of the calendar. The court's
+/// calendar is kept in `kept`; if the database fails, `failure` has its error.
 pub fn due_days<S: Alter>(
     conn: &mut Connection<S>,
     alloc: Global,

@@ -54,8 +54,8 @@ fn is_sound_deadline(court: &Court, deadline: &DeadlineView) -> bool
     is_sound_case(court, slice::from_ref(deadline))
 }
 
-/// What decides where the deadline of a number, from 1, of a case stands. The calendar is kept in
-/// `kept`; where the database fails, `failure` has its error.
+/// Returns what decides where the deadline of a number, from 1, of a case stands. The calendar is kept in
+/// `kept`; if the database fails, `failure` has its error.
 pub fn grounds_of<S: Alter>(
     conn: &mut Connection<S>,
     alloc: Global,

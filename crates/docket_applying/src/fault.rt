@@ -68,7 +68,7 @@ impl fmt::Display for Fault {
     }
 }
 
-/// What an error of the database comes to. It is kept as the last failure.
+/// Returns the fault for an error of the database, and stores the error as the last failure.
 pub(crate) fn store_fault<S: Alter>(
     conn: &mut Connection<S>,
     error: Error,
@@ -89,7 +89,8 @@ pub(crate) fn store_fault<S: Alter>(
     }
 }
 
-/// What a question that the tables did not answer comes to. `failure` then has an error of the database.
+/// Returns the fault for a question that the tables did not answer. An error of the database is stored in
+/// `failure`.
 pub fn read_fault<S: Alter>(
     conn: &mut Connection<S>,
     fault: ReadFault,
@@ -117,7 +118,7 @@ fn is_store_failure<T>(answer: &Result<T, Fault>) -> bool
     matches!(answer, Err(Fault::StoreFailed))
 }
 
-/// The error that closes the docket: the last failure, where the database failed.
+/// The error that closes the docket: the last failure, if the database failed.
 pub fn closing_error<T>(answer: &Result<T, Fault>, failure: Option<Error>) -> Option<Error>
     requires { IfErr answer.now (IsNamed failure) }
     ensures fails { (is_some result ≡ true) ↔ (answer.now ≡ Err StoreFailed) }

@@ -21,7 +21,7 @@ pub(crate) fn items_of(alloc: Global, rows: &[CalendarRow]) -> Result<Vec<Calend
     Ok(items)
 }
 
-/// How many acts, by their deadlines, come up to the deadline.
+/// How many acts belong to deadlines up to this one.
 fn count_up_to(rows: &[ActRow], deadline: u32) -> usize
     ensures bound { result ≤ length rows.now }
     ensures cut { IsNonDecreasingBy (λ (row : OnDeadline). row.deadline) rows.now
@@ -43,7 +43,8 @@ fn acts_among(alloc: Global, rows: &[ActRow], deadline: u32) -> Result<Vec<Act>,
     Ok(found)
 }
 
-/// These deadlines of a case, each with its acts among those of the case, which stand by their deadlines.
+/// These deadlines of a case, each with its acts among those of the case, which are in the order of their
+/// deadlines.
 pub(crate) fn with_acts(
     alloc: Global,
     deadlines: &[DeadlineRow],

@@ -1,4 +1,4 @@
-//! What is done with a command, by the docket that the tables hold.
+//! Deciding a command, by the docket that the tables hold.
 ghost use Rattle.std.specs.Prelude.{◌≡◌, [], false, if◌then◌else◌, IfErr, IfOk, Some};
 ghost use Rattle.sqlite.specs.Held.{state};
 ghost use Rattle.sqlite.specs.State.{HasCleanDisk};
@@ -29,7 +29,7 @@ use sqlite::{Alter, Connection, Error};
 use std::alloc::Global;
 use std::mem;
 
-/// The calendar that the tables hold, which is tested and built once.
+/// Reads the calendar from the tables; it is tested and built once.
 fn read_calendar<S: Alter>(
     conn: &mut Connection<S>,
     alloc: Global,
@@ -45,7 +45,7 @@ fn read_calendar<S: Alter>(
     Ok(StandingCalendar::new(alloc, items)?)
 }
 
-/// The calendar: what is kept of it is taken, and else the tables are asked.
+/// Returns the calendar: takes the kept one, or reads the tables.
 pub(crate) fn take_calendar<S: Alter>(
     conn: &mut Connection<S>,
     alloc: Global,
@@ -62,7 +62,7 @@ pub(crate) fn take_calendar<S: Alter>(
     }
 }
 
-/// The calendar, where it is asked for. What is kept of it is taken.
+/// Returns the calendar, if it is needed. It takes the kept one.
 fn calendar_asked<S: Alter>(
     conn: &mut Connection<S>,
     alloc: Global,
@@ -80,7 +80,7 @@ fn calendar_asked<S: Alter>(
     take_calendar(conn, alloc, kept)
 }
 
-/// What the tables show about the command.
+/// Reads what the tables show about the command.
 fn shown<S: Alter>(
     conn: &mut Connection<S>,
     alloc: Global,
@@ -104,7 +104,7 @@ fn shown<S: Alter>(
     Ok(view)
 }
 
-/// What the docket shows about the command.
+/// Reads what the docket shows about the command.
 fn look<S: Alter>(
     conn: &mut Connection<S>,
     alloc: Global,
@@ -129,7 +129,7 @@ fn look<S: Alter>(
     }
 }
 
-/// Keeps the calendar of the view again, where it was asked for.
+/// Keeps the calendar of the view again, if it was needed.
 fn keep_asked(alloc: Global, kept: &mut Option<StandingCalendar>, view: &mut View, asked: bool)
     ensures { kept.new ≡ (if asked then Some view.old.calendar else kept.old) }
 {
@@ -138,8 +138,8 @@ fn keep_asked(alloc: Global, kept: &mut Option<StandingCalendar>, view: &mut Vie
     }
 }
 
-/// What is done with the command, by what the docket shows about it. The calendar of the view is kept again,
-/// where the action asked for it.
+/// Decides the command by what the docket shows about it. The calendar of the view is kept again, if the
+/// action needed it.
 fn decide_by(
     alloc: Global,
     court: &Court,
@@ -166,7 +166,7 @@ fn decide_by(
     }
 }
 
-/// What is done with the command. Nothing is written yet.
+/// Decides the command. It writes nothing yet.
 pub(crate) fn judge<S: Alter>(
     conn: &mut Connection<S>,
     alloc: Global,

@@ -1,15 +1,15 @@
 //! What a docket's tables answer, and all that a command changes in them, on a connection.
 //!
-//! A command is three steps. `view` shows a docket as the command asks of it, where `is_sound` tests
-//! whether a history can show that; it is decided; and `write` makes the changes of an accepted one, adds
-//! its receipt and updates the stored ends of deadlines in one transaction, all of it or nothing.
-//! `apply_to` does the three. `case_record`, `lines_numbered`, `due_days`, `grounds_of` and `list_days`
-//! answer what is asked of a case, of a deadline and of the calendar. The tables and their statements are
-//! those of `docket_tables`; who has the connection, and from when until when, is `docket_store`'s.
+//! A command is three steps. `view` shows a docket as the command needs it, where `is_sound` tests whether a
+//! history can show that. Then the command is decided. `write` makes the changes of an accepted one, adds its
+//! receipt and updates the stored ends of deadlines in one transaction, all of it or nothing. `apply_to` does
+//! the three. `case_record`, `lines_numbered`, `due_days`, `grounds_of` and `list_days` answer questions
+//! about a case, a deadline and the calendar. The tables and their statements are those of `docket_tables`;
+//! `docket_store` keeps the connection, from its opening to its end.
 //!
-//! Each takes with the connection what is kept beside it of the court calendar (`kept`: nothing, until it
-//! was read), and keeps there what it reads; an accepted command that changes the calendar empties it. Where
-//! the answer is `StoreFailed`, `failure` has the error of the database.
+//! Each takes with the connection the court calendar that is kept beside it (`kept`: nothing, until it was
+//! read), and keeps there what it reads. An accepted command that changes the calendar empties it. If the
+//! answer is `StoreFailed`, `failure` has the error of the database.
 #![tactic(auto)]
 
 mod applying;

@@ -26,20 +26,20 @@ use std::io::Write;
 /// Why a calendar, or another text that is written while the docket is read, was not written whole.
 #[derive(Clone, Copy)]
 pub enum CalendarEnd {
-    /// The docket gave no more of it. A front of the text went out.
+    /// The docket returned no more of it. A front of the text went out.
     Store(Fault),
-    /// A write failed, or took nothing. A front of the text went out.
+    /// A write failed, or wrote nothing. A front of the text went out.
     WriteFailed,
 }
 
 /// Why bytes and a calendar behind them were not written whole.
 #[derive(Clone, Copy)]
 pub enum ListingEnd {
-    /// The docket gave not even a first line. Nothing was written.
+    /// The docket returned not even a first line. Nothing was written.
     NotBegun(Fault),
-    /// The docket gave no more of it. A front of the whole went out.
+    /// The docket returned no more of it. A front of the whole went out.
     Broken(Fault),
-    /// A write failed, or took nothing. A front of the whole went out.
+    /// A write failed, or wrote nothing. A front of the whole went out.
     WriteFailed,
 }
 
@@ -53,7 +53,7 @@ fn is_broken_store(answer: &Result<u32, ListingEnd>) -> bool
     )
 }
 
-/// The error that closes the docket: the last failure, where the database failed.
+/// The error that closes the docket: the last failure, if the database failed.
 pub fn breaking_error(answer: &Result<u32, ListingEnd>, failure: Option<Error>) -> Option<Error>
     requires { IsNamedEnd failure answer.now }
     ensures fails { (is_some result ≡ true) ↔ HasBroken answer.now }
@@ -65,8 +65,8 @@ pub fn breaking_error(answer: &Result<u32, ListingEnd>, failure: Option<Error>) 
     None
 }
 
-/// Writes the bytes, and the calendar of the days from one to another behind them, by a calendar that
-/// tells when the clerk's office closes.
+/// Writes the bytes, and the calendar of the days from one to another behind them, by a calendar that has
+/// when the clerk's office closes.
 fn list_by<S: Alter, W: Write>(
     conn: &mut Connection<S>,
     alloc: Global,
@@ -97,8 +97,8 @@ fn list_by<S: Alter, W: Write>(
     }
 }
 
-/// Writes the bytes, and the calendar of the days from one to another behind them. What the court
-/// entered is kept in `kept`; where the database fails, `failure` has its error.
+/// Writes the bytes, and the calendar of the days from one to another behind them. The court's calendar is
+/// kept in `kept`; if the database fails, `failure` has its error.
 pub fn list_days<S: Alter, W: Write>(
     conn: &mut Connection<S>,
     alloc: Global,

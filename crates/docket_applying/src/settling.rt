@@ -51,7 +51,7 @@ fn views_of_case<S: Alter>(
     Ok(with_acts(alloc, rows.as_slice(), acts.as_slice())?)
 }
 
-/// The changes that lead from the ends that are stored of a case to those that its deadlines have.
+/// The changes that lead from the stored ends of a case to those that its deadlines have.
 fn changes_of_case(
     alloc: Global,
     court: &Court,
@@ -72,8 +72,8 @@ fn changes_of_case(
     Ok(due_changes(alloc, court, calendar, case, deadlines, stored)?)
 }
 
-/// Brings the ends of a case up to date. Where none is stored no time of it runs, and nothing else is
-/// asked.
+/// Brings the ends of a case up to date. If none is stored, no time of the case runs, and nothing else is
+/// read.
 fn settle_case<S: Alter>(
     tx: &mut Transaction<'_, S>,
     alloc: Global,
@@ -87,7 +87,7 @@ fn settle_case<S: Alter>(
         → Leads (state S.Store tx.old.conn.now) (state S.Store tx.new.conn.now) (rows_with court.now t ends) (rows_with court.now t (settled_case court.now calendar.now t case ends)) result }
     ensures any { (stored : List Ended) (rows : Rows) → (next : List Ended)
         × Leads (state S.Store tx.old.conn.now) (state S.Store tx.new.conn.now) (with_stored stored rows) (with_stored next rows) result }
-    // Of a docket whose tables are sound it fails only for a cause.
+    // For a docket whose tables are sound it fails only for a cause.
     ensures cause { HasCleanDisk (state S.Store tx.new.conn.now) → (t : Tables) (ends : List Ended) → IsOrderly court.now t → AreSound court.now t → AreStored case ends
         → FailsOnlyFor IsChangeFault (state S.Store tx.old.conn.now) (state S.Store tx.new.conn.now) (rows_with court.now t ends) result }
 {
@@ -179,7 +179,7 @@ fn settle_by_rows<S: Alter>(
     settle_cases(tx, alloc, court, &calendar, cases)
 }
 
-/// Does what is to be done about the stored ends.
+/// Makes the update of the stored ends.
 pub(crate) fn update_ends<S: Alter>(
     tx: &mut Transaction<'_, S>,
     alloc: Global,

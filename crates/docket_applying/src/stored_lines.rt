@@ -1,4 +1,4 @@
-//! The lines of a case's deadlines, by their acts and the ends that are stored of it.
+//! The lines of a case's deadlines, by their acts and the stored ends.
 ghost use Rattle.std.specs.Prelude.{◌≡◌, ◌≤◌, ℕ, length, IfOk, MatchResult};
 ghost use Rattle.std.specs.List.{All};
 ghost use Rattle.court_days.specs.Court.{zone_of};
@@ -15,7 +15,7 @@ use docket_decisions::{EndTime, StoredEnd, after_first, first_end};
 use docket_history::{DeadlineLine, DeadlineView, line_of};
 use std::alloc::{AllocError, Global};
 
-/// Where a deadline stands, by its acts and the end that is stored of it.
+/// Where a deadline stands, by its acts and its stored end.
 fn standing_told(
     court: &Court,
     calendar: &Calendar,

@@ -33,7 +33,7 @@ use docket_tables::{
 use sqlite::{Alter, Connection};
 use std::alloc::Global;
 
-/// How many cases there are, if that is asked.
+/// How many cases there are, if the action needs it.
 fn cases_if_asked<S: Alter>(conn: &mut Connection<S>, asked: bool) -> Result<u32, ReadFault>
     ensures read { Reads S.Store conn.old conn.new result (λ _ t found. found ≡ if_asked asked (length t.cases)) }
     ensures only { OnlyAsks S.Store conn.old conn.new result }
@@ -44,7 +44,7 @@ fn cases_if_asked<S: Alter>(conn: &mut Connection<S>, asked: bool) -> Result<u32
     cases(conn)
 }
 
-/// The number of the next calendar row, if that is asked.
+/// The number of the next calendar row, if the action needs it.
 fn next_row_if_asked<S: Alter>(
     conn: &mut Connection<S>,
     alloc: Global,
@@ -140,7 +140,7 @@ pub(crate) fn deadline_view<S: Alter>(
     }))
 }
 
-/// The deadline that is named, in a case.
+/// The deadline that the action names, in a case.
 fn deadline_asked<S: Alter>(
     conn: &mut Connection<S>,
     alloc: Global,
@@ -156,7 +156,7 @@ fn deadline_asked<S: Alter>(
     }
 }
 
-/// How many parties a case has, if that is asked.
+/// How many parties a case has, if the action needs it.
 fn parties_if_asked<S: Alter>(
     conn: &mut Connection<S>,
     case: u32,
@@ -171,7 +171,7 @@ fn parties_if_asked<S: Alter>(
     count_parties(conn, case)
 }
 
-/// How many entries a case has, if that is asked.
+/// How many entries a case has, if the action needs it.
 fn entries_if_asked<S: Alter>(
     conn: &mut Connection<S>,
     case: u32,
@@ -186,7 +186,7 @@ fn entries_if_asked<S: Alter>(
     count_entries(conn, case)
 }
 
-/// How many deadlines a case has, if that is asked.
+/// How many deadlines a case has, if the action needs it.
 fn deadlines_if_asked<S: Alter>(
     conn: &mut Connection<S>,
     case: u32,
@@ -201,8 +201,8 @@ fn deadlines_if_asked<S: Alter>(
     count_deadlines(conn, case)
 }
 
-/// Whether the party that an action serves with a summons, or whose waiver it files, has an initial
-/// deadline that is not vacated. No other action has a deadline looked at.
+/// Whether the party that an action serves with a summons, or whose waiver it files, has an initial deadline
+/// that is not vacated. No other action reads a deadline for this.
 fn is_served<S: Alter>(
     conn: &mut Connection<S>,
     alloc: Global,
@@ -268,7 +268,7 @@ fn case_asked<S: Alter>(
     }
 }
 
-/// The local rule that an action asks about, the case that it names being shown.
+/// The local rule that an action needs, by the view of the case that it names.
 fn local_rule_asked<S: Alter>(
     conn: &mut Connection<S>,
     alloc: Global,
@@ -284,7 +284,7 @@ fn local_rule_asked<S: Alter>(
     }
 }
 
-/// How many local rules there are, if that is asked.
+/// How many local rules there are, if the action needs it.
 fn local_rules_if_asked<S: Alter>(conn: &mut Connection<S>, asked: bool) -> Result<u32, ReadFault>
     ensures read { Reads S.Store conn.old conn.new result (λ _ t found. found ≡ if_asked asked (length t.local_rules)) }
     ensures only { OnlyAsks S.Store conn.old conn.new result }

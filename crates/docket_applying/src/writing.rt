@@ -28,8 +28,8 @@ use docket_tables::{ReadFault, change_with_receipt};
 use sqlite::{Alter, Connection, Error, ErrorCode, Transaction};
 use std::alloc::Global;
 
-/// What a fault of a part of a transaction comes to. Where a row is none of a docket's, the
-/// transaction ends as where the database failed.
+/// Returns the error for a fault of a part of a transaction. If a row is not one of a docket, the transaction
+/// ends as if the database failed.
 fn store_error(fault: ReadFault) -> Error
     ensures store { (e : Failed) → fault ≡ Store e → result ≡ e }
     ensures short { fault ≡ NoMemory → result ≡ SqliteFailure OutOfMemory }
@@ -75,9 +75,9 @@ fn fill<S: Alter>(
 }
 
 /// Makes the changes of an accepted command, those of the stored ends among them, and adds its receipt,
-/// in one transaction: all of it, or nothing. `body` is the canonical text of the command. On an error
-/// nothing of it stands, but that a power failure after a commit that failed may leave either; the
-/// connection is as it was, or shut.
+/// in one transaction: all of it, or nothing. `body` is the canonical text of the command. After an error
+/// nothing of it stands, except that a power failure after a failed commit may leave either. The connection
+/// is as it was, or shut.
 pub fn write<S: Alter>(
     conn: &mut Connection<S>,
     alloc: Global,
@@ -93,14 +93,14 @@ pub fn write<S: Alter>(
     ensures either { (t : Tables) → AreNumbered t.next_row changes.now → HoldsRows S.Store conn.old (rows_in court.now t)
         → IfClean S.Store conn.old (UpdatesEnds court.now command.now changes.now t)
         → Writes S.Store conn.new (rows_in court.now t) (rows_in court.now (with_changes command.now changes.now t)) result }
-    // Whether or not a history leads to the rows: all changes of the command, its receipt, and some ends.
+    // Whether or not the rows are those of a history: all changes of the command, its receipt, and some ends.
     ensures any { (n : ℕ) (stored : List Ended) (rows : Rows) → AreDocketRows court.now n stored rows → AreNumbered n changes.now → HoldsRows S.Store conn.old rows
         → (next : List Ended) × MayLeave changes.now.ends stored next
         × Writes S.Store conn.new rows (recorded_with court.now n command.now changes.now next rows) result }
-    // It stays the same connection, on which faults are counted on.
+    // It stays the same connection, and the count of its faults continues.
     ensures later { HasCleanDisk (state S.Store conn.new) → (t : Tables) → AreNumbered t.next_row changes.now → HoldsRows S.Store conn.old (rows_in court.now t)
         → UpdatesEnds court.now command.now changes.now t → IsLater (state S.Store conn.old) (state S.Store conn.new) }
-    // What may be written fails only for a cause.
+    // A command that may be written fails only for a cause.
     ensures cause { HasCleanDisk (state S.Store conn.new) → (t : Tables) → AreNumbered t.next_row changes.now → HoldsRows S.Store conn.old (rows_in court.now t)
         → UpdatesEnds court.now command.now changes.now t → MayWrite court.now command.now changes.now t (end_rows court.now t)
         → IfErr result (HasChangeCause (state S.Store conn.old) (state S.Store conn.new)) }

@@ -36,7 +36,7 @@ run_high : (m n : ℕ) (ds : List DeadlineRow) → m ≤ n → RunsFrom n (numbe
 run_high m n [] le runs = tt
 run_high m n (d ∷ ds) le runs = (omega (arith, le, runs.0), run_high m (suc n) ds (omega (arith, le)) runs.1)
 
--- what holds of the deadlines of a case, said of all
+-- what holds of the deadlines of a case, for all
 of_case : (P : DeadlineRow → Type 0) (k : ℕ) (ds : List DeadlineRow) → AllByRecursion P (deadlines_of_case k ds) → AllByRecursion (λ d. d.case ≡ k → P d) ds
 of_case P k [] all = tt
 of_case P k (d ∷ ds) all = at (d.case == k) refl all (λ rest. of_case P k ds rest)

@@ -29,7 +29,7 @@ module _ (court : CourtSettings) (listed : List DueRow) where
   abbrev lines : ℕ → List ℕ
   lines n = flat_map (calendar_line court) (take n listed)
 
-  -- the text is what the first n rows come to, and then more
+  -- the text begins with the lines of the first n rows
   pub front_at : (n : ℕ) → (rest : List ℕ) × (calendar_text court listed ≡ flat_map (calendar_line court) (take n listed) ++ rest)
   front_at n =
       let line = calendar_line court in

@@ -68,7 +68,7 @@ module _ {S : Type 0} (g : Ghosts S) (rows : Rows) (old new : Held S) (was : Hol
 module _ {S : Type 0} (g : Ghosts S) (court : CourtSettings) (h : History) (old new : Held S) (is : IsHistoryOf court h) (was : HoldsRows g old (docket_rows court h))
     (mode : old.in_transaction ≡ false → new.in_transaction ≡ false)
     (nothing : Survives (state g old) (state g new) (λ _. ⊥)) where
-  -- a list that the question came to is given of the tables
+  -- the result of the question as a result of the tables
   pub gives : {X : Type 0} (answer : X → Type 0) (res : Result X ReadFault) → (HasCleanDisk (state g new) → ComesTo g old new answer res) → Gives g new (docket_rows court h) answer res
   gives answer (Ok x) comes = ((mode was.0, λ clean. settled g (docket_rows court h) old new was mode nothing clean (comes clean).0), λ clean. (comes clean).1)
   gives answer (Err fault) comes = fails g (docket_rows court h) old new was mode nothing fault comes

@@ -1,4 +1,4 @@
--- What a calendar that is written row by row comes to, wherever it stops.
+-- The result of a calendar that is written row by row, wherever it stops.
 use Rattle.std.proofs.Common.{◌≡◌, ◌⊎◌, inl, inr, ℕ, ◌+◌, Bool, true, false, List, [], ◌++◌, Option, Some, None, Result, Ok, Err, IsTrue, IsErrAnd, is_some, append-nil, refl, sym, ap, subst, subst₂, ◌∙◌}
 use Rattle.std.specs.Io.KnownBytes.{Appends}
 use Rattle.std.proofs.KnownBytes.{Appends-trans}

@@ -1,4 +1,4 @@
--- A question whose answer is a list of deadlines whose time runs, and how far its rows were given.
+-- A question whose answer is a list of deadlines whose time runs, and how many of its rows were read.
 use Rattle.std.specs.Prelude.{◌≡◌, false, ◌⊎◌, ℕ, ◌+◌, ◌<◌, ◌≤◌, List, map, take, length, slice_get, Option, Some, None, Result, Ok, Err}
 use Rattle.std.specs.List.{AllByRecursion}
 use Rattle.sqlite.specs.Order.{Row}
@@ -36,17 +36,17 @@ pub record Lists (sql : List ℕ) (params : Row) (court : CourtSettings) (entere
   pub few : length listed < 4_294_967_295
 
 module _ {S : Type 0} (g : Ghosts S) where
-  -- the question is asked, and the rows of so many of the deadlines were given
+  -- the question is under way, and the rows of the first n deadlines were read
   abbrev pub Gave : List ℕ → Row → CourtSettings → List DueRow → ℕ → Held S → Type 0
   Gave sql params court listed n h = HasGiven g sql params h (map (due_cells court) (take n listed)) × (n ≤ length listed)
 
-  -- this is so of whatever question lists deadlines, where the rows of so many of them were given, unless the disk was not honest
+  -- this holds of any question that lists deadlines, after the rows of the first n were read, unless the disk was not honest
   abbrev pub OfAsked : CourtSettings → Entered → ℕ → Held S → Held S → (List ℕ → Row → List DueRow → Type 0) → Type 0
   OfAsked court entered n old new P =
       (sql : List ℕ) (params : Row) (listed : List DueRow) → HasCleanDisk (state g new) → Lists sql params court entered (state g old).now listed
       → Gave sql params court listed n old → P sql params listed
 
-  -- what the next row comes to
+  -- the result of reading the next row
   abbrev pub Next : List ℕ → Row → CourtSettings → List DueRow → ℕ → Held S → Held S → Result (Option DueRow) ReadFault → Type 0
   Next sql params court listed n old new (Ok (Some d)) = IsUnchanged (state g old) (state g new) × (slice_get listed n ≡ Some d) × Gave sql params court listed (n + 1) new
   Next sql params court listed n old new (Ok None) = IsUnchanged (state g old) (state g new) × (length listed ≡ n)
@@ -54,7 +54,7 @@ module _ {S : Type 0} (g : Ghosts S) where
   Next sql params court listed n old new (Err NoMemory) = IsUnchanged (state g old) (state g new)
   Next sql params court listed n old new (Err Damaged) = ⊥
 
-  -- what a fault of any question leaves of the connection: it is as it was, but where the store failed
+  -- what a fault of any question leaves of the connection: it is as it was, unless the store failed
   abbrev pub RemainsAt : Held S → Held S → ReadFault → Type 0
   RemainsAt old new (Store e) = IsUnchanged (state g old) (state g new) ⊎ IsRolledBack (state g old) (state g new)
   RemainsAt old new NoMemory = IsUnchanged (state g old) (state g new)

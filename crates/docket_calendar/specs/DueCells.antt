@@ -16,7 +16,7 @@ due_cells court d =
     Int (pos (time_of (zone_of court) d.end).day) ∷ Int (moment_cell (time_of (zone_of court) d.end).moment)
     ∷ Int (pos d.case) ∷ Int (pos d.number) ∷ Int (pos d.party) ∷ Text d.rule ∷ []
 
--- a deadline whose columns tell it, beside the calendar that tells when the clerk's office closes
+-- a deadline that its columns determine, with the calendar, which gives when the clerk's office closes
 abbrev pub IsDue : CourtSettings → Entered → DueRow → Type 0
 IsDue court entered d =
     IsDueEnd d.end × IsCount d.case × IsCount d.number × IsCount d.party × IsUtf8 d.rule

@@ -40,7 +40,7 @@ pub record HasBegun (before after : Option (List ℕ)) (text : List ℕ) : Type 
   pub begun : 1 ≤ length front.out
 
 module _ {S : Type 0} (g : Ghosts S) where
-  -- what a fault of the question leaves of the connection: it is as it was, but where the store failed
+  -- what a fault of the question leaves of the connection: it is as it was, unless the store failed
   abbrev pub LeavesAt : Held S → Held S → ReadFault → Type 0
   LeavesAt old new (Store e) = IsUnchanged (state g old) (state g new) ⊎ IsRolledBack (state g old) (state g new)
   LeavesAt old new NoMemory = IsUnchanged (state g old) (state g new)
@@ -65,7 +65,7 @@ module _ {S : Type 0} (g : Ghosts S) where
   SendsAll court listed front before after old new (Err (Broken fault)) = HasBegun before after (front ++ calendar_text court listed) × LeavesAt old new fault
   SendsAll court listed front before after old new (Err WriteFailed) = HasFront before after (front ++ calendar_text court listed) × IsUnchanged (state g old) (state g new)
 
-  -- what the writing of any question's rows leaves of the connection where it stops
+  -- what the writing of any question's rows leaves of the connection if it stops
   abbrev pub RemainsStopped : Held S → Held S → Stop → Type 0
   RemainsStopped old new (NotBegun fault) = RemainsAt g old new fault
   RemainsStopped old new (Broken fault) = RemainsAt g old new fault

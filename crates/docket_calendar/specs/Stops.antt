@@ -18,7 +18,7 @@ IsStopAt lines fault (NotBegun found) = (lines ≡ 0) × (found ≡ fault)
 IsStopAt lines fault (Broken found) = (1 ≤ lines) × (found ≡ fault)
 IsStopAt lines fault WriteFailed = ⊥
 
--- where the store failed, its error has a cause
+-- if the store failed, its error has a cause
 abbrev pub IsCausedStop : State → State → Stop → Type 0
 IsCausedStop old new (NotBegun fault) = IsCausedFault old new fault
 IsCausedStop old new (Broken fault) = IsCausedFault old new fault

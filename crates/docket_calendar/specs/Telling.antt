@@ -31,7 +31,7 @@ pub record IsHistoryOf (court : CourtSettings) (h : History) : Type 0 where
 abbrev pub docket_rows : CourtSettings → History → Rows
 docket_rows court h = rows_in court (rows_of court h)
 
--- what the writing of a calendar leaves of rows, whatever they are: the connection holds them still, but where the store failed it may be shut
+-- what the writing of a calendar leaves of rows, whatever they are: the connection still holds them, but may be shut if the store failed
 abbrev pub Stays : {S : Type 0} (g : Ghosts S) → Held S → Rows → Result ℕ Stop → Type 0
 Stays g new rows (Ok lines) = HoldsRows g new rows
 Stays g new rows (Err (NotBegun fault)) = StaysAt g new rows fault
@@ -39,8 +39,8 @@ Stays g new rows (Err (Broken fault)) = StaysAt g new rows fault
 Stays g new rows (Err WriteFailed) = HoldsRows g new rows
 
 module _ {S : Type 0} (g : Ghosts S) (court : CourtSettings) (h : History) (from to : ℕ) (front : List ℕ) where
-  -- the bytes and the text of the calendar went out whole, with so many lines; or nothing did, or a front of it that is not empty unless
-  -- the writer failed. The rows stand as they were; where the store failed, the connection may be shut
+  -- the bytes and the text of the calendar went out whole, with this many lines; or nothing did, or a front of it, not empty unless the writer
+  -- failed. The rows stay as they were; if the store failed, the connection may be shut
   abbrev pub Tells : Option (List ℕ) → Option (List ℕ) → Held S → Result ℕ Stop → Type 0
   Tells before after new (Ok lines) =
       HoldsRows g new (docket_rows court h)

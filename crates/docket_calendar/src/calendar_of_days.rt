@@ -26,8 +26,8 @@ use sqlite::{Alter, Connection, params};
 use std::alloc::Global;
 use std::io::Write;
 
-/// The deadlines whose time runs to a day of a range, in the order of the calendar. The index of `due`
-/// gives the range and the order, so that no row is sorted or kept.
+/// Selects the deadlines whose time runs to a day of a range, in the order of the calendar. The index of
+/// `due` gives the range and the order, so that no row is sorted or stored.
 pub(crate) fn question() -> &'static str
     ensures { result.now ≡ question }
 {
@@ -84,11 +84,10 @@ fn tell_days<S: Alter, W: Write>(
     tell(conn, alloc, court, entered, question(), days, front, writer)
 }
 
-/// Writes the bytes, then the calendar of the days from one to another, both included, and counts its
-/// lines. `entered` is what the docket's calendar holds: it tells when the clerk's office closes. Each line
-/// is written before the next row is read, and the bytes go out with the first: where there is not even a
-/// first line, nothing does. What went out is all of it, or a front; the tables stay as they are, whatever is in
-/// them.
+/// Writes the bytes, then the calendar of the days from one to another, both included. Returns how many lines it
+/// wrote. `entered` is the docket's calendar, which has when the clerk's office closes. It writes each line
+/// before it reads the next row, and the bytes go out with the first; if there is not even a first line, nothing
+/// does. What went out is all of it, or a front. The tables stay as they are, whatever is in them.
 pub fn calendar<S: Alter, W: Write>(
     conn: &mut Connection<S>,
     alloc: Global,

@@ -1,4 +1,4 @@
-//! The deadlines of a calendar as values, all at once, for what asks more of the docket about each.
+//! The deadlines of a calendar as values, all at once, for callers that ask more of the docket about each.
 ghost use Rattle.std.specs.Prelude.{◌≡◌, false, ℕ, List, IfErr, IsTrue};
 ghost use Rattle.sqlite.specs.Given.{IsPlain};
 ghost use Rattle.sqlite.specs.Held.{state};
@@ -103,9 +103,9 @@ fn gather_days<S: Alter>(
     gather(conn, alloc, court, entered, question(), days)
 }
 
-/// The calendar of the days from one to another, both included: the deadlines whose time runs to one of
-/// them, in order. `entered` is what the docket's calendar holds: it tells when the clerk's office closes.
-/// All of them are held at once, so that more can be asked of the tables about each. The tables stay as
+/// Returns the calendar of the days from one to another, both included: the deadlines whose time runs to one
+/// of them, in order. `entered` is the docket's calendar, which has when the clerk's office closes. All of
+/// them are in memory at once, so that the caller can ask more of the tables about each. The tables stay as
 /// they are, whatever is in them.
 pub fn due_rows<S: Alter>(
     conn: &mut Connection<S>,

@@ -1,4 +1,4 @@
-//! What the calendar of a history is, with nothing to run.
+//! Laws of the calendar of a history, with nothing to run.
 ghost use Rattle.std.specs.Prelude.{ℕ};
 ghost use Rattle.court_days.specs.Court.{CourtSettings};
 ghost use Rattle.docket_history.specs.Histories.{History};

@@ -1,10 +1,10 @@
 //! The calendar of a docket: the deadlines whose time runs, over a range of days, written row by row
 //! while the question for them is open.
 //!
-//! `calendar` asks one question, whose rows come in the order of the calendar, and writes each line
-//! before it reads the next row: its memory does not grow with the lines. Its contract speaks of the
-//! history that the tables stand for: what is written is `docket_text`'s calendar of its deadlines.
-//! `due_rows` gives the same deadlines as values.
+//! `calendar` asks one question, whose rows come in the order of the calendar. It writes each line before it
+//! reads the next row, so its memory does not grow with the lines. By its contract it writes `docket_text`'s
+//! calendar of the deadlines of the history that the tables hold. `due_rows` returns the same deadlines as
+//! values.
 #![tactic(auto)]
 
 mod calendar_of_days;

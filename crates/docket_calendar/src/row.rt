@@ -10,8 +10,8 @@ use docket_history::{DueRow, close_of_end};
 use sqlite::Row;
 use std::alloc::{AllocError, Global};
 
-/// The deadline of a row: day, moment, case, deadline, party, rule. When the clerk's office closes on
-/// its last day is told by the calendar. `None`: it is none.
+/// Reads the deadline of a row: day, moment, case, deadline, party, rule. The calendar has when the clerk's
+/// office closes on its last day. `None`: the row is not a deadline.
 pub(crate) fn due_of(
     alloc: Global,
     court: &Court,

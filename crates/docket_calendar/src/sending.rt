@@ -19,7 +19,7 @@ use sqlite::{Alter, Rows};
 use std::alloc::{AllocError, Global};
 use std::io::Write;
 
-/// Where a question stops that fails before line `lines`.
+/// Where a question stops if it fails before line `lines`.
 fn stop_at(lines: u32, fault: ReadFault) -> Stop
     ensures { IsStopAt lines fault result }
 {
@@ -37,7 +37,7 @@ fn opening(front: &[u8], lines: u32) -> &[u8]
     if lines == 0 { front } else { &[] }
 }
 
-/// The line of a deadline; where there is none, the last line.
+/// The line of a deadline; without one, the last line.
 fn line_text(
     alloc: Global,
     court: &Court,

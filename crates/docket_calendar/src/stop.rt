@@ -8,6 +8,6 @@ pub enum Stop {
     NotBegun(ReadFault),
     /// The question failed after the first line. A front of the text went out.
     Broken(ReadFault),
-    /// A write failed, or took nothing. A front of the text went out.
+    /// A write failed, or wrote nothing. A front of the text went out.
     WriteFailed,
 }

@@ -38,7 +38,7 @@ court_cells_of v c next =
 abbrev pub court_cells : CourtSettings → ℕ → Row
 court_cells = court_cells_of Second
 
--- a row of the court's table bears the word of a docket
+-- a row of the court's table has the word of a docket
 abbrev pub HasWord : Row → Type 0
 HasWord row = column row 1 ≡ Text (codes "civil docket")
 
@@ -46,7 +46,7 @@ HasWord row = column row 1 ≡ Text (codes "civil docket")
 abbrev pub IsOfVersion : Version → Row → Type 0
 IsOfVersion v row = column row 2 ≡ Int (pos (version_number v))
 
--- what a row of the court says
+-- the settings in a row of the court
 abbrev pub settings_of : CourtRow → CourtSettings
 settings_of r = record { zone_text = r.zone; close_minute = r.close }
 

@@ -23,10 +23,10 @@ use sqlite::Row;
 use sqlite::types::{ToSql, ValueRef};
 use std::alloc::{AllocError, Global};
 
-/// The unit that stands for hours.
+/// The number of the unit of hours.
 const HOURS: u32 = 3;
 
-/// What stands in the columns kind and p1 to p5.
+/// The values of the columns kind and p1 to p5.
 #[derive(Clone, Copy)]
 pub(crate) struct ActCode {
     pub(crate) kind: u32,
@@ -181,7 +181,7 @@ pub fn act_values(row: &ActRow) -> [ValueRef<'static>; 9]
     ]
 }
 
-/// What stands in the columns kind and p1 to p5 of a row.
+/// Reads the columns kind and p1 to p5 of a row.
 fn code_at(row: &Row) -> Option<ActCode>
     ensures { (r : Line) → IsActRow r → row.now ≡ act_cells r → result ≡ Some (act_code r.act) }
 {
@@ -195,7 +195,7 @@ fn code_at(row: &Row) -> Option<ActCode>
     })
 }
 
-/// The act of a row. `None`: it is no row of an act.
+/// Reads the act of a row. `None`: it is not a row of an act.
 pub fn act_of(row: &Row) -> Option<ActRow>
     ensures reads { (r : Line) → IsActRow r → row.now ≡ act_cells r → result ≡ Some r }
     ensures sound { IfSome result (λ r. row.now ≡ act_cells r) }

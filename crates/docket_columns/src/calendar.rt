@@ -16,13 +16,13 @@ use sqlite::Row;
 use sqlite::types::{ToSql, ValueRef};
 use std::alloc::{AllocError, Global};
 
-/// The kind that stands for a span.
+/// The number of the kind of a span.
 const SPAN: u32 = 4;
 
 /// That of a short day, which has no row in this table.
 const NONE: u32 = 0;
 
-/// What stands in the columns kind, a and b.
+/// The values of the columns kind, a and b.
 #[derive(Clone, Copy)]
 pub(crate) struct ItemCode {
     pub(crate) kind: u32,
@@ -90,7 +90,7 @@ pub fn calendar_values(row: &CalendarRow) -> [ValueRef<'_>; 5]
     ]
 }
 
-/// What stands in the columns of a row.
+/// Reads the item in the columns of a row.
 fn item_at(row: &Row) -> Option<CalendarItem>
     ensures reads { (r : Line) → IsCalendarRow r → row.now ≡ calendar_cells r → result ≡ Some r.item }
     ensures fits { IfSome result IsItem }
@@ -102,7 +102,7 @@ fn item_at(row: &Row) -> Option<CalendarItem>
     })
 }
 
-/// The row of the calendar of a row. `None`: it is none.
+/// Reads the row of the calendar of a row. `None`: it is not one.
 pub fn calendar_of(alloc: Global, row: &Row) -> Result<Option<CalendarRow>, AllocError>
     ensures reads { (r : Line) → IsCalendarRow r → row.now ≡ calendar_cells r → IfOk result (λ found. found ≡ Some r) }
     ensures sound { IfOk result (λ found. IfSome found (λ r. row.now ≡ calendar_cells r)) }

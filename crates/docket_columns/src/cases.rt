@@ -25,7 +25,7 @@ pub fn case_values(row: &CaseRow) -> [ValueRef<'_>; 4]
     ]
 }
 
-/// The case of a row. `None`: it is no row of a case.
+/// Reads the case of a row. `None`: it is not a row of a case.
 pub fn case_of(alloc: Global, row: &Row) -> Result<Option<CaseRow>, AllocError>
     ensures reads { (c : Case) → IsCaseRow c → row.now ≡ case_cells c → IfOk result (λ found. found ≡ Some c) }
     ensures sound { IfOk result (λ found. IfSome found (λ c. row.now ≡ case_cells c)) }

@@ -1,4 +1,4 @@
-//! The numbers that stand in a column for what a row chooses among.
+//! The numbers in columns whose values are choices.
 ghost use Rattle.std.specs.Prelude.{◌≡◌, Bool, Some};
 ghost use Rattle.court_days.specs.declared.calendar.DayKind.{DayKind as Kind};
 ghost use Rattle.court_days.specs.declared.calendar.Direction.{Direction as Course};

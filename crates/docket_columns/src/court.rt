@@ -15,15 +15,15 @@ use sqlite::Row;
 use sqlite::types::{ToSql, ValueRef};
 use std::alloc::{AllocError, Global};
 
-/// What marks a database as that of a docket.
+/// The word that marks a database as that of a docket.
 const WORD: &str = "civil docket";
 
 const MINUTES_OF_A_DAY: u32 = 1440;
 
 const MOST_ROWS: u64 = 1 << 32;
 
-/// What the row of the court says: the text of its zone, the minute of the day at which the clerk's
-/// office closes (0 to 1439), and the number of the next row of the calendar (up to 2^32).
+/// The values of the court's row: the text of its zone, when the clerk's office closes, and the number of the
+/// next row of the calendar. The minute of closing is 0 to 1439, the number up to 2^32.
 #[derive(Drop)]
 pub struct CourtRow {
     pub zone: Text,
@@ -83,21 +83,21 @@ fn next_row_at(row: &Row, at: usize) -> Option<u64>
     }
 }
 
-/// Whether a row of the court's table bears the word of a docket.
+/// Whether a row of the court's table has the word of a docket.
 pub fn has_word(row: &Row) -> bool
     ensures { IsTrue result ↔ HasWord row.now }
 {
     is_text(row, 1, WORD)
 }
 
-/// Whether a row of the court's table says that the tables are laid out in that version.
+/// Whether a row of the court's table has the number of that version of the tables.
 pub fn is_of_version(row: &Row, version: Version) -> bool
     ensures { IsTrue result ↔ IsOfVersion version row.now }
 {
     is_number(row, 2, i64::from(version.number()))
 }
 
-/// The court of a row in that version. `None`: it is no row of a court, or that of another version.
+/// Reads the court of a row in that version. `None`: it is not a row of a court, or is of another version.
 pub fn court_of(alloc: Global, row: &Row, version: Version) -> Result<Option<CourtRow>, AllocError>
     ensures reads { (c : CourtSettings) (next : ℕ) → IsCourtRow c next → row.now ≡ court_cells_of version c next
         → IfOk result (λ found. found ≡ Some (record { zone = c.zone_text; close = c.close_minute; next_row = next })) }

@@ -31,7 +31,7 @@ pub fn deadline_values(row: &DeadlineRow) -> [ValueRef<'_>; 5]
     ]
 }
 
-/// The rule whose name stands in a column.
+/// Reads the rule whose name is in a column.
 fn rule_at(alloc: Global, row: &Row, at: usize) -> Result<Option<DeadlineRule>, AllocError>
     ensures reads { (rule : Named) → IsDeadlineRule rule → column row.now at ≡ Text (deadline_rule_name rule)
         → IfOk result (λ found. found ≡ Some rule) }
@@ -43,7 +43,7 @@ fn rule_at(alloc: Global, row: &Row, at: usize) -> Result<Option<DeadlineRule>, 
     }
 }
 
-/// The deadline of a row. `None`: it is no row of a deadline.
+/// Reads the deadline of a row. `None`: it is not a row of a deadline.
 pub fn deadline_of(alloc: Global, row: &Row) -> Result<Option<DeadlineRow>, AllocError>
     ensures reads { (d : Deadline) → IsDeadlineRow d → row.now ≡ deadline_cells d → IfOk result (λ found. found ≡ Some d) }
     ensures sound { IfOk result (λ found. IfSome found (λ d. row.now ≡ deadline_cells d)) }

@@ -15,10 +15,10 @@ use sqlite::Row;
 use sqlite::types::{ToSql, ValueRef};
 use std::alloc::{AllocError, Global};
 
-/// What stands in place of an instant where the time runs to the end of its last day.
+/// The value in place of an instant where the time runs to the end of its last day.
 const WHOLE_DAY: i64 = 9_999_999_999_999;
 
-/// What stands in the column of an instant.
+/// The value of the column of an instant.
 fn moment_cell(moment: Option<i64>) -> i64
     ensures { result ≡ moment_cell moment }
 {
@@ -28,7 +28,7 @@ fn moment_cell(moment: Option<i64>) -> i64
     }
 }
 
-/// The instant for which that number stands. `None`: for the end of the day.
+/// Reads an instant from its number. `None`: the time runs to the end of the day.
 fn moment_of(number: i64) -> Option<i64>
     ensures reads { (moment : Optional ℤ) → IsStoredMoment moment → number ≡ moment_cell moment → result ≡ moment }
     ensures fits { IsStoredMoment result }
@@ -52,7 +52,7 @@ pub fn end_values(row: &StoredEnd) -> [ValueRef<'static>; 4]
     ]
 }
 
-/// The end whose day and moment stand in these columns. `None`: they hold none.
+/// Reads the end whose day and moment are in these columns. `None`: they hold none.
 pub fn end_time_at(row: &Row, day: usize, moment: usize) -> Option<EndTime>
     ensures reads { (end : Time) → IsEndTime end → column row.now day ≡ Int (pos end.day) → column row.now moment ≡ Int (moment_cell end.moment)
         → result ≡ Some end }
@@ -64,7 +64,7 @@ pub fn end_time_at(row: &Row, day: usize, moment: usize) -> Option<EndTime>
     })
 }
 
-/// The end of a row. `None`: it is no row of an end.
+/// Reads the end of a row. `None`: it is not a row of an end.
 pub fn end_of(row: &Row) -> Option<StoredEnd>
     ensures reads { (e : Ended) → IsEndRow e → row.now ≡ end_cells e → result ≡ Some e }
     ensures sound { IfSome result (λ e. row.now ≡ end_cells e) }

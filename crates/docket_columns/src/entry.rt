@@ -25,7 +25,7 @@ pub fn entry_values(row: &EntryRow) -> [ValueRef<'_>; 4]
     ]
 }
 
-/// The entry of a row. `None`: it is no row of an entry.
+/// Reads the entry of a row. `None`: it is not a row of an entry.
 pub fn entry_of(alloc: Global, row: &Row) -> Result<Option<EntryRow>, AllocError>
     ensures reads { (e : Entry) → IsEntryRow e → row.now ≡ entry_cells e → IfOk result (λ found. found ≡ Some e) }
     ensures sound { IfOk result (λ found. IfSome found (λ e. row.now ≡ entry_cells e)) }

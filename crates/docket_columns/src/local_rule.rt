@@ -41,7 +41,7 @@ fn direction_at(row: &Row, at: usize) -> Option<Direction>
     direction_of(count_at(row, at)?)
 }
 
-/// The local rule of a row. `None`: it is no row of a local rule.
+/// Reads the local rule of a row. `None`: it is not a row of a local rule.
 pub fn local_rule_of(alloc: Global, row: &Row) -> Result<Option<LocalRuleRow>, AllocError>
     ensures reads { (r : Rule) → IsLocalRuleRow r → row.now ≡ local_rule_cells r → IfOk result (λ found. found ≡ Some r) }
     ensures sound { IfOk result (λ found. IfSome found (λ r. row.now ≡ local_rule_cells r)) }
@@ -80,7 +80,7 @@ pub fn local_rule_of(alloc: Global, row: &Row) -> Result<Option<LocalRuleRow>, A
     }
 }
 
-/// The local name in the column of names, whatever else the row has. `None`: there is none.
+/// Reads the local name in the column of names, whatever else the row has. `None`: there is none.
 pub fn local_name_of(row: &Row) -> Option<&str>
     ensures { option_copied result ≡ local_name_in row.now }
 {

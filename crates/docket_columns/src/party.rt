@@ -37,7 +37,7 @@ fn role_at(row: &Row, at: usize) -> Option<Role>
     role_of(count_at(row, at)?)
 }
 
-/// The party of a row. `None`: it is no row of a party.
+/// Reads the party of a row. `None`: it is not a row of a party.
 pub fn party_of(alloc: Global, row: &Row) -> Result<Option<PartyRow>, AllocError>
     ensures reads { (p : Party) → IsPartyRow p → row.now ≡ party_cells p → IfOk result (λ found. found ≡ Some p) }
     ensures sound { IfOk result (λ found. IfSome found (λ p. row.now ≡ party_cells p)) }

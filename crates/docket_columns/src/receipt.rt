@@ -17,8 +17,7 @@ use docket_history::Kept;
 use sqlite::Row;
 use sqlite::types::{ToSql, ValueRef};
 
-/// The columns of a receipt: command_key, body, reply. The body is to be the canonical text of the
-/// command.
+/// The columns of a receipt: command_key, body, reply. The body must be the canonical text of the command.
 pub fn receipt_values<'a>(command: &'a Command, body: &'a str, reply: Reply) -> [ValueRef<'a>; 3]
     ensures stored { bound result ≡ stored_cells command.now.key body.now reply.number }
     ensures receipt { body.now ≡ canonical command.now
@@ -31,7 +30,7 @@ pub fn receipt_values<'a>(command: &'a Command, body: &'a str, reply: Reply) -> 
     ]
 }
 
-/// The reply of a row. `None`: it is no row of a receipt.
+/// Reads the reply of a row. `None`: it is not a row of a receipt.
 pub fn reply_of(row: &Row) -> Option<Reply>
     ensures reads { (key body : List ℕ) (reply : ℕ) → IsCount reply → row.now ≡ stored_cells key body reply
         → result ≡ Some (replied reply) }
@@ -60,8 +59,8 @@ fn kept_as(stored: &[u8], reply: Reply, body: &str) -> Kept
     }
 }
 
-/// What is kept under the key of the row, for a command with this canonical text. `None`: it is no row
-/// of a receipt.
+/// Reads what is kept under the key of the row, for a command with this canonical text. `None`: it is not a
+/// row of a receipt.
 pub fn kept_by(row: &Row, body: &str) -> Option<Kept>
     ensures stored { (key stored : List ℕ) (reply : ℕ) → IsCount reply → row.now ≡ stored_cells key stored reply
         → result ≡ Some (kept_as stored reply body.now) }

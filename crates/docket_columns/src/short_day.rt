@@ -35,7 +35,7 @@ fn time_at(row: &Row, at: usize) -> Option<TimeOfDay>
     TimeOfDay::new(count_at(row, at)?)
 }
 
-/// The short day of a row. `None`: it is no row of one.
+/// Reads the short day of a row. `None`: it is not a row of one.
 pub fn short_day_of(alloc: Global, row: &Row) -> Result<Option<ShortDayRow>, AllocError>
     ensures reads { (r : Line) → IsShortDayRow r → row.now ≡ short_day_cells r → IfOk result (λ found. found ≡ Some r) }
     ensures sound { IfOk result (λ found. IfSome found (λ r. row.now ≡ short_day_cells r)) }

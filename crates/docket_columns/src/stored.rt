@@ -14,7 +14,7 @@ pub trait StoredRow: Drop {
     // What its type holds.
     ghost Is: { Self → Type 0 };
 
-    /// What a row of SQL says. `None`: it is no row of the table.
+    /// Reads a row of SQL. `None`: it is not a row of the table.
     fn read(alloc: Global, row: &Row) -> Result<Option<Self>, AllocError>
         ensures reads { (r : Self) → Is r → row.now ≡ cells r → IfOk result (λ found. found ≡ Some r) }
         ensures sound { IfOk result (λ found. IfSome found (λ r. row.now ≡ cells r)) }

@@ -15,7 +15,7 @@ impl Version {
     /// The version in which this program makes and keeps a docket.
     pub const KEPT: Version = Version::Second;
 
-    /// The number by which the row of the court names it.
+    /// The number of the version in the row of the court.
     pub fn number(self) -> u32
         ensures { result ≡ version_number self }
     {

@@ -1,4 +1,4 @@
--- Commands are one where their fields are.
+-- Commands are equal where their fields are.
 use Rattle.std.proofs.Common.{◌≡◌, ℕ, Bool, true, false, List, [], ◌∷◌, Option, Some, None, refl, ap, sym, subst, ◌∙◌}
 use Rattle.std.specs.Bool.{Decides}
 use Rattle.std.specs.Cmp.Lexicographic.{pointwise}
@@ -47,7 +47,7 @@ same_plain (a_text x) (a_text y) = Decides-like _ (ap a_text) (λ e. cc) (bytes_
 same_plain (some_days x) (some_days y) = Decides-like _ (ap some_days) (λ e. cc) (same_new_days x y)
 same_plain _ _ = (λ e. absurd cc, λ e. absurd cc)
 
--- ---- plain values tell values apart
+-- ---- different values have different plain values
 
 plain_one : (t : FieldType) (x y : ValueOf t) → plain t x ≡ plain t y → x ≡ y
 plain_one of.Number x y e = cc

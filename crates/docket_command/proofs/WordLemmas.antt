@@ -1,4 +1,4 @@
--- Each word stands for the value whose word it is.
+-- Each word reads back as the value whose word it is.
 use Rattle.std.proofs.Common.{◌≡◌, Some, refl}
 use Rattle.docket_command.specs.declared.choice.Sovereign.{Sovereign}
 use Rattle.docket_command.specs.declared.choice.Sovereign.TheVariants as sovereign

@@ -7,7 +7,7 @@ pub mod Refusals
 pub mod Sameness
 pub mod Schema
 pub mod Words
--- of the crates below, what contracts above speak of
+-- what contracts of crates above use of the crates below
 pub use Rattle.court_rules.specs.Acts
 pub use Rattle.court_rules.specs.LocalRules
 pub use Rattle.court_rules.specs.calendar

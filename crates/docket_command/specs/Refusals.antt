@@ -1,4 +1,4 @@
--- The numbers and the names of refusals, in the order in which they are looked for.
+-- The numbers and the names of refusals, in the order in which they are checked.
 use Rattle.std.specs.Prelude.{ℕ, List, codes}
 use Rattle.docket_command.specs.declared.refusal.Refusal.{Refusal}
 use Rattle.docket_command.specs.declared.refusal.Refusal.TheVariants as refusal

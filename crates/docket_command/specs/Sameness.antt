@@ -1,4 +1,4 @@
--- When two commands are one: of the same kind, and the same in each field.
+-- When two commands are the same: of the same kind, and the same in each field.
 use Rattle.std.specs.Prelude.{ℕ, Bool, true, false, ◌&&◌, List, [], ◌∷◌, ◌==◌, Option, Some, None}
 use Rattle.std.specs.Str.{bytes_eq}
 use Rattle.std.specs.Cmp.Lexicographic.{pointwise}
@@ -13,7 +13,7 @@ use Rattle.docket_command.specs.declared.new_day.NewDay.{NewDay}
 
 -- ---- values of any type
 
--- what a value comes to: a number, a flag, the bytes of a text or a word, or days
+-- the plain form of a value: a number, a flag, the bytes of a text or a word, or days
 pub data Plain : Type 0 where
   absent : Plain
   a_number : ℕ → Plain

@@ -1,4 +1,4 @@
--- The words that stand for the values of a type.
+-- The words for the values of a type.
 use Rattle.std.specs.Prelude.{ℕ, List, [], ◌∷◌, codes, Option, find}
 use Rattle.std.specs.Str.{bytes_eq}
 use Rattle.docket_command.specs.declared.choice.Sovereign.{Sovereign}

@@ -93,7 +93,7 @@ impl WithdrawCalendar {
     }
 }
 
-/// Days are entered together, those that do not stand yet.
+/// Days are entered together, but for those that are there already.
 #[derive(Clone, Drop)]
 pub struct ImportCalendar {
     pub rows: NewDays,

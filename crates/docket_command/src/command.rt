@@ -13,7 +13,7 @@ use crate::time_action::{EnterJudgment, Extend, NoticeHearing, OrderPeriod, Sati
 use court_rules::{LocalRule, Text};
 use std::alloc::AllocError;
 
-/// What the clerk asks for, under a key of the clerk's own by which it is known again.
+/// What the clerk asks for, under a key that the clerk chooses, by which a repeat is recognised.
 #[derive(Clone, Drop)]
 pub struct Command {
     pub key: Text,

@@ -1,4 +1,4 @@
-//! What the functions of specs/ say, with nothing to run.
+//! Laws of the functions in specs/. Nothing here runs.
 ghost use Rattle.std.specs.Prelude.{◌≡◌, ◌↔◌, Some, true};
 ghost use Rattle.court_rules.specs.calendar.DayKind.{DayKind};
 ghost use Rattle.court_rules.specs.calendar.Direction.{Direction};
@@ -17,7 +17,7 @@ ghost use Rattle.docket_command.specs.Names.{command_word, command_named};
 ghost use Rattle.docket_command.specs.Sameness.{is_same_command};
 ghost use Rattle.docket_command.specs.Words.{basis_word, basis_named, day_kind_word, day_kind_named, direction_word, direction_named, motion_kind_word, motion_kind_named, period_unit_word, period_unit_named, pleading_kind_word, pleading_kind_named, role_word, role_named, ruling_word, ruling_named, service_method_word, service_method_named, sovereign_word, sovereign_named, way_word, way_named};
 
-/// Each word stands for the one value whose word it is.
+/// Each word reads back as the one value whose word it is.
 pub fn words_are_read_back()
     ensures commands { (x : CommandName) → command_named (command_word x) ≡ Some x }
     ensures bases { (x : Basis) → basis_named (basis_word x) ≡ Some x }

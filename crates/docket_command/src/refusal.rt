@@ -1,4 +1,4 @@
-//! Why a command is refused, and what an accepted one is answered.
+//! Why a command is refused, and the reply to an accepted one.
 ghost use Rattle.std.specs.Prelude.{◌≡◌};
 ghost use Rattle.docket_command.specs.Refusals.{refusal_number, refusal_name};
 
@@ -16,11 +16,11 @@ pub enum Refusal {
     NoSuchCase,
     NoSuchParty,
     NoSuchDeadline,
-    /// No such row of the calendar stands.
+    /// The calendar has no such row, or it was withdrawn.
     NoSuchCalendarRow,
     /// No local rule has that name.
     NoSuchLocalRule,
-    /// What is to be entered stands already.
+    /// What is to be entered is there already.
     Exists,
     /// The deadline does not run, or is done or vacated.
     NotOpen,
@@ -48,15 +48,15 @@ pub enum Refusal {
     Full,
 }
 
-/// What an accepted command is answered.
+/// The reply to an accepted command.
 #[derive(Clone, Copy)]
 pub struct Reply {
     pub number: u32,
 }
 
 impl Refusal {
-    /// Its number, from 1, by which it is told. They are looked for in the order of the numbers, but for
-    /// `NoSuchLocalRule`, which came later and is looked for after `NoSuchCalendarRow`.
+    /// Its number, from 1, which replies show. Refusals are checked in the order of their numbers, but
+    /// for `NoSuchLocalRule`, which is checked after `NoSuchCalendarRow`.
     pub fn number(self) -> u32
         ensures { result ≡ refusal_number self }
     {

@@ -1,4 +1,4 @@
-//! Whether two values of a field are one.
+//! Whether two values of a field are equal.
 ghost use Rattle.std.specs.Prelude.{◌≡◌};
 ghost use Rattle.docket_command.specs.FieldTypes as of;
 ghost use Rattle.docket_command.specs.Sameness.{is_same_word, is_same_plain, plain_if};

@@ -1,4 +1,4 @@
-//! Words that stand for the values of a type.
+//! Words for the values of a type.
 ghost use Rattle.std.specs.Prelude.{◌≡◌, List, ℕ, Option};
 ghost use Rattle.docket_command.specs.Words.{named_in};
 
@@ -10,10 +10,10 @@ pub trait Word: Copy + 'static {
     // The word of a value.
     ghost word_of: { Self → List ℕ };
 
-    // The value that a word stands for.
+    // The value whose word it is.
     ghost named: { List ℕ → Option Self };
 
-    /// The word that stands for it.
+    /// The word of the value.
     fn word(self) -> &'static str
         ensures { result.now ≡ word_of self };
 
@@ -22,14 +22,14 @@ pub trait Word: Copy + 'static {
         ensures { (text : List ℕ) → named text ≡ named_in word_of result.now text };
 }
 
-/// The value among these that the word stands for.
+/// The value among these that has the word.
 fn value_among<W: Word>(values: &[W], text: &str) -> Option<W>
     ensures { result ≡ named_in W.word_of values.now text.now }
 {
     values.iter().copied().find(|value| value.word() == text)
 }
 
-/// The value of that type for which the word stands, if it is one of its words.
+/// The value of that type that has the word. `None`: no value has it.
 pub fn from_word<W: Word>(text: &str) -> Option<W>
     ensures { result ≡ W.named text.now }
 {

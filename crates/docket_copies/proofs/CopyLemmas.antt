@@ -14,7 +14,7 @@ use Rattle.docket_scan.specs.Judging.{Rows}
 use Rattle.docket_store.specs.Reopening.{HoldDocket}
 use Rattle.docket_copies.specs.Copies.{IsSoundFile, alone, seeing}
 
--- the tables of a database are judged by what a connection sees of it, and by nothing else
+-- the check of a database depends on what a connection sees of it, and on nothing else
 sound_seeing : (s : State) (court : CourtSettings) (rows : Rows) → AreSound Second s court rows → AreSound Second (seeing s.now) court rows
 sound_seeing s court rows is = record {
   next_row = is.next_row;

@@ -21,10 +21,10 @@ use sqlite::{Alter, Connection, Options};
 use sqlite_disk::{Disk, Files};
 use std::alloc::Global;
 
-/// The seed of a log that ends in memory: nobody else writes to it.
+/// The seed of a log in memory, to which nobody else writes.
 const SEED: u64 = 0;
 
-/// The connection of a database, where that holds a docket whose tables are sound.
+/// Returns the connection of a database, if that holds a docket whose tables are sound.
 fn judged<S: Alter + Drop>(alloc: Global, conn: Connection<S>) -> Result<Connection<S>, NoCopy>
     ensures clean { IfOk result (λ now. doubt (state S.Store conn).is_clean ≤ doubt (state S.Store now).is_clean) }
     ensures sound { IfOk result (λ now. HasCleanDisk (state S.Store now)
@@ -36,8 +36,8 @@ fn judged<S: Alter + Drop>(alloc: Global, conn: Connection<S>) -> Result<Connect
     }
 }
 
-/// A database file and its log, where the file alone holds what both held. They come back only where that is
-/// a docket whose tables are judged sound.
+/// Returns a database file and its log, where the file alone holds what both held. It fails unless that is a
+/// docket whose tables are judged sound.
 fn merged<D: Disk + Drop>(alloc: Global, files: Files<D>) -> Result<Files<D>, NoCopy>
     requires log { IsTrue (D.Disk.is_usable files.log) }
     requires db { IsTrue (D.Disk.is_usable files.db) }
@@ -58,7 +58,7 @@ fn merged<D: Disk + Drop>(alloc: Global, files: Files<D>) -> Result<Files<D>, No
     }
 }
 
-/// A database file that alone holds what a file and its log hold. There is one only where that is a docket
+/// Returns a database file that alone holds what a file and its log hold. It fails unless that is a docket
 /// whose tables are judged sound.
 pub fn sound_copy(alloc: Global, files: Files<MemoryFile>) -> Result<MemoryFile, NoCopy>
     // It holds the same database, and so the same docket.
@@ -66,7 +66,7 @@ pub fn sound_copy(alloc: Global, files: Files<MemoryFile>) -> Result<MemoryFile,
         → IfOk result (λ copy. ∥ HoldsDatabase (alone (bytes_of copy)) db ∥₁) }
     ensures docket { (court : CourtSettings) (h : History) → HoldDocket (with_log (bytes_of files.db) (bytes_of files.log)) court h
         → IfOk result (λ copy. HoldDocket (alone (bytes_of copy)) court h) }
-    // Whatever the bytes were.
+    // This holds whatever the bytes were.
     ensures sound { IfOk result (λ copy. IsSoundFile (bytes_of copy)) }
 {
     let left = merged(alloc, files)?;

@@ -2,7 +2,7 @@
 use std::alloc::AllocError;
 use std::io;
 
-/// No copy was made: a file could not be read, or what was read is no sound docket, or memory was short.
+/// No copy was made: a file could not be read, or its bytes are not a sound docket, or memory ran out.
 #[derive(Clone, Copy)]
 pub struct NoCopy;
 

@@ -10,7 +10,7 @@ use sqlite_disk::Files;
 use std::fs;
 
 /// The database file at a path and its log, which this program holds open. They are read between two commands;
-/// nothing is locked or changed. No clause can speak of what they hold.
+/// nothing is locked or changed. No clause can state what they hold.
 #[derive(Clone, Copy)]
 pub struct DocketFiles<'a> {
     rt: &'a HostRuntime,
@@ -23,7 +23,7 @@ impl<'a> DocketFiles<'a> {
         DocketFiles { rt, path }
     }
 
-    /// What both hold now. The log stands beside the file to which the path leads.
+    /// Returns what both hold now. The log is beside the file to which the path leads.
     fn read(&self) -> Result<Files<MemoryFile>, NoCopy> {
         let db_path = fs::canonicalize(self.rt, self.path)?;
         let log_path = name_beside(self.rt.alloc(), db_path.as_str(), "-wal")?;
@@ -35,7 +35,7 @@ impl<'a> DocketFiles<'a> {
         })
     }
 
-    /// The bytes of a file that alone is the docket that both hold, judged sound.
+    /// Returns the bytes of a file that alone is the docket that both hold, judged sound.
     pub fn copy(&self) -> Result<Vec<u8>, NoCopy>
         ensures { IfOk result (λ copy. IsSoundFile copy.items) }
     {

@@ -132,7 +132,7 @@ Told k n h = IsTold n (made_of k h) (later_of k n h) (acts_of_deadline k n (act_
 count_is : (k : ℕ) (h : History) → length (deadlines_of_case k (deadline_rows h)) ≡ length (made_of k h)
 count_is k h = ap length (deadlines_in_order k h) ∙ length-from k 1 (made_of k h)
 
--- with what one more action gives
+-- with what one more action adds
 abbrev ToldAfter : ℕ → ℕ → History → Action → List Act → Type 0
 ToldAfter k n h a news =
     let count = length (deadlines_of_case (case_number a) (deadline_rows h)) in

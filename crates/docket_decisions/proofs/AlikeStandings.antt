@@ -1,4 +1,4 @@
--- By two calendars a deadline stands alike: only the end of a time that runs may be another.
+-- By two calendars a deadline stands alike: only the end of a time that runs may differ.
 use Rattle.std.proofs.Common.{◌≡◌, List, [], ◌∷◌, None, refl, ap}
 use Rattle.civil_time.specs.Zone.{ZoneRules}
 use Rattle.court_days.specs.Calendar.{Entered}

@@ -110,7 +110,7 @@ hours_first court at count d e counts =
     let near = entered_instant court at e in
     record { within = grind (arith, nat_tests, near.0, near.1, counts); begins = e; may = refl }
 
--- what is wanted is there and good
+-- what is required is there and good
 wanted : {A : Type 0} (is_good : A → Bool) (value : A) → bad_if true is_good (Some value) ≡ false → is_good value ≡ true
 wanted is_good value e = not-false (is_good value) e
 

@@ -113,7 +113,7 @@ all_entered court (row ∷ rows) good =
 pub asked_entered : (court : CourtSettings) (a : Action) → first_bad (bad_values court a) ≡ None → AreEntered (rows_asked a)
 asked_entered court a good = all_entered court (rows_asked a) (rows_good court a good)
 
--- those that don't stand
+-- those that are not there yet
 fresh_if : (b : Bool) (new : NewRow) (rows others : List NewRow) → IsEnteredItem new.item → AreEntered rows → AreEntered others → AreEntered (if b then rows else new ∷ others)
 fresh_if true new rows others here less more = less
 fresh_if false new rows others here less more = All-cons (λ (r : NewRow). IsEnteredItem r.item) new others here more

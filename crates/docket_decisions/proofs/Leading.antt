@@ -195,7 +195,7 @@ leads court h c free there =
     ∙ all_in_one c w (numbered (next_row h) (rows_added (items_of (standing_rows h)) a)) _ _ _ _ _ _ _ reply (rows_of court h)
     ∙ (λ i. record (rows_of court (c ∷ h)) { next_row = next_row h + length-numbered (next_row h) (rows_added (items_of (standing_rows h)) a) i })
 
--- an answer that accepts met no refusal
+-- where an answer accepts, no refusal applies
 met_none : (court : CourtSettings) (kept : Kept) (r : Option Refusal) (v : View) (c : Command) (reply : Reply) → answer_kept court kept v c ≡ accepted reply → refusal_of court v c ≡ r → (r ≡ None) × (reply ≡ replied (reply_to court v c.action))
 met_none court Fresh (Some r) v c n e is = absurd (let clash : refused r ≡ accepted n = ap (answer_by court v c.action) (sym is) ∙ e in cc)
 met_none court Other (Some r) v c n e is = absurd (let clash : refused r ≡ accepted n = ap (answer_by court v c.action) (sym is) ∙ e in cc)
@@ -203,7 +203,7 @@ met_none court (Same m) r v c n e is = absurd (let clash : repeated m ≡ accept
 met_none court Fresh None v c n e is = let same : accepted (replied (reply_to court v c.action)) ≡ accepted n = ap (answer_by court v c.action) (sym is) ∙ e in (refl, cc)
 met_none court Other None v c n e is = let same : accepted (replied (reply_to court v c.action)) ≡ accepted n = ap (answer_by court v c.action) (sym is) ∙ e in (refl, cc)
 
--- what an accepted answer says
+-- what follows from an accepted answer
 pub record IsAccepted (court : CourtSettings) (v : View) (c : Command) (reply : Reply) : Type 0 where
   pub free : refusal_of court v c ≡ None
   pub due : reply ≡ replied (reply_to court v c.action)

@@ -44,7 +44,7 @@ good_values : (f : Option Field) → on_value f ≡ None → f ≡ None
 good_values None e = refl
 good_values (Some f) e = absurd (cc)
 
--- what a command that no refusal meets may rest on
+-- what a command that is not refused may rely on
 pub record IsFree (court : CourtSettings) (v : View) (c : Command) : Type 0 where
   pub values : first_bad (bad_values court c.action) ≡ None
   pub case : lacks_case v c.action ≡ false

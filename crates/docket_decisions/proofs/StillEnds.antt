@@ -72,8 +72,8 @@ calendar_kept h c e =
     let standing = standing_rows h in
     ap₂ (λ w asked. items_of (without_row w standing ++ numbered (next_row h) (fresh (items_of standing) asked))) q.0 q.1 ∙ ap items_of (append-nil standing)
 
--- no deadline stands elsewhere after an action that moves no case but the one that it names: a short day is entered or stands
--- already, and after the others the calendar is as it was
+-- no deadline stands elsewhere after an action that moves no case but the one that it names: a short day is entered or was
+-- there already, and after the others the calendar is as it was
 
 with_short_row : (zone : ZoneRules) (rows : List CalendarRow) (number day close : ℕ) (name : List ℕ) (acts : List Act)
     → standing zone (calendar_of (items_of (rows ++ numbered number (fresh (items_of rows) (record { item = Short day close; name = name } ∷ []))))) acts

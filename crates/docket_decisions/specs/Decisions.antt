@@ -1,4 +1,4 @@
--- What `decide` says.
+-- What `decide` promises.
 use Rattle.std.specs.Prelude.{◌≡◌, ◌≤◌, ◌<◌, ◌^◌, true, false, List, ◌∷◌, length, IfSome, IsPermutation, Result, Ok, Err}
 use Rattle.std.specs.List.{All}
 use Rattle.court_days.specs.Court.{CourtSettings, zone_of}
@@ -51,7 +51,7 @@ pub record AreCircumstances (circumstances : Circumstances) (v : View) (a : Acti
   pub added : circumstances.added ≡ count_added v a
   pub made : circumstances.made ≡ length (deadlines_made v.local a)
 
--- the decision is this answer, unless memory is short
+-- the decision is this answer, unless memory ran out
 abbrev pub IsAnswer : Result Decision DecideFault → Answer → Type 0
 IsAnswer (Ok (decision.Repeat reply)) answer = answer ≡ repeated reply
 IsAnswer (Ok (decision.Change changes)) answer = answer ≡ accepted changes.reply

@@ -1,4 +1,4 @@
--- The rows of the ends of deadlines: one for each deadline whose time runs, with its end by the calendar that stands.
+-- The rows of the ends of deadlines: one for each deadline whose time runs, with its end by the present calendar.
 use Rattle.std.specs.Prelude.{◌≡◌, ◌≤◌, ℕ, ℤ, ◌+◌, ◌==◌, not, Bool, false, ◌&&◌, if◌then◌else◌, List, [], ◌∷◌, ◌++◌, map, filter, Option, Some, None}
 use Rattle.std.specs.List.{flat_map}
 use Rattle.std.specs.Option.{option_eq}
@@ -59,7 +59,7 @@ abbrev pub row_of_deadline : ZoneRules → Entered → List ActRow → DeadlineR
 row_of_deadline zone entered acts d =
     end_row d.case d.number (end_running zone (standing zone entered (acts_of_deadline d.case d.number acts)))
 
--- the calendar of the rows that stand
+-- the calendar of the present rows
 abbrev pub calendar_in : Tables → Entered
 calendar_in t = calendar_of (items_of t.calendar)
 
@@ -67,7 +67,7 @@ calendar_in t = calendar_of (items_of t.calendar)
 unfoldable pub end_rows : CourtSettings → Tables → List StoredEnd
 end_rows court t = flat_map (row_of_deadline (zone_of court) (calendar_in t) t.acts) t.deadlines
 
--- the same of a case
+-- the same for a case
 
 -- the ends of the deadlines of a case, by a calendar
 abbrev pub ends_running : ZoneRules → Entered → List DeadlineView → List (Option EndTime)

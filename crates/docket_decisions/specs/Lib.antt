@@ -6,5 +6,5 @@ pub mod EndRows
 pub mod Outcomes
 pub mod Refusals
 pub mod Tables
--- of the crates below, what contracts above speak of
+-- what contracts of crates above use of the crates below
 pub use Rattle.docket_values.specs.Values

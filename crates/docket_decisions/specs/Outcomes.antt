@@ -27,11 +27,11 @@ use Rattle.docket_history.specs.declared.view.CaseView.{CaseView}
 abbrev pub is_label_taken : Action → List CaseRow → Bool
 is_label_taken a rows = option_map_or (λ case. list_any (λ row. bytes_eq row.label case.label) rows) (opened a) false
 
--- the row that is to be withdrawn stands
+-- the row that is to be withdrawn is there
 abbrev pub is_row_standing : Action → List CalendarRow → Bool
 is_row_standing a rows = option_map_or (λ number. list_any (λ row. row.number == number) rows) (row_withdrawn a) false
 
--- the case of a number, if there is one, as it is shown about an action
+-- the case of a number, if there is one, as an action needs it
 abbrev pub case_of_number : History → Action → ℕ → Option CaseView
 case_of_number h a k =
     if nat_le 1 k && nat_le k (length (case_rows h))
@@ -64,7 +64,7 @@ calendar_reply v (imports rows) = length (fresh v.calendar rows)
 calendar_reply v (shortens a) = v.next_row
 calendar_reply v (withdraws number) = number
 
--- the reply to what is done in a case; where it is whether a filing was in time, 1 says so and 0 says no
+-- the reply to what is done in a case; where it is whether a filing was in time, 1 means yes and 0 no
 abbrev pub case_reply : CourtSettings → View → CaseReply → ℕ
 case_reply court v its_party = parties_in v.case + 1
 case_reply court v its_entry = entries_in v.case + 1
@@ -93,7 +93,7 @@ receipts court (c ∷ before) =
     receipts court before
     ++ record { command = c; reply = replied (reply_to court (shown_fresh before c.action) c.action) } ∷ []
 
--- what stands under a command's key: the command under it is the same or another
+-- what was accepted under a command's key: the same command or another
 abbrev pub kept_by : Option Receipt → Command → Kept
 kept_by None c = Fresh
 kept_by (Some r) c = if is_same_command r.command c then Same r.reply else Other

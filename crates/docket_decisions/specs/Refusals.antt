@@ -44,7 +44,7 @@ abbrev pub is_reused : Kept → Bool
 is_reused Other = true
 is_reused _ = false
 
--- the case that is named is none
+-- no case has the number that is named
 abbrev pub lacks_case : View → Action → Bool
 lacks_case v a = is_some (case_named a) && is_none v.case
 
@@ -52,15 +52,15 @@ lacks_case v a = is_some (case_named a) && is_none v.case
 abbrev pub is_no_party : View → ℕ → Bool
 is_no_party v party = nat_lt party 1 || nat_lt (parties_in v.case) party
 
--- a party that is named is none of the case
+-- the case has no such party as is named
 abbrev pub lacks_party : View → Action → Bool
 lacks_party v a = list_any (is_no_party v) (parties_named a)
 
--- the deadline that is named is none of the case
+-- the case has no such deadline as is named
 abbrev pub lacks_deadline : View → Action → Bool
 lacks_deadline v a = is_some (deadline_named a) && is_none (deadline_shown v)
 
--- the calendar row that is to be withdrawn does not stand
+-- the calendar row that is to be withdrawn is not there
 abbrev pub lacks_row : View → Action → Bool
 lacks_row v a = is_some (row_withdrawn a) && not v.row_stands
 
@@ -68,7 +68,7 @@ lacks_row v a = is_some (row_withdrawn a) && not v.row_stands
 abbrev pub lacks_local_rule : View → Action → Bool
 lacks_local_rule v a = is_some (rule_wanted a) && is_none v.local
 
--- the day stands under that kind, the span stands, or the day is short; of days that are imported those that stand are passed over
+-- the day is entered under that kind, the span is entered, or the day is short; of imported days those that are there are skipped
 abbrev pub stands_already : List CalendarItem → CalendarWork → Bool
 stands_already standing (enters row) = stands_among standing row.item
 stands_already standing (imports rows) = false
@@ -81,7 +81,7 @@ exists_by v (opens case) = v.label_taken
 exists_by v (enters_rule rule) = is_some v.local
 exists_by v (in_case work) = false
 
--- what is to be entered is there: the row of the calendar stands, or the label of the case or the name of the local rule is in use
+-- what is to be entered is there: the row of the calendar, or the label of the case or the name of the local rule is in use
 abbrev pub exists_already : View → Action → Bool
 exists_already v a = exists_by v (work a)
 
@@ -185,7 +185,7 @@ came_late v a = nat_lt (end_of_days (calendar_of v.calendar) Forward a.sent a.al
 abbrev pub is_late_waiver : View → Action → Bool
 is_late_waiver v a = option_map_or (came_late v) (waiver_filed a) false
 
--- a time by a local rule may be extended where that says so
+-- a time by a local rule may be extended where that rule allows it
 abbrev pub is_extendable_by : FoundRule → DeadlineRule → Bool
 is_extendable_by found (Listed rule) = is_extendable rule
 is_extendable_by None (Local name) = false
@@ -220,7 +220,7 @@ is_not_later court v a =
 abbrev pub count_added : View → Action → ℕ
 count_added v a = length (rows_added v.calendar a)
 
--- more than 4,000 rows would stand, or a row's number would pass 4,294,967,295
+-- the calendar would have more than 4,000 rows, or a row's number would pass 4,294,967,295
 abbrev pub is_calendar_full : View → ℕ → Bool
 is_calendar_full v added = nat_lt most_rows (length v.calendar + added) || nat_lt 4_294_967_296 (v.next_row + added)
 

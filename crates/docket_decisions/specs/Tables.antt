@@ -122,7 +122,7 @@ deadlines_in t k = deadlines_from k 1 t.acts (deadlines_of_case k t.deadlines)
 abbrev pub case_deadlines : Tables → ℕ → Option (List DeadlineView)
 case_deadlines t k = if is_case_in t k then Some (deadlines_in t k) else None
 
--- the case of a number, if there is one, as it is shown about an action
+-- the case of a number, if there is one, as an action needs it
 abbrev pub case_in : Tables → Action → ℕ → Option CaseView
 case_in t a k =
     if is_case_in t k

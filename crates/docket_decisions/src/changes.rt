@@ -200,7 +200,7 @@ fn push_local_rule(
     Ok(())
 }
 
-/// The changes of an action that no refusal meets, but for the receipt. It adds these rows to the
+/// The changes of an action that is not refused, but for the receipt. It adds these rows to the
 /// calendar.
 pub(crate) fn changes_of_action(
     alloc: Global,

@@ -127,7 +127,7 @@ fn later_method(a: &ServePleading) -> ServiceMethod
     }
 }
 
-/// The method of service to which the time of a pleading looks.
+/// The method of service that counts for the time of a pleading.
 fn pleading_method(a: &ServePleading) -> ServiceMethod
     ensures { result ≡ pleading_method a.now.basis a.now.served a.now.method a.now.attorney a.now.attorney_method }
 {
@@ -179,7 +179,7 @@ fn hours_ordered(
     })))
 }
 
-/// The first act of a time that the court orders, if its fields are as its unit wants them.
+/// The first act of a time that the court orders, if it has the fields that its unit needs.
 fn ordered(a: &OrderPeriod) -> Option<Act>
     ensures { result ≡ ordered a.now.unit a.now }
 {

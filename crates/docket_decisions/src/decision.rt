@@ -76,7 +76,7 @@ fn standing_shown(court: &Court, calendar: &Calendar, view: &View) -> Standing
     }
 }
 
-/// The reply to an action that no refusal meets.
+/// The reply to an action that is not refused.
 fn reply(circumstances: &Circumstances<'_>, view: &View, action: &Action) -> u32
     requires circumstances { AreCircumstances circumstances.now view.now action.now }
     requires rows { view.now.next_row ≤ 2 ^ 32 }
@@ -119,8 +119,8 @@ fn reply(circumstances: &Circumstances<'_>, view: &View, action: &Action) -> u32
     }
 }
 
-/// The answer to a command after the history that the view shows, and the changes that lead to the
-/// tables with the command. The view is one that a history can show.
+/// The answer to a command after the history that the view shows, and the changes that add the
+/// command to the tables. The view is one that a history can show.
 pub fn decide(
     alloc: Global,
     view: &View,

@@ -227,7 +227,7 @@ pub fn due_changes(
 ) -> Result<Vec<EndChange>, AllocError>
     requires few { length deadlines.now ≤ 1000 }
     requires acts { All (λ d. AreActs (zone_of court.now) d.acts) deadlines.now }
-    // Among the rows of all cases they give the case's rows, and leave those of other cases.
+    // Among the rows of all cases they lead to the case's rows, and leave those of other cases.
     ensures rows { (others : List Stored) → AllByRecursion (IsElsewhere case 1) others → AreRowsFrom case 1 stored.now
         → IfOk result (λ changes. IsPermutation (all_changed_ends changes.items (others ++ stored.now)) (others ++ end_rows_of (zone_of court.now) calendar.now case deadlines.now)) }
     // A row that is right is not touched.

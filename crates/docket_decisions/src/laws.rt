@@ -1,4 +1,4 @@
-//! What the definitions of specs/ say, with nothing to run.
+//! Laws of the definitions in specs/. Nothing here runs.
 ghost use Rattle.std.specs.Prelude.{◌≡◌, ◌↔◌, ℕ, ◌+◌, ◌∷◌, ◌++◌, [], List, Some, slice_get};
 ghost use Rattle.civil_time.specs.Zone.{ZoneRules};
 ghost use Rattle.court_days.specs.Court.{CourtSettings};
@@ -46,13 +46,13 @@ pub fn acts_are_in_order()
         → acts_of_deadline k (n + 1) (act_rows h) ≡ made.first ∷ gathered (acts_on k (n + 1)) (in_order h) }
 {}
 
-/// A row of the calendar stands if a command added it and no later one withdraws it.
+/// The calendar has a row if a command added it and no later one withdraws it.
 pub fn rows_stand_until_withdrawn()
     ensures { (h : History) (row : CalendarRow) → Contains (standing_rows h) row ↔ IsAddedAndKept h row }
 {}
 
-/// A short day moves no deadline: where each stands is a matter of the days and the spans of the calendar
-/// alone, which tell when the clerk's office was closed, and not of when it closes for the day.
+/// A short day moves no deadline. Where each stands depends only on the days and the spans of the
+/// calendar, not on when the clerk's office closes for the day.
 pub fn short_days_move_no_deadline()
     ensures alone { (zone : ZoneRules) (items : List CalendarItem) (acts : List Act)
         → standing zone (calendar_of (without_short_days items)) acts ≡ standing zone (calendar_of items) acts }

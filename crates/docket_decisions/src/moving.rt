@@ -15,8 +15,8 @@ use court_rules::{Act, due};
 use docket_history::{ActRow, Change, Subject, View};
 use std::alloc::{AllocError, Global};
 
-/// What is done about the stored ends: these changes are made, or, where days or spans of the calendar
-/// changed, the ends of the first so many cases are brought up to date by the rows that then stand.
+/// What is done about the stored ends. These changes are made; or, where days or spans of the calendar
+/// changed, the ends of the first so many cases are brought up to date by the rows after the change.
 #[derive(Drop)]
 pub enum EndUpdate {
     Moves(Vec<EndChange>),
@@ -92,7 +92,7 @@ fn end_moves(
     Ok(moves)
 }
 
-/// What is done about the stored ends with an action that no refusal meets, where the rows change so.
+/// What is done about the stored ends with an action that is not refused, where the rows change so.
 pub(crate) fn end_update(
     alloc: Global,
     court: &Court,

@@ -1,4 +1,4 @@
-//! When each refusal applies, and in which order they are looked for.
+//! When each refusal applies, and in which order they are checked.
 ghost use Rattle.std.specs.Prelude.{◌≡◌, None, map};
 ghost use Rattle.court_days.specs.Court.{CourtSettings, zone_of};
 ghost use Rattle.court_rules.specs.Standings.{IsEndAfter, StandsAfter, last_day};
@@ -267,7 +267,7 @@ fn is_not_later(court: &Court, action: &Action, standing: Standing) -> bool
     }
 }
 
-/// Whether more than 4,000 calendar rows would stand, or the number of one would pass 4,294,967,295.
+/// Whether the calendar would have more than 4,000 rows, or the number of one would pass 4,294,967,295.
 fn is_calendar_full(view: &View, added: usize) -> bool
     ensures { result ≡ is_calendar_full view.now added }
 {
@@ -303,7 +303,7 @@ fn is_full(circumstances: &Circumstances<'_>, view: &View, action: &Action) -> b
     }
 }
 
-/// The refusal of the first check that is met.
+/// The refusal of the first check that applies.
 fn first_met(checks: &[(bool, Refusal)]) -> Option<Refusal>
     ensures { result ≡ first_some (map (λ check. on check.0 check.1) checks.now) }
 {

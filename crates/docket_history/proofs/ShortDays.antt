@@ -1,4 +1,4 @@
--- No deadline looks at short days.
+-- No deadline depends on short days.
 use Rattle.std.proofs.Common.{◌≡◌, ◌∙◌, ℕ, Bool, true, false, cond, not, List, [], ◌∷◌, ◌++◌, pos, refl, sym, ap}
 use Rattle.std.specs.FinMap as map
 use Rattle.std.specs.Ordering.{nat_cmp}
@@ -95,7 +95,7 @@ entered-apart entered short (item.Day Closed day ∷ items) = entered-apart (wit
 entered-apart entered short (item.Span start end ∷ items) = entered-apart (with_span entered start end) short items
 entered-apart entered short (item.Short day close ∷ items) = entered-apart (with_short entered day close) short items
 
--- where a deadline stands is a matter of the days and the spans alone
+-- where a deadline stands depends on the days and the spans alone
 pub standing-apart : (zone : ZoneRules) (items : List CalendarItem) (acts : List Act)
     → standing zone (calendar_of (without_short_days items)) acts ≡ standing zone (calendar_of items) acts
 standing-apart zone items acts =

@@ -34,7 +34,7 @@ abbrev pub party_ordered : ℕ → List ℕ
 party_ordered zero = []
 party_ordered (suc n) = suc n ∷ []
 
--- a number that is told where it is asked for
+-- a number if it is asked for, else 0
 abbrev pub if_asked : Bool → ℕ → ℕ
 if_asked asked n = if asked then n else 0
 
@@ -49,16 +49,16 @@ imported new = day_row new.kind new.day new.name
 abbrev pub FoundRule : Type 0
 FoundRule = Option LocalRule
 
--- what a command does to the court calendar: it enters a day or a span, which may not stand already, or those days of a list that do
--- not stand, by all of which ends of any case may move; a short day, which moves none; or it withdraws a row
+-- what a command does to the court calendar. It enters a day or a span that must not be there already, or the days of a list that
+-- are not there yet; these may move ends of any case. Or it enters a short day, which moves none, or withdraws a row
 pub data CalendarWork : Type 0 where
   enters : NewRow → CalendarWork
   imports : List NewRow → CalendarWork
   shortens : ShortDay → CalendarWork
   withdraws : ℕ → CalendarWork
 
--- how a time has to stand for a command to act on it: it runs, it is neither done nor vacated, a motion suspends it, or it awaits a more
--- definite statement
+-- the state that a time must have for a command to act on it: it runs, it is neither done nor vacated, a motion suspends it, or it
+-- awaits a more definite statement
 pub data Wanted : Type 0 where
   a_running_time : Wanted
   an_open_time : Wanted
@@ -71,8 +71,8 @@ pub record DeadlineWork : Type 0 where
   pub wanted : Wanted
   pub acts : List Act
 
--- what the reply to a command tells of its case: the number of the party, the entry or the first deadline that it makes, that of the
--- deadline that it names, or whether what was filed at an instant in a way was in time
+-- what the reply to a command shows about its case: the number of the party, the entry or the first deadline that it makes, or of
+-- the deadline that it names. Or whether what was filed at an instant in a way was in time
 pub data CaseReply : Type 0 where
   its_party : CaseReply
   its_entry : CaseReply
@@ -95,7 +95,7 @@ pub record CaseWork : Type 0 where
   -- the party whose time for a first answer it begins: it is served with a summons, or its waiver is filed
   pub served : Option ℕ
   pub acting : Option DeadlineWork
-  -- the waiver, the motion, the ruling or the extension, of which more is asked
+  -- the waiver, the motion, the ruling or the extension, for which there are further refusals
   pub waiver : Option FileWaiver
   pub motion : Option RuleMotion
   pub ruling : Option Dispose
@@ -324,7 +324,7 @@ entered_by (imports rows) = None
 entered_by (shortens a) = Some (short_row a)
 entered_by (withdraws number) = None
 
--- the one row that it enters, where it enters one that may not stand already
+-- the one row that it enters, if that must not be there already
 abbrev pub row_entered : Action → Option NewRow
 row_entered a = option_and_then entered_by (calendar_work a)
 
@@ -334,7 +334,7 @@ imported_by (imports rows) = rows
 imported_by (shortens a) = []
 imported_by (withdraws number) = []
 
--- the rows that it imports, of which those are entered that do not stand
+-- the rows that it imports; those that are there already are not entered again
 abbrev pub rows_imported : Action → List NewRow
 rows_imported a = option_map_or imported_by (calendar_work a) []
 
@@ -370,7 +370,7 @@ may_enter (imports rows) = true
 may_enter (shortens a) = true
 may_enter (withdraws number) = false
 
--- for the number of the next calendar row: it may add some
+-- the number of the next calendar row: it may add some
 abbrev pub asks_next_row : Action → Bool
 asks_next_row a = option_map_or may_enter (calendar_work a) false
 
@@ -378,7 +378,7 @@ asks_next_row a = option_map_or may_enter (calendar_work a) false
 abbrev pub is_timed : CaseWork → Bool
 is_timed work = is_some work.acting || is_some work.deadlines
 
--- about the calendar: what it enters may stand already, or it is about a time of a case
+-- about the calendar: what it enters may be there already, or it is about a time of a case
 abbrev pub asks_calendar : Action → Bool
 asks_calendar a = asks_next_row a || option_map_or is_timed (case_work a) false
 

@@ -27,7 +27,7 @@ is_same_item _ _ = false
 abbrev pub stands_among : List CalendarItem → CalendarItem → Bool
 stands_among standing item = list_any (λ other. is_same_item other item) standing
 
--- those of the rows asked for that don't stand, the first of equals
+-- the requested rows that are not there yet, of equal rows the first
 abbrev pub fresh : List CalendarItem → List NewRow → List NewRow
 fresh standing [] = []
 fresh standing (new ∷ others) =
@@ -54,7 +54,7 @@ abbrev pub is_short_day : CalendarItem → Bool
 is_short_day (Short day close) = true
 is_short_day _ = false
 
--- the days and the spans: all that any end is a matter of
+-- the days and the spans: all that an end depends on
 abbrev pub without_short_days : List CalendarItem → List CalendarItem
 without_short_days items = filter (λ item. not (is_short_day item)) items
 
@@ -64,7 +64,7 @@ IsEnteredItem (Day kind day) = IsEnteredDay day
 IsEnteredItem (Span start end) = IsEnteredSpan start end
 IsEnteredItem (Short day close) = IsEnteredDay day
 
--- items that a court may enter, at most 4,000, and the calendar that they come to
+-- items that a court may enter, at most 4,000, and their calendar
 pub record IsStanding (items : List CalendarItem) (calendar : Entered) : Type 0 where
   pub entered : All IsEnteredItem items
   pub rows : length items ≤ most_rows

@@ -48,11 +48,11 @@ abbrev pub without_row : Option ℕ → List CalendarRow → List CalendarRow
 without_row None rows = rows
 without_row (Some number) rows = filter (λ row. not (row.number == number)) rows
 
--- the rows that an action adds to those that stand
+-- the rows that an action adds to those that are there
 abbrev pub rows_added : List CalendarItem → Action → List NewRow
 rows_added standing a = fresh standing (rows_asked a)
 
--- the rows that stand, and the number of the next row: rows are numbered from 1 over all that were ever added
+-- the present rows, and the number of the next row: rows are numbered from 1 over all that were ever added
 abbrev mutual
   pub standing_rows : History → List CalendarRow
   standing_rows [] = []

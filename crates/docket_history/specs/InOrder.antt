@@ -26,7 +26,7 @@ abbrev pub numbered_by : {A R : Type 0} → (ℕ → A → R) → ℕ → List A
 numbered_by row number [] = []
 numbered_by row number (x ∷ xs) = row number x ∷ numbered_by row (number + 1) xs
 
--- what each gives, one after another
+-- the lists that a function returns for the elements, joined
 abbrev pub gathered : {A B : Type 0} → (A → List B) → List A → List B
 gathered give [] = []
 gathered give (x ∷ xs) = give x ++ gathered give xs

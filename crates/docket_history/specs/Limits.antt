@@ -9,9 +9,9 @@ use Rattle.docket_history.specs.Histories.{History, standing_rows, items_of, nex
 use Rattle.docket_history.specs.declared.row.LocalRuleRow.{LocalRuleRow}
 use Rattle.court_days.specs.Limits.{most_rows}
 
--- at most 4,000 rows of the calendar stand, each of which a court may enter, and rows have numbers up to 4,294,967,295; there
--- are at most 100,000 cases, each with at most 1,000 parties, 10,000 entries and 1,000 deadlines, each of which has lawful acts,
--- at most 100; and at most 1,000 local rules, each with lawful values
+-- The calendar has at most 4,000 rows, each of which a court may enter, with numbers up to 4,294,967,295. There are at most
+-- 100,000 cases, each with at most 1,000 parties, 10,000 entries and 1,000 deadlines, each with lawful acts, at most 100. There
+-- are at most 1,000 local rules, each with lawful values.
 pub record IsWithinLimits (court : CourtSettings) (h : History) : Type 0 where
   pub items : All IsEnteredItem (items_of (standing_rows h))
   pub rows : length (standing_rows h) ≤ most_rows

@@ -1,4 +1,4 @@
--- What a history tells of its cases and deadlines.
+-- What a history defines about its cases and deadlines.
 use Rattle.std.specs.Prelude.{ℕ, zero, suc, ◌+◌, ◌&&◌, if◌then◌else◌, nat_le, List, [], ◌∷◌, length, slice_get, find, bytes_eq, Option, Some, None}
 use Rattle.court_days.specs.Calendar.{Entered}
 use Rattle.court_days.specs.Court.{CourtSettings, zone_of}

@@ -1,4 +1,4 @@
--- The rows of the calendar in two lists, since short days stand in a table of their own: those that enter days and spans, and those
+-- The rows of the calendar in two lists, since short days have a table of their own: those that enter days and spans, and those
 -- that enter short days.
 use Rattle.std.specs.Prelude.{ℕ, List, not, filter, Option, Some, None}
 use Rattle.std.specs.List.{filter_map}

@@ -72,7 +72,7 @@ deadline_of all a = option_and_then (deadline_at all) (deadline_named a)
 abbrev pub last_act : List Act → Option Act
 last_act acts = slice_get acts (length acts - 1)
 
--- the deadline is vacated: its last act says so
+-- the deadline is vacated, by its last act
 abbrev pub is_vacated_by : Option Act → Bool
 is_vacated_by (Some act.Vacated) = true
 is_vacated_by _ = false
@@ -88,7 +88,7 @@ has_initial all party = list_any (λ d. d.party == party && (d.initial && not (i
 abbrev pub is_served_among : List DeadlineView → Action → Bool
 is_served_among all a = option_map_or (has_initial all) (party_served a) false
 
--- a case with so many parties and entries, and these deadlines, as it is shown about an action: what the action asks about
+-- a case with so many parties and entries, and these deadlines, as an action needs it: what the action asks about
 abbrev pub case_shown : ℕ → ℕ → ℕ → List DeadlineView → Action → CaseView
 case_shown k parties entries all a = record {
   number = k;

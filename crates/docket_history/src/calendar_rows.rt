@@ -1,4 +1,4 @@
-//! The calendar of the standing rows, and the rows that an action adds to them.
+//! The calendar of its present rows, and the rows that an action adds to them.
 ghost use Rattle.std.specs.Prelude.{◌≡◌, ◌+◌, ◌≤◌, ◌<◌, ◌++◌, ◌∷◌, [], map, length, IfOk, OnOk};
 ghost use Rattle.std.specs.List.{All, list_any};
 ghost use Rattle.court_days.specs.LocalTime.{seconds};
@@ -16,7 +16,7 @@ use court_days::{Calendar, CalendarFault, Day, DayKind};
 use docket_command::{Action, NewDay, Text};
 use std::alloc::{AllocError, Global};
 
-/// A fault for which nothing but memory can be the cause.
+/// The error for a fault that only a lack of memory can cause.
 fn want_of_memory(fault: CalendarFault) -> AllocError
     requires { fault ≡ Fault.NoMemory }
 {
@@ -94,14 +94,14 @@ fn is_in_rows(rows: &[NewRow], item: CalendarItem) -> bool
     rows.iter().any(|row| row.item.is_same(item))
 }
 
-/// Whether the item is among those that stand or in the rows.
+/// Whether the item is among those that are there or in the rows.
 fn is_among(standing: &[CalendarItem], rows: &[NewRow], item: &CalendarItem) -> bool
     ensures { result ≡ stands_among (standing.now ++ map (λ row. row.item) rows.now) item.now }
 {
     stands_among(standing, *item) || is_in_rows(rows, *item)
 }
 
-/// Adds a row, if what it enters doesn't stand.
+/// Adds a row, if what it enters is not there yet.
 fn push_fresh(
     alloc: Global,
     rows: &mut Vec<NewRow>,
@@ -121,7 +121,7 @@ fn push_fresh(
     Ok(())
 }
 
-/// The row, if what it enters doesn't stand.
+/// The row, if what it enters is not there yet.
 fn fresh_row(
     alloc: Global,
     standing: &[CalendarItem],
@@ -135,7 +135,7 @@ fn fresh_row(
     Ok(rows)
 }
 
-/// The rows of days that are imported, those that don't stand, the first of equals.
+/// The rows of the imported days that are not there yet, of equal days the first.
 fn fresh_days(
     alloc: Global,
     standing: &[CalendarItem],
@@ -151,7 +151,7 @@ fn fresh_days(
     Ok(rows)
 }
 
-/// The rows that an action adds to those that stand.
+/// The rows that an action adds to those that are there.
 pub fn rows_added(
     alloc: Global,
     standing: &[CalendarItem],

@@ -7,9 +7,9 @@ ghost use Rattle.docket_history.specs.declared.item.CalendarItem.TheVariants as 
 use court_days::{Day, DayKind};
 use docket_command::{Moment, Text, TimeOfDay};
 
-/// What a row of the calendar enters: a day under a kind, a span of time in which the clerk's office
-/// is inaccessible, from its start up to but not with its end, or a day on which it is scheduled to
-/// close earlier, at that time.
+/// What a row of the calendar enters: a day under a kind, or a span of time in which the clerk's
+/// office is inaccessible, from its start up to but not with its end. Or a day on which the office
+/// is scheduled to close earlier, at that time.
 #[derive(Clone, Copy)]
 pub enum CalendarItem {
     Day(DayKind, Day),
@@ -79,7 +79,7 @@ impl CalendarItem {
     }
 }
 
-/// Whether the item is among those that stand.
+/// Whether the item is among those that are there.
 pub fn stands_among(standing: &[CalendarItem], item: CalendarItem) -> bool
     ensures { result ≡ stands_among standing.now item }
 {

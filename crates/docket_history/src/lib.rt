@@ -1,9 +1,9 @@
 //! The docket of a history of commands: its rows, its records and what it shows about a command.
 //!
 //! The history itself is ghost (specs/Histories): which cases, parties, entries, deadlines and acts it
-//! has, and which rows of the calendar stand. Here are the types of its rows and of what is told of
-//! them, what an action names and asks about, the calendar that the standing rows enter, and the lines
-//! of a case's deadlines.
+//! has, and which rows the calendar has. This crate has the types of its rows and of the answers about
+//! them. It also has what an action names and asks about, the calendar of the present rows, and the
+//! lines of a case's deadlines.
 #![tactic(auto)]
 
 mod calendar_rows;

@@ -1,4 +1,4 @@
-//! What a docket tells of its cases and deadlines.
+//! What a docket returns about its cases and deadlines.
 ghost use Rattle.std.specs.Prelude.{◌≡◌};
 
 use crate::row::{EntryRow, PartyRow};
@@ -77,8 +77,8 @@ pub struct CaseRecord {
 }
 
 /// A deadline of a case, and where it stands. The party is 0 for every party, the rule is its name;
-/// `close` is the minute of the day at which the clerk's office is scheduled to close on the last day,
-/// and 0 where the time ends at an instant or none runs.
+/// `close` is the minute of the day at which the clerk's office is scheduled to close on the last day.
+/// It is 0 where the time ends at an instant or none runs.
 #[derive(Drop)]
 pub struct DeadlineLine {
     pub number: u32,

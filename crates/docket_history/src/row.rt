@@ -107,7 +107,7 @@ pub struct Receipt {
 }
 
 /// A row that is added, or the number of a calendar row that is removed. A receipt is no such row:
-/// whoever keeps receipts adds it for the command, with the reply.
+/// the store of receipts adds it for the command, with the reply.
 #[derive(Drop)]
 pub enum Change {
     AddCalendar(CalendarRow),

@@ -1,4 +1,4 @@
-//! The calendar that stands.
+//! The calendar as it is at present.
 ghost use Rattle.std.specs.Prelude.{◌≡◌, ◌≤◌, [], length, IfOk};
 ghost use Rattle.std.specs.List.{All};
 ghost use Rattle.docket_history.specs.CalendarItems.{calendar_of, IsEnteredItem};
@@ -10,8 +10,8 @@ use court_days::Calendar;
 use std::alloc::{AllocError, Global};
 use std::marker::Model;
 
-/// What the standing rows of the calendar enter, in the order of their numbers, and the calendar that
-/// this comes to, which is built once. A contract sees the list of items: ones that a court may enter,
+/// What the present rows of the calendar enter, in the order of their numbers, and the calendar of
+/// these items, which is built once. A contract sees the list of items: ones that a court may enter,
 /// at most 4,000.
 #[derive(Drop)]
 pub struct StandingCalendar {
@@ -60,7 +60,7 @@ impl StandingCalendar {
         self.items.as_slice()
     }
 
-    /// The calendar that the items come to.
+    /// The calendar of the items.
     pub fn calendar(&self) -> &Calendar
         ensures { result.now ≡ calendar_of self.now }
     {

@@ -10,8 +10,8 @@ use docket_command::{Action, NewDay, Text};
 /// What an action asks about.
 #[derive(Clone, Copy)]
 pub struct Asks {
-    /// The calendar: what it enters may stand already, it is judged by the end of a time, or an end
-    /// moves by what it makes.
+    /// The calendar: what the action enters may be there already, it is judged by the end of a
+    /// time, or it moves an end.
     pub calendar: bool,
     /// The number of the next calendar row: it may add some.
     pub next_row: bool,
@@ -245,8 +245,8 @@ pub(crate) fn local_rule_named(action: &Action) -> Option<&Text>
     }
 }
 
-/// The one row that it enters in the calendar, where it enters one that may not stand already: the item
-/// and its name.
+/// The one row that it enters in the calendar, if that must not be there already: the item and its
+/// name.
 pub fn row_entered(action: &Action) -> Option<(CalendarItem, &str)>
     ensures { option_map (λ row. record { item = row.0; name = row.1.now }) result ≡ row_entered action.now }
 {
@@ -264,7 +264,7 @@ pub fn row_entered(action: &Action) -> Option<(CalendarItem, &str)>
     }
 }
 
-/// The days that it imports in the calendar, of which those are entered that do not stand.
+/// The days that it imports in the calendar; those that are there already are not entered again.
 pub(crate) fn days_imported(action: &Action) -> &[NewDay]
     ensures { map imported result.now ≡ rows_imported action.now }
 {

@@ -9,8 +9,8 @@ use court_rules::{Act, DeadlineRule};
 use docket_command::{Action, LocalRule, Reply, Text};
 use std::marker::Model;
 
-/// What stands under a command's key: nothing, the same command with the reply that it had, or
-/// another command.
+/// What was accepted under a command's key: nothing, the same command with the reply that it had,
+/// or another command.
 #[derive(Clone, Copy)]
 pub enum Kept {
     Fresh,
@@ -58,9 +58,9 @@ pub struct DeadlineView {
 }
 
 /// The case that a command names, as far as the command asks about it: its number, how many parties,
-/// entries and deadlines it has (0 where the command doesn't ask), the deadline that the command names,
-/// and whether the party that is served with a summons, or whose waiver is filed, has an initial
-/// deadline that is not vacated.
+/// entries and deadlines it has (0 where the command doesn't ask), and the deadline that the command
+/// names. Also whether the party that is served with a summons, or whose waiver is filed, has an
+/// initial deadline that is not vacated.
 #[derive(Drop)]
 pub struct CaseView {
     pub number: u32,
@@ -120,7 +120,7 @@ fn deadline_of(deadlines: Vec<DeadlineView>, action: &Action) -> Option<Deadline
     }
 }
 
-/// A number, where it is asked for, and 0 elsewhere.
+/// The number if it is asked for, else 0.
 fn if_asked(asked: bool, number: u32) -> u32
     ensures { result ≡ if_asked asked number }
 {
@@ -128,7 +128,7 @@ fn if_asked(asked: bool, number: u32) -> u32
 }
 
 impl CaseView {
-    /// A case with so many parties and entries, and these deadlines, as it is shown about an action.
+    /// A case with so many parties and entries, and these deadlines, as an action needs it.
     pub fn new(
         number: u32,
         parties: u32,
@@ -185,12 +185,12 @@ pub fn rule_name_asked<'a>(case: &'a Option<CaseView>, action: &'a Action) -> Op
     }
 }
 
-/// What a docket shows about a command, which is what the command asks about: what stands under its
-/// key, how many cases there are (0 where it doesn't ask), whether the label of its new case is in use,
-/// the case that it names, whether the calendar row that it withdraws stands, what the calendar's rows
-/// enter (nothing where it doesn't ask), the number of the next calendar row (0 where it adds none), the
-/// local rule that it names, or by which the deadline is timed that it extends, and how many local rules
-/// there are (0 where it enters none).
+/// What a docket shows about a command, which is what the command asks about. First what was accepted
+/// under its key, how many cases there are (0 where it doesn't ask), and whether the label of its new
+/// case is in use. Then the case that it names, whether the calendar has the row that it withdraws, and
+/// what the calendar's rows enter (nothing where it doesn't ask). Then the number of the next calendar
+/// row (0 where it adds none), and the local rule that it names, or that times the deadline that it
+/// extends. Last how many local rules there are (0 where it enters none).
 #[derive(Drop)]
 pub struct View {
     pub under_key: Kept,

@@ -1,4 +1,4 @@
--- From what the docket answers to what is replied.
+-- From the docket's answer to the reply.
 use Rattle.std.proofs.Common.{◌≡◌, IsTrue, IsErrAnd, inl, inr, ℕ, List, Some, None, Result, Ok, Err, refl, sym, ap, subst, ◌∙◌, true}
 use Rattle.sqlite.specs.Store.{Ghosts}
 use Rattle.sqlite.specs.State.{HasCleanDisk}
@@ -68,7 +68,7 @@ module _ {S : Type 0} (g : Ghosts S) where
       → Replies g d h wish body r
   short_replied d h wish body r told takes stands = passed_on d h wish body r fault.NoMemory told (λ clean. (takes, inl stands))
 
-  -- a command whose answer could not be told
+  -- a command whose answer could not be built
   pub said_short : (d : Docket S) (h : History) (c : Command) (said : Result Number Refusal) (len : ℕ) (body : List ℕ) (r : Result Reply Fault) → IsErrAnd r (λ e. e ≡ fault.NoMemory)
       → Answers g d h c said → command_in body ≡ Ok c → Replies g d h (CommandWish len) body r
   said_short d h c said len body r told answers spells =
@@ -117,7 +117,7 @@ module _ {S : Type 0} (g : Ghosts S) where
   replies_as d h a b x y result same_wish same_body replies =
       subst (λ (w : Wish). Replies g d h w y result) same_wish (subst (λ (z : List ℕ). Replies g d h a z result) same_body replies)
 
-  -- a reply, or what is told in its place
+  -- a reply, or what is sent in its place
   abbrev pub Tells : Docket S → History → Wish → List ℕ → Reply → Type 0
   Tells d h wish body reply = (response : Response) × IsReply reply response × IsAnswered g d h wish body response
 

@@ -29,7 +29,7 @@ pub closed_faulty : (len : ℕ) (body : List ℕ) (f : WireFault) (reply : Reply
     → RepliesClosed (CommandWish len) body (Ok reply)
 closed_faulty len body f reply spells is = (json 400 (fault_text f), is, inl (ap closed_command (sym spells)))
 
--- a question that is told that the docket is closed
+-- a question whose result is that the docket is closed
 pub closed_told : (wish : Wish) (body : List ℕ) (r : Result Reply Fault) → r ≡ Err fault.Closed → IsClosedAnswer wish body (problem_response Closed) → RepliesClosed wish body r
 closed_told wish body r is answer = subst (λ (x : Result Reply Fault). RepliesClosed wish body x) (sym is) answer
 
@@ -83,7 +83,7 @@ read_closed routes input wish body o n (Err serve.ReadFailed) asked closed = abs
 read_closed routes input wish body o n (Err serve.EndedEarly) asked closed = absurd closed.sent
 read_closed routes input wish body o n (Err serve.CopyWanted) asked closed = absurd closed.sent
 
--- memory was short before the request was read
+-- memory ran out before the request was read
 pub unread_closed : (routes : Routes) (input o n : Option (List ℕ)) (r : Result Served ServeFault)
     → IfOk r (λ s. Appends o n (reply_bytes (Fixed NoMemory)) × (s.status ≡ 500))
     → IfErr r (λ e. (e ≡ serve.WriteFailed) × AppendsFront o n (reply_bytes (Fixed NoMemory)))

@@ -1,4 +1,4 @@
--- What an answer leaves of the docket of a history, whatever was told.
+-- What an answer leaves of the docket of a history, whatever was sent.
 use Rattle.std.proofs.Common.{◌≡◌, ◌==◌, ◌⊎◌, inl, inr, ℕ, true, false, List, Option, Some, None, Result, Ok, Err, refl, ap, ◌∙◌}
 use Rattle.sqlite.specs.Store.{Ghosts}
 use Rattle.court_days.specs.Court.{CourtSettings}
@@ -22,7 +22,7 @@ use Rattle.docket_http.specs.declared.head.Form.TheVariants.{Html, Text}
 use Rattle.docket_http.specs.declared.problem.Problem.{Problem}
 use Rattle.docket_http.specs.declared.problem.Problem.TheVariants.{Rejected, NoSuchCase, NoCopy, NoMemory, Store, Closed, Damaged}
 
--- no answer to what is asked says 503
+-- no answer to a request has status 503
 
 rejected_fine : (r : Rejection) → (rejection_status r == 503) ≡ false
 rejected_fine rejection.HeadTooLong = refl
@@ -61,7 +61,7 @@ module _ {S : Type 0} (g : Ghosts S) (d : Docket S) (h : History) (wish : Wish) 
   says : {b : _} (other : Response) → response ≡ other → (other.status == 503) ≡ b → (response.status == 503) ≡ b
   says other is fine = ap (λ (r : Response). r.status == 503) is ∙ fine
 
-  -- the docket stands for the history or for the next one; or it failed and is closed, and 503 was told
+  -- the docket is that of the history or of the next one; or it failed and is closed, and the status is 503
   abbrev pub Left : Type 0
   Left =
       ((Stands g d h ⊎ Stands g d (history_after d.court h wish body)) × ((response.status == 503) ≡ false))

@@ -32,7 +32,7 @@ module _ {S : Type 0} (g : Ghosts S) where
   pub as_it_was : (d : Docket S) → OnlyWrites g d d
   as_it_was d = record { court = refl; clean = omega arith; any = λ rows n stored are small holds. inl (lasting g d.conn rows holds) }
 
-  -- a reply of which the docket was not asked
+  -- a reply that does not need the docket
   pub unasked : (d : Docket S) (wish : Wish) (body : List ℕ) (r : Result Reply Fault) → RepliesClosed wish body r → IfOk r (RepliesBacked g d wish body) → OnlyReplies g d d wish body r
   unasked d wish body r closed backed = record { writes = as_it_was d; closed = λ shut. (refl, closed); recorded = λ rows. backed }
 

@@ -1,4 +1,4 @@
--- What is told of a command is recorded.
+-- The reply that is sent to a command is recorded.
 use Rattle.std.proofs.Common.{◌≡◌, IfOk, IfErr, inl, inr, ℕ, List, Option, Result, Ok, Err, refl, subst, arith}
 use Rattle.std.specs.Io.KnownBytes.{Appends}
 use Rattle.sqlite.specs.Store.{Ghosts}
@@ -33,7 +33,7 @@ use Rattle.docket_http.specs.declared.fault.ServeFault.TheVariants as serve
 use Rattle.docket_http.specs.declared.sending.Served.{Served}
 use Rattle.docket_http.proofs.ClosedLemmas.{sends_reply}
 
--- no problem is told by 200
+-- no problem has status 200
 
 no_rejection : (r : Rejection) → rejection_status r ≡ 200 → ⊥
 no_rejection rejection.HeadTooLong is = omega (arith, is)
@@ -118,7 +118,7 @@ module _ {S : Type 0} (g : Ghosts S) (d : Docket S) where
   unread routes input o n (Err serve.EndedEarly) sent = tt
   unread routes input o n (Err serve.CopyWanted) sent = tt
 
-  -- memory was short before the request was read
+  -- memory ran out before the request was read
   pub unread_backed : (routes : Routes) (input o n : Option (List ℕ)) (r : Result Served ServeFault)
       → IfOk r (λ s. Appends o n (reply_bytes (Fixed problem.NoMemory)) × (s.status ≡ 500))
       → IfErr r (λ e. (e ≡ serve.WriteFailed) × AppendsFront o n (reply_bytes (Fixed problem.NoMemory)))

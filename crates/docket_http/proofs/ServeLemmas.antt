@@ -1,4 +1,4 @@
--- From the writing of a reply to what a connection is served.
+-- From the writing of a reply to what a connection gets.
 use Rattle.std.proofs.Common.{◌≡◌, ◌⊎◌, ◌+◌, ◌++◌, [], inl, inr, ℕ, List, Option, None, Result, Ok, Err, IfOk, IfErr, true, false, length, take, take_at, length-append, refl, sym, ap, subst, ◌∙◌, arith}
 use Rattle.std.proofs.KnownBytes.{Appends-trans}
 use Rattle.std.specs.Io.KnownBytes.{Appends}
@@ -46,11 +46,11 @@ begins_of : (a b : Option (List ℕ)) (text : List ℕ) → HasBegun a b text �
 unfolding front_of
 begins_of a b text f = record { front = front_of a b text f.front; begun = f.begun }
 
--- what comes behind nothing
+-- what is written after nothing
 nothing_front : (a b c : Option (List ℕ)) (x : List ℕ) → Appends a b [] → AppendsFront b c x → AppendsFront a c x
 nothing_front a b c x k f = record { count = f.count; within = f.within; front = Appends-trans a b c [] (take f.count x) k f.front }
 
--- what ends the writing of an answer is told by nothing else
+-- a failed write is a fault of writing an answer
 pub writing_own : IsOfWriting serve.WriteFailed
 writing_own = (λ is. absurd (cc), λ is. absurd (cc), λ is. absurd (cc))
 
@@ -114,7 +114,7 @@ module _ {S : Type 0} (g : Ghosts S) where
   read_fails d old (Ok s) routes input wish body o n asked delivers = tt
   read_fails d old (Err e) routes input wish body o n asked delivers = λ h stands clean. read_broken d old e h routes input wish body o n asked (delivers h stands clean)
 
-  -- memory was short before the request was read
+  -- memory ran out before the request was read
   pub unread_whole : (old : Docket S) (r : Result Served ServeFault) (routes : Routes) (input : Option (List ℕ)) (o n : Option (List ℕ))
       → IfOk r (λ s. Appends o n (response_bytes (problem_response NoMemory)) × (s.status ≡ 500))
       → IfOk r (λ s. (h : History) → Stands g old h → HasCleanDisk (state g old.conn) → Serves g routes input old old h o n s.status)

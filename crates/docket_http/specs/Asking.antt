@@ -1,4 +1,4 @@
--- What a request is answered, and what it leaves of the docket.
+-- The answer to a request, and what the request leaves of the docket.
 use Rattle.std.specs.Prelude.{◌≡◌, ◌⊎◌, ℕ, Bool, true, false, IsTrue, List, Option, Some, None, Result, Ok, Err}
 use Rattle.sqlite.specs.Store.{Ghosts}
 use Rattle.sqlite.specs.State.{HasCleanDisk}
@@ -36,24 +36,24 @@ abbrev pub said_status : Result Number Refusal → ℕ
 said_status (Ok reply) = 200
 said_status (Err r) = 409
 
--- the reply to a repeat is the one that it had
+-- a repeat gets the reply that the command got at first
 abbrev pub outcome_response : Answer → Response
 outcome_response (accepted reply) = json 200 (reply_text (Ok reply))
 outcome_response (repeated reply) = json 200 (reply_text (Ok reply))
 outcome_response (refused r) = json 409 (reply_text (Err r))
 
--- a body that spells no command is told its fault
+-- the answer to a body that spells no command is its fault
 abbrev pub command_response : CourtSettings → History → Result Command WireFault → Response
 command_response court h (Ok c) = outcome_response (outcome court h c)
 command_response court h (Err fault) = json 400 (fault_text fault)
 
--- the text of a page, if there is what it shows
+-- the text of a page, if what it shows exists
 abbrev pub text_of_page : CourtSettings → History → Page → Option (List ℕ)
 text_of_page court h (page.Cases from) = Some (page_of_cases h from)
 text_of_page court h (page.Case number) = page_of_case court h number
 text_of_page court h (page.Days from to) = Some (page_of_days court h from to)
 
--- the answer to what is asked, with this body; of the file in which it is kept a docket has no copy to give
+-- the answer to a request with this body; a docket has no copy of its own file to send
 abbrev pub response_to : CourtSettings → History → Wish → List ℕ → Response
 response_to court h (Reject rejection) body = problem_response (Rejected rejection)
 response_to court h (CommandWish len) body = command_response court h (command_in body)
@@ -68,24 +68,24 @@ abbrev pub after_reading : CourtSettings → History → Result Command WireFaul
 after_reading court h (Ok c) = after court h c
 after_reading court h (Err fault) = h
 
--- the history after it: only a command that is accepted adds to it
+-- the history after the request: only an accepted command adds to it
 abbrev pub history_after : CourtSettings → History → Wish → List ℕ → History
 history_after court h (CommandWish len) body = after_reading court h (command_in body)
 history_after court h _ body = h
 
--- whether the docket is asked
+-- whether the answer needs the docket
 abbrev pub asks_docket : Wish → Bool
 asks_docket (Reject rejection) = false
 asks_docket (Holidays year) = false
 asks_docket Copy = false
 asks_docket _ = true
 
--- whether memory is taken to answer: what is told to a request that is refused by its head is a constant
+-- whether the answer needs memory: the answer to a request that is refused by its head is a constant
 abbrev pub takes_memory : Wish → Bool
 takes_memory (Reject rejection) = false
 takes_memory _ = true
 
--- what is told where the docket gave no reply
+-- the problem that is sent if the docket gave no reply
 abbrev pub problem_of_fault : Fault → Problem
 problem_of_fault fault.NoMemory = NoMemory
 problem_of_fault fault.StoreFailed = Store
@@ -104,15 +104,15 @@ IsBuilt (Holidays year) = Unit {0}
 IsBuilt (PageWish page) = Unit {0}
 IsBuilt Copy = Unit {0}
 
--- the answer, or the problem that is told in its place
+-- the answer, or the problem that is sent in its place
 abbrev pub told : Option Problem → Response → Response
 told None response = response
 told (Some problem) response = problem_response problem
 
 module _ {S : Type 0} (g : Ghosts S) where
-  -- what is left of the docket where this was told: with the answer, the docket that the answer reports; where memory was short, that or
-  -- the docket before; where the database failed, a power failure leaves the one or the other, and the docket is closed. No other problem is
-  -- told in an answer's place
+  -- what remains of the docket after this was sent: with the answer, the docket that it reports; if memory ran out, that or the docket
+  -- before. If the database failed, a power failure leaves the one or the other, and the docket is closed. No other problem is sent in an
+  -- answer's place
   abbrev pub LeftBy : Option Problem → Docket S → History → Wish → List ℕ → Type 0
   LeftBy None d h wish body = Stands g d (history_after d.court h wish body)
   LeftBy (Some NoMemory) d h wish body = IsTrue (takes_memory wish) × (Stands g d h ⊎ Stands g d (history_after d.court h wish body))
@@ -120,7 +120,7 @@ module _ {S : Type 0} (g : Ghosts S) where
       IsTrue (asks_docket wish) × LastsAsEither g d.conn (docket_rows d.court h) (docket_rows d.court (history_after d.court h wish body)) × (d.closed ≡ true)
   LeftBy (Some _) d h wish body = ⊥
 
-  -- what the docket replies to what is asked, and what it leaves
+  -- the docket's reply to a request, and what it leaves
   abbrev pub Replies : Docket S → History → Wish → List ℕ → Result Reply Fault → Type 0
   Replies d h wish body (Ok reply) =
       HasCleanDisk (state g d.conn) → IsReply reply (response_to d.court h wish body) × LeftBy None d h wish body
@@ -129,19 +129,19 @@ module _ {S : Type 0} (g : Ghosts S) where
   Replies d h wish body (Err fault.Damaged) = HasCleanDisk (state g d.conn) → ⊥
   Replies d h wish body (Err _) = ⊥
 
-  -- a reply to what is asked, and what it leaves
+  -- an answer to a request, and what it leaves
   pub record IsAnswered (d : Docket S) (h : History) (wish : Wish) (body : List ℕ) (response : Response) : Type 0 where
     pub problem : Option Problem
     pub is : response ≡ told problem (response_to d.court h wish body)
     pub left : LeftBy problem d h wish body
 
--- what a closed docket answers to the text of a command: one that spells none is told its fault
+-- a closed docket's answer to the text of a command: the answer to a text that spells none is its fault
 abbrev pub closed_command : Result Command WireFault → Response
 closed_command (Ok c) = problem_response Closed
 closed_command (Err fault) = json 400 (fault_text fault)
 
--- what is answered on a closed docket: where it is asked, that it is closed. What does not ask it is answered as ever. Memory may be short
--- where it is taken: to read a command, and to tell holidays
+-- the answer on a closed docket: a request that needs the docket gets that it is closed, and any other its usual answer. Memory may run out
+-- while a command is read or holidays are written
 abbrev pub IsClosedAnswer : Wish → List ℕ → Response → Type 0
 IsClosedAnswer (Reject rejection) body response = response ≡ problem_response (Rejected rejection)
 IsClosedAnswer (CommandWish len) body response = (response ≡ closed_command (command_in body)) ⊎ (response ≡ problem_response NoMemory)
@@ -152,7 +152,7 @@ IsClosedAnswer (PageWish page) body response = response ≡ problem_response Clo
 IsClosedAnswer Copy body response = response ≡ problem_response NoCopy
 IsClosedAnswer (Holidays year) body response = (response ≡ fine Text (holiday_text year)) ⊎ (response ≡ problem_response NoMemory)
 
--- the reply of a closed docket, and what it replies before a fault is told as a problem
+-- the reply of a closed docket, and its result before a fault is sent as a problem
 abbrev pub IsClosedReply : Wish → List ℕ → Reply → Type 0
 IsClosedReply wish body reply = (response : Response) × IsReply reply response × IsClosedAnswer wish body response
 

@@ -1,4 +1,4 @@
--- What an answer leaves of any docket, whether or not a history leads to its rows: what is told of a command is recorded.
+-- What an answer leaves of any docket, whether or not a history leads to its rows: the reply that is sent to a command is recorded.
 use Rattle.std.specs.Prelude.{◌≡◌, ◌≤◌, ◌⊎◌, true, ℕ, List, Option, Result, Ok, Err, IfOk, IfErr}
 use Rattle.sqlite.specs.Held.{state}
 use Rattle.sqlite.specs.Store.{Ghosts}
@@ -24,7 +24,7 @@ use Rattle.docket_http.specs.declared.reply.Reply.{Reply}
 use Rattle.docket_http.specs.declared.sending.Served.{Served}
 
 module _ {S : Type 0} (g : Ghosts S) where
-  -- the body spells a command, its reply is told, and a receipt of it with that reply stands
+  -- the body spells a command, the answer is its reply, and the docket holds a receipt of it with that reply
   pub record IsTold (d : Docket S) (body : List ℕ) (response : Response) : Type 0 where
     pub command : Command
     pub reply : Number
@@ -32,7 +32,7 @@ module _ {S : Type 0} (g : Ghosts S) where
     pub told : response ≡ json 200 (reply_text (Ok reply))
     pub recorded : IsRecorded g d command reply
 
-  -- an answer that says 200 to a command
+  -- an answer to a command with status 200
   abbrev pub IsBacked : Docket S → List ℕ → Response → Type 0
   IsBacked d body response = response.status ≡ 200 → IsTold d body response
 
@@ -41,7 +41,7 @@ module _ {S : Type 0} (g : Ghosts S) where
   RepliesBacked d (CommandWish len) body reply = (response : Response) × IsReply reply response × IsBacked d body response
   RepliesBacked d _ body reply = Unit {0}
 
-  -- the answer to a command went out, or a front of it where the writer failed
+  -- the answer to a command went out, or, if the writer failed, a front of it
   pub record SendsBacked (d : Docket S) (body : List ℕ) (before after : Option (List ℕ)) (result : Result Served ServeFault) : Type 0 where
     pub response : Response
     pub backed : IsBacked d body response
@@ -51,7 +51,7 @@ module _ {S : Type 0} (g : Ghosts S) where
   SentBacked d (CommandWish len) body before after result = SendsBacked d body before after result
   SentBacked d _ body before after result = Unit {0}
 
-  -- what a connection comes to: its answer to what was read, or what tells that memory was short before it was read whole
+  -- what a connection gets: the answer to its request, or that memory ran out before the request was read whole
   abbrev pub ServesBacked : Routes → Option (List ℕ) → Docket S → Option (List ℕ) → Option (List ℕ) → Result Served ServeFault → Type 0
   ServesBacked routes input d before after (Err serve.ReadFailed) = Unit {0}
   ServesBacked routes input d before after (Err serve.EndedEarly) = Unit {0}

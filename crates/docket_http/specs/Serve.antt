@@ -1,4 +1,4 @@
--- What a connection is served, and what is left where it is not served whole.
+-- What a connection gets, and what remains if it does not get it whole.
 use Rattle.std.specs.Prelude.{◌≡◌, ◌≢◌, ◌≤◌, ◌⊎◌, ℕ, false, List, Option, Some, None, IfSome, Result, Ok, Err}
 use Rattle.std.specs.Io.KnownBytes.{Appends, Keeps}
 use Rattle.sqlite.specs.Store.{Ghosts}
@@ -19,7 +19,7 @@ use Rattle.docket_http.specs.declared.fault.ServeFault.{ServeFault}
 use Rattle.docket_http.specs.declared.fault.ServeFault.TheVariants as serve
 use Rattle.docket_http.specs.declared.sending.Served.{Served}
 
--- what a calendar comes to whose docket failed in the middle
+-- the fault of a calendar whose docket failed after the calendar had begun
 abbrev pub fault_of_broken : Fault → ServeFault
 fault_of_broken fault.NoMemory = serve.NoMemory
 fault_of_broken fault.StoreFailed = serve.StoreFailed
@@ -27,7 +27,7 @@ fault_of_broken fault.Closed = serve.StoreFailed
 fault_of_broken fault.Damaged = serve.StoreFailed
 fault_of_broken (fault.Refused r) = serve.StoreFailed
 
--- why the writing of an answer ends: the reading was done, and no copy is wanted
+-- a fault of writing an answer: the request was read, and no copy is wanted
 abbrev pub IsOfWriting : ServeFault → Type 0
 IsOfWriting e = (e ≢ serve.ReadFailed) × (e ≢ serve.EndedEarly) × (e ≢ serve.CopyWanted)
 
@@ -36,17 +36,17 @@ pub record Begins (before after : Option (List ℕ)) (bytes : List ℕ) : Type 0
   pub front : AppendsFront before after bytes
   pub begun : 1 ≤ front.count
 
--- the input asks for this, where it is known
+-- the input, if it is known, asks for this
 abbrev pub IsAsked : Routes → Option (List ℕ) → Wish → List ℕ → Type 0
 IsAsked routes input wish body = IfSome input (λ bytes. IsRequest routes bytes wish body)
 
--- the answer went out, or a front of it where the writer failed
+-- the answer went out, or, if the writer failed, a front of it
 abbrev pub Sends : Response → Option (List ℕ) → Option (List ℕ) → Result Served ServeFault → Type 0
 Sends response before after (Ok served) = Appends before after (response_bytes response) × (served.status ≡ response.status)
 Sends response before after (Err serve.WriteFailed) = AppendsFront before after (response_bytes response)
 Sends response before after (Err _) = ⊥
 
--- the answer where a copy was made of the docket's file, and where none was; memory may be short for the head of a copy
+-- the answer if a copy of the docket's file was made, and if none was; memory may run out for the head of a copy
 abbrev pub IsCopyAnswer : Option (List ℕ) → Response → Type 0
 IsCopyAnswer None response = response ≡ problem_response NoCopy
 IsCopyAnswer (Some copy) response = (response ≡ fine File copy) ⊎ (response ≡ problem_response NoMemory)
@@ -57,7 +57,7 @@ pub record SendsCopy (copy : Option (List ℕ)) (before after : Option (List ℕ
   pub is : IsCopyAnswer copy response
   pub sent : Sends response before after result
 
--- a copy of the docket's file is asked for, which the docket does not give: it is as it was, and not closed
+-- the request asks for a copy of the docket's file, which the docket does not send itself: it is as it was, and not closed
 pub record WantsCopy {S : Type 0} (routes : Routes) (input : Option (List ℕ)) (old new : Docket S) : Type 0 where
   pub body : List ℕ
   pub asked : IsAsked routes input Copy body
@@ -70,7 +70,7 @@ pub record SendsClosed (wish : Wish) (body : List ℕ) (before after : Option (L
   pub closed : IsClosedAnswer wish body response
   pub sent : Sends response before after result
 
--- what a connection comes to on a closed docket: its answer to what was read, or what tells that memory was short before it was read whole
+-- what a connection gets on a closed docket: the answer to its request, or that memory ran out before the request was read whole
 abbrev pub ServesClosed : Routes → Option (List ℕ) → Option (List ℕ) → Option (List ℕ) → Result Served ServeFault → Type 0
 ServesClosed routes input before after (Err serve.ReadFailed) = Keeps before after
 ServesClosed routes input before after (Err serve.EndedEarly) = Keeps before after × IfSome input (EndsEarly routes)
@@ -80,21 +80,21 @@ ServesClosed routes input before after result =
     ⊎ Sends (problem_response NoMemory) before after result
 
 module _ {S : Type 0} (g : Ghosts S) where
-  -- an answer went out whole, and the docket is left as it says
+  -- an answer went out whole, and the docket is as it reports
   pub record IsServed (d : Docket S) (h : History) (wish : Wish) (body : List ℕ) (before after : Option (List ℕ)) (status : ℕ) : Type 0 where
     pub response : Response
     pub answered : IsAnswered g d h wish body response
     pub written : Appends before after (response_bytes response)
     pub status_told : status ≡ response.status
 
-  -- a front of an answer went out, and the docket is left as it says
+  -- a front of an answer went out, and the docket is as the answer reports
   pub record IsCut (d : Docket S) (h : History) (wish : Wish) (body : List ℕ) (before after : Option (List ℕ)) : Type 0 where
     pub response : Response
     pub answered : IsAnswered g d h wish body response
     pub front : AppendsFront before after (response_bytes response)
 
-  -- what is left of a request that was read and not answered whole: only a calendar, once it has begun, breaks off for another cause than a
-  -- writer that failed
+  -- what remains of a request that was read and not answered whole: the writer failed, or a calendar had begun and memory ran out or the
+  -- database failed
   abbrev pub IsBroken : Docket S → History → Wish → List ℕ → Option (List ℕ) → Option (List ℕ) → ServeFault → Type 0
   IsBroken d h wish body before after serve.WriteFailed = IsCut d h wish body before after
   IsBroken d h wish body before after serve.NoMemory =
@@ -103,18 +103,18 @@ module _ {S : Type 0} (g : Ghosts S) where
       LeftBy g (Some Store) d h wish body × Begins before after (response_bytes (response_to d.court h wish body)) × (IsBuilt wish → ⊥)
   IsBroken d h wish body before after _ = ⊥
 
-  -- what came of a request that was read
+  -- the outcome of a request that was read
   abbrev pub Delivers : Docket S → History → Wish → List ℕ → Option (List ℕ) → Option (List ℕ) → Result Served ServeFault → Type 0
   Delivers d h wish body before after (Ok served) = IsServed d h wish body before after served.status
   Delivers d h wish body before after (Err e) = IsBroken d h wish body before after e
 
-  -- memory was short before the request was read whole, and this was told, or a front of it
+  -- memory ran out before the request was read whole, and the answer says so
   pub record GivesUp (old new : Docket S) (before after : Option (List ℕ)) (status : ℕ) : Type 0 where
     pub same : new ≡ old
     pub written : Appends before after (response_bytes (problem_response NoMemory))
     pub status_told : status ≡ 500
 
-  -- a connection was served: by the answer to what was read, or by what tells that memory was short before it was read whole
+  -- a connection was served: it got the answer to its request, or that memory ran out before the request was read whole
   abbrev pub Serves : Routes → Option (List ℕ) → Docket S → Docket S → History → Option (List ℕ) → Option (List ℕ) → ℕ → Type 0
   Serves routes input old new h before after status =
       ((wish : Wish) × (body : List ℕ) × IsAsked routes input wish body × IsServed new h wish body before after status)
@@ -124,8 +124,8 @@ module _ {S : Type 0} (g : Ghosts S) where
   Unserved routes input old new h before after e =
       (wish : Wish) × (body : List ℕ) × IsAsked routes input wish body × IsBroken new h wish body before after e
 
-  -- a connection was not served whole: before the request was read whole nothing was written and the docket is as it was, and so where a copy is
-  -- wanted
+  -- a connection was not served whole: if reading failed or the input ended early, or a copy is wanted, nothing was written and the docket is as
+  -- it was
   abbrev pub Fails : Routes → Option (List ℕ) → Docket S → Docket S → History → Option (List ℕ) → Option (List ℕ) → ServeFault → Type 0
   Fails routes input old new h before after serve.ReadFailed = (new ≡ old) × Keeps before after
   Fails routes input old new h before after serve.EndedEarly = (new ≡ old) × Keeps before after × IfSome input (EndsEarly routes)

@@ -22,7 +22,7 @@ use http_request::{Page, Request, Wish};
 use sqlite::Alter;
 use std::alloc::Global;
 
-/// What the docket replies to a request whose answer is built before it is written.
+/// Returns the docket's reply to a request whose answer is built before it is written.
 fn reply_to<S: Alter>(
     alloc: Global,
     docket: &mut Docket<S>,
@@ -51,10 +51,10 @@ fn reply_to<S: Alter>(
                 question_reply(alloc, docket, Form::Html, &DaysPage { from, to })
             }
         },
-        // Never comes here: a calendar is not built before it is written.
+        // Not reached: a calendar is not built before it is written.
         Wish::Calendar(..) => Ok(Reply::Fixed(Problem::Damaged)),
         Wish::Holidays(year) => Ok(holidays_reply(alloc, year)?),
-        // Comes here where the docket is closed: else the caller is told that a copy is wanted.
+        // Reached only if the docket is closed: else `serve_one` returns that a copy is wanted.
         Wish::Copy => Ok(Reply::Fixed(Problem::NoCopy)),
     }
 }

@@ -1,4 +1,4 @@
-//! Questions, and what they are answered.
+//! Questions, and the answers to them.
 ghost use Rattle.std.specs.Prelude.{IfOk};
 ghost use Rattle.std.specs.Int.{IsInRange};
 ghost use Rattle.docket_history.specs.Histories.{History};
@@ -19,7 +19,7 @@ use http::StatusCode;
 use sqlite::Alter;
 use std::alloc::{AllocError, Global};
 
-/// The answer to a question: its text in that form, or that there is no such case.
+/// Returns the answer to a question: its text in that form, or that there is no such case.
 pub(crate) fn question_reply<S: Alter, Q: Question>(
     alloc: Global,
     docket: &mut Docket<S>,
@@ -37,7 +37,7 @@ pub(crate) fn question_reply<S: Alter, Q: Question>(
     }
 }
 
-/// The holidays of a year, which are asked of no docket.
+/// Returns the holidays of a year, for which no docket is read.
 pub(crate) fn holidays_reply(alloc: Global, year: u32) -> Result<Reply, AllocError>
     requires { IsInRange 2000 2099 year }
     ensures { IfOk result (λ reply. IsReply reply (fine Text (text_of_holidays year))) }

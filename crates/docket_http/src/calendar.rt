@@ -19,7 +19,7 @@ use http::StatusCode;
 use sqlite::Alter;
 use std::io::Write;
 
-/// What a calendar comes to whose docket failed in the middle.
+/// The fault of a calendar whose docket failed in the middle.
 fn broken(fault: Fault) -> ServeFault
     ensures fault { result ≡ fault_of_broken fault }
     ensures own { IsOfWriting result }

@@ -1,4 +1,4 @@
-//! Commands, and what they are answered.
+//! Commands, and the answers to them.
 ghost use Rattle.std.specs.Prelude.{◌≡◌, ℕ, List, IfOk, IfErr, Ok};
 ghost use Rattle.docket_history.specs.Histories.{History};
 ghost use Rattle.docket_applying.specs.Applying.{Stands};
@@ -52,7 +52,7 @@ fn fault_reply(alloc: Global, fault: WireFault) -> Result<Reply, AllocError>
     json_reply(alloc, StatusCode::BAD_REQUEST, text)
 }
 
-/// The command that a text spells, or why it spells none.
+/// Returns the command that a text spells, or why it spells none.
 fn reading(alloc: Global, body: &[u8]) -> Result<Result<Command, WireFault>, Fault>
     ensures read { IfOk result (λ read. command_in body.now ≡ read) }
     ensures fault { IfErr result (λ e. e ≡ fault.NoMemory) }

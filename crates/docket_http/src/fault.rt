@@ -6,16 +6,16 @@ use std::fmt;
 pub enum ServeFault {
     /// A read failed. Nothing was written.
     ReadFailed,
-    /// A write failed, or took nothing. A front of the answer went out.
+    /// A write failed, or wrote nothing. A front of the answer went out.
     WriteFailed,
     /// The input ended before the request did. Nothing was written.
     EndedEarly,
-    /// A calendar stopped in the middle for want of memory.
+    /// A calendar stopped in the middle because memory ran out.
     NoMemory,
-    /// A calendar stopped in the middle since the database failed.
+    /// A calendar stopped in the middle because the database failed.
     StoreFailed,
-    /// A copy of the file is asked for in which the docket is kept. Nothing was written: the copy is for the
-    /// caller to give (`send_copy`).
+    /// The request asks for a copy of the file in which the docket is kept. Nothing was written: the caller
+    /// sends the copy (`send_copy`).
     CopyWanted,
 }
 

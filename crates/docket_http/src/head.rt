@@ -6,7 +6,7 @@ ghost use Rattle.docket_http.specs.declared.head.Form.TheVariants.{OpenText};
 use http::StatusCode;
 use std::fmt;
 
-/// What a body is.
+/// The form of a body.
 #[derive(Clone, Copy)]
 pub(crate) enum Form {
     Json,
@@ -36,9 +36,9 @@ impl fmt::Display for Form {
     }
 }
 
-/// The lines of the fields `content-security-policy` and `cache-control`, which a page has: a browser runs
-/// no script for it, takes nothing from elsewhere, shows it in no other page, and keeps no copy of it. A file
-/// is saved, under the name that `content-disposition` gives it.
+/// The lines of the fields `content-security-policy` and `cache-control`, which a page has. A browser runs no
+/// script for it, loads nothing from elsewhere, shows it in no other page, and stores no copy of it. A file
+/// is saved, under the name in `content-disposition`.
 #[derive(Clone, Copy)]
 struct PolicyLine(Form);
 
@@ -63,7 +63,7 @@ impl fmt::Display for PolicyLine {
     }
 }
 
-/// The line of the field `content-length`, where the end of a body is told by it.
+/// The line of the field `content-length`, where it marks the end of a body.
 #[derive(Clone, Copy)]
 struct LengthLine {
     form: Form,

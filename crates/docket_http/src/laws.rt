@@ -7,7 +7,7 @@ ghost use Rattle.http_request.specs.declared.page.Routes.{Routes};
 ghost use Rattle.http_request.specs.declared.wish.Wish.{Wish};
 ghost use Rattle.docket_http.specs.Asking.{history_after};
 
-/// A docket changes by no request but one that the guard lets through.
+/// Only a request that the guard lets through changes a docket.
 pub fn commands_are_let_through()
     ensures { (routes : Routes) (input : List ℕ) (wish : Wish) (body : List ℕ) (court : CourtSettings) (h : History)
         → IsRequest routes input wish body → ¬ (history_after court h wish body ≡ h) → IsLetThrough routes input }

@@ -1,8 +1,8 @@
 //! One connection to a docket: one request of HTTP/1.0 or 1.1, one answer.
 //!
-//! What is written is the answer to what was read, in whatever pieces the request came, and the docket
-//! then stands for the history that the answer reports. A request that is refused by its head asks
-//! nothing of the docket and takes no memory to answer.
+//! The bytes written are the answer to the bytes read, in whatever pieces the request came. The docket then
+//! holds the history that the answer reports. A request that is refused by its head asks nothing of the
+//! docket and takes no memory to answer.
 #![tactic(auto)]
 
 mod answering;

@@ -1,4 +1,4 @@
-//! Answers that tell a problem. They are constants, so that telling one takes no memory.
+//! Answers that report a problem. They are constants, so that writing one takes no memory.
 ghost use Rattle.std.specs.Prelude.{◌≡◌};
 ghost use Rattle.docket_http.specs.Answer.{problem_status, problem_response, response_bytes, rejection_status};
 ghost use Rattle.docket_http.specs.Asking.{problem_of_fault};
@@ -92,7 +92,7 @@ impl Problem {
     }
 }
 
-/// What is told where the docket gave no reply. A refusal of a command is a reply.
+/// The problem to report where the docket gave no reply. A refusal of a command is a reply.
 pub(crate) fn problem_of(fault: Fault) -> Problem
     ensures { result ≡ problem_of_fault fault }
 {

@@ -23,7 +23,7 @@ pub(crate) enum Reply {
         head: String,
         body: Vec<u8>,
     },
-    /// One that tells a problem.
+    /// One that reports a problem.
     Fixed(Problem),
 }
 

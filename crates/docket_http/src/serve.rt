@@ -27,7 +27,7 @@ use sqlite::Alter;
 use std::alloc::Global;
 use std::io::{Read, Write};
 
-/// The days of a calendar that is asked for.
+/// The days of the calendar that is wanted.
 fn days_of(wish: &Wish) -> Option<(Day, Day)>
     ensures { MatchOption result (IsBuilt wish.now) (λ days. wish.now ≡ Calendar days.0 days.1) }
 {
@@ -59,17 +59,17 @@ fn serve_request<W: Write, S: Alter>(
     }
 }
 
-/// Whether a copy is wanted of the file in which a docket is kept that is open.
+/// Whether the request wants a copy of the file of an open docket.
 fn wants_copy<S: Alter>(docket: &Docket<S>, wish: &Wish) -> bool
     ensures { result ≡ true → (wish.now ≡ Copy) × (docket.now.closed ≡ false) }
 {
     matches!(wish, Wish::Copy) && !docket.is_closed()
 }
 
-/// Serves one request of a connection: what is written is the answer to what was read, and the docket
-/// then stands for the history that this answer reports. A closed docket stays as it is, and a request
-/// that asks it is told that it is closed. Pages are shown where they are among the routes. Where a copy
-/// of the file is asked for in which the docket is kept, nothing is written, and that is told.
+/// Serves one request of a connection: writes the answer to the request that it reads, and the docket then
+/// holds the history that this answer reports. A closed docket stays as it is, and the answer to a request
+/// that needs it reports that it is closed. Pages are shown if they are among the routes. If the request asks
+/// for a copy of the file in which the docket is kept, it writes nothing and returns `CopyWanted`.
 pub fn serve_one<R: Read, W: Write, S: Alter>(
     alloc: Global,
     reader: &mut R,
@@ -90,13 +90,13 @@ pub fn serve_one<R: Read, W: Write, S: Alter>(
         → HasCleanDisk (state S.Store docket.new.conn)
         → Fails S.Store routes.now (R.remaining reader.old) docket.old docket.new h
         (W.contents writer.old) (W.contents writer.new) e) }
-    // Of any docket, a command that is told its reply has its receipt.
+    // For any docket, a command whose reply is written has its receipt.
     ensures recorded { HoldsDocketRows S.Store docket.old
         → ServesBacked S.Store routes.now (R.remaining reader.old) docket.new (W.contents writer.old) (W.contents writer.new) result }
-    // Where no request was read, nothing was written and the docket is as it was.
+    // If no request was read, nothing was written and the docket is as it was.
     ensures untouched { IfErr result (λ e. (e ≡ ServeFault.ReadFailed) ⊎ (e ≡ ServeFault.EndedEarly)
         → (docket.new ≡ docket.old) × Keeps (W.contents writer.old) (W.contents writer.new)) }
-    // A copy is wanted where one is asked for of an open docket, and nowhere else.
+    // A copy is wanted where a request asks an open docket for one, and nowhere else.
     ensures copy { result ≡ Err ServeFault.CopyWanted
         → WantsCopy routes.now (R.remaining reader.old) docket.old docket.new × (writer.new ≡ writer.old) }
 {

@@ -1,4 +1,4 @@
--- From what clap's matches give to the rows of its parse.
+-- From the values of clap's matches to the rows of its parse.
 use Rattle.std.proofs.Common.{◌≡◌, [], List, Some, ap, option_map, rules, unwrap_or}
 use Rattle.clap.specs.Matches.{first_value, subcommand_name_of}
 use Rattle.clap.specs.Simple.{subcommand_rows_of}

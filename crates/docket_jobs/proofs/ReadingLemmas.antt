@@ -1,4 +1,4 @@
--- What a parse of the words gives, and which faults it tells.
+-- What a parse of the words returns, and which faults it reports.
 use Rattle.std.proofs.Common.{◌≡◌, List, [], ◌∷◌, Option, Some, None, is_some, if◌then◌else◌, true, refl, sym, ap, subst, ◌∙◌, inl, inr}
 use Rattle.clap.specs.Faults.{fault_of, is_simple_and_free}
 use Rattle.clap.specs.Kinds.{HasKind, Kinds, or_else}

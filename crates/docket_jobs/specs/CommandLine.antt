@@ -19,7 +19,7 @@ flag_rule name = record (new_rule name) { long = Some name; action = Some SetTru
 abbrev pub required : Rule → Rule
 required rule = record rule { required = true }
 
--- it is as if that were given, where nothing is
+-- that value counts where none is given
 abbrev pub with_default : Text → Rule → Rule
 with_default value rule = record rule { defaults = value ∷ [] }
 
@@ -95,7 +95,7 @@ bare_line = on_top (λ top. record top { has_version = true }) (new_app (codes "
 abbrev pub with_entering : App → App
 with_entering line = with_subcommand (with_subcommand (with_subcommand (with_subcommand line count_line.top) create_line.top) run_line.top) import_line.top
 
--- with those that tell of cases and deadlines
+-- with those that show cases and deadlines
 abbrev pub with_telling : App → App
 with_telling line = with_subcommand (with_subcommand (with_subcommand (with_subcommand (with_subcommand line case_line.top) cases_line.top) calendar_line.top) export_line.top) explain_line.top
 

@@ -281,7 +281,7 @@ asked_in (Some met) = asked_by met.0 met.1
 abbrev pub asked_of : List Text → Option Asked
 asked_of words = asked_in (subcommand_of docketctl words)
 
--- which kind of error the words are told, none where they have a job
+-- the kind of error that is reported for the words, none where they ask for a job
 abbrev pub line_faults : List Text → Kinds
 line_faults words = or_else (fault_of docketctl words) (if is_some (asked_of words) then [] else ValueValidation ∷ [])
 

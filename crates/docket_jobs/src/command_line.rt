@@ -75,7 +75,7 @@ fn optional_place<'a>(alloc: Global, id: &'a str, value: &'a str, help: &'a str)
     place(alloc, id, value, help).required(false)
 }
 
-/// An option that is as if `default` were given, where it is not.
+/// An option whose value is `default` where it is not given.
 fn option_or<'a>(
     alloc: Global,
     id: &'a str,
@@ -360,7 +360,7 @@ fn bare_command<'a>(alloc: Global) -> Result<Command<'a>, AllocError>
     )
 }
 
-/// The program with one subcommand more, once that is made.
+/// Returns the program with one more subcommand, unless making that failed.
 fn add<'a>(
     program: Command<'a>,
     made: Result<Command<'a>, AllocError>,
@@ -398,7 +398,7 @@ fn add_keeping<'a>(alloc: Global, program: Command<'a>) -> Result<Command<'a>, A
     add(program, serve_command(alloc))
 }
 
-/// The program's command line, with its subcommands in the order in which help tells them.
+/// The program's command line, with its subcommands in the order in which help lists them.
 pub(crate) fn command<'a>(alloc: Global) -> Result<Command<'a>, AllocError>
     ensures { IfOk result (HasLine docketctl) }
 {

@@ -1,5 +1,5 @@
-//! What the command lines ask for that name days: the deadlines of a range of days, in lines or in a
-//! format of other programs, and the holidays of a year or of a range of days.
+//! The jobs of the command lines that name days. They print the deadlines of a range of days, in lines or in
+//! a format of other programs, and the holidays of a year or of a range of days.
 ghost use Rattle.std.specs.Prelude.{◌≡◌, ℕ, IfOk, MatchResult, None, Some, option_map};
 ghost use Rattle.clap.specs.Matches.{found_of};
 ghost use Rattle.clap.specs.Walk.{rows_of};
@@ -78,7 +78,7 @@ fn range_job<'a>(file: &'a str, from: &str, to: &str, form: Form) -> Result<Job<
     })
 }
 
-/// A case goes alone, and otherwise two days.
+/// A case is given alone; otherwise two days are given.
 #[tactic(auto, using(crate::proofs::MatchLemmas::first_value_is))]
 pub(crate) fn export_job<'a>(found: &ArgMatches<'a>) -> Result<Job<'a>, BadValue<'a>>
     ensures { MatchResult result (λ job. export_asked (rows_of (found_of found.now)) ≡ Some (asked job))
@@ -112,7 +112,7 @@ fn court_calendar_job<'a>(file: &'a str, from: &str, to: &str) -> Result<Job<'a>
     Ok(Job::CourtCalendar { file, from, to })
 }
 
-/// A year goes alone, and a file with two days.
+/// A year is given alone, and a file with two days.
 #[tactic(auto, using(crate::proofs::MatchLemmas::first_value_is))]
 pub(crate) fn holidays_job<'a>(found: &ArgMatches<'a>) -> Result<Job<'a>, BadValue<'a>>
     ensures limited { IfOk result IsLimited }

@@ -42,26 +42,26 @@ pub enum Job<'a> {
         file: &'a str,
         key: &'a str,
     },
-    /// `case`: tell a case, of a number from 1 on, of the docket in a file.
+    /// `case`: print a case, of a number from 1 on, of the docket in a file.
     Case {
         file: &'a str,
         number: u32,
     },
-    /// `cases`: tell the cases of the docket in a file; that of a label, where one is given, and those with a
-    /// party whose name holds a text.
+    /// `cases`: print the cases of the docket in a file; that of a label, where one is given, and those with
+    /// a party whose name holds a text.
     Cases {
         file: &'a str,
         label: Option<&'a str>,
         party: Option<&'a str>,
     },
-    /// `calendar`: tell the deadlines that fall due from one day to another, which is not before it, of
-    /// the docket in a file.
+    /// `calendar`: print the deadlines that fall due from one day to another, which is not before it, of the
+    /// docket in a file.
     Calendar {
         file: &'a str,
         from: Day,
         to: Day,
     },
-    /// `export`: tell the deadlines that fall due from one day to another, which is not before it, of the
+    /// `export`: print the deadlines that fall due from one day to another, which is not before it, of the
     /// docket in a file, in a format.
     Export {
         file: &'a str,
@@ -69,22 +69,22 @@ pub enum Job<'a> {
         to: Day,
         form: Form,
     },
-    /// `export` of a case: tell its docket sheet as a page, of a number from 1 on, of the docket in a file.
+    /// `export` of a case: print its docket sheet as a page, of a number from 1 on, of the docket in a file.
     Sheet {
         file: &'a str,
         number: u32,
     },
-    /// `explain` with a file: tell the steps by which the end of a deadline of a case was found, of numbers
+    /// `explain` with a file: print the steps by which the end of a deadline of a case was found, of numbers
     /// from 1 on, of the docket in a file.
     Explain {
         file: &'a str,
         case: u32,
         deadline: u32,
     },
-    /// `explain` without a file: answer lines of days from the input, each that asks for an end by its
-    /// steps.
+    /// `explain` without a file: answer lines of days from the input. A line that asks for an end is answered
+    /// by its steps.
     ExplainLines,
-    /// `check`: tell whether the tables of the docket in a file are sound.
+    /// `check`: print whether the tables of the docket in a file are sound.
     Check {
         file: &'a str,
     },
@@ -109,17 +109,17 @@ pub enum Job<'a> {
         guard: bool,
         origin: Option<&'a str>,
     },
-    /// `rules`: tell the rules by which deadlines run, with the local rules of the docket in a file, where
+    /// `rules`: print the rules by which deadlines run, with the local rules of the docket in a file, where
     /// one is given.
     Rules {
         file: Option<&'a str>,
     },
-    /// `holidays`: tell the statutory holidays of a year from 2000 to 2099.
+    /// `holidays`: print the statutory holidays of a year from 2000 to 2099.
     Holidays {
         year: u32,
     },
-    /// `holidays` with a file: tell the statutory holidays, and what the court entered in its calendar, from
-    /// one day to another, which is not before it, of the docket in a file.
+    /// `holidays` with a file: print the statutory holidays, and what the court of its docket entered in its
+    /// calendar, from one day to another, which is not before it.
     CourtCalendar {
         file: &'a str,
         from: Day,
@@ -222,7 +222,7 @@ fn stored_job<'a>(file: &'a str, case: &str, deadline: &str) -> Result<Job<'a>, 
     })
 }
 
-/// Only with a file there is a deadline to explain.
+/// Without a file there is no deadline to explain.
 #[tactic(auto, using(crate::proofs::MatchLemmas::first_value_is))]
 fn explain_job<'a>(found: &ArgMatches<'a>) -> Result<Job<'a>, BadValue<'a>>
     ensures { MatchResult result (λ job. explain_asked (rows_of (found_of found.now)) ≡ Some (asked job))
@@ -282,7 +282,7 @@ fn read_origin<'a>(guarded: bool, origin: Option<&'a str>) -> Result<Option<&'a 
     }
 }
 
-/// How many connections are served, none where all that come are.
+/// Returns how many connections to serve, or none where all that come are served.
 fn read_limit<'a>(count: Option<&'a str>, endless: bool) -> Result<Option<u32>, BadValue<'a>>
     ensures { MatchResult result (λ limit. limit_of (option_copied count.entry) endless ≡ Some limit)
         (λ _. limit_of (option_copied count.entry) endless ≡ None) }
@@ -395,7 +395,7 @@ fn job_in<'a>(
     }
 }
 
-/// The error that tells a bad value, with the usage of the command.
+/// Returns the error that reports a bad value, with the usage of the command.
 fn told<'a>(
     alloc: Global,
     command: &mut Command<'_>,
@@ -407,7 +407,7 @@ fn told<'a>(
     command.error(ErrorKind::ValueValidation, message.as_str())
 }
 
-/// What the words ask for, the first of which is the program's name. The error is what to print: a
+/// Returns what the words ask for, the first of which is the program's name. The error is what to print: a
 /// bad command line, a help text or the version.
 pub fn read_job<'a>(alloc: Global, words: &'a [String]) -> Result<Job<'a>, Error>
     ensures job { IfOk result (λ job. asked_of (map string_bytes words.now) ≡ Some (asked job)) }

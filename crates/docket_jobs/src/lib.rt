@@ -1,4 +1,4 @@
-//! The command line of `docketctl`: what its words ask for, and what `--help` tells.
+//! The command line of `docketctl`: what its words ask for, and what `--help` prints.
 #![tactic(auto)]
 
 mod command_line;

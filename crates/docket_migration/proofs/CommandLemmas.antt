@@ -1,4 +1,4 @@
--- What a statement that writes comes to under any schema that understands it.
+-- What a statement that writes compiles to under any schema that understands it.
 use Rattle.std.proofs.Common.{◌≡◌, ◌∙◌, ◌&&◌, ◌==◌, ℕ, Bool, true, false, if◌then◌else◌, List, [], length, not, slice_get, Ok, Err, Option, Some, None, is_some, refl, sym, ap, subst}
 use Rattle.sqlite_ast.specs.declared.Statement.TheVariants as written
 use Rattle.sqlite_ast.specs.declared.Expr.{Expr}

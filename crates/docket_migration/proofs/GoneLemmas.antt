@@ -1,4 +1,4 @@
--- What the change and the looking at it come to.
+-- The result of the change, and of reading after it.
 use Rattle.std.proofs.Common.{◌≡◌, ◌⊎◌, ◌∙◌, inl, inr, ℕ, [], drop, length, false, true, refl, sym, ap, subst, arith}
 use Rattle.std.specs.List.{AllByRecursion}
 use Rattle.sqlite_schema.specs.declared.schema.Table.{Table as Shape}
@@ -34,7 +34,7 @@ gone_between a b s u start end it = record {
   empty = λ table lacks. rows_again table s u [] end (it.empty table lacks);
 }
 
--- the court was read, then all was changed, and then it was looked at
+-- the court was read, then all was changed, and then it was read
 pub gone : (old read changed new : State) (court : CourtRow) → HoldsCourt First court old → IsUnchanged old read → KeepsTables read.now changed.now
     → HoldsCourt Second court changed → AreNewEmpty changed → IsUnchanged changed new → HasGone old new
 gone old read changed new court was early tables is empty late =

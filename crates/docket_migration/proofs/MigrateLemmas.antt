@@ -1,4 +1,4 @@
--- What the judging and the change of the version leave of a database, one after the other.
+-- What the check and the change of the version leave of a database, one after the other.
 use Rattle.std.proofs.Common.{◌≡◌, ◌≢◌, ◌∙◌, ◌≤◌, ◌⊎◌, inl, inr, ℕ, pos, [], ◌∷◌, true, false, append-nil, map, refl, sym, ap, subst, Result, Ok, Err, IfErr, OnErr, OnOk, arith}
 use Rattle.sqlite.specs.Effect.{Database, IsDatabase}
 use Rattle.sqlite.specs.Order.{Row, column}
@@ -69,7 +69,7 @@ still_settled v old new rows crash clean was same = record {
   images = λ db may. elim (crash.crash clean db may) [ inl earlier ↦ was.images db earlier | inr none ↦ absurd none ];
 }
 
--- a database that has gone over from sound tables has sound ones
+-- a database that has moved from sound tables has sound ones
 
 module _ (old new : State) (gone : HasGone old new) (court : CourtSettings) (rows : SoundRows) where
   holds_still : (next : ℕ) (t : Table) → t ≢ Court → Holds First old court next rows t → Holds Second new court next rows t

@@ -13,7 +13,7 @@ use Rattle.docket_tables.specs.declared.table.Table.{Table}
 abbrev pub IsNew : Table → Type 0
 IsNew table = IsTableOf First table → ⊥
 
--- inside a transaction, so many tables stand: those of the first version hold the rows, and the others nothing
+-- inside a transaction, the first n tables stand: those of the first version hold the rows, and the others nothing
 pub record IsGrown (rows : Rows) (n : ℕ) (s : State) : Type 0 where
   pub begun : IsTrue s.in_transaction
   pub is_open : IsTrue s.is_open

@@ -68,8 +68,8 @@ HoldsCourt v court s = AreRowsOf Court s (court_cells_of v (settings_of court) c
 abbrev pub AreNewEmpty : State → Type 0
 AreNewEmpty s = (table : Table) → IsNew table → AreRowsOf table s []
 
--- the database has gone over from the first version to the second: the court's row is the same but for the version, and each other
--- table holds what it held
+-- the database has moved from the first version to the second: the court's row is the same but for the version, and each other table
+-- holds what it held
 pub record HasGone (old new : State) : Type 0 where
   pub court : CourtRow
   pub was : HoldsCourt First court old
@@ -85,6 +85,6 @@ IsCommitted s = (db : Trees) → s.may_leave db → db ≡ s.now.trees
 abbrev pub seeing : State → Database → State
 seeing s now = record s { now = now }
 
--- these are the trees of the database that has gone over
+-- these are the trees of the database that has moved
 abbrev pub IsImageOfGone : State → Trees → Type 0
 IsImageOfGone old db = (after : Database) × HasGone old (seeing old after) × (db ≡ after.trees)

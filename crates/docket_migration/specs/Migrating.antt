@@ -1,4 +1,4 @@
--- What a migration leaves, and what it tells.
+-- What a migration leaves, and what it returns.
 use Rattle.std.specs.Prelude.{◌≡◌, ◌⊎◌, Result, Ok, Err}
 use Rattle.sqlite.specs.Tree.{Trees}
 use Rattle.sqlite.specs.Store.{Ghosts}
@@ -33,8 +33,8 @@ abbrev pub IsImageOfMoved : State → Trees → Type 0
 IsImageOfMoved old db = (after : Database) × HasMoved old (seeing old after) × (db ≡ after.trees)
 
 module _ {S : Type 0} (g : Ghosts S) where
-  -- the docket of a history: it stands in the second version, or want of memory left each image as it was, or a power failure
-  -- leaves it in one version or the other; no other fault comes
+  -- the docket of a history stands in the second version, or out of memory left each image as it was, or a power failure leaves it in
+  -- either version. No other fault comes
   abbrev pub Migrates : Held S → Held S → CourtSettings → History → Result (Unit {0}) AdoptFault → Type 0
   Migrates old new court h (Ok _) = HoldsRows g new (rows_in court (rows_of court h))
   Migrates old new court h (Err NoMemory) = MakesNothing g old new
@@ -45,8 +45,8 @@ module _ {S : Type 0} (g : Ghosts S) where
   abbrev pub KeepsImages : Held S → Held S → Type 0
   KeepsImages old new = HasCleanDisk (state g new) → (db : Trees) → (state g new).may_leave db → (state g old).may_leave db
 
-  -- any database: it has moved to the second version, or the first cause is told why its tables of the first were not sound, and
-  -- nothing changes; where the database failed, a power failure leaves what it could leave before, or the second version
+  -- any database: it has moved to the second version, or the result is the first cause why its tables of the first were not sound,
+  -- and nothing changes. If the database failed, a power failure leaves what it could leave before, or the second version
   abbrev pub Tells : Held S → Held S → Result (Unit {0}) AdoptFault → Type 0
   Tells old new (Ok _) = HasCleanDisk (state g new) → HasMoved (state g old) (state g new) × IsCommitted (state g new)
   Tells old new (Err StoreFailed) =

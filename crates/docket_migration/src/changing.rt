@@ -26,14 +26,14 @@ use docket_tables::{StoreFault, Table, create_text, undone_fault};
 use sqlite::{Alter, Connection, Error, Transaction};
 use std::alloc::Global;
 
-/// Sets the version in the court's row. The number is that of `Version::Second`, by the contract.
+/// Sets the version in the court's row. By the contract, the number is that of `Version::Second`.
 fn version_text() -> &'static str
     ensures { result.now ≡ version_text }
 {
     "UPDATE court SET version = 2 WHERE id = 1"
 }
 
-/// One statement of a transaction. Only the commit commits it.
+/// Runs one statement of a transaction. Only the commit commits it.
 fn run<S: Alter>(tx: &mut Transaction<'_, S>, sql: &str) -> Result<(), Error>
     ensures same_reference { tx.new.conn.ghost_name ≡ tx.old.conn.ghost_name }
     ensures inside { StaysInside (state S.Store tx.old.conn.now) (state S.Store tx.new.conn.now) }
@@ -91,8 +91,8 @@ fn change_all<S: Alter>(tx: &mut Transaction<'_, S>) -> Result<(), Error>
     set_version(tx)
 }
 
-/// Changes all, and looks at what came of it: the court's row is the same but for the version, and the
-/// tables that the first version lacks hold nothing.
+/// Makes all changes, and checks them: the court's row is the same but for the version, and the tables that
+/// the first version lacks hold nothing.
 fn change_checked<S: Alter>(tx: &mut Transaction<'_, S>, alloc: Global) -> Result<(), Error>
     ensures same_reference { tx.new.conn.ghost_name ≡ tx.old.conn.ghost_name }
     ensures survives { Survives (state S.Store tx.old.conn.now) (state S.Store tx.new.conn.now) (λ _. ⊥) }
@@ -106,9 +106,9 @@ fn change_checked<S: Alter>(tx: &mut Transaction<'_, S>, alloc: Global) -> Resul
     check_changed(tx, alloc, &court)
 }
 
-/// Gives the tables of a docket the second version, in one transaction: the tables that the first lacks
-/// stand and the version is set, or nothing is changed. Where memory ran short nothing was changed, in
-/// whatever database; where the database failed, a power failure leaves the first version or the second.
+/// Changes the tables of a docket to the second version, in one transaction: the tables that the first lacks
+/// stand and the version is set, or nothing is changed. If memory ran out nothing was changed, in whatever
+/// database; if the database failed, a power failure leaves the first version or the second.
 pub fn change_version<S: Alter>(conn: &mut Connection<S>, alloc: Global) -> Result<(), StoreFault>
     requires idle { conn.old.in_transaction ≡ false }
     ensures idle { conn.new.in_transaction ≡ false }

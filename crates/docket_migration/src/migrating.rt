@@ -51,8 +51,8 @@ fn change_judged<S: Alter>(conn: &mut Connection<S>, alloc: Global) -> Result<()
     }
 }
 
-/// Judges the tables by the first version, and then gives them the second, if a change of the court's table
-/// changes no other.
+/// Judges the tables by the first version, and then changes them to the second, if a change of the court's
+/// table changes no other.
 fn migrate_idle<S: Alter, W: Watch>(
     conn: &mut Connection<S>,
     alloc: Global,
@@ -74,12 +74,12 @@ fn migrate_idle<S: Alter, W: Watch>(
     change_judged(conn, alloc)
 }
 
-/// Gives a docket whose tables are of the first version those of the second, whatever database it is in:
-/// the tables are judged by the first version, in their order, and then changed in one transaction. They
+/// Migrates a docket whose tables are of the first version to the second, whatever database it is in. It
+/// judges the tables by the first version, in their order, and then changes them in one transaction. They
 /// hold the same court and the same rows then, and are sound by the second version. A fault other than
-/// StoreFailed leaves everything as it was; after that one a power failure leaves one version or the
-/// other. A database in which a foreign key refers to the court's table, or another table has its tree,
-/// is not changed (StoreFailed). `watch` is told of each row that is read.
+/// `StoreFailed` leaves everything as it was; after that one a power failure leaves one version or the other.
+/// A database in which a foreign key refers to the court's table, or another table has its tree, is not
+/// changed (`StoreFailed`). Each row that is read is reported to `watch`.
 pub fn migrate<S: Alter, W: Watch>(
     conn: &mut Connection<S>,
     alloc: Global,
@@ -87,11 +87,11 @@ pub fn migrate<S: Alter, W: Watch>(
 ) -> Result<(), AdoptFault>
     ensures idle { OnOk result (conn.new.in_transaction ≡ false) }
     ensures clean { doubt (state S.Store conn.old).is_clean ≤ doubt (state S.Store conn.new).is_clean }
-    // The docket of a history stands for it in the second version then; the first holds no command of the
-    // last three kinds.
+    // The docket of a history becomes the docket of that history in the second version; the first holds no
+    // command of the last three kinds.
     ensures docket { (court : CourtSettings) (h : History) → IsCourtSettings court → IsSome (zone_at court.zone_text) → IsHistory court h → AllByRecursion IsCommand h
         → MayHold First h → HoldsRowsIn S.Store First conn.old (rows_by First court (rows_of court h)) → Migrates S.Store conn.old conn.new court h result }
-    // Any database whose tables were sound holds the same rows in the second version, or a fault tells why not.
+    // Any database whose tables were sound holds the same rows in the second version, or a fault names why not.
     ensures told { Tells S.Store conn.old conn.new result }
     // Without a court there is no docket, and the connection stays as it was.
     ensures empty { has_named conn.old.schema table.Court ≡ false → IsErrAnd result (λ fault. fault ≡ Empty) × (conn.new ≡ conn.old) }

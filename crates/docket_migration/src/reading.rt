@@ -12,7 +12,7 @@ use docket_tables::{Table, scan_text};
 use sqlite::{Alter, Error, ErrorCode, Row, Transaction};
 use std::alloc::Global;
 
-/// What is told where the tables do not hold what they are to.
+/// The error where the tables do not hold what they should.
 const UNEXPECTED: Error = Error::SqliteFailure(ErrorCode::OperationInterrupted);
 
 /// The rows of a table, inside a transaction.
@@ -25,7 +25,7 @@ fn rows_of<S: Alter>(tx: &mut Transaction<'_, S>, table: Table) -> Result<Vec<Ro
     tx.query_all(scan_text(table), &[])
 }
 
-/// Tells of a row in a table that is to hold none.
+/// Fails if a table that should be empty has a row.
 fn check_empty<S: Alter>(tx: &mut Transaction<'_, S>, table: Table) -> Result<(), Error>
     ensures same_reference { tx.new.conn.ghost_name ≡ tx.old.conn.ghost_name }
     ensures survives { Survives (state S.Store tx.old.conn.now) (state S.Store tx.new.conn.now) (λ _. ⊥) }
@@ -40,7 +40,7 @@ fn check_empty<S: Alter>(tx: &mut Transaction<'_, S>, table: Table) -> Result<()
     }
 }
 
-/// The court of the only row of its table.
+/// Returns the court of the only row of its table.
 pub(crate) fn court_in<S: Alter>(
     tx: &mut Transaction<'_, S>,
     alloc: Global,
@@ -68,7 +68,7 @@ fn is_same(court: &CourtRow, other: &CourtRow) -> bool
     court.zone.same(&other.zone) && court.close == other.close && court.next_row == other.next_row
 }
 
-/// Tells of a row in a table that the first version lacks.
+/// Fails if a table that the first version lacks has a row.
 fn check_new<S: Alter>(tx: &mut Transaction<'_, S>) -> Result<(), Error>
     ensures same_reference { tx.new.conn.ghost_name ≡ tx.old.conn.ghost_name }
     ensures survives { Survives (state S.Store tx.old.conn.now) (state S.Store tx.new.conn.now) (λ _. ⊥) }
@@ -79,7 +79,7 @@ fn check_new<S: Alter>(tx: &mut Transaction<'_, S>) -> Result<(), Error>
     check_empty(tx, Table::LocalRules)
 }
 
-/// Tells where the tables are not those of this court in the second version.
+/// Fails if the tables are not those of this court in the second version.
 pub(crate) fn check_changed<S: Alter>(
     tx: &mut Transaction<'_, S>,
     alloc: Global,

@@ -14,7 +14,7 @@ use Rattle.docket_plain.specs.declared.vectors.Vectors.{Vectors}
 history_of-push : (rs : List Receipt) (r : Receipt) → history_of (rs ++ r ∷ []) ≡ r.command ∷ history_of rs
 history_of-push rs r = ap reverse (map-append (λ x. x.command) rs (r ∷ [])) ∙ reverse-append (map (λ x. x.command) rs) (r.command ∷ [])
 
--- the receipts of a history tell it
+-- the receipts of a history give back its commands
 history_of-receipts : (court : CourtSettings) (h : History) → history_of (receipts court h) ≡ h
 history_of-receipts court [] = refl
 history_of-receipts court (c ∷ h) = history_of-push (receipts court h) _ ∙ ap (λ before. c ∷ before) (history_of-receipts court h)

@@ -1,4 +1,4 @@
--- A docket in vectors as the history that it stands for.
+-- A docket in vectors, as a history of commands.
 use Rattle.std.specs.Prelude.{◌≡◌, List, [], ◌∷◌, map, reverse, Result, Ok, Err, ◌⊎◌}
 use Rattle.court_days.specs.Court.{CourtSettings}
 use Rattle.docket_command.specs.declared.command.Command.{Command}
@@ -21,18 +21,18 @@ pub record Docket : Type 0 where
 abbrev pub history_of : List Receipt → History
 history_of rs = reverse (map (λ r. r.command) rs)
 
--- the vectors are the tables of the history that their receipts tell
+-- the vectors are the tables of the history in their receipts
 pub record IsDocket (court : CourtSettings) (v : Vectors) : Type 0 where
   pub same : lists_of v ≡ rows_of court (history_of v.receipts.items)
   pub accepted : IsHistory court (history_of v.receipts.items)
 
--- the reply is this answer, unless memory is short
+-- the reply is this answer, unless memory ran out
 abbrev pub IsReply : Result Reply DecideFault → Answer → Type 0
 IsReply (Ok reply) answer = (answer ≡ repeated reply) ⊎ (answer ≡ accepted reply)
 IsReply (Err (Refused r)) answer = answer ≡ refused r
 IsReply (Err NoMemory) answer = Unit {0}
 
--- the history after a reply: want of memory leaves it as it was
+-- the history after a reply: running out of memory leaves it as it was
 abbrev pub history_after : Result Reply DecideFault → CourtSettings → History → Command → History
 history_after (Err NoMemory) court h c = h
 history_after _ court h c = after court h c
@@ -41,7 +41,7 @@ abbrev pub docket_after : Result Reply DecideFault → Docket → Command → Do
 docket_after reply docket c =
     record { court = docket.court; history = history_after reply docket.court docket.history c }
 
--- the reply is this answer, and memory was not short
+-- the reply is this answer, and memory did not run out
 abbrev pub IsSaid : Result Reply DecideFault → Answer → Type 0
 IsSaid (Err NoMemory) answer = ⊥
 IsSaid reply answer = IsReply reply answer

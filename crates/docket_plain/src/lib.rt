@@ -1,4 +1,4 @@
-//! A docket in vectors, which stands for a history of commands. Rows are found by going over them.
+//! A docket in vectors, as a history of commands. Rows are found by linear search.
 #![tactic(auto)]
 
 mod plain;

@@ -36,7 +36,7 @@ fn apply_to(
     }
 }
 
-/// A docket in vectors. A contract sees its court and the history that it stands for.
+/// A docket in vectors. A contract sees its court and its history of commands.
 #[derive(Drop)]
 pub struct Plain {
     alloc: Global,
@@ -66,8 +66,8 @@ impl Plain {
         }
     }
 
-    /// Answers a command. Where it is accepted it stands from then on; a repeat, a refusal and want of
-    /// memory change nothing.
+    /// Answers a command. An accepted command is part of the history from then on; a repeat, a refusal
+    /// and running out of memory change nothing.
     pub fn apply(&mut self, command: &Command) -> Result<Reply, DecideFault>
         ensures answer { IsReply result (outcome self.old.court self.old.history command.now) }
         ensures docket { self.new ≡ docket_after result self.old command.now }
@@ -91,7 +91,7 @@ impl Plain {
     }
 }
 
-/// The reply, if it is not that memory ran out.
+/// The reply or the refusal. It fails where memory ran out.
 fn said(reply: Result<Reply, DecideFault>) -> Result<Result<Reply, DecideFault>, AllocError>
     ensures { IfOk result (λ said. (said ≡ reply) × ¬ (reply ≡ Err Fault.NoMemory)) }
 {

@@ -1,4 +1,4 @@
-//! What the tables tell of a case and its deadlines.
+//! A case and its deadlines, read from the tables.
 ghost use Rattle.std.specs.Prelude.{◌≡◌, ◌==◌, option_copied, IfOk};
 ghost use Rattle.std.specs.Option.{option_map};
 ghost use Rattle.docket_history.specs.Histories.{parties_of_case, entries_of_case};

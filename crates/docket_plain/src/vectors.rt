@@ -121,8 +121,8 @@ fn add_receipt(tables: &mut Vectors, receipt: Receipt)
     let _ = tables.receipts.push(receipt);
 }
 
-/// Makes the changes of a command, and adds its receipt. All that can fail is done before, so that
-/// want of memory changes nothing.
+/// Makes the changes of a command, and adds its receipt. All that can fail is done first, so that
+/// running out of memory changes nothing.
 pub(crate) fn enter(
     tables: &mut Vectors,
     command: &Command,

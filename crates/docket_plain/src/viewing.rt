@@ -143,7 +143,7 @@ fn calendar_for(
     }
 }
 
-/// The case of a number, as it is shown about an action.
+/// The case of a number, as an action needs it.
 fn case_of(
     alloc: Global,
     tables: &Vectors,

@@ -1,4 +1,4 @@
--- What a question leaves whose answer several questions to the docket give.
+-- What a question leaves whose answer comes from several questions to the docket.
 use Rattle.std.proofs.Common.{◌≡◌, ◌∙◌, ◌≤◌, ℕ, Bool, true, false, Result, Ok, Err, IsErrAnd, refl, sym, ap, subst, arith}
 use Rattle.sqlite.specs.Held.{state}
 use Rattle.sqlite.specs.Store.{Ghosts}
@@ -33,13 +33,13 @@ is_error (Err e) f told = ap Err told
 same_error : {X Y : Type 0} (f e : Fault) → ◌≡◌ {A = Result X Fault} (Err f) (Err e) → ◌≡◌ {A = Result Y Fault} (Err f) (Err e)
 same_error f e is = let same : f ≡ e = cc in ap Err same
 
--- want of memory is no failure of the database
+-- out of memory is no failure of the database
 pub short_fine : {X : Type 0} (r : Result X Fault) → IsErrAnd r (λ e. e ≡ NoMemory) → r ≡ Err StoreFailed → ⊥
 short_fine (Ok x) told is = absurd told
 short_fine (Err e) told is = let same : e ≡ StoreFailed = cc in let short : NoMemory ≡ StoreFailed = sym told ∙ same in absurd (cc)
 
 module _ {S : Type 0} (g : Ghosts S) (old new : Docket S) where
-  -- a docket that is not closed, of which nothing is asked
+  -- a docket that is not closed, and no question to it
   pub none_told : {X : Type 0} (x : X) → new ≡ old → old.closed ≡ false → OnlyAnswers g old new (Ok x)
   none_told x same serves =
       subst (λ (d : Docket S). OnlyAnswers g old d (Ok x)) (sym same) (record {
@@ -90,11 +90,11 @@ module _ {S : Type 0} (g : Ghosts S) (old new : Docket S) where
   pub same_told : {X Y : Type 0} (x : X) (y : Y) → OnlyAnswers g old new (Ok x) → OnlyAnswers g old new (Ok y)
   same_told x y only = other_told x (Ok y) (λ is. no_error y StoreFailed is) only
 
-  -- memory was short behind an answer
+  -- memory ran out behind an answer
   pub short_told : {X Y : Type 0} (x : X) (r : Result Y Fault) → IsErrAnd r (λ e. e ≡ NoMemory) → OnlyAnswers g old new (Ok x) → OnlyAnswers g old new r
   short_told x r told only = other_told x r (short_fine r told) only
 
--- two questions in a row: the second is asked of a docket that is not closed
+-- two questions in a row, the second to a docket that is not closed
 pub then_told : {S : Type 0} (g : Ghosts S) (old mid new : Docket S) {X Y : Type 0} (x : X) (r : Result Y Fault) → OnlyAnswers g old mid (Ok x) → (mid.closed ≡ false → OnlyAnswers g mid new r)
     → OnlyAnswers g old new r
 then_told g old mid new x r first second =
@@ -113,10 +113,10 @@ then_told g old mid new x r first second =
     }
 
 module _ {S : Type 0} (g : Ghosts S) (d : Docket S) (h : History) where
-  -- what is told of a docket, where an error is passed on
+  -- the answer of a docket, when an error is passed on
   pub passed_asks : {Y : Type 0} (P : Y → Type 0) (f : Fault) (r : Result Y Fault) → IsErrAnd r (λ e. e ≡ f) → Asks g d h P (Err f) → Asks g d h P r
   passed_asks {Y} P f r told left = subst (λ (e : Result Y Fault). Asks g d h P e) (sym (is_error r f told)) left
 
-  -- and where memory was short
+  -- and when memory ran out
   pub short_asks : {Y : Type 0} (P : Y → Type 0) (r : Result Y Fault) → IsErrAnd r (λ e. e ≡ NoMemory) → Stands g d h → Asks g d h P r
   short_asks P r told stands = passed_asks P NoMemory r told stands

@@ -28,13 +28,13 @@ use Rattle.reason_lines.specs.Lines.{reasons_text}
 abbrev pub sheet_page : CourtSettings → CaseRecord → List DeadlineLine → List ℕ
 sheet_page court case lines = page_head case.label ++ (case_sheet court case lines ++ page_foot)
 
--- a case with its deadlines, told so
+-- a case with its deadlines, in this form
 abbrev pub case_told : Telling → CourtSettings → CaseRecord → List DeadlineLine → List ℕ
 case_told Text = case_text
 case_told Sheet = sheet_page
 case_told Page = case_page
 
--- what is told of a case with its deadlines, if there is such a case
+-- the text of a case with its deadlines, if there is such a case
 abbrev pub told_of_found : (CaseRecord → List DeadlineLine → List ℕ) → Option CaseRecord → Option (List DeadlineLine) → Option (List ℕ)
 told_of_found tell (Some case) (Some lines) = Some (tell case lines)
 told_of_found tell _ _ = None
@@ -58,7 +58,7 @@ module _ (court : CourtSettings) (h : History) (number : ℕ) where
 abbrev pub reasons_of : CourtSettings → Entered → DeadlineView → List ℕ
 reasons_of court calendar deadline = reasons_text court calendar (Some deadline.rule) (steps_of (zone_of court) calendar deadline.acts)
 
--- those of the deadline of a number, from 1, of a case, if there is one
+-- the steps for the deadline with this number, from 1, in a case, if there is one
 abbrev pub text_of_reasons : CourtSettings → History → ℕ → ℕ → Option (List ℕ)
 text_of_reasons court h case number = option_map (reasons_of court (calendar h)) (deadline_at (deadlines case h) number)
 
@@ -74,11 +74,11 @@ earlier from = if nat_le from 1 then None else Some (max 1 (from - 100))
 abbrev pub later : History → ℕ → Option ℕ
 later h from = option_map (λ row. row.number) (case_at (case_rows h) (from + 100))
 
--- the page of these cases, which leads to the earlier and the later ones
+-- the page of these cases, with links to the earlier and the later ones
 abbrev pub page_of_cases : History → ℕ → List ℕ
 page_of_cases h from = cases_page (cases_from h from) (earlier from) (later h from)
 
--- the row of a deadline with the caption of its case, which each deadline that falls due has
+-- the row of a deadline that falls due, with the caption of its case; each such deadline has a case
 abbrev pub caption_of : Option CaseRow → List ℕ
 caption_of None = []
 caption_of (Some case) = case.caption

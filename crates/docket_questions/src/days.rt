@@ -16,7 +16,7 @@ use html_sheets::{Links, days_page_foot, days_page_head, due_row};
 use sqlite::Alter;
 use std::alloc::{AllocError, Global};
 
-/// The caption of a case. A deadline that falls due has its case, and of none no caption is told.
+/// The caption of a case. A deadline that falls due has its case; without a case the caption is empty.
 fn caption_of(case: Option<&CaseRow>) -> &str
     ensures { result.now ≡ caption_of (option_copied case.entry) }
 {
@@ -40,7 +40,7 @@ fn push_row(
     page.push_str(row.as_str())
 }
 
-/// Adds the row of a deadline, of whose case the docket is asked.
+/// Adds the row of a deadline, whose case it reads from the docket.
 fn push_due<S: Alter>(
     alloc: Global,
     docket: &mut Docket<S>,
@@ -56,7 +56,7 @@ fn push_due<S: Alter>(
     Ok(())
 }
 
-/// Adds a row for each deadline, by a docket that is not closed.
+/// Adds a row for each deadline, from a docket that is not closed.
 fn push_dues<S: Alter>(
     alloc: Global,
     docket: &mut Docket<S>,

@@ -1,5 +1,5 @@
 //! Questions to a docket, as values. Each has a definition of the text or the page that answers it, by the
-//! history of the docket, and is asked in one way. Nothing is changed by it.
+//! history of the docket. One function asks it, and changes nothing.
 #![tactic(auto)]
 
 mod cases;

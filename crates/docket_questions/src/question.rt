@@ -10,16 +10,16 @@ use docket_store::{Docket, Fault};
 use sqlite::Alter;
 use std::alloc::Global;
 
-/// A question to a docket that is answered by a text. Nothing is changed, but that a docket whose database
-/// fails is closed.
+/// A question to a docket, answered by a text. It changes nothing, except that a docket whose database fails
+/// is closed.
 pub trait Question {
-    // What may be asked.
+    // The questions that may be asked.
     ghost MayAsk: { Self → Type 0 };
 
-    // Its text by the docket of a court, if there is what is asked for.
+    // The text that answers it, by the docket of a court, if what it names exists.
     ghost Text: { Self → CourtSettings → History → Option (List ℕ) };
 
-    /// Asks a docket. There is no text where there is nothing of what is asked for.
+    /// Asks a docket. Returns no text if what the question names does not exist.
     fn ask<S: Alter>(&self, alloc: Global, docket: &mut Docket<S>) -> Result<Option<String>, Fault>
         requires { MayAsk self.now }
         ensures answer { (h : History) → Stands S.Store docket.old h

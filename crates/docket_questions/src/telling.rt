@@ -1,4 +1,4 @@
-//! A case with its deadlines, told in one of several ways.
+//! A case with its deadlines, in one of several forms.
 ghost use Rattle.std.specs.Prelude.{◌≡◌, IfOk, string_bytes};
 ghost use Rattle.std.specs.Option.{option_map};
 ghost use Rattle.docket_history.specs.Histories.{History};
@@ -16,7 +16,7 @@ use html_sheets::case_page;
 use sqlite::Alter;
 use std::alloc::{AllocError, Global};
 
-/// How a case is told.
+/// The form in which a case is written.
 #[derive(Clone, Copy)]
 pub(crate) enum Telling {
     Text,
@@ -26,7 +26,7 @@ pub(crate) enum Telling {
     Page,
 }
 
-/// A case with its deadlines, told so.
+/// Returns a case with its deadlines, in that form.
 fn case_told(
     alloc: Global,
     telling: Telling,
@@ -43,7 +43,7 @@ fn case_told(
     }
 }
 
-/// The case of a number, with its deadlines, told so; nothing, if there is no such case.
+/// Returns the case of a number, with its deadlines, in that form, or `None` if there is no such case.
 pub(crate) fn tell_case<S: Alter>(
     alloc: Global,
     docket: &mut Docket<S>,

@@ -29,7 +29,7 @@ use Rattle.docket_scan.proofs.CountLemmas.{counted}
 use Rattle.docket_scan.proofs.JudgingLemmas.{all_more, each_has, read_rows, so_many}
 use Rattle.docket_scan.proofs.RecordLemmas.{all_read}
 
--- what the check of acts goes by, after the tables before them
+-- what the check of acts uses, after the tables before them
 abbrev pub context_after : CourtSettings → Rows → ActContext
 context_after court r = (court, length r.cases, count_in (map deadline_key r.deadlines), calendar_of (items_of r.calendar))
 
@@ -47,7 +47,7 @@ module _ (v : Version) (court : CourtSettings) (next : ℕ) (first old new : Sta
   abbrev acts : List ActRow
   acts = held.3.1.records
 
-  -- the acts that were taken are sound, and give the ends and the standings that are told
+  -- the acts that were taken are sound, and give the ends and the standings that are returned
   pub acts_told : (now : EndsRead) (stand : Standings) → now.held ≡ record read.held { standings = stand } → now.short_days ≡ read.short_days → n < 2 ^ 64
       → AreSoundActs check.court (cases_of check.deadlines) (counts_of check.deadlines) acts
       → now.ends.items ≡ dues_of (zone_of check.court) check.calendar acts

@@ -28,7 +28,7 @@ abbrev is_select_statement : Statement → Bool
 is_select_statement (written.Select s) = true
 is_select_statement _ = false
 
--- what a text comes to on the listing of the schema
+-- what a text compiles to on the listing of the schema
 abbrev on_listing : Parsed → Checked Compiled
 on_listing p = if_select (and_then (planned listing_schema p) (λ plan. Ok (with_command p plan)))
 
@@ -83,7 +83,7 @@ text_lists_nothing t = at (first (scan_text t)) (text_is_query t)
     at (Ok p) is = is.4
     at (Err e) is = absurd is
 
--- what such a text comes to under a schema that understands it: a query that writes nothing
+-- what such a text compiles to under a schema that understands it: a query that writes nothing
 pub record IsPlainQuery (sql : List ℕ) (c : Compiled) : Type 0 where
   pub returning : c.returning ≡ None
   pub formats : c.formats ≡ []

@@ -90,7 +90,7 @@ module _ {first old new : State} (before : Survives first old (λ _. ⊥)) (afte
   result_after (Ok x) cause = tt
   result_after (Err fault) cause = fault_after fault cause
 
--- what an error comes to
+-- the fault that an error becomes
 
 pub fault_caused : (t : Table) (old new : State) (e : Error) → IsCausedError old new e → IsCausedFault old new (fault_in t e)
 fault_caused t old new (SqlInputError why) cause = tt
@@ -110,7 +110,7 @@ court_caused old new _ (inl memory) = absurd (let no = memory in cc)
 court_caused old new _ (inr (inl refused)) = absurd (let no = refused in cc)
 court_caused old new _ (inr (inr failed)) = failed
 
--- an error that is handed on
+-- an error that is passed on
 
 pub err_caused : {X : Type 0} (old new : State) (fault : AdoptFault) (r : Result X AdoptFault) → IsErrAnd r (λ f. f ≡ fault) → IsCausedFault old new fault → IfErr r (IsCausedFault old new)
 err_caused old new fault (Ok x) same cause = absurd same

@@ -1,4 +1,4 @@
--- What the cells of a row say of its record.
+-- What the cells of a row determine of its record.
 use Rattle.std.proofs.Common.{◌≡◌, ◌∙◌, ◌==◌, ℕ, ℤ, pos, negsuc, if◌then◌else◌, Bool, true, false, List, map, refl, sym, ap}
 use Rattle.sqlite.specs.Order.{Row, column}
 use Rattle.sqlite.specs.declared.types.Value.{Value}
@@ -31,7 +31,7 @@ use Rattle.docket_sound.specs.Deadlines.{deadline_key}
 use Rattle.docket_sound.specs.Parties.{party_key}
 use Rattle.docket_sound.specs.declared.numbering.Key.{Key}
 
--- what the cells tell, rows with the same cells have alike
+-- rows with the same cells agree in all that the cells determine
 told_alike : {R X : Type 0} (cells : R → Row) (told : R → X) (back : Row → X) → ((r : R) → back (cells r) ≡ told r) → (rs ss : List R) → map cells rs ≡ map cells ss → map told rs ≡ map told ss
 told_alike {R} cells told back tells rs ss same = all rs ∙ ap (map back) same ∙ sym (all ss)
   where

@@ -103,7 +103,7 @@ module _ (v : Version) (s : State) (court : CourtSettings) (h : History) (settin
   never_odd : (row : Row) → HasCourtRow s row → (IsCourtsRow v row → ⊥) → ⊥
   never_odd row has other = only_own row has.1 (λ same. other (court, next_row h, subst (λ r. IsRowOf v r court (next_row h)) (sym same) own_row))
 
-  -- a row of a court that is read there tells the docket's own court and number
+  -- a row of a court that is read there holds the docket's own court and number
   module _ (found : CourtSettings) (next : ℕ) (row : Row) (read : AreRowsOf table.Court s (row ∷ [])) (same : row ≡ court_cells_of v found next) where
     sorted : ∥ AreSorted table.Court (court_cells_of v court (next_row h) ∷ []) (row ∷ []) ∥₁
     sorted = rows_sorted v table.Court has_court s shows.schema (rows_of_docket v court h) shows.holds (row ∷ []) read

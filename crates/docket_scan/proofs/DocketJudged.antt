@@ -1,4 +1,4 @@
--- A docket's own tables are never told to be unsound.
+-- A docket's own tables are never reported unsound.
 use Rattle.std.proofs.Common.{◌≡◌, ◌∙◌, inl, inr, ℕ, Bool, List, [], ◌∷◌, ◌++◌, ◌+◌, map, length, Result, Ok, Err, refl, sym, ap, ap₂, subst, arith}
 use base.Stored.{Coded-set}
 use Rattle.std.proofs.Math.Logic.{∥∥₁_elim}
@@ -97,7 +97,7 @@ counted t cells others all rows sorted =
 none_in_order : AreInOrder local_rule_order [] []
 none_in_order = record { same = IsPermutation-refl []; sorted = λ k d low high. absurd (omega (arith, high)) }
 
--- the names by which the deadlines are judged are those of the history's local rules
+-- the names by which the deadlines are checked are those of the history's local rules
 names_told : (v : Version) (s : State) (court : CourtSettings) (h : History) → IsHistory court h → MayHold v h → ShowsIn v s (rows_of_docket v court h) → (names : List (List ℕ)) → AreNamesFor v s names
     → ((rules : List LocalRuleRow) → AreInOrder local_rule_order (local_rule_rows h) rules → names ≡ rule_names rules → ⊥) → ⊥
 names_told First s court h is may shows names none never =
@@ -224,7 +224,7 @@ front : (v : Version) (Is : Table → Type 0) → AllByRecursion Is (behind_cour
 front First Is all = all
 front Second Is all = all_front Is (before table.ShortDays) (table.ShortDays ∷ table.LocalRules ∷ []) all
 
--- so the docket of a history is told to hold what the history has, and no table of it to be unsound
+-- so the check reports that the docket of a history holds what the history has, and no table of it as unsound
 pub docket_told : {S : Type 0} (g : Ghosts S) (v : Version) (old : Held S) (new : State) (court : CourtSettings) (next : ℕ) (result : Result Holdings AdoptFault)
     → HasCleanDisk (state g old) → AreJudged v court next (state g old) new (λ r held. held ≡ holdings_of court r) result
     → (h : History) → IsHistory court h → AllByRecursion IsCommand h → MayHold v h → next ≡ next_row h → HoldsRowsIn g v old (rows_by v court (rows_of court h))

@@ -1,4 +1,4 @@
--- What the table of the court, and then the others, tell of a database.
+-- What the table of the court, and then the others, show of a database.
 use Rattle.std.proofs.Common.{◌≡◌, ◌∙◌, ◌⊎◌, inl, inr, ℕ, List, Result, Ok, Err, true, IsErrAnd, refl, sym, ap, subst}
 use Rattle.std.specs.List.{AllByRecursion}
 use Rattle.sqlite.specs.Order.{Row}
@@ -36,7 +36,7 @@ court_failed v old new (SqliteFailure IntegerOverflow) there h = (λ _. (h.1 ref
 court_failed v old new (SqliteFailure OutOfMemory) there h = (h.0, tt)
 court_failed v old new _ there h = (h.0, tt)
 
--- what its rows come to
+-- the result of reading its rows
 pub finished : (v : Version) (old new : State) (rows : List Row) (r : Result CourtRecord AdoptFault) → has_named old.now.schema table.Court ≡ true → has_table old.now.schema table.Court ≡ true → IsUnchanged old new
     → AreRowsOf table.Court old rows → Finishes v rows r → ReadsCourt v old new r
 finished v old new rows (Ok r) named there same read (court, is, held, row) =
@@ -47,7 +47,7 @@ finished v old new rows (Err (Damaged table.Court)) named there same read (row, 
     (λ _. same, (row, (there, subst (AreRowsOf table.Court old) is read, word), current, λ of_court. none of_court.0 of_court.1 of_court.2.held of_court.2.same))
 finished v old new rows (Err _) named there same read never = absurd never
 
--- a fault that is handed on
+-- a fault that is passed on
 pub not_taken : (v : Version) (old new : State) (r : Result FoundDocket AdoptFault) (fault : AdoptFault) → IsErrAnd r (λ f. f ≡ fault) → IsNotTaken v old new fault → IsTaken v old new r
 not_taken v old new (Ok x) fault same told = absurd same
 not_taken v old new (Err f) fault same told = subst (IsNotTaken v old new) (sym same) told

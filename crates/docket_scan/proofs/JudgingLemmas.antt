@@ -1,4 +1,4 @@
--- Tables that are judged one after another.
+-- Tables that are checked one after another.
 use Rattle.std.proofs.Common.{◌≡◌, ◌∙◌, inl, inr, ℕ, List, [], ◌∷◌, ◌++◌, map, length, Result, Ok, Err, true, IfErr, IsErrAnd, ap, sym, subst, refl}
 use Rattle.std.proofs.lemmas.List.{length-map}
 use Rattle.std.specs.List.{AllByRecursion}
@@ -46,7 +46,7 @@ module _ (first old : State) (same : IsUnchanged first old) where
   pub sound_before : (t : Table) (AreSound : List Row → Type 0) → IsSoundIn t old AreSound → IsSoundIn t first AreSound
   sound_before t AreSound h = subst (λ (d : Database). IsSoundIn t (with_now first d) AreSound) same.0.now_is h
 
-  -- a table that is told to be unsound, after those before it
+  -- a table that is reported unsound, after those before it
   pub failed : (v : Version) (t : Table) → IsBehindCourt v t → (court : CourtSettings) (next : ℕ) (new : State) (r : Rows) (AreSound : List Row → Type 0) (fault : AdoptFault)
       → AreSound ≡ AreSoundBy v t court next r → AreNamesFor v first r.names → AllByRecursion (Holds v first court next r) (before t) → IsTold t old new AreSound fault → FailsAt v court next first new fault
   failed v t behind court next new r AreSound (Damaged at) is named all told =
@@ -56,7 +56,7 @@ module _ (first old : State) (same : IsUnchanged first old) where
   failed v t behind court next new r AreSound StoreFailed is named all told = stays_then first old new same told
   failed v t behind court next new r AreSound _ is named all told = absurd told
 
--- what an error in the reading of a table tells
+-- what an error in reading a table means
 pub told_in : (t : Table) (old new : State) (AreSound : List Row → Type 0) (e : Error) → FailsToScan t old new e → IsTold t old new AreSound (fault_in t e)
 told_in t old new AreSound (SqlInputError why) h = (refl, λ _. (h.1 refl).1, inr (inl (h.1 refl).0))
 told_in t old new AreSound (SqliteFailure TypeMismatch) h = (refl, λ _. (h.1 refl).1, inr (inl (h.1 refl).0))
@@ -73,24 +73,24 @@ failed_first v court next old new r AreSound NoMemory is named told = told
 failed_first v court next old new r AreSound StoreFailed is named told = told
 failed_first v court next old new r AreSound _ is named told = absurd told
 
--- a fault that is handed on
+-- a fault that is passed on
 pub handed : {X : Type 0} (r : Result X AdoptFault) (fault : AdoptFault) (Fails : AdoptFault → Type 0) → IsErrAnd r (λ f. f ≡ fault) → Fails fault → IfErr r Fails
 handed (Ok x) fault Fails same told = absurd same
 handed (Err f) fault Fails same told = subst Fails (sym same) told
 
--- the same of what the reading of one table comes to
+-- the same for the result of reading one table
 pub told_on : {X : Type 0} (t : Table) (old new : State) (found : X → Type 0) (AreSound : List Row → Type 0) (r : Result X AdoptFault) (fault : AdoptFault)
     → IsErrAnd r (λ f. f ≡ fault) → IsTold t old new AreSound fault → IsJudged t old new found AreSound r
 told_on t old new found AreSound (Ok x) fault same told = absurd same
 told_on t old new found AreSound (Err f) fault same told = subst (IsTold t old new AreSound) (sym same) told
 
--- and of what all tables come to
+-- and for the result of all tables
 pub told_of : {X : Type 0} (v : Version) (court : CourtSettings) (next : ℕ) (old new : State) (says : Rows → X → Type 0) (r : Result X AdoptFault) (fault : AdoptFault)
     → IsErrAnd r (λ f. f ≡ fault) → FailsAt v court next old new fault → AreJudged v court next old new says r
 told_of v court next old new says (Ok x) fault same told = absurd same
 told_of v court next old new says (Err f) fault same told = subst (FailsAt v court next old new) (sym same) told
 
--- the rows that were read stand in the table, and are sound; so many records they are
+-- the rows that were read stand in the table, and are sound; they are this many records
 module _ {R : Type 0} (t : Table) (s : State) (Is : R → Type 0) (cells : R → Row) (Has : List R → Type 0) (count : ℕ) (h : IsSoundIn t s (OfSoMany count (IsRead Is cells Has))) where
   pub read_rows : (AreSound : List R → Type 0) → AreSound h.3.1.records
       → (has_table s.now.schema t ≡ true) × AreRowsOf t s (map cells h.3.1.records) × IsTable Is cells AreSound (map cells h.3.1.records)

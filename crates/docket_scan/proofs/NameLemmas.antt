@@ -1,4 +1,4 @@
--- The local names of rows, one row more at a time, and what an error in the reading of them tells.
+-- The local names of rows, one row more at a time, and what an error in reading them means.
 use Rattle.std.proofs.Common.{◌≡◌, ◌∙◌, ◌⊎◌, inl, inr, ℕ, ◌||◌, false, List, [], ◌∷◌, ◌++◌, append-nil, Option, Some, None, IsTrue, Result, Ok, Err, IfOk, IfErr, refl, sym, ap, subst}
 use Rattle.std.proofs.lemmas.List.Elements.{filter_map-append}
 use Rattle.std.proofs.lemmas.List.Folds.{list_any-append}
@@ -51,7 +51,7 @@ refused (SqliteFailure IntegerOverflow) at is = refl
 refused (SqliteFailure OutOfMemory) at is = absurd cc
 refused _ at is = absurd cc
 
--- and another error is handed on
+-- and another error is passed on
 pub failed : (e : Error) → ((at : Table) → fault_in table.LocalRules e ≡ Damaged at → ⊥) → (fault_in table.LocalRules e ≡ NoMemory) ⊎ (fault_in table.LocalRules e ≡ StoreFailed)
 failed (SqlInputError why) other = absurd (other table.LocalRules refl)
 failed (SqliteFailure TypeMismatch) other = absurd (other table.LocalRules refl)

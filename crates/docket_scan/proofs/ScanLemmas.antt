@@ -141,12 +141,12 @@ module _ (t : Table) where
         again : IsUnreadable t old × IsUnchanged old new → IsUnreadable t first × IsUnchanged first new
         again it = (subst (λ (d : Database). ((fault : CompileError) × (understood d.schema (scan_text t) ≡ Err fault)) ⊎ ((c : Compiled) × (x : Error) × (understood d.schema (scan_text t) ≡ Ok c) × RefusesToRead None c.command d [] x)) same.0.now_is it.0, unchanged_then first old new same it.1)
 
--- an error that is handed on
+-- an error that is passed on
 pub err_scanned : (t : Table) (old new : State) (HasTaken IsSound : List Row → Type 0) (r : Result (Option ℕ) Error) (e : Error) → IsErrAnd r (λ f. f ≡ e) → FailsToScan t old new e → Scanned t old new HasTaken IsSound r
 err_scanned t old new HasTaken IsSound (Ok count) e same fails = absurd same
 err_scanned t old new HasTaken IsSound (Err f) e same fails = subst (FailsToScan t old new) (sym same) fails
 
--- a want of memory is no refusal
+-- out of memory is no refusal
 pub memory_fails : (t : Table) (old new : State) → IsUnchanged old new → FailsToScan t old new (SqliteFailure OutOfMemory)
 memory_fails t old new same = (inl same, λ refusal. absurd (false≢true refusal))
 

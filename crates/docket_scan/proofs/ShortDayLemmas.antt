@@ -21,7 +21,7 @@ use Rattle.docket_scan.specs.Shapes.{has_table}
 use Rattle.docket_scan.specs.Taken.{ShortDayContext, short_day_context}
 use Rattle.docket_scan.specs.declared.holdings.Holdings.{Holdings}
 
--- what the check goes by, after the tables before it
+-- what the check uses, after the tables before it
 pub readied : (court : CourtSettings) (next : ℕ) (calendar : List CalendarRow) (short_days : List ShortDayRow) (check : ShortDayCheck) → IsReady court next calendar short_days check
     → short_day_context check ≡ (court.close_minute, next, map (λ (r : CalendarRow). r.number) calendar)
 readied court next calendar short_days check ready = λ i. (ready.goes.closes i, ready.goes.next i, ready.goes.numbers i)

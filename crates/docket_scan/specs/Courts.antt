@@ -8,7 +8,7 @@ use Rattle.docket_columns.specs.declared.version.Version.{Version}
 use Rattle.docket_sound.specs.Courts.{IsSoundCourt}
 use Rattle.docket_sound.specs.declared.court.CourtRecord.{CourtRecord}
 
--- there is one row, and it bears the word
+-- there is one row, and it has the word
 abbrev pub AreMarked : List Row → Type 0
 AreMarked rows = (row : Row) × (rows ≡ row ∷ []) × HasWord row
 

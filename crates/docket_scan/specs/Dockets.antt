@@ -1,4 +1,4 @@
--- What is told of a docket of this program.
+-- What the check reports of a docket of this program.
 use Rattle.std.specs.Prelude.{◌≡◌, false, List, map, length, Result, Ok, Err}
 use Rattle.court_days.specs.Court.{CourtSettings, zone_of}
 use Rattle.court_rules.specs.Standings.{standing}
@@ -37,7 +37,7 @@ holdings_in court h = record {
   receipts = length h;
 }
 
--- what is told of the docket of a history: what the history has, or that memory or the database failed; no table is unsound
+-- what the check reports of a history's docket: what the history has, or that memory or the database failed; no table is unsound
 abbrev pub IsToldOfDocket : CourtSettings → History → Result Holdings AdoptFault → Type 0
 IsToldOfDocket court h (Ok held) = held ≡ holdings_in court h
 IsToldOfDocket court h (Err NoMemory) = Unit {0}

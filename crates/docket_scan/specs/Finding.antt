@@ -43,7 +43,7 @@ IsNoDocket s = (has_named s.now.schema Court ≡ true) × ((has_table s.now.sche
 abbrev pub HasCourtRow : State → Row → Type 0
 HasCourtRow s row = (has_table s.now.schema Court ≡ true) × AreRowsOf Court s (row ∷ []) × HasWord row
 
--- whose version is another
+-- its version is another one
 abbrev pub IsOfOtherVersion : Version → State → Type 0
 IsOfOtherVersion v s = (row : Row) × HasCourtRow s row × (IsOfVersion v row → ⊥)
 
@@ -51,13 +51,13 @@ IsOfOtherVersion v s = (row : Row) × HasCourtRow s row × (IsOfVersion v row �
 abbrev pub HasCourt : Version → State → CourtSettings → ℕ → Type 0
 HasCourt v s court next = (row : Row) × HasCourtRow s row × IsRowOf v row court next
 
--- that of the court is sound, and this is the first of the others that is not, by those before it
+-- the court's table is sound, and this is the first of the others that is not, by those before it
 abbrev pub IsFirstUnsound : Version → Table → State → Type 0
 IsFirstUnsound v t s =
     (court : CourtSettings) × (next : ℕ) × HasCourt v s court next
     × (r : Rows) × AreNamesFor v s r.names × AllByRecursion (Holds v s court next r) (before t) × IsUnsoundIn t s (AreSoundBy v t court next r)
 
--- it holds the row of no court; or this is the first table of the version that is not sound
+-- the court's table holds the row of no court; or this is the first table of the version that is not sound
 abbrev pub IsDamaged : Version → Table → State → Type 0
 IsDamaged v Court s = (row : Row) × HasCourtRow s row × IsOfVersion v row × (IsCourtsRow v row → ⊥)
 IsDamaged v t s = IsTableOf v t × IsFirstUnsound v t s
@@ -70,7 +70,7 @@ pub record AreSound (v : Version) (s : State) (court : CourtSettings) (r : Rows)
   pub named : AreNamesFor v s r.names
   pub behind : AllByRecursion (Holds v s court next_row r) (behind_court v)
 
--- why it is not taken for a docket: the first cause, in the order of the faults
+-- why the database is not accepted as a docket: the first cause, in the order of the faults
 abbrev pub HasCause : Version → State → AdoptFault → Type 0
 HasCause v s Empty = IsEmpty s
 HasCause v s NotADocket = IsNoDocket s
@@ -79,7 +79,7 @@ HasCause v s (Damaged t) = IsDamaged v t s
 HasCause v s NoMemory = Unit {0}
 HasCause v s StoreFailed = Unit {0}
 
--- what is left then: nothing changes
+-- what remains of a rejected database: nothing changes
 abbrev pub LeavesIt : State → State → AdoptFault → Type 0
 LeavesIt old new NoMemory = StaysOrRollsBack old new
 LeavesIt old new StoreFailed = StaysOrRollsBack old new
@@ -88,14 +88,14 @@ LeavesIt old new _ = StaysOpen old new
 abbrev pub IsNotTaken : Version → State → State → AdoptFault → Type 0
 IsNotTaken v old new fault = LeavesIt old new fault × HasCause v old fault
 
--- what the reading of the court's table gives: the row of a court, whose zone may be none yet
+-- the result of reading the court's table: the row of a court, whose zone may be none yet
 abbrev pub ReadsCourt : Version → State → State → Result CourtRecord AdoptFault → Type 0
 ReadsCourt v old new (Ok r) =
     IsUnchanged old new × (court : CourtSettings) × HasCourtRow old (court_cells_of v court r.next_row) × IsCourtRow court r.next_row
     × (r ≡ record_of court r.next_row)
 ReadsCourt v old new (Err fault) = IsNotTaken v old new fault
 
--- it is taken for the docket of this court where the tables of the version are sound, and only there
+-- the database is accepted as the docket of this court exactly if the tables of the version are sound
 abbrev pub IsTaken : Version → State → State → Result FoundDocket AdoptFault → Type 0
 IsTaken v old new (Ok found) = IsUnchanged old new × (r : Rows) × AreSound v old found.court r × (found.held ≡ holdings_of found.court r)
 IsTaken v old new (Err fault) = IsNotTaken v old new fault

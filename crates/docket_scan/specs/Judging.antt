@@ -1,4 +1,4 @@
--- What is told of the tables of any database, in their order.
+-- What the check reports of the tables of any database, in their order.
 use Rattle.std.specs.Prelude.{◌≡◌, ◌⊎◌, ℕ, Bool, false, true, IsTrue, List, [], ◌++◌, length, map, take, drop, Result, Ok, Err}
 use Rattle.std.specs.List.{AllByRecursion}
 use Rattle.sqlite.specs.Order.{Row}
@@ -45,7 +45,7 @@ fault_in t _ = StoreFailed
 
 -- one table
 
--- the table is there with its columns, and this holds of its rows
+-- the table exists with its columns, and this holds of its rows
 abbrev pub IsSoundIn : Table → State → (List Row → Type 0) → Type 0
 IsSoundIn t s Holds = (has_table s.now.schema t ≡ true) × (rows : List Row) × AreRowsOf t s rows × Holds rows
 
@@ -63,7 +63,7 @@ IsUnsoundIn t s AreSound = (has_table s.now.schema t ≡ false) ⊎ (IsUnreadabl
 abbrev pub StaysOpen : State → State → Type 0
 StaysOpen old new = IsTrue old.is_open → IsUnchanged old new
 
--- a fault in the reading of one table: it is told to be unsound where it is
+-- a fault in reading one table: a table that is reported unsound is unsound
 abbrev pub IsTold : Table → State → State → (List Row → Type 0) → AdoptFault → Type 0
 IsTold t old new AreSound (Damaged at) = (at ≡ t) × StaysOpen old new × IsUnsoundIn t old AreSound
 IsTold t old new AreSound NoMemory = StaysOrRollsBack old new
@@ -154,7 +154,7 @@ abbrev pub IsBehindCourt : Version → Table → Type 0
 IsBehindCourt v Court = ⊥
 IsBehindCourt v t = IsTableOf v t
 
--- the first table of the version that is unsound is told, where those before it hold these rows
+-- the first unsound table of the version is reported, after those before it that hold these rows
 abbrev pub FailsAt : Version → CourtSettings → ℕ → State → State → AdoptFault → Type 0
 FailsAt v court next old new (Damaged t) =
     IsBehindCourt v t × StaysOpen old new × (r : Rows) × AreNamesFor v old r.names × AllByRecursion (Holds v old court next r) (before t)
@@ -172,7 +172,7 @@ abbrev pub AreRowsFor : Version → Rows → Type 0
 AreRowsFor First r = (r.short_days ≡ []) × (r.local_rules ≡ [])
 AreRowsFor Second r = Unit {0}
 
--- all of them are sound and hold these rows, or the first that is unsound is told
+-- all of them are sound and hold these rows, or the first unsound one is reported
 abbrev pub AreJudged : {X : Type 0} → Version → CourtSettings → ℕ → State → State → (Rows → X → Type 0) → Result X AdoptFault → Type 0
 AreJudged v court next old new says (Ok x) =
     IsUnchanged old new × (r : Rows) × AreRowsFor v r × AreNamesFor v old r.names × AllByRecursion (Holds v old court next r) (behind_court v) × says r x

@@ -31,7 +31,7 @@ AreNamesFor Second s names = AreNamesIn s names
 abbrev pub AreKnown : KnownTexts → List (List ℕ) → Type 0
 AreKnown known names = (text : List ℕ) → is_known known text ≡ is_one_of names text
 
--- what the reading of the names in the table comes to
+-- the result of reading the names in the table
 abbrev pub NamesRead : State → State → Result KnownTexts AdoptFault → Type 0
 NamesRead old new (Ok known) = IsUnchanged old new × (names : List (List ℕ)) × AreNamesIn old names × AreKnown known names
 NamesRead old new (Err NoMemory) = StaysOrRollsBack old new

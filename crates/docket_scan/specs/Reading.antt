@@ -1,4 +1,4 @@
--- What is kept of the tables that were judged, for those behind them.
+-- What is kept of the tables that were checked, for those behind them.
 use Rattle.std.specs.Prelude.{◌≡◌, ◌⊎◌, ℕ, List, [], length, map}
 use Rattle.std.specs.List.{AllByRecursion}
 use Rattle.sqlite.specs.Held.{Held, state}
@@ -36,7 +36,7 @@ module _ {S : Type 0} (g : Ghosts S) where
   abbrev pub IsStill : Held S → Held S → Type 0
   IsStill first now = (now ≡ first) ⊎ IsUnchanged (state g first) (state g now)
 
-  -- so it is, and these are the local names that stand in the table of local rules
+  -- nothing was done or changed, and these are the local names that stand in the table of local rules
   pub record AreNamed (v : Version) (first now : Held S) (read : KnownTexts) : Type 0 where
     pub still : IsStill first now
     pub names : List (List ℕ)
@@ -47,7 +47,7 @@ module _ {S : Type 0} (g : Ghosts S) where
   abbrev pub NamesBefore : Version → Held S → Held S → KnownTexts → Type 0
   NamesBefore v first now read = HasCleanDisk (state g now) → AreNamed v first now read
 
--- the check of short days goes by the court and by these rows of the calendar, and none was read yet
+-- the check of short days uses the court and these rows of the calendar, and no short day was read yet
 pub record IsReady (court : CourtSettings) (next : ℕ) (calendar : List CalendarRow) (short_days : List ShortDayRow) (check : ShortDayCheck) : Type 0 where
   pub unread : short_days ≡ []
   pub none : HasTakenShortDays check []
@@ -97,26 +97,26 @@ pub record AreRead (v : Version) (t : Table) (first : State) (court : CourtSetti
   pub sound : AllByRecursion (Holds v first court next rows) (before t)
   pub said : Said rows
 
--- the tables before one, up to that of deadlines, were judged, and found to be sound
+-- the tables before one, up to that of deadlines, were checked and are sound
 abbrev pub ReadBefore : Version → Table → State → CourtSettings → ℕ → State → TablesRead → Type 0
 ReadBefore v t first court next s read = HasCleanDisk s → AreRead v t first court next s (λ r. Says court next r read)
 
--- those before the acts were
+-- those before the acts were checked and are sound
 abbrev pub ActsBefore : Version → State → CourtSettings → ℕ → State → ActsRead → Type 0
 ActsBefore v first court next s read = HasCleanDisk s → AreRead v table.Acts first court next s (λ r. SaysActs court next r read)
 
--- those before one that stands behind the acts were
+-- those before one that stands behind the acts were checked and are sound
 abbrev pub EndsBefore : Version → Table → State → CourtSettings → ℕ → State → EndsRead → Type 0
 EndsBefore v t first court next s read = HasCleanDisk s → AreRead v t first court next s (λ r. SaysEnds court next r read)
 
--- those before the short days were
+-- those before the short days were checked and are sound
 abbrev pub LastBefore : Version → State → CourtSettings → ℕ → State → LastRead → Type 0
 LastBefore v first court next s read = HasCleanDisk s → AreRead v table.ShortDays first court next s (λ r. SaysLast court next r read)
 
--- those before the local rules were: how much they hold
+-- those before the local rules were checked and are sound: how much they hold
 abbrev pub HeldBefore : State → CourtSettings → ℕ → State → Holdings → Type 0
 HeldBefore first court next s held = HasCleanDisk s → AreRead Second table.LocalRules first court next s (λ r. held ≡ holdings_of court r)
 
--- the first table of the version that is unsound is told
+-- the first unsound table of the version is reported
 abbrev pub FailsOver : Version → State → CourtSettings → ℕ → State → AdoptFault → Type 0
 FailsOver v first court next s fault = HasCleanDisk s → FailsAt v court next first s fault

@@ -24,7 +24,7 @@ AreRowsOf t s rows = (c : Compiled) × IsUnderstood t s c × Reads c.command s.n
 abbrev pub AreFirstRowsOf : Table → State → List Row → Type 0
 AreFirstRowsOf t s rows = (c : Compiled) × IsUnderstood t s c × ReadsFirst c.command s.now [] rows
 
--- no statement reads the table: the schema has no such table or lacks a column of it, or what is in it can't be told
+-- no statement reads the table: the schema has no such table or lacks a column of it, or the database refuses to
 abbrev pub IsUnreadable : Table → State → Type 0
 IsUnreadable t s =
     ((fault : CompileError) × (understood s.now.schema (scan_text t) ≡ Err fault))
@@ -37,16 +37,16 @@ is_refusal (SqliteFailure TypeMismatch) = true
 is_refusal (SqliteFailure IntegerOverflow) = true
 is_refusal _ = false
 
--- this holds of the rows, and so many they are
+-- this holds of the rows, and there are this many
 abbrev pub OfSoMany : ℕ → (List Row → Type 0) → List Row → Type 0
 OfSoMany count Holds rows = (count ≡ length rows) × Holds rows
 
--- the check took all rows of the table, which are so many, or no rows that begin as they do are sound
+-- the check took all rows of the table, this many, or no rows that begin as they do are sound
 abbrev pub Scans : Table → State → (List Row → Type 0) → (List Row → Type 0) → Option ℕ → Type 0
 Scans t s HasTaken IsSound (Some count) = (rows : List Row) × AreRowsOf t s rows × OfSoMany count HasTaken rows
 Scans t s HasTaken IsSound None = (first : List Row) × AreFirstRowsOf t s first × ((more : List Row) → IsSound (first ++ more) → ⊥)
 
--- the connection sees the same still, or what it had begun was undone, and it may be shut
+-- the connection still sees the same, or what it had begun was undone, and it may be shut
 abbrev pub StaysOrRollsBack : State → State → Type 0
 StaysOrRollsBack old new = IsUnchanged old new ⊎ IsRolledBack old new
 
@@ -54,7 +54,7 @@ StaysOrRollsBack old new = IsUnchanged old new ⊎ IsRolledBack old new
 abbrev pub FailsToScan : Table → State → State → Error → Type 0
 FailsToScan t old new e = StaysOrRollsBack old new × (IsTrue (is_refusal e) → IsUnreadable t old × IsUnchanged old new)
 
--- what the reading of a table comes to: it writes nothing, and the database stays as it was
+-- the result of reading a table: nothing is written, and the database stays as it was
 abbrev pub Scanned : Table → State → State → (List Row → Type 0) → (List Row → Type 0) → Result (Option ℕ) Error → Type 0
 Scanned t old new HasTaken IsSound (Ok count) = IsUnchanged old new × Scans t old HasTaken IsSound count
 Scanned t old new HasTaken IsSound (Err e) = FailsToScan t old new e

@@ -25,6 +25,6 @@ has_columns columns names = list_all (has_column columns) names
 abbrev pub has_named : Schema → Table → Bool
 has_named schema t = list_any (λ found. same_name found.name (name_of t)) schema.tables
 
--- and the columns
+-- and a table has the name and the columns
 abbrev pub has_table : Schema → Table → Bool
 has_table schema t = list_any (λ found. same_name found.name (name_of t) && has_columns found.columns (columns_of t)) schema.tables

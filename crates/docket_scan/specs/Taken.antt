@@ -89,7 +89,7 @@ HasSeen v (Some seen) rows = (row : Row) × (rows ≡ row ∷ []) × Sees v seen
 abbrev pub HasTakenCourt : CourtCheck → List Row → Type 0
 HasTakenCourt check = HasSeen check.version check.seen
 
--- what the rows of the table of the court come to
+-- the result of reading the rows of the table of the court
 abbrev pub Finishes : Version → List Row → Result CourtRecord AdoptFault → Type 0
 Finishes v rows (Ok r) =
     (court : CourtSettings) × (rows ≡ court_cells_of v court r.next_row ∷ []) × IsCourtRow court r.next_row × (r ≡ record_of court r.next_row)

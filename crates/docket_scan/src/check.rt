@@ -23,7 +23,7 @@ pub(crate) trait RecordCheck: Drop {
     // The records are those of a sound table.
     ghost AreSound: { Context → List Self.Record → Type 0 };
 
-    /// Takes the next record. `false`: the table is unsound by it, whatever records follow.
+    /// Takes the next record. `false`: this record makes the table unsound, whatever records follow.
     fn take(&mut self, alloc: Global, next: &Self::Record) -> Result<bool, AllocError>
         ensures taken { (before : List Self.Record) → HasTaken self.old before → result ≡ Ok true → HasTaken self.new (before ++ next.now ∷ []) }
         ensures refused { (before more : List Self.Record) → HasTaken self.old before → result ≡ Ok false → AreSound (context self.old) (before ++ next.now ∷ more) → ⊥ }

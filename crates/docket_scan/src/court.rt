@@ -12,7 +12,7 @@ use docket_tables::Table;
 use sqlite::Row;
 use std::alloc::{AllocError, Global};
 
-/// What a row of the court says.
+/// The values of a row of the court.
 #[derive(Drop)]
 pub(crate) struct SeenRow {
     has_word: bool,
@@ -20,7 +20,7 @@ pub(crate) struct SeenRow {
     court: Option<CourtRecord>,
 }
 
-/// What a row of a court says. `None`: it is no row of one, or of another version.
+/// Reads a row of the court. `None`: it is not a row of one, or is of another version.
 fn record_in(alloc: Global, row: &Row, version: Version) -> Result<Option<CourtRecord>, AllocError>
     ensures { IfOk result (λ found. SaysCourtOf version found row.now) }
 {
@@ -54,7 +54,7 @@ pub(crate) fn look_at(alloc: Global, row: &Row, version: Version) -> Result<Seen
 }
 
 impl SeenRow {
-    /// The court of the row, if it is that of a docket.
+    /// Returns the court of the row, if it is that of a docket.
     fn finish(self) -> Result<CourtRecord, AdoptFault>
         ensures { (version : Version) (row : Cells) → Sees version self row → Finishes version (row ∷ []) result }
     {
@@ -90,7 +90,7 @@ impl CourtCheck {
         }
     }
 
-    /// What the rows say that were taken.
+    /// Returns the court of the rows that were taken.
     pub(crate) fn finish(self) -> Result<CourtRecord, AdoptFault>
         ensures { (rows : List Cells) → HasTakenCourt self rows → Finishes self.version rows result }
     {

@@ -1,4 +1,4 @@
-//! Why a database is not taken for a docket's.
+//! Why a database is not taken for a docket.
 ghost use Rattle.std.specs.Prelude.{◌≡◌};
 ghost use Rattle.docket_scan.specs.Judging.{fault_in};
 
@@ -33,7 +33,7 @@ impl From<AllocError> for AdoptFault {
     }
 }
 
-/// What an error in the reading of a table comes to. A table that no statement can read is unsound.
+/// Returns the fault for an error in the reading of a table. A table that no statement can read is unsound.
 pub(crate) fn fault_in(table: Table, error: Error) -> AdoptFault
     ensures { result ≡ fault_in table error }
 {

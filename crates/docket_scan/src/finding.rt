@@ -41,8 +41,8 @@ pub struct FoundDocket {
     pub held: Holdings,
 }
 
-/// What an error in the reading of the court's table comes to. One that no statement can read is as good
-/// as none.
+/// Returns the fault for an error in the reading of the court's table. A table that no statement can read
+/// counts as missing.
 fn court_fault(error: Error) -> AdoptFault
     ensures { result ≡ court_fault error }
 {
@@ -82,7 +82,7 @@ fn read_court<S: Alter, W: Watch>(
     }
 }
 
-/// The court of its row, if it is sound.
+/// Returns the court of its row, if it is sound.
 fn court_in(alloc: Global, row: &CourtRecord) -> Result<Court, AdoptFault>
     ensures ok { IfOk result (λ court. IsSoundCourt row.now × (court ≡ court_of row.now)) }
     ensures err { IfErr result (λ fault. (fault ≡ NoMemory) ⊎ ((fault ≡ Damaged table.Court) × (IsSoundCourt row.now → ⊥))) }
@@ -93,13 +93,13 @@ fn court_in(alloc: Global, row: &CourtRecord) -> Result<Court, AdoptFault>
     }
 }
 
-/// The docket that a database holds in the tables of `version`, whatever database it is. The table of the
-/// court is judged first, and then the others of that version in their order; an error tells the first
-/// cause for which the database is not taken for a docket's: `OtherVersion`, where its court is marked with
-/// another. Want of memory may come at any point. So may a failure of the database, but only for a cause: its
-/// disk failed or refused, a limit on steps was set, or the connection was shut. The docket of a history in
-/// that version is found as it is, and no other error comes; the first version holds no command of the last
-/// three kinds. Nothing is written. `watch` is told of each row that is read.
+/// Returns the docket that a database holds in the tables of `version`, whatever database it is. It judges
+/// the table of the court first, and then the others of that version in their order. An error names the first
+/// cause for which the database is not taken for a docket. It is `OtherVersion` if the court is marked with
+/// another version. Out of memory may come at any point. So may a failure of the database, but only for a
+/// cause: its disk failed or refused, a limit on steps was set, or the connection was shut. The docket of a
+/// history in that version is found as it is, without any other error; the first version holds no command of
+/// the last three kinds. Nothing is written. Each row that is read is reported to `watch`.
 pub fn find_docket<S: Alter, W: Watch>(
     conn: &mut Connection<S>,
     alloc: Global,

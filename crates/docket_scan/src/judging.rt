@@ -40,7 +40,7 @@ use docket_tables::Table;
 use sqlite::{Alter, Connection};
 use std::alloc::{AllocError, Global};
 
-/// Has the taker take the rows of the table, if the table is there. How many rows it took.
+/// Gives the rows of the table to the taker, if the table is there. Returns how many rows it took.
 fn judge_rows<S: Alter, T: Taker, W: Watch>(
     conn: &mut Connection<S>,
     alloc: Global,
@@ -68,7 +68,7 @@ fn judge_rows<S: Alter, T: Taker, W: Watch>(
     }
 }
 
-/// Has the check take the rows of its table, if the table is there. The check then, and how many rows
+/// Gives the rows of its table to the check, if the table is there. Returns the check then, and how many rows
 /// it took.
 fn judge_table<S: Alter, C: RecordCheck, W: Watch>(
     conn: &mut Connection<S>,
@@ -92,7 +92,7 @@ fn judge_table<S: Alter, C: RecordCheck, W: Watch>(
     Ok((taker.check, count))
 }
 
-/// Whether the tables of the version may tell of the last kinds of commands, which came after the first.
+/// Whether the tables of the version may hold the last kinds of commands, which came after the first version.
 fn knows_later_kinds(version: Version) -> bool
     ensures { result ≡ knows_later_kinds version }
 {
@@ -269,8 +269,8 @@ fn judge_through_deadlines<S: Alter, W: Watch>(
     judge_deadlines(conn, alloc, read, watch)
 }
 
-/// The ends of the deadlines whose time runs, and how many deadlines stand where. `None`: the acts that
-/// were taken are unsound.
+/// Returns the ends of the deadlines whose time runs, and how many deadlines stand where. `None`: the acts
+/// that were taken are unsound.
 fn finish(check: ActCheck) -> Result<Option<(Vec<StoredEnd>, Standings)>, AllocError>
     ensures ends { (rows : List OnDeadline) → HasTakenActs check rows
         → IfOk result (λ found. IfSome found (λ both. both.0.items ≡ dues_of (zone_of check.court) check.calendar rows)) }
@@ -288,8 +288,8 @@ fn finish(check: ActCheck) -> Result<Option<(Vec<StoredEnd>, Standings)>, AllocE
     }
 }
 
-/// Judges the table of acts. Gives the ends of the deadlines whose time runs, by their acts and the days and
-/// spans of the table of the calendar.
+/// Judges the table of acts. Returns the ends of the deadlines whose time runs, by their acts and the days
+/// and spans of the table of the calendar.
 fn judge_acts<S: Alter, W: Watch>(
     conn: &mut Connection<S>,
     alloc: Global,
@@ -376,14 +376,14 @@ fn judge_due<S: Alter, W: Watch>(
     }
 }
 
-/// So many rows, and so many more, of which a sound calendar has 4,000 at most.
+/// Adds two counts of rows, of which a sound calendar has 4,000 at most.
 fn with_more(rows: u64, more: u64) -> u64
     ensures { rows + more ≤ most_rows → result ≡ rows + more }
 {
     rows.saturating_add(more)
 }
 
-/// Judges the table of short days. How much the tables hold, with it.
+/// Judges the table of short days. Returns how much the tables hold, with it.
 fn judge_short_days<S: Alter, W: Watch>(
     conn: &mut Connection<S>,
     alloc: Global,
@@ -406,7 +406,7 @@ fn judge_short_days<S: Alter, W: Watch>(
     })
 }
 
-/// Judges the table of local rules, the last. How much the tables hold, with it.
+/// Judges the table of local rules, the last. Returns how much the tables hold, with it.
 fn judge_local_rules<S: Alter, W: Watch>(
     conn: &mut Connection<S>,
     alloc: Global,
@@ -427,8 +427,8 @@ fn judge_local_rules<S: Alter, W: Watch>(
     })
 }
 
-/// Judges the tables of the version that stand behind that of ends: in the first there are none. How much
-/// the tables hold.
+/// Judges the tables of the version behind that of ends: the first version has none. Returns how much the
+/// tables hold.
 fn judge_more<S: Alter, W: Watch>(
     conn: &mut Connection<S>,
     alloc: Global,
@@ -451,10 +451,11 @@ fn judge_more<S: Alter, W: Watch>(
     }
 }
 
-/// Judges the tables of a court's docket in a version, but for that of the court itself, which says that
-/// the next row of the calendar has that number. Tells how much they hold. An error tells the first of
-/// them, in their order, that is missing, lacks a column, can't be read or is unsound by those before it;
-/// want of memory and a failure of the database may come at any point. The local names, by which deadlines
+/// Judges the tables of a court's docket in a version, except that of the court. `next_row` is the number of
+/// the next row of the calendar, by the court's row. Returns how much they hold. An error names the first of
+/// them, in their order, that is missing, lacks a column, can't be read or is unsound by those before it. Out
+/// of memory and a failure of the database may come at any point. It reads the local names, by which
+/// deadlines are judged, before all of them, and writes nothing.
 /// are judged, are read before them all. Nothing is written.
 pub(crate) fn judge_tables<S: Alter, W: Watch>(
     conn: &mut Connection<S>,

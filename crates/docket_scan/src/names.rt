@@ -48,7 +48,7 @@ impl Taker for NameTaker {
     }
 }
 
-/// The names where the table was not read to its end: none where no statement can read it.
+/// The names if the table was not read to its end: none if no statement can read it.
 fn names_unread(alloc: Global, error: Error) -> Result<KnownTexts, AdoptFault>
     ensures ok { IfOk result (λ names. IsTrue (is_refusal error) × ((text : List ℕ) → is_known names text ≡ false)) }
     ensures err { IfErr result (λ fault. (fault ≡ NoMemory) ⊎ (fault ≡ StoreFailed)) }
@@ -60,8 +60,8 @@ fn names_unread(alloc: Global, error: Error) -> Result<KnownTexts, AdoptFault>
     }
 }
 
-/// The local names that stand in the table of local rules, be it sound or not. A table that no statement
-/// can read, as where it is missing, has none.
+/// Returns the local names in the table of local rules, whether or not it is sound. A table that is missing,
+/// or that no statement can read, has none.
 fn names_in<S: Alter, W: Watch>(
     conn: &mut Connection<S>,
     alloc: Global,
@@ -81,7 +81,8 @@ fn names_in<S: Alter, W: Watch>(
     }
 }
 
-/// The local names by which the deadlines of a version are judged: the first has no table of local rules.
+/// Returns the local names by which the deadlines of a version are judged: the first has no table of local
+/// rules.
 pub(crate) fn read_names<S: Alter, W: Watch>(
     conn: &mut Connection<S>,
     alloc: Global,

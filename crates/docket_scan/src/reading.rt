@@ -1,4 +1,4 @@
-//! What is kept of the tables that were judged, for those behind them.
+//! What is kept of the judged tables, for those behind them.
 ghost use Rattle.std.specs.Prelude.{◌≡◌, ℕ, [], List, length, IfOk};
 ghost use Rattle.docket_history.specs.CalendarItems.{calendar_of};
 ghost use Rattle.docket_history.specs.Histories.{items_of};
@@ -13,15 +13,15 @@ use docket_decisions::StoredEnd;
 use docket_sound::{KnownTexts, Numbering, ShortDayCheck};
 use std::alloc::{AllocError, Global};
 
-/// What the checks of later tables go by, up to that of deadlines, and how much the tables hold. Of a table
-/// that was not judged yet it has nothing.
+/// What the checks of later tables use, up to that of deadlines, and how much the tables hold. It has nothing
+/// of a table that was not judged yet.
 #[derive(Drop)]
 pub(crate) struct TablesRead {
     pub(crate) court: Court,
     pub(crate) calendar: Calendar,
     /// The check of the short days beside the calendar.
     pub(crate) short_days: ShortDayCheck,
-    /// The local names that stand in the table of local rules.
+    /// The local names in the table of local rules.
     pub(crate) names: KnownTexts,
     /// How many cases there are.
     pub(crate) cases: u32,
@@ -59,7 +59,7 @@ impl TablesRead {
     }
 }
 
-/// What is left of them behind the deadlines.
+/// What is kept of them after the deadlines.
 #[derive(Drop)]
 pub(crate) struct ActsRead {
     pub(crate) court: Court,
@@ -70,7 +70,7 @@ pub(crate) struct ActsRead {
     pub(crate) held: Holdings,
 }
 
-/// And behind the acts.
+/// What is kept of them after the acts.
 #[derive(Drop)]
 pub(crate) struct EndsRead {
     /// The ends of the deadlines whose time runs, by their acts and the days and spans of the table of the
@@ -80,7 +80,7 @@ pub(crate) struct EndsRead {
     pub(crate) held: Holdings,
 }
 
-/// And behind the ends.
+/// What is kept of them after the ends.
 #[derive(Drop)]
 pub(crate) struct LastRead {
     pub(crate) short_days: ShortDayCheck,

@@ -1,4 +1,4 @@
-//! Rows of the table of receipts, whatever their bodies say.
+//! Rows of the table of receipts, whatever their bodies are.
 ghost use Rattle.std.specs.Prelude.{◌≡◌, Some, IfOk, IfSome};
 ghost use Rattle.docket_scan.specs.Records.{IsStoredReceipt, receipt_cells};
 ghost use Rattle.docket_scan.specs.declared.receipt.StoredReceipt.{StoredReceipt as Stored};
@@ -16,7 +16,7 @@ pub struct StoredReceipt {
     pub reply: Reply,
 }
 
-/// The receipt of a row. `None`: it is no row of a receipt.
+/// Reads the receipt of a row. `None`: it is not a row of a receipt.
 fn receipt_of(alloc: Global, row: &Row) -> Result<Option<StoredReceipt>, AllocError>
     ensures reads { (r : Stored) → IsStoredReceipt r → row.now ≡ receipt_cells r → IfOk result (λ found. found ≡ Some r) }
     ensures sound { IfOk result (λ found. IfSome found (λ r. row.now ≡ receipt_cells r)) }

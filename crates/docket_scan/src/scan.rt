@@ -11,8 +11,8 @@ use docket_tables::{Table, scan_text};
 use sqlite::{Alter, Connection, Error, ErrorCode};
 use std::alloc::Global;
 
-/// Reads the table row by row, and tells of each. How many rows it has, where the check took them all;
-/// `None`: it refused one. More rows than a number counts are a want of memory.
+/// Reads the table row by row, and reports each row to `watch`. Returns how many rows it has, if the check
+/// took them all; `None`: it refused one. More rows than a number counts are reported as out of memory.
 pub(crate) fn scan<S: Alter, C: Taker, W: Watch>(
     conn: &mut Connection<S>,
     alloc: Global,

@@ -22,7 +22,7 @@ fn has_each(columns: &[Column], names: &[&str]) -> bool
     names.iter().all(|name| has_column(columns, name))
 }
 
-/// Whether the columns of the table are among these.
+/// Whether the columns of the table are all among these.
 fn has_columns(columns: &[Column], table: Table) -> bool
     ensures { result ≡ has_columns columns.now (columns_of table) }
 {

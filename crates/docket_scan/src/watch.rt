@@ -1,6 +1,6 @@
-//! How far the judging of a database has come, for whoever waits for it.
+//! Reports how far the judging of a database has come, for a person who waits for it.
 
-/// Is told of the rows that are read. Nothing of what is found rests on it.
+/// Receives a report of each row that is read. The result does not depend on it.
 pub trait Watch {
     /// Another row was read, of whatever table.
     fn on_row(&mut self);

@@ -38,7 +38,7 @@ all_then : {X : Type 0} (P : X → Type 0) (first more : List X) → AllByRecurs
 all_then P [] more p q = q
 all_then P (x ∷ first) more p q = (p.0, all_then P first more p.1 q)
 
--- so many more connections
+-- n more connections
 ends_then : (i n : ℕ) (first more : List Exchange) (result : Result (Unit {0}) ServingFault) → Ends i first (Ok tt) → Ends n more result → Ends (i + n) (first ++ more) result
 ends_then i n first more (Ok done) p q = (omega (arith, length-append first more, p.0, q.0), all_then _ first more p.1 q.1)
 ends_then i n first more (Err AcceptFailed) p q = (omega (arith, length-append first more, p.0, q.0), all_then _ first more p.1 q.1)
@@ -109,7 +109,7 @@ module _ {S : Type 0} (g : Ghosts S) (routes : Routes) where
   abbrev Untouched : Docket S → Docket S → Option (List ℕ) → Option (List ℕ) → Result Served ServeFault → Type 0
   Untouched old new before after end = IfErr end (λ fault. (fault ≡ ReadFailed) ⊎ (fault ≡ EndedEarly) → (new ≡ old) × Keeps before after)
 
-  -- a copy that was asked for
+  -- a request for a copy
   pub attended_by_copy : (old new : Docket S) (input before middle after : Option (List ℕ)) (end : Result Served ServeFault)
       → WritesAtMostOne g old new
       → WantsCopy routes input old new × (middle ≡ before)

@@ -18,7 +18,7 @@ use Rattle.docket_http.specs.Answer.{Response}
 use Rattle.docket_http.specs.Serve.{IsCopyAnswer, SendsCopy}
 use Rattle.docket_serving.specs.Serving.{Answers, AnswersOf, Fell, IsNext, Stays}
 
--- the answer to who asks for a copy went out whole, or the writer failed
+-- the answer to a request for a copy went out whole, or the writer failed
 pub by_copy : {copy before after : Option (List ℕ)} (P : Result Served ServeFault → Type 0) → ((served : Served) → SendsCopy copy before after (Ok served) → P (Ok served)) → P (Err serve.WriteFailed)
     → (end : Result Served ServeFault) → SendsCopy copy before after end → P end
 by_copy P whole failed (Ok served) sends = whole served sends
@@ -63,7 +63,7 @@ module _ {S : Type 0} (g : Ghosts S) (routes : Routes) where
         → ((response.status == 503) ≡ true → (tells_failure e.end ≡ true) ⊎ (e.end ≡ Err serve.WriteFailed)) → Leaves h e left
     left_told response answered fine failed = left_as response (split g left h wish body response answered) fine failed
 
-  -- no answer to who asks for a copy says 503
+  -- no answer to a request for a copy has status 503
   copy_fine : (copy : Option (List ℕ)) (response : Response) → IsCopyAnswer copy response → (response.status == 503) ≡ false
   copy_fine None response is = ap (λ (r : Response). r.status == 503) is
   copy_fine (Some bytes) response (inl is) = ap (λ (r : Response). r.status == 503) is

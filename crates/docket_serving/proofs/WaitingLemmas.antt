@@ -1,4 +1,4 @@
--- Who is taken out of those who wait, and what is known of the others.
+-- Which waiting connection is taken out, and what is known of the others.
 use Rattle.std.proofs.Common.{◌≡◌, ◌∙◌, ◌<◌, ◌+◌, ◌⊎◌, inl, inr, ℕ, suc, List, ◌∷◌, ◌++◌, length, map, take, drop, get_or, set, sym, ap, subst, drop-cons, take-append-drop, eq-or-lt_of_le, ne_of_lt, arith}
 use Rattle.std.proofs.lemmas.List.{get_or-set_same, get_or-set_other, map-append}
 use Rattle.docket_serving.specs.Waiting.{IsTakenOut}

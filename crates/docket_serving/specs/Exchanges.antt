@@ -1,4 +1,4 @@
--- What came of connections, as their source tells it.
+-- The outcomes of connections, as their source reports them.
 use Rattle.std.specs.Prelude.{◌≡◌, ◌≤◌, ◌<◌, ◌==◌, ℕ, Bool, true, false, List, [], ◌∷◌, ◌++◌, length, Option, Some, None, Result, Ok, Err, ⊤}
 use Rattle.std.specs.List.{AllByRecursion}
 use Rattle.docket_http.specs.declared.fault.ServeFault.{ServeFault}
@@ -7,7 +7,7 @@ use Rattle.docket_http.specs.declared.sending.Served.{Served}
 use Rattle.docket_serving.specs.declared.serving.ServingFault.{ServingFault}
 use Rattle.docket_serving.specs.declared.serving.ServingFault.TheVariants.{AcceptFailed, DocketFailed}
 
--- one connection: what its reader held as it came, what its writer had before and after, each where it is known, and how it ended
+-- one connection: what its reader held at first, what its writer held before and after, each if known, and how it ended
 pub record Exchange : Type 0 where
   pub input : Option (List ℕ)
   pub before : Option (List ℕ)
@@ -23,13 +23,13 @@ Logs None new more = ⊤
 Logs (Some old) None more = ⊥
 Logs (Some old) (Some new) more = new ≡ old ++ more
 
--- whether an end tells that the docket failed
+-- whether an end reports that the docket failed
 abbrev pub tells_failure : Result Served ServeFault → Bool
 tells_failure (Ok served) = served.status == 503
 tells_failure (Err StoreFailed) = true
 tells_failure (Err _) = false
 
--- whether an end tells that a copy is wanted, and so that nobody was answered
+-- whether an end reports that a copy is wanted, so that nothing was answered
 abbrev pub wants_copy : Result Served ServeFault → Bool
 wants_copy (Ok served) = false
 wants_copy (Err CopyWanted) = true
@@ -38,7 +38,7 @@ wants_copy (Err _) = false
 abbrev pub NoneFailed : List Exchange → Type 0
 NoneFailed = AllByRecursion (λ e. tells_failure e.end ≡ false)
 
--- the last one tells that the docket failed, and none before it
+-- the last one reports that the docket failed, and none before it does
 pub record FailsAtLast (all : List Exchange) : Type 0 where
   pub first : List Exchange
   pub last : Exchange
@@ -46,7 +46,7 @@ pub record FailsAtLast (all : List Exchange) : Type 0 where
   pub none_before : NoneFailed first
   pub failed : tells_failure last.end ≡ true
 
--- of so many connections all were taken; or fewer, where one could not be taken; or those up to the first that tells that the docket failed
+-- all `count` connections were taken; or fewer, if one could not be taken; or those up to the first that reports that the docket failed
 abbrev pub Ends : ℕ → List Exchange → Result (Unit {0}) ServingFault → Type 0
 Ends count all (Ok _) = (length all ≡ count) × NoneFailed all
 Ends count all (Err AcceptFailed) = (length all < count) × NoneFailed all

@@ -1,4 +1,4 @@
--- What a docket is brought to by connections that are served one after the other.
+-- What a docket becomes when connections are served one after the other.
 use Rattle.std.specs.Prelude.{◌≡◌, ◌⊎◌, ◌≤◌, ℕ, true, false, List, [], ◌∷◌, Option, IfSome, Result, Ok, Err, IfErr}
 use Rattle.std.specs.Io.KnownBytes.{Keeps}
 use Rattle.std.specs.List.{AllByRecursion}
@@ -25,7 +25,7 @@ use Rattle.docket_http.specs.declared.sending.Served.{Served}
 use Rattle.docket_serving.specs.Exchanges.{Ends, Exchange, Logs, tells_failure, wants_copy}
 use Rattle.docket_serving.specs.declared.serving.ServingFault.{ServingFault}
 
--- the history is that before a connection, or that after the command which it gave
+-- the history is that before a connection, or that after the command that it sent
 abbrev pub IsNext : Routes → CourtSettings → History → Exchange → History → Type 0
 IsNext routes court h e next = (next ≡ h) ⊎ ((wish : Wish) × (body : List ℕ) × IsAsked routes e.input wish body × (next ≡ history_after court h wish body))
 
@@ -33,11 +33,11 @@ IsNext routes court h e next = (next ≡ h) ⊎ ((wish : Wish) × (body : List �
 abbrev pub IsToldClosed : Routes → Exchange → Type 0
 IsToldClosed routes e = ServesClosed routes e.input e.before e.after e.end
 
--- the answer to who asks for a copy went out, or a front of it: the bytes of a file that alone is a sound docket's, or that there is no copy
+-- the answer to a request for a copy, or a front of it, went out: a file that alone is a sound docket's, or that there is no copy
 abbrev pub GivesCopy : Option (List ℕ) → Option (List ℕ) → Result Served ServeFault → Type 0
 GivesCopy before after end = (copy : Option (List ℕ)) × IfSome copy IsSoundFile × SendsCopy copy before after end
 
--- a copy of the docket's file was asked for, and that was answered; the docket is as it was
+-- a request for a copy of the docket's file was answered; the docket is as it was
 pub record IsCopied {S : Type 0} (routes : Routes) (old new : Docket S) (e : Exchange) : Type 0 where
   pub body : List ℕ
   pub asked : IsAsked routes e.input Copy body
@@ -45,22 +45,22 @@ pub record IsCopied {S : Type 0} (routes : Routes) (old new : Docket S) (e : Exc
   pub gives : GivesCopy e.before e.after e.end
 
 module _ {S : Type 0} (g : Ghosts S) (routes : Routes) where
-  -- what the docket serves to a connection where it stood for a history
+  -- what the docket of a history serves to a connection
   abbrev pub AnswersOf : Docket S → Docket S → History → Exchange → Result Served ServeFault → Type 0
   AnswersOf old new h e (Ok served) = Serves g routes e.input old new h e.before e.after served.status
   AnswersOf old new h e (Err fault) = Fails g routes e.input old new h e.before e.after fault
 
-  -- what a connection is served then
+  -- the same, or the answer to a request for a copy
   abbrev pub Answers : Docket S → Docket S → History → Exchange → Type 0
   Answers old new h e = AnswersOf old new h e e.end ⊎ IsCopied routes old new e
 
-  -- all that is promised of one connection, whatever the docket
+  -- all that is promised of one connection, for any docket
   pub record IsAttended (old : Docket S) (e : Exchange) (new : Docket S) : Type 0 where
     pub court : new.court ≡ old.court
     pub clean : doubt (state g old.conn).is_clean ≤ doubt (state g new.conn).is_clean
     pub any : WritesAtMostOne g old new
     pub closed : old.closed ≡ true → (new ≡ old) × IsToldClosed routes e
-    -- who wants a copy is answered too
+    -- a request for a copy is answered too
     pub answered : wants_copy e.end ≡ false
     pub answers : (h : History) → Stands g old h → HasCleanDisk (state g new.conn) → Answers old new h e
     pub recorded : HoldsDocketRows g old → ServesBacked g routes e.input new e.before e.after e.end
@@ -71,14 +71,14 @@ module _ {S : Type 0} (g : Ghosts S) (routes : Routes) where
   ServesEach old [] new = new ≡ old
   ServesEach old (e ∷ rest) new = (left : Docket S) × IsAttended old e left × ServesEach left rest new
 
-  -- the docket stands for the next history, and the connection was not told that it failed
+  -- the docket is that of the next history, and the answer does not report a failure
   pub record Stays (h : History) (e : Exchange) (left : Docket S) (next : History) : Type 0 where
     pub is : IsNext routes left.court h e next
     pub stands : Stands g left next
     pub told : tells_failure e.end ≡ false
 
-  -- the database failed: a power failure leaves the docket of the history or of the next, and the docket is closed. The connection was told
-  -- so, but where its answer could not be written whole
+  -- the database failed: a power failure leaves the docket of the history or of the next, and the docket is closed. The answer reports the
+  -- failure, unless it could not be written whole
   pub record Fell (h : History) (e : Exchange) (left : Docket S) : Type 0 where
     pub next : History
     pub is : IsNext routes left.court h e next
@@ -86,15 +86,15 @@ module _ {S : Type 0} (g : Ghosts S) (routes : Routes) where
     pub closed : left.closed ≡ true
     pub told : (tells_failure e.end ≡ true) ⊎ (e.end ≡ Err WriteFailed)
 
-  -- from a docket that stands for a history: each connection is served by the docket of the history that those before it led to, up to the
-  -- last, or to one at which the database failed
+  -- from the docket of a history: each connection is served by the docket that those before it led to, up to the last or to one where the
+  -- database failed
   abbrev pub Leads : Docket S → History → List Exchange → Docket S → Type 0
   Leads old h [] new = (new ≡ old) × Stands g new h
   Leads old h (e ∷ rest) new =
       (left : Docket S) × Answers old left h e
       × (((next : History) × Stays h e left next × Leads left next rest new) ⊎ (Fell h e left × ServesEach left rest new))
 
-  -- so many connections were taken, as the source's log tells them, and served
+  -- connections were taken, up to `count`, and served, as the source's log records
   pub record ServesRun (old new : Docket S) (count : ℕ) (before after : Option (List Exchange)) (result : Result (Unit {0}) ServingFault) : Type 0 where
     pub exchanges : List Exchange
     pub logged : Logs before after exchanges

@@ -1,4 +1,4 @@
--- Those who wait to be attended to.
+-- The connections that wait to be served.
 use Rattle.std.specs.Prelude.{◌≡◌, List, [], ◌∷◌, ◌++◌, map, All}
 use Rattle.patient_stream.specs.declared.stream.Stream.{Stream}
 use Rattle.http_request.specs.Request.{EndsEarly}

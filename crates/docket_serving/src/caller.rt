@@ -9,7 +9,7 @@ use std::alloc::Global;
 use std::io::{ErrorKind, Read};
 use std::time::{Clock, Duration, Instant};
 
-/// How many seconds a caller is waited for from its first byte on, until its request has come.
+/// How many seconds a caller may take from its first byte on, until its request has come.
 pub(crate) const PATIENCE: u64 = 10;
 
 /// The most bytes of a read.
@@ -18,14 +18,14 @@ const PIECE: usize = 4096;
 /// So many bytes are a whole request, or more than one may have: 8,192 of a head and 65,536 of a body.
 const ENOUGH: usize = 73_728;
 
-/// What one read came to.
+/// The result of one read.
 enum Taken {
     Piece,
     Nothing,
     End,
 }
 
-/// A connection, what has come of it, and how long it may still be waited for.
+/// A connection, what has come of it, and how much longer it may take.
 #[derive(Drop)]
 pub(crate) struct Caller {
     pub(crate) stream: Stream,
@@ -34,7 +34,7 @@ pub(crate) struct Caller {
     begun: Option<Instant>,
 }
 
-/// Whether no more has to come of a request of the docket, or none can.
+/// Whether the bytes are enough: no more has to come of a request to the docket, or none can.
 fn is_whole(alloc: Global, came: &[u8]) -> bool
     ensures { result ≡ false → EndsEarly routes.Docket came.now }
 {
@@ -46,7 +46,7 @@ fn is_whole(alloc: Global, came: &[u8]) -> bool
 }
 
 impl Caller {
-    /// A connection of which nothing was read yet. Its reads do not wait.
+    /// A connection from which nothing was read yet. Its reads do not wait.
     pub(crate) fn new(alloc: Global, stream: Stream) -> Caller
         ensures stream { result.stream ≡ stream }
         ensures came { result.came.items ≡ [] }
@@ -59,8 +59,8 @@ impl Caller {
         }
     }
 
-    /// Reads once. Memory is asked for first, so that nothing that was read is lost; where there is none, the
-    /// rest is left to who attends. After a failed read no more is waited for.
+    /// Reads once. It reserves memory first, so that no bytes that were read are lost; if there is none, the
+    /// attendant reads the rest. After a failed read the wait is over.
     fn take_piece(&mut self) -> Taken
         ensures stream { self.new.stream ≡ self.old.stream }
     {
@@ -79,7 +79,7 @@ impl Caller {
         }
     }
 
-    /// Reads what has come, and tells whether more may come.
+    /// Reads what has come, and returns whether more may come.
     fn take_all(&mut self) -> bool
         ensures stream { self.new.stream ≡ self.old.stream }
     {
@@ -96,7 +96,7 @@ impl Caller {
         false
     }
 
-    /// Takes off what has passed since its first bytes were read, or all where no clock tells it.
+    /// Subtracts the time since its first bytes were read, or all of it if the clock fails.
     fn pass_time<C: Clock>(&mut self, clock: &C)
         ensures stream { self.new.stream ≡ self.old.stream }
         ensures came { self.new.came ≡ self.old.came }
@@ -120,8 +120,8 @@ impl Caller {
         self.begun.is_some()
     }
 
-    /// Reads what has come, and tells whether there is something to attend to: a whole request, one that can
-    /// be told to be none, the end of what comes, or the end of all patience.
+    /// Reads what has come, and returns whether it can be attended to. It can after a whole request, bytes
+    /// that can be no request, the end of the input, or the end of the wait.
     pub(crate) fn is_ready<C: Clock>(&mut self, alloc: Global, clock: &C) -> bool
         ensures stream { self.new.stream ≡ self.old.stream }
         ensures waits { result ≡ false → EndsEarly routes.Docket self.new.came.items }

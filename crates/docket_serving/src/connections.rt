@@ -20,16 +20,16 @@ pub trait Attendant {
         ensures { Attends self.old (exchange (R.remaining reader.old) (W.contents writer.old) (W.contents writer.new) result) self.new };
 }
 
-/// A source of connections. It has the attendant attend to each one that it takes: nothing else can
-/// bring an attendant to what `Attends` says.
+/// A source of connections. It calls the attendant for each one that it takes: nothing else can bring an
+/// attendant to what `Attends` defines.
 pub trait Connections {
-    /// What is left of a connection. It is closed where this is dropped.
+    /// What is left of a connection. Dropping it closes the connection.
     type Peer: Drop;
 
     // The exchanges of the connections that were taken, one after the other, where they are known.
     ghost log: { Self → Option (List Exchange) } = { λ _. None };
 
-    /// Takes the next connection, has it attended to once, and tells how it ended.
+    /// Takes the next connection, calls the attendant once for it, and returns how it ended.
     fn next<A: Attendant>(
         &mut self,
         attendant: &mut A,

@@ -6,8 +6,8 @@ use docket_http::{ServeFault, Served, send_copy};
 use std::alloc::Global;
 use std::io::Write;
 
-/// Answers with a copy of the docket in these files, or that there is none: it is kept in no files, or no
-/// sound copy could be made.
+/// Answers with a copy of the docket in these files, or that there is none: the docket is not kept in files,
+/// or no sound copy could be made.
 pub(crate) fn give_copy<W: Write>(
     alloc: Global,
     files: Option<DocketFiles<'_>>,

@@ -11,13 +11,13 @@ use std::alloc::Global;
 use std::io::{Read, Write};
 use std::marker::Model;
 
-/// Keeps a docket in a database, and answers one request of each connection by it. A contract sees the
+/// Keeps a docket in a database, and answers one request of each connection from it. A contract sees the
 /// docket, and which routes are served.
 pub struct Desk<'a, S: Alter> {
     alloc: Global,
     docket: Docket<S>,
     routes: Routes,
-    // The files of which copies are given, where the docket is kept in files.
+    // The files to copy, if the docket is kept in files.
     files: Option<DocketFiles<'a>>,
 }
 
@@ -38,7 +38,7 @@ impl<S: Alter + Drop> Drop for Desk<'_, S> {
 }
 
 impl<'a, S: Alter> Desk<'a, S> {
-    /// A desk at which these routes of the docket are served, with copies of the files in which it is kept.
+    /// A desk that serves these routes of the docket, with copies of the files in which it is kept.
     pub fn new(
         alloc: Global,
         docket: Docket<S>,
@@ -76,7 +76,7 @@ impl<'a, S: Alter> Desk<'a, S> {
     }
 }
 
-/// Whether who asks for a copy is still to be answered.
+/// Whether a request for a copy is still to be answered.
 fn is_copy_wanted(served: &Result<Served, ServeFault>) -> bool
     ensures { result ≡ wants_copy served.now }
 {

@@ -1,9 +1,9 @@
 //! A docket served on a listener: one connection after the other, one request each.
 //!
-//! No peer holds the docket: a connection is attended to once its request has come, and those of which it has
-//! not wait beside, at most ten seconds from the first byte on. For its answer a peer is waited for as long. What
-//! goes wrong with one connection is told in a line, and the next is served. Where pages are shown, a copy of the
-//! docket is given too.
+//! No peer holds the docket: a connection is attended to once its request has come, and the others wait beside
+//! it, at most ten seconds from the first byte on. Writing an answer to a peer may take as long. A fault of one
+//! connection is reported in a line, and the next is served. Where pages are shown, copies of the docket are sent
+//! too.
 #![tactic(auto)]
 
 mod caller;

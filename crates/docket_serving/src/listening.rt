@@ -16,11 +16,11 @@ use std::os::fd::AsRawFd;
 use std::rt::HostRuntime;
 use std::time::Duration;
 
-/// How many seconds pass before one is looked at again whose request was begun.
+/// How many seconds pass before a connection whose request has begun is looked at again.
 const PAUSE: u64 = 1;
 
 /// The connections of a listener. Each waits until its request has come, and is then attended to; nobody waits
-/// for another's bytes. What they send, and what is sent to them, is not known to contracts.
+/// for another's bytes. Contracts do not know what they send, or what is sent to them.
 #[derive(Drop)]
 pub struct Listening<'a> {
     rt: &'a HostRuntime,
@@ -30,7 +30,7 @@ pub struct Listening<'a> {
     waiting: Waiting,
 }
 
-/// Has a wait end where something comes of this.
+/// Makes a wait end when this source has something to read.
 fn watch<F: AsRawFd>(poll: &Poll, source: &F) -> io::Result<()> {
     let fd = source.as_raw_fd();
     poll.registry()
@@ -52,15 +52,15 @@ impl<'a> Listening<'a> {
         })
     }
 
-    /// Has the one at the other end wait, or lets it go where nothing could tell that something comes of it.
+    /// Adds a connection to those that wait, or drops it if the poll can't watch it.
     fn receive(&mut self, stream: Stream) {
         if stream.set_nonblocking(true).is_ok() && watch(&self.poll, &stream).is_ok() {
             let _ = self.waiting.join(Caller::new(self.rt.alloc(), stream));
         }
     }
 
-    /// Has a connection wait, if one has come, and tells whether one had. Where none can be taken, as where
-    /// too many files are open, the oldest of those who wait is let go.
+    /// Adds a connection to those that wait, if one has come, and returns whether one had. If none can be
+    /// taken, as when too many files are open, the connection that has waited longest is dropped.
     fn admit(&mut self) -> io::Result<bool> {
         match self.listener.accept() {
             Ok(stream) => {
@@ -75,7 +75,7 @@ impl<'a> Listening<'a> {
         }
     }
 
-    /// Waits until something comes, and at most a second where patience with somebody may end.
+    /// Waits until something comes, at most a second if a caller's time may run out.
     fn wait(&mut self) -> io::Result<()> {
         let most = if self.waiting.have_begun() {
             Some(Duration::from_secs(PAUSE))
@@ -85,8 +85,8 @@ impl<'a> Listening<'a> {
         self.poll.poll(&mut self.events, most)
     }
 
-    /// The next to attend to. All who came are looked at before each wait: a wait tells only of what came
-    /// since.
+    /// Returns the next caller to attend to. It looks at all that came before each wait: a wait reports only
+    /// what came since.
     fn next_caller(&mut self) -> io::Result<Caller> {
         for _ in 0..u64::MAX {
             if let Some(caller) = self.waiting.take_ready(self.rt) {
@@ -100,7 +100,7 @@ impl<'a> Listening<'a> {
     }
 }
 
-/// Attends to a caller, who is waited for only so long.
+/// Attends to a caller, with a limit on how long it may take.
 fn attend_patiently<A: Attendant>(
     rt: &HostRuntime,
     caller: &Caller,

@@ -1,4 +1,4 @@
-//! Parting from a peer so that it has its answer.
+//! Closing a connection so that the peer gets its answer.
 
 use docket_http::{ServeFault, Served};
 use patient_stream::{PatientReader, Stream};
@@ -6,7 +6,7 @@ use std::io;
 use std::io::Read;
 use std::time::Duration;
 
-/// How many seconds a peer is waited for to close its side.
+/// How many seconds to wait for a peer to close its side.
 const FAREWELL: u64 = 1;
 
 /// The most pieces that are read and dropped.
@@ -42,8 +42,8 @@ fn drop_rest(rt: &HostRuntime, stream: &Stream) -> io::Result<()> {
     Ok(())
 }
 
-/// Ends a connection. To close a socket with unread bytes resets the connection, and the peer may lose
-/// its answer; so they are read and dropped for a while.
+/// Ends a connection. Closing a socket with unread bytes resets the connection, and the peer may lose its
+/// answer; so it reads and drops them for a while.
 pub(crate) fn part(rt: &HostRuntime, stream: &Stream, served: &Result<Served, ServeFault>) {
     if is_early(served) || has_unread(stream) {
         let _ = drop_rest(rt, stream);

@@ -19,7 +19,7 @@ use std::io::Write;
 pub enum ServingFault {
     /// No connection could be taken.
     AcceptFailed,
-    /// The docket answered that it is closed or damaged, or that its database failed.
+    /// The docket returned that it is closed or damaged, or that its database failed.
     DocketFailed,
 }
 
@@ -32,7 +32,7 @@ impl fmt::Display for ServingFault {
     }
 }
 
-/// Tells in one line what went wrong with a connection.
+/// Writes one line about what went wrong with a connection.
 fn tell<E: Write, F: fmt::Display>(alloc: Global, e: &mut E, fault: &F) {
     let _ = match format!(in alloc; "docketctl: {fault}\n") {
         Ok(line) => write_bytes(e, line.as_bytes()),
@@ -72,9 +72,9 @@ fn serve_next<C: Connections, S: Alter, E: Write>(
     Ok(())
 }
 
-/// Serves so many connections, one after the other, each by the docket that the one before it left.
-/// What goes wrong with a connection is told on `e`, and the next is served; a docket that failed is
-/// served no more.
+/// Serves so many connections, one after the other, each from the docket that the one before it left. It
+/// writes on `e` what goes wrong with a connection, and serves the next; a docket that failed is served no
+/// more.
 pub fn serve_run<C: Connections, S: Alter, E: Write>(
     alloc: Global,
     connections: &mut C,

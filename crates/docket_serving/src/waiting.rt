@@ -9,7 +9,7 @@ use std::rt::HostRuntime;
 /// The most that wait.
 pub(crate) const MOST: usize = 64;
 
-/// Those who wait, the oldest first. Where one more comes than may wait, the oldest is let go.
+/// Those who wait, the oldest first. If more come than may wait, the oldest is dropped.
 #[derive(Drop)]
 pub(crate) struct Waiting {
     all: Vec<Caller>,
@@ -18,7 +18,7 @@ pub(crate) struct Waiting {
 }
 
 impl Waiting {
-    /// Nobody waits yet. No memory for the list is asked for later.
+    /// An empty list. It allocates all its memory now.
     pub(crate) fn new(alloc: Global) -> Result<Waiting, AllocError>
         ensures { IfOk result (λ waiting. waiting.all.items ≡ []) }
     {
@@ -27,7 +27,7 @@ impl Waiting {
         })
     }
 
-    /// The oldest waits no longer.
+    /// Takes the oldest off the list, and returns it.
     pub(crate) fn let_go(&mut self) -> Option<Caller>
         ensures some { IfSome result (λ oldest. self.old.all.items ≡ oldest ∷ self.new.all.items) }
         ensures none { IfNone result ((self.old.all.items ≡ []) × (self.new.all.items ≡ [])) }
@@ -38,7 +38,7 @@ impl Waiting {
         Some(self.all.remove(0))
     }
 
-    /// One more waits, behind all others. Where as many wait as may, the oldest is let go.
+    /// Adds one more behind all others. If the list is full, the oldest is taken off and returned.
     pub(crate) fn join(&mut self, last: Caller) -> Option<Caller>
         ensures none { IfNone result ((vec_len self.old.all < 64) × (self.new.all.items ≡ self.old.all.items ++ last ∷ [])) }
         ensures some { IfSome result (λ oldest. (vec_len self.old.all ≡ 64) × JoinsBehind oldest self.old.all.items last self.new.all.items) }
@@ -52,8 +52,7 @@ impl Waiting {
         Some(oldest)
     }
 
-    /// The oldest that there is something to attend to waits no longer. Where there is none, nobody's request
-    /// has come.
+    /// Takes the oldest that can be attended to off the list. Returns `None` if nobody's request has come.
     pub(crate) fn take_ready(&mut self, rt: &HostRuntime) -> Option<Caller>
         ensures some { IfSome result (λ ready. IsTakenOut ready.stream (streams self.old.all.items) (streams self.new.all.items)) }
         ensures none { IfNone result (streams self.new.all.items ≡ streams self.old.all.items) }

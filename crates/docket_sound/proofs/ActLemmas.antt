@@ -118,7 +118,7 @@ few_closed run (x ∷ xs) = at (is_on run x) (few_closed (with_row run x) xs) (f
     at true same other = omega (arith, same)
     at false same other = omega (arith, other)
 
--- what comes of the counts of standings with the run under way
+-- the counts of standings with the run under way
 abbrev pub CountsLast : ActCheck → Standings → Type 0
 CountsLast check new =
     (l : List Standing) → check.standings ≡ counts_of_standings l → length l < 2 ^ 64 - 1 → new ≡ counts_of_standings (l ++ last_standings check)

@@ -115,7 +115,7 @@ short_days_sound court n rows sound =
     (apart (λ row. is_short_day row.item) rows sound.rising)))
     (omega (arith, sound.few, in_two_tables rows, length-map (day_and_span_rows rows) (λ (row : CalendarRow). row.number)))
 
--- the days and the spans alone say where deadlines stand
+-- the days and the spans alone determine where deadlines stand
 module _ (zone : ZoneRules) (rows : List CalendarRow) where
   abbrev alone : Entered
   alone = calendar_of (items_of (day_and_span_rows rows))

@@ -57,7 +57,7 @@ pub numbers_are : {R : Type 0} (key : R → Key) (k : ℕ) (rows : List R) → n
 numbers_are key k rows =
     ap (map (λ (x : Key). x.number)) (filter-map (λ (x : Key). x.case == k) key rows) ∙ map-map (λ (x : Key). x.number) key (filter (λ r. (key r).case == k) rows)
 
--- what it asks of a row that it comes next
+-- what a row that comes next has to meet
 pub record IsNext (cases most : ℕ) (keys : List Key) (key : Key) : Type 0 where
   pub met : IsOfCase cases key
   pub next : key.number ≡ 1 + length (numbers_in key.case keys)

@@ -41,7 +41,7 @@ pub record AreSoundActs (court : CourtSettings) (cases : ℕ) (deadlines : ℕ �
   pub lawful : AllByRecursion (IsSoundRun (zone_of court)) (runs_of rows)
   pub complete : (k : ℕ) → length (numbers_in k (map run_key (runs_of rows))) ≡ deadlines k
 
--- what the check asks of a row
+-- what the check requires of a row
 
 -- acts are kept of a deadline, and the row is of it
 abbrev pub continues : ActCheck → ActRow → Bool

@@ -43,7 +43,7 @@ stands entered (Day kind day) = contains (days_of entered kind) day
 stands entered (Span start end) = contains entered.spans (record { start = start; end = end })
 stands entered (Short day close) = fin_map.contains_key entered.short day
 
--- what the entering of an item comes to
+-- the result of entering an item
 abbrev pub Enters : Entered → CalendarItem → Entered → Result Bool CalendarFault → Type 0
 Enters old item new (Ok true) = (stands old item ≡ false) × (new ≡ with_item old item) × (rows_of new ≤ most_rows)
 Enters old item new (Ok false) = stands old item ≡ true

@@ -37,7 +37,7 @@ pub record AreSoundShortDays (close next_row : ℕ) (calendar : List ℕ) (rows 
   pub few : length calendar + length rows ≤ most_rows
   pub within : AllByRecursion (λ row. IsTrue (is_sound_short_day close row)) rows
 
--- what the check goes by: when the office closes on other days, the number of the next row, and those of the rows in the table of the
+-- what the check uses: when the office closes on other days, the number of the next row, and those of the rows in the table of the
 -- calendar
 pub record GoesBy (check : ShortDayCheck) (close next_row : ℕ) (calendar : List ℕ) : Type 0 where
   pub closes : check.close ≡ close

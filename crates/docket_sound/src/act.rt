@@ -65,8 +65,8 @@ fn are_lawful(court: &Court, acts: &[Act]) -> bool
     acts_ok(acts) && are_on_entered_days(court, acts)
 }
 
-/// The check of the acts of a court's deadlines. It keeps those of one deadline, and of those before it
-/// how many each case has, and the ends of those whose time runs.
+/// The check of the acts of a court's deadlines. It keeps the acts of one deadline. Of the deadlines before
+/// it, it keeps how many each case has, and the ends of those whose time runs.
 #[derive(Drop)]
 pub struct ActCheck {
     pub(crate) court: Court,

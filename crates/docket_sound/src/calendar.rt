@@ -67,7 +67,7 @@ pub struct CalendarCheck {
     pub(crate) calendar: Calendar,
 }
 
-/// Enters the item. `false`: it stands already.
+/// Enters the item. `false`: it is there already.
 pub(crate) fn enter(calendar: &mut Calendar, item: CalendarItem) -> Result<bool, CalendarFault>
     ensures { Enters calendar.old item calendar.new result }
 {
@@ -78,7 +78,7 @@ pub(crate) fn enter(calendar: &mut Calendar, item: CalendarItem) -> Result<bool,
     }
 }
 
-/// What a fault tells: the row is unsound, or memory is short.
+/// Returns what a fault means: the row is unsound, or memory ran out.
 pub(crate) fn told_by(fault: CalendarFault) -> Result<bool, AllocError>
     ensures taken { result ≢ Ok true }
     ensures refused { result ≡ Ok false → fault ≢ NoMemory }

@@ -10,7 +10,7 @@ use std::alloc::{AllocError, Global};
 /// The number after the last that a row of the calendar may have.
 const MOST_NEXT_ROW: u64 = 4_294_967_296;
 
-/// What the row of a court says, but for the docket's word and the version of its tables.
+/// The values of the row of a court, without the docket's word and the version of its tables.
 #[derive(Drop)]
 pub struct CourtRecord {
     pub id: u32,
@@ -26,7 +26,7 @@ fn is_sound_number(row: &CourtRecord) -> bool
     row.id == 1 && 1 <= row.next_row && row.next_row <= MOST_NEXT_ROW
 }
 
-/// The court of the row, if it is sound.
+/// Returns the court of the row, if it is sound.
 pub fn sound_court(alloc: Global, row: &CourtRecord) -> Result<Option<Court>, AllocError>
     ensures some { IfOk result (λ found. IfSome found (λ court. IsSoundCourt row.now × (court ≡ settings_of row.now))) }
     ensures none { result ≡ Ok None → IsSoundCourt row.now → ⊥ }

@@ -13,8 +13,8 @@ use std::alloc::{AllocError, Global};
 /// How many deadlines a case has at most.
 const MOST_DEADLINES: u32 = 1000;
 
-/// Whether a deadline may be made with the rule: a time under Fed. R. Civ. P. 12(a)(4) begins again by
-/// an act.
+/// Whether a deadline may be made with the rule: a time under Fed. R. Civ. P. 12(a)(4) begins again by an
+/// act.
 fn is_made_by(rule: Rule) -> bool
     ensures { result ≡ is_made_by rule }
 {
@@ -109,7 +109,7 @@ pub struct DeadlineCheck {
 }
 
 impl DeadlineCheck {
-    /// A deadline's local rule is to be one of those names.
+    /// A deadline's local rule must be one of those names.
     pub fn new(
         alloc: Global,
         cases: u32,

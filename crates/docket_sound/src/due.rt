@@ -21,7 +21,7 @@ pub(crate) fn deadline_standing(court: &Court, calendar: &Calendar, acts: &[Act]
     due(court, calendar, acts)
 }
 
-/// Adds the row of a deadline that stands so, if its time runs.
+/// Adds the row of a deadline with that standing, if its time runs.
 pub(crate) fn push_due(
     dues: &mut Vec<StoredEnd>,
     court: &Court,

@@ -30,7 +30,7 @@ impl KnownTexts {
         self.texts.contains(text.as_str())
     }
 
-    /// Adds a text. Want of memory changes nothing.
+    /// Adds a text. Out of memory changes nothing.
     pub fn put(&mut self, alloc: Global, text: &str) -> Result<(), AllocError>
         ensures ok { OnOk result ((other : List ℕ) → is_known self.new other ≡ (bytes_eq text.now other || is_known self.old other)) }
         ensures err { OnErr result ((other : List ℕ) → is_known self.new other ≡ is_known self.old other) }

@@ -1,4 +1,4 @@
-//! What the definitions of specs/ say, with nothing to run.
+//! Laws of the definitions of specs/, with nothing to run.
 ghost use Rattle.std.specs.Prelude.{◌≡◌, List, length, map, ℕ, Bool, true};
 ghost use Rattle.std.specs.List.{AllByRecursion};
 ghost use Rattle.civil_time.specs.Zone.{ZoneRules};
@@ -57,8 +57,8 @@ pub fn histories_are_sound()
 {}
 
 /// So are the rows of each table of a history as they are read, in the order of their keys: none of the
-/// checks refuses a table of a docket. What the checks count of the rows of parties and deadlines, by which
-/// the tables after them are judged, is what the history has.
+/// checks refuses a table of a docket. The counts of parties and deadlines, by which the tables after them
+/// are judged, are those of the history.
 pub fn sorted_histories_are_sound()
     ensures calendar { (court : CourtSettings) (h : History) (rows : List CalendarRow) → IsHistory court h
         → AreInOrder calendar_order (day_and_span_rows (standing_rows h)) rows → AreSoundCalendarRows court (next_row h) rows }
@@ -100,8 +100,8 @@ pub fn short_days_move_nothing()
         → standings_of zone (calendar_of (items_of (day_and_span_rows rows))) acts ≡ standings_of zone (calendar_of (items_of rows)) acts }
 {}
 
-/// The ends that are expected of the acts of a history, by its days and spans, are those of its running deadlines
-/// in the order of their keys. So the ends that are stored of a history are the expected ones.
+/// The ends expected from the acts of a history, by its days and spans, are those of its running deadlines in the
+/// order of their keys. So the stored ends of a history are the expected ones.
 pub fn stored_ends_are_expected()
     ensures in_order { (court : CourtSettings) (h : History) (days : List CalendarRow) (acts : List ActRow)
         → IsHistory court h → AreDaysOf h days → AreActsOf h acts

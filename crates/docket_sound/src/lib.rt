@@ -1,10 +1,10 @@
 //! Whether the rows of a docket's tables are sound, whatever database they come from.
 //!
-//! There is a check for each table. It takes the rows one after another, in the order of their keys,
-//! and keeps what it needs of them: how many rows each case has, the labels of cases, the names of local rules, the calendar,
-//! the acts of one deadline, the ends of the deadlines whose time runs. A check that refuses a row
-//! tells that no table with the rows so far, and that row next, is sound. One that took all rows tells
-//! that they are; those of acts and of ends are asked for it at the end, since a row may be missing.
+//! There is a check for each table. It takes the rows one after another, in the order of their keys, and
+//! keeps what it needs of them. These are each case's row count, labels of cases, names of local rules, the
+//! calendar, the acts of one deadline, and the ends of the deadlines whose time runs. A check that refuses a
+//! row shows that no table with the rows so far, and that row next, is sound. One that took all rows shows
+//! that they are sound; the checks of acts and of ends return this at the end, since a row may be missing.
 #![tactic(auto)]
 
 mod act;

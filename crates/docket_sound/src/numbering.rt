@@ -73,7 +73,7 @@ impl Numbering {
         }
     }
 
-    /// Takes a row, unless its case is none, its number is not the next in its case, or its case would
+    /// Takes a row, unless there is no such case, its number is not the next in its case, or its case would
     /// have too many rows.
     pub(crate) fn take(&mut self, key: Key) -> bool
         ensures taken { (keys : List Place) → HasNumbered self.old keys → result ≡ true

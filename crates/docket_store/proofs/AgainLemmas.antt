@@ -1,4 +1,4 @@
--- A command that is given again.
+-- A command that is sent again.
 use Rattle.std.proofs.Common.{◌≡◌, ◌⊎◌, inl, inr, cond, Option, Some, None, [], ◌∷◌, Ok, Err, Result, refl, sym, ap, subst, ◌∙◌}
 use Rattle.std.proofs.Math.Logic.{∥∥₁_map}
 use Rattle.std.specs.Prelude.{find, bytes_eq, if◌then◌else◌}
@@ -26,7 +26,7 @@ use Rattle.docket_store.specs.Reopening.{AppliesOnce}
 use Rattle.docket_applying.specs.declared.fault.Fault.{Fault}
 use Rattle.docket_applying.proofs.ApplyLemmas.{after_repeated}
 
--- the reply to an action does not tell what stands under the key
+-- the reply to an action does not depend on what stands under the key
 reply_kept : (court : CourtSettings) (v : View) (k : Kept) (a : Action) → reply_to court (record v { under_key = k }) a ≡ reply_to court v a
 reply_kept court v k (action.DeclareDay a) = refl
 reply_kept court v k a = refl
@@ -51,7 +51,7 @@ repeats court h c n e =
     let due : new.reply ≡ n = sym (met.due ∙ ap replied (reply_kept court (shown_fresh h c.action) v.under_key c.action)) in
     ap (λ k. answer_kept court k (shown court (c ∷ h) c) c) found ∙ ap repeated due
 
--- what is given again changes nothing more
+-- a command that is sent again changes nothing more
 pub after_again : (court : CourtSettings) (h : History) (c : Command) → after court (after court h c) c ≡ after court h c
 after_again court h c = at (outcome court h c) refl
   where
@@ -69,7 +69,7 @@ reply_again court h c reply (repeated n) e (inr old) = inr (sym e ∙ old)
 reply_again court h c reply (refused r) e (inl new) = inl (sym e ∙ new)
 reply_again court h c reply (refused r) e (inr old) = inr (sym e ∙ old)
 
--- the answer where the command stood already is the answer where it did not
+-- the answer is the same whether or not the docket held the command already
 pub applies_once : {S : Type 0} (g : Ghosts S) (d : Docket S) (h : History) (c : Command) (reply : Reply)
     → Applies g d (after d.court h c) c (Ok reply) → Applies g d h c (Ok reply)
 applies_once g d h c reply given = (

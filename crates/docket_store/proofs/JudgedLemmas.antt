@@ -1,4 +1,4 @@
--- The rows that a connection holds after the judging of its database.
+-- The rows that a connection holds after its database is checked.
 use Rattle.std.proofs.Common.{◌≡◌, ◌⊎◌, inl, inr, false, Ok, IsTrue, refl, sym, subst, arith}
 use Rattle.sqlite.specs.Store.{Ghosts}
 use Rattle.sqlite.specs.State.{HasCleanDisk, Survives, IsUnchanged}
@@ -15,12 +15,12 @@ use Rattle.docket_tables.proofs.StandsLemmas.{unchanged_settled, undone_lasting}
 use Rattle.docket_store.specs.Opening.{PreservesRejected, IsNotAdopted}
 
 module _ {S : Type 0} (g : Ghosts S) (conn : Held S) (rows : Rows) where
-  -- the judging wanted memory, or the database failed by that
+  -- the check ran out of memory, or the database failed in it
   pub short_rejected : (fault : AdoptFault) → (fault ≡ adopt.NoMemory) ⊎ (fault ≡ adopt.StoreFailed) → IsNotAdopted g conn rows fault → PreservesRejected g conn rows fault
   short_rejected fault (inl short) left = subst (PreservesRejected g conn rows) (sym short) (subst (IsNotAdopted g conn rows) short left)
   short_rejected fault (inr failed) left = subst (PreservesRejected g conn rows) (sym failed) (subst (IsNotAdopted g conn rows) failed left)
 
--- the judging of a database
+-- the check of a database
 module _ {S : Type 0} (g : Ghosts S) (old new : Held S) (rows : Rows) (crash : Survives (state g old) (state g new) (λ _. ⊥)) (idle : new.in_transaction ≡ false) (holds : HoldsRows g old rows) where
   settled : HasCleanDisk (state g new) → IsSettled (state g old) rows
   settled clean = holds.1 (omega (arith, crash.clean, clean))

@@ -55,7 +55,7 @@ plain_sealed size stored plain whole n bytes is =
 large : (size : ℕ) → 512 ≤ stored_size size → 504 ≤ size
 large size big = let few : reserved size ≤ 8 = grind arith in omega (arith, big)
 
--- files that hold pages under one size, where the size that they name was taken for another
+-- files that hold pages under one size, if the size that they name was read as another
 module _ (files : Image) (held : ℕ) (pages : Pages) (found : Adopts held files pages) (big : 504 ≤ held) (sound : IsSoundFile held pages)
     (size : ℕ) (named : NamesSize files (stored_size size)) where
   same_stored : stored_size size ≡ stored_size held
@@ -66,7 +66,7 @@ module _ (files : Image) (held : ℕ) (pages : Pages) (found : Adopts held files
         absurd (read (λ ignored. other (named.1 ignored ∙ size_by_file held files pages found big sound ignored)))
   ]
 
-  -- the header tells whether the pages end in sums
+  -- the header shows whether the pages end in sums
   same_size : (IsTrue (is_summed size) → SaysSums (stored_size size) files) → size % 16 ≡ 8 → size ≡ held
   same_size says summed =
       let word = reserved_word held files pages found big sound in
@@ -96,7 +96,7 @@ module _ (files : Image) (held : ℕ) (pages : Pages) (was : Recovers held files
       let now = subst (λ n. raw.Recovers n image was.stored) same after in
       record { stored = was.stored; found = now; whole = was.whole; sealed = was.sealed; shows = was.shows; present = now.present }
 
--- files whose pages end in no sums, and that could be taken for files whose pages do
+-- files whose pages end in no sums, but could be read as files whose pages do
 module _ (files : Image) (size other : ℕ) (pages wrong : Pages) (found : Adopts size files pages) (taken : Adopts other files wrong) (big : 504 ≤ size) (sound : IsSoundFile size pages)
     (large : 504 ≤ other) (well : IsSoundFile other wrong) where
   names : NamesSize files (stored_size other)

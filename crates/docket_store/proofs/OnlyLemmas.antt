@@ -25,7 +25,7 @@ module _ {S : Type 0} (g : Ghosts S) {X : Type 0} (old : Docket S) (new : Held S
   abbrev left : Docket S
   left = record { conn = new; court = old.court; closed = is_some by; closed_by = by; calendar = kept }
 
-  -- the tables were asked, and the docket was told
+  -- a question to the tables, and its result for the docket
   pub told_only : (mid : Held S) (answer : Result X ReadFault) → OnlyAsks g old.conn mid answer → Survives (state g mid) (state g new) (λ _. ⊥)
       → ((rows : Rows) → Stays g mid rows answer → Preserves g new rows result)
       → (result ≡ Err StoreFailed → (e : Error) × (answer ≡ Err (Store e)) × (by ≡ Some e)) → OnlyAnswers g old left result

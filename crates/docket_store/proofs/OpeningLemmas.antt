@@ -61,7 +61,7 @@ pub not_unnamed : {S : Type 0} (g : Ghosts S) (conn : Held S) (court : CourtSett
 not_unnamed g conn court h stands clean none =
     false≢true (sym none ∙ ap (λ (schema : Schema). has_named schema table.Court) (stands.1 clean).shows.schema ∙ court_there)
 
--- why a database failed as it was to be opened
+-- why a database failed while it was opened
 
 pub failed_opening : (old new : State) (failure : Option Error) (fault : AdoptFault) → IsCausedFault old new fault → IsCausedOpening old new failure fault
 failed_opening old new failure StoreFailed failed = inl failed

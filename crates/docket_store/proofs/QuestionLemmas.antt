@@ -1,4 +1,4 @@
--- From what a question to the tables gives to what a question to the docket gives.
+-- From the result of a question to the tables to that of a question to the docket.
 use Rattle.std.proofs.Common.{◌≡◌, ◌∙◌, ◌≤◌, ◌↔◌, true, List, Option, None, Result, Ok, Err, IsErrAnd, refl, sym, ap, subst, arith}
 use Rattle.std.specs.Prelude.{is_some}
 use Rattle.sqlite.specs.Store.{Ghosts}
@@ -39,7 +39,7 @@ module _ {S : Type 0} (g : Ghosts S) (court : CourtSettings) (kept : Option (Lis
   unanswered new P by (Ok x) is keeps closes fails = absurd fails
   unanswered new P by (Err f) is keeps closes fails = asks_kept g new court kept h P by (Err f) closes (asks_failed g new court kept h P f is keeps fails)
 
-  -- what is told of a question: conn is the connection after it, and new the one that is left
+  -- what a question returns: conn is the connection after it, and new the one that is left
   pub question_asks : {X : Type 0} (conn new : Held S) (P : X → Type 0) (answer : Result X ReadFault) (by : Option Error) (result : Result X Fault) → IsDocket court h
       → (HasCleanDisk (state g conn) → Keeps kept h) → doubt (state g conn).is_clean ≤ doubt (state g new).is_clean → Gives g conn (docket_rows court h) P answer
       → ((x : X) → answer ≡ Ok x → (result ≡ Ok x) × (new ≡ conn) × (by ≡ None))

@@ -31,23 +31,23 @@ use Rattle.docket_tables.proofs.CommitLemmas.{LeavesCommit}
 use Rattle.docket_applying.specs.Applying.{StandsFor, docket_rows}
 use Rattle.docket_store.specs.Reopening.{HoldDocket, HoldEither, HoldRows, LeavesEither, MayLeave, StandsForEither}
 
--- what three clauses say of a value
+-- what follows from three clauses about a value
 pub if_ok : {T E : Type 0} (A B C P : T → Type 0) (r : Result T E) → ((x : T) → A x → B x → C x → P x) → IfOk r A → IfOk r B → IfOk r C → IfOk r P
 if_ok A B C P (Ok x) then a b c = then x a b c
 if_ok A B C P (Err e) then a b c = a
 
--- what is so of what is left, where an open failed
+-- what holds of what a failed open left
 pub if_left : {T E L : Type 0} (A B : E → L → Type 0) → ((e : E) (left : L) → A e left → B e left) → (r : Result T (E × Option L)) → IfErr r (λ e. IfSome e.1 (A e.0)) → IfErr r (λ e. IfSome e.1 (B e.0))
 if_left A B then (Ok x) is = is
 if_left A B then (Err (e, None)) is = is
 if_left A B then (Err (e, Some left)) is = then e left is
 
--- the same of the one or the other
+-- the same for the one or the other
 pub err_either : {T E : Type 0} (A B : Type 0) (P Q : E → Type 0) (r : Result T E) → (A → IfErr r P) → (B → IfErr r Q) → ∥ A ⊎ B ∥₁ → IfErr r (λ e. ∥ P e ⊎ Q e ∥₁)
 err_either A B P Q (Ok x) was is held = tt
 err_either A B P Q (Err e) was is held = ∥∥₁_map held (λ one. elim one [ inl a ↦ inl (was a) | inr b ↦ inr (is b) ])
 
--- what holds of an error holds of the result that is told by it
+-- what holds of an error holds of the result that returns it
 pub err_told : {T E : Type 0} (P : E → Type 0) (r : Result T E) (e : E) → IsErrAnd r (λ f. f ≡ e) → P e → IfErr r P
 err_told P (Ok x) e told p = absurd told
 err_told P (Err f) e told p = subst P (sym told) p
@@ -143,7 +143,7 @@ module _ {D : Type 0} {g : Ghosts D} (files : Image) (conn : Held (FileStore D g
   pub stands_for_either : (court : CourtSettings) (h next : History) → HoldEither files court h next → StandsForEither over_files conn court h next
   stands_for_either court h next held = ∥∥₁_map held (λ one. elim one [ inl was ↦ inl (stands_again court h was) | inr is ↦ inr (stands_again court next is) ])
 
--- What a power failure leaves of a store, it leaves of an earlier one of the same numbers that it leaves no less of.
+-- What a power failure leaves of a store it leaves of an earlier one with the same numbers and no fewer possible databases.
 module _ {D : Type 0} {g : Ghosts D} (conn : Held (FileStore D g)) (last : FileStore D g) (undone : IsUndone (view conn.store) (view last)) (numbered : IsTrue (view last).is_numbered)
     (fewer : (db : Trees) → recovers last db → recovers conn.store db) where
   pub leaves_both : (court : CourtSettings) (h next : History) → IsEither (file_state conn) (docket_rows court h) (docket_rows court next) → LeavesEither conn.store court h next × LeavesEither last court h next

@@ -36,7 +36,7 @@ module _ {S : Type 0} (g : Ghosts S) (d : Docket S) (h : History) (cs : List Com
   left_at n Closed is halts = halts
   left_at n Damaged is halts = halts
 
-  -- a command got no answer, after as many answers as its place tells
+  -- a command got no answer, and its place is the number of answers before it
   pub stopped : (i place : ℕ) (f : Fault) → i ≡ length replies → place ≡ i → i < length cs → AreReplies replies (answers d.court h (take i cs))
       → IsDocket d.court (run d.court h (take i cs)) → HaltsAfter g d h cs i f
       → AnswersFirst d.court h cs replies × LeftBy g d.conn d.court h cs (length replies) (Some (place, f))

@@ -39,7 +39,7 @@ module _ (f g : Row → Row) where
       let rest : map f rows ≡ map g rows = cc in
       (head, each_agrees rows rest)
 
--- what the cells of a row tell
+-- the values in the cells of a row
 abbrev whole_in : Value → ℤ
 whole_in (Int z) = z
 whole_in _ = pos 0

@@ -13,13 +13,13 @@ use Rattle.docket_applying.specs.Dockets.{Docket}
 use Rattle.docket_applying.specs.declared.fault.Fault.{Fault}
 use Rattle.docket_applying.proofs.FailureLemmas.{write_caused_after}
 
--- the command of this place closed the docket, which was on the same connection when the first of them came
+-- the command at this place closed the docket, which was on the same connection when the first of them came
 pub caused_at : {S : Type 0} (g : Ghosts S) (cs : List Command) (i place : ℕ) (c : Command) (first : State) (old new : Docket S) → i < length cs → c ≡ get_or cs i c → place ≡ i
     → IsLater first (state g old.conn) → IsClosedByWrite g c old new → IsCausedAt cs first (state g new.conn) new.closed_by place
 caused_at g cs i place c first old new inside is at went closed =
     (c, ap (slice_get cs) at ∙ slice_get_read cs (length cs) i c refl inside is, (closed.0, closed.1, write_caused_after c first (state g old.conn) (state g new.conn) closed.0 went.0 went.1 closed.2))
 
--- what was done before the first of them is no cause less
+-- a cause since the first of them is one since any earlier state
 pub stop_caused_after : (cs : List Command) (first old new : State) (failure : Option Error) (stop : Option (ℕ × Fault)) → IsLater first old → StopsForCause cs old new failure stop → StopsForCause cs first new failure stop
 stop_caused_after cs first old new failure None went cause = tt
 stop_caused_after cs first old new failure (Some at) went cause = λ failed.

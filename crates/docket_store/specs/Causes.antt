@@ -15,28 +15,28 @@ use Rattle.docket_applying.specs.declared.fault.Fault.{Fault}
 use Rattle.docket_applying.specs.declared.fault.Fault.TheVariants.{StoreFailed}
 use Rattle.docket_applying.specs.Causes.{IsCausedWrite}
 
--- memory was refused, and this is told
+-- the reported failure is an out-of-memory error
 abbrev pub IsShort : Option Error → Type 0
 IsShort failure = (e : Error) × (failure ≡ Some e) × IsOfMemory e
 
--- a database failed as it was to be opened for a docket: it failed for a cause, a transaction was open on it, or memory was refused
+-- a database failed while a docket was opened on it: for a cause, because a transaction was open on it, or out of memory
 abbrev pub IsCausedOpening : State → State → Option Error → AdoptFault → Type 0
 IsCausedOpening old new failure adopt.StoreFailed = HasFailed old new ⊎ (IsTrue old.in_transaction ⊎ IsShort failure)
 IsCausedOpening old new failure _ = Unit {0}
 
--- no docket was made: the database failed for a cause, and its error is told, or nothing failed, but a transaction was open on it or
--- it held something; want of memory is told too
+-- no docket was made: the database failed for a cause, and its error is reported; or nothing failed, but a transaction was open on it
+-- or it held something. Out of memory is reported too
 abbrev pub IsCausedCreating : State → State → Option Error → CreateFault → Type 0
 IsCausedCreating old new failure create.NotEmpty = failure ≡ None
 IsCausedCreating old new failure create.NoMemory = IsCausedMaking old new failure making.NoMemory
 IsCausedCreating old new failure create.StoreFailed =
     IsCausedMaking old new failure making.StoreFailed ⊎ ((failure ≡ None) × (IsTrue old.in_transaction ⊎ (old.now.schema ≢ no_schema)))
 
--- the database failed at the command of this place, and the error that is told has a cause since the first of them
+-- the database failed at the command at this place, and the reported error has a cause since the first command
 abbrev pub IsCausedAt : List Command → State → State → Option Error → ℕ → Type 0
 IsCausedAt cs old new failure place = (c : Command) × (slice_get cs place ≡ Some c) × IsCausedWrite c old new failure StoreFailed
 
--- commands in order stopped where the database failed, for such a cause, if it did
+-- if commands in order stopped because the database failed, it failed for such a cause
 abbrev pub StopsForCause : List Command → State → State → Option Error → Option (ℕ × Fault) → Type 0
 StopsForCause cs old new failure stop = IfSome stop (λ at. at.1 ≡ StoreFailed → IsCausedAt cs old new failure at.0)
 

@@ -1,4 +1,4 @@
--- What is left of the two files of a database where they were let go, or an open of them failed.
+-- What remains of the two files of a database after they were let go, or after an open of them failed.
 use Rattle.std.specs.Prelude.{◌⊎◌, ℕ, Option, IfSome}
 use Rattle.sqlite_disk.specs.declared.Disk.{Ghosts}
 use Rattle.sqlite_pool.specs.Stored.{stored_size}
@@ -37,16 +37,16 @@ module _ {D : Type 0} {g : Ghosts D} where
   Leaves (left.Unopened files) P = (image : Image) → (state_of files).may_leave image → HoldSome P image
   Leaves (left.Store it) P = (db : Trees) → recovers it db → P db
 
-  -- it has the rows, or the next ones
+  -- each such database has the rows, or the next ones
   abbrev pub LeavesRows : Leftover D g → Rows → Rows → Type 0
   LeavesRows rest rows next = Leaves rest (λ db. IsImage rows db ⊎ IsImage next db)
 
-  -- The same of files that held `start` and were not opened: they hold it as before, with the log.
+  -- The same for files that held `start` and were not opened: they still hold it, with the log.
   abbrev pub StillHolds : Image → Leftover D g → (Trees → Type 0) → Type 0
   StillHolds start (left.Files files) P = (image : Image) → outcomes g files.log files.db image → HoldSome P image
   StillHolds start (left.Unopened files) P = HaveSums start → Leaves (left.Unopened files) P
   StillHolds start (left.Store it) P = Leaves (left.Store it) P
 
-  -- an open failed: what it left of the files, if it came to have any, holds a database of this kind still
+  -- an open failed: the files that it left, if it got any, still hold a database of this kind
   abbrev pub IsUnharmed : Image → (Trees → Type 0) → Error × Option (Leftover D g) → Type 0
   IsUnharmed start P failed = IfSome failed.1 (λ rest. IsCleanLeft rest → StillHolds start rest P)

@@ -20,7 +20,7 @@ first_rows court h = rows_by First court (rows_of court h)
 abbrev pub HoldFirst : Image → CourtSettings → History → Type 0
 HoldFirst files court h = HoldRows First files (first_rows court h)
 
--- the cause for which its database is no docket's in the first version
+-- the cause why its database is no docket's in the first version
 abbrev pub cause_of : MigrateFault → AdoptFault
 cause_of migrate.Empty = adopt.Empty
 cause_of migrate.NotADocket = adopt.NotADocket

@@ -25,7 +25,7 @@ use Rattle.docket_applying.specs.Dockets.{Docket}
 use Rattle.docket_store.specs.declared.creating.CreateFault.{CreateFault}
 use Rattle.docket_store.specs.declared.creating.CreateFault.TheVariants as create
 
--- a database that is judged to be no docket's is left as it was; want of memory and a failure may come to any
+-- a database that is rejected as no docket's stays as it was; nothing is claimed after out of memory or a failure of the database
 abbrev pub Spares : State → State → AdoptFault → Type 0
 Spares old new adopt.NoMemory = Unit {0}
 Spares old new adopt.StoreFailed = Unit {0}
@@ -36,8 +36,8 @@ abbrev pub TakeCommands : CourtSettings → Rows → Type 0
 TakeCommands court rows = (next_row : ℕ) × (stored : List StoredEnd) × AreDocketRows court next_row stored rows × (next_row < 2 ^ 62)
 
 module _ {S : Type 0} (g : Ghosts S) where
-  -- what is left where no docket was made: a power failure leaves what it could leave before, or, where the database failed, the
-  -- docket without any record
+  -- what remains if no docket was made: a power failure leaves what it could leave before, or, if the database failed, the docket
+  -- without any record
   abbrev pub IsNotMade : Held S → Held S → CourtSettings → CreateFault → Type 0
   IsNotMade old new court create.NotEmpty = IsTrue (has_docket_table old.schema) × (new ≡ old)
   IsNotMade old new court create.NoMemory =
@@ -45,7 +45,7 @@ module _ {S : Type 0} (g : Ghosts S) where
   IsNotMade old new court create.StoreFailed =
       HasCleanDisk (state g new) → (db : Trees) → (state g new).may_leave db → (state g old).may_leave db ⊎ IsImage (docket_rows court []) db
 
-  -- the judging of a database changes nothing, whether it is taken for a docket's or not
+  -- checking a database changes nothing, whether it is accepted as a docket's or not
   abbrev pub PreservesRejected : Held S → Rows → AdoptFault → Type 0
   PreservesRejected conn rows adopt.StoreFailed = Lasts g conn rows
   PreservesRejected conn rows _ = HoldsRows g conn rows
@@ -56,7 +56,7 @@ module _ {S : Type 0} (g : Ghosts S) where
 
   -- any database
 
-  -- its tables are sound, each by those before it: they hold these rows of a docket of the court, and are left as they were
+  -- its tables are sound, each by those before it: they hold these rows of a docket of the court, and stay as they were
   abbrev pub HoldsSound : Held S → Held S → CourtSettings → SoundRows → Type 0
   HoldsSound old new court r = IsUnchanged (state g old) (state g new) × AreSound Second (state g old) court r
 
@@ -64,7 +64,7 @@ module _ {S : Type 0} (g : Ghosts S) where
   abbrev pub IsSoundDocket : Held S → Docket S → Type 0
   IsSoundDocket old d = HasCleanDisk (state g d.conn) → (r : SoundRows) × HoldsSound old d.conn d.court r
 
-  -- and they hold so much
+  -- and its tables hold this many rows
   abbrev pub IsSoundWith : Held S → Docket S → Holdings → Type 0
   IsSoundWith old d held = HasCleanDisk (state g d.conn) → (r : SoundRows) × HoldsSound old d.conn d.court r × (held ≡ holdings_of d.court r)
 
@@ -72,24 +72,24 @@ module _ {S : Type 0} (g : Ghosts S) where
   abbrev pub WasSound : Held S → Held S → Type 0
   WasSound old new = HasCleanDisk (state g new) → (court : CourtSettings) × (r : SoundRows) × AreSound Second (state g old) court r
 
-  -- the first cause for which it is no docket's, in the order of the faults
+  -- the fault is the first, in the order of the faults, for which the database is no docket's
   abbrev pub IsRejected : Held S → Held S → AdoptFault → Type 0
   IsRejected old new fault = HasCleanDisk (state g new) → Spares (state g old) (state g new) fault × HasCause Second (state g old) fault
 
-  -- what is told of it
+  -- what the check of any database returns
   abbrev pub IsToldOf : Held S → Held S → Result FoundDocket AdoptFault → Type 0
   IsToldOf old new (Ok found) = HasCleanDisk (state g new) → (r : SoundRows) × HoldsSound old new found.court r × (found.held ≡ holdings_of found.court r)
   IsToldOf old new (Err fault) = IsRejected old new fault
 
-  -- that of a docket
+  -- a docket's database
 
-  -- what is left where a docket's database was not adopted: its rows stay, and no other fault comes
+  -- what remains if a docket's database was not adopted: its rows stay, and the fault is out of memory or a failure of the database
   abbrev pub IsNotAdopted : Held S → Rows → AdoptFault → Type 0
   IsNotAdopted conn rows adopt.NoMemory = HoldsRows g conn rows
   IsNotAdopted conn rows adopt.StoreFailed = Lasts g conn rows
   IsNotAdopted conn rows _ = HasCleanDisk (state g conn) → ⊥
 
-  -- the docket is found as it is, and it stays
+  -- the check finds the docket as it is, and leaves it so
   abbrev pub Finds : Held S → CourtSettings → History → Result FoundDocket AdoptFault → Type 0
   Finds conn court h (Ok found) = StandsFor g conn court h × (HasCleanDisk (state g conn) → IsFoundOfDocket court h (Ok found))
   Finds conn court h (Err fault) = IsNotAdopted conn (docket_rows court h) fault

@@ -32,13 +32,13 @@ use Rattle.docket_store.specs.declared.recovering.RecoverFault.TheVariants.{NotO
 abbrev pub HoldRows : Version → Image → Rows → Type 0
 HoldRows v files rows = HoldSome (IsImageIn v rows) files
 
--- they hold the docket
+-- the database file and its log hold the docket
 abbrev pub HoldDocket : Image → CourtSettings → History → Type 0
 HoldDocket files court h = HoldRows Second files (docket_rows court h)
 
 -- a power failure leaves the docket of the one history or of the other
 pub record LeavesEither {D : Type 0} {g : Disk D} (it : FileStore D g) (court : CourtSettings) (h next : History) : Type 0 where
-  -- so it is of the store of every connection
+  -- this holds of the store of every connection
   pub numbered : IsTrue (view it).is_numbered
   pub images : (db : Trees) → recovers it db → IsImage (docket_rows court h) db ⊎ IsImage (docket_rows court next) db
 
@@ -50,7 +50,7 @@ MayLeave it files = (state it).may_leave files
 abbrev pub HoldEither : Image → CourtSettings → History → History → Type 0
 HoldEither files court h next = ∥ HoldDocket files court h ⊎ HoldDocket files court next ∥₁
 
--- the connection stands for the docket of the one history or of the other
+-- the connection holds the docket of the one history or of the other
 abbrev pub StandsForEither : {S : Type 0} → Ghosts S → Held S → CourtSettings → History → History → Type 0
 StandsForEither g conn court h next = ∥ StandsFor g conn court h ⊎ StandsFor g conn court next ∥₁
 
@@ -59,25 +59,25 @@ abbrev pub IsEither : {S : Type 0} → Ghosts S → Docket S → CourtSettings �
 IsEither g d court h next =
     HasCleanDisk (held.state g d.conn) → ∥ (Stands g d h ⊎ Stands g d next) × (d.court ≡ court) ∥₁
 
--- where the files were not opened, the error is named by what they met, and they hold what they held
+-- if the files were not opened, the error follows from what failed, and they hold what they held
 abbrev pub IsNotOpened : {D : Type 0} {g : Disk D} → Files D → RecoverFault D g → Type 0
 IsNotOpened files (NotOpened error left) = IsCleanLeft left → FailsToOpenFiles files left error × LeavesFiles files left
 IsNotOpened files (NotAdopted returned) = ⊤
 
--- where they were opened and the docket was not adopted, it stays, the one of the one history or of the other, and the fault is want
--- of memory or a failure of the database
+-- if they were opened and the docket was not adopted, it stays, that of the one history or of the other. The fault is out of memory
+-- or a failure of the database
 abbrev pub IsNotRecovered : {D : Type 0} {g : Disk D} → CourtSettings → History → History → RecoverFault D g → Type 0
 IsNotRecovered court h next (NotOpened error left) = ⊤
 IsNotRecovered court h next (NotAdopted returned) =
     ∥ IsNotAdopted over_files returned.connection (docket_rows court h) returned.fault
     ⊎ IsNotAdopted over_files returned.connection (docket_rows court next) returned.fault ∥₁
 
--- a command that is given again where it may stand already: it is answered, and stands once
+-- a command that is sent again and that the docket may hold already: it is answered, and the docket holds it once
 abbrev pub AppliesOnce : {S : Type 0} → Ghosts S → Docket S → CourtSettings → History → Command → Result Reply Fault → Type 0
 AppliesOnce g d court h c (Ok reply) = ∥ Applies g d h c (Ok reply) × (d.court ≡ court) ∥₁
 AppliesOnce g d court h c (Err fault) = ∥ (Faults g d h c fault ⊎ Faults g d (after court h c) c fault) × (d.court ≡ court) ∥₁
 
--- a run goes on where one stopped at a command, and gives it again; or the docket was not recovered
+-- a run continues where one stopped at a command, and sends it again; or the docket was not recovered
 abbrev pub GoesOn : {D : Type 0} {g : Disk D} → CourtSettings → History → Command → Result (Docket (FileStore D g) × Result Reply Fault) (RecoverFault D g) → Type 0
 GoesOn court h c result =
     MatchResult result (λ r. HasCleanDisk (held.state over_files r.0.conn) → AppliesOnce over_files r.0 court h c r.1) (IsNotRecovered court h (after court h c))

@@ -14,7 +14,7 @@ use Rattle.docket_applying.specs.Dockets.{Docket}
 use Rattle.docket_applying.specs.declared.fault.Fault.{Fault}
 use Rattle.docket_applying.specs.declared.fault.Fault.TheVariants.{NoMemory, StoreFailed, Damaged}
 
--- what is said is this answer
+-- the reply or the refusal is this answer
 abbrev pub IsSaid : Result Reply Refusal → Answer → Type 0
 IsSaid (Ok reply) answer = (answer ≡ accepted reply) ⊎ (answer ≡ repeated reply)
 IsSaid (Err r) answer = answer ≡ refused r
@@ -35,7 +35,7 @@ abbrev pub AnswersAll : {S : Type 0} → Ghosts S → Docket S → History → L
 AnswersAll g d h cs replies =
     HasCleanDisk (state g d.conn) → Stands g d (run d.court h cs) × AreReplies replies (answers d.court h cs)
 
--- a command got neither a reply nor a refusal: want of memory leaves the docket as it was; where the database failed, a power failure
+-- a command got neither a reply nor a refusal: out of memory leaves the docket as it was. If the database failed, a power failure
 -- leaves it without the command or with it
 abbrev pub Halts : {S : Type 0} → Ghosts S → Docket S → History → Command → Fault → Type 0
 Halts g d h c NoMemory = Stands g d h
@@ -43,7 +43,7 @@ Halts g d h c StoreFailed = LastsAsEither g d.conn (docket_rows d.court h) (dock
 Halts g d h c Damaged = HasCleanDisk (state g d.conn) → ⊥
 Halts g d h c _ = ⊥
 
--- commands in order broke off after so many of them
+-- commands in order broke off after the first n
 abbrev pub HaltsAfter : {S : Type 0} → Ghosts S → Docket S → History → List Command → ℕ → Fault → Type 0
 HaltsAfter g d h cs n NoMemory = Stands g d (run d.court h (take n cs))
 HaltsAfter g d h cs n StoreFailed =

@@ -15,7 +15,7 @@ use Rattle.docket_store.specs.Sequence.{AreReplies}
 use Rattle.docket_applying.specs.declared.fault.Fault.{Fault}
 use Rattle.docket_applying.specs.declared.fault.Fault.TheVariants.{NoMemory, StoreFailed}
 
--- so many commands were answered, in order: the replies are the first of their answers
+-- the first commands were answered, in order: the replies are the first of the answers
 abbrev pub AnswersFirst : CourtSettings → History → List Command → List (Result Reply Refusal) → Type 0
 AnswersFirst court h cs replies =
     (length replies ≤ length cs) × AreReplies replies (take (length replies) (answers court h cs))
@@ -25,8 +25,8 @@ module _ {S : Type 0} (g : Ghosts S) (conn : Held S) (court : CourtSettings) whe
   abbrev pub HoldsDocket : History → Type 0
   HoldsDocket h = IsDocket court h × StandsFor g conn court h
 
-  -- what a command without an answer leaves, after so many that were answered: want of memory leaves the docket of those; where the
-  -- database failed, a power failure leaves it without the command or with it; and no other fault comes
+  -- what a command without an answer leaves, after n that were answered: out of memory leaves the docket of those. If the database
+  -- failed, a power failure leaves it without the command or with it. No other fault comes
   abbrev pub LeftAt : History → List Command → ℕ → Fault → Type 0
   LeftAt h cs n NoMemory = HoldsDocket (run court h (take n cs))
   LeftAt h cs n StoreFailed =
@@ -34,8 +34,8 @@ module _ {S : Type 0} (g : Ghosts S) (conn : Held S) (court : CourtSettings) whe
       × LastsAsEither g conn (docket_rows court (run court h (take n cs))) (docket_rows court (run court h (take (n + 1) cs)))
   LeftAt h cs n _ = ⊥
 
-  -- what a session leaves after so many answers: the docket that all its commands lead to, or what the next command left, whose place
-  -- is told
+  -- what a session leaves after n answers: the docket that all its commands lead to, or what the next command left, whose place is
+  -- returned
   abbrev pub LeftBy : History → List Command → ℕ → Option (ℕ × Fault) → Type 0
   LeftBy h cs n None = (n ≡ length cs) × HoldsDocket (run court h cs)
   LeftBy h cs n (Some at) = (at.0 ≡ n) × (n < length cs) × LeftAt h cs n at.1

@@ -21,7 +21,8 @@ use docket_tables::{StoreFault, Table, fault_of};
 use sqlite::{Alter, Connection, Error, ErrorCode};
 use std::alloc::Global;
 
-/// What want of memory comes to: the database may have failed by it. It is kept as the last failure.
+/// The fault for out of memory, which is stored as the last failure. It is `StoreFailed` if the database
+/// failed by it.
 fn want_of_memory<S: Alter>(conn: &mut Connection<S>, failure: &mut Option<Error>) -> AdoptFault
     requires { conn.old.in_transaction ≡ false }
     ensures clean { doubt (state S.Store conn.old).is_clean ≤ doubt (state S.Store conn.new).is_clean }
@@ -38,7 +39,7 @@ fn want_of_memory<S: Alter>(conn: &mut Connection<S>, failure: &mut Option<Error
     }
 }
 
-/// The docket of a database that has a table of a court.
+/// Returns the docket of a database that has a table of a court.
 fn judged_docket<S: Alter, W: Watch>(
     conn: &mut Connection<S>,
     alloc: Global,
@@ -62,8 +63,8 @@ fn judged_docket<S: Alter, W: Watch>(
     }
 }
 
-/// The docket that a database holds, whatever database it is. The faults are looked for in their order.
-/// Nothing is written. Where memory was refused, that is kept as the last failure.
+/// Returns the docket that a database holds, whatever database it is. It looks for the faults in their order
+/// and writes nothing. Out of memory is stored as the last failure.
 pub(crate) fn adopt_from<S: Alter, W: Watch>(
     conn: &mut Connection<S>,
     alloc: Global,

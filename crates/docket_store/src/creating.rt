@@ -21,8 +21,8 @@ pub enum CreateFault {
     NotEmpty,
     /// Nothing was made.
     NoMemory,
-    /// The database failed, or it holds what is no docket's, or a transaction is open on it. A power
-    /// failure leaves it as it was, or with the docket.
+    /// The database failed, or it holds something that is not a docket, or a transaction is open on it. A
+    /// power failure leaves it as it was, or with the docket.
     StoreFailed,
 }
 
@@ -36,8 +36,8 @@ impl fmt::Display for CreateFault {
     }
 }
 
-/// Makes the tables of a docket without any record. Where the database failed or memory ran short, its
-/// error is kept as the failure.
+/// Makes the tables of a docket without any record. If the database fails or memory runs out, the error of
+/// the database is stored in the failure.
 pub(crate) fn make_docket<S: Alter>(
     conn: &mut Connection<S>,
     court: &Court,

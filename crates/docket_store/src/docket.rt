@@ -50,9 +50,9 @@ pub struct Docket<S: Alter> {
     pub(crate) alloc: Global,
     pub(crate) conn: Connection<S>,
     pub(crate) court: Court,
-    // The error of the database, where it failed.
+    // The error of the database, if it failed.
     pub(crate) closed_by: Option<Error>,
-    // The calendar, from when it is first asked for until it changes.
+    // The calendar, from when it is first read until it changes.
     pub(crate) calendar: Option<StandingCalendar>,
 }
 
@@ -70,10 +70,10 @@ impl<S: Alter> Model for Docket<S> {
 }
 
 impl<S: Alter> Docket<S> {
-    /// Makes the docket of a court, without any record, in a database that holds nothing. None is made where
-    /// the database holds a docket or something else, or a transaction is open on it. Beside that the
-    /// database fails only for a cause: its disk failed or refused, memory was refused, a limit on steps was
-    /// set, or the connection was shut. Its error is then told as the `failure`.
+    /// Makes the docket of a court, without any record, in an empty database. It fails if the database holds
+    /// a docket or something else, or a transaction is open on it. Otherwise the database fails only for a
+    /// cause: its disk failed or refused, memory ran out, a limit on steps was set, or the connection was
+    /// shut. Its error is then returned as the `failure`.
     pub fn create(
         alloc: Global,
         conn: Connection<S>,
@@ -108,21 +108,21 @@ impl<S: Alter> Docket<S> {
         }
     }
 
-    /// Adopts the docket that a database holds, whatever database it is. Its tables are judged in their
-    /// order, each by those before it, in time linear in the rows and in memory that does not grow with
-    /// the entries. Nothing is written. The faults are looked for in their order. Want of memory may come
-    /// before any of them, and so may a failure of the database, but only for a cause: its disk failed or
-    /// refused, a limit on steps was set, the connection was shut, a transaction is open on it, or memory was
-    /// refused, which is then told as the `failure`.
+    /// Adopts the docket that a database holds, whatever database it is. It judges the tables in their order,
+    /// each by those before it, in time linear in the rows. Its memory does not grow with the entries, and it
+    /// writes nothing. It looks for the faults in their order. Out of memory may come before any of them, and
+    /// so may a failure of the database, but only for a cause. The causes are: its disk failed or refused, a
+    /// limit on steps was set, the connection was shut, a transaction is open on it, or memory ran out. Out
+    /// of memory is then returned as the `failure`.
     pub fn adopt(alloc: Global, conn: Connection<S>) -> Result<Docket<S>, Returned<S, AdoptFault>>
-        // The docket of a history is adopted as it is, and no other fault comes.
+        // The docket of a history is adopted as it is, and there is no other fault.
         ensures adopted { (court : CourtSettings) (h : History) → IsDocket court h → StandsFor S.Store conn court h
             → MatchResult result (λ docket. IsAdopted S.Store docket court h)
             (λ returned. IsNotAdopted S.Store returned.connection (docket_rows court h) returned.fault) }
-        // Of any database, the docket is that of sound tables, and a fault tells why there is none.
+        // For any database, the docket is that of sound tables, and a fault names why there is none.
         ensures told { MatchResult result (λ docket. IsSoundDocket S.Store conn docket)
             (λ returned. IsRejected S.Store conn returned.connection returned.fault) }
-        // Rows that the connection held, be they of a history or of none, are ones to which commands can be applied.
+        // Commands can be applied to the rows that the connection held, whether or not they are those of a history.
         ensures rows { (rows : Rows) → HoldsRows S.Store conn rows
             → IfOk result (λ docket. HasCleanDisk (state S.Store docket.conn) → TakeCommands docket.court rows) }
         // Without a court there is no docket, and the connection comes back as it was.
@@ -146,8 +146,8 @@ impl<S: Alter> Docket<S> {
         Ok(docket)
     }
 
-    /// Adopts the docket that a database holds, as `adopt` does, and tells how much its tables hold; on
-    /// the way `watch` is told of each row that is read.
+    /// Adopts the docket that a database holds, as `adopt` does, and returns how much its tables hold. It
+    /// reports each row that it reads to `watch`.
     pub fn adopt_watched<W: Watch>(
         alloc: Global,
         conn: Connection<S>,
@@ -156,7 +156,7 @@ impl<S: Alter> Docket<S> {
         ensures adopted { (court : CourtSettings) (h : History) → IsDocket court h → StandsFor S.Store conn court h
             → MatchResult result (λ found. IsAdopted S.Store found.0 court h)
             (λ returned. IsNotAdopted S.Store returned.connection (docket_rows court h) returned.fault) }
-        // Of the docket of a history it tells what the history has.
+        // For the docket of a history it returns what the history has.
         ensures counted { (court : CourtSettings) (h : History) → IsDocket court h → StandsFor S.Store conn court h
             → IfOk result (λ found. HasCleanDisk (state S.Store found.0.conn) → found.1 ≡ holdings_in court h) }
         ensures told { MatchResult result (λ found. IsSoundWith S.Store conn found.0 found.1)
@@ -200,23 +200,22 @@ impl<S: Alter> Docket<S> {
         }
     }
 
-    /// Takes the docket of a database from the first version of the tables to the second, whatever
-    /// database it is: its tables are judged by the first version, as by `adopt`, and then changed in one
-    /// transaction, which changes no row but the court's, and of that the version alone. After a fault a power
-    /// failure leaves what it could leave before; where the database failed, it leaves one version or the
-    /// other.
+    /// Migrates the docket of a database from the first version of the tables to the second, whatever database
+    /// it is. It judges the tables by the first version, as `adopt` does, and then changes them in one
+    /// transaction. That changes no row but the court's, and in it only the version. After a fault a power
+    /// failure leaves what it could leave before; if the database failed, it leaves one version or the other.
     pub fn migrate(
         alloc: Global,
         conn: Connection<S>,
     ) -> Result<Connection<S>, Returned<S, MigrateFault>>
-        // The docket of a history, whose commands are of the kinds that the first version knew, stands for it
-        // in the second then, and no fault comes but want of memory or of the database.
+        // The docket of a history whose commands are of the first version's kinds becomes the docket of that
+        // history in the second. The only faults are out of memory and a failure of the database.
         ensures migrated { (court : CourtSettings) (h : History) → IsDocket court h → MayHold First h
             → HoldsRowsIn S.Store First conn (rows_by First court (rows_of court h))
             → MatchResult result (λ now. StandsFor S.Store now court h)
             (λ returned. Migrates S.Store conn returned.connection court h (Err (cause_of returned.fault))) }
         // Any database whose tables of the first version were sound holds the same rows in the second, which
-        // is sound too, or a fault tells why not.
+        // is sound too, or a fault names why not.
         ensures told { MatchResult result (λ now. Tells S.Store conn now (Ok tt))
             (λ returned. Tells S.Store conn returned.connection (Err (cause_of returned.fault))) }
         // Without a court there is no docket, and the connection comes back as it was.
@@ -229,8 +228,7 @@ impl<S: Alter> Docket<S> {
         Docket::migrate_watched(alloc, conn, &mut Unwatched)
     }
 
-    /// Migrates the docket of a database, as `migrate` does; on the way `watch` is told of each row that is
-    /// read.
+    /// Migrates the docket of a database, as `migrate` does. It reports each row that it reads to `watch`.
     pub fn migrate_watched<W: Watch>(
         alloc: Global,
         conn: Connection<S>,
@@ -259,22 +257,21 @@ impl<S: Alter> Docket<S> {
         }
     }
 
-    /// Applies a command in one transaction. An accepted command stands from then on, past a power
-    /// failure too. A repeat has the reply that it had; it, a refusal and want of memory change
-    /// nothing. Where the database fails the docket is closed, and a power failure leaves it without
-    /// the command or with it.
+    /// Applies a command in one transaction. An accepted command stands from then on, past a power failure
+    /// too. A repeat returns the reply that it had. A repeat, a refusal and out of memory change nothing. If
+    /// the database fails the docket is closed, and a power failure leaves it without the command or with it.
     pub fn apply(&mut self, command: &Command) -> Result<Reply, Fault>
         ensures court { self.new.court ≡ self.old.court }
         ensures answer { (h : History) → Stands S.Store self.old h → Applies S.Store self.new h command.now result }
-        // A closed docket says so, and stays as it is.
+        // A closed docket returns `Closed`, and stays as it is.
         ensures closed { self.old.closed ≡ true → (result ≡ Err fault.Closed) × (self.new ≡ self.old) }
-        // Of any docket, the command is written whole, with its receipt, or not at all.
+        // For any docket, the command is written whole, with its receipt, or not at all.
         ensures any { (rows : Rows) (n : ℕ) (stored : List StoredEnd) → AreDocketRows self.old.court n stored rows → n < 2 ^ 62 → HoldsRows S.Store self.old.conn rows
             → WritesWhole S.Store self.new.conn self.new.court n rows command.now result }
         ensures clean { doubt (state S.Store self.old.conn).is_clean ≤ doubt (state S.Store self.new.conn).is_clean }
         ensures closes { self.old.closed ≡ false → (self.new.closed ≡ true) ↔ (result ≡ Err fault.StoreFailed) }
         ensures later { (h : History) → Stands S.Store self.old h → HasCleanDisk (state S.Store self.new.conn) → IsLater (state S.Store self.old.conn) (state S.Store self.new.conn) }
-        // It fails of the database only for a cause, which is that of a question where nothing is written.
+        // The database fails only for a cause, which is that of a question where nothing is written.
         ensures cause { (h : History) → Stands S.Store self.old h → HasCleanDisk (state S.Store self.new.conn)
             → result ≡ Err fault.StoreFailed → IsClosedByWrite S.Store command.now self.old self.new }
         ensures spared { (h : History) → Stands S.Store self.old h → IsNotAccepted self.old.court h command.now → HasCleanDisk (state S.Store self.new.conn)
@@ -298,8 +295,8 @@ impl<S: Alter> Docket<S> {
         &self.court
     }
 
-    /// Whether the database failed: each call but `court`, `is_closed`, `closed_by` and `close` answers
-    /// Closed then.
+    /// Whether the database failed. Each call but `court`, `is_closed`, `closed_by` and `close` then returns
+    /// `Closed`.
     pub fn is_closed(&self) -> bool
         ensures { result ≡ self.now.closed }
     {

@@ -1,4 +1,4 @@
-//! The two files at a path, opened with a log that is copied into the database seldom.
+//! The two files at a path, opened with a log that is seldom copied into the database.
 ghost use Rattle.std.specs.Prelude.{◌≡◌, true, false, IsTrue, IfOk, IfErr, IfSome};
 ghost use Rattle.sqlite_std_file.specs.File.{file_is_usable, IsFresh};
 ghost use Rattle.sqlite_wal.specs.Files.{image_at};
@@ -15,12 +15,12 @@ use std::hash::{BuildHasher, RandomState};
 use std::io::ErrorKind;
 use std::rt::HostRuntime;
 
-/// How many pages the log may have before it is copied into the database. A copy syncs both files, and the
-/// commit behind it syncs twice. The kit's own 1,000 are reached by some 150 commands.
+/// The most pages that the log may have before it is copied into the database. A copy syncs both files, and
+/// the commit behind it syncs twice. Some 150 commands reach the kit's own number, 1,000.
 const LOG_PAGES: usize = 8000;
 
-/// How many pages that were read are kept in memory: 8 MB of pages of 1,024 bytes. The kit's own number, 2,000, is
-/// for pages of 4,096.
+/// How many read pages are kept in memory: 8 MB of pages of 1,024 bytes. The kit's own number, 2,000, is for pages
+/// of 4,096.
 const CACHE_PAGES: usize = 8000;
 
 const NO_MEMORY: Error = Error::SqliteFailure(ErrorCode::OutOfMemory);
@@ -56,7 +56,7 @@ fn options(rt: &HostRuntime) -> Result<Options, Error> {
     }
 }
 
-/// Opens them. An error comes with what is left of the files, once they were opened.
+/// Opens the files. An error returns what is left of them, once they were opened.
 pub(crate) fn open_at<S: Start>(
     rt: &HostRuntime,
     path: &str,

@@ -1,7 +1,7 @@
 //! The docket of a court in a database, from its making or its adoption to its end. `Docket` has the
-//! connection, what is kept of the court calendar, and why it closed; each command and question is that of
-//! `docket_applying`. What a power failure leaves of the database is a docket. Any database is adopted, if
-//! all its tables are sound; one of the first version of the tables is migrated to the second.
+//! connection, the court calendar in memory, and why it closed; each command and question is that of
+//! `docket_applying`. What a power failure leaves of the database is a docket. Any database whose tables are
+//! all sound is adopted; one of the first version of the tables is migrated to the second.
 #![tactic(auto)]
 
 mod adopting;

@@ -1,5 +1,4 @@
-//! What is asked of the docket. A question writes nothing; where the database fails under it, the docket is
-//! closed.
+//! Questions to the docket. A question writes nothing; if the database fails under it, the docket is closed.
 ghost use Rattle.std.specs.Prelude.{◌≡◌, ◌↔◌, ◌≤◌, Option, Some, None, true, false, Ok, Err, IfOk, IfSome, IsErrAnd, is_some};
 ghost use Rattle.std.specs.Option.{option_map};
 ghost use Rattle.sqlite.specs.Held.{state};
@@ -39,7 +38,7 @@ use docket_tables::{ReadFault, calendar, case, case_labelled, local_rules, parti
 use sqlite::{Alter, Connection, Error};
 use std::io::Write;
 
-/// What a question to the tables comes to: its answer, or a fault, which closes the docket where the database
+/// Returns the answer of the tables to a question, or a fault, which closes the docket if the database
 /// failed.
 fn told<S: Alter, T>(
     conn: &mut Connection<S>,
@@ -98,8 +97,8 @@ impl<S: Alter> Docket<S> {
         answer
     }
 
-    /// What decides where the deadline of a number, from 1, of a case stands: its rule, its acts, and the
-    /// calendar of the docket. The acts are ones that a docket has.
+    /// Returns what decides where the deadline of a number, from 1, of a case stands: its rule, its acts, and
+    /// the calendar of the docket. A docket can have these acts.
     pub fn grounds(&mut self, case: u32, deadline: u32) -> Result<Option<Grounds>, Fault>
         ensures answer { (h : History) → Stands S.Store self.old h
             → Asks S.Store self.new h (AreGrounds h case deadline) result }
@@ -184,7 +183,7 @@ impl<S: Alter> Docket<S> {
     }
 
     /// The deadlines of the docket whose time runs to a day from one to another, both included, in the order
-    /// of the calendar. All of them are held at once.
+    /// of the calendar. All of them are in memory at once.
     pub fn due_rows(&mut self, from: Day, to: Day) -> Result<Vec<DueRow>, Fault>
         ensures answer { (h : History) → Stands S.Store self.old h
             → Asks S.Store self.new h (λ found. found.items ≡ due_rows self.old.court h from to) result }
@@ -201,10 +200,10 @@ impl<S: Alter> Docket<S> {
         answer
     }
 
-    /// Writes the bytes, then the calendar of the days from one to another, both included, and counts
-    /// its lines: the deadlines of the docket whose time runs to one of these days, in order. Each line
-    /// is written before the next row is read, so its memory does not grow with them, and the bytes go
-    /// out with the first: where there is not even a first line, nothing does. The docket stays as it is.
+    /// Writes the bytes, then the calendar of the days from one to another, both included: the deadlines of
+    /// the docket whose time runs to one of these days, in order. Returns how many lines it wrote. It writes
+    /// each line before it reads the next row, so its memory does not grow with them. The bytes go out with
+    /// the first line; if there is not even a first line, nothing does. The docket stays as it is.
     pub fn calendar_after<W: Write>(
         &mut self,
         front: &[u8],
@@ -217,7 +216,7 @@ impl<S: Alter> Docket<S> {
             → Lists S.Store self.new h from to front.now (W.contents writer.old) (W.contents writer.new) result }
         ensures closed { self.old.closed ≡ true
             → (result ≡ Err (listing_end.NotBegun fault.Closed)) × (self.new ≡ self.old) × (writer.new ≡ writer.old) }
-        // Of any docket, no row changes.
+        // For any docket, no row changes.
         ensures stays { (rows : Rows) → HoldsRows S.Store self.old.conn rows → PreservesListing S.Store self.new.conn rows result }
         // And every database that a power failure may leave was one before.
         ensures writes_nothing { Survives (state S.Store self.old.conn) (state S.Store self.new.conn) (λ _. ⊥) }
@@ -242,8 +241,8 @@ impl<S: Alter> Docket<S> {
         answer
     }
 
-    /// Writes the calendar of the days from one to another, both included, and counts its lines, as
-    /// `calendar_after` does with no bytes in front of it.
+    /// Writes the calendar of the days from one to another, both included, and returns how many lines it
+    /// wrote, as `calendar_after` does with no bytes in front of it.
     pub fn calendar<W: Write>(
         &mut self,
         from: Day,
@@ -255,7 +254,7 @@ impl<S: Alter> Docket<S> {
             → ListsCalendar S.Store self.new h from to (W.contents writer.old) (W.contents writer.new) result }
         ensures closed { self.old.closed ≡ true
             → (result ≡ Err (calendar_end.Store fault.Closed)) × (self.new ≡ self.old) × (writer.new ≡ writer.old) }
-        // Of any docket, no row changes.
+        // For any docket, no row changes.
         ensures stays { (rows : Rows) → HoldsRows S.Store self.old.conn rows → PreservesCalendar S.Store self.new.conn rows result }
         // And every database that a power failure may leave was one before.
         ensures writes_nothing { Survives (state S.Store self.old.conn) (state S.Store self.new.conn) (λ _. ⊥) }

@@ -1,4 +1,4 @@
-//! Going on where a run stopped, also one that a power failure stopped.
+//! Continuing where a run stopped, also one that a power failure stopped.
 ghost use Rattle.std.specs.Prelude.{◌≡◌, ◌≤◌, IsTrue, IfErr, MatchResult};
 ghost use Rattle.sqlite_store.specs.declared.store.FileStore.{FileStore};
 ghost use Rattle.sqlite.specs.Files.{over_files, image_of};
@@ -21,7 +21,7 @@ use sqlite::{Connection, Error, FileStore, Files, Leftover, Options};
 use sqlite_disk::Disk;
 use std::alloc::Global;
 
-/// Why a run did not go on, and what is left of its files.
+/// Why a run did not continue, and what is left of its files.
 pub enum RecoverFault<D: Disk> {
     /// The files could not be opened.
     NotOpened(Error, Leftover<D>),
@@ -51,8 +51,8 @@ impl<D: Disk> From<Returned<FileStore<D>, AdoptFault>> for RecoverFault<D> {
     }
 }
 
-// What is generic over its store takes the prover long at the store of files, so each of the next two does
-// one such call and no more.
+// A call that is generic over its store takes the prover long at the store of files. So each of the next two
+// functions makes one such call and no more.
 
 /// Adopts the docket that files hold, as `Docket::adopt` does.
 fn adopt_files<D: Disk + Drop>(
@@ -78,9 +78,9 @@ fn apply_in_files<D: Disk + Drop>(
     docket.apply(command)
 }
 
-/// Opens the database file and its log, whatever a run left in them, and adopts their docket. Where a
-/// power failure stopped the run at a command, it is the docket without the command or with it. Files
-/// that are not opened hold what they held, and a docket that is not adopted stays.
+/// Opens the database file and its log, whatever a run left in them, and adopts their docket. If a power
+/// failure stopped the run at a command, it is the docket without the command or with it. Files that are not
+/// opened hold what they held, and a docket that is not adopted stays.
 pub fn recover<D: Disk + Drop>(
     alloc: Global,
     files: Files<D>,
@@ -98,8 +98,8 @@ pub fn recover<D: Disk + Drop>(
     Ok(docket)
 }
 
-/// Goes on where a power failure stopped a run at a command, and gives the command again: an answer is
-/// the one that it had or was to have, and the command stands once.
+/// Continues where a power failure stopped a run at a command, and gives the command again. An answer is the
+/// one that it had or was to have, and the command stands once.
 pub fn apply_again<D: Disk + Drop>(
     alloc: Global,
     files: Files<D>,

@@ -33,13 +33,13 @@ pub fn power_failures_leave_dockets<D: Disk>()
         → LeavesEither it court h next → MayLeave it files → HoldEither files court h next }
 {}
 
-/// Files whose pages end in no sums lack none.
+/// Files whose pages end without checksums lack none.
 pub fn plain_files_have_sums()
     ensures { (files : Image) (size : ℕ) (db : Trees) → IsPageSize size → HoldsIn size files db → HaveSums files }
 {}
 
-/// Ends a run without closing the files: what is not committed is rolled back. What a power failure may
-/// leave, before it and after it, is what the connection said.
+/// Ends a run without closing the files: what is not committed is rolled back. Before and after it, a power
+/// failure leaves only what the view of the connection allows.
 pub fn stop<D: Disk + Drop>(conn: Connection<FileStore<D>>) -> FileStore<D>
     ensures settled { (court : CourtSettings) (h : History) → StandsFor over_files conn court h
         → IsClean (view result) → LeavesEither conn.store court h h × LeavesEither result court h h }
@@ -50,8 +50,8 @@ pub fn stop<D: Disk + Drop>(conn: Connection<FileStore<D>>) -> FileStore<D>
     conn.into_store()
 }
 
-/// Opens the database file and its log, whatever a run left in them. An error comes with what is left
-/// of the files.
+/// Opens the database file and its log, whatever a run left in them. An error returns what is left of the
+/// files.
 pub fn reopen<D: Disk + Drop>(
     alloc: Global,
     files: Files<D>,
@@ -71,8 +71,8 @@ pub fn reopen<D: Disk + Drop>(
     Connection::open_files(alloc, files, options)
 }
 
-/// Opens the files at a path, where `start` stands for what they hold. An error comes with what is left
-/// of them, once they were opened; what they held is in them still, also past a power failure.
+/// Opens the files at a path, where `start` represents what they hold. An error returns what is left of them,
+/// once they were opened; they still hold what they held, also past a power failure.
 pub fn reopen_from<S: Start>(
     rt: &HostRuntime,
     path: &str,

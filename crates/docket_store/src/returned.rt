@@ -6,8 +6,8 @@ use sqlite::{Alter, Connection, Error};
 #[derive(Drop)]
 pub struct Returned<S: Alter, F> {
     pub fault: F,
-    /// The error of the database, where it is told: as a docket is made, any by which it failed; as one is
-    /// made or adopted, that memory was refused; as one is migrated, none.
+    /// The error of the database. The making of a docket returns any by which it failed; making and adoption
+    /// return out of memory; a migration returns none.
     pub failure: Option<Error>,
     pub connection: Connection<S>,
 }

@@ -21,7 +21,7 @@ use docket_command::{Command, Refusal, Reply};
 use sqlite::Alter;
 use std::alloc::Global;
 
-/// The reply to a command, or its refusal: a refusal is an answer, and no fault of the docket.
+/// Returns the reply to a command, or its refusal: a refusal is an answer, and not a fault of the docket.
 pub fn answer<S: Alter>(
     docket: &mut Docket<S>,
     command: &Command,
@@ -46,7 +46,7 @@ pub fn answer<S: Alter>(
     }
 }
 
-/// The replies to commands in order, each judged in the docket that those before it left. A refused
+/// Returns the replies to commands in order, each judged in the docket that those before it left. A refused
 /// command does not stop the others; another fault does, and then the commands before it stand.
 pub fn apply_all<S: Alter>(
     alloc: Global,

@@ -28,18 +28,18 @@ use docket_scan::AdoptFault;
 use sqlite::{Alter, Connection, Error};
 use std::alloc::Global;
 
-/// How a session ended: the answers to its first commands in order, and, where a command got none, its
-/// place and why. The connection is handed back.
+/// How a session ended: the answers to its first commands in order. If a command got none, its place and why.
+/// The connection is returned.
 #[derive(Drop)]
 pub struct SessionEnd<S: Alter> {
     pub replies: Vec<Result<Reply, Refusal>>,
     pub stopped_at: Option<(usize, Fault)>,
-    /// The error of the database, where it failed.
+    /// The error of the database, if it failed.
     pub failure: Option<Error>,
     pub connection: Connection<S>,
 }
 
-/// Answers commands in order, up to the first that gets no answer, and tells its place and why.
+/// Answers commands in order, up to the first that gets no answer. Returns its place and why.
 fn answer_until<S: Alter>(
     docket: &mut Docket<S>,
     commands: &[Command],
@@ -80,24 +80,24 @@ pub fn session<S: Alter>(
     // Without a court there is no docket, and the connection comes back as it was.
     ensures empty { has_named connection.schema table.Court ≡ false
         → IsErrAnd result (λ returned. (returned.fault ≡ Empty) × (returned.connection ≡ connection)) }
-    // Of any docket, each command wrote nothing, or was written whole, with its receipt.
+    // For any docket, each command wrote nothing, or was written whole, with its receipt.
     ensures steps { IfOk result (λ end. (adopted last : Kept S)
         × ((rows : Rows) → HoldsRows S.Store connection rows
         → HoldsRows S.Store adopted.conn rows × (HasCleanDisk (state S.Store adopted.conn) → TakeCommands adopted.court rows))
         × Reaches (WritesAtMostOne S.Store) adopted last × (last.conn ≡ end.connection)) }
     ensures stays { (rows : Rows) → HoldsRows S.Store connection rows
         → IfErr result (λ returned. PreservesRejected S.Store returned.connection rows returned.fault) }
-    // Of any database, its tables were sound, or a fault tells why it is no docket's.
+    // For any database, its tables were sound, or a fault names why it is not a docket.
     ensures told { MatchResult result (λ end. WasSound S.Store connection end.connection)
         (λ returned. IsRejected S.Store connection returned.connection returned.fault) }
     // The database failed only for a cause.
     ensures cause { IfErr result (λ returned. HasCleanDisk (state S.Store returned.connection)
         → IsCausedOpening (state S.Store connection) (state S.Store returned.connection) returned.failure returned.fault) }
-    // And so it did where a command of a docket got no answer for it: the error that is told has a cause since the session began.
+    // The same holds where a command of a docket got no answer: the returned error has a cause since the session began.
     ensures stops { (court : CourtSettings) (h : History) → IsDocket court h → StandsFor S.Store connection court h
         → IfOk result (λ end. HasCleanDisk (state S.Store end.connection)
         → StopsForCause commands.now (state S.Store connection) (state S.Store end.connection) end.failure end.stopped_at) }
-    // Where it did not fail, no error is told.
+    // If it did not fail, no error is returned.
     ensures unfailed { IfOk result (λ end. IsUnfailed end.stopped_at → end.failure ≡ None) }
     ensures clean { MatchResult result
         (λ end. doubt (state S.Store connection).is_clean ≤ doubt (state S.Store end.connection).is_clean)

@@ -1,4 +1,4 @@
--- What a question leaves that is put together of others.
+-- What a question leaves that consists of others.
 use Rattle.std.proofs.Common.{◌≡◌, false, sym, subst, IfErr, IsErrAnd, Result, Ok, Err}
 use Rattle.sqlite.specs.Store.{Ghosts}
 use Rattle.sqlite.specs.State.{HasCleanDisk, Survives}
@@ -15,7 +15,7 @@ use Rattle.docket_tables.proofs.NothingLemmas.{nothing_called, nothing_then}
 use Rattle.docket_tables.proofs.PassedCauses.{fails_after}
 use Rattle.docket_tables.proofs.ReadLemmas.{err_stays, stays}
 
--- nothing is asked
+-- no question
 pub unasked : {S : Type 0} {g : Ghosts S} {X : Type 0} {conn : Held S} {x : X} → OnlyAsks g conn conn (Ok x)
 unasked = record {
   stays = λ rows holds. holds;
@@ -24,7 +24,7 @@ unasked = record {
   cause = λ rows holds clean. tt;
 }
 
--- what was read gives another answer, or is no answer, for which the store is not to blame
+-- what was read gives another answer, or no answer, which is no failure of the store
 pub asked_own : {S : Type 0} {g : Ghosts S} {X Y : Type 0} {old new : Held S} {x : X} (result : Result Y ReadFault) → IfErr result IsOwn → OnlyAsks g old new (Ok x) → OnlyAsks g old new result
 asked_own {S} {g} {X} {Y} {old} {new} {x} result own one = record {
   stays = λ rows holds. stays g new rows result (one.stays rows holds);
@@ -52,7 +52,7 @@ asked_err {S} {g} {X} {Y} {old} {new} {fault} (Err other) same one =
     subst (λ (f : ReadFault). OnlyAsks g {X = Y} old new (Err f)) (sym same)
     (record { stays = one.stays; writes_nothing = one.writes_nothing; mode = one.mode; cause = one.cause })
 
--- memory ran short after a question
+-- memory ran out after a question
 pub asked_short : {S : Type 0} {g : Ghosts S} {X Y : Type 0} {old new : Held S} {x : X} (result : Result Y ReadFault) → IsErrAnd result (λ other. other ≡ NoMemory) → OnlyAsks g old new (Ok x) → OnlyAsks g old new result
 asked_short (Ok y) same one = absurd same
 asked_short (Err other) same one = asked_own (Err other) (subst IsOwn (sym same) tt) one

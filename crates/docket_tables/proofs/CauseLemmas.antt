@@ -124,7 +124,7 @@ pub err_caused : {X : Type 0} (old new : State) (e : Error) (result : Result X R
 err_caused old new e (Ok x) same cause = absurd same
 err_caused old new e (Err f) same cause = subst (IsCausedFault old new) (sym same) cause
 
--- where the store did not fail, there is nothing to tell of it
+-- if the store did not fail, it needs no cause
 pub own_caused : {X : Type 0} (old new : State) (result : Result X ReadFault) → IfErr result IsOwn → FailsForCause old new result
 own_caused old new (Ok x) own = tt
 own_caused old new (Err (Store e)) own = absurd own

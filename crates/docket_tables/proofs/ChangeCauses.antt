@@ -81,7 +81,7 @@ each_at P [] i x low is each = absurd (omega (arith, low))
 each_at P (y ∷ all) zero x low is each = subst P (sym is) each.0
 each_at P (y ∷ all) (suc i) x low is each = each_at P all i x (omega (arith, low)) is each.1
 
--- the error of a question inside is told as the fault of the store
+-- the error of a question inside is returned as the fault of the store
 pub reading_told : {X : Type 0} (old new : State) (e : Error) (result : Result X ReadFault) → IsErrAnd result (λ f. f ≡ Store e) → IsCaused old new e → IfErr result (IsReadingFault old new)
 reading_told old new e (Ok x) same cause = tt
 reading_told old new e (Err f) same cause = subst (IsReadingFault old new) (sym same) cause
@@ -91,7 +91,7 @@ pub fault_told : {X : Type 0} (old new : State) (e : Error) (result : Result X R
 fault_told old new e (Ok x) same cause = tt
 fault_told old new e (Err f) same cause = subst (IsChangeFault old new) (sym same) cause
 
--- what is read of a docket's rows fails for want of memory alone
+-- reading a docket's rows fails only when out of memory
 pub fault_read : {X : Type 0} (old new : State) (answer : X → Type 0) (result : Result X ReadFault) → IsReadAs answer result → IfErr result (IsReadingFault old new)
 fault_read old new answer (Ok x) read = tt
 fault_read old new answer (Err (Store e)) read = absurd read

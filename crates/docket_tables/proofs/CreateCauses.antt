@@ -45,7 +45,7 @@ ascii [] all i = omega arith
 ascii (b ∷ text) all zero = let parts = and_parts _ _ all in ltb-true _ _ parts.0
 ascii (b ∷ text) all (suc i) = ascii text (and_parts _ _ all).1 i
 
--- the table can be made where so many stand: its text, its name and its keys are as they have to be
+-- the table can be made when the first n stand: its text, its name and its keys are as they have to be
 pub record IsMakeable (n : ℕ) (sql : List ℕ) (table : Shape) : Type 0 where
   pub one : IsOne sql 0 CreateTable (understood (made n) sql)
   pub text : Defines n sql table

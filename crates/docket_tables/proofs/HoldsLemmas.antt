@@ -40,7 +40,7 @@ keyed_as n z r is = and_yes _ ∙ ap (λ v. equal Binary v (Int n)) is ∙ equal
 pub rowid_as : (n z : ℤ) (r : Row) → column r 0 ≡ Int z → has_rowid n r ≡ is_eq (int_cmp z n)
 rowid_as n z r is = ap (λ v. is_eq (value_cmp v (Int n))) is ∙ ap is_eq (value_cmp-Int z n)
 
--- a test of the order says that numbers are equal
+-- a test of the order shows that numbers are equal
 pub same_int : (o : Ordering) (z n : ℤ) → int_cmp z n ≡ o → is_eq o ≡ true → z ≡ n
 same_int Less z n is e = absurd (let no = e in cc)
 same_int Equal z n is e = grind (arith, ints)

@@ -67,7 +67,7 @@ agree_plain (c ∷ columns) a b = ap (λ more. equal Binary (column a c) (column
 abbrev is_apart : Table → List Row → Row → Bool
 is_apart table rows row = list_all (λ places. not (clashes plain places rows row || false)) (uniques_of table)
 
--- and that is all that the indexes ask of it
+-- and that is all that the indexes require of it
 unique_means : (table : Table) (db : Trees) (row : Row) → are_unique docket_schema.indexes db (shape_of table) (row ∷ []) ≡ is_apart table (db (tree_of table)) row
 unique_means Court db row = refl
 unique_means Calendar db row = refl
@@ -120,7 +120,7 @@ has_one table db row parent =
     let places = take (layout_of parent).key (places_of table) in
     has_null places row || list_any (λ other. agree plain (key_places parent) other places row) (db (tree_of parent))
 
--- what the foreign keys ask of a row
+-- what the foreign keys require of a row
 refers_means : (table : Table) (db : Trees) (row : Row) → list_all (has_parent docket_schema.tables db row) (shape_of table).references ≡ list_all (has_one table db row) (layout_of table).parents
 unfolding everything
 refers_means Court db row = refl
@@ -150,7 +150,7 @@ table_at table = refl
 pub opened : (rows : Rows) (db : Trees) → AreRows rows db → (((t : Table) → HoldsHere rows db t) → ⊥) → ⊥
 opened rows db are go = all_opened (HoldsHere rows db) tables are (λ all. go (λ t. all_at (HoldsHere rows db) tables (layout_of t).at t all (table_at t)))
 
--- what is said of the rows shown is said of the rows stored
+-- what holds of the rows shown holds of the rows stored
 
 has_permuted : {X : Type 0} (xs ys : List X) (x : X) → IsPermutation xs ys → Has ys x → Has xs x
 has_permuted xs ys x same = all_has (Has xs) ys x (all-permutation (Has xs) xs ys same (all_from (Has xs) xs (λ e h. h)))

@@ -39,7 +39,7 @@ module _ (sql : List ℕ) (params : Row) (old new : State) (plain : IsPlain (und
 
 -- steps of a transaction, one after another
 
--- a step that ended well
+-- a step that succeeded
 abbrev pub Went : State → State → Rows → Rows → Type 0 → Type 0
 Went old new rows next A = (HasCleanDisk old → Sees old rows) → StaysInside old new × (HasCleanDisk new → Sees new next × A)
 

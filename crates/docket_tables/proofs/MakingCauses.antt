@@ -22,7 +22,7 @@ use Rattle.docket_tables.specs.Causes.{IsCaused, HasMakingCause, IsCausedMaking}
 use Rattle.docket_tables.specs.declared.fault.StoreFault.{StoreFault}
 use Rattle.docket_tables.specs.declared.fault.StoreFault.TheVariants as making
 
--- the text is one statement, which takes so many parameters
+-- the text is one statement, which takes this many parameters
 abbrev pub IsOne : List ℕ → ℕ → Command → Result Compiled CompileError → Type 0
 IsOne sql n command (Ok c) = (c.tail ≡ length sql) × (length c.names ≡ n) × (c.command ≡ command) × IsPlain (Ok c)
 IsOne sql n command (Err e) = ⊥
@@ -131,7 +131,7 @@ memory_or_other : (e : Error) → (e ≡ SqliteFailure OutOfMemory) ⊎ (e ≢ S
 memory_or_other (SqliteFailure OutOfMemory) = inl refl
 memory_or_other _ = inr (λ is. let never = is in cc)
 
--- the fault that is told of an error is that of memory only where the error is
+-- the fault made from an error is out of memory only if the error is
 pub told_making : (old new : State) (failure : Option Error) (e : Error) (fault : StoreFault) → failure ≡ Some e → (e ≢ SqliteFailure OutOfMemory → fault ≡ making.StoreFailed)
     → HasMakingCause old new e → IsCausedMaking old new failure fault
 told_making old new failure e making.StoreFailed is other cause = (e, is, cause)

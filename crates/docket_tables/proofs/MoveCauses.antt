@@ -378,7 +378,7 @@ rowid_or_other : (e : Error) → (e ≡ SqliteFailure code.NoRowid) ⊎ (e ≢ S
 rowid_or_other (SqliteFailure code.NoRowid) = inl refl
 rowid_or_other _ = inr (λ is. let never = is in cc)
 
--- and with no more said of the rowids, it has a cause, or one of them is none that 64 bits hold
+-- and with no more known of the rowids, it has a cause, or one of them is none that 64 bits hold
 pub move_end_caused_or : (k d : ℕ) (day moment : ℤ) (rows : Rows) (old new : State) (e : Error) → Sees old rows
     → ExecutesInside 0 move_end_text (Int (pos k) ∷ Int (pos d) ∷ Int day ∷ Int moment ∷ []) old new (Err e)
     → HasMakingCause old new e ⊎ ((e ≡ SqliteFailure code.NoRowid) × ¬ HasFitIds old.now.trees)

@@ -21,7 +21,7 @@ use Rattle.docket_tables.specs.Queries.{select_text}
 use Rattle.docket_tables.specs.declared.query.Query.{Query}
 use Rattle.docket_tables.proofs.EachLemmas.{queries, each_query}
 
--- nothing is called
+-- no call
 pub nothing_called : {s : State} → Survives s s (λ _. ⊥)
 nothing_called = record {
   clean = omega arith;

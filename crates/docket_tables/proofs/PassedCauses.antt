@@ -1,4 +1,4 @@
--- A failure that came of a part has the cause that it had there.
+-- A failure of a part has the cause that it had there.
 use Rattle.std.proofs.Common.{◌≡◌, ◌≤◌, Result, Ok, Err}
 use Rattle.sqlite.specs.State.{State}
 use Rattle.docket_tables.specs.Causes.{IsCausedFault, FailsForCause}

@@ -38,7 +38,7 @@ pub err_given : {S : Type 0} (g : Ghosts S) {X : Type 0} (new : Held S) (rows : 
 err_given g new rows Q e (Ok x) same fails = absurd same
 err_given g new rows Q e (Err f) same fails = subst (Fails g new rows) (sym same) fails
 
--- want of memory, where the rows are held
+-- out of memory, while the rows are held
 pub short_given : {S : Type 0} (g : Ghosts S) {X : Type 0} (new : Held S) (rows : Rows) (Q : X → Type 0) (res : Result X ReadFault) → IsErrAnd res (λ f. f ≡ NoMemory)
     → HoldsRows g new rows → Gives g new rows Q res
 short_given g new rows Q (Ok x) same holds = absurd same

@@ -1,4 +1,4 @@
--- What a receipt that was read tells of the rows.
+-- What a receipt that was read shows of the rows.
 use Rattle.std.proofs.Common.{◌≡◌, ◌∙◌, ◌==◌, ◌||◌, ◌&&◌, ℕ, pos, suc, Bool, true, false, cond, List, [], ◌∷◌, filter, slice_get, Some, None, Option, IfSome, Ok, Result, IfOk, IfErr, refl, sym, ap, subst, arith}
 use Rattle.std.specs.Coded.{coded_bool}
 use base.Stored.{Coded-set}
@@ -31,7 +31,7 @@ kept_same stored number body reply = at (bytes_eq stored body) refl
     at true same is = ((bytes_eq-Decides stored body).0 same, let it = is in cc)
     at false other is = absurd (let no = is in cc)
 
--- the row of a receipt whose reply is told has that body
+-- the row of a receipt whose reply is returned has that body
 pub kept_told : (found : Option Kept) (result : Result Kept ReadFault) (row : Row) (body : List ℕ) → result ≡ ok_or found Damaged
     → IfSome found (λ kept. (key stored : List ℕ) × (number : ℕ) × (row ≡ stored_cells key stored number) × (kept ≡ kept_as stored number body))
     → (reply : Reply) → result ≡ Ok (Same reply) → (key : List ℕ) × (row ≡ stored_cells key body reply.number)

@@ -14,8 +14,8 @@ use Rattle.docket_tables.specs.declared.table.Table.TheVariants.{Court, Calendar
 use Rattle.docket_tables.specs.Holds.{IsKeyed, without_number}
 use Rattle.docket_tables.specs.Layouts.{Rows, with_row, with_rows}
 
--- the court has its one row, which tells the number of the next row of the calendar; each row of the calendar has a number, in
--- whichever of its two tables it stands; and the stored ends are these
+-- the court has its one row, which holds the number of the next row of the calendar. Each row of the calendar has a number, in
+-- whichever of its two tables it stands. The stored ends are these
 pub record AreDocketRows (settings : CourtSettings) (next_row : ℕ) (stored : List StoredEnd) (rows : Rows) : Type 0 where
   pub court : rows Court ≡ court_cells settings next_row ∷ []
   pub keyed : AllByRecursion IsKeyed (rows Calendar)

@@ -10,13 +10,13 @@ use Rattle.docket_tables.specs.Stands.{HoldsRows}
 use Rattle.docket_tables.specs.declared.fault.ReadFault.{ReadFault}
 
 module _ {S : Type 0} (g : Ghosts S) where
-  -- nothing is changed: of rows, whatever they are, and of the connection
+  -- nothing changes, neither the rows, whatever they are, nor the connection
   pub record OnlyAsks {X : Type 0} (old new : Held S) (result : Result X ReadFault) : Type 0 where
-    -- rows that it held it holds still, but where the store failed it may be shut
+    -- the connection still holds the rows that it held, but may be shut if the store failed
     pub stays : (rows : Rows) → HoldsRows g old rows → Stays g new rows result
     -- every database that a power failure may leave was one before
     pub writes_nothing : Survives (state g old) (state g new) (λ _. ⊥)
     -- no transaction is begun
     pub mode : old.in_transaction ≡ false → new.in_transaction ≡ false
-    -- where it held rows and the disk is clean, the store failed for a cause
+    -- if the connection held rows and the disk is clean, the store failed for a cause
     pub cause : (rows : Rows) → HoldsRows g old rows → HasCleanDisk (state g new) → FailsForCause (state g old) (state g new) result

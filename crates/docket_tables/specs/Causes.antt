@@ -23,7 +23,7 @@ use Rattle.docket_tables.specs.declared.table.Table.{Table}
 abbrev pub IsOfDisk : State → State → Error → Type 0
 IsOfDisk old new e = IsTrue (is_disk_error e) × MoreFaults old.faults new.faults
 
--- memory was refused, of which no count is kept
+-- memory ran out, of which no count is kept
 abbrev pub IsOfMemory : Error → Type 0
 IsOfMemory e = e ≡ SqliteFailure OutOfMemory
 
@@ -39,7 +39,7 @@ IsLater old new = (old.faults ≤ new.faults) × (new.step_limit ≡ old.step_li
 abbrev pub IsCaused : State → State → Error → Type 0
 IsCaused old new e = IsOfDisk old new e ⊎ (IsOfMemory e ⊎ IsOfLimit old e)
 
--- and so has the error for which the store gave no answer
+-- the error for which the store gave no answer has a cause too
 abbrev pub IsCausedFault : State → State → ReadFault → Type 0
 IsCausedFault old new (Store e) = IsCaused old new e
 IsCausedFault old new NoMemory = Unit {0}
@@ -49,13 +49,13 @@ IsCausedFault old new Damaged = Unit {0}
 abbrev pub FailsForCause : {X : Type 0} → State → State → Result X ReadFault → Type 0
 FailsForCause old new result = IfErr result (IsCausedFault old new)
 
--- the fault is none of the store
+-- the fault is not one of the store
 abbrev pub IsOwn : ReadFault → Type 0
 IsOwn (Store e) = ⊥
 IsOwn NoMemory = Unit {0}
 IsOwn Damaged = Unit {0}
 
--- what the columns hold that are asked for
+-- what the columns hold that the parameters of a query are for
 abbrev pub kinds_asked : Query → List Kind
 kinds_asked query = map (λ key. get_or (kinds_of (table_of query)) key Integer) (keys_of query)
 
@@ -63,11 +63,11 @@ kinds_asked query = map (λ key. get_or (kinds_of (table_of query)) key Integer)
 abbrev pub Suits : Query → Row → Type 0
 Suits query params = are_of (kinds_asked query) params ≡ true
 
--- the error of a making of tables has a cause: one that a question may have, or the connection was shut before
+-- the error of making tables has a cause: one that a question may have, or the connection was shut before
 abbrev pub HasMakingCause : State → State → Error → Type 0
 HasMakingCause old new e = IsCaused old new e ⊎ (old.is_open ≡ false)
 
--- and it is told: where the store failed it has a cause, and where memory ran short it is that of memory
+-- the error of making tables is reported: it has a cause if the store failed, and is out of memory if memory ran out
 abbrev pub IsCausedMaking : State → State → Option Error → StoreFault → Type 0
 IsCausedMaking old new failure making.StoreFailed = (e : Error) × (failure ≡ Some e) × HasMakingCause old new e
 IsCausedMaking old new failure making.NoMemory = (e : Error) × (failure ≡ Some e) × IsOfMemory e
@@ -84,7 +84,7 @@ HasAddCause table old new e = IsCaused old new e ⊎ (IsOfRowids e × ((layout_o
 abbrev pub HasChangeCause : State → State → Error → Type 0
 HasChangeCause old new e = IsCaused old new e ⊎ IsOfRowids e
 
--- the fault of a reading inside a transaction has a cause where the store failed, and no row is told to be damaged
+-- the fault of a reading inside a transaction has a cause if the store failed, and no row is reported damaged
 abbrev pub IsReadingFault : State → State → ReadFault → Type 0
 IsReadingFault old new (Store e) = IsCaused old new e
 IsReadingFault old new NoMemory = Unit {0}

@@ -37,15 +37,15 @@ rows_changed court next c changes rows = recorded court next c changes.reply cha
 abbrev pub AreNumbered : ℕ → Changes → Type 0
 AreNumbered next changes = next + length changes.rows.items < 2 ^ 63
 
--- where the transaction saw these rows and goes on, it sees the next ones
+-- if the transaction saw these rows and goes on, it sees the next ones
 abbrev pub Makes : {X E : Type 0} → State → State → Rows → Rows → Result X E → Type 0
 Makes old new rows next result = Sees old rows → OnOk result (Sees new next)
 
--- this is so where the rows that are added get numbers, and the text of the zone is short, with which the court's row is written anew
+-- this holds if the rows that are added get numbers, and the text of the zone is short, with which the court's row is written anew
 abbrev pub IfCounted : CourtSettings → ℕ → ℕ → Type 0 → Type 0
 IfCounted court next more P = next + more < 2 ^ 63 → length court.zone_text ≤ 31 → P
 
--- where these rows are seen, a change that may be made fails only for a cause
+-- if the transaction sees these rows, a change that may be made fails only for a cause
 abbrev pub FailsForChange : Change → Tables → Rows → State → State → Result (Unit {0}) Error → Type 0
 FailsForChange x t rows old new result = Sees old rows → MayAdd x t → AreStorable (values_added x) → IfErr result (HasChangeCause old new)
 

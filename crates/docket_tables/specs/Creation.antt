@@ -6,7 +6,7 @@ use Rattle.sqlite.specs.State.{State}
 use Rattle.docket_tables.specs.Layouts.{Rows}
 use Rattle.docket_tables.specs.Schema.{made}
 
--- inside a transaction, so many of the tables stand, and hold nothing
+-- inside a transaction, the first n tables stand, and hold nothing
 pub record IsMade (s : State) (n : ℕ) : Type 0 where
   pub schema : s.now.schema ≡ made n
   pub serves : 0 < n → IsTrue s.is_open × IsTrue s.in_transaction × IsDatabase s.now

@@ -15,7 +15,7 @@ use Rattle.docket_tables.specs.Stands.{HoldsRows, Lasts}
 use Rattle.docket_tables.specs.declared.fault.ReadFault.{ReadFault}
 use Rattle.docket_tables.specs.declared.fault.ReadFault.TheVariants.{Store, NoMemory, Damaged}
 
--- the answer, unless memory is short; the rows are a docket's
+-- the answer, unless memory ran out; the rows are a docket's
 abbrev pub IsReadAs : {X : Type 0} → (X → Type 0) → Result X ReadFault → Type 0
 IsReadAs answer (Ok x) = answer x
 IsReadAs answer (Err NoMemory) = Unit {0}
@@ -36,18 +36,18 @@ AreActsOf k acts found =
     ((n : ℕ) → filter (λ row. row.deadline == n) found ≡ acts_on k n acts) × IsNonDecreasingBy (λ row. row.deadline) found
 
 module _ {S : Type 0} (g : Ghosts S) where
-  -- what a failure leaves: the connection holds the rows still, but where the store failed it may be shut
+  -- what a failure leaves: the connection still holds the rows, but may be shut if the store failed
   abbrev pub Fails : Held S → Rows → ReadFault → Type 0
   Fails new rows (Store e) = Lasts g new rows
   Fails new rows NoMemory = HoldsRows g new rows
   Fails new rows Damaged = HasCleanDisk (state g new) → ⊥
 
-  -- the answer, and the connection holds the rows still
+  -- the answer, and the connection still holds the rows
   abbrev pub Gives : {X : Type 0} → Held S → Rows → (X → Type 0) → Result X ReadFault → Type 0
   Gives new rows answer (Ok x) = HoldsRows g new rows × (HasCleanDisk (state g new) → answer x)
   Gives new rows answer (Err fault) = Fails new rows fault
 
-  -- what a question that fails leaves of rows, whatever they are: the connection holds them still, but where the store failed it may be shut
+  -- what a question that fails leaves of rows, whatever they are: the connection still holds them, but may be shut if the store failed
   abbrev pub StaysAt : Held S → Rows → ReadFault → Type 0
   StaysAt new rows (Store e) = Lasts g new rows
   StaysAt new rows NoMemory = HoldsRows g new rows

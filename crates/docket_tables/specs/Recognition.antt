@@ -1,4 +1,4 @@
--- What tells the tables of a docket from others, by the schema alone. Names are compared without regard to ASCII case, as SQL does.
+-- What marks the tables of a docket, by the schema alone. Names are compared without regard to ASCII case, as SQL does.
 use Rattle.std.specs.Prelude.{Bool}
 use Rattle.std.specs.List.{list_any}
 use Rattle.sqlite.specs.Schema.{Schema}

@@ -89,7 +89,7 @@ shape_of table = record (definition_of table) { tree = tree_of table }
 abbrev pub no_schema : Schema
 no_schema = record { tables = []; indexes = []; views = [] }
 
--- the schema that so many of the tables leave
+-- the schema that the first n tables leave
 abbrev pub made : ℕ → Schema
 made n = fold created no_schema (map definition_of (take n tables))
 

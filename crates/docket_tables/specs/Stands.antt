@@ -63,7 +63,7 @@ pub record StaysInside (old new : State) : Type 0 where
   pub kept : HasCleanDisk new → KeepsCommit old new
   pub survives : Survives old new (λ _. ⊥)
 
--- a part of a transaction that saw these rows commits nothing; where it ends well it sees the next ones, and gives the answer
+-- a part of a transaction that saw these rows commits nothing; if it succeeds, it sees the next ones and returns the answer
 abbrev pub Inside : {X E : Type 0} → State → State → Rows → Rows → Result X E → (X → Type 0) → Type 0
 Inside old new rows next result answer =
     (HasCleanDisk old → Sees old rows) → StaysInside old new × (HasCleanDisk new → IfOk result (λ x. Sees new next × answer x))
@@ -80,7 +80,7 @@ module _ {S : Type 0} (g : Ghosts S) where
   abbrev pub Lasts : Held S → Rows → Type 0
   Lasts c rows = (c.in_transaction ≡ false) × (HasCleanDisk (state g c) → IsLasting (state g c) rows)
 
-  -- a write that did not end well
+  -- a write that failed
   abbrev pub LastsAsEither : Held S → Rows → Rows → Type 0
   LastsAsEither c rows next = (c.in_transaction ≡ false) × (HasCleanDisk (state g c) → IsEither (state g c) rows next)
 
@@ -98,7 +98,7 @@ module _ {S : Type 0} (g : Ghosts S) where
   Makes old new rows (Err NoMemory) = MakesNothing old new
   Makes old new rows (Err StoreFailed) = MayMake old new rows
 
-  -- what an error leaves: where memory ran short the connection holds the rows
+  -- what an error leaves: if memory ran out, the connection holds the rows
   abbrev pub Leaves : Held S → Rows → Rows → StoreFault → Type 0
   Leaves c rows next NoMemory = HoldsRows c rows
   Leaves c rows next StoreFailed = LastsAsEither c rows next

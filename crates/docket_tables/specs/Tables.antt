@@ -1,5 +1,5 @@
--- The tables of the docket: what each is named, what its columns are, and what stands in them once. All else that is said of a
--- table in SQL follows from this.
+-- The tables of the docket: what each is named, what its columns are, and what stands in them once. The rest of a table's SQL follows
+-- from this.
 use Rattle.std.specs.Prelude.{ℕ, Bool, true, false, List, [], ◌∷◌, ◌++◌, codes}
 use Rattle.sqlite.specs.Kind.{Kind}
 use Rattle.sqlite.specs.Kind.TheVariants.{Integer, Text}

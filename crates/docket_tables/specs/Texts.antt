@@ -36,7 +36,7 @@ kind_text Integer = codes "INTEGER"
 kind_text Text = codes "TEXT"
 kind_text _ = []
 
--- what is told of one column stands at the column
+-- a constraint on one column stands at the column
 abbrev pub is_alone : ℕ → List ℕ → Bool
 is_alone column (other ∷ []) = other == column
 is_alone column _ = false
@@ -51,7 +51,7 @@ abbrev pub column_texts : Layout → ℕ → List Field → List (List ℕ)
 column_texts l n [] = []
 column_texts l n (field ∷ more) = (field.name ++ codes " " ++ kind_text field.kind ++ standing_text l n) ∷ column_texts l (suc n) more
 
--- and what is told of several after the columns
+-- a constraint on several columns stands after the columns
 abbrev pub key_text : List (List ℕ) → List (List ℕ)
 key_text (one ∷ another ∷ more) = (codes "PRIMARY KEY " ++ bracketed (one ∷ another ∷ more)) ∷ []
 key_text _ = []

@@ -66,14 +66,14 @@ fn define_docket<S: Alter>(tx: &mut Transaction<'_, S>, court: &Court) -> Result
     ensures cause { HasCleanDisk (state S.Store tx.new.conn.now) → (state S.Store tx.old.conn.now).now.schema ≡ no_schema → IsTrue (state S.Store tx.old.conn.now).in_transaction
         → IfErr result (HasMakingCause (state S.Store tx.old.conn.now) (state S.Store tx.new.conn.now)) }
 {
-    // Their contracts bound the text of a zone and the minute, so that the store takes the court's row.
+    // Their contracts bound the text of a zone and the minute, so that the store accepts the court's row.
     let _zone = court.zone_text();
     let _close = court.close_minute();
     define_all(tx, &TABLES)?;
     insert(tx, Table::Court, &court_values(court, 1))
 }
 
-/// What an error of a transaction that was dropped comes to.
+/// Returns the fault for an error of a transaction that was dropped.
 pub fn undone_fault(error: Error) -> StoreFault
     ensures short { error ≡ SqliteFailure OutOfMemory → result ≡ NoMemory }
     ensures other { error ≢ SqliteFailure OutOfMemory → result ≡ StoreFailed }
@@ -85,10 +85,10 @@ pub fn undone_fault(error: Error) -> StoreFault
     }
 }
 
-/// Makes the tables of a docket of the court without any record, in a database without any table, in
-/// one transaction: all of them, or nothing. Where memory ran short nothing was made; where the
-/// database failed, a power failure leaves what it could leave before, or the tables. The error of the
-/// database is then the `failure`: it came only for a cause, or the connection was shut.
+/// Makes the tables of a docket of the court without any record, in a database without any table, in one
+/// transaction: all of them, or nothing. If memory ran out nothing was made. If the database failed, a power
+/// failure leaves what it could leave before, or the tables. The error of the database is then the `failure`:
+/// it came only for a cause, or the connection was shut.
 pub fn make<S: Alter>(
     conn: &mut Connection<S>,
     court: &Court,

@@ -1,14 +1,14 @@
-//! Why a question gave no answer, and why a transaction did not stand.
+//! Why a question got no answer, and why a transaction did not stand.
 use sqlite::Error;
 use std::alloc::{AllocError, AllocFailed};
 
-/// Why a question gave no answer.
+/// Why a question got no answer.
 #[derive(Clone, Copy)]
 pub enum ReadFault {
     /// The database failed, or memory ran out in it.
     Store(Error),
     NoMemory,
-    /// A row is none of a docket.
+    /// A row is not one of a docket.
     Damaged,
 }
 

@@ -42,7 +42,7 @@ pub fn calendar<S: Alter>(
     calendar_in(alloc, rows.as_slice(), short_rows.as_slice())
 }
 
-/// The ends that are stored of a case.
+/// The ends that are stored for a case.
 pub fn ends_of_case<S: Alter>(
     tx: &mut Transaction<'_, S>,
     alloc: Global,

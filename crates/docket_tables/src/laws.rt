@@ -1,4 +1,4 @@
-//! What the definitions of specs/ say, with nothing to run.
+//! Laws of the definitions of specs/, with nothing to run.
 ghost use Rattle.std.specs.Prelude.{◌≡◌, ◌++◌, ◌∷◌, [], ℕ, List, true, false};
 ghost use Rattle.court_days.specs.Court.{CourtSettings};
 ghost use Rattle.docket_command.specs.declared.command.Command.{Command};
@@ -22,8 +22,8 @@ pub fn dockets_are_recognized()
     ensures none { has_docket_table no_schema ≡ false }
 {}
 
-/// What a command makes of any rows of a docket: they are a docket's rows, with one receipt more, behind the
-/// others; and those of a history's tables are the tables that the history has next.
+/// A command makes rows of a docket from any rows of a docket, with one more receipt behind the others. From
+/// the rows of a history's tables it makes the tables that the history has next.
 pub fn commands_keep_docket_rows()
     ensures kept { (court : CourtSettings) (n : ℕ) (stored next : List StoredEnd) (rows : Rows) (command : Command) (reply : Reply) (changes : List Change) → AreDocketRows court n stored rows
         → AreDocketRows court (next_after_all changes n) next (with_stored next (recorded court n command reply changes rows)) }

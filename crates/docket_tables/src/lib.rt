@@ -1,17 +1,17 @@
 //! The tables of a docket in one SQLite database: the schema, the statements, the questions, and the
 //! changes of typed rows.
 //!
-//! `is_bare` and `has_docket_table` tell by a schema whether the tables are there. `make` makes them, in
-//! one transaction. The questions read them outside a transaction, and those of `inside` within one;
-//! there `change_with_receipt` and `change_ends` change rows, which stand once the transaction is committed.
-//! `fault_of` tells why a question or a transaction failed. Every call works over any store of `sqlite`.
-//! A contract sees a connection as the rows that it holds, and that each database holds which a power
-//! failure may leave (`HoldsRows`), and a step of a transaction as the rows that it saw and sees then
-//! (`Inside`). A question fails of the store only for a cause (`IsCaused`): the disk failed or refused more
-//! often than before, memory was refused, or a query came to a limit on steps that was set. So does the
-//! making of the tables (`HasMakingCause`) on a connection that is open. Changes fail for such a cause, or
-//! where no hidden rowid was left (`HasChangeCause`), if each row that they add may stand (`MayStand`): no
-//! other has its key, or what stands once beside that, and its parents stand.
+//! `is_bare` and `has_docket_table` return by a schema whether the tables are there. `make` makes them, in
+//! one transaction. The questions read them outside a transaction, and those of `inside` within one; there
+//! `change_with_receipt` and `change_ends` change rows, which stand once the transaction is committed.
+//! `fault_of` returns why a question or a transaction failed. Every call works over any store of `sqlite`. A
+//! contract sees a connection as the rows that it holds, in each database that a power failure may leave
+//! (`HoldsRows`). It sees a step of a transaction as the rows that it saw and sees then (`Inside`). A
+//! question fails of the store only for a cause (`IsCaused`): the disk failed or refused more often than
+//! before, memory ran out, or a query reached a step limit. So does the making of the tables
+//! (`HasMakingCause`) on a connection that is open. Changes whose added rows may all stand (`MayStand`) fail
+//! only for such a cause, or if no hidden rowid was left (`HasChangeCause`). A row may stand if no other has
+//! its key, or a value that must be unique, and its parents stand.
 #![tactic(auto)]
 
 mod changing;

@@ -1,4 +1,4 @@
-//! Want of memory told from a database that failed.
+//! Distinguishing out of memory from a failure of the database.
 ghost use Rattle.std.specs.Prelude.{◌≡◌, ◌≢◌, false, IsTrue};
 ghost use Rattle.sqlite.specs.Held.{state};
 ghost use Rattle.sqlite.specs.State.{Survives};
@@ -22,8 +22,8 @@ fn is_alive<S: Alter>(conn: &mut Connection<S>) -> bool
     conn.prepare("").is_ok()
 }
 
-/// What an error of a question or of a write comes to: want of memory, where the store still answers
-/// and the rows are as they were, or a database that failed. Nothing is written.
+/// Returns the fault for an error of a question or of a write. It is out of memory if the store still answers
+/// and the rows are as they were, else a failure of the database. Nothing is written.
 pub fn fault_of<S: Alter>(conn: &mut Connection<S>, error: Error) -> StoreFault
     requires { conn.old.in_transaction ≡ false }
     ensures idle { conn.new.in_transaction ≡ false }

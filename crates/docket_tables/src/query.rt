@@ -51,7 +51,7 @@ pub enum Query {
     LocalRules,
 }
 
-/// The text of the statement that asks it.
+/// The text of the statement for the question.
 pub(crate) fn select_text(query: Query) -> &'static str
     ensures { result.now ≡ select_text query }
 {

@@ -273,7 +273,7 @@ pub fn local_rules<S: Alter>(
     all_in(alloc, rows.as_slice())
 }
 
-/// What stands under a command's key. `body` is the canonical text of the command.
+/// Returns what stands under a command's key. `body` is the canonical text of the command.
 pub fn under_key<S: Alter>(
     conn: &mut Connection<S>,
     command: &Command,

@@ -1,4 +1,4 @@
-//! What tells the tables of a docket from others, by the schema alone.
+//! Recognizing the tables of a docket by the schema alone.
 ghost use Rattle.std.specs.Prelude.{◌≡◌, ◌↔◌, IsTrue};
 ghost use Rattle.std.specs.List.{list_any};
 ghost use Rattle.sqlite_schema.specs.Names.{same_name};

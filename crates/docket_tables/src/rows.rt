@@ -28,7 +28,7 @@ use docket_history::{ActRow, CalendarRow, Kept, LocalRuleRow, ShortDayRow};
 use sqlite::Row;
 use std::alloc::{AllocError, Global};
 
-/// What all rows say.
+/// Reads all rows.
 pub(crate) fn all_in<R: StoredRow>(alloc: Global, rows: &[Row]) -> Result<Vec<R>, ReadFault>
     ensures read { (all : List R) → AllByRecursion R.Is all → rows.now ≡ map R.cells all → IsReadAs (λ found. found.items ≡ all) result }
     ensures own { IfErr result IsOwn }
@@ -56,7 +56,7 @@ fn in_order(
     Ok(calendar)
 }
 
-/// The calendar that the rows of its two tables say, in the order of their numbers.
+/// Reads the calendar from the rows of its two tables, in the order of their numbers.
 pub(crate) fn calendar_in(
     alloc: Global,
     rows: &[Row],
@@ -71,7 +71,7 @@ pub(crate) fn calendar_in(
     Ok(in_order(calendar, short_days)?)
 }
 
-/// What the first row says, if there is one.
+/// Reads the first row, if there is one.
 pub(crate) fn first_in<R: StoredRow>(alloc: Global, rows: &[Row]) -> Result<Option<R>, ReadFault>
     ensures none { rows.now ≡ [] → IsReadAs (λ found. found ≡ None) result }
     ensures one { (r : R) → R.Is r → rows.now ≡ R.cells r ∷ [] → IsReadAs (λ found. found ≡ Some r) result }
@@ -122,7 +122,7 @@ pub(crate) fn court_in(alloc: Global, rows: &[Row]) -> Result<CourtRow, ReadFaul
     court_of(alloc, row, Version::KEPT)?.ok_or(ReadFault::Damaged)
 }
 
-/// What is kept under the key of the first row, for a command with this canonical text.
+/// Reads what is kept under the key of the first row, for a command with this canonical text.
 pub(crate) fn kept_in(rows: &[Row], body: &str) -> Result<Kept, ReadFault>
     ensures none { rows.now ≡ [] → result ≡ Ok under_key.Fresh }
     ensures one { (r : Stored) (c : Asked) → IsReceipt r → IsCommand c → body.now ≡ canonical c → rows.now ≡ receipt_cells r ∷ []

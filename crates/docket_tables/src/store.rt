@@ -66,7 +66,7 @@ pub(crate) fn ask<S: Alter>(
     read(conn, select_text(query), values)
 }
 
-/// One statement of a transaction. Only the commit commits it.
+/// Runs one statement of a transaction. Only the commit commits it.
 pub(crate) fn change<S: Alter>(
     tx: &mut Transaction<'_, S>,
     sql: &str,

@@ -1,4 +1,4 @@
--- Loops over rows, where the text or the list so far and what the rows that are left give are the whole.
+-- Loops over rows: the text or the list so far, with that of the rows that are left, is the whole.
 use Rattle.std.proofs.Common.{◌≡◌, ℕ, ◌+◌, ◌<◌, ◌≤◌, List, ◌++◌, length, get_or, drop, ap, sym, ◌∙◌, append_assoc, append-nil}
 use Rattle.std.proofs.lemmas.List.{at_drop_more, at_drop_all}
 use Rattle.std.specs.List.{flat_map}

@@ -45,7 +45,7 @@ calendar_cmp_total court =
     (then_total (on_total (λ (row : DueRow). row.end) end_cmp_total)
     (then_total (on_total (λ (row : DueRow). row.case) nat_cmp_total) (on_total (λ (row : DueRow). row.number) nat_cmp_total)))
 
--- so no row stands before one that comes earlier, however far they are apart
+-- so no row is before one that comes earlier, however far they are apart
 pub in_order : (court : CourtSettings) (listed : List DueRow) → IsSorted (calendar_cmp court) listed → AllPairs (λ a b. calendar_cmp court b a ≢ Less) listed
 in_order court listed sorted i j d lt inside earlier =
     let order = calendar_cmp_total court in

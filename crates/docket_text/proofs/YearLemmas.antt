@@ -78,7 +78,7 @@ days_of_year-rise year k lt =
     let next = get_or-range_with_len first count (k + 1) 0 inside in
     rw (here, next) (omega arith)
 
--- a day of a year up to 2099 is one of which the tests tell
+-- a day of a year up to 2099 is one that the tests decide
 pub small : (year day : ℕ) → 1970 ≤ year → year ≤ 2099 → IsOfYear year day → day ≤ 1_000_000
 small year day low high of_year =
     let after = (within year low (omega arith) day of_year).1 in

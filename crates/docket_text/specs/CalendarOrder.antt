@@ -40,7 +40,7 @@ end_cmp (Moment at) (LastDay day) = Less
 end_cmp (LastDay day) (Moment at) = Greater
 end_cmp (LastDay day) (LastDay other) = Equal
 
--- the first comparison that tells the two apart
+-- the first comparison that finds a difference
 abbrev pub first_deciding : List Ordering → Ordering
 first_deciding [] = Equal
 first_deciding (first ∷ []) = first

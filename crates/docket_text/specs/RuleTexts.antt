@@ -38,7 +38,7 @@ rule_line l = line (
     ∷ flag_text (codes "extendable") l.extendable
     ∷ [])
 
--- what a local rule says: it is the time of no responsive pleading
+-- the columns of a local rule: it is the time of no responsive pleading
 abbrev pub local_line : LocalRule → Line
 local_line rule = record {
   name = rule.name;

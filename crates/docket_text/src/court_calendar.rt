@@ -133,9 +133,9 @@ fn push_rows(
     Ok(())
 }
 
-/// The court's calendar of the days from one to another, both included: a line for each statutory
-/// holiday, in the order of the days, and behind them one for each of the rows that has a part on these
-/// days, in the order in which they are given.
+/// The court's calendar of the days from one to another, both included. It has a line for each
+/// statutory holiday, in the order of the days. Behind them it has one for each of the rows that has a
+/// part on these days, in the order in which they are given.
 pub fn court_calendar_text(
     alloc: Global,
     court: &Court,

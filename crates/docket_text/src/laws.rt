@@ -1,4 +1,4 @@
-//! What the functions of specs/ say, with nothing to run.
+//! Laws of the functions in specs/. Nothing here runs.
 ghost use Rattle.std.specs.Prelude.{◌≡◌, ◌↔◌, ℕ, ℤ, ◌+◌, ◌-◌, ◌<◌, ◌≤◌, ◌≢◌, ◌++◌, List, length, AllPairs, IsTrue, Contains, codes, nat_eq};
 ghost use Rattle.std.specs.List.{ends_with};
 ghost use Rattle.std.specs.List.Sorted.{IsStrictlyIncreasing};
@@ -23,7 +23,7 @@ pub fn lines_have_57_bytes()
     ensures rules { (rule : DeadlineRule) → IsDeadlineRule rule → length (deadline_rule_name rule) ≤ 16 }
 {}
 
-/// No row of a calendar stands before one that comes earlier.
+/// No row of a calendar is before one that comes earlier.
 pub fn calendars_are_in_order()
     ensures { (court : CourtSettings) (rows listed : List DueRow) → IsCalendar court rows listed
         → AllPairs (λ a b. calendar_cmp court b a ≢ Less) listed }
@@ -43,9 +43,9 @@ pub fn holidays_are_statutory()
     ensures in_order { (year : ℕ) → IsStrictlyIncreasing (holidays year) }
 {}
 
-/// The names of the holidays: of a fixed date and of a date of a Monday by their months; and where one
-/// of a fixed date falls on a Saturday or a Sunday, its name on the Friday before or on the Monday
-/// after with `(observed)`, which stands on no other day.
+/// The names of the holidays: of a fixed date and of a date of a Monday by their months. Where one of
+/// a fixed date falls on a Saturday or a Sunday, its name is on the Friday before or on the Monday
+/// after with `(observed)`, which no other day has.
 pub fn holidays_have_names()
     ensures fixed { (day : ℕ) (year : ℤ) (month day_of_month : ℕ) → HasYmd day year month day_of_month
         → IsTrue (is_fixed_date month day_of_month) → holiday_name day ≡ fixed_name month }

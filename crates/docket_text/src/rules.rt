@@ -145,9 +145,9 @@ fn push_local_rules(text: &mut String, rows: &[LocalRuleRow]) -> Result<(), Allo
 /// rule, in the order in which they are given.
 ///
 /// A line has the name on the left of 16 bytes, the period on the right of 4 and its unit (`days`, `months`)
-/// on the left of 6, the direction (`forward`, `backward`) on the left of 8, and then `three days`,
-/// `responsive` and `extendable` where they hold, parted by spaces. A dash stands for what does not hold,
-/// and for a period and a direction that are as entered.
+/// on the left of 6. Then come the direction (`forward`, `backward`) on the left of 8, and `three days`,
+/// `responsive` and `extendable` where they hold, separated by spaces. A dash shows what does not hold, and
+/// a period and a direction that are as entered.
 #[tactic(auto, using(crate::proofs::RuleLemmas::lined))]
 pub fn rules_text(alloc: Global, local_rules: &[LocalRuleRow]) -> Result<String, AllocError>
     ensures { IfOk result (λ text. string_bytes text ≡ rules_text local_rules.now) }

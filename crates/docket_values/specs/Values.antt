@@ -98,7 +98,7 @@ abbrev pub bad_party : Ruling → Option ℕ → Bool
 bad_party Statement party = is_none party
 bad_party _ party = is_some party
 
--- it is as the unit wants it: there and good, or left out
+-- it is as the unit requires: there and good, or left out
 abbrev pub bad_if : {A : Type 0} → Bool → (A → Bool) → Option A → Bool
 bad_if true is_good None = true
 bad_if true is_good (Some value) = not (is_good value)
@@ -131,7 +131,7 @@ bad_method unit direction None = false
 bad_method unit (Some Forward) (Some method) = not (in_days unit)
 bad_method unit _ (Some method) = true
 
--- days and months want a start, a count and a direction, hours a moment, a count and a direction, a fixed day itself alone
+-- days and months need a start, a count and a direction; hours a moment, a count and a direction; a fixed day only itself
 abbrev pub bad_order : CourtSettings → order_period.OrderPeriod → List (Bool × Field)
 bad_order court a =
     (bad_if (in_days a.unit) is_entered a.start, field.Start)
@@ -201,7 +201,7 @@ bad_values court (LocalRule a) =
     ∷ bad_count 3650 a.days field.Days
     ∷ (a.three && not (is_forward a.direction), field.Three)
     ∷ []
--- whatever text names a local rule, another one is the name of none
+-- no text is a bad value for the name of a local rule: it names one or none
 bad_values court (LocalPeriod a) = bad_day a.start field.Start ∷ []
 -- numbers are no bad values: they name what is there or not
 bad_values court (WithdrawCalendar a) = []

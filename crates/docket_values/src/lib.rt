@@ -1,5 +1,5 @@
 //! Which values a command may have: days that a court may enter, lengths of texts and periods, and
-//! choices that fit each other. The first bad field of each kind of command is told by its name.
+//! choices that fit each other. For each kind of command, the first bad field is returned by its name.
 #![tactic(auto)]
 
 mod value;

@@ -91,7 +91,7 @@ nothing_there : (ss : List FieldSpec) → AreAbsent ss (λ k. None)
 nothing_there [] = tt
 nothing_there (s ∷ ss) = (refl, nothing_there ss)
 
--- ---- each field says its value
+-- ---- each field has its value
 
 says_field : (s : FieldSpec) (x : ValueIn s) (ms : Members) → get_member (field_name (field_of s)) ms ≡ written_in s x → IsLawfulIn s x → SaysField (object ms) s x
 says_field (must f t) x ms e h = (written_as t x, rw e (type_there t x), type_back t x h)

@@ -1,4 +1,4 @@
--- A text that is read as no command has the fault that is told.
+-- A text that is read as no command has the fault that is reported.
 use Rattle.std.proofs.Common.{◌≡◌, ◌↔◌, ℕ, Bool, true, false, List, [], ◌∷◌, Option, Some, None, option_map, is_none, Result, Ok, Err, refl, ap, sym, ◌∙◌, cond}
 use Rattle.std.specs.Prelude.{find, not, is_some, IsSome}
 use Rattle.std.specs.Option.{option_map_or}
@@ -27,7 +27,7 @@ err e = Err e
 err_is : {A : Type 0} (d e : WireFault) → err {A = A} d ≡ err e → d ≡ e
 err_is d e h = cc
 
--- a step that fails, or one that gives a value, before a fault
+-- a step that fails, or one that returns a value, before a fault
 on_err : {A B : Type 0} (r : Result A WireFault) (g : A → Result B WireFault) (e : WireFault) (P : Type 0) → (r >>= g) ≡ Err e → (r ≡ Err e → P) → ((x : A) → r ≡ Ok x → g x ≡ Err e → P) → P
 on_err (Ok x) g e P h bad good = good x refl h
 on_err (Err d) g e P h bad good = bad (ap Err (err_is d e h))

@@ -26,7 +26,7 @@ abbrev pub AllMembers : (List ℕ → Data → Type 0) → Members → Type 0
 AllMembers P no_members = Unit {0}
 AllMembers P (member k d ms) = P k d × AllMembers P ms
 
--- where the name stands already, it stays, with the new value
+-- where the name is there already, it stays, with the new value
 pub AllMembers-put : (P : List ℕ → Data → Type 0) (k : List ℕ) (d : Data) (ms : Members) → ((l : List ℕ) (e : Data) → name_cmp k l ≡ Equal → P k d → P l e → P l d) → P k d → AllMembers P ms → AllMembers P (put k d ms)
 AllMembers-put P k d no_members same p h = (p, tt)
 AllMembers-put P k d (member l e ms) same p h =

@@ -33,7 +33,7 @@ known_in_either (f ∷ fields) others k = ap (λ b. bytes_eq k (field_name f) ||
     regroup_or true b c = refl
     regroup_or false b c = refl
 
--- a fault other than of memory is the one that reading gives
+-- a fault other than of memory is the one that reading returns
 pub fault_given : {A : Type 0} (e : WireFault) (r : Result A WireFault) → e ≢ NoMemory → Gives (Err e) r → r ≡ Err e
 fault_given NotJson r other g = g
 fault_given NotAnObject r other g = g

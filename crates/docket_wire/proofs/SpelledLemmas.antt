@@ -25,12 +25,12 @@ pub read_is_spelled : (bytes : List ℕ) (r : Result Command WireFault) → Give
 read_is_spelled bytes (Ok c) g = (read_as_spelled bytes c).0 g
 read_is_spelled bytes (Err e) g = tt
 
--- and what is refused, other than for want of memory, spells nothing
+-- and what is refused, unless memory ran out, spells nothing
 pub refused_spells_none : (bytes : List ℕ) (r : Result Command WireFault) → Gives r (command_in bytes) → IfErr r (λ e. e ≢ NoMemory → (c : Command) → ¬ (Spells bytes c))
 refused_spells_none bytes (Ok c) g = tt
 refused_spells_none bytes (Err e) g = λ other c s. let both : command_in bytes ≡ Ok c = (read_as_spelled bytes c).1 s in let refused : command_in bytes ≡ Err e = fault_given e (command_in bytes) other g in absurd (cc)
 
--- its fault is the one that is told
+-- its fault is the one that is reported
 pub refused_has_fault : (bytes : List ℕ) (r : Result Command WireFault) → Gives r (command_in bytes) → IfErr r (λ e. e ≢ NoMemory → HasFault bytes e)
 refused_has_fault bytes (Ok c) g = tt
 refused_has_fault bytes (Err e) g = λ other. has_fault bytes e (fault_given e (command_in bytes) other g)

@@ -24,7 +24,7 @@ first_wrong kind d = option_map field_of (find (is_wrong d) (all_fields kind))
 abbrev pub IsOfKind : Data → CommandName → Type 0
 IsOfKind d kind = IsSome (as_object d) × (name_of_object d ≡ Some kind)
 
--- the fault of a text: each sentence is asked where none before it is true
+-- the fault of a text: the first sentence that is true
 pub data HasFault (bytes : List ℕ) (fault : WireFault) : Type 0 where
   not_json : fault ≡ NotJson → json_of bytes ≡ None → HasFault bytes fault
   not_an_object : (d : Data) → fault ≡ NotAnObject → json_of bytes ≡ Some d → as_object d ≡ None → HasFault bytes fault

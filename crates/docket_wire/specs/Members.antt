@@ -1,4 +1,4 @@
--- What a member of an object says, and which fault it is where it says nothing.
+-- The value that a member of an object means, and the fault where it means none.
 use Rattle.std.specs.Prelude.{◌≡◌, ◌^◌, ℕ, List, Option, Some, None, option_map, option_and_then, Result, Ok, Err, nat_lt, if◌then◌else◌}
 use Rattle.serde_json.specs.Data.{unsigned, Data, null, boolean, number, string, array, object}
 use Rattle.serde_json.specs.Find.{get, as_number, as_str, as_u64}
@@ -16,7 +16,7 @@ abbrev pub ◌>>=◌ : {A B : Type 0} → Result A WireFault → (A → Result B
 (Ok x) >>= f = f x
 (Err e) >>= f = Err e
 
--- The result is what reading gives, unless memory ran out.
+-- The result is what reading returns, unless memory ran out.
 abbrev pub Gives : {A : Type 0} → Result A WireFault → Result A WireFault → Type 0
 Gives (Ok x) read = read ≡ Ok x
 Gives (Err NoMemory) read = Unit {0}

@@ -1,5 +1,5 @@
 -- When a text spells a command: it is an object; its `do` names the kind and its `key` is the key; each field of the kind's row in
--- Schema.antt is said, or is absent or null where it may be; and there is no other member.
+-- Schema.antt has its value, or is absent or null where it may be; and there is no other member.
 use Rattle.std.specs.Prelude.{◌≡◌, ℕ, List, [], ◌∷◌, true, Option, Some, None}
 use Rattle.serde_json.specs.Data.{Data, Members}
 use Rattle.serde_json.specs.Find.{as_str, as_object}
@@ -22,7 +22,7 @@ abbrev pub MaySay : {A : Type 0} → (Data → Option A) → Field → Data → 
 MaySay meaning f d None = present f d ≡ None
 MaySay meaning f d (Some x) = Says meaning f d x
 
--- each member is there as its field asks, and says the value that stands for it
+-- each member is there as its field requires, and means the field's value
 abbrev pub SaysField : Data → (s : FieldSpec) → ValueIn s → Type 0
 SaysField d (must f t) x = Says (meaning_of t) f d x
 SaysField d (may f t) x = MaySay (meaning_of t) f d x
@@ -31,7 +31,7 @@ abbrev pub SaysFields : Data → (ss : List FieldSpec) → Values ss → Type 0
 SaysFields d [] x = Unit {0}
 SaysFields d (s ∷ ss) x = SaysField d s x.0 × SaysFields d ss x.1
 
--- the fields of the action's kind are there, and say the values of the action
+-- the fields of the action's kind are there, and mean the values of the action
 abbrev pub HasFields : Data → Action → Type 0
 HasFields d a = SaysFields d (fields_of (name_of a)) (values_of a)
 

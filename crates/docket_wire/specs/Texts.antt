@@ -28,7 +28,7 @@ abbrev pub reply_text : Result Reply Refusal → List ℕ
 reply_text (Ok reply) = codes "{\"number\":" ++ (decimal reply.number ++ codes "}")
 reply_text (Err refused) = refusal_text refused
 
--- the place of a fault in the order in which faults are looked for
+-- the place of a fault in the order in which faults are checked
 abbrev pub fault_number : WireFault → ℕ
 fault_number NotJson = 1
 fault_number NotAnObject = 2

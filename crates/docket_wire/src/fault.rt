@@ -7,7 +7,7 @@ ghost use Rattle.docket_wire.specs.declared.fault.WireFault.TheVariants.{NoMemor
 use docket_command::Field;
 use std::alloc::{AllocError, AllocFailed};
 
-/// Why a text is read as no command: the first of these that is true of it, or want of memory.
+/// Why a text is no command: the first of these that is true of it, or that memory ran out.
 #[derive(Clone, Copy)]
 pub enum WireFault {
     /// It is no JSON: not UTF-8, nested deeper than 127, or outside the grammar of RFC 8259.

@@ -1,4 +1,4 @@
-//! What the functions of specs/ say, with nothing to run.
+//! Laws of the functions in specs/. Nothing here runs.
 ghost use Rattle.std.specs.Prelude.{◌≡◌, ◌↔◌, ℕ, List, Ok, Err};
 ghost use Rattle.docket_command.specs.declared.command.Command.{Command};
 ghost use Rattle.docket_wire.specs.declared.fault.WireFault.{WireFault};
@@ -14,8 +14,8 @@ pub fn texts_are_read_as_spelled()
     ensures { (bytes : List ℕ) (c : Command) → (command_in bytes ≡ Ok c) ↔ Spells bytes c }
 {}
 
-/// The canonical text of a command spells it and no other, and two commands with one canonical text
-/// are one command.
+/// The canonical text of a command spells it and no other. Two commands with the same canonical
+/// text are the same.
 pub fn canonical_texts_are_read_back()
     ensures spells { (c : Command) → IsCommand c → Spells (canonical c) c }
     ensures alone { (c d : Command) → IsCommand c → Spells (canonical c) d → d ≡ c }

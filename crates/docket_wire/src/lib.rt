@@ -1,4 +1,4 @@
-//! Commands of the docket as JSON texts, and the texts of what they are answered.
+//! Commands of the docket as JSON texts, and the texts of replies, refusals and faults.
 #![tactic(auto)]
 
 mod calendar_fields;

@@ -16,7 +16,7 @@ use docket_command::{Field, Moment, Text, TimeOfDay, Word, from_word};
 use serde_json::Value;
 use std::alloc::{AllocError, Global};
 
-/// A type whose values a JSON value may mean, with no memory taken to read one.
+/// A type whose values are read from JSON values. Reading one takes no memory.
 pub(crate) trait FieldValue: Copy {
     // What a JSON value means.
     ghost meaning: { Data → Option Self };
@@ -69,7 +69,7 @@ impl FieldValue for bool {
     }
 }
 
-/// The text of a day, which is UTF-8, and what is known of its number.
+/// The text of a day, which is UTF-8; the contract also bounds its number.
 fn text_bytes(day: Day) -> [u8; 10]
     ensures value { result ≡ day_text day }
     ensures text { IsUtf8 result }
@@ -170,7 +170,7 @@ pub(crate) fn required_text(alloc: Global, object: &Value, field: Field) -> Resu
     Ok(Text::from_str(alloc, text)?)
 }
 
-/// What the value's word stands for.
+/// The value that has the JSON value's word.
 fn word_of_value<W: Word>(value: &Value) -> Option<W>
     ensures { result ≡ a_word W.named (view value.now) }
 {

@@ -6,7 +6,7 @@ use crate::fault::WireFault;
 use docket_command::{Field, Refusal, Reply};
 use std::alloc::{AllocError, Global};
 
-/// What a command is answered, as `{"number":1}`, `{"name":"Exists","refused":8}` or
+/// The text of the reply to a command, as `{"number":1}`, `{"name":"Exists","refused":8}` or
 /// `{"field":"filed","name":"BadValue","refused":3}`.
 pub fn reply_text(alloc: Global, answer: &Result<Reply, Refusal>) -> Result<String, AllocError>
     ensures { IfOk result (λ s. string_bytes s ≡ reply_text answer.now) }
@@ -58,7 +58,7 @@ fn refusal_text_of(
 }
 
 impl WireFault {
-    /// Its place in the order in which faults are looked for, from 1.
+    /// Its place in the order in which faults are checked, from 1.
     pub fn number(self) -> u32
         ensures { result ≡ fault_number self }
     {

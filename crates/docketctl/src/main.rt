@@ -17,8 +17,8 @@ fn input_is_a_file(rt: &HostRuntime) -> bool {
     }
 }
 
-/// A terminal is told how far a job is. Of a run it is told only where it does not show the answers
-/// already, and the lines come from a file, and so as fast as they are answered.
+/// A job shows its progress on standard error, if that is a terminal. A run does so only if its answers go
+/// elsewhere, and its lines come from a file, as fast as they are answered.
 fn progress(rt: &HostRuntime) -> Progress<Stderr> {
     if !rt.stderr().is_terminal() {
         return Progress::untold();

@@ -46,7 +46,7 @@ members_in (json.object ms) = ms
 object-ends : (court : CourtSettings) (t : Told) → ended_by false (object_tokens court t) ≡ true
 object-ends court t = members-end false (members_in (outline (due_object court t.0 t.1)))
 
--- what stands behind the entries
+-- the text behind the entries
 abbrev foot : List ℕ
 foot = 10 ∷ 93 ∷ 10 ∷ []
 

@@ -30,7 +30,7 @@ fields-append (x ∷ xs) ys =
     ap (λ l. 44 ∷ (field_text record_writer x ++ l)) (fields-append xs ys)
     ∙ ap (λ l. 44 ∷ l) (sym (append_assoc (field_text record_writer x) (fields_text record_writer xs) (fields_text record_writer ys)))
 
--- what stands of a record of three fields and others, and what is left of it
+-- the first three fields of a record with more, and what is left of it
 pub begun : (t0 t1 a b c d : List ℕ) (more : List (List ℕ)) → t0 ≡ [] → t1 ≡ t0 ++ row_body record_writer (a ∷ b ∷ c ∷ [])
     → t1 ++ left (d ∷ more) ≡ row_text record_writer (a ∷ b ∷ c ∷ d ∷ more)
 unfolding is_blank

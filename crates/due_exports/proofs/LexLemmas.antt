@@ -36,7 +36,7 @@ lexemes-append ended (t ∷ ts) us =
     ∙ ap (λ l. first ++ l) (sym (append_assoc (token_lexemes t) (lexemes (ends t) ts) (lexemes (ended_by (ends t) ts) us)))
     ∙ sym (append_assoc first (token_lexemes t ++ lexemes (ends t) ts) (lexemes (ended_by (ends t) ts) us))
 
--- behind a value stands a comma, a closing bracket, or what stands behind the tokens
+-- behind a value comes a comma, a closing bracket, or what follows the tokens
 value_ends : (ts : List Token) (r : List ℕ) → ends_word r ≡ true → ends_word (print_from true ts ++ r) ≡ true
 unfolding print_from
 value_ends [] r h = h

@@ -23,7 +23,7 @@ unfolding fields_text
 fields-same [] = refl
 fields-same (x ∷ xs) = rw (field-same x, fields-same xs) refl
 
--- a byte that calls for no quotes is no mark of the format
+-- a byte that needs no quotes is no mark of the format
 plain-byte : (b : ℕ) → needs_byte default_writer b ≡ false → ((b == 13) ≡ false) × ((b == 10) ≡ false)
 plain-byte b e =
     let a = false_from_ne_true (b == 44) (λ t. cc (rw t at e)) in
@@ -38,7 +38,7 @@ end-field : (fields : List (List ℕ)) (x u : List ℕ)
 unfolding next_record
 end-field fields x u = refl
 
--- what stands behind a field, before the end of the record
+-- what follows a field, before the end of the record
 abbrev head-of : List (List ℕ) → ℕ
 head-of [] = 13
 head-of (z ∷ zs) = 44
@@ -102,7 +102,7 @@ row-read x y ys tail =
     let more = subst (λ (t : List ℕ). next_record default_config st.InField [] x t ≡ Some ([] ++ (x ∷ y ∷ ys), st.AfterCr, 10 ∷ tail)) e (rest-run [] x (y ∷ ys) (10 ∷ tail)) in
     rw (row-parts x y ys tail, e) (first-field x (tail-of (y ∷ ys) (10 ∷ tail)) ∙ run ∙ more)
 
--- an LF behind the CR is passed over
+-- an LF behind the CR is skipped
 pub after-return : (rest : List ℕ) → next_record default_config st.AfterCr [] [] (10 ∷ rest) ≡ next_record default_config st.StartRecord [] [] rest
 unfolding next_record
 after-return rest = refl

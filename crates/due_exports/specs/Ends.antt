@@ -1,4 +1,4 @@
--- The end of a deadline, as records and objects tell it: its day, its time, and when the clerk's office closes on it.
+-- The end of a deadline, as records and objects show it: its day, its time, and when the clerk's office closes on it.
 use Rattle.std.specs.Prelude.{ℕ, List, codes, Option, Some, None}
 use Rattle.civil_time.specs.DayText.{day_text}
 use Rattle.civil_time.specs.LocalTime.{local_day, local_minute}

@@ -6,7 +6,7 @@ use Rattle.docket_history.specs.declared.row.CaseRow.{CaseRow}
 use Rattle.icalendar.specs.ContentLines.{content_line}
 use Rattle.icalendar.specs.Events.{event_lines}
 
--- what tells the event from every other: the deadline by its number in its case, and the case by its number and its label
+-- what distinguishes the event from every other: the deadline by its number in its case, and the case by its number and its label
 abbrev pub event_uid : DueRow → CaseRow → List ℕ
 event_uid due case =
     codes "deadline-" ++ (decimal due.number

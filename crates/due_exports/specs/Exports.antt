@@ -13,7 +13,7 @@ use Rattle.due_exports.specs.Records.{due_record, header_record}
 use Rattle.due_exports.specs.declared.form.Form.{Form}
 use Rattle.due_exports.specs.declared.form.Form.TheVariants.{Calendar, Html, Csv, Json}
 
--- what stands before the entries, of the days from one to another
+-- the text before the entries, for the days from one to another
 abbrev pub export_head : Form → ℕ → ℕ → List ℕ
 export_head Calendar from to = calendar_head
 export_head Html from to = page_head (codes "Deadlines") ++ days_head from to
@@ -28,14 +28,14 @@ export_entry Html court stamp place due case reasons = due_row None court due ca
 export_entry Csv court stamp place due case reasons = due_record court due case
 export_entry Json court stamp place due case reasons = due_member court place due case
 
--- what stands behind the entries
+-- the text behind the entries
 abbrev pub export_foot : Form → List ℕ
 export_foot Calendar = calendar_foot
 export_foot Html = week_foot ++ page_foot
 export_foot Csv = []
 export_foot Json = array_foot
 
--- whether an entry tells why: only an event of a calendar does
+-- whether an entry has its reasons: only an event of a calendar does
 abbrev pub tells_reasons : Form → Bool
 tells_reasons Calendar = true
 tells_reasons Html = false

@@ -34,7 +34,7 @@ due_object court due case = object (
     (member (codes "time") (string (time_of_end court due.end))
     no_members)))))))))
 
--- a comma and the end of a line stand before each object but the first (section 5)
+-- a comma and the end of a line come before each object but the first (section 5)
 abbrev pub before_object : ℕ → List ℕ
 before_object place = if place == 0 then [] else codes ",\n"
 

@@ -10,8 +10,8 @@ use Rattle.docket_history.specs.declared.row.CaseRow.{CaseRow}
 use Rattle.docket_text.specs.Parties.{party_text}
 use Rattle.due_exports.specs.Ends.{day_of_end, time_of_end, closing_of_end}
 
--- commas between fields and CR LF behind each record. A field with a comma, a quote, CR or LF stands in quotes, its own
--- quotes doubled, and any other field by itself
+-- commas between fields and CR LF behind each record. A field with a comma, a quote, CR or LF is in quotes, its own
+-- quotes doubled, and any other field is written as it is
 abbrev pub record_writer : WriterBuilder
 record_writer = with_terminator default_writer CRLF
 

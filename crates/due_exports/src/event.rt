@@ -7,7 +7,7 @@ use docket_history::{CaseRow, DueRow};
 use icalendar::{Event, event_text};
 use std::alloc::{AllocError, Global};
 
-/// What tells the event from every other.
+/// What distinguishes the event from every other.
 fn event_uid(alloc: Global, due: &DueRow, case: &CaseRow) -> Result<String, AllocError>
     ensures { IfOk result (λ text. string_bytes text ≡ event_uid due.now case.now) }
 {

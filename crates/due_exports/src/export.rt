@@ -41,7 +41,7 @@ fn days_page_foot() -> &'static str
     "</tbody>\n</table>\n</main>\n</body>\n</html>\n"
 }
 
-/// What stands before the entries of the days from one to another.
+/// The text before the entries of the days from one to another.
 pub fn export_head(alloc: Global, form: Form, from: Day, to: Day) -> Result<String, AllocError>
     ensures { IfOk result (λ text. string_bytes text ≡ export_head form from to) }
 {
@@ -79,7 +79,7 @@ pub fn export_entry(
     }
 }
 
-/// What stands behind the entries.
+/// The text behind the entries.
 pub fn export_foot(form: Form) -> &'static str
     ensures { result.now ≡ export_foot form }
 {
@@ -91,7 +91,7 @@ pub fn export_foot(form: Form) -> &'static str
     }
 }
 
-/// Whether an entry tells why: only an event of a calendar does.
+/// Whether an entry has its reasons: only an event of a calendar does.
 pub fn tells_reasons(form: Form) -> bool
     ensures { result ≡ tells_reasons form }
 {

@@ -1,4 +1,4 @@
-//! What the functions of specs/ say, with nothing to run.
+//! Laws of the functions in specs/. Nothing here runs.
 ghost use Rattle.std.specs.Prelude.{◌≡◌, ◌<◌, ◌≤◌, ◌^◌, ℕ, ℤ, List, ◌∷◌, Some, length, map, All};
 ghost use Rattle.std.specs.List.{flat_map};
 ghost use Rattle.court_days.specs.Court.{CourtSettings};
@@ -22,7 +22,7 @@ pub fn records_are_read_back()
         ≡ field_names ∷ map (λ t. due_fields court t.0 t.1) told }
 {}
 
-/// No physical line of a calendar has more than 75 octets, and unfolded it is the lines of its head, of an
+/// No physical line of a calendar has more than 75 octets. Unfolded, it is the lines of its head, of an
 /// event a deadline, and of its foot, whatever the texts are.
 pub fn calendars_are_folded()
     ensures short { (court : CourtSettings) (stamp : ℤ) (from to : ℕ) (told : List Told)

@@ -76,14 +76,14 @@ fn due_object(alloc: Global, court: &Court, entry: &Entry<'_>) -> Result<Value, 
     Ok(Value::Object(members))
 }
 
-/// What parts the object at a place from the one before.
+/// What separates the object at a place from the one before.
 fn before_object(place: usize) -> &'static str
     ensures { result.now ≡ before_object place }
 {
     if place == 0 { "" } else { ",\n" }
 }
 
-/// The object of a deadline on its line, with what parts it from the one before.
+/// The object of a deadline on its line, with what separates it from the one before.
 pub(crate) fn due_member(
     alloc: Global,
     court: &Court,

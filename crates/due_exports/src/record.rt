@@ -10,7 +10,7 @@ use court_days::{Court, End};
 use docket_text::PartyText;
 use std::alloc::{AllocError, Global};
 
-/// Whether a field stands in quotes: where it has a comma, a quote, CR or LF.
+/// Whether a field needs quotes: it has a comma, a quote, CR or LF.
 fn needs_quotes(field: &str) -> bool
     ensures { result ≡ needs_quotes record_writer field.now }
 {

@@ -110,7 +110,7 @@ no_end state (request.Short day minute) is =
 no_end state (request.Zone court) is = refl
 no_end state (request.Closing day) is = refl
 
--- the text of the steps, as the code comes to it
+-- the text of the steps, as the code makes it
 pub reasons_told : (state : CourtState) (court : CourtSettings) (calendar : Entered) (asked : Request) (begun : Start) (text : List ℕ)
     → court ≡ state.court → calendar ≡ state.calendar → Some begun ≡ start_of (zone_of court) asked
     → text ≡ reasons_text court calendar (rule_of asked) (steps_of (zone_of court) calendar (act.Start begun ∷ []))

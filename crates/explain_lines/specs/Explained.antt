@@ -1,5 +1,5 @@
--- The lines of `explain`: what each is answered, by what the lines before it entered. They are the lines of `count`. One
--- that asks for the end of a period is answered by the steps by which that end is found, and any other as `count` answers it.
+-- The lines of `explain`: the answer to each, by what the lines before it entered. They are the lines of `count`. One that asks for
+-- the end of a period is answered by the steps by which that end is found, and any other as `count` answers it.
 use Rattle.std.specs.Prelude.{ℕ, ℤ, Bool, false, List, [], ◌∷◌, Option, None, Some, option_map, option_and_then}
 use Rattle.civil_time.specs.LocalTime.{local_day, seconds}
 use Rattle.civil_time.specs.Zone.{ZoneRules}
@@ -68,6 +68,6 @@ abbrev pub reasons_or : Option (List ℕ) → List ℕ → List ℕ
 reasons_or (Some reasons) answer = reasons
 reasons_or None answer = answer
 
--- what a line comes to: whether it is bad, and what the next line finds, as in `count`
+-- the outcome of a line: whether it is bad, and what the next line finds, as in `count`
 abbrev pub explained : CourtState → List ℕ → LineAnswer CourtState
 explained state line = record (line_answer state line) { text = reasons_or (reasons_at state line) (line_answer state line).text }

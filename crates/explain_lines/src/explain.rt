@@ -23,7 +23,7 @@ use reason_lines::reasons_text;
 use std::alloc::{AllocError, Global};
 use std::io::{Read, Write};
 
-/// Answers each line that asks for an end by its reasons, and any other as `count` does.
+/// Answers each line that asks for an end with the reasons for it, and any other as `count` does.
 #[derive(Drop)]
 struct Explainer {
     alloc: Global,
@@ -51,7 +51,7 @@ impl Answerer for Explainer {
 
     ghost Trusts = { λ _. ⊤ };
 
-    // The calendar is let go after a fault.
+    // The calendar is dropped after a fault.
     ghost Fails = { λ _ _ _ _. ⊤ };
 
     ghost Steps = { λ _ _. ⊤ };
@@ -140,10 +140,10 @@ impl Explainer {
     }
 }
 
-/// Answers each line of the reader, by what the lines before it entered. The lines are those of
-/// `count`: one that asks for the end of a period is answered by the steps by which that end is
-/// found, a line for each, and any other as `count` answers it. Counts the lines and those answered
-/// `bad` or `full`, which are the same as in `count`. On a fault a front of the answers went out.
+/// Answers each line of the reader, by what the lines before it entered. The lines are those of `count`. One
+/// that asks for the end of a period is answered by the steps that lead to that end, a line for each. Any
+/// other is answered as in `count`. Counts the lines and those answered `bad` or `full`, which are the same
+/// as in `count`. On a fault a front of the answers was written.
 pub fn explain_run<R: Read, W: Write>(
     alloc: Global,
     reader: &mut R,

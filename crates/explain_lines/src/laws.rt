@@ -1,4 +1,4 @@
-//! What the definitions say of one another, with nothing to run.
+//! Laws between the definitions, with no code to run.
 ghost use Rattle.std.specs.Prelude.{◌≡◌, false, None, Some};
 ghost use Rattle.count_lines.specs.Answers.{CourtState, outcome_of};
 ghost use Rattle.count_lines.specs.declared.request.Request.{Request};

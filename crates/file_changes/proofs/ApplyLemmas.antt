@@ -1,4 +1,4 @@
--- What one command comes to, from a docket to its connection, and from there to the files.
+-- The outcome of one command, from a docket to its connection, and from there to the files.
 use Rattle.std.proofs.Common.{◌≡◌, ◌⊎◌, ◌<◌, ◌^◌, inl, inr, ℕ, List, Option, Result, Ok, Err, IfErr, IfOk, subst, sym}
 use Rattle.std.proofs.lemmas.Result.{IfErr-weaker, IfOk-weaker}
 use Rattle.sqlite_disk.specs.declared.Disk.{Ghosts as Disk}

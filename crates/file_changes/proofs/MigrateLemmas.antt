@@ -78,7 +78,7 @@ module _ {D : Type 0} {g : Disk D} where
       (IfErr-weaker outcome _ _ (λ fault kept. kept (done.trust clean)) (done.comes.stays docket is known holds))
 
 module _ {S : Type 0} (g : Ghosts S) (old new : Held S) (clean : HasCleanDisk (state g new)) where
-  -- the cause that is told is the first
+  -- the fault is the first cause
   cause_found : (fault : MigrateFault) → Tells g old new (Err (cause_of fault)) → HasCause First (state g old) (cause_of fault)
   cause_found migrate.NoMemory is = tt
   cause_found migrate.StoreFailed is = tt

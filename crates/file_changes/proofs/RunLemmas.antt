@@ -168,7 +168,7 @@ module _ {S : Type 0} (g : Ghosts S) (conn : Held S) where
   prefix_left (run.Store Damaged) before next left = absurd left
 
   module _ (docket : Docket) (input : List ℕ) (before after : Option (List ℕ)) where
-    -- whatever a run came to, it leaves what it promised
+    -- whatever its outcome, a run leaves what it promised
     prefix_of : (r : Result CountEnd RunFault) → Answers (HoldsBetween g conn) docket input before after r
         → LeavesPrefix (HoldsBetween g conn) docket input before after
     prefix_of (Ok end) all =

@@ -1,4 +1,4 @@
--- A docket that stands is kept by its connection.
+-- The connection of a docket holds its rows.
 use Rattle.std.proofs.Common.{◌≡◌, ◌∙◌, true, [], Result, Ok, Err, IfErr, IsTrue, OnOk, ap, refl, subst, sym}
 use Rattle.std.proofs.lemmas.Bool.{false≢true}
 use Rattle.std.proofs.lemmas.Result.{on_ok_weaker}
@@ -31,7 +31,7 @@ use Rattle.file_dockets.specs.Keeping.{HoldsBetween, Keeps}
 use Rattle.file_dockets.proofs.KeepLemmas.{held, leaves_map}
 
 module _ {S : Type 0} (g : Ghosts S) where
-  -- the connection of the docket keeps it
+  -- the connection of the docket holds its rows
   pub keeps_held : (stored : Stored S) (docket : Docket) → StandsAs g stored docket → Keeps (HoldsBetween g stored.conn) docket
   keeps_held stored docket is =
       subst (λ (court : CourtSettings). Keeps (HoldsBetween g stored.conn) (record { court = court; history = docket.history })) is.court
@@ -65,7 +65,7 @@ module _ {S D : Type 0} {d : Disk D} (g : Ghosts S) (court : CourtSettings) (v :
   there : (outcome : Result (Unit {0}) CreateFault) → CreatesOver g old new court outcome → has_docket_table old.schema ≡ true
   there outcome creates = ap has_docket_table (holds.1 (creates.trust clean)).shows.schema ∙ recognized v
 
-  -- a docket that is there is told, and left as it was
+  -- a docket that is there is reported, and left as it was
   found : (outcome : Result (Unit {0}) CreateFault) → CreatesOver g old new court outcome → IfErr outcome (λ _. Leaves rest (state g new).may_leave)
       → (outcome ≡ Err create.NotEmpty) × Leaves rest (IsImageIn v rows)
   found (Ok done) creates images = absurd (false≢true (sym creates.empty ∙ there (Ok done) creates))

@@ -1,4 +1,4 @@
--- What one command to a docket comes to, and what it leaves.
+-- The result of one command to a docket, and what it leaves.
 use Rattle.std.specs.Prelude.{◌≡◌, ◌⊎◌, ◌<◌, ◌^◌, ℕ, List, Result, Ok, Err}
 use Rattle.sqlite_disk.specs.declared.Disk.{Ghosts}
 use Rattle.sqlite_wal.specs.Recovery.{Image}
@@ -27,7 +27,7 @@ use Rattle.docket_store.specs.Reopening.{HoldRows}
 use Rattle.command_lines.specs.Lines.{docket_with}
 use Rattle.file_dockets.specs.Keeping.{Keeps, rows_told}
 
--- a reply leaves the docket after the command; a refusal and want of memory the docket as it was; where the database failed one of them is left
+-- a reply leaves the docket after the command; a refusal or lack of memory the docket as it was; where the database failed one of them is left
 abbrev pub AppliesTo : (Rows → Rows → Type 0) → Docket → Command → Result Reply Fault → Type 0
 AppliesTo Left docket c (Ok reply) =
     ((outcome docket.court docket.history c ≡ accepted reply) ⊎ (outcome docket.court docket.history c ≡ repeated reply))
@@ -43,14 +43,14 @@ LeavesWhole Left court n rows c (Ok reply) = (Left rows rows × HasReceipt c rep
 LeavesWhole Left court n rows c (Err StoreFailed) = Left rows rows ⊎ ((next : Rows) × (reply : Reply) × IsNext court n rows c reply next × Left rows next)
 LeavesWhole Left court n rows c (Err _) = Left rows rows
 
--- the tables of the database are sound, those of this court, and so it is of their rows, whichever of those that were `Held` they are
+-- the tables of the database are sound, those of this court, and the same holds for their rows, whichever of those that were `Held` they are
 pub record IsWritten (s : State) (Held : Rows → Type 0) (Left : Rows → Rows → Type 0) (c : Command) (answer : Result Reply Fault) : Type 0 where
   pub court : CourtSettings
   pub found : SoundRows
   pub sound : AreSound Second s court found
   pub left : (rows : Rows) (n : ℕ) (stored : List StoredEnd) → AreDocketRows court n stored rows → n < 2 ^ 62 → Held rows → LeavesWhole Left court n rows c answer
 
--- the same of files, which held `start`, by their database as it was opened
+-- the same for files, which held `start`, by their database as it was opened
 pub record IsWrittenOn {D : Type 0} {g : Ghosts D} (start : Image) (rest : Leftover D g) (c : Command) (answer : Result Reply Fault) : Type 0 where
   pub opened : Held (FileStore D g)
   pub shows : (rows : Rows) → HoldRows Second start rows → ShowsIn Second (state over_files opened) rows

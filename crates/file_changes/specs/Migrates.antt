@@ -31,14 +31,14 @@ IsFirst docket = IsImageIn First (first_rows docket.court docket.history)
 abbrev pub IsEitherVersion : Docket → Trees → Type 0
 IsEitherVersion docket db = IsFirst docket db ⊎ IsImage (rows_told docket) db
 
--- Whatever is left, `Left` says that each database in it is of a kind. The docket was not migrated, and only for want of memory, which
--- leaves it in the first version, or where the database failed, which leaves it in one of the two.
+-- Whatever is left, `Left` says that each database in it is of a kind. The docket was not migrated, only because memory ran out, which
+-- leaves it in the first version, or because the database failed, which leaves it in one of the two.
 abbrev pub Stays : ((Trees → Type 0) → Type 0) → Docket → MigrateFault → Type 0
 Stays Left docket NoMemory = Left (IsFirst docket)
 Stays Left docket StoreFailed = Left (IsEitherVersion docket)
 Stays Left docket _ = ⊥
 
--- so it stays by what the connection may leave, unless the disk was not honest
+-- the same by what the connection may leave, unless the disk was not honest
 abbrev pub StaysIn : {S : Type 0} → Store S → Held S → Docket → MigrateFault → Type 0
 StaysIn g conn docket fault = HasCleanDisk (state g conn) → Stays (λ P. (db : Trees) → (state g conn).may_leave db → P db) docket fault
 
@@ -52,14 +52,14 @@ abbrev pub StaysOrMoves : {D : Type 0} {g : Ghosts D} → Leftover D g → State
 StaysOrMoves rest was P StoreFailed = Leaves rest (λ db. P db ⊎ IsImageOfMoved was db)
 StaysOrMoves rest was P _ = Leaves rest P
 
--- The files, which held `start`, were opened, and whatever database it was, its migration came to this.
+-- The files, which held `start`, were opened, and whatever database it was, its migration had this outcome.
 pub record IsMigrated {D : Type 0} {g : Ghosts D} (start : Image) (rest : Leftover D g) (outcome : Result (Unit {0}) MigrateFault) : Type 0 where
   -- the connection, as it was opened and as it came back
   pub opened : Held (FileStore D g)
   pub back : Held (FileStore D g)
   -- it showed the rows that the files held, in whichever version
   pub shows : (v : Version) (rows : Rows) → HoldRows v start rows → ShowsIn v (state over_files opened) rows
-  -- sound tables of the first version became those of the second, with the same rows; or the first cause is told why they were not sound
+  -- sound tables of the first version became those of the second, with the same rows; or the fault is the first cause why they were not sound
   pub moved : OnOk outcome (HasMoved (state over_files opened) (state over_files back))
   pub found : IfErr outcome (λ fault. HasCause First (state over_files opened) (cause_of fault))
   pub spared : (v : Version) (rows : Rows) → HoldRows v start rows → IfErr outcome (StaysOrMoves rest (state over_files opened) (IsImageIn v rows))

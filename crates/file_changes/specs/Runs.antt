@@ -1,4 +1,4 @@
--- What a run over the lines of an input tells, and what it leaves of the docket.
+-- What a run over the lines of an input prints, and what it leaves of the docket.
 use Rattle.std.specs.Prelude.{◌≡◌, ◌⊎◌, ◌≤◌, ℕ, List, ◌++◌, length, Option, Result, Ok, Err}
 use Rattle.std.specs.Io.KnownBytes.{Appends}
 use Rattle.docket_scan.specs.declared.fault.AdoptFault.{AdoptFault}
@@ -33,7 +33,7 @@ module _ (Left : Rows → Rows → Type 0) where
     pub bad : end.bad ≡ bad_answers docket input
     pub left : Keeps Left (docket_after docket input)
 
-  -- a front of the answers went out
+  -- a prefix of the answers went out
   pub record AnswersFront (docket : Docket) (input : List ℕ) (before after : Option (List ℕ)) (fault : RunFault) : Type 0 where
     pub text : HasFront before after (run_text docket input)
     pub left : BreaksOff answer_to_line (LeftBetween fault) 0 docket (lines_of input) before after

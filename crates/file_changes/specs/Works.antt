@@ -1,4 +1,4 @@
--- What each work comes to over a connection: by what it held, `old`, and as it comes back, `new`.
+-- The outcome of each work over a connection: by what it held, `old`, and as it comes back, `new`.
 use Rattle.std.specs.Prelude.{◌≡◌, ℕ, false, List, [], Option, Result, Ok, Err, IfErr, IfOk, IfSome, IsErrAnd, IsTrue, MatchResult, OnOk}
 use Rattle.sqlite.specs.Held.{Held, state}
 use Rattle.sqlite.specs.State.{HasCleanDisk}

@@ -1,8 +1,8 @@
 //! Jobs that may change the docket in the files at a path: each opens them, adopts the docket, does its work
 //! and lets the files go.
 //!
-//! `start` stands for what the two files hold as they are opened. Each theorem here is one for every
-//! start, and a program hands `Unknown`.
+//! `start` represents what the two files hold when they are opened. Each theorem here holds for every start,
+//! and a program passes `Unknown`.
 ghost use Rattle.std.specs.Prelude.{◌≡◌, [], Err, IfErr, IfOk, IfSome, MatchResult, OnOk};
 ghost use Rattle.sqlite_wal.specs.Files.{image_at};
 ghost use Rattle.sqlite.specs.Files.{IsCleanLeft};
@@ -36,9 +36,9 @@ use sqlite::Start;
 use std::io::{Read, Write};
 use std::rt::HostRuntime;
 
-/// Answers the lines of the reader by the docket in the files at a path. Each answer is written before
-/// the next command is applied. Whatever stops it, what is left, also past a power failure, is the
-/// docket of the lines whose answers went out, and of at most one line more.
+/// Answers the lines of the reader by the docket in the files at a path. Writes each answer before it applies
+/// the next command. However it stops, also by a power failure, it leaves the docket of the lines whose
+/// answers were written, and of at most one line more.
 pub fn run_on_file<S: Start, V: Watch + Drop, R: Read, W: Write>(
     rt: &HostRuntime,
     path: &str,
@@ -53,7 +53,7 @@ pub fn run_on_file<S: Start, V: Watch + Drop, R: Read, W: Write>(
     ensures prefix { (told : Told) → IsDocket told.court told.history → HoldDocket (image_at S.Start) told.court told.history
         → IfOk result (λ done. IsCleanLeft done.left → IfSome (R.remaining reader.old) (λ input.
         LeavesPrefix (LeavesRows done.left) told input (W.contents writer.old) (W.contents writer.new))) }
-    // Of any files, their tables are sound, or the fault tells why there is no docket, and they stay.
+    // For any files, their tables are sound, or the fault says why there is no docket, and they stay.
     ensures judged { IfOk result (λ done. IsCleanLeft done.left → IsJudged (image_at S.Start) done.left done.failure done.outcome) }
     ensures unopened { (v : Version) (rows : Rows) → HoldRows v (image_at S.Start) rows
         → IfErr result (IsUnharmed (image_at S.Start) (IsImageIn v rows)) }
@@ -78,9 +78,9 @@ pub fn apply_on_file<S: Start, V: Watch + Drop>(
         → WorksTo (AppliesTo (LeavesRows done.left) told command.now) done.outcome) }
     ensures stays { (told : Told) → IsDocket told.court told.history → HoldDocket (image_at S.Start) told.court told.history
         → IfOk result (λ done. IsCleanLeft done.left → IfErr done.outcome (λ _. LeavesRows done.left (rows_told told) (rows_told told))) }
-    // Of any sound tables, the command is written whole, with its receipt, or not at all.
+    // For any sound tables, the command is written whole, with its receipt, or not at all.
     ensures whole { IfOk result (λ done. IsCleanLeft done.left → IfOk done.outcome (IsWrittenOn (image_at S.Start) done.left command.now)) }
-    // Of any files, their tables are sound, or the fault tells why there is no docket, and they stay.
+    // For any files, their tables are sound, or the fault says why there is no docket, and they stay.
     ensures judged { IfOk result (λ done. IsCleanLeft done.left → IsJudged (image_at S.Start) done.left done.failure done.outcome) }
     ensures unopened { (v : Version) (rows : Rows) → HoldRows v (image_at S.Start) rows
         → IfErr result (IsUnharmed (image_at S.Start) (IsImageIn v rows)) }
@@ -118,7 +118,7 @@ pub fn migrate_on_file<S: Start, V: Watch + Drop>(
 ) -> OnFile<S, (), MigrateFault>
     ensures migrated { (told : Told) → IsDocket told.court told.history → MayHold First told.history → HoldFirst (image_at S.Start) told.court told.history
         → IfOk result (λ done. IsCleanLeft done.left → MigratesTo done.left told done.outcome) }
-    // Any files are moved where their tables of the first version are sound; else the fault tells why not.
+    // Any files are moved if their tables of the first version are sound; else the fault says why not.
     ensures told { IfOk result (λ done. IsCleanLeft done.left → IsMigrated (image_at S.Start) done.left done.outcome) }
     ensures unopened { (v : Version) (rows : Rows) → HoldRows v (image_at S.Start) rows
         → IfErr result (IsUnharmed (image_at S.Start) (IsImageIn v rows)) }

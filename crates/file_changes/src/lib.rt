@@ -1,5 +1,5 @@
 //! The jobs of `docketctl` that make the docket in files, change it or answer lines of commands by it, each
-//! from the open to the last byte that it leaves. A job is one call: its contract says what goes out, by
+//! from the open to the last byte that it leaves. A job is one call. Its contract says what it writes, by
 //! what the files held, and what is left of them.
 #![tactic(auto)]
 

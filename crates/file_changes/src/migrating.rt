@@ -5,7 +5,7 @@ use file_dockets::{Work, Worked};
 use sqlite::{Alter, Connection};
 use std::alloc::Global;
 
-/// Migrates the docket of a database. The watch is told of each row that is read, and then let go.
+/// Migrates the docket of a database. The watch sees each row that is read, and is then dropped.
 #[derive(Drop)]
 pub(crate) struct Migrate<V> {
     pub(crate) watch: V,

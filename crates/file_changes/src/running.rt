@@ -13,7 +13,7 @@ use sqlite::{Alter, Connection};
 use std::alloc::Global;
 use std::io::{Read, Write};
 
-/// Answers the lines of the reader by a docket, whose connection comes back.
+/// Answers the lines of the reader by a docket, and returns its connection.
 fn answer_lines<S: Alter, R: Read, W: Write>(
     alloc: Global,
     docket: Docket<S>,
@@ -35,9 +35,9 @@ fn answer_lines<S: Alter, R: Read, W: Write>(
     }
 }
 
-/// Adopts the docket that a database holds, and answers the lines of the reader. Each answer is written
-/// before the next command is applied. Whatever stops it, what is left, also past a power failure, is the
-/// docket of the lines whose answers went out, and of at most one line more.
+/// Adopts the docket that a database holds, and answers the lines of the reader. Writes each answer before it
+/// applies the next command. However it stops, also by a power failure, it leaves the docket of the lines
+/// whose answers were written, and of at most one line more.
 #[derive(Drop)]
 pub(crate) struct Run<V> {
     pub(crate) watch: V,

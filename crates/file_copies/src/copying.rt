@@ -12,7 +12,7 @@ use std::{fs, io};
 /// The rights of a file that its owner alone may read and write.
 const OWNER: u32 = 0o600;
 
-/// What a file that belongs to the copy is called.
+/// Returns the name of a file that belongs to the copy.
 fn beside(rt: &HostRuntime, to: &str, ending: &str) -> Result<String, CopyFault> {
     match name_beside(rt.alloc(), to, ending) {
         Ok(name) => Ok(name),
@@ -20,7 +20,7 @@ fn beside(rt: &HostRuntime, to: &str, ending: &str) -> Result<String, CopyFault>
     }
 }
 
-/// What has this name, be it a link that leads nowhere.
+/// Returns what has this name, also where it is a link that leads nowhere.
 fn found_at(rt: &HostRuntime, path: &str) -> Result<Option<Metadata>, CopyFault> {
     match fs::symlink_metadata(rt, path) {
         Ok(found) => Ok(Some(found)),
@@ -33,8 +33,8 @@ fn is_same_file(one: &Metadata, other: &Metadata) -> bool {
     one.dev() == other.dev() && one.ino() == other.ino()
 }
 
-/// Whether something is the file to copy, or a link to it by which that is named. Where that is missing,
-/// nothing is.
+/// Whether something is the file to copy, or the link by which `from` names it. Where nothing has the name
+/// `from`, the answer is no.
 fn is_source(rt: &HostRuntime, from: &str, found: &Metadata) -> bool {
     let is_link = match fs::symlink_metadata(rt, from) {
         Ok(named) => is_same_file(&named, found),
@@ -46,7 +46,7 @@ fn is_source(rt: &HostRuntime, from: &str, found: &Metadata) -> bool {
     }
 }
 
-/// Takes the first name of a copy away, where that is the copy's still: what else has this name is left.
+/// Removes the first name of a copy if it still is the copy's. Anything else that has this name stays.
 fn take_part(rt: &HostRuntime, copy: &Metadata, part: &str) -> Result<(), CopyFault> {
     match found_at(rt, part)? {
         Some(found) if found.is_file() && is_same_file(copy, &found) => {
@@ -59,7 +59,7 @@ fn take_part(rt: &HostRuntime, copy: &Metadata, part: &str) -> Result<(), CopyFa
     }
 }
 
-/// Whether the copy would have a name under which SQLite reads the log or the journal of a file that is there.
+/// Fails if SQLite would read the copy, by its name, as the log or the journal of a file that is there.
 fn test_owner(rt: &HostRuntime, to: &str) -> Result<(), CopyFault> {
     let Some(file) = file_of_log(to) else {
         return Ok(());
@@ -70,8 +70,8 @@ fn test_owner(rt: &HostRuntime, to: &str) -> Result<(), CopyFault> {
     }
 }
 
-/// Whether something has the name of the copy. SQLite's files have one name: where a kill left a copy that
-/// stands there the other one too, that is taken away.
+/// Fails where something has the name of the copy. SQLite's files have one name: where a kill left a finished
+/// copy with its first name too, this removes the first name.
 fn test_name(rt: &HostRuntime, from: &str, to: &str) -> Result<(), CopyFault> {
     let Some(found) = found_at(rt, to)? else {
         return Ok(());
@@ -83,7 +83,7 @@ fn test_name(rt: &HostRuntime, from: &str, to: &str) -> Result<(), CopyFault> {
     Err(CopyFault::Exists)
 }
 
-/// Whether something has a name that belongs to the copy, with an ending.
+/// Fails where something has a name that belongs to the copy, with an ending.
 fn test_beside(rt: &HostRuntime, from: &str, to: &str) -> Result<(), CopyFault> {
     for (ending, fault) in [
         (".part", CopyFault::PartExists),
@@ -100,10 +100,10 @@ fn test_beside(rt: &HostRuntime, from: &str, to: &str) -> Result<(), CopyFault> 
     Ok(())
 }
 
-/// Whether nothing stands in the way of a copy of a file at a path: something of that name or of the name of
-/// the unfinished copy, be it the file itself, a log or a journal of the copy, a file whose log or journal the
-/// copy would be, or a folder that is missing. Where a copy stands there whose maker was killed after its last
-/// step but one, that step is made up for: its first name is taken away.
+/// Fails where something prevents a copy of a file at a path: something of that name or of the name of the
+/// unfinished copy, perhaps the file itself, or a log or a journal of the copy. It also fails where the copy
+/// would be the log or the journal of a file, or its folder is missing. Where a kill left a finished copy
+/// with its first name too, this removes the first name.
 pub fn is_free(rt: &HostRuntime, from: &str, to: &str) -> Result<(), CopyFault> {
     test_owner(rt, to)?;
     test_name(rt, from, to)?;
@@ -115,7 +115,7 @@ pub fn is_free(rt: &HostRuntime, from: &str, to: &str) -> Result<(), CopyFault> 
     }
 }
 
-/// Makes the file that is to be the copy, under its first name, which must be free still. It gives nobody a
+/// Makes the file that is to be the copy, under its first name, which must still be free. It gives nobody a
 /// right that is not among these, whatever the umask.
 fn make_part(rt: &HostRuntime, part: &str, rights: u32) -> Result<fs::File, CopyFault> {
     let made = OpenOptions::new()
@@ -130,7 +130,7 @@ fn make_part(rt: &HostRuntime, part: &str, rights: u32) -> Result<fs::File, Copy
     }
 }
 
-/// Writes the bytes of the file into the one that was made, and has the disk keep them.
+/// Writes the bytes of the file into the one that was made, and syncs it to the disk.
 fn write_part(source: &mut fs::File, target: &mut fs::File) -> Result<(), CopyFault> {
     pour(source, target)?;
     match target.sync_all() {
@@ -147,8 +147,8 @@ fn is_named(rt: &HostRuntime, written: &Metadata, part: &str) -> Result<bool, Co
     }
 }
 
-/// Gives the finished copy its name, which must be free still, takes the first one away, and has the disk
-/// keep both.
+/// Gives the finished copy its name, which must still be free, removes the first one, and syncs both to the
+/// disk.
 fn give_name(rt: &HostRuntime, written: &Metadata, part: &str, to: &str) -> Result<(), CopyFault> {
     if !is_named(rt, written, part)? {
         return Err(CopyFault::Disturbed);
@@ -190,9 +190,9 @@ fn fill_and_name(
     give_name(rt, written, part, to)
 }
 
-/// Makes a copy under its first name and then gives it its own. Where that fails the first name is taken
-/// away, if it is the copy's still. One that could not be taken away is told and not tried again. The file is
-/// held open until then, so that no other one has its inode.
+/// Makes a copy under its first name and then gives it its own. Where that fails, removes the first name if
+/// it still is the copy's. One that could not be removed is reported and not tried again. Holds the file open
+/// until then, so that no other one has its inode.
 fn copy_by_part(rt: &HostRuntime, from: &str, part: &str, to: &str) -> Result<(), CopyFault> {
     let Ok(mut source) = fs::open(rt, from) else {
         return Err(CopyFault::ReadFailed);
@@ -214,11 +214,11 @@ fn copy_by_part(rt: &HostRuntime, from: &str, part: &str, to: &str) -> Result<()
     }
 }
 
-/// Copies a file to a path at which there is none, and no log or journal of one. The bytes go into a file
-/// whose name has `.part` behind it, and which is made anew: what has that name is left, and nothing is
-/// copied. Once the disk has the bytes the file gets the name of the copy, which fails where that was taken
-/// meanwhile. So a kill or a power failure at any moment leaves the copy whole under its name, or nothing
-/// there. The copy is its owner's alone, who has no right to it that the file does not give.
+/// Copies a file to a path at which there is none, and no log or journal of one. The bytes go into a new
+/// file, whose name is that of the copy with `.part` behind it. Where something has that name, it stays, and
+/// nothing is copied. Once the disk has the bytes, the file gets the name of the copy, which fails where that
+/// was taken meanwhile. So a kill or a power failure at any moment leaves the copy whole under its name, or
+/// nothing there. Only its owner has rights to the copy, and none that the file does not give.
 pub fn copy_file(rt: &HostRuntime, from: &str, to: &str) -> Result<(), CopyFault> {
     is_free(rt, from, to)?;
     let part = beside(rt, to, ".part")?;

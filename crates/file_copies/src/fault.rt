@@ -5,21 +5,21 @@ ghost use Rattle.std.specs.IoError.{error_kind};
 use std::io::{Error, ErrorKind};
 use std::{fmt, io};
 
-/// Why a copy was not made. Nothing stands under its name then, but what stood there before and what
-/// `LeftPart` and `NotSynced` speak of.
+/// Why a copy was not made. Under its name there is then only what was there before, and what `LeftPart`
+/// and `NotSynced` describe.
 #[derive(Clone, Copy, Debug, PartialEq, Eq)]
 pub enum CopyFault {
     /// Something has the name of the copy.
     Exists,
     /// The file to copy has the name of the copy, or one of those that belong to it.
     IsSource,
-    /// Something has the name of the unfinished copy, be it one that was left by a kill.
+    /// Something has the name of the unfinished copy, such as one that a kill left.
     PartExists,
     /// By its name SQLite would take the copy for the log or the journal of a file.
     IsLog,
     /// Something has the name of its log or of its journal, which SQLite would read into the copy.
     LogExists,
-    /// The folder of the copy is not there, or is none.
+    /// The folder of the copy is missing, or is no folder.
     NoFolder,
     /// Nothing may be made in the folder.
     NotAllowed,
@@ -32,9 +32,9 @@ pub enum CopyFault {
     WriteFailed,
     Full,
     NoMemory,
-    /// The copy stands whole under its name, and has a second one.
+    /// The copy is whole under its name, and has a second name.
     LeftPart,
-    /// The copy stands whole under its name, which a power failure may still take away.
+    /// The copy is whole under its name, which a power failure may still remove.
     NotSynced,
 }
 

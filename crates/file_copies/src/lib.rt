@@ -1,8 +1,7 @@
-//! Copies of a file under a name that is free, for back-ups: the copy stands whole under its name, or nothing
-//! does, also after a kill or a power failure. No clause can speak of the bytes of files: that a copy holds
-//! those of its file, and what a kill leaves, is tested by `checks/backup` and not proved. Proved is that what
-//! is poured from one stream into another is all that the first had, where the bytes of both are known, and
-//! the names of the files.
+//! Copies of a file under a name that is free, for back-ups. The copy is whole under its name, or nothing is
+//! there, also after a kill or a power failure. No clause can describe the bytes of files. That a copy holds
+//! those of its file, and what a kill leaves, is tested by `checks/backup` and not proved. The proofs cover
+//! the names of the files, and that `pour` writes all that its reader had, where the bytes of both are known.
 #![tactic(auto)]
 
 mod copying;

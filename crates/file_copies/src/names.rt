@@ -12,7 +12,7 @@ pub fn name_beside(alloc: Global, path: &str, ending: &str) -> Result<String, Al
     format!(in alloc; "{path}{ending}")
 }
 
-/// The folder in which a file stands. A bare name stands in the folder of the process.
+/// The folder of a file. A bare name is in the folder of the process.
 pub fn folder_of(path: &str) -> &str
     ensures named { IfSome (path_parent path.now) (λ folder. folder ≢ [] → result.now ≡ folder) }
     ensures bare { path_parent path.now ≡ Some [] → result.now ≡ codes "." }

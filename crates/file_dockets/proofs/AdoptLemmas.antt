@@ -1,4 +1,4 @@
--- What a work that adopts a docket first comes to, over any database, and from there on the files.
+-- The outcome of a work that first adopts a docket, over any database, and from there on the files.
 use Rattle.std.proofs.Common.{◌≤◌, ◌⊎◌, inl, inr, Option, Result, Ok, Err, IfErr, arith}
 use Rattle.std.proofs.lemmas.Result.{IfErr-weaker, IfOk-weaker}
 use Rattle.sqlite_disk.specs.declared.Disk.{Ghosts as Disk}
@@ -37,7 +37,7 @@ module _ {S : Type 0} (g : Ghosts S) (old : Held S) where
     trust = λ clean. let kept : HasCleanDisk (state g d.conn) = then clean in omega (arith, first, kept);
   }
 
-  -- so it is of a work that is always done
+  -- the same for a work that is always done
   pub adopted_all : {T : Type 0} (d : Docket S) (held : Holdings) (new : Held S) (failure : Option Error) (outcome : Result T AdoptFault) → IsSoundWith g old d held
       → doubt (state g old).is_clean ≤ doubt (state g d.conn).is_clean → (HasCleanDisk (state g new) → HasCleanDisk (state g d.conn))
       → IfErr outcome (λ _. ⊥) → AdoptsOver g old new failure outcome

@@ -1,4 +1,4 @@
--- What a job on a docket came to, and what its connection holds.
+-- The outcome of a job on a docket, and what its connection holds.
 use Rattle.std.proofs.Common.{◌≡◌, Result, Ok, Err, subst, sym}
 use Rattle.sqlite.specs.Store.{Ghosts}
 use Rattle.sqlite.specs.Held.{Held, state}
@@ -43,7 +43,7 @@ module _ {S : Type 0} (g : Ghosts S) where
     unadopted_keeps adopt.OtherVersion is = λ clean. absurd (is clean)
     unadopted_keeps (adopt.Damaged table) is = λ clean. absurd (is clean)
 
-    -- a docket that stands is not adopted only for the causes that a work may tell
+    -- a sound docket is not adopted only for the causes that a work may report
     pub unadopted_works : {T : Type 0} (P : T → Type 0) (fault : AdoptFault) → IsNotAdopted g conn rows fault → HasCleanDisk (state g conn) → WorksTo P (Err fault)
     unadopted_works P adopt.NoMemory is clean = tt
     unadopted_works P adopt.StoreFailed is clean = tt

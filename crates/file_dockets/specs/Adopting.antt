@@ -1,4 +1,4 @@
--- What a work comes to that adopts the docket of a database first, whatever database it is, and from there on the files.
+-- The outcome of a work that first adopts the docket of a database, whatever database it is, over a connection and over files.
 use Rattle.std.specs.Prelude.{Option, Result, IfErr, IfOk}
 use Rattle.sqlite_disk.specs.declared.Disk.{Ghosts as Disk}
 use Rattle.sqlite_wal.specs.Recovery.{Image}
@@ -22,13 +22,13 @@ use Rattle.docket_store.specs.Reopening.{HoldRows}
 use Rattle.docket_tables.specs.Layouts.{Rows}
 use Rattle.docket_tables.specs.Stands.{IsImageIn, ShowsIn}
 
--- By what the connection held, `old`, and as it comes back, `new`; `failure` is the error of the database that is told with a fault.
+-- By what the connection held, `old`, and as it comes back, `new`; `failure` is the error of the database that is reported with a fault.
 pub record AdoptsOver {S : Type 0} (g : Ghosts S) (old new : Held S) (failure : Option Error) {T : Type 0} (outcome : Result T AdoptFault) : Type 0 where
   -- the work was done where the tables were sound
   pub sound : IfOk outcome (λ _. WasSound g old new)
   -- where it was not, the fault is the first cause that was found, unless memory or the database failed
   pub rejected : IfErr outcome (IsRejected g old new)
-  -- which the database did for a cause
+  -- where the database failed, there was a cause
   pub caused : IfErr outcome (λ fault. HasCleanDisk (state g new) → IsCausedOpening (state g old) (state g new) failure fault)
   -- and nothing was written
   pub kept : IfErr outcome (λ _. Survives (state g old) (state g new) (λ _. ⊥))
@@ -39,14 +39,14 @@ pub record AdoptsOver {S : Type 0} (g : Ghosts S) (old new : Held S) (failure : 
 abbrev pub HasSoundTables : State → Type 0
 HasSoundTables s = (court : CourtSettings) × (r : SoundRows) × AreSound Second s court r
 
--- The files, which held `start`, were opened and their database was judged, which came to this; so much is left of them.
+-- The files, which held `start`, were opened and their database was checked, with this outcome; `rest` is left of them.
 pub record IsJudged {D : Type 0} {g : Disk D} {T : Type 0} (start : Image) (rest : Leftover D g) (failure : Option Error) (outcome : Result T AdoptFault) : Type 0 where
   -- the connection, as it was opened and as it came back
   pub opened : Held (FileStore D g)
   pub back : Held (FileStore D g)
   -- it showed the rows that the files held, in whichever version
   pub shows : (v : Version) (rows : Rows) → HoldRows v start rows → ShowsIn v (state over_files opened) rows
-  -- the work was done on sound tables; where it was not, the first cause is told, or that memory or, for a cause, the database failed
+  -- the work was done on sound tables; where it was not, the fault is the first cause, or that memory or, for a cause, the database failed
   pub sound : IfOk outcome (λ _. HasSoundTables (state over_files opened))
   pub found : IfErr outcome (HasCause Second (state over_files opened))
   pub caused : IfErr outcome (IsCausedOpening (state over_files opened) (state over_files back) failure)

@@ -14,7 +14,7 @@ use Rattle.docket_store.specs.Left.{Leaves, LeavesRows}
 use Rattle.docket_store.specs.Reopening.{HoldRows}
 use Rattle.file_dockets.specs.Keeping.{HoldsBetween}
 
--- The files, which held `start`, were opened, a work came to this over the connection, and they were let go.
+-- The files, which held `start`, were opened, a work had this outcome over the connection, and they were closed.
 pub record IsDoneOn {D : Type 0} {g : Ghosts D} {T F : Type 0} (start : Image) (Comes : Held (FileStore D g) → Held (FileStore D g) → Result T F → Type 0)
     (outcome : Result T F) (rest : Leftover D g) : Type 0 where
   -- the connection, as it was opened and as it came back

@@ -15,7 +15,7 @@ use docket_store::{AdoptFault, Docket, Holdings, Returned, Watch};
 use sqlite::{Alter, Connection};
 use std::alloc::Global;
 
-/// Adopts the docket that a database holds. The watch is told of each row that is read, and then let go.
+/// Adopts the docket that a database holds. The watch sees each row that is read, and is then dropped.
 pub fn adopt<S: Alter, V: Watch + Drop>(
     alloc: Global,
     conn: Connection<S>,
@@ -26,7 +26,7 @@ pub fn adopt<S: Alter, V: Watch + Drop>(
         (λ returned. IsNotAdopted S.Store returned.connection (docket_rows court h) returned.fault) }
     ensures counted { (court : CourtSettings) (h : History) → IsDocket court h → StandsFor S.Store conn court h
         → IfOk result (λ found. HasCleanDisk (state S.Store found.0.conn) → found.1 ≡ holdings_in court h) }
-    // Of any database, its tables are sound, or the fault tells why there is no docket.
+    // For any database, its tables are sound, or the fault says why there is no docket.
     ensures told { MatchResult result (λ found. IsSoundWith S.Store conn found.0 found.1)
         (λ returned. IsRejected S.Store conn returned.connection returned.fault) }
     ensures cause { IfErr result (λ returned. HasCleanDisk (state S.Store returned.connection)

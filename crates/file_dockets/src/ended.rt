@@ -4,11 +4,11 @@ use docket_store::{AdoptFault, Returned};
 use sqlite::{Alter, Connection, Error, FileFrom, Leftover};
 use sqlite_disk::Disk;
 
-/// How a job on the docket of a database ended, and the connection, which comes back.
+/// How a job on the docket of a database ended, and the connection that it returns.
 #[derive(Drop)]
 pub struct Worked<S: Alter, T, F> {
     pub outcome: Result<T, F>,
-    /// The error of the database, where it is told with a fault.
+    /// The error of the database, where it is reported with a fault.
     pub failure: Option<Error>,
     pub connection: Connection<S>,
 }
@@ -31,7 +31,7 @@ impl<S: Alter, T, F> From<Returned<S, F>> for Worked<S, T, F> {
 #[derive(Drop)]
 pub struct Ended<D: Disk, T, F> {
     pub outcome: Result<T, F>,
-    /// The error of the database, where it is told with a fault.
+    /// The error of the database, where it is reported with a fault.
     pub failure: Option<Error>,
     pub left: Leftover<D>,
 }

@@ -11,7 +11,7 @@ use crate::ended::{Ended, Worked};
 use sqlite::{Connection, FileStore, Leftover};
 use sqlite_disk::Disk;
 
-/// Copies the log into the database file, and lets both go. Where that fails the log keeps it.
+/// Copies the log into the database file, and lets both go. Where that fails the log keeps its content.
 fn close<D: Disk + Drop>(conn: Connection<FileStore<D>>) -> Leftover<D>
     ensures trust { IsCleanLeft result → HasCleanDisk (state over_files conn) }
     ensures left { (rows next : Rows) → HoldsBetween over_files conn rows next → IsCleanLeft result → LeavesRows result rows next }

@@ -1,7 +1,7 @@
 //! Working on the docket in the files at a path.
 //!
-//! What is done is a method of a trait, since `work_and_leave` is then the one function that calls it at the
-//! store of files, whose proof takes the prover long.
+//! The work is a method of a trait, so that only `work_and_leave` calls it at the store of files. A proof
+//! there takes the prover long.
 ghost use Rattle.std.specs.Prelude.{◌≡◌, IfErr, IfOk, MatchResult, Option, Result};
 ghost use Rattle.sqlite.specs.Files.{over_files};
 ghost use Rattle.sqlite.specs.Held.{Held};
@@ -26,16 +26,16 @@ use std::rt::HostRuntime;
 
 /// A work on the docket of a database, which may read from `R` and write to `W`.
 pub trait Work<R, W> {
-    /// What is told of the work where it was done, and where it was not.
+    /// What the work returns where it was done. `Fault` is why it was not done.
     type Done;
 
     type Fault;
 
-    // What the work comes to, by the connection as it was given and as it comes back, by what there was to
-    // read, what there is, and the same of what is written, and by the error that is told with a fault.
+    // What the work comes to, by the connection, the input and the output, each before and after it, and by
+    // the error that is reported with a fault.
     ghost Comes: { Self → {S : Type 0} → Ghosts S → Held S → Held S → R → R → W → W → Option Error → Result Self.Done Self.Fault → Type 0 };
 
-    /// Does the work over a connection, which comes back.
+    /// Does the work over a connection, and returns the connection.
     fn work<S: Alter>(
         self,
         alloc: Global,
@@ -65,7 +65,7 @@ fn work_and_leave<D: Disk + Drop, R, W, J: Work<R, W>>(
 
 /// Opens the files at a path, does the work over them and lets them go.
 ///
-/// `start` stands for what the two files hold as they are opened.
+/// `start` represents what the two files hold when they are opened.
 pub fn work_on_file<S: Start, R, W, J: Work<R, W> + Drop>(
     rt: &HostRuntime,
     path: &str,

@@ -1,4 +1,4 @@
--- What a question comes to over a connection, and from there on the files.
+-- The outcome of a question over a connection, and from there on the files.
 use Rattle.std.proofs.Common.{◌≡◌, Option, Result, Err, subst, sym}
 use Rattle.sqlite_disk.specs.declared.Disk.{Ghosts as Disk}
 use Rattle.sqlite_wal.specs.Recovery.{Image}

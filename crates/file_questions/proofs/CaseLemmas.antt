@@ -43,7 +43,7 @@ module _ (before now : Option (List ℕ)) (xs : List CaseRow) (n : ℕ) (out : G
     ap₂ (λ (a b : ℕ). a + b) out.1 more.1 ∙ sym (length-append xs ys),
   )
 
-  -- a front of more goes out
+  -- a prefix of more goes out
   pub less_out : (after : Option (List ℕ)) (ys zs : List CaseRow) (end : CalendarEnd) → GoesOut ys now after (Err end) → GoesOut (xs ++ (ys ++ zs)) before after (Err end)
   less_out after ys zs end front = record {
     out = case_lines xs ++ front.out;
@@ -131,7 +131,7 @@ label_first h label part (row ∷ rows) =
     (with_party h part (of_label label rows)) (with_party h part (row ∷ of_label label rows)) (label_first h label part rows) refl
     ∙ with_if h part (bytes_eq row.label label) row (of_label label rows)
 
--- what is told of a label, by the case that is found
+-- the cases of a label, by the case that is found
 pub told_of_label : (court : CourtSettings) (h : History) → IsHistory court h → (label : List ℕ) (part : Option (List ℕ)) (found : Option CaseRow) → found ≡ case_labelled (case_rows h) label
     → cases_told h (Some label) part ≡ with_party h part (found_list found)
 told_of_label court h history label part found is =
@@ -144,7 +144,7 @@ told_of_all court h history part n enough =
     let few = (within_limits court h history).cases in
     ap (with_party h part) (sym (take_all n (case_rows h) (omega (arith, few, enough))))
 
--- what is not all of some bytes is a front of them
+-- where only a part of the bytes went out, it is a prefix of them
 pub front_of : (before after : Option (List ℕ)) (bytes wanted : List ℕ) → bytes ≡ wanted → AppendsFront before after bytes → HasFront before after wanted
 front_of before after bytes wanted is front = record {
   out = take front.count bytes;
@@ -153,6 +153,6 @@ front_of before after bytes wanted is front = record {
   appends = front.front;
 }
 
--- a front of the line of a case
+-- a prefix of the line of a case
 pub front_of_line : (before after : Option (List ℕ)) (row : CaseRow) (bytes : List ℕ) (end : CalendarEnd) → bytes ≡ case_list_line row → AppendsFront before after bytes → GoesOut (row ∷ []) before after (Err end)
 front_of_line before after row bytes end is front = front_of before after bytes (case_lines (row ∷ [])) (is ∙ sym (append-nil (case_list_line row))) front

@@ -34,7 +34,7 @@ module _ (before now : Option (List ℕ)) (xs : List ℕ) (n k : ℕ) (out : Tex
   pub more_out : (after : Option (List ℕ)) (ys : List ℕ) (m j i e : ℕ) → i ≡ e → TextOut ys m now after (Ok j) → TextOut (xs ++ ys) e before after (Ok i)
   more_out after ys m j i e is more = (Appends-trans before now after xs ys out.0 more.0, is)
 
-  -- a front of more goes out
+  -- a prefix of more goes out
   pub less_out : (after : Option (List ℕ)) (ys zs : List ℕ) (m i : ℕ) (end : CalendarEnd) → TextOut ys m now after (Err end) → TextOut (xs ++ (ys ++ zs)) i before after (Err end)
   less_out after ys zs m i end front = record {
     out = xs ++ front.out;
@@ -43,7 +43,7 @@ module _ (before now : Option (List ℕ)) (xs : List ℕ) (n k : ℕ) (out : Tex
     appends = Appends-trans before now after xs front.out out.0 front.appends;
   }
 
-  -- a front of what is last goes out
+  -- a prefix of what is last goes out
   pub last_out : (after : Option (List ℕ)) (ys : List ℕ) (m e : ℕ) (end : CalendarEnd) → TextOut ys m now after (Err end) → TextOut (xs ++ ys) e before after (Err end)
   last_out after ys m e end front = record {
     out = xs ++ front.out;
@@ -52,12 +52,12 @@ module _ (before now : Option (List ℕ)) (xs : List ℕ) (n k : ℕ) (out : Tex
     appends = Appends-trans before now after xs front.out out.0 front.appends;
   }
 
-  -- what is last goes out, or a front of it
+  -- what is last goes out, or a prefix of it
   pub joined : (after : Option (List ℕ)) (ys : List ℕ) (m : ℕ) (result : Result ℕ CalendarEnd) → TextOut ys m now after result → TextOut (xs ++ ys) m before after result
   joined after ys m (Ok j) more = more_out after ys m j j m more.1 more
   joined after ys m (Err end) front = last_out after ys m m end front
 
--- a front of a text is one of a longer text
+-- a prefix of a text is one of a longer text
 pub front_longer : (before after : Option (List ℕ)) (xs zs : List ℕ) (n m : ℕ) (end : CalendarEnd) → TextOut xs n before after (Err end) → TextOut (xs ++ zs) m before after (Err end)
 front_longer before after xs zs n m end front = record {
   out = front.out;
@@ -66,7 +66,7 @@ front_longer before after xs zs n m end front = record {
   appends = front.appends;
 }
 
--- where nothing goes out, a front of any text does
+-- where nothing goes out, a prefix of any text does
 pub none_out : (known : Option (List ℕ)) (text : List ℕ) (m : ℕ) (end : CalendarEnd) → TextOut text m known known (Err end)
 none_out known text m end = record { out = []; lost = text; whole = refl; appends = Appends-nil known }
 

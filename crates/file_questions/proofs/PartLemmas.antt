@@ -1,4 +1,4 @@
--- A part stands in a text just where the test finds it.
+-- A part is in a text just where the test finds it.
 use Rattle.std.proofs.Common.{◌≡◌, ◌∙◌, ◌↔◌, inl, inr, ℕ, Bool, true, List, [], ◌∷◌, ◌++◌, length, take, drop, sym, ap, take-append-drop}
 use Rattle.std.specs.Str.Iter.{HasSubslice}
 use Rattle.std.proofs.Math.Seq.{take-append_seam}
@@ -39,6 +39,6 @@ module _ (part : List ℕ) where
   pub holds-means : (text : List ℕ) → (holds part text ≡ true) ↔ HasSubslice text part
   holds-means text = (stands text, λ (a, b, is). found text a b is)
 
--- a test that tells this is the same test
+-- a test that decides this is the same test
 pub holds-is : (test : Bool) (part text : List ℕ) → (test ≡ true) ↔ HasSubslice text part → test ≡ holds part text
 holds-is test part text means = same_from_decides test (holds part text) means (holds-means part text)

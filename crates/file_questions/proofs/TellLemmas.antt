@@ -1,4 +1,4 @@
--- What is told of a docket that is adopted, and what its connection holds.
+-- The answers about a docket that is adopted, and what its connection holds.
 use Rattle.std.proofs.Common.{ℕ, List, Option, Result, Ok, Err}
 use Rattle.sqlite.specs.Store.{Ghosts}
 use Rattle.sqlite.specs.Held.{Held, state}

@@ -1,4 +1,4 @@
--- What a question comes to over a connection, and what is left of the files.
+-- The outcome of a question over a connection, and what is left of the files.
 use Rattle.std.specs.Prelude.{Option, Result, IfErr, IfOk}
 use Rattle.sqlite_disk.specs.declared.Disk.{Ghosts as Disk}
 use Rattle.sqlite_wal.specs.Recovery.{Image}
@@ -24,7 +24,7 @@ use Rattle.file_dockets.specs.Keeping.{HoldsBetween}
 use Rattle.file_dockets.specs.Works.{WorksTo}
 use Rattle.file_dockets.specs.declared.ended.Ended.{Ended}
 
--- This is told of the docket that the connection held, `old`, and what it held it holds still as it comes back, `new`.
+-- This is the answer about the docket that the connection held, `old`; as it comes back, `new`, it holds the same.
 pub record AsksOver {S : Type 0} (g : Ghosts S) (old new : Held S) {T : Type 0} (Tells : CourtSettings → History → T → Type 0) (failure : Option Error)
     (outcome : Result T AdoptFault) : Type 0 where
   pub adopts : AdoptsOver g old new failure outcome
@@ -36,7 +36,7 @@ pub record AsksOver {S : Type 0} (g : Ghosts S) (old new : Held S) {T : Type 0} 
 pub record OnlyAsks {D : Type 0} {g : Disk D} {T : Type 0} (start : Image) (ended : Result (Ended D T AdoptFault g) (Error × Option (Leftover D g))) : Type 0 where
   -- the rows of a docket's tables stay, whichever they are
   pub stays : (rows : Rows) → HoldRows Second start rows → IfOk ended (λ it. IsCleanLeft it.left → LeavesRows it.left rows rows)
-  -- the tables are sound, or the fault tells why there is no docket, and what the files held stays, in whichever version
+  -- the tables are sound, or the fault says why there is no docket, and what the files held stays, in whichever version
   pub judged : IfOk ended (λ it. IsCleanLeft it.left → IsJudged start it.left it.failure it.outcome)
   -- and so it does in files that were not opened
   pub unopened : (v : Version) (rows : Rows) → HoldRows v start rows → IfErr ended (IsUnharmed start (IsImageIn v rows))

@@ -1,4 +1,4 @@
--- Which cases of a history a list tells, and what of the list goes out.
+-- Which cases of a history a list shows, and how much of the list goes out.
 use Rattle.std.specs.Prelude.{◌≡◌, ℕ, Bool, true, ◌&&◌, ◌||◌, List, [], ◌∷◌, length, take, filter, bytes_eq, Option, Some, None, option_copied, Result, Ok, Err, IfErr}
 use Rattle.std.specs.Io.KnownBytes.{Appends}
 use Rattle.std.specs.List.{flat_map, list_any}
@@ -20,7 +20,7 @@ use Rattle.line_io.specs.Output.{HasFront}
 abbrev pub begins : List ℕ → List ℕ → Bool
 begins part bytes = bytes_eq (take (length part) bytes) part
 
--- the part stands somewhere in the bytes
+-- the part is somewhere in the bytes
 abbrev pub holds : List ℕ → List ℕ → Bool
 holds part [] = begins part []
 holds part (byte ∷ bytes) = begins part (byte ∷ bytes) || holds part bytes
@@ -47,25 +47,25 @@ cases_wanted wanted h = cases_told h (option_copied wanted.label) (option_copied
 abbrev pub case_lines : List CaseRow → List ℕ
 case_lines rows = flat_map case_list_line rows
 
--- the lines of the cases went out, and this is how many there are; or a front of them went out
+-- the lines of the cases went out, and this is how many there are; or a prefix of them went out
 abbrev pub GoesOut : List CaseRow → Option (List ℕ) → Option (List ℕ) → Result ℕ CalendarEnd → Type 0
 GoesOut rows before after (Ok lines) = Appends before after (case_lines rows) × (lines ≡ length rows)
 GoesOut rows before after (Err end) = HasFront before after (case_lines rows)
 
--- the list of a docket ends early only for want of memory, or where the database or the writer failed
+-- the list of a docket ends early only where memory ran out, or the database or the writer failed
 abbrev pub IsEarlyEnd : CalendarEnd → Type 0
 IsEarlyEnd (Store NoMemory) = Unit {0}
 IsEarlyEnd (Store StoreFailed) = Unit {0}
 IsEarlyEnd (Store _) = ⊥
 IsEarlyEnd WriteFailed = Unit {0}
 
--- the writing of a line fails only for want of memory, or where the writer failed
+-- the writing of a line fails only where memory ran out, or the writer failed
 abbrev pub IsEarlyWrite : CalendarEnd → Type 0
 IsEarlyWrite (Store NoMemory) = Unit {0}
 IsEarlyWrite (Store _) = ⊥
 IsEarlyWrite WriteFailed = Unit {0}
 
--- the list of the cases went out, or a front of it
+-- the list of the cases went out, or a prefix of it
 abbrev pub ListsCases : List CaseRow → Option (List ℕ) → Option (List ℕ) → Result ℕ CalendarEnd → Type 0
 ListsCases rows before after result = GoesOut rows before after result × IfErr result IsEarlyEnd
 
@@ -76,6 +76,6 @@ module _ {S : Type 0} (g : Ghosts S) (d : Docket S) (h : History) where
   IsAsked (Err (Store fault)) = Asks g d h (λ (lines : ℕ). ⊥) (Err fault)
   IsAsked (Err WriteFailed) = Stands g d h
 
-  -- and the lines of the cases went out, or a front of them
+  -- and the lines of the cases went out, or a prefix of them
   abbrev pub Lists : List CaseRow → Option (List ℕ) → Option (List ℕ) → Result ℕ CalendarEnd → Type 0
   Lists rows before after result = IsAsked result × (HasCleanDisk (state g d.conn) → GoesOut rows before after result)

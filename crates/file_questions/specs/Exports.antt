@@ -1,4 +1,4 @@
--- What is exported of the docket of a history, and what of it goes out.
+-- What is exported of the docket of a history, and how much of it goes out.
 use Rattle.std.specs.Prelude.{◌≡◌, ◌≤◌, ℕ, List, [], length, map, All, Option, Result, Ok, Err, IfErr, if◌then◌else◌, unwrap_or}
 use Rattle.std.specs.Io.KnownBytes.{Appends}
 use Rattle.sqlite.specs.Held.{state}
@@ -27,7 +27,7 @@ IsCase rows number = (1 ≤ number) × (number ≤ length rows)
 abbrev pub HaveCases : History → List DueRow → Type 0
 HaveCases h dues = All (λ due. IsCase (case_rows h) due.case) dues
 
--- the case of a number; what stands here for one that is not there is never told, since each deadline that falls due has its case
+-- the case of a number; `no_case` is never exported, since each deadline that falls due has its case
 abbrev pub no_case : CaseRow
 no_case = record { number = 0; label = []; caption = []; filed = 0 }
 
@@ -35,7 +35,7 @@ abbrev pub case_of : List CaseRow → ℕ → CaseRow
 case_of rows number = unwrap_or (case_at rows number) no_case
 
 module _ (export : Export) (court : CourtSettings) (h : History) where
-  -- why a deadline is what it is, where the form tells that
+  -- why a deadline is what it is, where the form shows that
   abbrev pub reasons_in : DueRow → List ℕ
   reasons_in due = if tells_reasons export.form then unwrap_or (text_of_reasons court h due.case due.number) [] else []
 
@@ -43,7 +43,7 @@ module _ (export : Export) (court : CourtSettings) (h : History) where
   abbrev pub told_of : DueRow → Told
   told_of due = (due, case_of (case_rows h) due.case, reasons_in due)
 
-  -- what a deadline at a place, from 0, comes to
+  -- the entry of a deadline at a place, from 0
   abbrev pub entry_of : ℕ → DueRow → List ℕ
   entry_of place due = export_entry export.form court export.stamp place due (case_of (case_rows h) due.case) (reasons_in due)
 
@@ -58,22 +58,22 @@ module _ (export : Export) (court : CourtSettings) (h : History) where
   abbrev pub text_of_export : List ℕ
   text_of_export = export_text export.form court export.stamp export.from export.to (map told_of rows_of_export)
 
--- the text went out, with so many entries; or a front of it did
+-- the text went out, with so many entries; or a prefix of it did
 abbrev pub TextOut : List ℕ → ℕ → Option (List ℕ) → Option (List ℕ) → Result ℕ CalendarEnd → Type 0
 TextOut text entries before after (Ok n) = Appends before after text × (n ≡ entries)
 TextOut text entries before after (Err end) = HasFront before after text
 
--- the export went out, or a front of it, which ends early only for want of memory, or where the database or the writer failed
+-- the export went out, or a prefix of it, which ends early only where memory ran out, or the database or the writer failed
 abbrev pub ExportsTo : Export → CourtSettings → History → Option (List ℕ) → Option (List ℕ) → Result ℕ CalendarEnd → Type 0
 ExportsTo export court h before after result =
     TextOut (text_of_export export court h) (length (rows_of_export export court h)) before after result × IfErr result IsEarlyEnd
 
 module _ {S : Type 0} (g : Ghosts S) (d : Docket S) (h : History) where
-  -- the docket is as after any question, and the text went out, or a front of it
+  -- the docket is as after any question, and the text went out, or a prefix of it
   abbrev pub PutsOut : List ℕ → ℕ → Option (List ℕ) → Option (List ℕ) → Result ℕ CalendarEnd → Type 0
   PutsOut text entries before after result = IsAsked g d h result × (HasCleanDisk (state g d.conn) → TextOut text entries before after result)
 
-  -- the same of an export as a whole, with an entry for each of its deadlines
+  -- the same for an export as a whole, with an entry for each of its deadlines
   abbrev pub PutsExport : Export → CourtSettings → Option (List ℕ) → Option (List ℕ) → Result ℕ CalendarEnd → Type 0
   PutsExport export court before after result =
       PutsOut (text_of_export export court h) (length (rows_of_export export court h)) before after result

@@ -1,4 +1,4 @@
--- What a job on the docket of a history tells.
+-- What a job on the docket of a history prints.
 use Rattle.std.specs.Prelude.{◌≡◌, ℕ, List, length, Option, Result, Ok, Err}
 use Rattle.std.specs.Io.KnownBytes.{Appends}
 use Rattle.court_days.specs.Court.{CourtSettings}
@@ -10,14 +10,14 @@ use Rattle.docket_applying.specs.declared.listing.CalendarEnd.{CalendarEnd}
 use Rattle.docket_applying.specs.declared.listing.CalendarEnd.TheVariants as calendar_end
 use Rattle.line_io.specs.Output.{HasFront}
 
--- a question has this answer; it has none only for want of memory or where the database failed
+-- a question has this answer; it has none only where memory ran out or the database failed
 abbrev pub AnswersTo : {X : Type 0} → (X → Type 0) → Result X Fault → Type 0
 AnswersTo P (Ok answer) = P answer
 AnswersTo P (Err NoMemory) = Unit {0}
 AnswersTo P (Err StoreFailed) = Unit {0}
 AnswersTo P (Err _) = ⊥
 
--- the calendar of the days from one to another went out, or a front of it
+-- the calendar of the days from one to another went out, or a prefix of it
 abbrev pub ListsTo : CourtSettings → History → ℕ → ℕ → Option (List ℕ) → Option (List ℕ) → Result ℕ CalendarEnd → Type 0
 ListsTo court h from to before after (Ok lines) =
     Appends before after (text_of_calendar court h from to) × (lines ≡ length (calendar_rows court h from to))

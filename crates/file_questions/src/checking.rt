@@ -1,4 +1,4 @@
-//! Judging the docket of a database, and telling what it holds.
+//! Judging the docket of a database, and returning what it holds.
 ghost use Rattle.file_questions.specs.Checks.{IsSoundDocket};
 
 use crate::inquiry::Inquiry;

@@ -36,7 +36,7 @@ pub struct Export {
     pub stamp: i64,
 }
 
-/// Why a deadline is what it is, where the form tells that.
+/// Returns why a deadline is what it is, where the form shows that.
 fn reasons_in<S: Alter>(
     alloc: Global,
     docket: &mut Docket<S>,
@@ -62,7 +62,7 @@ fn reasons_in<S: Alter>(
     }
 }
 
-/// What a deadline at a place among the others comes to.
+/// Returns the text of a deadline at a place among the others.
 fn entry_of<S: Alter>(
     alloc: Global,
     docket: &mut Docket<S>,
@@ -77,7 +77,7 @@ fn entry_of<S: Alter>(
     ensures stays { (rows : Rows) → HoldsRows S.Store docket.old.conn rows → Preserves S.Store docket.new.conn rows result }
     ensures clean { doubt (state S.Store docket.old.conn).is_clean ≤ doubt (state S.Store docket.new.conn).is_clean }
 {
-    // A deadline without its case is none of a sound docket.
+    // A sound docket has no deadline without its case.
     let Some(case) = docket.case_row(due.case)? else {
         return Err(Fault::Damaged);
     };
@@ -103,7 +103,7 @@ fn write_piece<W: Write>(piece: &str, writer: &mut W) -> Result<usize, CalendarE
     }
 }
 
-/// Writes what a deadline comes to.
+/// Writes the text of a deadline.
 fn write_entry<S: Alter, W: Write>(
     alloc: Global,
     docket: &mut Docket<S>,
@@ -125,7 +125,7 @@ fn write_entry<S: Alter, W: Write>(
     }
 }
 
-/// Writes an entry for each deadline, and counts them. Each is written before more is asked of the docket.
+/// Writes an entry for each deadline, and counts them. Writes each before it asks the docket for more.
 fn write_entries<S: Alter, W: Write>(
     alloc: Global,
     docket: &mut Docket<S>,
@@ -149,7 +149,7 @@ fn write_entries<S: Alter, W: Write>(
     Ok(dues.len())
 }
 
-/// Writes the entries of the deadlines and what stands behind them, and counts the entries.
+/// Writes the entries of the deadlines and what follows them, and counts the entries.
 fn write_rest<S: Alter, W: Write>(
     alloc: Global,
     docket: &mut Docket<S>,
@@ -195,7 +195,7 @@ fn write_text<S: Alter, W: Write>(
     }
 }
 
-/// Writes the export, and counts its deadlines, which are read first, and all of them.
+/// Writes the export, and counts its deadlines. Reads all of them before it writes.
 fn write_export<S: Alter, W: Write>(
     alloc: Global,
     docket: &mut Docket<S>,

@@ -1,4 +1,4 @@
-//! What is asked of the docket in the files at a path. Nothing is changed.
+//! Questions to the docket in the files at a path. Nothing is changed.
 //!
 //! The work that an inquiry does is a method of a trait, so that no function here is proved at the store of
 //! files, which takes the prover long.
@@ -26,15 +26,15 @@ use sqlite::{Alter, Connection, Start};
 use std::alloc::Global;
 use std::rt::HostRuntime;
 
-/// What is asked of a docket in files. It may write to `W` what it tells. Nothing is changed.
+/// A question to a docket in files. It may write to `W` what it answers. Nothing is changed.
 pub trait Inquiry<W> {
-    /// What is returned in the end.
+    /// What the question returns in the end.
     type Answer;
 
-    // What is returned of the docket of a court, by what was written before and after.
+    // What the question returns for the docket of a court, by what was written before and after.
     ghost Tells: { Self → CourtSettings → History → W → W → Self.Answer → Type 0 };
 
-    /// Asks a docket, whose tables hold so much.
+    /// Asks a docket whose tables hold `held`.
     fn ask<S: Alter>(
         &self,
         alloc: Global,
@@ -86,8 +86,8 @@ impl<V: Watch + Drop, W, Q: Inquiry<W>> Work<(), W> for Asked<'_, V, Q> {
 
 /// Opens the files at a path, adopts their docket, asks it and lets the files go. Nothing is changed.
 ///
-/// `start` stands for what the two files hold as they are opened. The theorem is one for every start, and a
-/// program hands `Unknown`.
+/// `start` represents what the two files hold when they are opened. The theorem holds for every start, and a
+/// program passes `Unknown`.
 pub fn ask_on_file<S: Start, V: Watch + Drop, W, Q: Inquiry<W>>(
     rt: &HostRuntime,
     path: &str,

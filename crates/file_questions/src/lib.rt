@@ -1,6 +1,6 @@
-//! What the jobs of `docketctl` ask of the docket in files, each from the open to the last byte that it
-//! tells. A job asks by one call, `ask_on_file`: its contract says what goes out, by what the files held,
-//! and that they hold it still.
+//! The questions of the jobs of `docketctl` to the docket in files, each from the open to the last byte that
+//! it writes. A job asks by one call, `ask_on_file`. Its contract says what is written, by what the files
+//! held, and that they hold it still.
 #![tactic(auto)]
 
 mod calendar;

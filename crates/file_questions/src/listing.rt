@@ -32,7 +32,7 @@ pub struct Wanted<'a> {
     pub party: Option<&'a str>,
 }
 
-/// Whether the part stands somewhere in the text.
+/// Whether the text contains the part.
 fn holds(text: &str, part: &str) -> bool
     ensures value { result ≡ holds part.now text.now }
     ensures means { IsTrue result ↔ HasSubslice text.now part.now }
@@ -47,7 +47,7 @@ fn is_among(parties: &[PartyRow], part: &str) -> bool
     parties.iter().any(|party| holds(party.name.as_str(), part))
 }
 
-/// Whether the case of a number has a party whose name holds the part, if one is asked for.
+/// Whether the case of a number has a party whose name holds the part, if one is given.
 fn has_party<S: Alter>(
     docket: &mut Docket<S>,
     part: Option<&str>,

@@ -31,7 +31,7 @@ impl Unconditional for ReasonsText {
     ghost unconditional = { λ _. tt };
 }
 
-/// The text that a question is answered by, if there is what is asked for.
+/// The text that answers a question, if there is what it asks for.
 #[derive(Clone, Copy)]
 pub struct TextOf<Q> {
     pub question: Q,

@@ -1,4 +1,4 @@
--- What a docket is brought to by the connections that come to a place.
+-- The docket after the connections that come to a place.
 use Rattle.std.specs.Prelude.{◌≡◌, ℕ, Option, None, Result, Ok, Err, option_copied}
 use Rattle.sqlite.specs.Held.{Held, state}
 use Rattle.sqlite.specs.State.{HasCleanDisk}
@@ -24,7 +24,7 @@ use Rattle.file_serving.specs.declared.serving.Service.{Service}
 use Rattle.file_serving.specs.declared.serving.Shown.{Shown}
 use Rattle.file_serving.specs.declared.serving.Shown.TheVariants.{NoPages, Guarded, Pages}
 
--- what is so where no connection was waited for: the docket was not adopted, or nobody could listen or tell where
+-- what holds where no connection was waited for: the docket was not adopted, or the program could not listen or report where
 abbrev pub IfUnserved : Result (Result (Unit {0}) ServeEnd) AdoptFault → Type 0 → Type 0
 IfUnserved (Ok (Ok done)) P = Unit {0}
 IfUnserved (Ok (Err (Stopped fault))) P = Unit {0}
@@ -51,7 +51,7 @@ module _ {S : Type 0} (g : Ghosts S) where
   ServesPlace old new service (Err _) = new ≡ old
 
   -- the docket of a history was adopted and served at a desk, by the routes that were asked for, and the connection is the one that it was left
-  -- with. Of a connection's bytes nothing is known, so nothing is said of what was shown
+  -- with. A connection's bytes are not known, so no clause says what was shown
   pub record Serves (conn : Held S) (told : Stored) (service : Service) (end : Result (Unit {0}) ServeEnd) : Type 0 where
     pub adopted : Desk S
     pub last : Desk S
@@ -59,7 +59,7 @@ module _ {S : Type 0} (g : Ghosts S) where
     pub served : ServesPlace adopted last service end
     pub left : conn ≡ last.docket.conn
 
-  -- What serving comes to over a connection, by what it held, `old`, and as it comes back, `new`.
+  -- The outcome of serving over a connection, by what it held, `old`, and as it comes back, `new`.
   pub record ServesOver (old new : Held S) (service : Service) (failure : Option Error) (outcome : Result (Result (Unit {0}) ServeEnd) AdoptFault) : Type 0 where
     pub adopts : AdoptsOver g old new failure outcome
     pub served : (told : Stored) → IsDocket told.court told.history → StandsFor g old told.court told.history → HasCleanDisk (state g new)

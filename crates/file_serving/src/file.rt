@@ -1,8 +1,8 @@
 //! Serving the docket in the files at a path: they are opened, the docket is adopted and served, and the files
 //! are let go.
 //!
-//! `start` stands for what the two files hold as they are opened. The theorem here is one for every start,
-//! and a program hands `Unknown`.
+//! `start` represents what the two files hold when they are opened. The theorem here holds for every start,
+//! and a program passes `Unknown`.
 ghost use Rattle.std.specs.Prelude.{◌≡◌, IfErr, IfOk, MatchResult};
 ghost use Rattle.sqlite_wal.specs.Files.{image_at};
 ghost use Rattle.sqlite.specs.Files.{IsCleanLeft};
@@ -23,8 +23,8 @@ use sqlite::Start;
 use std::io::Write;
 use std::rt::HostRuntime;
 
-/// Serves the connections that come to a place of this machine alone, by the docket in the files at a
-/// path. It is told on `w` where they are taken, and on `e` what goes wrong with one.
+/// Serves the connections that come to a place of this machine alone, by the docket in the files at a path.
+/// Prints on `w` where they are taken, and on `e` what goes wrong with one.
 pub fn serve_on_file<S: Start, V: Watch + Drop, W: Write, E: Write>(
     rt: &HostRuntime,
     path: &str,
@@ -34,10 +34,10 @@ pub fn serve_on_file<S: Start, V: Watch + Drop, W: Write, E: Write>(
     w: &mut W,
     e: &mut E,
 ) -> OnFile<S, Result<(), ServeEnd>>
-    // Where no connection was waited for the docket stays.
+    // Where no connection was waited for, the docket stays.
     ensures stays { (told : Told) → HoldDocket (image_at S.Start) told.court told.history
         → IfOk result (λ done. IsCleanLeft done.left → IfUnserved done.outcome (LeavesRows done.left (rows_told told) (rows_told told))) }
-    // Of any files, their tables are sound, or the fault tells why there is no docket, and they stay.
+    // For any files, their tables are sound, or the fault says why there is no docket, and they stay.
     ensures judged { IfOk result (λ done. IsCleanLeft done.left → IsJudged (image_at S.Start) done.left done.failure done.outcome) }
     ensures unopened { (v : Version) (rows : Rows) → HoldRows v (image_at S.Start) rows
         → IfErr result (IsUnharmed (image_at S.Start) (IsImageIn v rows)) }

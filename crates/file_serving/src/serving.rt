@@ -18,12 +18,12 @@ use std::rt::HostRuntime;
 /// Whether the pages of a docket are shown, and who is answered.
 #[derive(Clone, Copy)]
 pub enum Shown<'a> {
-    /// No pages, and whoever asks.
+    /// Shows no pages, and answers whoever asks.
     NoPages,
-    /// No pages, and who asks at the origins of this machine, or at another one where that is given, as that of a
-    /// proxy.
+    /// Shows no pages, and answers who asks at the origins of this machine, or at another one where that is
+    /// given, such as that of a proxy.
     Guarded(Option<&'a str>),
-    /// The pages too, and who asks at those origins.
+    /// Shows the pages too, and answers who asks at those origins.
     Pages(Option<&'a str>),
 }
 
@@ -40,12 +40,12 @@ pub struct Service<'a> {
 pub enum ServeEnd {
     /// Nobody can listen at the place.
     NotListening(ErrorKind),
-    /// It could not be told where connections are taken.
+    /// The line that says where connections are taken could not be written.
     NotAnnounced(ErrorKind),
     Stopped(ServingFault),
 }
 
-/// Tells where connections are taken.
+/// Prints where connections are taken.
 fn announce<W: Write>(alloc: Global, listener: &Listener<'_>, w: &mut W) -> io::Result<()> {
     let line = format!(in alloc; "listening on {listener}\n")?;
     w.write_all(line.as_bytes())?;
@@ -101,8 +101,8 @@ fn listen<S: Alter, W: Write, E: Write>(
     }
 }
 
-/// Adopts the docket that a database holds, tells on `w` where connections are taken, and serves so many
-/// of them. What goes wrong with one is told on `e`. The files at the path are those of the database.
+/// Adopts the docket that a database holds, prints on `w` where connections are taken, and serves so many of
+/// them. Prints on `e` what goes wrong with one. The files at the path are those of the database.
 #[derive(Drop)]
 pub(crate) struct Serve<'a, V> {
     pub(crate) rt: &'a HostRuntime,

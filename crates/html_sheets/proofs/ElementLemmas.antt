@@ -1,4 +1,4 @@
--- Rows of tables and other pieces, as they are written: what they hold, parted by the tags between.
+-- Rows of tables and other pieces, as they are written: what they hold, separated by tags.
 use Rattle.std.proofs.Common.{◌≡◌, ℕ, List, [], ◌∷◌, ◌++◌, append_assoc, refl, sym, ap, ap₂, ◌∙◌}
 use Rattle.std.specs.Prelude.{codes}
 use Rattle.html_sheets.specs.Elements.{element, nav, weekday_told, cell, number_cell, head_cell, row}
@@ -33,7 +33,7 @@ pub deadline_parts : (number party rule standing : List ℕ)
     ≡ row (head_cell number ++ (number_cell party ++ (cell rule ++ number_cell standing)))
 deadline_parts number party rule standing = simp (append_assoc, element-then) refl
 
--- what is said of a case
+-- what is shown of a case
 pub said_parts : (number label caption filed : List ℕ)
     → codes "<dl>\n<dt>Case</dt><dd>" ++ (number ++ (codes "</dd>\n<dt>Label</dt><dd>" ++ (label ++ (codes "</dd>\n<dt>Caption</dt><dd>" ++ (caption ++ (codes "</dd>\n<dt>Filed</dt><dd>" ++ (filed ++ codes "</dd>\n</dl>\n")))))))
     ≡ codes "<dl>\n" ++ (said (codes "Case") number ++ (said (codes "Label") label ++ (said (codes "Caption") caption ++ (said (codes "Filed") filed ++ codes "</dl>\n"))))

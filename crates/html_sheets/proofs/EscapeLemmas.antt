@@ -1,4 +1,4 @@
--- The bytes that are written for a byte of a text, and the run of those that stand for themselves.
+-- The bytes that are written for a byte of a text, and the run of those that stay as they are.
 use Rattle.std.proofs.Common.{◌≡◌, ℕ, ◌+◌, ◌-◌, ◌<◌, ◌≤◌, List, [], ◌∷◌, ◌++◌, length, get_or, take, drop, length-drop, get_or-drop, append_assoc, append-nil, take_all, arith}
 use Rattle.std.proofs.lemmas.List.{drop_more, take_more, drop_all}
 use Rattle.html_sheets.specs.Escapes.{escaped_byte, escaped}
@@ -10,7 +10,7 @@ escaped-drop s i h = rw (drop_more s i 0 h)
 omega-add : (a b : ℕ) → a ≤ b → a + (b - a) ≡ b
 omega-add a b h = omega arith
 
--- a byte that stands for itself joins the run
+-- a byte that stays as it is joins the run
 pub keep_byte : (s done total : List ℕ) (start i : ℕ) → start ≤ i → i < length s → escaped_byte (get_or s i 0) ≡ get_or s i 0 ∷ []
     → done ++ (take (i - start) (drop start s) ++ escaped (drop i s)) ≡ total
     → done ++ (take (i + 1 - start) (drop start s) ++ escaped (drop (i + 1) s)) ≡ total

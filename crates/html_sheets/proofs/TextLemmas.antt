@@ -8,7 +8,7 @@ use Rattle.html_sheets.specs.Escapes.{is_control, blanked_byte, escaped_byte, es
 use Rattle.html_sheets.specs.Marks.{is_mark, marks}
 use Rattle.html_sheets.specs.Reading.{begins_reference, read_from, read_text}
 
--- a byte that stands for itself
+-- a byte that stays as it is
 pub record IsPlain (byte : ℕ) : Type 0 where
   pub less : byte ≢ 60
   pub greater : byte ≢ 62
@@ -20,7 +20,7 @@ pub record IsPlain (byte : ℕ) : Type 0 where
 apart : (a b : ℕ) → (a == b) ≡ false → a ≢ b
 apart a b h = grind (arith, nat_tests)
 
--- what holds of each reference, of a blank for a control byte, and of a byte that stands for itself, holds of what is written
+-- what holds of each reference, of a blank for a control byte, and of a byte that stays as it is, holds of what is written
 module _ (P : ℕ → List ℕ → Type 0)
     (less : P 60 (codes "&lt;")) (greater : P 62 (codes "&gt;")) (and : P 38 (codes "&amp;")) (quote : P 34 (codes "&quot;")) (apostrophe : P 39 (codes "&#39;"))
     (blank : (byte : ℕ) → is_control byte ≡ true → P byte (32 ∷ []))

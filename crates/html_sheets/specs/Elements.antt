@@ -12,7 +12,7 @@ use Rattle.html_sheets.specs.declared.links.Links.TheVariants.{Pages, None}
 unfoldable pub element : List ℕ → List ℕ → List ℕ → List ℕ
 element name attributes content = (60 ∷ name) ++ (attributes ++ (62 ∷ content ++ (codes "</" ++ (name ++ 62 ∷ []))))
 
--- a text of the docket: what a mark of direction within it turns ends with it
+-- a text of the docket: a mark of direction within it has no effect beyond it
 abbrev pub told : List ℕ → List ℕ
 told text = element (codes "bdi") [] (escaped text)
 
@@ -28,7 +28,7 @@ weekday_told day = day_told day ++ 32 ∷ weekday_word (weekday day)
 abbrev pub link : List ℕ → List ℕ → List ℕ
 link path content = element (codes "a") (codes " href=\"" ++ (path ++ codes "\"")) content
 
--- links that belong together, with what a program that reads the page aloud calls them
+-- links that belong together, with the name that a screen reader gives them
 abbrev pub nav : List ℕ → List ℕ → List ℕ
 nav label links = element (codes "nav") (codes " aria-label=\"" ++ (label ++ codes "\"")) links
 

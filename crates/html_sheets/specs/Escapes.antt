@@ -1,5 +1,5 @@
--- Texts within HTML: the characters of the markup stand as character references (HTML Living Standard, 13.1.4 on character
--- references, 13.3 on escaping a string). Control characters, which may not stand in a page but for white space, become blanks.
+-- Texts within HTML: the characters of the markup are written as character references (HTML Living Standard, 13.1.4 on character
+-- references, 13.3 on escaping a string). Control characters, which a page may not have but for white space, become blanks.
 use Rattle.std.specs.Prelude.{ℕ, Bool, not, ◌&&◌, ◌||◌, ◌==◌, nat_lt, if◌then◌else◌, List, [], ◌∷◌, codes}
 use Rattle.std.specs.List.{flat_map}
 

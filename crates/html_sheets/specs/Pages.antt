@@ -4,7 +4,7 @@ use Rattle.docket_history.specs.declared.row.CaseRow.{CaseRow}
 use Rattle.html_sheets.specs.Elements.{element, told, day_told, case_link, cell, head_cell, row, table_head, table_foot}
 use Rattle.html_sheets.specs.Escapes.{escaped}
 
--- how the page looks: on a screen, where a long word of the docket is parted, and in print, where no link is of use and no row is parted
+-- how the page looks: on a screen, where a long word is broken, and in print, where links are hidden or look like text and no row is broken
 abbrev pub style_text : List ℕ
 style_text =
     codes "body{font-family:serif;margin:2em}"

@@ -1,5 +1,5 @@
--- How a reader of HTML takes a text: each reference as the character for which it stands (HTML Living Standard, 13.2.5.72 to
--- 13.2.5.80), for the references that texts here have.
+-- How HTML reads a text: each reference becomes its character (HTML Living Standard, 13.2.5.72 to 13.2.5.80), for the
+-- references that texts here have.
 use Rattle.std.specs.Prelude.{ℕ, Bool, ◌==◌, nat_eq, if◌then◌else◌, List, [], ◌∷◌, ◌++◌, codes, Option, Some, None}
 use Rattle.std.specs.List.{list_any, starts_with}
 use Rattle.std.specs.Str.{bytes_eq}
@@ -12,7 +12,7 @@ references = codes "&lt;" ∷ codes "&gt;" ∷ codes "&amp;" ∷ codes "&quot;" 
 abbrev pub begins_reference : List ℕ → Bool
 begins_reference bytes = list_any (starts_with nat_eq bytes) references
 
--- what stands between `&` and `;`, and the character for which the reference stands; any other name is left as it is
+-- the name between `&` and `;`, and the character of the reference; any other name is left as it is
 abbrev pub referred : List ℕ → List ℕ
 referred name =
     if bytes_eq name (codes "lt") then 60 ∷ []

@@ -11,7 +11,7 @@ use Rattle.docket_text.specs.CaseTexts.{standing_text}
 use Rattle.docket_text.specs.Parties.{party_text}
 use Rattle.html_sheets.specs.Elements.{element, told, day_told, cell, number_cell, head_cell, row, table_head, table_foot}
 
--- what is said of the case itself, a line each under its word
+-- what is shown of the case itself, a line each under its word
 abbrev pub said : List ℕ → List ℕ → List ℕ
 said word content = element (codes "dt") [] word ++ (element (codes "dd") [] content ++ codes "\n")
 

@@ -1,4 +1,4 @@
-//! What the functions of specs/ say, with nothing to run.
+//! Laws of the functions of specs/, with nothing to run.
 ghost use Rattle.std.specs.Prelude.{◌≡◌, ℕ, List, [], length, filter, map, drop, slice_index, Option, is_some, IsTrue};
 ghost use Rattle.court_days.specs.Court.{CourtSettings};
 ghost use Rattle.docket_history.specs.declared.record.CaseRecord.{CaseRecord};
@@ -14,8 +14,8 @@ ghost use Rattle.html_sheets.specs.Weeks.{days_head, week_head, due_row};
 ghost use Rattle.html_sheets.specs.Reading.{begins_reference, read_text};
 ghost use Rattle.html_sheets.specs.declared.links.Links.{Links};
 
-/// A text within a page has none of `<`, `>`, `"` and `'` and no control byte, and each `&` in it begins
-/// one of the five references: it begins and ends no tag and no value of an attribute, whatever it is.
+/// A text within a page has none of `<`, `>`, `"` and `'` and no control byte, and each `&` in it begins one
+/// of the five references. So it begins and ends no tag and no value of an attribute, whatever it is.
 pub fn texts_are_no_markup()
     ensures marks { (text : List ℕ) → marks (escaped text) ≡ [] }
     ensures controls { (text : List ℕ) → filter is_control (escaped text) ≡ [] }
@@ -23,15 +23,15 @@ pub fn texts_are_no_markup()
         → IsTrue (begins_reference (drop i (escaped text))) }
 {}
 
-/// A reader has the text again, with a blank for each control byte.
+/// A reader gets the text back, with a blank for each control byte.
 pub fn texts_are_read_back()
     ensures { (text : List ℕ) → read_text (escaped text) ≡ map blanked_byte text }
 {}
 
-/// The marks of a piece are those of its own tags, whatever the docket says: two heads, two rows whose
-/// numbers lead to the same, two sheets of as many parties, entries and deadlines, and their pages, have
-/// the same ones in the same order. So have two pages of as many cases, if both or none lead to earlier
-/// cases, and both or none to later ones.
+/// The marks of a piece are those of its own tags, whatever texts the docket has. Two heads have the same
+/// ones in the same order. So have two rows whose numbers lead to the same, two sheets of as many parties,
+/// entries and deadlines, and their pages. So have two pages of as many cases, if both or none lead to
+/// earlier cases, and both or none to later ones.
 pub fn tags_are_the_pages_own()
     ensures heads { (title other : List ℕ) → marks (page_head title) ≡ marks (page_head other) }
     ensures cases { (case other : CaseRow) → marks (case_row case) ≡ marks (case_row other) }

@@ -1,10 +1,10 @@
-//! The docket as pages of HTML: the list of cases, the docket sheet of a case, and what is due in a
-//! week or on other days. They have no script and take nothing from elsewhere, and a text of the docket
-//! stands within them by its characters alone, whatever it is.
+//! The docket as pages of HTML: the list of cases, the docket sheet of a case, and what is due in a week or
+//! on other days. They have no script and load nothing from elsewhere, and a text of the docket is within
+//! them by its characters alone, whatever it is.
 //!
-//! A page is its head, then the pieces of its content, and its foot. A caller writes them one after
-//! another, so that a long list is never held as one. The pages of a docket that is served lead to one
-//! another; those of a list of cases and of a case are made whole, and that of some days up to its rows.
+//! A page is its head, then the pieces of its content, and its foot. A caller writes them one after another,
+//! so that a long list is never held as one. The pages of a docket that is served lead to one another. Those
+//! of a list of cases and of a case are made whole, and that of some days up to its rows.
 #![tactic(auto)]
 
 mod cases;

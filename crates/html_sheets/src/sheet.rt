@@ -10,7 +10,7 @@ use docket_history::{CaseRecord, DeadlineLine, EntryRow, PartyRow};
 use docket_text::{PartyText, StandingText};
 use std::alloc::{AllocError, Global};
 
-/// Adds what is said of the case itself.
+/// Adds the number, label, caption and filing day of the case.
 fn push_case(text: &mut String, case: &CaseRecord) -> Result<(), AllocError>
     ensures { OnOk result (string_bytes text.new ≡ string_bytes text.old ++ case_head case.now) }
 {

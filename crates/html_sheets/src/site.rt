@@ -101,8 +101,8 @@ fn push_rows(alloc: Global, text: &mut String, cases: &[CaseRow]) -> Result<(), 
     Ok(())
 }
 
-/// The page of a list of cases, a row each, with links to the cases before them, from the number
-/// `earlier` on, and to those behind them, from `later` on, where these are given.
+/// Returns the page of a list of cases, a row each. It has links to the cases before them, from the number
+/// `earlier` on, and to those behind them, from `later` on, if these are given.
 pub fn cases_page(
     alloc: Global,
     cases: &[CaseRow],

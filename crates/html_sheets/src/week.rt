@@ -138,9 +138,9 @@ impl fmt::Display for EndCells<'_> {
     }
 }
 
-/// The row of a deadline whose time runs: the day, the time and the closing of its end, its case, which
-/// leads to its page where there are pages, its number within the case, its rule, the party whose time it
-/// is, and the caption of the case.
+/// Returns the row of a deadline whose time runs. It has the day, the time and the closing of its end, its
+/// case, its number within the case, its rule, the party whose time it is, and the caption. The case leads to
+/// its page where there are pages.
 pub fn due_row(
     alloc: Global,
     links: Links,

@@ -33,7 +33,7 @@ pub record HasCome (s : Scan) (bytes : List ℕ) : Type 0 where
   pub short : s.len < 8192
   pub few : s.lines < 66
 
--- what the search says of them
+-- what the result of the search means for them
 abbrev pub Tells : HeadSearch → List ℕ → Type 0
 Tells (More s) bytes = HasCome s bytes
 Tells (Head len) bytes = IsHeadWithin bytes × (len ≡ length bytes)

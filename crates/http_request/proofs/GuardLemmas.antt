@@ -1,4 +1,4 @@
--- What is asked was let through by the guard.
+-- The guard let through each request that asks for something.
 use Rattle.std.proofs.Common.{Option, codes, ◌++◌, nat_eq, ◌≡◌, inl, inr, ℕ, Bool, true, false, ◌||◌, ◌&&◌, true≢false, cond, not, List, [], ◌∷◌, map, refl, ap, sym, ◌∙◌}
 use Rattle.std.specs.Char.{to_ascii_lowercase}
 use Rattle.std.specs.Cmp.Lexicographic.{pointwise}
@@ -37,7 +37,7 @@ from_page origins hosts pages host page result one own is =
 not_refused : (wish : Wish) (r : Rejection) → wish ≡ Reject r → is_refused wish ≡ false → ⊥
 not_refused wish r is asked = true≢false (sym (ap is_refused is) ∙ asked)
 
--- what is no refusal goes by the guard
+-- a wish that is no refusal passed the guard
 through : (foreign : Bool) (wish other : Wish) → wish ≡ cond foreign (Reject Foreign) other → is_refused wish ≡ false → foreign ≡ false
 through true wish other is asked = absurd (not_refused wish Foreign is asked)
 through false wish other is asked = refl
@@ -74,7 +74,7 @@ any_here p x xs is = ap (λ b. b || list_any p xs) is
 any_behind : {A : Type 0} (p : A → Bool) (x : A) (xs : List A) → list_any p xs ≡ true → list_any p (x ∷ xs) ≡ true
 any_behind p x xs is = ap (λ b. p x || b) is ∙ or_true (p x)
 
--- whoever asks at one of the names of this machine, and sends no origin
+-- a request to one of the names of this machine that sends no origin
 own_name : (port : ℕ) (other : Option (List ℕ)) → AllByRecursion (λ name. is_let_through (origins_at port other) (host_at name port ∷ []) [] ≡ true) own_names
 own_name port other =
     let first : List ℕ = origin_at (codes "127.0.0.1") port in

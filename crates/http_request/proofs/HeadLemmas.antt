@@ -1,4 +1,4 @@
--- The found_over over bytes that come in pieces.
+-- `found_over` over bytes that come in pieces.
 use Rattle.std.proofs.Common.{◌≡◌, ℕ, ◌+◌, ◌≤◌, List, [], ◌∷◌, ◌++◌, length, refl, ap, sym, ◌∙◌, true, false, cond, ◌==◌, nat_lt, arith}
 use Rattle.http_request.specs.declared.head.Scan.{Scan}
 use Rattle.http_request.specs.declared.head.HeadSearch.{HeadSearch}

@@ -1,6 +1,6 @@
--- The guard: by its fields a request tells at which host it is asked, and, where a page of a browser asks it, of which origin that page is (RFC
--- 9110, section 7.2; RFC 6454, section 7), and whether it is of another site (Fetch Metadata Request Headers, sections 2.2 and 2.3). What is asked
--- of another host, or by a page from elsewhere, is foreign.
+-- The guard. The fields of a request give the host that it is sent to and, if a page of a browser sends it, that page's origin (RFC 9110, section
+-- 7.2; RFC 6454, section 7). They also give whether the page is of another site (Fetch Metadata Request Headers, sections 2.2 and 2.3). A request
+-- to another host, or from a page from elsewhere, is foreign.
 use Rattle.std.specs.Prelude.{ℕ, List, [], ◌∷◌, map, Option, Some, None, Bool, true, false, not, ◌&&◌, bytes_eq, codes, string_bytes}
 use Rattle.std.specs.List.{list_any}
 use Rattle.std.specs.Option.{option_map_or}
@@ -21,7 +21,7 @@ host_of origin = or_else (behind (codes "http://") origin) (behind (codes "https
 abbrev pub is_at : List ℕ → List ℕ → Bool
 is_at host origin = option_map_or (λ named. same_name host named) (host_of origin) false
 
--- a request of one host at which one of the origins is, and where it has an origin, it is that one
+-- the request names one host, at which one of the origins is, and its own origin, if it has one, is that one
 abbrev pub is_let_through : List (List ℕ) → List (List ℕ) → List (List ℕ) → Bool
 is_let_through origins [] from = false
 is_let_through origins (host ∷ other ∷ hosts) from = false
@@ -41,13 +41,13 @@ is_cross_site method [] modes = false
 is_cross_site method (site ∷ []) modes = bytes_eq site (codes "cross-site") && not (is_navigation method modes)
 is_cross_site method (site ∷ other ∷ sites) modes = true
 
--- by its method and its fields a request at one of these origins, from a page of that origin or from no page, and not across sites
+-- by its method and its fields the request is to one of these origins, from a page of that origin or from no page, and not across sites
 abbrev pub lets_through : List (List ℕ) → List ℕ → List (List ℕ × List ℕ) → Bool
 lets_through origins method fields =
     is_let_through origins (values_of (codes "host") fields) (values_of (codes "origin") fields)
     && not (is_cross_site method (values_of (codes "sec-fetch-site") fields) (values_of (codes "sec-fetch-mode") fields))
 
--- a request of this method and with these fields is refused; where no origins are guarded none is
+-- a request with this method and these fields is refused; if no origins are guarded, none is
 abbrev pub is_foreign : Routes → List ℕ → List (List ℕ × List ℕ) → Bool
 is_foreign Docket method fields = false
 is_foreign (Guarded origins) method fields = not (lets_through (map string_bytes origins.items) method fields)

@@ -79,8 +79,8 @@ abbrev pub path_wish : List ℕ → List ℕ → List (List ℕ × List ℕ) →
 path_wish method target fields None = place_wish method fields (place_of (path_of target))
 path_wish method target fields (Some rest) = rest_wish method rest (query_of target)
 
--- what a head of this method, target and fields asks for, where these routes are served; what comes from elsewhere asks for nothing,
--- whatever its target
+-- what a head of this method, target and fields asks for, where these routes are served; a foreign request asks for nothing, whatever
+-- its target
 abbrev pub wish_of : Routes → List ℕ → List ℕ → List (List ℕ × List ℕ) → Wish
 wish_of routes method target fields =
     if is_foreign routes method fields then Reject Foreign else path_wish method target fields (pages_rest routes (path_of target))

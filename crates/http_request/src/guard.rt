@@ -54,7 +54,8 @@ fn is_own_page(origins: &[String], host: &[u8], page: &[u8]) -> bool
         .any(|origin| is_own(host, page, origin.as_str()))
 }
 
-// Whether a request of this head is at one of the origins, and comes from a page of that one or from no page.
+// Whether a request of this head is sent to one of the origins, and comes from a page of that one or from no
+// page.
 fn is_asked_here(origins: &[String], head: &[u8], headers: &[HeaderSpan]) -> bool
     requires { All (IsHeaderWithin (length head.now)) headers.now }
     ensures { result ≡ is_let_through (map string_bytes origins.now) (values_of (codes "host") (map (header_bytes head.now) headers.now))
@@ -81,7 +82,8 @@ fn is_navigation(method: &[u8], head: &[u8], headers: &[HeaderSpan]) -> bool
     }
 }
 
-// Whether a browser marks a request of this method and head as one from another site, which is no plain navigation.
+// Whether a browser marks a request of this method and head as one from another site, and it is not a plain
+// navigation.
 fn is_cross_site(method: &[u8], head: &[u8], headers: &[HeaderSpan]) -> bool
     requires { All (IsHeaderWithin (length head.now)) headers.now }
     ensures { result ≡ is_cross_site_by method.now (values_of (codes "sec-fetch-site") (map (header_bytes head.now) headers.now))

@@ -24,7 +24,7 @@ pub struct Scan {
     pub line: Line,
 }
 
-/// What the search found: it needs more, a head of so many bytes, or no end in time.
+/// The result of the search: it needs more, a head of so many bytes, or no end in time.
 #[derive(Clone, Copy)]
 pub enum HeadSearch {
     More(Scan),

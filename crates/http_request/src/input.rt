@@ -22,7 +22,7 @@ pub enum HeadEnd {
     TooLong,
 }
 
-// Reads once, and keeps what came. It answers how many bytes, 0 only at the end.
+// Reads once, and keeps what came. Returns how many bytes, 0 only at the end.
 fn read_piece<R: Read>(reader: &mut R, came: &mut Vec<u8>) -> Result<usize, InputFault>
     ensures takes { OnOk result (Takes (R.remaining reader.old) (R.remaining reader.new) came.old.items came.new.items) }
     ensures count { IfOk result (λ n. vec_len came.new ≡ vec_len came.old + n) }

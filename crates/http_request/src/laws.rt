@@ -1,4 +1,4 @@
-//! What the end of a head is, and what the guard keeps out, with nothing to run.
+//! Laws of the end of a head, and of the guard, with nothing to run.
 ghost use Rattle.std.specs.Prelude.{◌≡◌, ℕ, ◌≤◌, List, ◌++◌, length, take, codes, false, true, [], ◌∷◌, Option};
 ghost use Rattle.std.specs.List.{AllByRecursion};
 ghost use Rattle.http_request.specs.Head.{head_of};
@@ -11,23 +11,23 @@ ghost use Rattle.http_request.specs.declared.wish.Wish.{Wish};
 ghost use Rattle.http_request.specs.Request.{IsRequest, IsLetThrough, is_refused};
 ghost use Rattle.http_request.specs.declared.head.HeadSearch.TheVariants.{Head};
 
-/// The end that is found is that of a head, and where an input begins with a head its end is found:
-/// whatever comes behind it, if the head is within the limits.
+/// The end that is found is that of a head. Where an input begins with a head within the limits its end is
+/// found, whatever comes behind it.
 pub fn heads_end_with_an_empty_line()
     ensures ends { (input : List ℕ) (len : ℕ) → head_of input ≡ Head len
         → IsHeadWithin (take len input) × len ≤ length input }
     ensures found { (head rest : List ℕ) → IsHeadWithin head → head_of (head ++ rest) ≡ Head (length head) }
 {}
 
-/// Each request that is not refused was let through by its head: where there is a guard it was asked at one of the
-/// origins, by a page of that one or by no page, and not across sites, whatever it asks for.
+/// Each request that is not refused was let through by its head. Where there is a guard it was sent to one of the
+/// origins, by a page of that one or by no page, and not across sites. This holds whatever it asks for.
 pub fn what_is_asked_was_let_through()
     ensures { (routes : Routes) (input : List ℕ) (wish : Wish) (body : List ℕ)
         → IsRequest routes input wish body → is_refused wish ≡ false → IsLetThrough routes input }
 {}
 
-/// A program that sends no origin and no mark of a browser is let through, whatever its method and its other fields, as
-/// it asks at a port of this machine under one of its names.
+/// A program that sends no origin and no mark of a browser is let through at a port of this machine under one of its
+/// names. This holds whatever its method and its other fields.
 pub fn who_sends_no_origin_is_let_through()
     ensures { (port : ℕ) (other : Option (List ℕ)) (method : List ℕ) (fields : List (List ℕ × List ℕ))
         → values_of (codes "origin") fields ≡ [] → values_of (codes "sec-fetch-site") fields ≡ []

@@ -115,7 +115,7 @@ fn is_get(method: &[u8]) -> bool
     method == Method::GET.as_str().as_bytes()
 }
 
-// The page that the rest of a path behind "/pages" asks for. A page is got.
+// The page that the rest of a path behind "/pages" asks for. The method must be GET.
 fn page_wish(router: &Router<Route>, method: &[u8], rest: &str, query: Option<&str>) -> Wish
     requires { router.now ≡ route_rows }
     ensures asks { result ≡ wish_by_page method.now (page_of rest.now (option_copied query.entry)) }
@@ -129,7 +129,7 @@ fn page_wish(router: &Router<Route>, method: &[u8], rest: &str, query: Option<&s
     }
 }
 
-// What a request for a copy asks for: it is got.
+// What a request for a copy asks for. The method must be GET.
 fn copy_wish(method: &[u8]) -> Wish
     ensures { result ≡ wish_of_copy method.now }
 {

@@ -9,7 +9,7 @@ use Rattle.icalendar.specs.ContentLines.{octets_from}
 abbrev pub IsWithin : ℕ → Type 0
 IsWithin b = (128 ≤ b) × (b < 192)
 
--- a first octet, which tells how many there are, and those within the character
+-- a first octet, which shows how many there are, and those within the character
 pub record Octets (c : ℕ) : Type 0 where
   pub first : ℕ
   pub rest : List ℕ

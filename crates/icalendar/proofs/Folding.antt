@@ -14,7 +14,7 @@ folded_stays at b bytes h = cond-true (nat_le (at + octets_from b) 75) _ _ (le-l
 pub folded_moves : (at b : ℕ) (bytes : List ℕ) → 75 < at + octets_from b → folded_from at (b ∷ bytes) ≡ 13 ∷ 10 ∷ 32 ∷ b ∷ folded_from 2 bytes
 folded_moves at b bytes h = cond-false (nat_le (at + octets_from b) 75) _ _ (lt-leb _ _ h)
 
--- what stands within a character stays
+-- an octet within a character stays on its line
 folded_within : (at : ℕ) (rest tail : List ℕ) → AllByRecursion IsWithin rest → at + length rest ≤ 75 → folded_from at (rest ++ tail) ≡ rest ++ folded_from (at + length rest) tail
 folded_within at [] tail within h = ap (λ n. folded_from n tail) (omega arith)
 folded_within at (b ∷ rest) tail within h =

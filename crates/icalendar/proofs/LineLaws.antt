@@ -38,7 +38,7 @@ pub each_physical : (P : List ℕ → Type 0) (text : List ℕ) → Each P (part
 unfolding physical_lines
 each_physical P text h = All-from_recursion P _ (each_map P (parts text) h)
 
--- at most 75 octets, where `at` have come of the first part
+-- at most 75 octets, where the first part has `at` before these
 abbrev IsShort : List ℕ → Type 0
 IsShort line = length line ≤ 75
 

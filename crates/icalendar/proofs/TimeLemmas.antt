@@ -1,4 +1,4 @@
--- The texts of dates and instants are ASCII, and the instants that are told.
+-- The texts of dates and instants are ASCII, and the instants that are written.
 use Rattle.std.proofs.Common.{◌≡◌, ℕ, ◌+◌, ◌*◌, ◌/◌, ◌%◌, ◌<◌, ◌≤◌, [], ◌∷◌, ◌++◌, IsUtf8, refl, sym, ℤ, pos, negsuc, unsigned_abs, ◌<ℤ◌, ◌≤ℤ◌, arith}
 use Rattle.std.proofs.lemmas.Int.{ints}
 use Rattle.std.proofs.lemmas.Str.{IsUtf8-append, IsUtf8-from_ascii}
@@ -46,7 +46,7 @@ pub utc_means : (at : ℕ) → (hour : ℕ) × (minute : ℕ) × (second : ℕ) 
 unfolding utc_value
 utc_means at = (at % 86_400 / 3600, at % 86_400 / 60 % 60, at % 86_400 % 60, omega arith, omega arith, omega arith, omega arith, refl)
 
--- where an instant lies, as the code tells
+-- where an instant lies, as the code finds it
 pub told-early : (at : ℤ) → at <ℤ pos 315_532_800 → 315_532_800 ≡ told at
 unfolding told
 told-early (pos n) h = omega (arith, ints)

@@ -88,7 +88,7 @@ value_step returned c rest h = ap text_value (kept returned c rest h) ∙ elim (
 pub value_skip : (rest : List ℕ) → value_behind true (encode 10 ++ rest) ≡ value_behind false rest
 value_skip rest = rw (encode_ascii 10 (omega arith)) refl
 
--- a byte that stands as it is
+-- a byte that stays as it is
 pub record Stands (b : ℕ) : Type 0 where
   pub no_control : 32 ≤ b
   pub no_delete : Differs 127 b
@@ -109,7 +109,7 @@ within_stand : (rest : List ℕ) → AllByRecursion IsWithin rest → escaped re
 within_stand [] h = refl
 within_stand (b ∷ rest) h = ap (λ l. l ++ escaped rest) (byte_stands b (wide_stands b h.0.0)) ∙ ap (λ l. b ∷ l) (within_stand rest h.1)
 
--- a character that stands as it is
+-- a character that stays as it is
 pub char_stands : (c : ℕ) → Stands c → escaped (encode c) ≡ encode c
 char_stands c h = elim (cases_lt c 128) [
   | inl small ↦ ap (λ l. escaped l) (encode_ascii c small) ∙ ap (λ l. l ++ []) (byte_stands c h) ∙ sym (encode_ascii c small)

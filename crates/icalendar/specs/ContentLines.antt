@@ -3,11 +3,11 @@ use Rattle.std.specs.Prelude.{◌≡◌, ℕ, ◌+◌, ◌==◌, Bool, false, �
 use Rattle.std.specs.List.{slice_split}
 use Rattle.icalendar.specs.Texts.{HasNoBreak}
 
--- how many octets stand on the same physical line from this one on: those of the character that it begins, and within a character it alone
+-- how many octets from this one on stay on the same physical line: those of the character that it begins, and within a character it alone
 abbrev pub octets_from : ℕ → ℕ
 octets_from b = if nat_lt b 192 then 1 else (if nat_lt b 224 then 2 else (if nat_lt b 240 then 3 else 4))
 
--- where `at` octets have come of the physical line, what would pass 75 stands on the next, behind CR LF and a blank
+-- behind `at` octets of the physical line, what would pass 75 goes to the next, behind CR LF and a blank
 abbrev pub folded_from : ℕ → List ℕ → List ℕ
 folded_from at [] = []
 folded_from at (b ∷ bytes) =

@@ -16,7 +16,7 @@ abbrev pub start_line : End → List ℕ
 start_line (LastDay day) = named (codes "DTSTART;VALUE=DATE") (date_value day)
 start_line (Moment at) = named (codes "DTSTART") (utc_value (told at))
 
--- the lines of an event, which takes no time from anybody (section 3.8.2.7)
+-- the lines of an event, which blocks no time in a schedule (section 3.8.2.7)
 abbrev pub event_lines : List ℕ → ℤ → End → List ℕ → List ℕ → List (List ℕ)
 event_lines uid stamp end summary description =
     codes "BEGIN:VEVENT"
@@ -32,7 +32,7 @@ event_lines uid stamp end summary description =
 abbrev pub event_text : List ℕ → ℤ → End → List ℕ → List ℕ → List ℕ
 event_text uid stamp end summary description = flat_map content_line (event_lines uid stamp end summary description)
 
--- what stands before the events of a calendar
+-- the lines before the events of a calendar
 abbrev pub head_lines : List (List ℕ)
 head_lines =
     codes "BEGIN:VCALENDAR"
@@ -44,7 +44,7 @@ head_lines =
 abbrev pub calendar_head : List ℕ
 calendar_head = flat_map content_line head_lines
 
--- and behind them
+-- the lines behind them
 abbrev pub foot_lines : List (List ℕ)
 foot_lines = codes "END:VCALENDAR" ∷ []
 

@@ -1,4 +1,4 @@
--- Values of the type TEXT (RFC 5545, section 3.3.11), and what they are read as.
+-- Values of the type TEXT (RFC 5545, section 3.3.11), and how they are read.
 use Rattle.std.specs.Prelude.{◌≡◌, ◌≢◌, ℕ, ◌==◌, Bool, true, false, not, ◌&&◌, ◌||◌, nat_lt, if◌then◌else◌, List, [], ◌∷◌, map}
 use Rattle.std.specs.List.{flat_map, AllByRecursion}
 
@@ -19,7 +19,7 @@ is_control b = nat_lt b 32 && not (b == 9) || b == 127
 abbrev pub plain_byte : ℕ → ℕ
 plain_byte b = if b == 10 || b == 13 then 10 else (if is_control b then 32 else b)
 
--- what a value tells of a text
+-- the text that a value reads back as
 unfoldable pub plain_text : List ℕ → List ℕ
 plain_text text = map plain_byte (single_breaks text)
 

@@ -14,7 +14,7 @@ digits_of_date year month day =
 unfoldable pub date_value : ℕ → List ℕ
 date_value day = digits_of_date (year_of day) (month_of day) (day_of_month day)
 
--- an instant is told from 1980-01-01T00:00:00Z to 3999-12-31T23:59:59Z: one beyond, which no deadline has, as the nearest of these
+-- an instant is written from 1980-01-01T00:00:00Z to 3999-12-31T23:59:59Z: one beyond, which no deadline has, as the nearest of these
 unfoldable pub told : ℤ → ℕ
 told at = max 315_532_800 (min 64_060_588_799 (seconds at))
 

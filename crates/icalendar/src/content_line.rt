@@ -9,8 +9,8 @@ use std::alloc::{AllocError, Global};
 /// How many octets a physical line may have, without its CR LF.
 const MAX_OCTETS: usize = 75;
 
-/// Adds a character where its physical line has so many octets, on the next one where it would pass the
-/// limit, and tells how many octets that line then has.
+/// Adds a character behind so many octets of its physical line, or on the next line where it would pass
+/// the limit. Returns how many octets that line then has.
 fn push_character(text: &mut String, at: usize, character: char) -> Result<usize, AllocError>
     requires { at ≤ 75 }
     ensures limit { IfOk result (λ next. next ≤ 75) }

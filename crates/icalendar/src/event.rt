@@ -1,4 +1,4 @@
-//! Events, and what stands around them in a calendar.
+//! Events, and the text around them in a calendar.
 ghost use Rattle.std.specs.Prelude.{◌≡◌, ◌++◌, IfOk, OnOk, string_bytes};
 ghost use Rattle.icalendar.specs.ContentLines.{content_line};
 ghost use Rattle.icalendar.specs.Events.{start_line, event_text, calendar_head, calendar_foot};
@@ -11,7 +11,7 @@ use std::alloc::{AllocError, Global};
 /// A deadline as an event.
 #[derive(Clone, Copy)]
 pub struct Event<'a> {
-    /// What tells the event from every other.
+    /// What distinguishes the event from every other.
     pub uid: &'a str,
     /// When this was written, in seconds since 1970-01-01T00:00Z.
     pub stamp: i64,
@@ -65,14 +65,14 @@ pub fn event_text(alloc: Global, event: &Event) -> Result<String, AllocError>
     Ok(text)
 }
 
-/// What stands before the events of a calendar.
+/// The text before the events of a calendar.
 pub fn calendar_head() -> &'static str
     ensures { result.now ≡ calendar_head }
 {
     "BEGIN:VCALENDAR\r\nVERSION:2.0\r\nPRODID:-//Wogzenay//docketctl//EN\r\nCALSCALE:GREGORIAN\r\n"
 }
 
-/// What stands behind them.
+/// The text behind them.
 pub fn calendar_foot() -> &'static str
     ensures { result.now ≡ calendar_foot }
 {

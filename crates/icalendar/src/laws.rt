@@ -1,4 +1,4 @@
-//! What the functions of specs/ say, with nothing to run.
+//! Laws of the functions in specs/. Nothing here runs.
 ghost use Rattle.std.specs.Prelude.{◌≡◌, ℕ, ℤ, pos, ◌+◌, ◌*◌, ◌/◌, ◌<◌, ◌≤◌, List, [], ◌∷◌, ◌++◌, length, All};
 ghost use Rattle.std.specs.List.{flat_map};
 ghost use Rattle.std.specs.Str.{IsUtf8};
@@ -21,8 +21,8 @@ pub fn values_are_read_back()
 {}
 
 /// No physical line of a content line has more than 75 octets, and unfolding gives the line back. Where
-/// the line is UTF-8, each physical line is, so that no fold stands within a character. A property of
-/// the type TEXT is such a line, whatever its text is.
+/// the line is UTF-8, each physical line is, so that no fold is within a character. A property of the
+/// type TEXT is such a line, whatever its text is.
 pub fn lines_are_folded()
     ensures property { (name text : List ℕ) → HasNoBreak name → HasNoBreak (named name (text_value text)) }
     ensures short { (line : List ℕ) → HasNoBreak line
@@ -54,8 +54,8 @@ pub fn events_are_lines()
     ensures foot { All IsLine foot_lines }
 {}
 
-/// The digits of a day are those of its date. An instant is told by the date of its day in UTC, its
-/// hour, its minute and its second, and is one that is told itself from 1980 to 3999.
+/// The digits of a day are those of its date. An instant is written as the date of its day in UTC,
+/// its hour, its minute and its second; from 1980 to 3999 it is written exactly.
 pub fn times_are_told()
     ensures date { (day : ℕ) → IsDayNumber day → (year month day_of_month : ℕ)
         × HasYmd day (pos year) month day_of_month × (date_value day ≡ digits_of_date year month day_of_month) }

@@ -1,5 +1,5 @@
 //! Deadlines as iCalendar text (RFC 5545): values of the type TEXT, content lines, dates and instants in
-//! UTC, events, and what stands around them.
+//! UTC, events, and the text around them.
 #![tactic(auto)]
 
 mod content_line;

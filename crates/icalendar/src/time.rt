@@ -7,13 +7,13 @@ ghost use Rattle.icalendar.specs.Times.{date_value, digits_of_time, told, utc_va
 use court_days::{Day, day_bytes};
 use std::fmt;
 
-/// 1980-01-01T00:00:00Z, the first instant that is told.
+/// 1980-01-01T00:00:00Z, the first instant that is written.
 const FIRST_INSTANT: i64 = 315_532_800;
 
 /// 3999-12-31T23:59:59Z, the last one.
 const LAST_INSTANT: i64 = 64_060_588_799;
 
-/// The instant itself, in seconds since 1970-01-01T00:00Z, or the nearest one that is told.
+/// The instant itself, in seconds since 1970-01-01T00:00Z, or the nearest one that is written.
 fn told(at: i64) -> u64
     ensures value { result ≡ told at }
     ensures limits { (315_532_800 ≤ result) × (result ≤ 64_060_588_799) }

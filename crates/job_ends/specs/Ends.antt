@@ -1,4 +1,4 @@
--- How a job ends, and what it still tells.
+-- How a job ends, and what it still prints.
 use Rattle.std.specs.Prelude.{◌≡◌, ◌⊎◌, ℕ, List, [], ◌++◌, Option, Some, IfSome, codes}
 use Rattle.std.specs.Fmt.{◌++?◌, debug_str}
 use Rattle.std.specs.Io.KnownBytes.{Appends}
@@ -9,7 +9,7 @@ use Rattle.line_io.specs.Output.{AppendsFront}
 use Rattle.job_ends.specs.declared.status.Status.{Status}
 use Rattle.job_ends.specs.declared.status.Status.TheVariants.{Done, SomeBad, BadLine, Failed}
 
--- the text went out, and the job ends so; or a front of it did, and the job failed
+-- the text went out, and the job ends so; or a prefix of it did, and the job failed
 abbrev pub Writes : List ℕ → Status → Option (List ℕ) → Option (List ℕ) → Status → Type 0
 Writes text status before after result =
     ((result ≡ status) × Appends before after text) ⊎ ((result ≡ Failed) × AppendsFront before after text)
@@ -21,26 +21,26 @@ exit_code SomeBad = 1
 exit_code BadLine = 2
 exit_code Failed = 3
 
--- the same of the whole program, which ends by its exit status
+-- the same for the whole program, which ends by its exit status
 abbrev pub Exits : List ℕ → Status → Option (List ℕ) → Option (List ℕ) → ℕ → Type 0
 Exits text status before after code = (ended : Status) × Writes text status before after ended × (code ≡ exit_code ended)
 
--- nothing is still to be told, since the job failed
+-- nothing is left to print, since the job failed
 abbrev pub TellsNothing : List ℕ → Status → Type 0
 TellsNothing text status = (status ≡ Failed) × (text ≡ [])
 
--- the last line of an output whose job failed for want of memory
+-- the last line of an output whose job ran out of memory
 abbrev pub no_memory_line : List ℕ
 no_memory_line = codes "{\"error\":\"no-memory\"}\n"
 
--- the line on the standard error that tells why a job failed, by how that is shown, where the kit says how
+-- the line on the standard error that says why a job failed, by the error's text, where the kit specifies that
 abbrev pub error_line : Option (List ℕ) → Option (List ℕ)
 error_line shown = Some (codes "docketctl: ") ++? shown ++? Some (codes "\n")
 
 abbrev pub no_memory_error : List ℕ
 no_memory_error = codes "docketctl: there is not enough memory\n"
 
--- that line went out, or where memory ran short this one; or a front of it, if not all could be written
+-- that line went out, or where memory ran out the line for that; or a prefix of it, if not all could be written
 abbrev pub SaysFault : Option (List ℕ) → Option (List ℕ) → Option (List ℕ) → Type 0
 SaysFault shown before after = IfSome (error_line shown) (λ line. AppendsFront before after line ⊎ AppendsFront before after no_memory_error)
 

@@ -1,4 +1,4 @@
-//! How a job ended, and what is still to be told.
+//! How a job ended, and what is still to be printed.
 ghost use Rattle.std.specs.Prelude.{◌≡◌, [], None, string_bytes};
 ghost use Rattle.std.specs.Cow.{cow_str_bytes};
 ghost use Rattle.job_ends.specs.Ends.{Exits};
@@ -11,8 +11,8 @@ use std::alloc::Global;
 use std::borrow::CowStr;
 use std::io::Write;
 
-/// How a job ended: the text that is still to be told once the files are let go, and what is left of the
-/// files, where a job opened them.
+/// How a job ended: the text that is still to be printed once the files are dropped, and what is left of the
+/// files, where the job opened them.
 #[derive(Drop)]
 pub struct JobEnd<D: Disk> {
     pub text: CowStr<'static>,
@@ -21,7 +21,7 @@ pub struct JobEnd<D: Disk> {
 }
 
 impl<D: Disk + Drop> JobEnd<D> {
-    /// Nothing is still to be told, and no files were opened.
+    /// Returns the end of a job with no text to print, which opened no files.
     pub fn of(status: Status) -> JobEnd<D>
         ensures text { cow_str_bytes result.text ≡ [] }
         ensures status { result.status ≡ status }
@@ -34,7 +34,7 @@ impl<D: Disk + Drop> JobEnd<D> {
         }
     }
 
-    /// The text is still to be told, and no files were opened.
+    /// Returns the end of a job that is done, with this text to print, which opened no files.
     pub fn told(text: String) -> JobEnd<D>
         ensures text { cow_str_bytes result.text ≡ string_bytes text }
         ensures status { result.status ≡ Status.Done }
@@ -47,7 +47,7 @@ impl<D: Disk + Drop> JobEnd<D> {
         }
     }
 
-    /// The same, but for the status.
+    /// Returns the same end with this status.
     pub fn ending(self, status: Status) -> JobEnd<D>
         ensures text { result.text ≡ self.text }
         ensures status { result.status ≡ status }
@@ -56,7 +56,7 @@ impl<D: Disk + Drop> JobEnd<D> {
         JobEnd { status, ..self }
     }
 
-    /// The same, with what is left of the files.
+    /// Returns the same end with what is left of the files.
     pub fn with(self, left: Option<Leftover<D>>) -> JobEnd<D>
         ensures text { result.text ≡ self.text }
         ensures status { result.status ≡ self.status }
@@ -65,8 +65,8 @@ impl<D: Disk + Drop> JobEnd<D> {
         JobEnd { left, ..self }
     }
 
-    /// Lets the files go, writes the text, and returns the exit status of the program: that of a job that
-    /// failed, where the text can't be written.
+    /// Drops the files, writes the text, and returns the exit status of the program. Where the text can't be
+    /// written, that is the status of a job that failed.
     pub fn finish<W: Write, E: Write>(self, alloc: Global, w: &mut W, e: &mut E) -> u8
         ensures { Exits (cow_str_bytes self.text) self.status (W.contents w.old) (W.contents w.new) result }
     {

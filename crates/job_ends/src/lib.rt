@@ -1,4 +1,4 @@
-//! How a job of `docketctl` ends: its exit status, what it still has to tell, and the line that says why it
+//! How a job of `docketctl` ends: its exit status, what it still has to print, and the line that says why it
 //! failed.
 #![tactic(auto)]
 

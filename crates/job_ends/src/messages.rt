@@ -1,4 +1,4 @@
-//! What a job tells on its writers.
+//! What a job prints on its writers.
 ghost use Rattle.std.specs.Prelude.{◌≡◌, IfOk, IfSome, string_bytes};
 ghost use Rattle.line_io.specs.Output.{AppendsFront};
 ghost use Rattle.job_ends.specs.Ends.{SaysFault, Writes, error_line, no_memory_error, no_memory_line};
@@ -9,7 +9,7 @@ use std::alloc::{AllocError, Global};
 use std::fmt;
 use std::io::{ErrorKind, Write};
 
-/// Writes the text, and tells where that fails.
+/// Writes the text, and prints a fault where that fails.
 pub fn write_text<W: Write, E: Write>(
     alloc: Global,
     text: &str,
@@ -25,14 +25,14 @@ pub fn write_text<W: Write, E: Write>(
     }
 }
 
-/// The line that tells a fault.
+/// Returns the line that reports a fault.
 fn line_of<F: fmt::Display>(alloc: Global, fault: &F) -> Result<String, AllocError>
     ensures { IfOk result (λ line. IfSome (error_line (F.output fault.now)) (λ bytes. string_bytes line ≡ bytes)) }
 {
     format!(in alloc; "docketctl: {fault}\n")
 }
 
-/// Tells in one line why the program failed. Where it can't be told, the status alone says it.
+/// Prints in one line why the program failed. Where that can't be printed, only the status shows it.
 pub fn failed<E: Write, F: fmt::Display>(alloc: Global, e: &mut E, fault: &F) -> Status
     ensures status { result ≡ Status.Failed }
     ensures told { SaysFault (F.output fault.now) (E.contents e.old) (E.contents e.new) }
@@ -44,7 +44,7 @@ pub fn failed<E: Write, F: fmt::Display>(alloc: Global, e: &mut E, fault: &F) ->
     Status::Failed
 }
 
-/// Tells in one line that there is not enough memory, which takes none.
+/// Prints in one line that there is not enough memory. It needs none itself.
 pub fn no_memory<E: Write>(e: &mut E) -> Status
     ensures status { result ≡ Status.Failed }
     ensures told { AppendsFront (E.contents e.old) (E.contents e.new) no_memory_error }
@@ -53,7 +53,7 @@ pub fn no_memory<E: Write>(e: &mut E) -> Status
     Status::Failed
 }
 
-/// Tells in one line that this could not be done, or that it lacked memory.
+/// Prints in one line that this could not be done, or that memory ran out.
 pub fn failed_by<E: Write>(alloc: Global, e: &mut E, kind: ErrorKind, what: &str) -> Status
     ensures { result ≡ Status.Failed }
 {
@@ -63,7 +63,7 @@ pub fn failed_by<E: Write>(alloc: Global, e: &mut E, kind: ErrorKind, what: &str
     }
 }
 
-/// Tells on the output, in the place of an answer, that there is not enough memory.
+/// Writes to the output, in place of an answer, that there is not enough memory.
 pub fn out_of_memory<W: Write>(w: &mut W) -> Status
     ensures status { result ≡ Status.Failed }
     ensures told { AppendsFront (W.contents w.old) (W.contents w.new) no_memory_line }

@@ -1,4 +1,4 @@
-//! What a job on files came to, or why it was not done.
+//! The outcome of a job on files, or why it was not done.
 ghost use Rattle.std.specs.Prelude.{◌≡◌, Ok, None, Some, IfErr, IfOk, IsErr, IsOkAnd, MatchResult, OnOk};
 ghost use Rattle.std.specs.Cow.{cow_str_bytes};
 ghost use Rattle.job_ends.specs.Ends.{SaysFault, TellsNothing, unadopted_at};
@@ -13,7 +13,7 @@ use std::alloc::Global;
 use std::fmt;
 use std::io::Write;
 
-/// A fault of the file at a path, to be told.
+/// A fault of the file at a path, as it is printed.
 #[derive(Drop)]
 pub struct AtPath<'a, F> {
     pub path: &'a str,
@@ -56,8 +56,8 @@ impl fmt::Display for NotAdopted {
     }
 }
 
-/// What a job on the files at a path came to, and what is left of them; or how it ends, where it was not
-/// done.
+/// Returns the outcome of a job on the files at a path, and what is left of them. Where it was not done,
+/// prints why and returns how the job ends.
 pub fn done<S: Start, T, F: fmt::Display + Drop, E: Write>(
     alloc: Global,
     path: &str,
@@ -88,7 +88,7 @@ pub fn done<S: Start, T, F: fmt::Display + Drop, E: Write>(
     }
 }
 
-/// The same of a job on the docket that the files hold.
+/// Does the same for a job on the docket that the files hold.
 pub fn done_on_docket<S: Start, T, E: Write>(
     alloc: Global,
     path: &str,
@@ -98,7 +98,7 @@ pub fn done_on_docket<S: Start, T, E: Write>(
     ensures done { MatchResult result (λ found. IsOkAnd ended (λ it. (it.outcome ≡ Ok found.0) × (it.left ≡ found.1)))
         (λ end. TellsNothing (cow_str_bytes end.text) end.status
         × MatchResult ended (λ it. (end.left ≡ Some it.left) × IsErr it.outcome) (λ _. end.left ≡ None)) }
-    // Where the docket was not adopted, the line of its fault is told.
+    // Where the docket was not adopted, the line of its fault is printed.
     ensures said { IfOk ended (λ it. IfErr it.outcome (λ fault. SaysFault (unadopted_at path.now fault) (E.contents e.old) (E.contents e.new))) }
     ensures silent { OnOk result (e.new ≡ e.old) }
 {

@@ -1,4 +1,4 @@
--- What a question to the docket in files came to, and how its job ends.
+-- The outcome of a question to the docket in files, and how its job ends.
 use Rattle.std.proofs.Common.{◌≡◌, inl, inr, ℕ, List, [], Option, Some, None, Result, Ok, Err, IfErr, IfOk, IsErr, IsOkAnd, MatchOption, MatchResult, refl, sym, ap, subst, subst₂, unwrap_or}
 use Rattle.std.proofs.lemmas.Bool.{false≢true}
 use Rattle.std.proofs.lemmas.Result.{IfErr-weaker}
@@ -30,21 +30,21 @@ use Rattle.job_runs.specs.Spares.{FailsBy, RowsStay, SparesAsked, WereAsked, Wer
 use Rattle.job_runs.specs.Tells.{TellsIfAny, TellsText}
 use Rattle.job_runs.proofs.EndLemmas.{err_holds, some_left}
 
--- what is so of whatever is left gives what follows from it
+-- what follows from a fact of whatever is left holds of it too
 pub left_map : {L : Type 0} (o : Option L) (N : Type 0) (P Q : L → Type 0) → ((left : L) → P left → Q left) → MatchOption o N P → MatchOption o N Q
 left_map None N P Q then is = is
 left_map (Some left) N P Q then is = then left is
 
--- what is so anyway is so where no files were opened
+-- what holds anyway holds where no files were opened
 pub if_unopened : {L : Type 0} (o : Option L) (P : Type 0) → P → MatchOption o P (λ _. Unit {0})
 if_unopened None P holds = holds
 if_unopened (Some left) P holds = tt
 
--- where nothing went out, a front of any text did
+-- where nothing went out, a prefix of any text did
 pub none_out : (before after : Option (List ℕ)) (wanted : List ℕ) → after ≡ before → HasFront before after wanted
 none_out before after wanted same = record { out = []; lost = wanted; whole = refl; appends = subst (λ a. Appends before a []) (sym same) (Appends-nil before) }
 
--- a text that is always there is told
+-- a text that is always there is printed
 told_text : (wanted text : List ℕ) (status : Status) → TellsIfAny (Some wanted) text status → TellsText wanted text status
 told_text wanted text Done is = sym (ap (λ found. unwrap_or found []) is)
 told_text wanted text SomeBad is = absurd (none-some wanted (sym is.0))
@@ -60,7 +60,7 @@ if_both (Ok x) S P W p said same = tt
 if_both (Err e) S P W p said same = ((p, said), same)
 
 module _ {D : Type 0} {g : Ghosts D} where
-  -- files that were judged, by the outcome of the work on them: it was done
+  -- files that were checked, by the outcome of the work on them: it was done
   pub judged_done : {T : Type 0} (files : Image) (V : Type 0) (R : AdoptFault → Type 0) (left : Leftover D g) (failure : Option Error) (outcome : Result T AdoptFault) (done : T)
       → IsJudged files left failure outcome → outcome ≡ Ok done → V → WereJudged files V R left
   judged_done files V R left failure (Ok x) done is same worked = record { opened = is.opened; shows = is.shows; judged = inl (is.sound, worked) }
@@ -83,7 +83,7 @@ module _ {D : Type 0} {g : Ghosts D} where
     ];
   }
 
-  -- what a work came to, by the answer and what is left, or by the end of its job
+  -- the outcome of a work, by the answer and what is left, or by the end of its job
   abbrev pub Comes : {T Y : Type 0} → Result (Ended D T AdoptFault g) Y → Result (T × Leftover D g) (JobEnd D g) → Type 0
   Comes ended result =
       MatchResult result (λ found. IsOkAnd ended (λ it. (it.outcome ≡ Ok found.0) × (it.left ≡ found.1)))
@@ -108,7 +108,7 @@ module _ {D : Type 0} {g : Ghosts D} where
   answered docket P (Err y) (Err end) works kept is =
       closed end (λ left. IsCleanLeft left → TellsNothing (cow_str_bytes end.text) end.status × LeavesRows left (rows_told docket) (rows_told docket)) is.1 is.0
 
-  -- and the files were judged
+  -- and the files were checked
   pub spared : {T : Type 0} (path : List ℕ) (files : Image) (before after : Option (List ℕ)) (ended : Result (Ended D T AdoptFault g) (Error × Option (Leftover D g)))
       (result : Result (T × Leftover D g) (JobEnd D g)) → OnlyAsks files ended → IfOk ended (λ it. IfErr it.outcome (λ fault. SaysFault (unadopted_at path fault) before after))
       → Comes ended result → MatchResult result (WereAsked files) (SparesAsked path files before after)
@@ -145,12 +145,12 @@ module _ {D : Type 0} {g : Ghosts D} where
       (λ clean. judged_undone files (V it.left) R it.left it.failure it.outcome (is clean) none.1 said)
   refused files V R (Err y) end is none said fails = closed end (λ left. IsCleanLeft left → WereJudged files (V left) R left) none fails
 
-  -- nothing more is so of a work that was done
+  -- nothing more is to show of a work that was done
   pub no_more : {T Y : Type 0} (ended : Result (Ended D T AdoptFault g) Y) → IfOk ended (λ it. IsCleanLeft it.left → IfOk it.outcome (λ _. Unit {0}))
   no_more (Ok it) = λ clean. if_ok it.outcome
   no_more (Err y) = tt
 
-  -- what is said of a fault, with what is so anyway
+  -- what holds of a fault, with what holds anyway
   pub said_with : {T Y : Type 0} (ended : Result (Ended D T AdoptFault g) Y) (S : AdoptFault → Type 0) (P Q : Type 0) → P → Q → IfOk ended (λ it. IfErr it.outcome S)
       → IfOk ended (λ it. IfErr it.outcome (λ fault. (P × S fault) × Q))
   said_with (Ok it) S P Q p q said = IfErr-weaker it.outcome _ _ (λ fault says. ((p, says), q)) said
@@ -189,7 +189,7 @@ module _ {D : Type 0} {g : Ghosts D} where
         some_left end.left left _ (λ left. IsCleanLeft left → WereJudged files (RowsStay files left) (FailsBy path end.status before after) left) same
         (λ clean. judged_so files (RowsStay files left) (FailsBy path end.status before after) left (is clean))
 
-  -- one that was not answered told nothing
+  -- one that was not answered printed nothing
   pub fails : (end : JobEnd D g) (docket : Docket) (Q : List ℕ → Status → Type 0) → Q [] Failed → TellsOf docket TellsNothing end → TellsOf docket Q end
   fails end docket Q holds is =
       left_map end.left _ (λ left. IsCleanLeft left → TellsNothing (cow_str_bytes end.text) end.status × LeavesRows left (rows_told docket) (rows_told docket))

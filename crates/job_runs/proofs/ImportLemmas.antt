@@ -1,4 +1,4 @@
--- How the import of a table is told.
+-- How the import of a table is reported.
 use Rattle.std.proofs.Common.{◌≡◌, List, [], ℕ, Option, Some, None, IfSome, MatchOption, inl, inr, sym, subst}
 use Rattle.std.specs.Io.KnownBytes.{Appends}
 use Rattle.docket_command.specs.declared.command.Command.{Command}
@@ -19,7 +19,7 @@ pub entered : {L : Type 0} (o : Option L) (Clean : L → Type 0) (A : L → Comm
 entered None Clean A N command input key read none = tt
 entered (Some left) Clean A N command input key read applied = λ clean. (read.0, read.1, subst (A left) read.2 (applied clean))
 
--- and whatever the files held, this is so of that command
+-- and whatever the files held, this holds of that command
 pub spared_import : {L : Type 0} (o : Option L) (Clean : L → Type 0) (A : L → Command → Type 0) (N : Type 0) (command : Command) (Read : Command → Type 0)
     → Read command → MatchOption o N (λ left. Clean left → A left command) → IfSome o (λ left. Clean left → (c : Command) × Read c × A left c)
 spared_import None Clean A N command Read read is = tt
@@ -40,7 +40,7 @@ module _ (input before after : Option (List ℕ)) where
   fault_told fault text status is line (inl whole) = subst (TellsFault input before after) (sym whole.0) (fault, is, subst (Appends before after) line whole.1)
   fault_told fault text status is line (inr front) = subst (TellsFault input before after) (sym front.0) (inr (fault, is, subst (AppendsFront before after) line front.1))
 
-  -- nothing went out before the files were let go, or none were opened
+  -- nothing went out before the files were closed, or none were opened
   pub answers_last : {L : Type 0} (o : Option L) (text : List ℕ) (status : Status) → after ≡ before → MatchOption o (TellsNothing text status) (λ _. Unit {0})
       → MatchOption o (TellsFault input before after status × (text ≡ [])) (λ _. after ≡ before)
   answers_last None text status same none = (failed_silently status none.0 same, none.1)

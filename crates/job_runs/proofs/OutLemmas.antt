@@ -1,4 +1,4 @@
--- What went out of a calendar or an export is a text, or a front of it.
+-- What went out of a calendar or an export is a text, or a prefix of it.
 use Rattle.std.proofs.Common.{ℕ, List, Option, Result, Ok, Err}
 use Rattle.court_days.specs.Court.{CourtSettings}
 use Rattle.docket_applying.specs.declared.fault.Fault.TheVariants.{Refused, NoMemory, StoreFailed, Closed, Damaged}

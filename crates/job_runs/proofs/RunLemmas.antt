@@ -1,4 +1,4 @@
--- How a run over lines is told, and what it leaves.
+-- How a run over lines is reported, and what it leaves.
 use Rattle.std.proofs.Common.{◌≡◌, ◌≢◌, ◌∙◌, ℕ, zero, suc, List, Option, Some, None, Result, Ok, Err, IfOk, IfSome, IsErr, IsOkAnd, MatchOption, MatchResult, refl, sym, ap, subst, subst₂, arith}
 use Rattle.std.proofs.lemmas.Bool.{false≢true}
 use Rattle.std.specs.Io.KnownBytes.{Appends}
@@ -22,7 +22,7 @@ use Rattle.job_runs.proofs.AskLemmas.{none_out}
 use Rattle.job_runs.proofs.EndLemmas.{some_left}
 
 module _ (Left : Rows → Rows → Type 0) (docket : Docket) (input : List ℕ) (before : Option (List ℕ)) where
-  -- all lines were answered: the status tells whether one of the answers is bad
+  -- all lines were answered: the status shows whether one of the answers is bad
   whole : (mid after : Option (List ℕ)) (end : CountEnd) (bad : ℕ) (status : Status) → end.bad ≡ bad → AnswersAll Left docket input before mid end
       → (after ≡ mid) × (bad ≡ 0 → status ≡ Done) × (bad ≢ 0 → status ≡ SomeBad) → Runs Left docket input before after status
   whole mid after end zero status is all told =
@@ -31,7 +31,7 @@ module _ (Left : Rows → Rows → Type 0) (docket : Docket) (input : List ℕ) 
       let some : suc n ≢ 0 = λ none. omega (arith, none) in
       subst (Runs Left docket input before after) (sym (told.2 some)) (subst (λ a. Appends before a (run_text docket input)) (sym told.0) all.text, (λ none. omega (arith, is, all.bad, none)), all.left)
 
-  -- how it ended is told
+  -- how it ended is reported
   pub told_end : (mid after : Option (List ℕ)) (end : Result CountEnd RunFault) (status : Status) → Answers Left docket input before mid end → LeavesPrefix Left docket input before mid
       → TellsEnd end mid after status → Runs Left docket input before after status
   told_end mid after (Ok end) status answers prefix told = whole mid after end end.bad status refl answers told
@@ -42,7 +42,7 @@ module _ (Left : Rows → Rows → Type 0) (docket : Docket) (input : List ℕ) 
   untold after status prefix is =
       subst (Runs Left docket input before after) (sym is) (after, prefix, run.WriteFailed, record { count = 0; within = omega arith; front = Appends-nil after })
 
--- of a run on files that were opened, `outcome` is what it came to, and `left_of` what is left of them
+-- for a run on files that were opened, `outcome` is its outcome and `left_of` what is left of them
 module _ {X Y L : Type 0} where
   pub ran : (ended : Result X Y) (left_of : X → L) (Clean : L → Type 0) (outcome : X → Result (Result CountEnd RunFault) AdoptFault) (LeftOf : L → Rows → Rows → Type 0) (docket : Docket)
       (remaining before mid after : Option (List ℕ)) (end : Result CountEnd RunFault) (left : L) (o : Option L) (N : Type 0) (told status : Status)
@@ -70,7 +70,7 @@ module _ {X Y L : Type 0} where
   not_run (Err y) left_of Clean outcome LeftOf docket (Some input) before after o N status prefix is none failed =
       subst (λ o. MatchOption o N (λ left. Clean left → Runs (LeftOf left) docket input before after status)) (sym is) none
 
--- how a run in memory is told
+-- how a run in memory is reported
 
 abbrev bad_in : Result CountEnd RunFault → ℕ
 bad_in (Ok e) = e.bad
@@ -85,7 +85,7 @@ module _ (docket : Docket) (input : List ℕ) (before : Option (List ℕ)) where
       let some : suc n ≢ 0 = λ none. omega (arith, none) in
       subst (RunsInMemory docket input before after) (sym (told.2 some)) (subst (λ a. Appends before a (run_text docket input)) (sym told.0) all, (λ none. omega (arith, is, none)))
 
-  -- how it ended is told
+  -- how it ended is reported
   pub told_in_memory : (mid after : Option (List ℕ)) (end told : Result CountEnd RunFault) (status : Status)
       → MatchResult end (λ e. Appends before mid (run_text docket input) × (e.bad ≡ bad_answers docket input)) (λ _. HasFront before mid (run_text docket input))
       → MatchResult told (λ e. end ≡ Ok e) (λ _. IsErr end) → TellsEnd told mid after status → RunsInMemory docket input before after status

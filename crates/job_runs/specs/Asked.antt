@@ -16,15 +16,15 @@ use Rattle.job_ends.specs.declared.end.JobEnd.{JobEnd}
 use Rattle.job_runs.specs.Jobs.{TellsOf}
 
 module _ {D : Type 0} {g : Ghosts D} {T : Type 0} where
-  -- where the files were let go clean this is so of the answer; or the job failed; and the docket is left as it was
+  -- where the files were closed clean this holds of the answer; or the job failed; and the docket is left as it was
   abbrev pub IsAnswered : Docket → (T → Type 0) → Result (T × Leftover D g) (JobEnd D g) → Type 0
   IsAnswered docket P (Ok found) = IsCleanLeft found.1 → P found.0 × LeavesRows found.1 (rows_told docket) (rows_told docket)
   IsAnswered docket P (Err end) = TellsOf docket TellsNothing end
 
-  -- this is so where the files were not opened, or the docket was not asked
+  -- this holds where the files were not opened, or the docket was not asked
   abbrev pub IfUnasked : {Y : Type 0} → Type 0 → Result (Ended D T AdoptFault g) Y → Type 0
   IfUnasked P ended = MatchResult ended (λ it. IfErr it.outcome (λ _. P)) (λ _. P)
 
--- a text went out, or a front of it, where the docket or the writer failed
+-- a text went out, or a prefix of it, where the docket or the writer failed
 abbrev pub GoesOut : {N : Type 0} → List ℕ → Option (List ℕ) → Option (List ℕ) → Result N CalendarEnd → Type 0
 GoesOut wanted before after end = MatchResult end (λ _. Appends before after wanted) (λ _. HasFront before after wanted)

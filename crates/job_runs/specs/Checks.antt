@@ -1,4 +1,4 @@
--- What is told of a docket whose tables are sound.
+-- The report on a docket whose tables are sound.
 use Rattle.std.specs.Prelude.{ℕ, List, [], ◌∷◌, ◌++◌, codes, decimal}
 use Rattle.civil_time.specs.MomentText.{clock_text}
 use Rattle.court_days.specs.Court.{CourtSettings}
@@ -29,6 +29,6 @@ held_lines held =
     calendar_lines held ++ (case_lines held
     ++ counted (codes "deadlines ") held.deadlines (codes ": " ++ (standings_text held.standings ++ (codes "\n" ++ counted (codes "receipts ") held.receipts (codes "\n")))))
 
--- all of it
+-- the whole report
 abbrev pub check_text : CourtSettings → Holdings → List ℕ
 check_text court held = codes "sound\n" ++ (court_line court.zone_text court.close_minute ++ held_lines held)

@@ -1,4 +1,4 @@
--- How the answer to a command is told, and why a text is no table of days.
+-- How the answer to a command is printed, and why a text is no table of days.
 use Rattle.std.specs.Prelude.{◌≡◌, ◌⊎◌, ℕ, List, [], ◌∷◌, ◌++◌, Option, Result, Ok, Err, IfSome, IsOk, IsErr, codes}
 use Rattle.std.specs.Io.KnownBytes.{Appends}
 use Rattle.day_tables.specs.CalendarCsv.{HasFault, fault_text}
@@ -12,14 +12,14 @@ use Rattle.line_io.specs.Output.{AppendsFront}
 use Rattle.job_ends.specs.declared.status.Status.{Status}
 use Rattle.job_ends.specs.declared.status.Status.TheVariants.{Done, SomeBad, BadLine, Failed}
 
--- the line of an answer, or nothing where there was no memory for it
+-- the line of an answer, or nothing where memory ran out
 abbrev pub TellsAnswer : Result Reply Refusal → List ℕ → Status → Type 0
 TellsAnswer answer text Done = IsOk answer × (text ≡ reply_text answer ++ 10 ∷ [])
 TellsAnswer answer text SomeBad = IsErr answer × (text ≡ reply_text answer ++ 10 ∷ [])
 TellsAnswer answer text BadLine = ⊥
 TellsAnswer answer text Failed = text ≡ []
 
--- the same of a command: a fault other than a refusal is no answer
+-- the same for a command: a fault other than a refusal is no answer
 abbrev pub TellsApplied : Result Reply Fault → List ℕ → Status → Type 0
 TellsApplied (Ok reply) text status = TellsAnswer (Ok reply) text status
 TellsApplied (Err (Refused r)) text status = TellsAnswer (Err r) text status
@@ -33,7 +33,7 @@ fault_line fault = fault_text fault ++ codes "\n"
 abbrev pub IsNoTable : Option (List ℕ) → CsvFault → Type 0
 IsNoTable input fault = IfSome input (λ bytes. HasFault bytes fault)
 
--- The input is no table, and the line of its fault went out, with nothing else; or the job failed, and nothing went out, or a front of that line.
+-- The input is no table, and the line of its fault went out, with nothing else; or the job failed, and nothing went out, or a prefix of that line.
 abbrev pub TellsFault : Option (List ℕ) → Option (List ℕ) → Option (List ℕ) → Status → Type 0
 TellsFault input before after Done = ⊥
 TellsFault input before after SomeBad = (fault : CsvFault) × IsNoTable input fault × Appends before after (fault_line fault)

@@ -58,7 +58,7 @@ use Rattle.job_ends.specs.declared.status.Status.TheVariants.{Done, SomeBad, Bad
 abbrev pub import_command : List ℕ → List NewDay → Command
 import_command key days = record { key = key; action = ImportCalendar (record { rows = days }) }
 
--- the answers to all lines went out, this text, and the status says whether so many of them are `bad` or `full`; or a front of them did
+-- the answers to all lines went out, this text, and the status says whether so many of them are `bad` or `full`; or a prefix of them did
 abbrev pub AnswersAll : List ℕ → ℕ → Option (List ℕ) → Option (List ℕ) → Status → Type 0
 AnswersAll text bad before after Done = Appends before after text × (bad ≡ 0)
 AnswersAll text bad before after SomeBad = Appends before after text × (bad ≢ 0)
@@ -76,7 +76,7 @@ Explains input = AnswersAll (explain_text input) (bad_days input)
 abbrev pub new_docket : CourtSettings → Docket
 new_docket court = record { court = court; history = [] }
 
--- memory gives back what it took
+-- memory returns what was stored in it
 abbrev pub IsHonest : {S : Type 0} → Store S → Type 0
 IsHonest {S} g = (held : Held S) → HasCleanDisk (state g held)
 
@@ -84,14 +84,14 @@ IsHonest {S} g = (held : Held S) → HasCleanDisk (state g held)
 abbrev pub HoldNone : Image → Type 0
 HoldNone files = (v : Version) (rows : Rows) → HoldRows v files rows → ⊥
 
--- of the docket that the files held
+-- this holds of the docket that the files held
 abbrev pub OfDocket : Image → (Docket → Type 0) → Type 0
 OfDocket files P = (docket : Docket) → IsDocket docket.court docket.history → HoldDocket files docket.court docket.history → P docket
 
 -- whatever is left, `Left` says that it has the rows or the next ones
 module _ (Left : Rows → Rows → Type 0) where
   -- The answers to all lines went out, the docket after them is left, and the status says whether an answer is a refusal or a fault. Where
-  -- the job failed, what went out and what is left are as of a prefix of the lines, and behind that a last line or a front of it.
+  -- the job failed, what went out and what is left are as of a prefix of the lines, and behind that a last line or a prefix of it.
   abbrev pub Runs : Docket → List ℕ → Option (List ℕ) → Option (List ℕ) → Status → Type 0
   Runs docket input before after Done = Appends before after (run_text docket input) × (bad_answers docket input ≡ 0) × Keeps Left (docket_after docket input)
   Runs docket input before after SomeBad = Appends before after (run_text docket input) × (bad_answers docket input ≢ 0) × Keeps Left (docket_after docket input)
@@ -99,11 +99,11 @@ module _ (Left : Rows → Rows → Type 0) where
   Runs docket input before after Failed =
       (mid : Option (List ℕ)) × LeavesPrefix Left docket input before mid × (fault : RunFault) × AppendsFront mid after (last_line fault)
 
-  -- a command came to this answer, which is told
+  -- a command had this answer, which is printed
   abbrev pub Applies : Docket → Command → List ℕ → Status → Type 0
   Applies docket c text status = (answer : Result Reply Fault) × AppliesTo Left docket c answer × TellsApplied answer text status
 
--- The same of a docket in memory, of which nothing is left.
+-- The same for a docket in memory, of which nothing is left.
 abbrev pub RunsInMemory : Docket → List ℕ → Option (List ℕ) → Option (List ℕ) → Status → Type 0
 RunsInMemory docket input before after Done = Appends before after (run_text docket input) × (bad_answers docket input ≡ 0)
 RunsInMemory docket input before after SomeBad = Appends before after (run_text docket input) × (bad_answers docket input ≢ 0)
@@ -111,7 +111,7 @@ RunsInMemory docket input before after BadLine = ⊥
 RunsInMemory docket input before after Failed =
     (mid : Option (List ℕ)) × HasFront before mid (run_text docket input) × (fault : RunFault) × AppendsFront mid after (last_line fault)
 
--- what a job says on the standard error where there is nothing that it was asked for
+-- what a job prints on the standard error where nothing was found that it was asked for
 abbrev pub IfMissing : Job → Status → Option (List ℕ) → Option (List ℕ) → Type 0
 IfMissing (job.Case file number) = SaysMissing no_such_case
 IfMissing (job.Cases file label party) = SaysMissing no_such_case
@@ -120,15 +120,15 @@ IfMissing (job.Sheet file number) = SaysMissing no_such_case
 IfMissing _ = λ status before after. Unit {0}
 
 module _ {D : Type 0} {g : Ghosts D} where
-  -- Where a job opened no files it failed; where it did, this is so, unless the disk was not honest.
+  -- Where a job opened no files it failed; where it did, this holds, unless the disk was not honest.
   abbrev pub FailsOr : JobEnd D g → (Leftover D g → Type 0) → Type 0
   FailsOr end P = MatchOption end.left (TellsNothing (cow_str_bytes end.text) end.status) (λ left. IsCleanLeft left → P left)
 
-  -- this is so where the job opened no files
+  -- this holds where the job opened no files
   abbrev pub IfUnopened : JobEnd D g → Type 0 → Type 0
   IfUnopened end P = MatchOption end.left P (λ _. Unit {0})
 
-  -- a question is told as it is answered, and the docket is left as it was
+  -- the answer to a question is printed, and the docket is left as it was
   abbrev pub TellsOf : Docket → (List ℕ → Status → Type 0) → JobEnd D g → Type 0
   TellsOf docket P end = FailsOr end (λ left. P (cow_str_bytes end.text) end.status × LeavesRows left (rows_told docket) (rows_told docket))
 
@@ -144,7 +144,7 @@ module _ {D : Type 0} {g : Ghosts D} where
   Migrates docket left text Failed = (text ≡ []) × ((fault : MigrateFault) × MigratesTo left docket (Err fault))
   Migrates docket left text _ = ⊥
 
-  -- Where no files were opened nothing is entered, and nothing is still to be told; where some were nothing went out before they are let go.
+  -- Where no files were opened nothing is entered, and nothing is left to print; where some were, nothing went out before they are closed.
   abbrev pub AnswersLast : Option (List ℕ) → Option (List ℕ) → Option (List ℕ) → JobEnd D g → Type 0
   AnswersLast input before after end = MatchOption end.left (TellsFault input before after end.status × (cow_str_bytes end.text ≡ [])) (λ left. after ≡ before)
 
@@ -152,7 +152,7 @@ module _ {D : Type 0} {g : Ghosts D} where
   abbrev pub Imports : Docket → List ℕ → List ℕ → Leftover D g → List ℕ → Status → Type 0
   Imports docket key input left text status = (days : List NewDay) × IsTable input days × Applies (LeavesRows left) docket (import_command key days) text status
 
-  -- what a job comes to: the files of its docket held this, its input and its output were these, and it ended so
+  -- what a job does: the files of its docket held this, its input and its output were these, and it ended so
   abbrev pub Does : Job → Image → Option (List ℕ) → Option (List ℕ) → Option (List ℕ) → JobEnd D g → Type 0
   Does job.Count files input before after end = IfSome input (λ bytes. Counts bytes before after end.status) × (cow_str_bytes end.text ≡ []) × (end.left ≡ None)
   Does (job.Holidays year) files input before after end = TellsText (holiday_text year) (cow_str_bytes end.text) end.status × (end.left ≡ None) × (after ≡ before)
@@ -184,7 +184,7 @@ module _ {D : Type 0} {g : Ghosts D} where
       OfDocket files (λ docket. TellsOf docket (TellsIfAny (page_of_sheet docket.court docket.history number)) end) × (after ≡ before)
   Does job.ExplainLines files input before after end = IfSome input (λ bytes. Explains bytes before after end.status) × (cow_str_bytes end.text ≡ []) × (end.left ≡ None)
   Does (job.Check file) files input before after end = OfDocket files (λ docket. TellsOf docket (TellsText (check_text docket.court (holdings_in docket.court docket.history))) end) × (after ≡ before)
-  -- no clause speaks of the bytes of another file: that they are copied is tested
+  -- no clause covers the bytes of another file: tests check that they are copied
   Does (job.Backup file to) files input before after end = OfDocket files (λ docket. TellsOf docket (TellsText (codes "copied\n")) end) × (after ≡ before)
   Does (job.Migrate file) files input before after end =
       ((docket : Docket) → IsDocket docket.court docket.history → MayHold First docket.history → HoldFirst files docket.court docket.history

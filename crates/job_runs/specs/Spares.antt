@@ -38,7 +38,7 @@ abbrev pub FailsBy : List ℕ → Status → Option (List ℕ) → Option (List 
 FailsBy path status before after fault = (status ≡ Failed) × SaysFault (unadopted_at path fault) before after
 
 module _ {D : Type 0} {g : Ghosts D} where
-  -- The files, which held this, were opened, judged and let go: a work was done, or it was refused for this fault.
+  -- The files, which held this, were opened, checked and closed: a work was done, or it was refused for this fault.
   pub record WereJudged (files : Image) (Worked : Type 0) (Refused : AdoptFault → Type 0) (left : Leftover D g) : Type 0 where
     -- the connection, as it was opened
     pub opened : Held (FileStore D g)
@@ -64,17 +64,17 @@ module _ {D : Type 0} {g : Ghosts D} where
     abbrev pub SparesAsked : Type 0
     SparesAsked = FailsOr end (λ left. WereJudged files (RowsStay files left) (FailsBy path end.status before after) left)
 
-    -- where it runs commands, and this is so of what went out if nothing did
+    -- where it runs commands, and this holds of what went out if nothing did
     abbrev pub SparesRun : Type 0 → Type 0
     SparesRun Unwritten = FailsOr end (WereJudged files (Unit {0}) (λ fault. FailsBy path end.status before after fault × Unwritten))
 
-    -- where it gives a command: it is written whole, with its receipt, or not at all, and its answer is told
+    -- where it gives a command: it is written whole, with its receipt, or not at all, and its answer is printed
     abbrev pub IsWhole : Command → Leftover D g → Type 0
     IsWhole c left =
         WereJudged files ((answer : Result Reply Fault) × IsWrittenOn files left c answer × TellsApplied answer (cow_str_bytes end.text) end.status)
         (λ fault. FailsBy path end.status before after fault × (cow_str_bytes end.text ≡ [])) left
 
-    -- so it is of the command that enters the days of the input's table, as far as its bytes are known
+    -- the same holds for the command that enters the days of the input's table, as far as its bytes are known
     abbrev pub SparesImport : List ℕ → Option (List ℕ) → Type 0
     SparesImport key input =
         IfSome end.left (λ left. IsCleanLeft left → (command : Command)
@@ -87,7 +87,7 @@ module _ {D : Type 0} {g : Ghosts D} where
   Moves files left _ = ⊥
 
   -- What becomes of the files of a job, which held this, by its input, by what went out and by what the standard error was before and after.
-  -- `Does` says it of a new docket; of one that is served no clause does.
+  -- `Does` covers a new docket; no clause covers one that is served.
   abbrev pub Spares : Job → Image → Option (List ℕ) → Type 0 → Option (List ℕ) → Option (List ℕ) → JobEnd D g → Type 0
   Spares (job.CourtCalendar file from to) files input unwritten = SparesAsked file.now files
   Spares (job.Rules (Some file)) files input unwritten = SparesAsked file.now files

@@ -16,8 +16,8 @@ use sqlite::{FileFrom, Leftover, Start};
 use std::alloc::Global;
 use std::io::Write;
 
-/// Opens the file at a path, asks its docket and lets it go. Returns the answer and what is left of the
-/// files; or how the job ends, where there is no answer, once it is told why.
+/// Opens the file at a path, asks its docket and closes that. Returns the answer and what is left of the
+/// files. Where there is no answer, prints why and returns how the job ends.
 pub(crate) fn ask<S: Start, P: Write + Drop, W, Q: Inquiry<W>, E: Write>(
     rt: &HostRuntime,
     start: S,
@@ -41,7 +41,7 @@ pub(crate) fn ask<S: Start, P: Write + Drop, W, Q: Inquiry<W>, E: Write>(
     done_on_docket(rt.alloc(), path, ended, e)
 }
 
-/// Returns how a job ends by how the writing of its text did, and tells why that failed.
+/// Returns how a job ends from how the writing of its text ended, and prints why that failed.
 pub(crate) fn writing_status<N: Copy, E: Write>(
     alloc: Global,
     end: Result<N, CalendarEnd>,

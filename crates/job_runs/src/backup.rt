@@ -15,8 +15,8 @@ use sqlite_disk::Disk;
 use std::borrow::CowStr;
 use std::io::Write;
 
-/// Copies the file of a docket that was let go, and whose files are held still. Where its log could not be
-/// copied into the file, the file alone is not the docket.
+/// Copies the file of a docket that is closed, while its files are still held. Fails where its log could not
+/// be copied into the file: the file alone is then not the docket.
 fn copied<D: Disk + Drop, E: Write>(
     rt: &HostRuntime,
     path: &str,

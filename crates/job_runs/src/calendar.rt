@@ -13,8 +13,8 @@ use job_ends::JobEnd;
 use sqlite::{FileFrom, Start};
 use std::io::Write;
 
-/// Tells the deadlines that fall due from one day to another, by the docket in a file. Each line is
-/// written as it is read.
+/// Prints the deadlines that fall due from one day to another, by the docket in a file. Writes each line as
+/// it is read.
 pub(crate) fn tell_calendar<S: Start, P: Write + Drop, W: Write, E: Write>(
     rt: &HostRuntime,
     start: S,

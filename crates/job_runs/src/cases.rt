@@ -17,8 +17,8 @@ use sqlite::{FileFrom, Start};
 use std::alloc::Global;
 use std::io::Write;
 
-/// How the writing of a list of cases ended. Where there is no case that is wanted, it is told that it is
-/// missing.
+/// Returns how a job ends from how the writing of a list of cases ended. Where no case was listed, prints
+/// that there is none.
 fn list_told<E: Write>(alloc: Global, end: Result<u32, CalendarEnd>, e: &mut E) -> Status
     ensures told { (cases : List CaseRow) (before after : Option (List ℕ)) → ListsCases cases before after end → HasListed cases before after [] result }
     ensures missing { SaysMissing no_such_case result (E.contents e.old) (E.contents e.new) }
@@ -34,8 +34,8 @@ fn list_told<E: Write>(alloc: Global, end: Result<u32, CalendarEnd>, e: &mut E) 
     }
 }
 
-/// Tells the cases that are wanted, in the order of their numbers, by the docket in a file. Each line is
-/// written before the next case is read.
+/// Prints the wanted cases of the docket in a file, in the order of their numbers. Writes each line before
+/// the next case is read.
 pub(crate) fn tell_cases<S: Start, P: Write + Drop, W: Write, E: Write>(
     rt: &HostRuntime,
     start: S,

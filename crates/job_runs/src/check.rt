@@ -20,7 +20,7 @@ use sqlite_disk::Disk;
 use std::alloc::{AllocError, Global};
 use std::io::Write;
 
-/// What is told of a docket whose tables are sound.
+/// Returns the text that reports a docket whose tables are sound.
 fn sound_text(alloc: Global, sound: &Sound) -> Result<String, AllocError>
     ensures { (court : CourtSettings) (held : Held) → IsSoundDocket court held (Ok sound.now) → IfOk result (λ text. string_bytes text ≡ check_text court held) }
 {
@@ -29,7 +29,7 @@ fn sound_text(alloc: Global, sound: &Sound) -> Result<String, AllocError>
     format!(in alloc; "sound\n{line}{held}")
 }
 
-/// What is told of a docket that was judged.
+/// Returns how the check of a docket ends, with the text to print.
 fn check_told<D: Disk + Drop, E: Write>(
     alloc: Global,
     judged: Result<Sound, AllocError>,
@@ -47,8 +47,8 @@ fn check_told<D: Disk + Drop, E: Write>(
     }
 }
 
-/// Tells that the tables of the docket in a file are sound, and what they hold. Where one is not sound it
-/// is told which.
+/// Reports that the tables of the docket in a file are sound, and what they hold. Where one is not sound,
+/// prints which.
 pub(crate) fn tell_check<S: Start, P: Write + Drop, E: Write>(
     rt: &HostRuntime,
     start: S,

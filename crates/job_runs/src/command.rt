@@ -48,7 +48,7 @@ fn last_line(fault: RunFault) -> &'static [u8]
     }
 }
 
-/// Tells how a run ended.
+/// Returns how a job ends from how its run ended, and prints why the run failed.
 fn tell_end<W: Write, E: Write>(
     alloc: Global,
     end: Result<CountEnd, RunFault>,
@@ -68,7 +68,7 @@ fn tell_end<W: Write, E: Write>(
     }
 }
 
-/// Answers commands of the docket in a file, and tells how far that is, if anyone waits.
+/// Answers commands of the docket in a file, and shows its progress if there is a screen.
 fn run_told<S: Start, V: Watch + Drop, P: Write + Drop, R: Read, W: Write + Drop>(
     rt: &HostRuntime,
     start: S,
@@ -92,8 +92,8 @@ fn run_told<S: Start, V: Watch + Drop, P: Write + Drop, R: Read, W: Write + Drop
     (ended, answers.finish())
 }
 
-/// Answers commands of the docket in a file. Each answer is written when its command stands there. The
-/// writer comes back.
+/// Answers commands of the docket in a file. Writes each answer once its command is in the file. Returns the
+/// writer too.
 pub(crate) fn run_commands<S: Start, P: Write + Drop, R: Read, W: Write + Drop, E: Write>(
     rt: &HostRuntime,
     start: S,
@@ -124,7 +124,7 @@ pub(crate) fn run_commands<S: Start, P: Write + Drop, R: Read, W: Write + Drop, 
     }
 }
 
-/// A docket of the court in a database, or why none was made. The database is let go then.
+/// Makes a docket of the court in a database. Where that fails, returns why and drops the database.
 fn created<S: Alter + Drop>(
     alloc: Global,
     conn: Connection<S>,
@@ -138,7 +138,7 @@ fn created<S: Alter + Drop>(
     }
 }
 
-/// How a run ended where the files are in memory: these fail for want of it alone.
+/// Returns how a run ended on files in memory, which fail only where memory runs out.
 fn end_in_memory(end: Result<CountEnd, RunFault>) -> Result<CountEnd, RunFault>
     ensures same { MatchResult result (λ told. end ≡ Ok told) (λ _. IsErr end) }
 {
@@ -148,7 +148,7 @@ fn end_in_memory(end: Result<CountEnd, RunFault>) -> Result<CountEnd, RunFault>
     }
 }
 
-/// Answers commands of a docket, and tells how far that is, if anyone waits. The writer comes back.
+/// Answers commands of a docket, and shows its progress if there is a screen. Returns the writer too.
 fn answer_all<S: Alter + Drop, P: Write + Drop, R: Read, W: Write + Drop>(
     rt: &HostRuntime,
     screen: Option<P>,
@@ -209,7 +209,7 @@ fn answer_in_files<D: Disk + Drop, P: Write + Drop, R: Read, W: Write + Drop, E:
     }
 }
 
-/// Answers commands of a new docket of the court in memory. The writer comes back.
+/// Answers commands of a new docket of the court in memory. Returns the writer too.
 pub(crate) fn run_in_memory<P: Write + Drop, R: Read, W: Write + Drop, E: Write>(
     rt: &HostRuntime,
     screen: Option<P>,

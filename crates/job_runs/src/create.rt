@@ -12,9 +12,9 @@ use std::fs::OpenOptions;
 use std::io::{ErrorKind, Write};
 use std::os::unix::fs::OpenOptionsExt;
 
-/// Makes an empty file that its owner alone may read and write, where the path leads to none. The kit would give
-/// it the rights that the umask leaves. It gives the log those of the file. What is named like no file is left to
-/// the open, which refuses it; so is a link that leads nowhere.
+/// Makes an empty file that only its owner may read and write, where the path leads to none. The kit would
+/// give it the rights that the umask leaves. The kit gives the log the rights of the file. A name that is no
+/// file's, or a link that leads nowhere, is left to the open, which refuses it.
 fn make_private(rt: &HostRuntime, path: &str) -> Result<(), FileFault> {
     if path == ":memory:" || path.starts_with("file:") {
         return Ok(());
@@ -40,7 +40,7 @@ fn ready_file(rt: &HostRuntime, path: &str) -> Result<(), FileFault> {
     }
 }
 
-/// Makes a docket of the court in a file that holds none. One that is there is left.
+/// Makes a docket of the court in a file that holds none. A docket that is there stays as it is.
 pub(crate) fn create_docket<S: Start, E: Write>(
     rt: &HostRuntime,
     start: S,

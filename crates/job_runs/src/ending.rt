@@ -15,7 +15,7 @@ use std::alloc::Global;
 use std::io;
 use std::io::Write;
 
-/// How the program ends where its words have this error, help and version among them.
+/// Returns how the program ends for an error of its command line. Help and version count as errors.
 fn status_of(kind: ErrorKind) -> Status
     ensures { result ≡ status_of kind }
 {
@@ -27,7 +27,7 @@ fn status_of(kind: ErrorKind) -> Status
     }
 }
 
-/// Tells what is wrong with words that are no job.
+/// Prints what is wrong with a command line that asks for no job.
 fn tell_mistake<E: Write>(text: &str, e: &mut E) -> Status
     ensures { (result ≡ Status.BadLine) ⊎ (result ≡ Status.Failed) }
 {
@@ -37,7 +37,7 @@ fn tell_mistake<E: Write>(text: &str, e: &mut E) -> Status
     }
 }
 
-/// Tells what is wrong with words that are no job, or the help that they ask for.
+/// Prints what is wrong with a command line that asks for no job, or the help that it asks for.
 fn explain_words<W: Write, E: Write>(alloc: Global, error: &Error, w: &mut W, e: &mut E) -> Status
     ensures { ExplainsWords (kind_of error.now) (W.contents w.old) (W.contents w.new) result }
 {
@@ -51,8 +51,8 @@ fn explain_words<W: Write, E: Write>(alloc: Global, error: &Error, w: &mut W, e:
     }
 }
 
-/// Ends the program as its job ended, or tells why its words are no job, and returns its exit status. Where a
-/// job has still something to tell, its files are let go before.
+/// Ends the program as its job ended, or prints why its command line asks for no job. Returns its exit
+/// status. Drops the files of the job before it writes the job's text.
 pub fn finish<D: Disk + Drop, W: Write, E: Write>(
     alloc: Global,
     end: Result<JobEnd<D>, Error>,
@@ -68,7 +68,7 @@ pub fn finish<D: Disk + Drop, W: Write, E: Write>(
     }
 }
 
-/// Ends the program where its words could not be read, and returns its exit status.
+/// Prints that the command line could not be read, and returns the exit status of the program.
 pub fn fail_unread<E: Write>(alloc: Global, fault: &io::Error, e: &mut E) -> u8
     ensures { result ≡ exit_code Status.Failed }
 {

@@ -1,4 +1,4 @@
-//! Why an end is what it is, by lines of days.
+//! The reasons for the ends that lines of days ask for.
 ghost use Rattle.std.specs.Prelude.{IfSome};
 ghost use Rattle.job_runs.specs.Jobs.{Explains};
 
@@ -7,7 +7,7 @@ use job_ends::{Status, failed};
 use std::alloc::Global;
 use std::io::{Read, Write};
 
-/// Answers lines of days, each that asks for an end by its reasons.
+/// Answers lines of days. A line that asks for an end is answered by the reasons for it.
 pub(crate) fn explain_all<R: Read, W: Write, E: Write>(
     alloc: Global,
     r: &mut R,

@@ -15,7 +15,7 @@ use sqlite::{FileFrom, Start};
 use std::io::Write;
 use std::time::{Clock, SystemTime, UNIX_EPOCH};
 
-/// The seconds since 1970-01-01T00:00Z, and none of them where the clock can't be read.
+/// Returns the seconds since 1970-01-01T00:00Z, or 0 where the clock can't be read.
 fn seconds_now<C: Clock>(clock: &C) -> i64 {
     let Ok(now) = SystemTime::now(clock) else {
         return 0;
@@ -26,8 +26,8 @@ fn seconds_now<C: Clock>(clock: &C) -> i64 {
     }
 }
 
-/// Tells the deadlines that fall due from one day to another in a format, by the docket in a file, at the
-/// instant at which this is done.
+/// Prints the deadlines that fall due from one day to another in a format, by the docket in a file. The stamp
+/// is the instant at which it does so.
 pub(crate) fn tell_export<S: Start, P: Write + Drop, W: Write, E: Write>(
     rt: &HostRuntime,
     start: S,

@@ -1,4 +1,4 @@
-//! What a sound docket holds, told a line for each kind of thing.
+//! What a sound docket holds, in a line for each kind of thing.
 ghost use Rattle.std.specs.Prelude.{◌≡◌, IfOk, string_bytes};
 ghost use Rattle.job_runs.specs.Checks.{calendar_lines, case_lines, court_line, held_lines, standings_text};
 
@@ -45,7 +45,7 @@ fn standings_text(alloc: Global, held: &Holdings) -> Result<String, AllocError>
     )
 }
 
-/// The lines of what the tables hold, behind that of their version.
+/// Returns the lines of what the tables hold, after the line of their version.
 pub(crate) fn holdings_text(alloc: Global, held: &Holdings) -> Result<String, AllocError>
     ensures { IfOk result (λ text. string_bytes text ≡ held_lines held.now) }
 {

@@ -11,7 +11,7 @@ use sqlite_disk::Disk;
 use std::alloc::Global;
 use std::io::Write;
 
-/// Tells the holidays of a year from 2000 to 2099.
+/// Returns the holidays of a year from 2000 to 2099 as the text of a job.
 pub(crate) fn tell_holidays<D: Disk + Drop, E: Write>(
     alloc: Global,
     year: u32,

@@ -46,7 +46,7 @@ fn answer_line(alloc: Global, answer: &Result<Reply, Refusal>) -> Result<String,
     Ok(text)
 }
 
-/// What is told of an answer, and how the job ends.
+/// Returns how an import ends that was answered, with the line of the answer to print.
 fn answer_told<D: Disk + Drop, E: Write>(
     alloc: Global,
     answer: Result<Reply, Refusal>,
@@ -65,7 +65,7 @@ fn answer_told<D: Disk + Drop, E: Write>(
     }
 }
 
-/// What is told of a command that was applied, or not.
+/// Returns how an import ends, with the line of its answer to print, or prints why there is none.
 fn import_told<D: Disk + Drop, E: Write>(
     alloc: Global,
     answer: Result<Reply, Fault>,
@@ -81,7 +81,7 @@ fn import_told<D: Disk + Drop, E: Write>(
     }
 }
 
-/// Applies the command to the docket in a file, and tells what it is answered.
+/// Applies the command to the docket in a file, and returns the line of its answer.
 fn import_by<S: Start, P: Write + Drop, E: Write>(
     rt: &HostRuntime,
     start: S,
@@ -105,14 +105,14 @@ fn import_by<S: Start, P: Write + Drop, E: Write>(
     }
 }
 
-/// The line that tells why a text is no table.
+/// Returns the line that says why a text is no table.
 fn fault_line(alloc: Global, fault: CsvFault) -> Result<String, AllocError>
     ensures { IfOk result (λ line. string_bytes line ≡ fault_line fault) }
 {
     format!(in alloc; "{fault}\n")
 }
 
-/// Tells why the input is no table.
+/// Prints why the input is no table.
 fn refuse<W: Write, E: Write>(alloc: Global, fault: CsvFault, w: &mut W, e: &mut E) -> Status
     ensures { (input : Option (List ℕ)) → IfSome input (λ bytes. fault ≢ CsvFault.NoMemory → HasFault bytes fault)
         → TellsFault input (W.contents w.old) (W.contents w.new) result }
@@ -135,7 +135,7 @@ fn read_all<R: Read>(alloc: Global, r: &mut R) -> io::Result<Vec<u8>>
     Ok(bytes)
 }
 
-/// The command that enters the days of the input's table; or how the job ends, once it is told why.
+/// Returns the command that enters the input's days; or prints why not, and returns how the job ends.
 fn read_import<R: Read, W: Write, E: Write>(
     alloc: Global,
     key: &str,
@@ -176,7 +176,7 @@ pub(crate) fn import_days<S: Start, P: Write + Drop, R: Read, W: Write, E: Write
     w: &mut W,
     e: &mut E,
 ) -> JobEnd<FileFrom<S>>
-    // Until the files are let go nothing goes out but the line of a fault.
+    // Until the files are dropped, only the line of a fault is written.
     ensures last { AnswersLast (R.remaining r.old) (W.contents w.old) (W.contents w.new) result }
     ensures entered { OfDocket (image_at S.Start) (λ docket. IfSome (R.remaining r.old) (λ input. IfSome result.left
         (λ left. IsCleanLeft left → Imports docket key.now input left (cow_str_bytes result.text) result.status))) }

@@ -40,9 +40,9 @@ fn count<R: Read, W: Write, E: Write>(alloc: Global, r: &mut R, w: &mut W, e: &m
     }
 }
 
-/// Does a job, with `r`, `w` and `e` for the standard input, output and error. `start` stands for what
-/// the files of its docket hold. What is still to be told once the files are let go is told by
-/// `JobEnd::finish`, on the writer that comes back.
+/// Does a job, with `r`, `w` and `e` as the standard input, output and error. `start` represents what the
+/// files of its docket hold. Text that is to be printed once the files are dropped is printed by
+/// `JobEnd::finish`, on the writer that this returns.
 #[tactic(auto, using(crate::proofs::AskLemmas::whole_told))]
 pub fn run_job<S: Start, P: Write + Drop, R: Read, W: Write + Drop, E: Write>(
     rt: &HostRuntime,

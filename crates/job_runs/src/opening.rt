@@ -6,10 +6,10 @@ use job_ends::{AtPath, Status, failed, test_file};
 use std::fs;
 use std::io::Write;
 
-/// From how many megabytes a file takes more than a second to open.
+/// The megabytes from which a file takes more than a second to open.
 const LARGE_FILE: u64 = 8;
 
-/// Tells that a large file is opened, which takes seconds in which nothing is counted.
+/// Prints that a large file is being opened. That takes seconds, in which nothing is counted.
 fn tell_opening<P: Write>(rt: &HostRuntime, path: &str, screen: &mut P) {
     let Ok(file) = fs::metadata(rt, path) else {
         return;
@@ -20,8 +20,8 @@ fn tell_opening<P: Write>(rt: &HostRuntime, path: &str, screen: &mut P) {
     }
 }
 
-/// Tests the file that a job is to open, and counts the rows that will be read from it; or tells why it
-/// can't be opened.
+/// Tests the file that a job is to open, and returns a counter of the rows that will be read from it. Where
+/// it can't be opened, prints why.
 pub(crate) fn ready<'a, P: Write + Drop, E: Write>(
     rt: &'a HostRuntime,
     path: &str,

@@ -1,4 +1,4 @@
-//! How far a job has come, told to whoever waits for it.
+//! How far a job has come, shown to whoever waits for it.
 ghost use Rattle.std.specs.Prelude.{◌≡◌};
 
 use docket_store::Watch;
@@ -9,7 +9,7 @@ use std::time::{Clock, Duration, Instant};
 /// How many rows go by between two looks at the clock.
 const ROWS_A_LOOK: u64 = 4096;
 
-/// Where it is told how far a job is, once a second, in a line that is written over.
+/// The screens on which a job shows its progress, once a second, in a line that it overwrites.
 #[derive(Drop)]
 pub struct Progress<P> {
     /// How many rows were read, while a docket is opened.
@@ -19,7 +19,7 @@ pub struct Progress<P> {
 }
 
 impl<P> Progress<P> {
-    /// Nothing is told.
+    /// Shows nothing.
     pub fn untold() -> Progress<P> {
         Progress {
             of_opening: None,
@@ -95,7 +95,7 @@ impl<C: Clock + Drop, E: Write + Drop> Counter<C, E> {
     }
 }
 
-/// Hands on the answers of a run, and tells how many lines they are, if anyone waits.
+/// Passes the answers of a run on, and shows on the screen, if there is one, how many lines they are.
 #[derive(Drop)]
 pub(crate) struct LineCounter<C, W, P> {
     answers: W,
@@ -110,7 +110,7 @@ impl<C: Clock + Drop, W: Write + Drop, P: Write + Drop> LineCounter<C, W, P> {
         LineCounter { answers, lines }
     }
 
-    /// Ends the line of the count, and gives the writer back.
+    /// Ends the line of the count, and returns the writer.
     pub(crate) fn finish(self) -> W
         ensures { result ≡ self.answers }
     {
@@ -143,8 +143,8 @@ fn line_feeds(bytes: &[u8]) -> u64 {
     bytes.iter().filter(|byte| **byte == b'\n').count() as u64
 }
 
-/// Tells how many rows were read while a docket is opened, if anyone waits. The line ends when the counter
-/// is let go.
+/// Shows on the screen, if there is one, how many rows were read while a docket is opened. The line ends when
+/// the counter is dropped.
 pub(crate) struct RowCounter<C: Clock + Drop, P: Write + Drop> {
     rows: Option<Counter<C, P>>,
 }

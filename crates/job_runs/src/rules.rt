@@ -10,7 +10,7 @@ use sqlite_disk::Disk;
 use std::alloc::Global;
 use std::io::Write;
 
-/// Tells the rules of the table.
+/// Returns the rules of the table as the text of a job.
 pub(crate) fn tell_table<D: Disk + Drop, E: Write>(alloc: Global, e: &mut E) -> JobEnd<D>
     ensures told { TellsText (rules_text []) (cow_str_bytes result.text) result.status }
     ensures left { result.left ≡ None }

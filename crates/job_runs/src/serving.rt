@@ -11,7 +11,7 @@ use std::alloc::Global;
 use std::fmt;
 use std::io::{ErrorKind, Write};
 
-/// The number of connections, which no run reaches where all that come are served.
+/// Returns how many connections to serve: more than any run reaches, where all that come are served.
 fn limit(count: Option<u32>) -> u64
     ensures { result ≡ unwrap_or count 18_446_744_073_709_551_615 }
 {
@@ -34,8 +34,8 @@ fn shown(pages: bool, guard: bool, origin: Option<&str>) -> Shown<'_>
     Shown::NoPages
 }
 
-/// What is asked for: a place, so many connections or all that come, whether pages are shown, whether the docket is
-/// guarded, and at which origin besides.
+/// Returns the service that a job asks for: its place, so many connections or all that come, whether it shows
+/// pages or guards the docket, and at which other origin.
 pub(crate) fn service_of<'a>(
     place: Place<'a>,
     count: Option<u32>,
@@ -94,7 +94,7 @@ impl fmt::Display for NotListening<'_> {
     }
 }
 
-/// How the serving of a docket ended.
+/// Returns how a job ends from how its serving of a docket ended, and prints why that failed.
 fn serving_told<E: Write>(
     alloc: Global,
     place: Place<'_>,

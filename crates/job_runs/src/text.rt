@@ -24,7 +24,7 @@ pub(crate) const NO_SUCH_CASE: &str = "no such case\n";
 /// The line for a deadline that is missing.
 pub(crate) const NO_SUCH_DEADLINE: &str = "no such deadline\n";
 
-/// What is told of what was asked for, or that it is missing, by the line `missing`.
+/// Returns what was asked for as the text of a job. Where it is missing, prints the line `missing`.
 fn told_if_any<D: Disk + Drop, E: Write>(
     alloc: Global,
     answer: Result<Option<String>, Fault>,
@@ -46,7 +46,7 @@ fn told_if_any<D: Disk + Drop, E: Write>(
     }
 }
 
-/// Tells the text by which the docket in a file answers a question, or that it is missing, by the line
+/// Returns the text by which the docket in a file answers a question. Where there is none, prints the line
 /// `missing`.
 pub(crate) fn tell_text<S: Start, P: Write + Drop, Q: Unconditional + Copy, E: Write>(
     rt: &HostRuntime,

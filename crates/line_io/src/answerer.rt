@@ -2,9 +2,9 @@
 ghost use Rattle.std.specs.Prelude.{◌≡◌, ℕ, List, IfOk, IfErr, OnErr};
 ghost use Rattle.line_io.specs.Report.{Answers, LineAnswer};
 
-/// Answers lines one after the other, each by what the lines before it left. What it says of its
-/// answers may rest on something that it can lose, as a disk that gives back what it took. One that
-/// relies on nothing says so by `ghost Trusts = { λ _. ⊤ }`.
+/// Answers lines one after the other, each by what the lines before it left. Its clauses may rely on
+/// something that it can lose, such as a disk that gives back what it took. An answerer that relies on
+/// nothing declares `ghost Trusts = { λ _. ⊤ }`.
 pub trait Answerer {
     /// Why a line could not be answered.
     type Fault: Drop;
@@ -26,7 +26,7 @@ pub trait Answerer {
     // What the lines so far left, as contracts see it.
     ghost State: { Type 0 };
 
-    // The answerer stands for this state.
+    // The answerer is in this state.
     ghost Shows: { Self → State → Type 0 };
 
     // What the answers rely on. Once it is lost at a line it never comes back.
@@ -45,8 +45,8 @@ pub trait Answerer {
     // The same for a line past the limit.
     ghost too_long: { State → LineAnswer State };
 
-    /// Appends the answer to a line of at most `LIMIT` bytes, and says whether it counts as bad.
-    /// Where it fails it appends nothing.
+    /// Appends the answer to a line of at most `LIMIT` bytes, and returns whether it counts as bad. Where it
+    /// fails it appends nothing.
     fn answer(&mut self, line: &[u8], out: &mut Vec<u8>) -> Result<bool, Self::Fault>
         ensures ok { IfOk result (λ bad. (s : State) → Shows self.old s → Trusts self.new
             → Answers (Shows self.new) out.old.items out.new.items bad (answer_to s line.now)) }

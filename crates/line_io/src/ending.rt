@@ -5,7 +5,7 @@
 pub struct CountEnd {
     /// The lines that were answered.
     pub lines: u64,
-    /// Those of them whose answer counts as bad, which the `Answerer` says.
+    /// Those of them whose answer the `Answerer` counts as bad.
     pub bad: u64,
 }
 

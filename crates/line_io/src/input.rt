@@ -18,7 +18,7 @@ use std::io::{Read, Write};
 /// The most bytes of a read.
 const PIECE: usize = 16_384;
 
-/// Answers the lines that end in this piece of the input, and keeps what stands behind them.
+/// Answers the lines that end in this piece of the input, and keeps what follows them.
 fn take_piece<W: Write, A: Answerer>(
     answerer: &mut A,
     progress: &mut Progress,
@@ -99,11 +99,11 @@ fn answer_lines<R: Read, W: Write, A: Answerer>(
 /// of them are pending, before each read, and before the run ends, also by a fault. No read or write
 /// is tried again after it failed.
 ///
-/// After a fault the answerer stands for what the lines answered so far left, or one line more. Of the
-/// answers to the lines without the one more at most `A::MAX_PENDING` bytes were not written.
+/// After a fault the answerer is in the state that the answered lines left, or one line more. Of the
+/// answers without that line's, at most `A::MAX_PENDING` bytes were not written.
 ///
-/// All this is said where the answerer still has what it relies on when the run ends. Whatever became
-/// of that, the answerer went no other way than by answers to lines.
+/// All this holds where the answerer still has what it relies on when the run ends. In any case, only answers
+/// to lines changed the answerer.
 pub fn run_lines<R: Read, W: Write, A: Answerer>(
     alloc: Global,
     reader: &mut R,

@@ -15,7 +15,7 @@ use std::io::Write;
 /// How far a run has come between two bytes of its input.
 #[derive(Drop)]
 pub(crate) struct Progress {
-    /// What has come of a line that goes on, but only as much as tells whether it is too long.
+    /// What has come of an unfinished line, but only as much as shows whether it is too long.
     pub(crate) kept: Vec<u8>,
     /// The answers that were not written yet.
     pub(crate) pending: Vec<u8>,
@@ -75,7 +75,7 @@ fn answer_line<A: Answerer>(
     }
 }
 
-/// Answers the line that ends behind these bytes.
+/// Answers the line that ends after these bytes.
 fn end_line<A: Answerer>(
     answerer: &mut A,
     progress: &mut Progress,

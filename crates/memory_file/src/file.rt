@@ -97,7 +97,7 @@ impl Disk for MemoryFile {
         false
     }
 
-    // Memory tells no lie, so it needs no secret.
+    // Memory gives back what was written, so it needs no secret.
     fn key(&self) -> u64 {
         0
     }

@@ -11,7 +11,7 @@ abbrev pub port_of : Listener → ℕ
 port_of (listener.Port address it) = socket_port address
 port_of (listener.Socket file it) = 80
 
--- at a port it is one that the system tells, and at a file that of HTTP
+-- at a port it is any, as the system gives it, and at a file that of HTTP
 abbrev pub IsPortOf : Place → ℕ → Type 0
 IsPortOf (Port asked) port = ⊤
 IsPortOf (Socket path) port = port ≡ 80

@@ -1,6 +1,6 @@
-//! Connections of this machine, taken at a port or at the socket of a file, whose peer is waited for only so
-//! long: a reader and a writer, each with a patience of its own for all that it reads or writes, so that
-//! nobody who is slow or silent holds up those behind.
+//! Connections of this machine, taken at a port or at the socket of a file, that wait for a peer only so
+//! long. A reader and a writer each have a patience of their own for all that they read or write. So nobody
+//! who is slow or silent holds up those behind.
 #![tactic(auto)]
 
 mod listener;

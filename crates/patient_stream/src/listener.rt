@@ -49,7 +49,7 @@ impl<'a> Listener<'a> {
         }
     }
 
-    /// Whether an `accept` that would wait fails with `WouldBlock` from now on.
+    /// Sets whether an `accept` that would wait fails with `WouldBlock` from now on.
     pub fn set_nonblocking(&self, nonblocking: bool) -> io::Result<()> {
         match self {
             Listener::Port(_, listener) => listener.set_nonblocking(nonblocking),
@@ -57,7 +57,7 @@ impl<'a> Listener<'a> {
         }
     }
 
-    /// The next connection.
+    /// Returns the next connection.
     pub fn accept(&self) -> io::Result<Stream> {
         match self {
             Listener::Port(_, listener) => Ok(Stream::Port(listener.accept()?.0)),

@@ -15,7 +15,7 @@ pub(crate) struct Patience {
 }
 
 impl Patience {
-    /// When a wait begins. None begins where no patience is left.
+    /// Returns when a wait begins. None begins where no patience is left.
     pub(crate) fn begin<C: Clock>(&self, clock: &C) -> io::Result<Instant>
         ensures spent { as_nanos self.now.left ≡ 0 → IsErrAnd result (λ e. error_kind e ≡ ErrorKind.TimedOut) }
     {
@@ -34,7 +34,7 @@ impl Patience {
             .saturating_sub(now.saturating_duration_since(since));
     }
 
-    /// Takes off what was waited since then, or all where no clock tells it.
+    /// Takes off what was waited since then, or all where the clock can't be read.
     pub(crate) fn end<C: Clock>(&mut self, clock: &C, since: Instant)
         ensures shorter { as_nanos self.new.left ≤ as_nanos self.old.left }
     {

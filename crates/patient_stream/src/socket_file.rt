@@ -14,7 +14,7 @@ const OWNER: u32 = 0o600;
 /// As many connections may wait to be taken as the system allows.
 const BACKLOG: i32 = -1;
 
-/// What no two files of a machine share.
+/// Identifies a file: no two files of a machine share it.
 #[derive(Clone, Copy)]
 struct FileId {
     device: u64,

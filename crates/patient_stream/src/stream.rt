@@ -1,4 +1,4 @@
-//! The streams of connections, which can be told how long to wait.
+//! The streams of connections, whose waits can be limited.
 ghost use Rattle.std.specs.Io.{ReadsAtMost, WritesAtMost};
 
 use std::io;
@@ -8,12 +8,12 @@ use std::os::fd::{AsRawFd, RawFd};
 use std::os::unix::net::UnixStream;
 use std::time::Duration;
 
-/// A stream whose reads and writes fail after a wait. A wait of no time is none that can be asked for.
+/// A stream whose reads and writes fail after a wait. A wait of no time can't be set.
 pub trait TimedStream {
-    /// The most that a read waits from now on.
+    /// Sets the most that a read waits from now on.
     fn wait_to_read(&self, most: Duration) -> io::Result<()>;
 
-    /// The most that a write waits from now on.
+    /// Sets the most that a write waits from now on.
     fn wait_to_write(&self, most: Duration) -> io::Result<()>;
 }
 
@@ -25,7 +25,7 @@ pub enum Stream {
 }
 
 impl Stream {
-    /// Whether a read or a write that would wait fails with `WouldBlock` from now on.
+    /// Sets whether a read or a write that would wait fails with `WouldBlock` from now on.
     pub fn set_nonblocking(&self, nonblocking: bool) -> io::Result<()> {
         match self {
             Stream::Port(stream) => stream.set_nonblocking(nonblocking),
@@ -33,7 +33,7 @@ impl Stream {
         }
     }
 
-    /// Nothing is sent from now on, and the peer reads the end behind what was.
+    /// Ends the sending: the peer reads the end after what was sent.
     pub fn end_sending(&self) -> io::Result<()> {
         match self {
             Stream::Port(stream) => stream.shutdown(Shutdown::Write),

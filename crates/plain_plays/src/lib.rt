@@ -1,5 +1,5 @@
-//! Stored commands played over the docket in vectors, and where their deadlines stand, in words. What the docket
-//! in a database answers and tells is compared with it.
+//! Stored commands played over the docket in vectors, and where their deadlines stand, in words. Tests
+//! compare the answers of the docket in a database with these.
 #![tactic(auto)]
 
 mod court;

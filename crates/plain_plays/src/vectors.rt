@@ -13,7 +13,7 @@ pub fn docket(alloc: Global, zone: &str) -> Result<Plain, Error> {
     Ok(Plain::new(alloc, court_of(alloc, zone)?))
 }
 
-/// What is answered to the command on the line.
+/// The answer to the command on the line.
 pub fn answer(alloc: Global, docket: &mut Plain, line: &[u8]) -> Result<String, Error> {
     let command = match read_command(alloc, line) {
         Ok(command) => command,
@@ -35,7 +35,7 @@ fn push_case(alloc: Global, docket: &Plain, court: &Court, out: &mut Vec<u8>) ->
     Ok(())
 }
 
-/// Appends what is answered to the line, or where the deadlines stand, if it asks that.
+/// Appends the answer to the line, or where the deadlines stand, if the line asks that.
 fn push_line(
     alloc: Global,
     docket: &mut Plain,
@@ -51,7 +51,7 @@ fn push_line(
     Ok(())
 }
 
-/// What `run` would write on the commands.
+/// What `run` would print for the commands.
 pub fn ran(alloc: Global, commands: &[u8]) -> Result<Vec<u8>, Error> {
     let mut docket = docket(alloc, "UTC0")?;
     let mut written = Vec::new(alloc);
@@ -62,7 +62,7 @@ pub fn ran(alloc: Global, commands: &[u8]) -> Result<Vec<u8>, Error> {
     Ok(written)
 }
 
-/// What is answered to the commands, with where the deadlines stand in the end.
+/// The answers to the commands, with where the deadlines stand in the end.
 pub fn worked_out(alloc: Global, commands: &[u8]) -> Result<Vec<u8>, Error> {
     let court = eastern_court(alloc)?;
     let mut docket = docket(alloc, ZONE)?;

@@ -1,4 +1,4 @@
--- What a crash of both disks leaves, the store said before.
+-- What a crash of both disks leaves is what the store could leave before.
 use Rattle.std.proofs.Common.{◌≡◌, ◌∙◌, inl, inr, IsTrue, subst}
 use Rattle.std.proofs.Math.Logic.{∥∥₁_elim}
 use Rattle.std.proofs.lemmas.Bool.{and_parts, and_from}

@@ -65,7 +65,7 @@ pub stops_at : {S : Type 0} (g : Ghosts S) (conn : Held S) (court : CourtSetting
 stops_at g conn court h cs n None left = left.0
 stops_at g conn court h cs n (Some at) left = (left.0, left.1)
 
--- the court that is asked is the court of the docket
+-- the court of the question is the court of the docket
 pub told_by_court : (h : History) (asked : Question) (told : Told) {before after : Option (List ℕ)} {was is : CourtSettings} → was ≡ is
     → Tells was h asked before after told → Tells is h asked before after told
 told_by_court h asked told {before} {after} same tells = subst (λ (k : CourtSettings). Tells k h asked before after told) same tells

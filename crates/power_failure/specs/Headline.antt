@@ -49,7 +49,7 @@ pub record IsPrefix (acknowledged n : ℕ) (cs : List Command) : Type 0 where
   pub one_more : n ≤ acknowledged + 1
   pub within : n ≤ length cs
 
--- all commands were acknowledged, or the one after those is told by its place
+-- all commands were acknowledged, or the place of the one after those is returned
 abbrev pub StopsAt : List Command → ℕ → Option (ℕ × Fault) → Type 0
 StopsAt cs acknowledged None = acknowledged ≡ length cs
 StopsAt cs acknowledged (Some at) = (at.0 ≡ acknowledged) × (acknowledged < length cs)
@@ -82,15 +82,15 @@ LeavesOnlyPrefixes {D} g court h cs it =
     × (AreClean g it.files.log it.files.db → (image : Image) → MayLeave last image
     → OfPrefix court h cs (length it.replies.items) (λ now. HoldDocket image court now))
 
--- the same of the docket that is adopted then
+-- the same for the docket that is adopted then
 abbrev pub IsPrefixReopened : {D : Type 0} {g : Disk D} → CourtSettings → History → List Command → Reopened D g → Type 0
 IsPrefixReopened court h cs it =
     HasCleanDisk (state over_files it.docket.conn)
     → AnswersPrefix court h cs it.replies.items it.stopped_at (λ now. Stands over_files it.docket now × (it.docket.court ≡ court))
 
--- where no docket was found: by the first run, the docket that the files held stays in them; by the next, the first run left its files as
--- ever, and they hold what they held if they could not be opened; or they were, and the docket of the prefix stays in them. The fault of
--- files that were opened is want of memory or a failure of the database
+-- if no docket was found: by the first run, the docket that the files held stays in them. By the next: the first run left its files as ever.
+-- They hold what they held if they could not be opened, and otherwise the docket of the prefix. The fault of files that were opened is out of
+-- memory or a failure of the database
 abbrev pub KeepsPrefix : {D : Type 0} {g : Disk D} → CourtSettings → History → List Command → NotReopened D g → Type 0
 KeepsPrefix court h cs (Before fault) = IsNotRecovered court h h fault
 KeepsPrefix {D} {g} court h cs (After replies stopped_at (NotOpened error left)) =
@@ -104,15 +104,15 @@ abbrev pub KeepsFiles : {D : Type 0} {g : Disk D} → Files D → NotReopened D 
 KeepsFiles files (Before fault) = IsNotOpened files fault
 KeepsFiles files (After replies stopped_at fault) = ⊤
 
--- what is told of a docket is what its history says: the case, with its parties and its entries; its deadlines, each with the date or the
--- hour that the rules give by the court's whole calendar; and those that end on a day of a range, in order
+-- the answer follows from the docket's history. It gives the case, with its parties and its entries, and its deadlines, each with the date or
+-- the hour that the rules give by the court's whole calendar. It lists the deadlines that end on a day of a range, in order
 pub record Tells (court : CourtSettings) (h : History) (asked : Question) (before after : Option (List ℕ)) (told : Told) : Type 0 where
   pub case : told.case ≡ case_record h asked.number
   pub deadlines : option_map (λ lines. lines.items) told.deadlines ≡ deadline_lines court h asked.number
   pub calendar : Appends before after (text_of_calendar court h asked.from asked.to)
   pub lines : told.lines ≡ length (calendar_rows court h asked.from asked.to)
 
--- the whole of it
+-- the whole answer, of the docket of a prefix
 abbrev pub IsPrefixTold : {D : Type 0} {g : Disk D} → CourtSettings → History → List Command → Question → Option (List ℕ) → Option (List ℕ)
     → Reopened D g → Told → Type 0
 IsPrefixTold court h cs asked before after it told =
@@ -120,14 +120,14 @@ IsPrefixTold court h cs asked before after it told =
     → AnswersPrefix court h cs it.replies.items it.stopped_at
     (λ now. Stands over_files it.docket now × (it.docket.court ≡ court) × Tells court now asked before after told)
 
--- a docket that was not told, or not whole, is as after any question: it stays, unless the database failed, and then a power failure
--- leaves it. The fault is want of memory or a failure of the database or of the writer
+-- a docket without an answer, or without a whole one, is as after any question: it stays; if the database failed, a power failure leaves it.
+-- The fault is out of memory or a failure of the database or of the writer
 abbrev pub StaysUntold : {S : Type 0} → Ghosts S → Docket S → History → TellFault → Type 0
 StaysUntold g d h (Case fault) = Asks g d h (λ (found : ℕ). ⊥) (Err fault)
 StaysUntold g d h (Calendar (Store fault)) = Asks g d h (λ (lines : ℕ). ⊥) (Err fault)
 StaysUntold g d h (Calendar WriteFailed) = Stands g d h
 
--- the same where nothing was told: no docket was found, or that of a prefix was, and it stays
+-- the same if nothing was answered: no docket was found, or that of a prefix was, and it stays
 abbrev pub KeepsUntold : {D : Type 0} {g : Disk D} → CourtSettings → History → List Command → Untold D g → Type 0
 KeepsUntold court h cs (untold.NotReopened fault) = KeepsPrefix court h cs fault
 KeepsUntold court h cs (untold.NotTold found fault) =

@@ -19,8 +19,8 @@ module _ {D : Type 0} {g : Disk D} where
     pub log : g.may_leave (files last).0 (g.seen left.log)
     pub db : g.may_leave (files last).1 (g.seen left.db)
 
-  -- the connection is stopped: whatever its disks may leave then, what is left and all else, holds the docket that it stood for, or, where
-  -- the database failed at a command, that or the one with the command
+  -- the connection is stopped. Whatever its disks may leave then, what is left and all else, holds the docket that it held. If the
+  -- database failed at a command, it holds that docket or the one with the command
   pub record IsStopOf (conn : Held (FileStore D g)) (left : Files D) (last : FileStore D g) : Type 0 where
     pub files_left : IsLeftOf last left
     pub settled : AreClean g left.log left.db → (court : CourtSettings) (h : History) → StandsFor over_files conn court h

@@ -26,7 +26,7 @@ pub fn fail_power<D: Crash + Drop>(conn: Connection<FileStore<D>>) -> Files<D>
         → AreClean D.Disk result.log result.db → HoldDocket (image_of D.Disk result) court h }
     ensures either { (court : CourtSettings) (h next : History) → LastsAsEither over_files conn (docket_rows court h) (docket_rows court next)
         → AreClean D.Disk result.log result.db → HoldEither (image_of D.Disk result) court h next }
-    // A disk may leave all that was written, too: so it is said of whatever the disks may leave.
+    // A disk may also leave all that was written, so the clause holds for whatever the disks may leave.
     ensures every { (last : Stopped D D.Disk) × IsStopOf conn result last }
 {
     power_failures_leave_dockets::<D>();

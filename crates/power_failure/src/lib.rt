@@ -1,6 +1,6 @@
-//! The promise of a docket over whole runs. Stopped before or within any write and reopened, the docket
-//! is the one that a prefix of the accepted commands defines; this prefix holds every acknowledged
-//! command, and at most the one under way besides.
+//! The promise of a docket over whole runs. Stopped before or within any write and reopened, the docket is
+//! the one that a prefix of the accepted commands defines. This prefix holds every acknowledged command, and
+//! at most the one under way besides.
 #![tactic(auto)]
 
 mod failing;

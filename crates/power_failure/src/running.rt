@@ -16,7 +16,7 @@ use sqlite::{FileStore, Files, Options};
 use sqlite_disk::{Crash, Disk};
 use std::alloc::Global;
 
-/// What a run was told before the power failed, where it got no answer, and what is left of its files.
+/// The replies of a run before the power failed, where it got no answer, and what is left of its files.
 #[derive(Drop)]
 pub struct Interrupted<D: Disk> {
     pub replies: Vec<Result<Reply, Refusal>>,
@@ -24,8 +24,8 @@ pub struct Interrupted<D: Disk> {
     pub files: Files<D>,
 }
 
-/// What a run was told before the power failed, where it got no answer, and the docket that the next
-/// run found.
+/// The replies of a run before the power failed, where it got no answer, and the docket that the next run
+/// found.
 #[derive(Drop)]
 pub struct Reopened<D: Disk> {
     pub replies: Vec<Result<Reply, Refusal>>,
@@ -37,7 +37,7 @@ pub struct Reopened<D: Disk> {
 pub enum NotReopened<D: Disk> {
     /// The first run found none.
     Before(RecoverFault<D>),
-    /// The next run found none. The first was told this, and got no answer there.
+    /// The next run found none. The first got these replies, and no answer at `stopped_at`.
     After {
         replies: Vec<Result<Reply, Refusal>>,
         stopped_at: Option<(usize, Fault)>,
@@ -89,7 +89,7 @@ pub fn run_until_power_fails<D: Crash + Drop>(
     })
 }
 
-/// The same, and the next run opens the files that are left and adopts their docket.
+/// Does the same; then the next run opens the files that are left and adopts their docket.
 pub fn reopen_after_power_failure<D: Crash + Drop>(
     alloc: Global,
     files: Files<D>,

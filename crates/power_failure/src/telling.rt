@@ -1,4 +1,4 @@
-//! What the docket that is found tells.
+//! Questions to the docket that is found.
 ghost use Rattle.std.specs.Prelude.{◌≡◌, ◌≤◌, IfErr, IfOk, IsTrue, MatchResult};
 ghost use Rattle.std.specs.List.{AllByRecursion};
 ghost use Rattle.sqlite.specs.Files.{image_of};
@@ -22,7 +22,7 @@ use sqlite_disk::{Crash, Disk};
 use std::alloc::Global;
 use std::io::Write;
 
-/// What is asked: a case and its deadlines, by its number, and the calendar of days, both included.
+/// The question: a case and its deadlines, by its number, and the calendar of days, both included.
 #[derive(Clone, Copy)]
 pub struct Question {
     pub number: u32,
@@ -30,7 +30,7 @@ pub struct Question {
     pub to: Day,
 }
 
-/// What a docket tells: a case, its deadlines, and how many lines its calendar has, which is written.
+/// The answers of a docket: a case, its deadlines, and how many lines its calendar has, which is written.
 #[derive(Drop)]
 pub struct Told {
     pub case: Option<CaseRecord>,
@@ -38,7 +38,7 @@ pub struct Told {
     pub lines: u32,
 }
 
-/// Why a docket was not told, or not whole.
+/// Why a docket gave no answers, or not all.
 #[derive(Clone, Copy)]
 pub enum TellFault {
     Case(Fault),
@@ -67,11 +67,11 @@ impl From<CalendarEnd> for TellFault {
     }
 }
 
-/// Why nothing was told after a power failure.
+/// Why a docket gave no answers after a power failure.
 pub enum Untold<D: Disk> {
     /// No docket was found.
     NotReopened(NotReopened<D>),
-    /// One was found, and not told, or not whole.
+    /// A docket was found, and gave no answers, or not all.
     NotTold {
         found: Reopened<D>,
         fault: TellFault,
@@ -112,10 +112,9 @@ pub fn tell<S: Alter, W: Write>(
     })
 }
 
-/// A whole run, a power failure, and what the next run tells: each answer of the first run is the one
-/// that its command is to have, the docket that is found is the one that a prefix of the commands
-/// defines, with every one that was acknowledged and at most one more, and what is told is that
-/// docket's.
+/// Does a whole run, a power failure, and the questions of the next run. Each answer of the first run is the
+/// one that its command is to have. The docket that is found is the one that a prefix of the commands
+/// defines, with every acknowledged one and at most one more. The answers to the questions are that docket's.
 pub fn tell_after_power_failure<D: Crash + Drop, W: Write>(
     alloc: Global,
     files: Files<D>,

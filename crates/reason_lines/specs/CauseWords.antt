@@ -24,7 +24,7 @@ abbrev pub observed_word : Bool → List ℕ
 observed_word true = codes " (observed)"
 observed_word false = []
 
--- a cause after another is parted from it
+-- what separates a cause from one before it
 abbrev pub lead : Bool → List ℕ
 lead true = codes "; "
 lead false = []

@@ -1,4 +1,4 @@
--- The lines that tell why a deadline stands as it does.
+-- The lines that explain why a deadline stands as it does.
 use Rattle.std.specs.Prelude.{ℕ, List, ◌∷◌, ◌++◌, codes, Option}
 use Rattle.std.specs.List.{flat_map}
 use Rattle.civil_time.specs.Civil.{weekday}

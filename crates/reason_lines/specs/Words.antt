@@ -38,7 +38,7 @@ listed_event AmendedJudgment = codes "judgment entered"
 listed_event ReliefFromJudgment = codes "judgment entered"
 listed_event Ordered = codes "event"
 
--- of a rule: a local one does not say its event
+-- the event of a rule; a local one does not name it
 abbrev pub rule_event : DeadlineRule → List ℕ
 rule_event (Listed rule) = listed_event rule
 rule_event (Local name) = codes "event"
@@ -57,7 +57,7 @@ abbrev pub citation : DeadlineRule → List ℕ
 citation (Listed rule) = listed_citation rule
 citation (Local name) = name
 
--- of a time that no rule sets, how it is counted
+-- the rule that sets a time, or else how it is counted
 abbrev pub cited_rule : Option DeadlineRule → List ℕ
 cited_rule (Some rule) = citation rule
 cited_rule None = codes "6(a)(1)"

@@ -30,7 +30,7 @@ fn observed_word(observed: bool) -> &'static str
     if observed { " (observed)" } else { "" }
 }
 
-/// What parts a cause from one before it.
+/// What separates a cause from one before it.
 fn lead(before: bool) -> &'static str
     ensures { result.now ≡ lead before }
 {

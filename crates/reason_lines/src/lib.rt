@@ -1,4 +1,4 @@
-//! The lines that tell why a deadline stands as it does.
+//! The lines that explain why a deadline stands as it does.
 #![tactic(auto)]
 
 mod cause;

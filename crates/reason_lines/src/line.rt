@@ -1,4 +1,4 @@
-//! The lines of what is so on a day or at a moment.
+//! The lines about what holds on a day or at a moment.
 ghost use Rattle.std.specs.Prelude.{◌≡◌};
 
 use crate::cause::CausesText;
@@ -9,7 +9,7 @@ use court_reasons::Causes;
 use court_rules::MotionKind;
 use std::fmt;
 
-/// A day on which something is so.
+/// A day on which something holds.
 #[derive(Clone, Copy)]
 pub(crate) struct DayLine<'a> {
     pub(crate) day: Day,

@@ -9,12 +9,12 @@ use court_rules::DeadlineRule;
 use std::alloc::{AllocError, Global};
 
 /// A line for each step, with the rules cited: a day, or a moment in the court's time, its weekday,
-/// and what is so then. The last line says until when the deadline may be met: a last day runs to
+/// and what holds then. The last line says until when the deadline may be met: a last day runs to
 /// midnight for electronic filing, and for other filing to the minute at which the clerk's office
 /// is scheduled to close on that day (Fed. R. Civ. P. 6(a)(4)).
 ///
-/// `rule` is the rule that sets the time, where one does. A rule of the table tells its event, a
-/// local rule is named by its name, and a time that no rule sets is counted by 6(a)(1).
+/// `rule` is the rule that sets the time, where one does. A rule of the table is shown with its
+/// event and a local rule by its name; a time that no rule sets is counted by 6(a)(1).
 pub fn reasons_text(
     alloc: Global,
     court: &Court,

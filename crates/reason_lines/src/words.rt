@@ -32,7 +32,7 @@ fn listed_event(rule: Rule) -> &'static str
     }
 }
 
-/// The event from which the time of a rule is measured. A local rule does not say it.
+/// The event from which the time of a rule is measured. A local rule does not name it.
 fn rule_event(rule: &DeadlineRule) -> &'static str
     ensures { result.now ≡ rule_event rule.now }
 {
@@ -63,7 +63,7 @@ fn listed_citation(rule: Rule) -> &'static str
     }
 }
 
-/// A rule that sets a period of days or months: a local one is named by its name.
+/// A rule that sets a period of days or months: a local one is shown by its name.
 fn citation(rule: &DeadlineRule) -> &str
     ensures { result.now ≡ citation rule.now }
 {

@@ -1,4 +1,4 @@
-//! What differs between what came and what is wanted.
+//! The differences between the output and what is expected.
 use std::alloc::{AllocError, Global};
 
 /// What a step prints, and its exit status.
@@ -33,7 +33,7 @@ fn line_behind(text: &[u8], lines: usize) -> &[u8] {
     text.split(|byte| *byte == b'\n').nth(lines).unwrap_or(b"")
 }
 
-/// The first line of a text in which it differs from the text that is wanted, if it does.
+/// The first line in which a text differs from the expected one, if it does.
 pub(crate) fn text_difference(
     alloc: Global,
     what: &str,

@@ -51,7 +51,7 @@ fn push_told<D: Asked>(docket: &mut D, question: &str, to: &mut Vec<u8>) -> Resu
     }
 }
 
-/// Appends what the command of a line is answered, or the fault of the line.
+/// Appends the answer to the command on a line, or the fault of the line.
 fn push_reply<D: Asked>(
     alloc: Global,
     docket: &mut D,
@@ -66,7 +66,7 @@ fn push_reply<D: Asked>(
     Ok(to.push(b'\n')?)
 }
 
-/// What the lines come to.
+/// The output of the lines.
 fn played<D: Asked>(alloc: Global, docket: &mut D, lines: &[u8]) -> Result<Vec<u8>, Error> {
     let mut written = Vec::new(alloc);
     for line in lines.split_inclusive(|byte| *byte == b'\n') {
@@ -88,7 +88,7 @@ fn over_tables(alloc: Global, court: Court, lines: &[u8]) -> Result<Vec<u8>, Err
     written
 }
 
-/// The first difference from what is wanted of the step, over SQLite's tables and then over vectors.
+/// The first difference from the step's expected output, over SQLite's tables and then over vectors.
 pub(crate) fn docket_difference(alloc: Global, step: &Step) -> Result<Option<String>, Error> {
     let (zone, close) = (step.word(1), step.word(2));
     let wanted = step.wanted.output.as_slice();

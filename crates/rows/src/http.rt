@@ -53,7 +53,7 @@ fn push_answers(
     Ok(())
 }
 
-/// What a new docket answers to the requests, which come in pieces of a size.
+/// The answers of a new docket to the requests, which come in pieces of a size.
 fn answers(alloc: Global, routes: &Routes, size: usize, requests: &[u8]) -> Result<Vec<u8>, Error> {
     let mut docket = docket(alloc)?;
     let mut written = Vec::new(alloc);
@@ -63,7 +63,7 @@ fn answers(alloc: Global, routes: &Routes, size: usize, requests: &[u8]) -> Resu
     Ok(written)
 }
 
-/// The first difference from the answers that are wanted, in pieces of each size.
+/// The first difference from the expected answers, in pieces of each size.
 fn in_pieces(
     alloc: Global,
     routes: &Routes,
@@ -126,7 +126,7 @@ fn reports_writes(alloc: Global, docket: &mut Docket<MemStore>, request: &[u8]) 
     true
 }
 
-/// What is otherwise where the reads of a request fail, if anything is.
+/// What goes wrong where the reads of a request fail, if anything does.
 fn read_fault(
     alloc: Global,
     docket: &mut Docket<MemStore>,
@@ -141,7 +141,7 @@ fn read_fault(
     None
 }
 
-/// What is otherwise where its writes fail, if anything is.
+/// What goes wrong where its writes fail, if anything does.
 fn write_fault(
     alloc: Global,
     docket: &mut Docket<MemStore>,
@@ -154,7 +154,7 @@ fn write_fault(
     }
 }
 
-/// The first of the requests of which something is otherwise where its reads fail, or else its writes.
+/// The first of the requests that goes wrong where its reads fail, or else where its writes fail.
 fn first_fault(
     alloc: Global,
     docket: &mut Docket<MemStore>,
@@ -192,7 +192,7 @@ fn routes_of(alloc: Global, word: &str) -> Result<Routes, Error> {
     }
 }
 
-/// The first difference from what is wanted of the step, in the way that it says.
+/// The first difference from the step's expected output, played in the way that the step says.
 pub(crate) fn http_difference(alloc: Global, step: &Step) -> Result<Option<String>, Error> {
     match &step.way {
         Way::Pieces(sizes) => in_pieces(alloc, &routes_of(alloc, step.word(1))?, sizes, step),

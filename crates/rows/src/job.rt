@@ -67,7 +67,7 @@ fn done(
     finish(rt.alloc(), end, output, errors)
 }
 
-/// The first difference from what is wanted of the words, over these ends.
+/// The first difference from the expected outcome of the words, over these ends.
 fn once(
     rt: &HostRuntime,
     words: &[String],
@@ -102,7 +102,7 @@ fn in_pieces(
     Ok(None)
 }
 
-/// What fails with this line on standard error, after the output that went out.
+/// The outcome of a failure: this line on standard error, after the output that went out.
 fn failed(alloc: Global, output: &[u8], error: &[u8]) -> Result<Outcome, AllocError> {
     let mut outcome = Outcome::new(alloc);
     outcome.output.extend_from_slice(output)?;
@@ -171,7 +171,7 @@ fn each_write(
     Ok(None)
 }
 
-/// The first difference from what is wanted of the step, in the way that it says.
+/// The first difference from the step's expected output, played in the way that the step says.
 pub(crate) fn job_difference(
     rt: &HostRuntime,
     folder: &str,

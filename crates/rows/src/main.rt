@@ -1,11 +1,11 @@
-//! Plays scripts of text, and compares what comes of each step with what the script says, whole:
+//! Plays scripts of text, and compares the whole output of each step with what the script says:
 //!
 //!     rows
 //!     rows NAME..
 //!
-//! With no word it plays every script NAME.rows of the current folder, in the order of their names, else those
-//! of these names. It prints a line for each script, and exits with 1 where something else came of a step.
-//! ../data has the scripts; `script` says how one is written.
+//! With no word it plays every script NAME.rows of the current folder, in the order of their names, else
+//! those of these names. It prints a line for each script, and exits with 1 where a step's output differs.
+//! The scripts are in ../data; `script` describes their form.
 #![tactic(auto)]
 
 mod compare;
@@ -24,7 +24,7 @@ use names::script_names;
 use play::play_script;
 use std::process::ExitCode;
 
-/// Plays the scripts, and answers whether all came as they say.
+/// Plays the scripts, and returns whether all outputs were as the scripts say.
 fn play_all(rt: &HostRuntime) -> Result<bool, Error> {
     let mut all = true;
     for name in script_names(rt)? {

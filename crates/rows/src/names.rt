@@ -1,4 +1,4 @@
-//! Which scripts are played.
+//! The names of the scripts to play.
 use anyhow::Error;
 use std::{env, fs};
 

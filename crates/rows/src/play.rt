@@ -20,7 +20,7 @@ fn canonical(alloc: Global, line: &[u8]) -> Result<String, AllocError> {
     }
 }
 
-/// The first difference from the canonical texts that are wanted, one for each line.
+/// The first difference from the expected canonical texts, one for each line.
 fn texts_difference(alloc: Global, step: &Step) -> Result<Option<String>, Error> {
     let mut texts = Vec::new(alloc);
     for line in step.input.split_inclusive(|byte| *byte == b'\n') {
@@ -30,7 +30,7 @@ fn texts_difference(alloc: Global, step: &Step) -> Result<Option<String>, Error>
     Ok(text_difference(alloc, "output", &texts, &step.wanted.output)?)
 }
 
-/// The first difference from what is wanted of the step, if there is one.
+/// The first difference from the step's expected output, if there is one.
 fn step_difference(rt: &HostRuntime, folder: &str, step: Step) -> Result<Option<String>, Error> {
     match step.word(0) {
         "docketctl" => job_difference(rt, folder, step),
@@ -52,7 +52,7 @@ fn new_folder(rt: &HostRuntime, name: &str) -> Result<String, Error> {
     Ok(folder)
 }
 
-/// Plays the steps in order up to the first of which something else comes. What that is, if there is one.
+/// Plays the steps in order up to the first with a difference. Returns the difference, if there is one.
 fn steps_difference(
     rt: &HostRuntime,
     folder: &str,
@@ -71,7 +71,7 @@ fn steps_difference(
     Ok(None)
 }
 
-/// Plays the script, and prints how many steps it has, or what came otherwise. Whether all came as it says.
+/// Plays the script, and prints how many steps it has, or the difference. Returns whether there was none.
 pub(crate) fn play_script(rt: &HostRuntime, name: &str) -> Result<bool, Error> {
     let path = format!(in rt.alloc(); "{name}{ENDING}")?;
     let steps = read_script(rt, &fs::read_to_string(rt, path.as_str())?)?;

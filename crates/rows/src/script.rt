@@ -6,9 +6,9 @@
 //!     = 1
 //!
 //! `<` lines are its input, `>` lines what it prints, `!` lines what it prints on standard error, and `=` is
-//! its exit status, 0 where no line says it. `< TEXT` is a line, `<"TEXT"` a string of JSON whose characters
+//! its exit status, 0 without such a line. `< TEXT` is a line, `<"TEXT"` a string of JSON whose characters
 //! are the bytes, and `<< FILE` all of a file; so are the others. `% WAY` says how the step is played. Empty
-//! lines and lines that begin with `#` say nothing.
+//! lines and lines that begin with `#` are ignored.
 mod bytes;
 mod way;
 
@@ -20,7 +20,7 @@ use std::alloc::{AllocError, Global};
 pub(crate) use way::Way;
 use way::read_way;
 
-/// What is done, on what, and what is to come of it.
+/// What is done, with which input, and the expected outcome.
 #[derive(Drop)]
 pub(crate) struct Step {
     /// The line of the script with which it begins.
@@ -50,12 +50,12 @@ impl Step {
         })
     }
 
-    /// The word of a number, the first of which says what kind of step it is.
+    /// The word of a number. The first says what kind of step it is.
     pub(crate) fn word(&self, number: usize) -> &str {
         self.words.get(number).map_or("", |word| word.as_str())
     }
 
-    /// Adds what a line behind the first says of the step.
+    /// Adds what a further line says about the step.
     fn add(&mut self, rt: &HostRuntime, line: &str) -> Result<(), Error> {
         if let Some(part) = line.strip_prefix('<') {
             push_part(rt, part, &mut self.input)
@@ -100,7 +100,7 @@ fn add_line(
     }
 }
 
-/// The steps of a script, or the first line that is none of a script.
+/// The steps of a script. It fails with the first line that no script may have.
 pub(crate) fn read_script(rt: &HostRuntime, text: &str) -> Result<Vec<Step>, Error> {
     let mut steps = Vec::new(rt.alloc());
     for (place, line) in text.lines().enumerate() {

@@ -63,7 +63,7 @@ fn executed_on_file(rt: &HostRuntime, path: &str, sql: &str) -> Result<Vec<u8>, 
     printed
 }
 
-/// The first difference from what is wanted of the step.
+/// The first difference from the step's expected output.
 pub(crate) fn sql_difference(
     rt: &HostRuntime,
     folder: &str,

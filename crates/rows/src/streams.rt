@@ -3,7 +3,7 @@ use std::alloc::Global;
 use std::io;
 use std::io::{ErrorKind, Read, Write};
 
-/// Gives its bytes in pieces of at most `size` bytes, and fails after so many reads.
+/// Returns its bytes in pieces of at most `size` bytes, and fails after so many reads.
 #[derive(Drop)]
 pub(crate) struct Pieces<'a> {
     rest: &'a [u8],

@@ -16,7 +16,7 @@ fn swept(alloc: Global, step: &Step) -> Result<(Vec<u8>, Tally), Error> {
     }
 }
 
-/// The first difference from what is wanted of the step. How many stops there were is printed on standard
+/// The first difference from the step's expected output. Prints how many stops there were on standard
 /// error.
 pub(crate) fn sweep_difference(rt: &HostRuntime, step: &Step) -> Result<Option<String>, Error> {
     let (came, tally) = swept(rt.alloc(), step)?;

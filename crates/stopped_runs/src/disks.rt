@@ -15,7 +15,7 @@ pub(crate) trait Tried: Crash + Drop {
 
     fn bytes(&self) -> &[u8];
 
-    /// How many calls have come to it.
+    /// How many calls it got.
     fn calls(&self) -> u64;
 }
 
@@ -70,7 +70,7 @@ pub(crate) const NO_STOP: Stop = Stop {
     db: u64::MAX,
 };
 
-/// How many calls came to each disk.
+/// How many calls each disk got.
 #[derive(Clone, Copy)]
 pub(crate) struct Calls {
     log: u64,
@@ -168,15 +168,15 @@ pub(crate) fn left<D: Tried>(alloc: Global, mut files: Files<D>) -> Result<Remai
 }
 
 impl Remains {
-    /// Whether there is something to lose on each disk that loses. Where there is not, the same is left as
-    /// by another loss.
+    /// Whether there is something to lose on each disk that loses. If there is not, another loss leaves the
+    /// same.
     pub(crate) fn is_lost(&self, loss: Loss) -> bool {
         let is_log_lost = self.written.log.as_slice() != self.synced.log.as_slice();
         let is_db_lost = self.written.db.as_slice() != self.synced.db.as_slice();
         (is_log_lost || !loss.log) && (is_db_lost || !loss.db)
     }
 
-    /// What is left where a power failure loses so much.
+    /// Returns what is left after a power failure with that loss.
     pub(crate) fn after(&self, alloc: Global, loss: Loss) -> Result<Bytes, AllocError> {
         let log = if loss.log {
             &self.synced.log

@@ -13,7 +13,7 @@ use sqlite::{Alter, Connection, FileStore, Files};
 use sqlite_disk::Disk;
 use std::alloc::Global;
 
-/// Why a run has nothing to tell of a docket.
+/// Why a run has no text of a docket.
 #[derive(Clone, Copy)]
 pub(crate) enum End {
     NoCourt,
@@ -26,7 +26,7 @@ pub(crate) enum End {
 }
 
 impl End {
-    /// Whether it may end so where a disk stops.
+    /// Whether a disk that stops may be the cause of this end.
     pub(crate) fn is_by_a_disk(self) -> bool {
         matches!(
             self,
@@ -54,7 +54,7 @@ fn closed<D: Disk + Drop>(docket: Docket<FileStore<D>>) -> Files<D> {
     docket.close().into_store().close()
 }
 
-/// The connection over the files, as the program opens them, or why there is none, and its files.
+/// Returns the connection over the files, as the program opens them, or why there is none, and its files.
 fn opened<D: Disk + Drop>(
     alloc: Global,
     files: Files<D>,
@@ -69,7 +69,7 @@ fn opened<D: Disk + Drop>(
     }
 }
 
-/// The docket from which the run goes on, or why there is none, and its files.
+/// Returns the docket from which the run continues, or why there is none, and its files.
 fn gone_on<D: Disk + Drop>(
     alloc: Global,
     files: Files<D>,
@@ -84,7 +84,7 @@ fn gone_on<D: Disk + Drop>(
     }
 }
 
-/// The docket from which the run goes on, and what it answers to the command; or why there is none, and
+/// Returns the docket from which the run continues, and its answer to the command; or why there is none, and
 /// its files.
 fn gone_on_with<D: Disk + Drop>(
     alloc: Global,
@@ -101,7 +101,7 @@ fn gone_on_with<D: Disk + Drop>(
     }
 }
 
-/// Applies the commands of the lines, each of which is to be accepted.
+/// Applies the commands of the lines, each of which must be accepted.
 fn apply_lines<S: Alter>(alloc: Global, docket: &mut Docket<S>, lines: &[u8]) -> Result<(), Error> {
     for line in lines.split_inclusive(|byte| *byte == b'\n') {
         let Ok(command) = read_command(alloc, line) else {
@@ -136,7 +136,7 @@ pub(crate) fn created<D: Disk + Drop>(
     }
 }
 
-/// Goes on from the docket, and applies the commands of the lines.
+/// Continues from the docket, and applies the commands of the lines.
 pub(crate) fn filled<D: Disk + Drop>(
     alloc: Global,
     files: Files<D>,
@@ -154,7 +154,7 @@ pub(crate) fn filled<D: Disk + Drop>(
     }
 }
 
-/// What the docket tells from which the run goes on.
+/// Returns the text of the docket from which the run continues.
 pub(crate) fn found<D: Disk + Drop>(
     alloc: Global,
     files: Files<D>,
@@ -169,7 +169,7 @@ pub(crate) fn found<D: Disk + Drop>(
     }
 }
 
-/// What the docket tells, where one was made.
+/// Returns the text of the docket, if one was made.
 pub(crate) fn found_if_made<D: Disk + Drop>(
     alloc: Global,
     files: Files<D>,
@@ -191,7 +191,7 @@ pub(crate) fn found_if_made<D: Disk + Drop>(
     }
 }
 
-/// What is answered to the command where the run goes on from the docket.
+/// Returns the answer to the command where the run continues from the docket.
 pub(crate) fn given<D: Disk + Drop>(
     alloc: Global,
     files: Files<D>,
@@ -222,7 +222,7 @@ pub(crate) fn executed<D: Disk + Drop>(
     }
 }
 
-/// What the migration of a docket is answered, and the connection.
+/// Returns the result of the migration of a docket, and the connection.
 fn migrate<S: Alter>(
     alloc: Global,
     conn: Connection<S>,

@@ -1,6 +1,6 @@
-//! Commands over two disks in memory, each of which stops at a call. The next run goes on from what is
-//! left, and what its docket tells is compared with what the docket in vectors tells. So is the migration of
-//! a docket stopped, after which the docket tells what it tells without a stop.
+//! Commands over two disks in memory, each of which stops at a call. The next run continues from what is
+//! left, and the text of its docket is compared with that of the docket in vectors. The migration of a docket
+//! is stopped in the same way; after it the docket has the text that it has without a stop.
 #![tactic(auto)]
 
 mod disks;

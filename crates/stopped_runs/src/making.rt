@@ -7,7 +7,7 @@ use docket_store::AdoptFault;
 use sqlite::Files;
 use std::alloc::Global;
 
-/// What a docket without any record tells.
+/// The text of a docket without any record.
 const NOTHING: &[u8] = b"end 0\n";
 
 /// The making of a docket in files that hold none.
@@ -36,8 +36,8 @@ fn made_now<D: Tried>(alloc: Global, files: Files<D>, frames: usize) -> Result<(
     }
 }
 
-/// Goes on from what is left. There is a docket without any record or none, and one where it was
-/// acknowledged; where there is none it is made.
+/// Continues from what is left. There is a docket without any record or none, and one if it was acknowledged;
+/// if there is none it is made.
 fn goes_on<D: Tried>(
     alloc: Global,
     frames: usize,
@@ -53,7 +53,8 @@ fn goes_on<D: Tried>(
     }
 }
 
-/// Makes a docket with a stop, and goes on from what each power failure leaves. Whether a disk stopped.
+/// Makes a docket with a stop, and continues from what each power failure leaves. Returns whether a disk
+/// stopped.
 fn stopped_once<D: Tried>(alloc: Global, frames: usize, stop: Stop) -> Result<bool, Error> {
     let files = files_with::<D>(alloc, &Bytes::none(alloc), stop)?;
     let (made, files) = created(alloc, files, frames);
@@ -71,8 +72,8 @@ fn stopped_once<D: Tried>(alloc: Global, frames: usize, stop: Stop) -> Result<bo
     Ok(is_stopped)
 }
 
-/// How many stops there are of the making of a docket, which is made whole or not at all wherever it is
-/// stopped.
+/// Returns how many stops there are of the making of a docket, which is made whole or not at all wherever it
+/// is stopped.
 pub(crate) fn made(alloc: Global, frames: &[usize]) -> Result<Tally, Error> {
     let mut tally = Tally::NONE;
     for frames in frames {

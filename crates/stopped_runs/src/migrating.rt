@@ -1,6 +1,5 @@
-//! The migration of a docket of the first version of the tables, stopped after each number of calls of
-//! each disk until it meets no stop: the first version is left or the second, and given again the
-//! migration ends.
+//! The migration of a docket of the first version of the tables, stopped after each number of calls of each
+//! disk until it meets no stop. The first version is left or the second, and given again the migration ends.
 use crate::disks::{
     Bytes, Fused, LOSSES, NO_STOP, Stop, Tried, bytes_of, calls_of, files_with, left,
 };
@@ -13,7 +12,7 @@ use sqlite::Files;
 use std::alloc::Global;
 use std::str;
 
-/// A docket of the first version in two files, and what it tells once it is migrated.
+/// A docket of the first version in two files, and its text once it is migrated.
 #[derive(Drop)]
 struct Migration<'a> {
     before: Bytes,
@@ -21,8 +20,8 @@ struct Migration<'a> {
     told: &'a [u8],
 }
 
-/// The files that are left are opened to see what stands, to give the migration again, and to see what
-/// stands then.
+/// How often the files that are left are opened: to see what stands, to give the migration again, and to see
+/// what stands then.
 const REOPENINGS: u64 = 3;
 
 impl Stoppable for Migration<'_> {
@@ -38,7 +37,7 @@ fn laid_out<D: Tried>(alloc: Global, sql: &str, frames: usize) -> Result<Bytes, 
     Ok(bytes_of(alloc, &files)?)
 }
 
-/// What the docket of these files tells after a migration that meets no stop.
+/// Returns the text of the docket of these files after a migration that meets no stop.
 fn told_after<D: Tried>(alloc: Global, before: &Bytes, frames: usize) -> Result<Vec<u8>, Error> {
     let files = files_with::<D>(alloc, before, NO_STOP)?;
     let (migrated, files) = migrated(alloc, files, frames);
@@ -52,7 +51,7 @@ fn told_after<D: Tried>(alloc: Global, before: &Bytes, frames: usize) -> Result<
     }
 }
 
-/// Whether the migration was acknowledged. Where a disk stopped it may not be.
+/// Whether the migration was acknowledged. If a disk stopped it may not be.
 fn is_acknowledged(migrated: Result<(), End>) -> Result<bool, Error> {
     match migrated {
         Ok(()) => Ok(true),
@@ -61,7 +60,7 @@ fn is_acknowledged(migrated: Result<(), End>) -> Result<bool, Error> {
     }
 }
 
-/// The version that is left, by what the next run finds: the second where the migration was acknowledged.
+/// The version that is left, by what the next run finds: the second if the migration was acknowledged.
 fn version_left(
     migration: &Migration<'_>,
     told: Result<Vec<u8>, End>,
@@ -78,7 +77,7 @@ fn version_left(
     }
 }
 
-/// Whether the migration, given again where that version is left, is answered so.
+/// Whether this is the answer to the migration, given again where that version is left.
 fn is_answer_to(version: Version, answer: Result<(), End>) -> bool {
     match (version, answer) {
         (Version::First, answer) => answer.is_ok(),
@@ -87,8 +86,8 @@ fn is_answer_to(version: Version, answer: Result<(), End>) -> bool {
     }
 }
 
-/// Goes on from what is left, and gives the migration again: the docket is in the second version then, and
-/// tells the same.
+/// Continues from what is left, and gives the migration again: the docket is in the second version then, and
+/// has the same text.
 fn goes_on<D: Tried>(
     alloc: Global,
     migration: &Migration<'_>,
@@ -109,8 +108,8 @@ fn goes_on<D: Tried>(
     }
 }
 
-/// Migrates with a stop, and goes on from all that power failures leave. Whether a disk stopped, and how
-/// often the files were opened anew.
+/// Migrates with a stop, and continues from all that power failures leave. Returns whether a disk stopped,
+/// and how often the files were opened anew.
 fn stopped_once<D: Tried>(
     alloc: Global,
     migration: &Migration<'_>,
@@ -135,8 +134,8 @@ fn stopped_once<D: Tried>(
     Ok((is_stopped, reopenings))
 }
 
-/// What the docket that the SQL makes tells once it is migrated, wherever that is stopped, and how many
-/// stops there were.
+/// Returns the text of the docket that the SQL makes, once it is migrated, wherever that is stopped, and how
+/// many stops there were.
 pub fn migrations(alloc: Global, sql: &[u8]) -> Result<(Vec<u8>, Tally), Error> {
     let sql = str::from_utf8(sql).map_err(|_| anyhow!("the input is no text"))?;
     let told = told_after::<Fused>(alloc, &laid_out::<Fused>(alloc, sql, FEW)?, FEW)?;

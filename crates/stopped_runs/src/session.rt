@@ -17,8 +17,8 @@ use power_failure::{NotReopened, Reopened, reopen_after_power_failure};
 use sqlite::{Alter, Files};
 use std::alloc::Global;
 
-/// The commands of a session on a docket without any record in two files, and by the docket in vectors
-/// what each is answered and what is told before the first and after each.
+/// The commands of a session on a docket without any record in two files. The docket in vectors gives the
+/// answer to each, and the texts before the first and after each.
 #[derive(Drop)]
 struct Course {
     before: Bytes,
@@ -41,7 +41,7 @@ impl Course {
         Ok(course)
     }
 
-    /// Plays the commands of the lines by a docket in vectors.
+    /// Applies the commands of the lines to a docket in vectors.
     fn play(&mut self, alloc: Global, lines: &[u8]) -> Result<(), Error> {
         let court = eastern_court(alloc)?;
         let mut docket = vectors::docket(alloc, ZONE)?;
@@ -52,7 +52,7 @@ impl Course {
         Ok(())
     }
 
-    /// Adds the command of the line, what it is answered and what is told after it.
+    /// Adds the command of the line, its answer and the text after it.
     fn add(
         &mut self,
         alloc: Global,
@@ -83,7 +83,7 @@ impl Course {
         Ok(replies.len() <= self.answers.len())
     }
 
-    /// Whether the docket of the first commands tells this.
+    /// Whether the docket of the first commands has this text.
     fn is_told_after(&self, commands: usize, told: &[u8]) -> bool {
         match self.told.get(commands) {
             Some(wanted) => wanted.as_slice() == told,
@@ -92,7 +92,7 @@ impl Course {
     }
 }
 
-/// What a docket tells, which is then closed.
+/// Returns the text of a docket, which is then closed.
 fn told_once<S: Alter + Drop>(alloc: Global, docket: Docket<S>) -> Result<Vec<u8>, Error> {
     let mut docket = docket;
     let told = told(alloc, &mut docket);
@@ -100,7 +100,7 @@ fn told_once<S: Alter + Drop>(alloc: Global, docket: Docket<S>) -> Result<Vec<u8
     told
 }
 
-/// What the run after the session finds, or why it finds nothing.
+/// Returns what the run after the session finds, or why it finds nothing.
 fn reopened<D: Tried>(alloc: Global, course: &Course, files: Files<D>) -> Result<Reopened<D>, End> {
     if !files.may_be_used() {
         return Err(End::NotUsable);
@@ -119,7 +119,7 @@ fn reopened<D: Tried>(alloc: Global, course: &Course, files: Files<D>) -> Result
     }
 }
 
-/// How many commands were acknowledged, if the run found the docket of those or of one more.
+/// Returns how many commands were acknowledged, if the run found the docket of those or of one more.
 fn acknowledged<D: Tried>(
     alloc: Global,
     course: &Course,
@@ -141,8 +141,8 @@ fn acknowledged<D: Tried>(
     }
 }
 
-/// Runs the session with a stop. How many commands were acknowledged, if the next run found the docket
-/// of those or of one more.
+/// Runs the session with a stop. Returns how many commands were acknowledged, if the next run found the
+/// docket of those or of one more.
 fn stopped_once<D: Tried>(alloc: Global, course: &Course, stop: Stop) -> Result<usize, Error> {
     let files = files_with::<D>(alloc, &course.before, stop)?;
     match reopened(alloc, course, files) {
@@ -152,8 +152,8 @@ fn stopped_once<D: Tried>(alloc: Global, course: &Course, stop: Stop) -> Result<
     }
 }
 
-/// Stops the disk after each number of calls, until all commands are acknowledged. How many stops there
-/// were.
+/// Stops the disk after each number of calls, until all commands are acknowledged. Returns how many stops
+/// there were.
 fn stops_of<D: Tried>(alloc: Global, course: &Course, stopping: Stopping) -> Result<u64, Error> {
     for calls in 0..CALLS {
         if stopped_once::<D>(alloc, course, stopping.after(calls))? == course.commands.len() {
@@ -174,8 +174,8 @@ fn swept(alloc: Global, course: &Course) -> Result<Tally, Error> {
     })
 }
 
-/// The answers to the commands of an input, which are a session that leaves a prefix of them wherever it
-/// is stopped, and how many stops there were.
+/// Returns the answers to the commands of an input, which are a session that leaves a prefix of them wherever
+/// it is stopped, and how many stops there were.
 pub fn sessions(alloc: Global, input: &[u8]) -> Result<(Vec<u8>, Tally), Error> {
     let mut written = Vec::new(alloc);
     let course = Course::new::<Fused>(alloc, input, FEW)?;

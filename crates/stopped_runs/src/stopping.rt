@@ -19,7 +19,7 @@ impl Stoppable for Trial {
     }
 }
 
-/// Whether the command was acknowledged, with its answer. Where a disk stopped it may have none.
+/// Whether the command was acknowledged, with its answer. If a disk stopped it may have none.
 fn is_acknowledged(
     alloc: Global,
     trial: &Trial,
@@ -52,8 +52,8 @@ fn stands_once<D: Tried>(alloc: Global, trial: &Trial, files: Files<D>) -> Resul
     }
 }
 
-/// Goes on from what is left. The docket stands without the command or with it, and with it where it
-/// was acknowledged. The files of that run.
+/// Continues from what is left. The docket stands without the command or with it, and with it if it was
+/// acknowledged. Returns the files of that run.
 fn goes_on<D: Tried>(
     alloc: Global,
     trial: &Trial,
@@ -86,8 +86,8 @@ fn losses_apart(left: &Remains) -> u64 {
     count
 }
 
-/// Goes on from what is left, and gives the command again where that is asked for. How often the files were
-/// opened.
+/// Continues from what is left, and gives the command again if `again` is set. Returns how often the files
+/// were opened.
 fn reopened<D: Tried>(
     alloc: Global,
     trial: &Trial,
@@ -103,8 +103,8 @@ fn reopened<D: Tried>(
     Ok(3)
 }
 
-/// Goes on from what each power failure leaves, and gives the command again after one of them, another after
-/// each number of calls. How often the files were opened.
+/// Continues from what each power failure leaves, and gives the command again after one of them, another
+/// after each number of calls. Returns how often the files were opened.
 fn reopened_after_each<D: Tried>(
     alloc: Global,
     trial: &Trial,
@@ -125,8 +125,8 @@ fn reopened_after_each<D: Tried>(
     Ok(reopenings)
 }
 
-/// Gives the command with a stop, and goes on from what is left. Whether a disk stopped, and how often the
-/// files were opened anew.
+/// Gives the command with a stop, and continues from what is left. Returns whether a disk stopped, and how
+/// often the files were opened anew.
 fn stopped_once<D: Tried>(
     alloc: Global,
     trial: &Trial,
@@ -145,8 +145,8 @@ fn stopped_once<D: Tried>(
     Ok((is_stopped, reopenings))
 }
 
-/// The answer to the command of a line, which comes to the docket of the lines and stands whole wherever
-/// it is stopped, and how many stops there were.
+/// Returns the answer to the command of a line, which comes to the docket of the lines and stands whole
+/// wherever it is stopped, and how many stops there were.
 fn answered(
     alloc: Global,
     lines: &[u8],
@@ -163,9 +163,9 @@ fn answered(
     Ok((answer, tally))
 }
 
-/// The answers to the commands behind the line `?` of an input, each of which comes to the docket of the
-/// lines before that one and stands whole wherever it is stopped, as the making of a docket does; and how
-/// many stops there were. `frames` is `SHORT_LOG` or `EACH_LOG`.
+/// Returns the answers to the commands behind the line `?` of an input, and how many stops there were. Each
+/// command comes to the docket of the lines before that one. It stands whole wherever it is stopped, as the
+/// making of a docket does. `frames` is `SHORT_LOG` or `EACH_LOG`.
 pub fn stopped(alloc: Global, input: &[u8], frames: &[usize]) -> Result<(Vec<u8>, Tally), Error> {
     let mut tally = made(alloc, frames)?;
     let (lines, commands) = parted(input)?;

@@ -61,8 +61,8 @@ impl fmt::Display for Tally {
 
 /// A run over two files that a disk may stop.
 pub(crate) trait Stoppable {
-    /// Runs with the disk stopping after so many calls, and goes on from what each power failure leaves.
-    /// Whether it stopped, and how often the files were opened anew.
+    /// Runs with the disk stopping after so many calls, and continues from what each power failure leaves.
+    /// Returns whether it stopped, and how often the files were opened anew.
     fn stopped(&self, alloc: Global, stopping: Stopping, calls: u64) -> Result<(bool, u64), Error>;
 }
 

@@ -1,4 +1,4 @@
-//! A command that is to be stopped, and the docket to which it comes.
+//! A command to stop, and the docket to which it comes.
 use crate::disks::{Bytes, NO_STOP, Tried, bytes_of, files_with};
 use crate::going_on::{created, filled};
 use crate::whole_text::told_by_vectors;
@@ -22,8 +22,8 @@ pub(crate) fn parted(input: &[u8]) -> Result<(&[u8], &[u8]), Error> {
     Err(anyhow!("no line parts the commands"))
 }
 
-/// A command to a docket in two files, and by the docket in vectors what it is answered and what is told
-/// without it and with it.
+/// A command to a docket in two files. The docket in vectors gives its answer, and the texts without it and
+/// with it.
 #[derive(Drop)]
 pub(crate) struct Trial {
     pub(crate) before: Bytes,

@@ -1,5 +1,5 @@
-//! What a docket tells, as one text: each case with its parties, its entries and its deadlines, and the
-//! calendar of all days.
+//! The text of a docket: each case with its parties, its entries and its deadlines, and the calendar of all
+//! days.
 use anyhow::{Error, anyhow};
 use court_days::{Court, Day, read_day};
 use docket_history::{CaseRecord, DeadlineLine, DueRow};
@@ -48,7 +48,7 @@ fn push_case<S: Alter>(
     }
 }
 
-/// What a docket in a database tells.
+/// Returns the text of a docket in a database.
 pub(crate) fn told<S: Alter>(alloc: Global, docket: &mut Docket<S>) -> Result<Vec<u8>, Error> {
     let mut text = Vec::new(alloc);
     for number in 1..=LAST_CASE {
@@ -92,7 +92,7 @@ fn push_plain_case(
     push_rows(alloc, number, &lines, rows)
 }
 
-/// What a docket in vectors tells.
+/// Returns the text of a docket in vectors.
 pub(crate) fn told_by_vectors(
     alloc: Global,
     docket: &Plain,

@@ -35,7 +35,7 @@ fn act(word: &str) -> Option<Act> {
     }
 }
 
-/// Whether a deadline may have these acts; none if a word names no act, or there is no memory.
+/// Whether a deadline may have these acts; none if a word names no act, or memory runs out.
 fn are_acts(alloc: Global, words: &str) -> Option<bool> {
     let mut acts = Vec::new(alloc);
     for word in words.split_whitespace() {

@@ -28,7 +28,7 @@ fn enter(calendar: &mut Calendar, entry: Entry) -> Option<Entered> {
     })
 }
 
-/// Entries in a calendar, one after the other, and what each comes to.
+/// Entries in a calendar, one after the other, and the result of each.
 const ENTRIES: [(Entry, Entered); 19] = [
     (Entry::Day(Closed, "2007-08-31"), Ok(true)),
     (Entry::Day(Closed, "2007-08-31"), Ok(false)),
@@ -69,7 +69,7 @@ fn full_calendar(alloc: Global) -> Option<Calendar> {
     Some(calendar)
 }
 
-/// Entries in a full calendar, and what each comes to.
+/// Entries in a full calendar, and the result of each.
 const ENTRIES_IN_FULL: [(Entry, Entered); 6] = [
     (Entry::Day(Closed, "2010-12-13"), Ok(false)),
     (Entry::Day(Closed, "2010-12-14"), Err(Full)),

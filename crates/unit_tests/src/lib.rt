@@ -1,5 +1,5 @@
-//! Tests of what no script of `rows` can say: zones beside jiff's own, the acts of a deadline, calendars,
-//! sessions, clients of a socket, copies of files, and what is left in a database.
+//! Tests of what no script of `rows` can express: zones beside jiff's own, the acts of a deadline,
+//! calendars, sessions, clients of a socket, copies of files, and what is left in a database.
 #![tactic(auto)]
 
 #[cfg(test)]

@@ -9,7 +9,7 @@ use docket_plain::Plain;
 use docket_text::{calendar_text, case_text, due_rows, sort_calendar};
 use std::alloc::{AllocError, Global};
 
-/// The first and the last instant of which a court tells the local time, in seconds since 1970-01-01T00:00Z.
+/// The first and the last instant whose local time a court can show, in seconds since 1970-01-01T00:00Z.
 const INSTANTS: (i64, i64) = (315_705_600, 64_060_329_600);
 
 /// No docket of a script has a case with a higher number.

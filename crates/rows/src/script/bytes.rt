@@ -1,4 +1,4 @@
-//! The bytes that a line of a script says.
+//! The bytes that a line of a script spells.
 use anyhow::{Error, anyhow};
 use serde_json::Value;
 use std::alloc::Global;
@@ -26,7 +26,7 @@ fn push_line(line: &str, to: &mut Vec<u8>) -> Result<(), Error> {
     Ok(to.push(b'\n')?)
 }
 
-/// Appends what stands behind the mark of a line: a line, a string of JSON, or the name of a file.
+/// Appends what follows the mark of a line: a line, a string of JSON, or the name of a file.
 pub(crate) fn push_part(rt: &HostRuntime, part: &str, to: &mut Vec<u8>) -> Result<(), Error> {
     if part.is_empty() {
         return push_line("", to);

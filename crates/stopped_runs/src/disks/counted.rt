@@ -1,4 +1,4 @@
-//! A disk that counts the calls that come to it.
+//! A disk that counts its calls.
 use sqlite_disk::{Crash, Disk, Tally};
 use std::io;
 

@@ -19,7 +19,7 @@ start_is zone given at is same fits h =
     let begins = entered_start zone (subst IsZone same is) (seconds at) h.0 h.1 in
     (at_is at fits (omega (arith, begins)), begins.0, begins.1)
 
--- the end as the code gives it
+-- the end as the code returns it
 record Gives (entered : Entered) (zone : ZoneRules) (direction : Direction) (at : ℤ) (hours n : ℕ) : Type 0 where
   ends : IsEndOfHours entered zone direction (seconds at) hours n
   number : to_z w64 n ≡ pos n

@@ -4,7 +4,7 @@ use Rattle.docket_command.specs.declared.field.Field.{Field}
 use Rattle.docket_command.specs.declared.refusal.Refusal.{Refusal}
 use Rattle.docket_decisions.proofs.refusals.refusal.Goals as goal
 
--- what doesn't apply is passed over
+-- what doesn't apply is skipped
 skipped : (b1 b2 : Bool) (f : Option Field) (r1 r2 : Refusal) (rest : List (Option Refusal)) → b1 ≡ true → b2 ≡ false → f ≡ None → first_some (on (not b1) r1 ∷ on b2 r2 ∷ on_value f ∷ rest) ≡ first_some rest
 skipped b1 b2 f r1 r2 rest e1 e2 e3 = rw (e1, e2, e3)
 

@@ -3,11 +3,11 @@ use Rattle.docket_command.specs.declared.refusal.Refusal.{Refusal}
 use Rattle.docket_decisions.specs.Refusals.{first_some, on}
 use Rattle.docket_decisions.proofs.refusals.state_refusal.Goals as goal
 
--- a check that is met where its sentence is true, before such checks
+-- a check that applies where its sentence is true, before such checks
 before : {met is : Bool} {checks sentences : List (Option Refusal)} (r : Refusal) → met ≡ is → checks ≡ sentences → on met r ∷ checks ≡ on is r ∷ sentences
 before r one more = ap₂ (λ (b : Bool) (rest : List (Option Refusal)). on b r ∷ rest) one more
 
--- each check is met where its sentence is true
+-- each check applies where its sentence is true
 pub returns : goal.returns
 returns c =
     let court = c.args.circumstances.now.court.now in

@@ -5,7 +5,7 @@ use Rattle.court_days.specs.declared.calendar.CalendarFault.{CalendarFault}
 use Rattle.docket_history.proofs.CalendarLemmas.{span_held, rows_with_span}
 use Rattle.docket_history.proofs.calendar_rows.enter_span.Goals as goal
 
--- a span that is entered, or stood already
+-- a span that is entered, or was there already
 entered : (calendar new : Entered) (start end : ℕ) (added : Result Bool CalendarFault) (fresh : Bool) → added ≡ Ok fresh
     → (added ≡ Ok true → new ≡ with_span calendar start end) → (added ≡ Ok false → new ≡ calendar)
     → (added ≡ Ok false → HoldsSpan calendar start end) → new ≡ with_span calendar start end

@@ -33,7 +33,7 @@ any_ok (Ok reply) = tt
 any_ok (Err f) = tt
 
 module _ {S : Type 0} (g : Ghosts S) (old now : Docket S) (asked : Wish) (body : List ℕ) (result : Result Reply Fault) where
-  -- what is replied to what was asked, and what it leaves
+  -- the reply to the request, and what it leaves
   abbrev Told : Type 0
   Told = ((h : History) → Stands g old h → Replies g now h asked body result) × OnlyReplies g old now asked body result
 
@@ -46,7 +46,7 @@ module _ {S : Type 0} (g : Ghosts S) (old now : Docket S) (asked : Wish) (body :
     only_as g old now wish asked body body result (sym is) refl (question_only g old now wish body result closed backed only),
   )
 
--- a problem of which no docket is asked
+-- a problem that needs no docket
 fixed : {S : Type 0} (g : Ghosts S) (d : Docket S) (asked : Wish) (body : List ℕ) (wish : Wish) (problem : Problem) → asked ≡ wish
     → ((court : CourtSettings) (h : History) → response_to court h wish body ≡ problem_response problem) → ((court : CourtSettings) (h : History) → history_after court h wish body ≡ h)
     → IsClosedAnswer wish body (problem_response problem) → Told g d d asked body (Ok (Fixed problem))

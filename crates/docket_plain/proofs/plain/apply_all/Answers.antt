@@ -10,7 +10,7 @@ use Rattle.docket_decisions.specs.declared.decision.DecideFault.TheVariants.{Ref
 use Rattle.docket_plain.specs.Dockets.{Docket, IsSaid, IsReply, AreReplies, history_after}
 use Rattle.docket_plain.proofs.plain.apply_all.Goals as goal
 
--- a reply that is no want of memory
+-- a reply other than that memory ran out
 said : (r : Result Reply DecideFault) (a : Answer) → ¬ (r ≡ Err NoMemory) → IsReply r a → IsSaid r a
 said (Ok reply) a other is = is
 said (Err (Refused refusal)) a other is = is

@@ -9,7 +9,7 @@ use Rattle.file_questions.specs.CaseLists.{Lists}
 use Rattle.file_questions.proofs.CaseLemmas.{with_party}
 use Rattle.file_questions.proofs.listing.list_all.Given as goal
 
--- the cases before this one are told
+-- the cases before this one are listed
 abbrev pub invariant-cases : goal.invariant-cases
 invariant-cases g l = record {
   few : l.lines ≤ l.before;
