@@ -1,8 +1,10 @@
 -- From the docket's answer to the reply.
-use Rattle.std.proofs.Common.{◌≡◌, IsTrue, IsErrAnd, inl, inr, ℕ, List, Some, None, Result, Ok, Err, refl, sym, ap, subst, ◌∙◌, true}
+use Rattle.std.proofs.Common.{◌≡◌, IsTrue, IsErrAnd, IfOk, IfErr, inl, inr, ℕ, List, Option, Some, None, Result, Ok, Err, refl, sym, ap, subst, ◌∙◌, true}
+use Rattle.std.specs.Option.{option_map_or}
 use Rattle.sqlite.specs.Store.{Ghosts}
 use Rattle.sqlite.specs.State.{HasCleanDisk}
 use Rattle.sqlite.specs.Held.{state}
+use Rattle.court_days.specs.Court.{CourtSettings}
 use Rattle.docket_command.specs.declared.command.Command.{Command}
 use Rattle.docket_command.specs.declared.refusal.Refusal.{Refusal}
 use Rattle.docket_command.specs.declared.refusal.Reply.{Reply as Number}
@@ -13,25 +15,25 @@ use Rattle.docket_applying.specs.Dockets.{Docket}
 use Rattle.docket_store.specs.Sequence.{Answers, Halts, IsSaid}
 use Rattle.docket_applying.specs.declared.fault.Fault.{Fault}
 use Rattle.docket_applying.specs.declared.fault.Fault.TheVariants as fault
+use Rattle.docket_questions.proofs.TellLemmas.{same_told, short_told}
 use Rattle.docket_tables.specs.Stands.{Lasts, LastsAsEither}
 use Rattle.docket_store.specs.Asking.{OnlyAnswers}
-use Rattle.docket_wire.specs.Reading.{command_in}
-use Rattle.docket_wire.specs.Texts.{reply_text, fault_text}
 use Rattle.docket_wire.specs.declared.fault.WireFault.{WireFault}
 use Rattle.http_request.specs.declared.wish.Wish.{Wish}
-use Rattle.http_request.specs.declared.wish.Wish.TheVariants.{Command as CommandWish}
-use Rattle.docket_http.specs.Answer.{Response, json, problem_response}
-use Rattle.docket_http.specs.Asking.{said_status, outcome_response, command_response, response_to, after_reading, history_after, asks_docket, takes_memory, Replies, IsAnswered, problem_of_fault}
+use Rattle.docket_http.specs.Answer.{Response, problem_response}
+use Rattle.docket_http.specs.Asking.{response_to, history_after, asks_docket, takes_memory, Replies, IsAnswered, problem_of_fault}
+use Rattle.docket_http.specs.Entering.{Entry, Manner, after_reading, entry_of, fault_response, outcome_response, said_response}
 use Rattle.docket_http.specs.Reply.{IsReply}
 use Rattle.docket_http.specs.declared.problem.Problem.{Problem}
 use Rattle.docket_http.specs.declared.problem.Problem.TheVariants.{NoMemory, Store}
 use Rattle.docket_http.specs.declared.reply.Reply.{Reply}
 use Rattle.docket_http.specs.declared.reply.Reply.TheVariants.{Fixed}
+use Rattle.docket_http.proofs.EntryLemmas.{entering}
 
-said_response : (said : Result Number Refusal) (a : Answer) → IsSaid said a → json (said_status said) (reply_text said) ≡ outcome_response a
-said_response (Ok reply) a (inl e) = ap outcome_response (sym e)
-said_response (Ok reply) a (inr e) = ap outcome_response (sym e)
-said_response (Err r) a e = ap outcome_response (sym e)
+said_outcome : (manner : Manner) (c : Command) (said : Result Number Refusal) (a : Answer) → IsSaid said a → said_response manner c said ≡ outcome_response manner c a
+said_outcome manner c (Ok reply) a (inl e) = ap (outcome_response manner c) (sym e)
+said_outcome manner c (Ok reply) a (inr e) = ap (outcome_response manner c) (sym e)
+said_outcome manner c (Err r) a e = ap (outcome_response manner c) (sym e)
 
 reply_as : (reply : Reply) (a b : Response) → a ≡ b → IsReply reply a → IsReply reply b
 reply_as reply a b same is = subst (λ (r : Response). IsReply reply r) same is
@@ -46,15 +48,11 @@ pub err_closed : {X Y : Type 0} (r : Result X Fault) (f : Fault) → IsErrAnd r 
 err_closed (Ok x) f told is = absurd told
 err_closed (Err e) f told is = let same : f ≡ fault.Closed = cc in ap Err (told ∙ same)
 
-module _ {S : Type 0} (g : Ghosts S) where
-  pub said_replied : (d : Docket S) (h : History) (c : Command) (said : Result Number Refusal) (len : ℕ) (body : List ℕ) (reply : Reply) (k : ℕ) (bytes : List ℕ)
-      → Answers g d h c said → command_in body ≡ Ok c → k ≡ said_status said → bytes ≡ reply_text said → IsReply reply (json k bytes) → Replies g d h (CommandWish len) body (Ok reply)
-  said_replied d h c said len body reply k bytes answers spells coded texted is clean =
-      let a = answers clean in
-      let same : json k bytes ≡ command_response d.court h (command_in body) =
-      ap (λ x. json x bytes) coded ∙ ap (λ x. json (said_status said) x) texted ∙ said_response said (outcome d.court h c) a.1 ∙ ap (λ r. command_response d.court h r) (sym spells) in
-      (reply_as reply _ _ same is, subst (λ (r : Result Command WireFault). Stands g d (after_reading d.court h r)) (sym spells) a.0)
+-- the history behind what is entered
+abbrev pub behind : CourtSettings → History → Option Entry → History
+behind court h entered = option_map_or (λ e. after_reading court h e.read) entered h
 
+module _ {S : Type 0} (g : Ghosts S) where
   pub either_from_lasts : (d : Docket S) (h : History) → Lasts g d.conn (docket_rows d.court h) → LastsAsEither g d.conn (docket_rows d.court h) (docket_rows d.court h)
   either_from_lasts d h lasts = (lasts.0, λ clean. record { images = λ db may. inl ((lasts.1 clean).images db may); settled = (lasts.1 clean).settled })
 
@@ -64,26 +62,52 @@ module _ {S : Type 0} (g : Ghosts S) where
   passed_on d h wish body (Ok reply) f told replies = absurd told
   passed_on d h wish body (Err e) f told replies = subst (λ (x : Fault). Replies g d h wish body (Err x)) (sym told) replies
 
-  pub short_replied : (d : Docket S) (h : History) (wish : Wish) (body : List ℕ) (r : Result Reply Fault) → IsErrAnd r (λ e. e ≡ fault.NoMemory) → IsTrue (takes_memory wish) → Stands g d h
+  -- an answer that is built unless memory runs out
+  pub built_replied : (d : Docket S) (h : History) (wish : Wish) (body : List ℕ) (response : Response) (r : Result Reply Fault) → IfOk r (λ reply. IsReply reply response)
+      → IfErr r (λ f. f ≡ fault.NoMemory) → IsTrue (takes_memory wish)
+      → (HasCleanDisk (state g d.conn) → (response ≡ response_to d.court h wish body) × Stands g d (history_after d.court h wish body))
       → Replies g d h wish body r
-  short_replied d h wish body r told takes stands = passed_on d h wish body r fault.NoMemory told (λ clean. (takes, inl stands))
+  built_replied d h wish body response (Ok reply) is short takes left = λ clean. let l = left clean in (reply_as reply _ _ l.0 is, l.1)
+  built_replied d h wish body response (Err f) is short takes left = subst (λ (x : Fault). Replies g d h wish body (Err x)) (sym short) (λ clean. (takes, inr (left clean).1))
 
-  -- a command whose answer could not be built
-  pub said_short : (d : Docket S) (h : History) (c : Command) (said : Result Number Refusal) (len : ℕ) (body : List ℕ) (r : Result Reply Fault) → IsErrAnd r (λ e. e ≡ fault.NoMemory)
-      → Answers g d h c said → command_in body ≡ Ok c → Replies g d h (CommandWish len) body r
-  said_short d h c said len body r told answers spells =
-      passed_on d h (CommandWish len) body r fault.NoMemory told
-      (λ clean. (refl, inr (subst (λ (x : Result Command WireFault). Stands g d (after_reading d.court h x)) (sym spells) (answers clean).0)))
+  module _ (d : Docket S) (h : History) (wish : Wish) (body : List ℕ) (manner : Manner) where
+    -- a command that is entered
 
-  -- a command that got no answer
-  pub halted_replied : (d : Docket S) (h : History) (c : Command) (f : Fault) (len : ℕ) (body : List ℕ) → command_in body ≡ Ok c → (f ≡ fault.StoreFailed → d.closed ≡ true) → Halts g d h c f
-      → Replies g d h (CommandWish len) body (Err f)
-  halted_replied d h c fault.NoMemory len body spells closes halts = λ clean. (refl, inl halts)
-  halted_replied d h c fault.StoreFailed len body spells closes halts =
-      (refl, subst (λ (r : Result Command WireFault). LastsAsEither g d.conn (docket_rows d.court h) (docket_rows d.court (after_reading d.court h r))) (sym spells) halts, closes refl)
-  halted_replied d h c fault.Damaged len body spells closes halts = halts
-  halted_replied d h c fault.Closed len body spells closes halts = absurd halts
-  halted_replied d h c (fault.Refused r) len body spells closes halts = absurd halts
+    pub said_left : (c : Command) (said : Result Number Refusal) → entry_of wish body ≡ Some (record { read = Ok c; manner = manner }) → Answers g d h c said
+        → HasCleanDisk (state g d.conn) → (said_response manner c said ≡ response_to d.court h wish body) × Stands g d (history_after d.court h wish body)
+    said_left c said is answers clean =
+        let a = answers clean in (
+          said_outcome manner c said (outcome d.court h c) a.1 ∙ sym ((entering wish body _ is).response d.court h),
+          subst (λ (e : Option Entry). Stands g d (behind d.court h e)) (sym is) a.0,
+        )
+
+    -- one that got no answer
+    pub halted_replied : (c : Command) (f : Fault) → entry_of wish body ≡ Some (record { read = Ok c; manner = manner }) → (f ≡ fault.StoreFailed → d.closed ≡ true) → Halts g d h c f
+        → Replies g d h wish body (Err f)
+    halted_replied c fault.NoMemory is closes halts = λ clean. ((entering wish body _ is).takes, inl halts)
+    halted_replied c fault.StoreFailed is closes halts = (
+      (entering wish body _ is).asks,
+      subst (λ (e : Option Entry). LastsAsEither g d.conn (docket_rows d.court h) (docket_rows d.court (behind d.court h e))) (sym is) halts,
+      closes refl,
+    )
+    halted_replied c fault.Damaged is closes halts = halts
+    halted_replied c fault.Closed is closes halts = absurd halts
+    halted_replied c (fault.Refused r) is closes halts = absurd halts
+
+    -- a text that spells none
+    pub fault_left : (f : WireFault) → entry_of wish body ≡ Some (record { read = Err f; manner = manner }) → Stands g d h
+        → (fault_response manner f ≡ response_to d.court h wish body) × Stands g d (history_after d.court h wish body)
+    fault_left f is stands = (sym ((entering wish body _ is).response d.court h), subst (λ (e : Option Entry). Stands g d (behind d.court h e)) (sym is) stands)
+
+  -- a question whose answer is built unless memory runs out
+  pub built_asks : (d : Docket S) (h : History) (P : Reply → Type 0) (response : Response) (r : Result Reply Fault) → IfOk r (λ reply. IsReply reply response) → IfErr r (λ f. f ≡ fault.NoMemory)
+      → Stands g d h → (HasCleanDisk (state g d.conn) → (reply : Reply) → IsReply reply response → P reply) → Asks g d h P r
+  built_asks d h P response (Ok reply) is short stands answer = (stands, λ clean. answer clean reply is)
+  built_asks d h P response (Err f) is short stands answer = subst (λ (x : Fault). Asks g d h P (Err x)) (sym short) stands
+
+  pub built_told : (old d : Docket S) {X : Type 0} (x : X) (r : Result Reply Fault) → IfErr r (λ f. f ≡ fault.NoMemory) → OnlyAnswers g old d (Ok x) → OnlyAnswers g old d r
+  built_told old d x (Ok reply) short only = same_told g old d x reply only
+  built_told old d x (Err f) short only = short_told g old d x (Err f) short only
 
   -- a question that got no answer
   pub asked_replied : {X : Type 0} (d : Docket S) (h : History) (wish : Wish) (body : List ℕ) (f : Fault) (answer : X → Type 0)
@@ -105,17 +129,6 @@ module _ {S : Type 0} (g : Ghosts S) where
   )
   question_replied old d h wish body (Err f) asks takes same stands only asked =
       asked_replied d h wish body f (λ reply. IsReply reply (response_to old.court h wish body)) asks takes same (λ is. (only.closes stands.serves).1 (ap Err is)) asked
-
-  pub fault_replied : (d : Docket S) (h : History) (f : WireFault) (len : ℕ) (body : List ℕ) (reply : Reply)
-      → Stands g d h → command_in body ≡ Err f → IsReply reply (json 400 (fault_text f)) → Replies g d h (CommandWish len) body (Ok reply)
-  fault_replied d h f len body reply stands spells is clean = (
-    reply_as reply _ _ (ap (λ r. command_response d.court h r) (sym spells)) is,
-    subst (λ (r : Result Command WireFault). Stands g d (after_reading d.court h r)) (sym spells) stands,
-  )
-
-  pub replies_as : (d : Docket S) (h : History) (a b : Wish) (x y : List ℕ) (result : Result Reply Fault) → a ≡ b → x ≡ y → Replies g d h a x result → Replies g d h b y result
-  replies_as d h a b x y result same_wish same_body replies =
-      subst (λ (w : Wish). Replies g d h w y result) same_wish (subst (λ (z : List ℕ). Replies g d h a z result) same_body replies)
 
   -- a reply, or what is sent in its place
   abbrev pub Tells : Docket S → History → Wish → List ℕ → Reply → Type 0

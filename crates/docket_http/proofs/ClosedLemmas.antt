@@ -1,19 +1,15 @@
 -- What a closed docket answers.
-use Rattle.std.proofs.Common.{◌≡◌, ◌∙◌, IsErrAnd, IfOk, IfErr, inl, inr, ℕ, List, Option, Result, Ok, Err, sym, ap, subst}
+use Rattle.std.proofs.Common.{◌≡◌, ◌∙◌, IfOk, IfErr, inl, inr, ℕ, List, Option, Result, Ok, Err, sym, ap, subst}
 use Rattle.std.specs.Io.KnownBytes.{Appends}
 use Rattle.docket_applying.specs.declared.fault.Fault.{Fault}
 use Rattle.docket_applying.specs.declared.fault.Fault.TheVariants as fault
 use Rattle.docket_applying.specs.declared.listing.ListingEnd.{ListingEnd}
 use Rattle.docket_applying.specs.declared.listing.ListingEnd.TheVariants as listing
-use Rattle.docket_wire.specs.Reading.{command_in}
-use Rattle.docket_wire.specs.Texts.{fault_text}
-use Rattle.docket_wire.specs.declared.fault.WireFault.{WireFault}
 use Rattle.line_io.specs.Output.{AppendsFront}
 use Rattle.http_request.specs.declared.page.Routes.{Routes}
 use Rattle.http_request.specs.declared.wish.Wish.{Wish}
-use Rattle.http_request.specs.declared.wish.Wish.TheVariants.{Command as CommandWish}
-use Rattle.docket_http.specs.Answer.{Response, response_bytes, json, problem_response, problem_status}
-use Rattle.docket_http.specs.Asking.{closed_command, problem_of_fault, IsClosedAnswer, IsClosedReply, RepliesClosed}
+use Rattle.docket_http.specs.Answer.{Response, response_bytes, problem_response, problem_status}
+use Rattle.docket_http.specs.Asking.{problem_of_fault, IsClosedAnswer, IsClosedReply, RepliesClosed}
 use Rattle.docket_http.specs.Reply.{IsReply, reply_bytes, reply_status}
 use Rattle.docket_http.specs.Serve.{IsAsked, Sends, SendsClosed, ServesClosed}
 use Rattle.docket_http.specs.declared.problem.Problem.{Problem}
@@ -24,18 +20,15 @@ use Rattle.docket_http.specs.declared.fault.ServeFault.{ServeFault}
 use Rattle.docket_http.specs.declared.fault.ServeFault.TheVariants as serve
 use Rattle.docket_http.specs.declared.sending.Served.{Served}
 
--- a text that spells no command
-pub closed_faulty : (len : ℕ) (body : List ℕ) (f : WireFault) (reply : Reply) → command_in body ≡ Err f → IsReply reply (json 400 (fault_text f))
-    → RepliesClosed (CommandWish len) body (Ok reply)
-closed_faulty len body f reply spells is = (json 400 (fault_text f), is, inl (ap closed_command (sym spells)))
-
 -- a question whose result is that the docket is closed
 pub closed_told : (wish : Wish) (body : List ℕ) (r : Result Reply Fault) → r ≡ Err fault.Closed → IsClosedAnswer wish body (problem_response Closed) → RepliesClosed wish body r
 closed_told wish body r is answer = subst (λ (x : Result Reply Fault). RepliesClosed wish body x) (sym is) answer
 
-pub closed_short : (wish : Wish) (body : List ℕ) (r : Result Reply Fault) → IsErrAnd r (λ f. f ≡ fault.NoMemory) → IsClosedAnswer wish body (problem_response NoMemory) → RepliesClosed wish body r
-closed_short wish body (Ok reply) told answer = absurd told
-closed_short wish body (Err f) told answer = subst (λ (x : Fault). RepliesClosed wish body (Err x)) (sym told) answer
+-- an answer that is built unless memory runs out
+pub closed_built : (wish : Wish) (body : List ℕ) (response : Response) (r : Result Reply Fault) → IfOk r (λ reply. IsReply reply response) → IfErr r (λ f. f ≡ fault.NoMemory)
+    → IsClosedAnswer wish body response → IsClosedAnswer wish body (problem_response NoMemory) → RepliesClosed wish body r
+closed_built wish body response (Ok reply) is short usual answer = (response, is, usual)
+closed_built wish body response (Err f) is short usual answer = subst (λ (x : Fault). RepliesClosed wish body (Err x)) (sym short) answer
 
 -- the writing of a reply
 pub sends_reply : (r : Result Served ServeFault) (reply : Reply) (response : Response) (o n : Option (List ℕ)) → IsReply reply response
@@ -73,20 +66,20 @@ pub cut_open : {A : Type 0} (e : ListingEnd) → e ≡ listing.WriteFailed → �
 cut_open e is shut = absurd (cc)
 
 -- a request that was read
-pub read_closed : (routes : Routes) (input : Option (List ℕ)) (wish : Wish) (body : List ℕ) (o n : Option (List ℕ)) (r : Result Served ServeFault) → IsAsked routes input wish body
-    → SendsClosed wish body o n r → ServesClosed routes input o n r
-read_closed routes input wish body o n (Ok s) asked closed = inl (wish, body, asked, closed)
-read_closed routes input wish body o n (Err serve.WriteFailed) asked closed = inl (wish, body, asked, closed)
-read_closed routes input wish body o n (Err serve.NoMemory) asked closed = inl (wish, body, asked, closed)
-read_closed routes input wish body o n (Err serve.StoreFailed) asked closed = inl (wish, body, asked, closed)
-read_closed routes input wish body o n (Err serve.ReadFailed) asked closed = absurd closed.sent
-read_closed routes input wish body o n (Err serve.EndedEarly) asked closed = absurd closed.sent
-read_closed routes input wish body o n (Err serve.CopyWanted) asked closed = absurd closed.sent
+pub read_closed : (routes : Routes) (fresh : ℕ) (input : Option (List ℕ)) (wish : Wish) (body : List ℕ) (o n : Option (List ℕ)) (r : Result Served ServeFault) → IsAsked routes fresh input wish body
+    → SendsClosed wish body o n r → ServesClosed routes fresh input o n r
+read_closed routes fresh input wish body o n (Ok s) asked closed = inl (wish, body, asked, closed)
+read_closed routes fresh input wish body o n (Err serve.WriteFailed) asked closed = inl (wish, body, asked, closed)
+read_closed routes fresh input wish body o n (Err serve.NoMemory) asked closed = inl (wish, body, asked, closed)
+read_closed routes fresh input wish body o n (Err serve.StoreFailed) asked closed = inl (wish, body, asked, closed)
+read_closed routes fresh input wish body o n (Err serve.ReadFailed) asked closed = absurd closed.sent
+read_closed routes fresh input wish body o n (Err serve.EndedEarly) asked closed = absurd closed.sent
+read_closed routes fresh input wish body o n (Err serve.CopyWanted) asked closed = absurd closed.sent
 
 -- memory ran out before the request was read
-pub unread_closed : (routes : Routes) (input o n : Option (List ℕ)) (r : Result Served ServeFault)
+pub unread_closed : (routes : Routes) (fresh : ℕ) (input o n : Option (List ℕ)) (r : Result Served ServeFault)
     → IfOk r (λ s. Appends o n (reply_bytes (Fixed NoMemory)) × (s.status ≡ 500))
     → IfErr r (λ e. (e ≡ serve.WriteFailed) × AppendsFront o n (reply_bytes (Fixed NoMemory)))
-    → ServesClosed routes input o n r
-unread_closed routes input o n (Ok s) whole front = inr whole
-unread_closed routes input o n (Err e) whole front = subst (λ (x : ServeFault). ServesClosed routes input o n (Err x)) (sym front.0) (inr front.1)
+    → ServesClosed routes fresh input o n r
+unread_closed routes fresh input o n (Ok s) whole front = inr whole
+unread_closed routes fresh input o n (Err e) whole front = subst (λ (x : ServeFault). ServesClosed routes fresh input o n (Err x)) (sym front.0) (inr front.1)

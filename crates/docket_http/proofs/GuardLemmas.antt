@@ -6,17 +6,18 @@ use Rattle.http_request.specs.Head.{head_of}
 use Rattle.http_request.specs.Request.{IsRequest, IsLetThrough}
 use Rattle.http_request.specs.declared.page.Routes.{Routes}
 use Rattle.http_request.specs.declared.wish.Wish.{Wish}
-use Rattle.http_request.specs.declared.wish.Wish.TheVariants.{Reject, Command, Case, Deadlines, Calendar, Holidays, Page, Copy}
+use Rattle.http_request.specs.declared.wish.Wish.TheVariants.{Reject, Command, Form, Case, Deadlines, Calendar, Holidays, Page, Copy}
 use Rattle.http_request.proofs.GuardLemmas.{let_through_by}
 use Rattle.docket_http.specs.Asking.{history_after}
 
-pub let_through : (routes : Routes) (input : List ℕ) (wish : Wish) (body : List ℕ) (court : CourtSettings) (h : History)
-    → IsRequest routes input wish body → ¬ (history_after court h wish body ≡ h) → IsLetThrough routes input
-let_through routes input (Reject r) body court h is changes = absurd (changes refl)
-let_through routes input (Command n) body court h is changes = let_through_by routes (head_of input) input (Command n) body refl is refl
-let_through routes input (Case n) body court h is changes = absurd (changes refl)
-let_through routes input (Deadlines n) body court h is changes = absurd (changes refl)
-let_through routes input (Calendar from to) body court h is changes = absurd (changes refl)
-let_through routes input (Holidays year) body court h is changes = absurd (changes refl)
-let_through routes input (Page page) body court h is changes = absurd (changes refl)
-let_through routes input Copy body court h is changes = absurd (changes refl)
+pub let_through : (routes : Routes) (fresh : ℕ) (input : List ℕ) (wish : Wish) (body : List ℕ) (court : CourtSettings) (h : History)
+    → IsRequest routes fresh input wish body → ¬ (history_after court h wish body ≡ h) → IsLetThrough routes input
+let_through routes fresh input (Reject r) body court h is changes = absurd (changes refl)
+let_through routes fresh input (Command n) body court h is changes = let_through_by routes fresh (head_of input) input (Command n) body refl is refl
+let_through routes fresh input (Form n k) body court h is changes = let_through_by routes fresh (head_of input) input (Form n k) body refl is refl
+let_through routes fresh input (Case n) body court h is changes = absurd (changes refl)
+let_through routes fresh input (Deadlines n) body court h is changes = absurd (changes refl)
+let_through routes fresh input (Calendar from to) body court h is changes = absurd (changes refl)
+let_through routes fresh input (Holidays year) body court h is changes = absurd (changes refl)
+let_through routes fresh input (Page page) body court h is changes = absurd (changes refl)
+let_through routes fresh input Copy body court h is changes = absurd (changes refl)

@@ -2,7 +2,10 @@
 use Rattle.std.proofs.Common.{◌≡◌, ◌==◌, ◌⊎◌, inl, inr, ℕ, true, false, List, Option, Some, None, Result, Ok, Err, refl, ap, ◌∙◌}
 use Rattle.sqlite.specs.Store.{Ghosts}
 use Rattle.court_days.specs.Court.{CourtSettings}
+use Rattle.command_forms.specs.Forms.{command_in_form, pairs_in}
 use Rattle.docket_command.specs.declared.command.Command.{Command}
+use Rattle.docket_command.specs.declared.refusal.Refusal.{Refusal}
+use Rattle.docket_command.specs.declared.refusal.Reply.{Reply as Number}
 use Rattle.docket_history.specs.Histories.{History}
 use Rattle.docket_decisions.specs.Outcomes.{Answer, accepted, outcome, refused, repeated}
 use Rattle.docket_questions.specs.Texts.{text_of_case, text_of_deadlines}
@@ -14,11 +17,12 @@ use Rattle.docket_wire.specs.declared.fault.WireFault.{WireFault}
 use Rattle.http_request.specs.declared.fields.Rejection.{Rejection}
 use Rattle.http_request.specs.declared.fields.Rejection.TheVariants as rejection
 use Rattle.http_request.specs.declared.wish.Wish.{Wish}
-use Rattle.http_request.specs.declared.wish.Wish.TheVariants.{Reject, Command as CommandWish, Case, Deadlines, Calendar, Holidays, Page as PageWish, Copy}
+use Rattle.http_request.specs.declared.wish.Wish.TheVariants.{Reject, Command as CommandWish, Form as FormWish, Case, Deadlines, Calendar, Holidays, Page as PageWish, Copy}
 use Rattle.docket_http.specs.Answer.{Response, found, rejection_status}
-use Rattle.docket_http.specs.Asking.{IsAnswered, LeftBy, command_response, history_after, outcome_response, response_to, text_of_page, told}
+use Rattle.docket_http.specs.Asking.{IsAnswered, LeftBy, history_after, response_to, text_of_page, told}
+use Rattle.docket_http.specs.Entering.{Manner, in_json, in_pages, command_response, outcome_response, said_response}
 use Rattle.docket_http.specs.declared.head.Form.{Form}
-use Rattle.docket_http.specs.declared.head.Form.TheVariants.{Html, Text}
+use Rattle.docket_http.specs.declared.head.Form.TheVariants.{File, Html, Json, OpenText, Seen, Text}
 use Rattle.docket_http.specs.declared.problem.Problem.{Problem}
 use Rattle.docket_http.specs.declared.problem.Problem.TheVariants.{Rejected, NoSuchCase, NoCopy, NoMemory, Store, Closed, Damaged}
 
@@ -33,23 +37,37 @@ rejected_fine rejection.BadPathValue = refl
 rejected_fine rejection.LengthRequired = refl
 rejected_fine rejection.TooLong = refl
 rejected_fine rejection.Foreign = refl
+rejected_fine rejection.MediaType = refl
 
-outcome_fine : (a : Answer) → ((outcome_response a).status == 503) ≡ false
-outcome_fine (accepted reply) = refl
-outcome_fine (repeated reply) = refl
-outcome_fine (refused r) = refl
+said_fine : (manner : Manner) (c : Command) (said : Result Number Refusal) → ((said_response manner c said).status == 503) ≡ false
+said_fine in_json c (Ok reply) = refl
+said_fine in_json c (Err r) = refl
+said_fine (in_pages fresh pairs) c (Ok reply) = refl
+said_fine (in_pages fresh pairs) c (Err r) = refl
 
-command_fine : (court : CourtSettings) (h : History) (r : Result Command WireFault) → ((command_response court h r).status == 503) ≡ false
-command_fine court h (Ok c) = outcome_fine (outcome court h c)
-command_fine court h (Err fault) = refl
+outcome_fine : (manner : Manner) (c : Command) (a : Answer) → ((outcome_response manner c a).status == 503) ≡ false
+outcome_fine manner c (accepted reply) = said_fine manner c (Ok reply)
+outcome_fine manner c (repeated reply) = said_fine manner c (Ok reply)
+outcome_fine manner c (refused r) = said_fine manner c (Err r)
+
+command_fine : (court : CourtSettings) (h : History) (manner : Manner) (r : Result Command WireFault) → ((command_response court h manner r).status == 503) ≡ false
+command_fine court h manner (Ok c) = outcome_fine manner c (outcome court h c)
+command_fine court h in_json (Err fault) = refl
+command_fine court h (in_pages fresh pairs) (Err fault) = refl
 
 found_fine : (form : Form) (found_text : Option (List ℕ)) → ((found form found_text).status == 503) ≡ false
-found_fine form None = refl
+found_fine Json None = refl
+found_fine Text None = refl
+found_fine OpenText None = refl
+found_fine Html None = refl
+found_fine File None = refl
+found_fine (Seen place) None = refl
 found_fine form (Some body) = refl
 
 response_fine : (court : CourtSettings) (h : History) (wish : Wish) (body : List ℕ) → ((response_to court h wish body).status == 503) ≡ false
 response_fine court h (Reject r) body = rejected_fine r
-response_fine court h (CommandWish len) body = command_fine court h (command_in body)
+response_fine court h (CommandWish len) body = command_fine court h in_json (command_in body)
+response_fine court h (FormWish len fresh) body = command_fine court h (in_pages fresh (pairs_in body)) (command_in_form body)
 response_fine court h (Case number) body = found_fine Text (text_of_case court h number)
 response_fine court h (Deadlines number) body = found_fine Text (text_of_deadlines court h number)
 response_fine court h (Calendar from to) body = refl

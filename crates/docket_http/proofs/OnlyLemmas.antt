@@ -1,30 +1,39 @@
 -- What a reply, and its writing, leaves of any docket.
-use Rattle.std.proofs.Common.{◌≡◌, ◌≤◌, inl, true, ℕ, List, Option, Result, Ok, IfOk, IfErr, refl, subst, arith}
+use Rattle.std.proofs.Common.{◌≡◌, ◌≤◌, IsTrue, IsErrAnd, inl, inr, true, ℕ, List, Option, Some, None, Result, Ok, Err, IfOk, IfErr, refl, sym, ap, subst, arith}
 use Rattle.std.specs.Io.KnownBytes.{Appends}
 use Rattle.sqlite.specs.Held.{state}
 use Rattle.sqlite.specs.Store.{Ghosts}
 use Rattle.sqlite.specs.View.{doubt}
+use Rattle.court_days.specs.Court.{CourtSettings}
+use Rattle.docket_history.specs.Histories.{History}
 use Rattle.docket_tables.specs.Layouts.{Rows}
 use Rattle.docket_tables.specs.Stands.{HoldsRows, Lasts}
+use Rattle.docket_applying.specs.Applying.{Asks, Stands}
 use Rattle.docket_applying.specs.Dockets.{Docket}
 use Rattle.docket_applying.specs.declared.fault.Fault.{Fault}
+use Rattle.docket_applying.specs.declared.fault.Fault.TheVariants as fault
 use Rattle.docket_applying.proofs.AnyLemmas.{lasting, lasts_after}
 use Rattle.docket_store.specs.Asking.{OnlyAnswers}
 use Rattle.line_io.specs.Output.{AppendsFront}
 use Rattle.http_request.specs.declared.wish.Wish.{Wish}
 use Rattle.http_request.specs.declared.wish.Wish.TheVariants.{Calendar}
-use Rattle.docket_http.specs.Answer.{problem_response}
-use Rattle.docket_http.specs.Asking.{IsClosedAnswer, RepliesClosed}
-use Rattle.docket_http.specs.Recorded.{OnlyReplies, OnlySends, OnlyWrites, RepliesBacked}
-use Rattle.docket_http.specs.Reply.{reply_bytes, reply_status}
+use Rattle.docket_http.specs.Answer.{Response, problem_response}
+use Rattle.docket_http.specs.Asking.{IsClosedAnswer, RepliesClosed, asks_docket, response_to, takes_memory}
+use Rattle.docket_http.specs.Entering.{Entry, entry_of}
+use Rattle.docket_http.specs.Recorded.{OnlyReplies, OnlySends, OnlyWrites, RepliesBacked, RepliesTo}
+use Rattle.docket_http.specs.Reply.{IsReply, reply_bytes, reply_status}
 use Rattle.docket_http.specs.Serve.{IsOfWriting, Sends}
-use Rattle.docket_http.specs.declared.problem.Problem.TheVariants.{Closed}
+use Rattle.docket_http.specs.declared.problem.Problem.{Problem}
+use Rattle.docket_http.specs.declared.problem.Problem.TheVariants.{Closed, NoMemory}
 use Rattle.docket_http.specs.declared.reply.Reply.{Reply}
+use Rattle.docket_http.specs.declared.reply.Reply.TheVariants.{Fixed}
 use Rattle.docket_http.specs.declared.fault.ServeFault.{ServeFault}
 use Rattle.docket_http.specs.declared.fault.ServeFault.TheVariants as serve
 use Rattle.docket_http.specs.declared.sending.Served.{Served}
-use Rattle.docket_http.proofs.ClosedLemmas.{closed_reply_sent, closed_told}
-use Rattle.docket_http.proofs.RecordedLemmas.{sent_backed}
+use Rattle.docket_http.proofs.AskingLemmas.{behind, built_replied, question_replied}
+use Rattle.docket_http.proofs.ClosedLemmas.{closed_built, closed_reply_sent, closed_told}
+use Rattle.docket_http.proofs.EntryLemmas.{entering}
+use Rattle.docket_http.proofs.RecordedLemmas.{none_backed, problem_backed, sent_backed}
 use Rattle.docket_http.proofs.ServeLemmas.{of_writing}
 
 module _ {S : Type 0} (g : Ghosts S) where
@@ -36,18 +45,51 @@ module _ {S : Type 0} (g : Ghosts S) where
   pub unasked : (d : Docket S) (wish : Wish) (body : List ℕ) (r : Result Reply Fault) → RepliesClosed wish body r → IfOk r (RepliesBacked g d wish body) → OnlyReplies g d d wish body r
   unasked d wish body r closed backed = record { writes = as_it_was d; closed = λ shut. (refl, closed); recorded = λ rows. backed }
 
-  pub only_as : (old d : Docket S) (a b : Wish) (x y : List ℕ) (r : Result Reply Fault) → a ≡ b → x ≡ y → OnlyReplies g old d a x r → OnlyReplies g old d b y r
-  only_as old d a b x y r same_wish same_body only =
-      subst (λ (w : Wish). OnlyReplies g old d w y r) same_wish (subst (λ (z : List ℕ). OnlyReplies g old d a z r) same_body only)
+  pub replies_as : (old d : Docket S) (a b : Wish) (x y : List ℕ) (r : Result Reply Fault) → a ≡ b → x ≡ y → RepliesTo g old d a x r → RepliesTo g old d b y r
+  replies_as old d a b x y r same_wish same_body replies =
+      subst (λ (w : Wish). RepliesTo g old d w y r) same_wish (subst (λ (z : List ℕ). RepliesTo g old d a z r) same_body replies)
 
-  -- the reply to a question
-  pub question_only : (old d : Docket S) (wish : Wish) (body : List ℕ) (r : Result Reply Fault) → IsClosedAnswer wish body (problem_response Closed)
-      → IfOk r (RepliesBacked g d wish body) → OnlyAnswers g old d r → OnlyReplies g old d wish body r
-  question_only old d wish body r closed backed only = record {
-    writes = record { court = only.court; clean = only.clean; any = λ rows n stored are small holds. inl (lasts_after g d.conn rows r (only.stays rows holds)) };
-    closed = λ shut. let shown = only.closed shut in (shown.1, closed_told wish body r shown.0 closed);
-    recorded = λ rows. backed;
-  }
+  -- memory ran out while what is entered was read
+  pub entry_short : (d : Docket S) (wish : Wish) (body : List ℕ) (e : Entry) (r : Result Reply Fault) → entry_of wish body ≡ Some e → IsErrAnd r (λ f. f ≡ fault.NoMemory) → RepliesTo g d d wish body r
+  entry_short d wish body e (Ok reply) is told = absurd told
+  entry_short d wish body e (Err f) is told =
+      let enters = entering wish body e is in
+      subst (λ (x : Fault). RepliesTo g d d wish body (Err x)) (sym told)
+      (record { replies = λ h stands clean. (enters.takes, inl stands); only = unasked d wish body (Err fault.NoMemory) (enters.closed (problem_response NoMemory) (inr refl)) tt })
+
+  -- a question to the docket
+  pub question : (old d : Docket S) (asked wish : Wish) (body : List ℕ) (r : Result Reply Fault) → asked ≡ wish → entry_of wish body ≡ None → IsTrue (asks_docket wish) → IsTrue (takes_memory wish)
+      → IsClosedAnswer wish body (problem_response Closed) → OnlyAnswers g old d r
+      → ((h : History) → Stands g old h → Asks g d h (λ reply. IsReply reply (response_to old.court h wish body)) r) → RepliesTo g old d asked body r
+  question old d asked wish body r same none asks takes closed only answer = replies_as old d wish asked body body r (sym same) refl (record {
+    replies = λ h stands. question_replied g old d h wish body r asks takes (ap (behind d.court h) none) stands only (answer h stands);
+    only = record {
+      writes = record { court = only.court; clean = only.clean; any = λ rows n stored are small holds. inl (lasts_after g d.conn rows r (only.stays rows holds)) };
+      closed = λ shut. let shown = only.closed shut in (shown.1, closed_told wish body r shown.0 closed);
+      recorded = λ rows. none_backed g d wish body r none;
+    };
+  })
+
+  -- an answer that needs no docket, and is built unless memory runs out
+  pub alone : (d : Docket S) (asked wish : Wish) (body : List ℕ) (response : Response) (r : Result Reply Fault) → asked ≡ wish → entry_of wish body ≡ None → IsTrue (takes_memory wish)
+      → ((court : CourtSettings) (h : History) → response ≡ response_to court h wish body) → IsClosedAnswer wish body response → IsClosedAnswer wish body (problem_response NoMemory)
+      → IfOk r (λ reply. IsReply reply response) → IfErr r (λ f. f ≡ fault.NoMemory) → RepliesTo g d d asked body r
+  alone d asked wish body response r same none takes usual closed short is failed = replies_as d d wish asked body body r (sym same) refl (record {
+    replies = λ h stands. built_replied g d h wish body response r is failed takes (λ clean. (usual d.court h, subst (λ (o : Option Entry). Stands g d (behind d.court h o)) (sym none) stands));
+    only = unasked d wish body r (closed_built wish body response r is failed closed short) (none_backed g d wish body r none);
+  })
+
+  -- a problem that needs no docket
+  pub at_once : (d : Docket S) (asked wish : Wish) (body : List ℕ) (problem : Problem) → asked ≡ wish → entry_of wish body ≡ None
+      → ((court : CourtSettings) (h : History) → problem_response problem ≡ response_to court h wish body) → IsClosedAnswer wish body (problem_response problem)
+      → RepliesTo g d d asked body (Ok (Fixed problem))
+  at_once d asked wish body problem same none usual closed = replies_as d d wish asked body body (Ok (Fixed problem)) (sym same) refl (record {
+    replies = λ h stands clean. (
+      subst (λ (r : Response). IsReply (Fixed problem) r) (usual d.court h) (refl, refl),
+      subst (λ (o : Option Entry). Stands g d (behind d.court h o)) (sym none) stands,
+    );
+    only = unasked d wish body (Ok (Fixed problem)) (problem_response problem, (refl, refl), closed) (problem_backed g d wish body problem);
+  })
 
   -- the writing of a reply
   pub sent_only : (old d : Docket S) (wish : Wish) (body : List ℕ) (reply : Reply) (o n : Option (List ℕ)) (r : Result Served ServeFault) → OnlyReplies g old d wish body (Ok reply)

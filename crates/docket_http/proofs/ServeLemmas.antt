@@ -67,9 +67,9 @@ no_copy_wanted (Ok s) own is = absurd (cc)
 no_copy_wanted (Err e) own is = let same : e ≡ serve.CopyWanted = cc in own.2 same
 
 -- a request for a copy that was read
-pub wants : {S : Type 0} (routes : Routes) (input : Option (List ℕ)) (wish : Wish) (body : List ℕ) (d : Docket S) → IsAsked routes input wish body
-    → (wish ≡ Copy) × (d.closed ≡ false) → WantsCopy routes input d d
-wants routes input wish body d asked is = record { body = body; asked = subst (λ (w : Wish). IsAsked routes input w body) is.0 asked; same = refl; serves = is.1 }
+pub wants : {S : Type 0} (routes : Routes) (fresh : ℕ) (input : Option (List ℕ)) (wish : Wish) (body : List ℕ) (d : Docket S) → IsAsked routes fresh input wish body
+    → (wish ≡ Copy) × (d.closed ≡ false) → WantsCopy routes fresh input d d
+wants routes fresh input wish body d asked is = record { body = body; asked = subst (λ (w : Wish). IsAsked routes fresh input w body) is.0 asked; same = refl; serves = is.1 }
 
 module _ {S : Type 0} (g : Ghosts S) where
   -- a reply that went out behind nothing, or a front of it
@@ -93,39 +93,39 @@ module _ {S : Type 0} (g : Ghosts S) where
       subst (λ (x : ServeFault). IsBroken g d h wish body o n x) (sym front.0) cut
 
   -- a request that was read
-  pub read_whole : (d old : Docket S) (r : Result Served ServeFault) (routes : Routes) (input : Option (List ℕ)) (wish : Wish) (body : List ℕ) (o n : Option (List ℕ)) → IsAsked routes input wish body
+  pub read_whole : (d old : Docket S) (r : Result Served ServeFault) (routes : Routes) (fresh : ℕ) (input : Option (List ℕ)) (wish : Wish) (body : List ℕ) (o n : Option (List ℕ)) → IsAsked routes fresh input wish body
       → ((h : History) → Stands g old h → HasCleanDisk (state g d.conn) → Delivers g d h wish body o n r)
-      → IfOk r (λ s. (h : History) → Stands g old h → HasCleanDisk (state g d.conn) → Serves g routes input old d h o n s.status)
-  read_whole d old (Err e) routes input wish body o n asked delivers = tt
-  read_whole d old (Ok s) routes input wish body o n asked delivers = λ h stands clean. inl (wish, body, asked, delivers h stands clean)
+      → IfOk r (λ s. (h : History) → Stands g old h → HasCleanDisk (state g d.conn) → Serves g routes fresh input old d h o n s.status)
+  read_whole d old (Err e) routes fresh input wish body o n asked delivers = tt
+  read_whole d old (Ok s) routes fresh input wish body o n asked delivers = λ h stands clean. inl (wish, body, asked, delivers h stands clean)
 
-  read_broken : (d old : Docket S) (e : ServeFault) (h : History) (routes : Routes) (input : Option (List ℕ)) (wish : Wish) (body : List ℕ) (o n : Option (List ℕ)) → IsAsked routes input wish body
-      → IsBroken g d h wish body o n e → Fails g routes input old d h o n e
-  read_broken d old serve.ReadFailed h routes input wish body o n asked is = absurd is
-  read_broken d old serve.EndedEarly h routes input wish body o n asked is = absurd is
-  read_broken d old serve.CopyWanted h routes input wish body o n asked is = absurd is
-  read_broken d old serve.WriteFailed h routes input wish body o n asked is = inl (wish, body, asked, is)
-  read_broken d old serve.NoMemory h routes input wish body o n asked is = (wish, body, asked, is)
-  read_broken d old serve.StoreFailed h routes input wish body o n asked is = (wish, body, asked, is)
+  read_broken : (d old : Docket S) (e : ServeFault) (h : History) (routes : Routes) (fresh : ℕ) (input : Option (List ℕ)) (wish : Wish) (body : List ℕ) (o n : Option (List ℕ)) → IsAsked routes fresh input wish body
+      → IsBroken g d h wish body o n e → Fails g routes fresh input old d h o n e
+  read_broken d old serve.ReadFailed h routes fresh input wish body o n asked is = absurd is
+  read_broken d old serve.EndedEarly h routes fresh input wish body o n asked is = absurd is
+  read_broken d old serve.CopyWanted h routes fresh input wish body o n asked is = absurd is
+  read_broken d old serve.WriteFailed h routes fresh input wish body o n asked is = inl (wish, body, asked, is)
+  read_broken d old serve.NoMemory h routes fresh input wish body o n asked is = (wish, body, asked, is)
+  read_broken d old serve.StoreFailed h routes fresh input wish body o n asked is = (wish, body, asked, is)
 
-  pub read_fails : (d old : Docket S) (r : Result Served ServeFault) (routes : Routes) (input : Option (List ℕ)) (wish : Wish) (body : List ℕ) (o n : Option (List ℕ)) → IsAsked routes input wish body
+  pub read_fails : (d old : Docket S) (r : Result Served ServeFault) (routes : Routes) (fresh : ℕ) (input : Option (List ℕ)) (wish : Wish) (body : List ℕ) (o n : Option (List ℕ)) → IsAsked routes fresh input wish body
       → ((h : History) → Stands g old h → HasCleanDisk (state g d.conn) → Delivers g d h wish body o n r)
-      → IfErr r (λ e. (h : History) → Stands g old h → HasCleanDisk (state g d.conn) → Fails g routes input old d h o n e)
-  read_fails d old (Ok s) routes input wish body o n asked delivers = tt
-  read_fails d old (Err e) routes input wish body o n asked delivers = λ h stands clean. read_broken d old e h routes input wish body o n asked (delivers h stands clean)
+      → IfErr r (λ e. (h : History) → Stands g old h → HasCleanDisk (state g d.conn) → Fails g routes fresh input old d h o n e)
+  read_fails d old (Ok s) routes fresh input wish body o n asked delivers = tt
+  read_fails d old (Err e) routes fresh input wish body o n asked delivers = λ h stands clean. read_broken d old e h routes fresh input wish body o n asked (delivers h stands clean)
 
   -- memory ran out before the request was read
-  pub unread_whole : (old : Docket S) (r : Result Served ServeFault) (routes : Routes) (input : Option (List ℕ)) (o n : Option (List ℕ))
+  pub unread_whole : (old : Docket S) (r : Result Served ServeFault) (routes : Routes) (fresh : ℕ) (input : Option (List ℕ)) (o n : Option (List ℕ))
       → IfOk r (λ s. Appends o n (response_bytes (problem_response NoMemory)) × (s.status ≡ 500))
-      → IfOk r (λ s. (h : History) → Stands g old h → HasCleanDisk (state g old.conn) → Serves g routes input old old h o n s.status)
-  unread_whole old (Err e) routes input o n whole = tt
-  unread_whole old (Ok s) routes input o n whole = λ h stands clean. inr (record { same = refl; written = whole.0; status_told = whole.1 })
+      → IfOk r (λ s. (h : History) → Stands g old h → HasCleanDisk (state g old.conn) → Serves g routes fresh input old old h o n s.status)
+  unread_whole old (Err e) routes fresh input o n whole = tt
+  unread_whole old (Ok s) routes fresh input o n whole = λ h stands clean. inr (record { same = refl; written = whole.0; status_told = whole.1 })
 
-  pub unread_fails : (old : Docket S) (r : Result Served ServeFault) (routes : Routes) (input : Option (List ℕ)) (o n : Option (List ℕ))
+  pub unread_fails : (old : Docket S) (r : Result Served ServeFault) (routes : Routes) (fresh : ℕ) (input : Option (List ℕ)) (o n : Option (List ℕ))
       → IfErr r (λ e. (e ≡ serve.WriteFailed) × AppendsFront o n (response_bytes (problem_response NoMemory)))
-      → IfErr r (λ e. (h : History) → Stands g old h → HasCleanDisk (state g old.conn) → Fails g routes input old old h o n e)
-  unread_fails old (Ok s) routes input o n front = tt
-  unread_fails old (Err e) routes input o n front = λ h stands clean. subst (λ (x : ServeFault). Fails g routes input old old h o n x) (sym front.0) (inr (refl, front.1))
+      → IfErr r (λ e. (h : History) → Stands g old h → HasCleanDisk (state g old.conn) → Fails g routes fresh input old old h o n e)
+  unread_fails old (Ok s) routes fresh input o n front = tt
+  unread_fails old (Err e) routes fresh input o n front = λ h stands clean. subst (λ (x : ServeFault). Fails g routes fresh input old old h o n x) (sym front.0) (inr (refl, front.1))
 
   pub calendar_told : (d : Docket S) (h : History) (from to : ℕ) (body front : List ℕ) (o m : Option (List ℕ)) (f : Fault) (p : Problem) → p ≡ problem_of_fault f → (f ≡ fault.StoreFailed → d.closed ≡ true)
       → Lists g d h from to front o m (Err (listing.NotBegun f)) → HasCleanDisk (state g d.conn) → Tells g d h (Calendar from to) body (Fixed p) × Appends o m []

@@ -2,18 +2,23 @@
 use Rattle.std.specs.Prelude.{ℕ, List, [], ◌∷◌, ◌++◌, length, Option, Some, None, codes, decimal}
 use Rattle.http.specs.StatusCode.{status_text}
 use Rattle.http_request.specs.declared.fields.Rejection.{Rejection}
-use Rattle.http_request.specs.declared.fields.Rejection.TheVariants.{HeadTooLong, BadHead, NotFound, Method, BadPathValue, LengthRequired, TooLong, Foreign}
+use Rattle.http_request.specs.declared.fields.Rejection.TheVariants.{HeadTooLong, BadHead, NotFound, Method, BadPathValue, LengthRequired, TooLong, Foreign, MediaType}
+use Rattle.html_sheets.specs.Sites.{text_page}
+use Rattle.docket_http.specs.Places.{path_of}
 use Rattle.docket_http.specs.declared.head.Form.{Form}
-use Rattle.docket_http.specs.declared.head.Form.TheVariants.{Json, Text, OpenText, Html, File}
+use Rattle.docket_http.specs.declared.head.Form.TheVariants.{Json, Text, OpenText, Html, File, Seen}
+use Rattle.docket_http.specs.declared.place.Place.{Place}
 use Rattle.docket_http.specs.declared.problem.Problem.{Problem}
 use Rattle.docket_http.specs.declared.problem.Problem.TheVariants.{Rejected, NoSuchCase, NoCopy, NoMemory, Store, Closed, Damaged}
 
-abbrev pub type_of : Form → List ℕ
-type_of Json = codes "application/json"
-type_of Text = codes "text/plain; charset=utf-8"
-type_of OpenText = codes "text/plain; charset=utf-8"
-type_of Html = codes "text/html; charset=utf-8"
-type_of File = codes "application/vnd.sqlite3"
+-- the line of what the body is; an answer with another place to look at has the line of that place (RFC 9110, section 10.2.2)
+abbrev pub type_line : Form → List ℕ
+type_line Json = codes "content-type: application/json\r\n"
+type_line Text = codes "content-type: text/plain; charset=utf-8\r\n"
+type_line OpenText = codes "content-type: text/plain; charset=utf-8\r\n"
+type_line Html = codes "content-type: text/html; charset=utf-8\r\n"
+type_line File = codes "content-type: application/vnd.sqlite3\r\n"
+type_line (Seen place) = codes "location: " ++ (path_of place ++ codes "\r\n")
 
 -- the line of the length; an answer that ends with the connection has none
 abbrev pub length_line : Form → ℕ → List ℕ
@@ -21,6 +26,7 @@ length_line Json len = codes "content-length: " ++ (decimal len ++ codes "\r\n")
 length_line Text len = codes "content-length: " ++ (decimal len ++ codes "\r\n")
 length_line Html len = codes "content-length: " ++ (decimal len ++ codes "\r\n")
 length_line File len = codes "content-length: " ++ (decimal len ++ codes "\r\n")
+length_line (Seen place) len = codes "content-length: " ++ (decimal len ++ codes "\r\n")
 length_line OpenText len = []
 
 -- what a page may do in a browser (Content Security Policy): it is styled by what stands in it, and its forms ask this server. It runs no
@@ -31,6 +37,7 @@ policy_line Html =
     codes "content-security-policy: default-src 'none'; style-src 'unsafe-inline'; form-action 'self'; base-uri 'none'; frame-ancestors 'none'\r\n"
     ++ codes "cache-control: no-store\r\n"
 policy_line File = codes "content-disposition: attachment; filename=\"docket.db\"\r\n" ++ codes "cache-control: no-store\r\n"
+policy_line (Seen place) = codes "cache-control: no-store\r\n"
 policy_line Json = []
 policy_line Text = []
 policy_line OpenText = []
@@ -38,9 +45,8 @@ policy_line OpenText = []
 abbrev pub head_bytes : ℕ → Form → ℕ → List ℕ
 head_bytes status form len =
     codes "HTTP/1.1 " ++ (status_text status
-    ++ (codes "\r\ncontent-type: " ++ (type_of form
-    ++ (codes "\r\n" ++ (policy_line form ++ (length_line form len
-    ++ codes "connection: close\r\n\r\n"))))))
+    ++ (codes "\r\n" ++ (type_line form ++ (policy_line form ++ (length_line form len
+    ++ codes "connection: close\r\n\r\n")))))
 
 -- an answer
 pub record Response : Type 0 where
@@ -55,6 +61,14 @@ response_bytes r = head_bytes r.status r.form (length r.body) ++ r.body
 abbrev pub json : ℕ → List ℕ → Response
 json status text = record { status = status; form = Json; body = text ++ 10 ∷ [] }
 
+-- a page
+abbrev pub page : ℕ → List ℕ → Response
+page status body = record { status = status; form = Html; body = body }
+
+-- the browser is to get this place next
+abbrev pub seen : Place → Response
+seen place = record { status = 303; form = Seen place; body = [] }
+
 -- what was asked for, in that form
 abbrev pub fine : Form → List ℕ → Response
 fine form body = record { status = 200; form = form; body = body }
@@ -68,6 +82,7 @@ rejection_status BadPathValue = 400
 rejection_status LengthRequired = 411
 rejection_status TooLong = 413
 rejection_status Foreign = 403
+rejection_status MediaType = 415
 
 abbrev pub rejection_word : Rejection → List ℕ
 rejection_word HeadTooLong = codes "head-too-long"
@@ -78,6 +93,7 @@ rejection_word BadPathValue = codes "bad-path-value"
 rejection_word LengthRequired = codes "length-required"
 rejection_word TooLong = codes "too-long"
 rejection_word Foreign = codes "foreign"
+rejection_word MediaType = codes "media-type"
 
 abbrev pub problem_status : Problem → ℕ
 problem_status (Rejected rejection) = rejection_status rejection
@@ -101,7 +117,12 @@ problem_word Damaged = codes "damaged"
 abbrev pub problem_response : Problem → Response
 problem_response p = json (problem_status p) (codes "{\"error\":\"" ++ problem_word p ++ codes "\"}")
 
--- the text of a question in that form, or that there is no such case
+-- what a question asks about does not exist: a browser gets a page that says so
+abbrev pub missing : Form → Response
+missing Html = page 404 (text_page (codes "Not found") (codes "There is no such case, or the case has no such deadline."))
+missing _ = problem_response NoSuchCase
+
+-- the text of a question in that form, if what it asks about exists
 abbrev pub found : Form → Option (List ℕ) → Response
-found form None = problem_response NoSuchCase
+found form None = missing form
 found form (Some body) = fine form body

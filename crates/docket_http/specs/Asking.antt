@@ -1,62 +1,57 @@
 -- The answer to a request, and what the request leaves of the docket.
 use Rattle.std.specs.Prelude.{◌≡◌, ◌⊎◌, ℕ, Bool, true, false, IsTrue, List, Option, Some, None, Result, Ok, Err}
+use Rattle.std.specs.Option.{option_map_or}
 use Rattle.sqlite.specs.Store.{Ghosts}
 use Rattle.sqlite.specs.State.{HasCleanDisk}
 use Rattle.sqlite.specs.Held.{state}
 use Rattle.court_days.specs.Court.{CourtSettings}
-use Rattle.docket_command.specs.declared.command.Command.{Command}
-use Rattle.docket_command.specs.declared.refusal.Refusal.{Refusal}
-use Rattle.docket_command.specs.declared.refusal.Reply.{Reply as Number}
-use Rattle.docket_history.specs.Histories.{History}
-use Rattle.docket_decisions.specs.Outcomes.{Answer, accepted, repeated, refused, outcome, after}
+use Rattle.docket_command.specs.declared.command_name.CommandName.{CommandName}
+use Rattle.docket_history.specs.Histories.{History, local_rule_rows, standing_rows}
 use Rattle.docket_tables.specs.Stands.{LastsAsEither}
 use Rattle.docket_applying.specs.Applying.{Stands, docket_rows}
 use Rattle.docket_applying.specs.Dockets.{Docket}
 use Rattle.docket_applying.specs.declared.fault.Fault.{Fault}
 use Rattle.docket_applying.specs.declared.fault.Fault.TheVariants as fault
 use Rattle.docket_calendar.specs.Calendar.{text_of_calendar}
-use Rattle.docket_questions.specs.Texts.{page_of_case, page_of_cases, page_of_days, text_of_case, text_of_deadlines}
+use Rattle.docket_questions.specs.Texts.{page_of_case, page_of_cases, page_of_days, page_of_reasons, rules_page, text_of_case, text_of_deadlines}
 use Rattle.docket_text.specs.HolidayTexts.{holiday_text}
-use Rattle.docket_wire.specs.Reading.{command_in}
-use Rattle.docket_wire.specs.Texts.{reply_text, fault_text}
-use Rattle.docket_wire.specs.declared.fault.WireFault.{WireFault}
+use Rattle.entry_pages.specs.Forms.{about_pairs}
+use Rattle.entry_pages.specs.Pages.{entry_page, kinds_page}
+use Rattle.entry_pages.specs.declared.said.Said.TheVariants.{Nothing}
+use Rattle.html_sheets.specs.Sites.{court_days_page}
+use Rattle.html_sheets.specs.declared.about.About.{About}
 use Rattle.http_request.specs.declared.page.Page.{Page}
 use Rattle.http_request.specs.declared.page.Page.TheVariants as page
 use Rattle.http_request.specs.declared.wish.Wish.{Wish}
-use Rattle.http_request.specs.declared.wish.Wish.TheVariants.{Reject, Command as CommandWish, Case, Deadlines, Calendar, Holidays, Page as PageWish, Copy}
-use Rattle.docket_http.specs.Answer.{Response, fine, found, json, problem_response}
+use Rattle.http_request.specs.declared.wish.Wish.TheVariants.{Reject, Command as CommandWish, Form as FormWish, Case, Deadlines, Calendar, Holidays, Page as PageWish, Copy}
+use Rattle.docket_http.specs.Answer.{Response, fine, found, problem_response}
+use Rattle.docket_http.specs.Entering.{after_reading, closed_entry, entry_of, entry_response, form_entry, line_entry}
 use Rattle.docket_http.specs.Reply.{IsReply}
 use Rattle.docket_http.specs.declared.head.Form.TheVariants.{Text, OpenText, Html}
 use Rattle.docket_http.specs.declared.problem.Problem.{Problem}
 use Rattle.docket_http.specs.declared.problem.Problem.TheVariants.{Rejected, NoCopy, NoMemory, Store, Closed, Damaged}
 use Rattle.docket_http.specs.declared.reply.Reply.{Reply}
 
--- the status of a reply, and of a refusal
-abbrev pub said_status : Result Number Refusal → ℕ
-said_status (Ok reply) = 200
-said_status (Err r) = 409
-
--- a repeat gets the reply that the command got at first
-abbrev pub outcome_response : Answer → Response
-outcome_response (accepted reply) = json 200 (reply_text (Ok reply))
-outcome_response (repeated reply) = json 200 (reply_text (Ok reply))
-outcome_response (refused r) = json 409 (reply_text (Err r))
-
--- the answer to a body that spells no command is its fault
-abbrev pub command_response : CourtSettings → History → Result Command WireFault → Response
-command_response court h (Ok c) = outcome_response (outcome court h c)
-command_response court h (Err fault) = json 400 (fault_text fault)
+-- the form of that kind, filled in with the numbers of what it is about
+abbrev pub form_about : CommandName → ℕ → About → List ℕ
+form_about kind fresh about = entry_page kind fresh (about_pairs about) Nothing
 
 -- the text of a page, if what it shows exists
 abbrev pub text_of_page : CourtSettings → History → Page → Option (List ℕ)
 text_of_page court h (page.Cases from) = Some (page_of_cases h from)
 text_of_page court h (page.Case number) = page_of_case court h number
 text_of_page court h (page.Days from to) = Some (page_of_days court h from to)
+text_of_page court h page.CourtDays = Some (court_days_page court (standing_rows h))
+text_of_page court h page.Rules = Some (rules_page (local_rule_rows h))
+text_of_page court h (page.Reasons case deadline) = page_of_reasons court h case deadline
+text_of_page court h page.Kinds = Some (kinds_page Nothing)
+text_of_page court h (page.Enter kind about fresh) = Some (form_about kind fresh about)
 
 -- the answer to a request with this body; a docket has no copy of its own file to send
 abbrev pub response_to : CourtSettings → History → Wish → List ℕ → Response
 response_to court h (Reject rejection) body = problem_response (Rejected rejection)
-response_to court h (CommandWish len) body = command_response court h (command_in body)
+response_to court h (CommandWish len) body = entry_response court h (line_entry body)
+response_to court h (FormWish len fresh) body = entry_response court h (form_entry fresh body)
 response_to court h (Case number) body = found Text (text_of_case court h number)
 response_to court h (Deadlines number) body = found Text (text_of_deadlines court h number)
 response_to court h (Calendar from to) body = fine OpenText (text_of_calendar court h from to)
@@ -64,20 +59,22 @@ response_to court h (Holidays year) body = fine Text (holiday_text year)
 response_to court h (PageWish page) body = found Html (text_of_page court h page)
 response_to court h Copy body = problem_response NoCopy
 
-abbrev pub after_reading : CourtSettings → History → Result Command WireFault → History
-after_reading court h (Ok c) = after court h c
-after_reading court h (Err fault) = h
-
--- the history after the request: only an accepted command adds to it
+-- the history after the request: only a command that it enters adds to it
 abbrev pub history_after : CourtSettings → History → Wish → List ℕ → History
-history_after court h (CommandWish len) body = after_reading court h (command_in body)
-history_after court h _ body = h
+history_after court h wish body = option_map_or (λ e. after_reading court h e.read) (entry_of wish body) h
+
+-- whether the page needs the docket
+abbrev pub asks_for_page : Page → Bool
+asks_for_page page.Kinds = false
+asks_for_page (page.Enter kind about fresh) = false
+asks_for_page _ = true
 
 -- whether the answer needs the docket
 abbrev pub asks_docket : Wish → Bool
 asks_docket (Reject rejection) = false
 asks_docket (Holidays year) = false
 asks_docket Copy = false
+asks_docket (PageWish page) = asks_for_page page
 asks_docket _ = true
 
 -- whether the answer needs memory: the answer to a request that is refused by its head is a constant
@@ -98,6 +95,7 @@ abbrev pub IsBuilt : Wish → Type 0
 IsBuilt (Calendar from to) = ⊥
 IsBuilt (Reject rejection) = Unit {0}
 IsBuilt (CommandWish len) = Unit {0}
+IsBuilt (FormWish len fresh) = Unit {0}
 IsBuilt (Case number) = Unit {0}
 IsBuilt (Deadlines number) = Unit {0}
 IsBuilt (Holidays year) = Unit {0}
@@ -135,22 +133,27 @@ module _ {S : Type 0} (g : Ghosts S) where
     pub is : response ≡ told problem (response_to d.court h wish body)
     pub left : LeftBy problem d h wish body
 
--- a closed docket's answer to the text of a command: the answer to a text that spells none is its fault
-abbrev pub closed_command : Result Command WireFault → Response
-closed_command (Ok c) = problem_response Closed
-closed_command (Err fault) = json 400 (fault_text fault)
+-- this answer, or that memory ran out
+abbrev pub IsUnlessShort : Response → Response → Type 0
+IsUnlessShort usual response = (response ≡ usual) ⊎ (response ≡ problem_response NoMemory)
+
+abbrev pub IsClosedPage : Page → Response → Type 0
+IsClosedPage page.Kinds response = IsUnlessShort (fine Html (kinds_page Nothing)) response
+IsClosedPage (page.Enter kind about fresh) response = IsUnlessShort (fine Html (form_about kind fresh about)) response
+IsClosedPage _ response = response ≡ problem_response Closed
 
 -- the answer on a closed docket: a request that needs the docket gets that it is closed, and any other its usual answer. Memory may run out
--- while a command is read or holidays are written
+-- while a command is read, or a page or holidays are written
 abbrev pub IsClosedAnswer : Wish → List ℕ → Response → Type 0
 IsClosedAnswer (Reject rejection) body response = response ≡ problem_response (Rejected rejection)
-IsClosedAnswer (CommandWish len) body response = (response ≡ closed_command (command_in body)) ⊎ (response ≡ problem_response NoMemory)
+IsClosedAnswer (CommandWish len) body response = IsUnlessShort (closed_entry (line_entry body)) response
+IsClosedAnswer (FormWish len fresh) body response = IsUnlessShort (closed_entry (form_entry fresh body)) response
 IsClosedAnswer (Case number) body response = response ≡ problem_response Closed
 IsClosedAnswer (Deadlines number) body response = response ≡ problem_response Closed
 IsClosedAnswer (Calendar from to) body response = response ≡ problem_response Closed
-IsClosedAnswer (PageWish page) body response = response ≡ problem_response Closed
+IsClosedAnswer (PageWish page) body response = IsClosedPage page response
 IsClosedAnswer Copy body response = response ≡ problem_response NoCopy
-IsClosedAnswer (Holidays year) body response = (response ≡ fine Text (holiday_text year)) ⊎ (response ≡ problem_response NoMemory)
+IsClosedAnswer (Holidays year) body response = IsUnlessShort (fine Text (holiday_text year)) response
 
 -- the reply of a closed docket, and its result before a fault is sent as a problem
 abbrev pub IsClosedReply : Wish → List ℕ → Reply → Type 0

@@ -1,20 +1,20 @@
 -- What an answer leaves of any docket, whether or not a history leads to its rows: the reply that is sent to a command is recorded.
-use Rattle.std.specs.Prelude.{◌≡◌, ◌≤◌, ◌⊎◌, true, ℕ, List, Option, Result, Ok, Err, IfOk, IfErr}
+use Rattle.std.specs.Prelude.{◌≡◌, ◌≤◌, ◌⊎◌, true, ℕ, List, Option, IfSome, Result, Ok, Err, IfOk, IfErr}
 use Rattle.sqlite.specs.Held.{state}
 use Rattle.sqlite.specs.Store.{Ghosts}
 use Rattle.sqlite.specs.View.{doubt}
 use Rattle.docket_command.specs.declared.command.Command.{Command}
 use Rattle.docket_command.specs.declared.refusal.Reply.{Reply as Number}
+use Rattle.docket_history.specs.Histories.{History}
 use Rattle.docket_applying.specs.AnyRows.{HoldsDocketRows, IsRecorded, WritesAtMostOne}
+use Rattle.docket_applying.specs.Applying.{Stands}
 use Rattle.docket_applying.specs.declared.fault.Fault.{Fault}
 use Rattle.docket_applying.specs.Dockets.{Docket}
-use Rattle.docket_wire.specs.Reading.{command_in}
-use Rattle.docket_wire.specs.Texts.{reply_text}
 use Rattle.http_request.specs.declared.page.Routes.{Routes}
 use Rattle.http_request.specs.declared.wish.Wish.{Wish}
-use Rattle.http_request.specs.declared.wish.Wish.TheVariants.{Command as CommandWish}
-use Rattle.docket_http.specs.Answer.{Response, json, problem_response}
-use Rattle.docket_http.specs.Asking.{RepliesClosed}
+use Rattle.docket_http.specs.Answer.{Response, problem_response}
+use Rattle.docket_http.specs.Asking.{Replies, RepliesClosed}
+use Rattle.docket_http.specs.Entering.{Entry, entry_of, said_response}
 use Rattle.docket_http.specs.Reply.{IsReply}
 use Rattle.docket_http.specs.Serve.{IsAsked, IsOfWriting, Sends, SendsClosed}
 use Rattle.docket_http.specs.declared.problem.Problem.TheVariants.{NoMemory}
@@ -24,40 +24,38 @@ use Rattle.docket_http.specs.declared.reply.Reply.{Reply}
 use Rattle.docket_http.specs.declared.sending.Served.{Served}
 
 module _ {S : Type 0} (g : Ghosts S) where
-  -- the body spells a command, the answer is its reply, and the docket holds a receipt of it with that reply
-  pub record IsTold (d : Docket S) (body : List ℕ) (response : Response) : Type 0 where
+  -- a command is spelled, the answer is that to its reply, and the docket holds a receipt of the command with that reply
+  pub record IsTold (d : Docket S) (e : Entry) (response : Response) : Type 0 where
     pub command : Command
     pub reply : Number
-    pub spelled : command_in body ≡ Ok command
-    pub told : response ≡ json 200 (reply_text (Ok reply))
+    pub spelled : e.read ≡ Ok command
+    pub told : response ≡ said_response e.manner command (Ok reply)
     pub recorded : IsRecorded g d command reply
 
-  -- an answer to a command with status 200
-  abbrev pub IsBacked : Docket S → List ℕ → Response → Type 0
-  IsBacked d body response = response.status ≡ 200 → IsTold d body response
+  -- an answer with status 200, or with 303 to a browser
+  abbrev pub IsBacked : Docket S → Entry → Response → Type 0
+  IsBacked d e response = (response.status ≡ 200) ⊎ (response.status ≡ 303) → IsTold d e response
 
-  -- a reply to a command
+  -- a reply to a request that enters a command
   abbrev pub RepliesBacked : Docket S → Wish → List ℕ → Reply → Type 0
-  RepliesBacked d (CommandWish len) body reply = (response : Response) × IsReply reply response × IsBacked d body response
-  RepliesBacked d _ body reply = Unit {0}
+  RepliesBacked d wish body reply = IfSome (entry_of wish body) (λ e. (response : Response) × IsReply reply response × IsBacked d e response)
 
-  -- the answer to a command went out, or, if the writer failed, a front of it
-  pub record SendsBacked (d : Docket S) (body : List ℕ) (before after : Option (List ℕ)) (result : Result Served ServeFault) : Type 0 where
+  -- the answer to it went out, or, if the writer failed, a front of it
+  pub record SendsBacked (d : Docket S) (e : Entry) (before after : Option (List ℕ)) (result : Result Served ServeFault) : Type 0 where
     pub response : Response
-    pub backed : IsBacked d body response
+    pub backed : IsBacked d e response
     pub sent : Sends response before after result
 
   abbrev pub SentBacked : Docket S → Wish → List ℕ → Option (List ℕ) → Option (List ℕ) → Result Served ServeFault → Type 0
-  SentBacked d (CommandWish len) body before after result = SendsBacked d body before after result
-  SentBacked d _ body before after result = Unit {0}
+  SentBacked d wish body before after result = IfSome (entry_of wish body) (λ e. SendsBacked d e before after result)
 
   -- what a connection gets: the answer to its request, or that memory ran out before the request was read whole
-  abbrev pub ServesBacked : Routes → Option (List ℕ) → Docket S → Option (List ℕ) → Option (List ℕ) → Result Served ServeFault → Type 0
-  ServesBacked routes input d before after (Err serve.ReadFailed) = Unit {0}
-  ServesBacked routes input d before after (Err serve.EndedEarly) = Unit {0}
-  ServesBacked routes input d before after (Err serve.CopyWanted) = Unit {0}
-  ServesBacked routes input d before after result =
-      ((wish : Wish) × (body : List ℕ) × IsAsked routes input wish body × SentBacked d wish body before after result)
+  abbrev pub ServesBacked : Routes → ℕ → Option (List ℕ) → Docket S → Option (List ℕ) → Option (List ℕ) → Result Served ServeFault → Type 0
+  ServesBacked routes fresh input d before after (Err serve.ReadFailed) = Unit {0}
+  ServesBacked routes fresh input d before after (Err serve.EndedEarly) = Unit {0}
+  ServesBacked routes fresh input d before after (Err serve.CopyWanted) = Unit {0}
+  ServesBacked routes fresh input d before after result =
+      ((wish : Wish) × (body : List ℕ) × IsAsked routes fresh input wish body × SentBacked d wish body before after result)
       ⊎ Sends (problem_response NoMemory) before after result
 
   -- at most one command is written, whole, and nothing else
@@ -73,7 +71,12 @@ module _ {S : Type 0} (g : Ghosts S) where
     pub closed : old.closed ≡ true → (new ≡ old) × RepliesClosed wish body result
     pub recorded : HoldsDocketRows g old → IfOk result (RepliesBacked new wish body)
 
-  -- the same once its answer went out, or a front of it
+  -- the reply to a request, for the docket of a history, and what it leaves of any docket
+  pub record RepliesTo (old new : Docket S) (wish : Wish) (body : List ℕ) (result : Result Reply Fault) : Type 0 where
+    pub replies : (h : History) → Stands g old h → Replies g new h wish body result
+    pub only : OnlyReplies old new wish body result
+
+  -- what an answer leaves once it went out, or a front of it
   pub record OnlySends (old new : Docket S) (wish : Wish) (body : List ℕ) (before after : Option (List ℕ)) (result : Result Served ServeFault) : Type 0 where
     pub writes : OnlyWrites old new
     pub closed : old.closed ≡ true → (new ≡ old) × SendsClosed wish body before after result

@@ -36,9 +36,9 @@ pub record Begins (before after : Option (List ℕ)) (bytes : List ℕ) : Type 0
   pub front : AppendsFront before after bytes
   pub begun : 1 ≤ front.count
 
--- the input, if it is known, asks for this
-abbrev pub IsAsked : Routes → Option (List ℕ) → Wish → List ℕ → Type 0
-IsAsked routes input wish body = IfSome input (λ bytes. IsRequest routes bytes wish body)
+-- the input, if it is known, asks for this, where these routes are served; the number is that of the connection
+abbrev pub IsAsked : Routes → ℕ → Option (List ℕ) → Wish → List ℕ → Type 0
+IsAsked routes fresh input wish body = IfSome input (λ bytes. IsRequest routes fresh bytes wish body)
 
 -- the answer went out, or, if the writer failed, a front of it
 abbrev pub Sends : Response → Option (List ℕ) → Option (List ℕ) → Result Served ServeFault → Type 0
@@ -58,9 +58,9 @@ pub record SendsCopy (copy : Option (List ℕ)) (before after : Option (List ℕ
   pub sent : Sends response before after result
 
 -- the request asks for a copy of the docket's file, which the docket does not send itself: it is as it was, and not closed
-pub record WantsCopy {S : Type 0} (routes : Routes) (input : Option (List ℕ)) (old new : Docket S) : Type 0 where
+pub record WantsCopy {S : Type 0} (routes : Routes) (fresh : ℕ) (input : Option (List ℕ)) (old new : Docket S) : Type 0 where
   pub body : List ℕ
-  pub asked : IsAsked routes input Copy body
+  pub asked : IsAsked routes fresh input Copy body
   pub same : new ≡ old
   pub serves : old.closed ≡ false
 
@@ -71,12 +71,12 @@ pub record SendsClosed (wish : Wish) (body : List ℕ) (before after : Option (L
   pub sent : Sends response before after result
 
 -- what a connection gets on a closed docket: the answer to its request, or that memory ran out before the request was read whole
-abbrev pub ServesClosed : Routes → Option (List ℕ) → Option (List ℕ) → Option (List ℕ) → Result Served ServeFault → Type 0
-ServesClosed routes input before after (Err serve.ReadFailed) = Keeps before after
-ServesClosed routes input before after (Err serve.EndedEarly) = Keeps before after × IfSome input (EndsEarly routes)
-ServesClosed routes input before after (Err serve.CopyWanted) = ⊥
-ServesClosed routes input before after result =
-    ((wish : Wish) × (body : List ℕ) × IsAsked routes input wish body × SendsClosed wish body before after result)
+abbrev pub ServesClosed : Routes → ℕ → Option (List ℕ) → Option (List ℕ) → Option (List ℕ) → Result Served ServeFault → Type 0
+ServesClosed routes fresh input before after (Err serve.ReadFailed) = Keeps before after
+ServesClosed routes fresh input before after (Err serve.EndedEarly) = Keeps before after × IfSome input (EndsEarly routes)
+ServesClosed routes fresh input before after (Err serve.CopyWanted) = ⊥
+ServesClosed routes fresh input before after result =
+    ((wish : Wish) × (body : List ℕ) × IsAsked routes fresh input wish body × SendsClosed wish body before after result)
     ⊎ Sends (problem_response NoMemory) before after result
 
 module _ {S : Type 0} (g : Ghosts S) where
@@ -115,23 +115,23 @@ module _ {S : Type 0} (g : Ghosts S) where
     pub status_told : status ≡ 500
 
   -- a connection was served: it got the answer to its request, or that memory ran out before the request was read whole
-  abbrev pub Serves : Routes → Option (List ℕ) → Docket S → Docket S → History → Option (List ℕ) → Option (List ℕ) → ℕ → Type 0
-  Serves routes input old new h before after status =
-      ((wish : Wish) × (body : List ℕ) × IsAsked routes input wish body × IsServed new h wish body before after status)
+  abbrev pub Serves : Routes → ℕ → Option (List ℕ) → Docket S → Docket S → History → Option (List ℕ) → Option (List ℕ) → ℕ → Type 0
+  Serves routes fresh input old new h before after status =
+      ((wish : Wish) × (body : List ℕ) × IsAsked routes fresh input wish body × IsServed new h wish body before after status)
       ⊎ GivesUp old new before after status
 
-  abbrev pub Unserved : Routes → Option (List ℕ) → Docket S → Docket S → History → Option (List ℕ) → Option (List ℕ) → ServeFault → Type 0
-  Unserved routes input old new h before after e =
-      (wish : Wish) × (body : List ℕ) × IsAsked routes input wish body × IsBroken new h wish body before after e
+  abbrev pub Unserved : Routes → ℕ → Option (List ℕ) → Docket S → Docket S → History → Option (List ℕ) → Option (List ℕ) → ServeFault → Type 0
+  Unserved routes fresh input old new h before after e =
+      (wish : Wish) × (body : List ℕ) × IsAsked routes fresh input wish body × IsBroken new h wish body before after e
 
   -- a connection was not served whole: if reading failed or the input ended early, or a copy is wanted, nothing was written and the docket is as
   -- it was
-  abbrev pub Fails : Routes → Option (List ℕ) → Docket S → Docket S → History → Option (List ℕ) → Option (List ℕ) → ServeFault → Type 0
-  Fails routes input old new h before after serve.ReadFailed = (new ≡ old) × Keeps before after
-  Fails routes input old new h before after serve.EndedEarly = (new ≡ old) × Keeps before after × IfSome input (EndsEarly routes)
-  Fails routes input old new h before after serve.CopyWanted = WantsCopy routes input old new × (after ≡ before)
-  Fails routes input old new h before after serve.WriteFailed =
-      Unserved routes input old new h before after serve.WriteFailed
+  abbrev pub Fails : Routes → ℕ → Option (List ℕ) → Docket S → Docket S → History → Option (List ℕ) → Option (List ℕ) → ServeFault → Type 0
+  Fails routes fresh input old new h before after serve.ReadFailed = (new ≡ old) × Keeps before after
+  Fails routes fresh input old new h before after serve.EndedEarly = (new ≡ old) × Keeps before after × IfSome input (EndsEarly routes)
+  Fails routes fresh input old new h before after serve.CopyWanted = WantsCopy routes fresh input old new × (after ≡ before)
+  Fails routes fresh input old new h before after serve.WriteFailed =
+      Unserved routes fresh input old new h before after serve.WriteFailed
       ⊎ ((new ≡ old) × AppendsFront before after (response_bytes (problem_response NoMemory)))
-  Fails routes input old new h before after serve.NoMemory = Unserved routes input old new h before after serve.NoMemory
-  Fails routes input old new h before after serve.StoreFailed = Unserved routes input old new h before after serve.StoreFailed
+  Fails routes fresh input old new h before after serve.NoMemory = Unserved routes fresh input old new h before after serve.NoMemory
+  Fails routes fresh input old new h before after serve.StoreFailed = Unserved routes fresh input old new h before after serve.StoreFailed

@@ -7,18 +7,19 @@ ghost use Rattle.docket_applying.specs.Applying.{Stands};
 ghost use Rattle.http_request.specs.Request.{body_of};
 ghost use Rattle.http_request.specs.Wish.{IsWithinLimits};
 ghost use Rattle.docket_http.specs.Answer.{Response};
-ghost use Rattle.docket_http.specs.Asking.{IsBuilt, Replies, IsAnswered};
-ghost use Rattle.docket_http.specs.Recorded.{OnlyReplies};
+ghost use Rattle.docket_http.specs.Asking.{IsBuilt, IsAnswered};
+ghost use Rattle.docket_http.specs.Recorded.{OnlyReplies, RepliesTo};
 ghost use Rattle.docket_http.specs.Reply.{IsReply};
 
-use crate::asking::{holidays_reply, question_reply};
-use crate::commands::command_reply;
+use crate::asking::{page_reply, question_reply};
+use crate::commands::{command_reply, form_reply};
 use crate::head::Form;
 use crate::problem::{Problem, problem_of};
-use crate::reply::Reply;
-use docket_questions::{CasePage, CaseText, CasesPage, DaysPage, DeadlinesText};
+use crate::reply::{Reply, fine_reply};
+use docket_questions::{CaseText, DeadlinesText};
 use docket_store::{Docket, Fault};
-use http_request::{Page, Request, Wish};
+use docket_text::holiday_text;
+use http_request::{Request, Wish};
 use sqlite::Alter;
 use std::alloc::Global;
 
@@ -31,29 +32,21 @@ fn reply_to<S: Alter>(
     requires whole { IsBuilt request.now.wish }
     requires limits { IsWithinLimits request.now.wish }
     requires within { request.now.start ≤ request.now.end × request.now.end ≤ vec_len request.now.came }
-    ensures replies { (h : History) → Stands S.Store docket.old h
-        → Replies S.Store docket.new h request.now.wish (body_of request.now) result }
-    ensures only { OnlyReplies S.Store docket.old docket.new request.now.wish (body_of request.now) result }
+    ensures { RepliesTo S.Store docket.old docket.new request.now.wish (body_of request.now) result }
 {
+    let body = &request.came[request.start..request.end];
     match request.wish {
         Wish::Reject(rejection) => Ok(Reply::Fixed(Problem::Rejected(rejection))),
-        Wish::Command(_) => {
-            command_reply(alloc, docket, &request.came[request.start..request.end])
-        }
+        Wish::Command(_) => command_reply(alloc, docket, body),
+        Wish::Form(_, fresh) => form_reply(alloc, docket, fresh, body),
         Wish::Case(number) => question_reply(alloc, docket, Form::Text, &CaseText { number }),
         Wish::Deadlines(number) => {
             question_reply(alloc, docket, Form::Text, &DeadlinesText { number })
         }
-        Wish::Page(page) => match page {
-            Page::Cases(from) => question_reply(alloc, docket, Form::Html, &CasesPage { from }),
-            Page::Case(number) => question_reply(alloc, docket, Form::Html, &CasePage { number }),
-            Page::Days(from, to) => {
-                question_reply(alloc, docket, Form::Html, &DaysPage { from, to })
-            }
-        },
+        Wish::Page(page) => page_reply(alloc, docket, page),
         // Not reached: a calendar is not built before it is written.
         Wish::Calendar(..) => Ok(Reply::Fixed(Problem::Damaged)),
-        Wish::Holidays(year) => Ok(holidays_reply(alloc, year)?),
+        Wish::Holidays(year) => fine_reply(alloc, Form::Text, holiday_text(alloc, year)),
         // Reached only if the docket is closed: else `serve_one` returns that a copy is wanted.
         Wish::Copy => Ok(Reply::Fixed(Problem::NoCopy)),
     }

@@ -1,25 +1,47 @@
 //! Questions, and the answers to them.
-ghost use Rattle.std.specs.Prelude.{IfOk};
-ghost use Rattle.std.specs.Int.{IsInRange};
+ghost use Rattle.std.specs.Prelude.{◌≡◌, ℕ, List, IfErr, IfOk, string_bytes};
 ghost use Rattle.docket_history.specs.Histories.{History};
 ghost use Rattle.docket_applying.specs.Applying.{Asks, Stands};
-ghost use Rattle.docket_text.specs.HolidayTexts.{holiday_text as text_of_holidays};
 ghost use Rattle.docket_store.specs.Asking.{OnlyAnswers};
-ghost use Rattle.docket_http.specs.Answer.{fine, found};
+ghost use Rattle.http_request.specs.Pages.{IsPageWithinLimits};
+ghost use Rattle.http_request.specs.declared.wish.Wish.TheVariants.{Page as PageWish};
+ghost use Rattle.docket_applying.specs.declared.fault.Fault.TheVariants.{NoMemory};
+ghost use Rattle.docket_http.specs.Answer.{found, missing};
+ghost use Rattle.docket_http.specs.Asking.{form_about};
+ghost use Rattle.docket_http.specs.Recorded.{RepliesTo};
 ghost use Rattle.docket_http.specs.Reply.{IsReply};
-ghost use Rattle.docket_http.specs.declared.head.Form.TheVariants.{Text};
 
 use crate::head::Form;
 use crate::problem::Problem;
-use crate::reply::{Reply, built};
-use docket_questions::Question;
+use crate::reply::{Reply, built, fine_reply};
+use docket_command::CommandName;
+use docket_questions::{
+    CasePage, CasesPage, CourtDaysPage, DaysPage, Question, ReasonsPage, RulesPage,
+};
 use docket_store::{Docket, Fault};
-use docket_text::holiday_text;
+use entry_pages::{Said, about_pairs, entry_page, kinds_page};
+use html_sheets::text_page;
 use http::StatusCode;
+use http_request::{About, Page};
 use sqlite::Alter;
 use std::alloc::{AllocError, Global};
 
-/// Returns the answer to a question: its text in that form, or that there is no such case.
+/// Returns that what a question asks about does not exist, as a page where one was asked for.
+fn missing_reply(alloc: Global, form: Form) -> Result<Reply, Fault>
+    ensures reply { IfOk result (λ reply. IsReply reply (missing form)) }
+    ensures short { IfErr result (λ e. e ≡ NoMemory) }
+{
+    match form {
+        Form::Html => {
+            let words = "There is no such case, or the case has no such deadline.";
+            let text = text_page(alloc, "Not found", words)?;
+            built(alloc, StatusCode::NOT_FOUND, Form::Html, text)
+        }
+        _ => Ok(Reply::Fixed(Problem::NoSuchCase)),
+    }
+}
+
+/// Returns the answer to a question: its text in that form, or that what it asks about does not exist.
 pub(crate) fn question_reply<S: Alter, Q: Question>(
     alloc: Global,
     docket: &mut Docket<S>,
@@ -32,16 +54,46 @@ pub(crate) fn question_reply<S: Alter, Q: Question>(
     ensures only { OnlyAnswers S.Store docket.old docket.new result }
 {
     match question.ask(alloc, docket)? {
-        Some(text) => Ok(built(alloc, StatusCode::OK, form, text)?),
-        None => Ok(Reply::Fixed(Problem::NoSuchCase)),
+        Some(text) => built(alloc, StatusCode::OK, form, text),
+        None => missing_reply(alloc, form),
     }
 }
 
-/// Returns the holidays of a year, for which no docket is read.
-pub(crate) fn holidays_reply(alloc: Global, year: u32) -> Result<Reply, AllocError>
-    requires { IsInRange 2000 2099 year }
-    ensures { IfOk result (λ reply. IsReply reply (fine Text (text_of_holidays year))) }
+/// The form of a kind of command, filled in with the numbers of what it is about.
+fn form_text(
+    alloc: Global,
+    kind: CommandName,
+    fresh: u64,
+    about: About,
+) -> Result<String, AllocError>
+    ensures { IfOk result (λ text. string_bytes text ≡ form_about kind fresh about) }
 {
-    let body = holiday_text(alloc, year)?;
-    built(alloc, StatusCode::OK, Form::Text, body)
+    let pairs = about_pairs(alloc, about)?;
+    entry_page(alloc, kind, fresh, &pairs, Said::Nothing)
+}
+
+/// Returns a page: what it shows of the docket, or that there is no such case or deadline. The pages on which a
+/// command is entered ask for no docket.
+pub(crate) fn page_reply<S: Alter>(
+    alloc: Global,
+    docket: &mut Docket<S>,
+    page: Page,
+) -> Result<Reply, Fault>
+    requires { IsPageWithinLimits page }
+    ensures { (body : List ℕ) → RepliesTo S.Store docket.old docket.new (PageWish page) body result }
+{
+    match page {
+        Page::Cases(from) => question_reply(alloc, docket, Form::Html, &CasesPage { from }),
+        Page::Case(number) => question_reply(alloc, docket, Form::Html, &CasePage { number }),
+        Page::Days(from, to) => question_reply(alloc, docket, Form::Html, &DaysPage { from, to }),
+        Page::CourtDays => question_reply(alloc, docket, Form::Html, &CourtDaysPage),
+        Page::Rules => question_reply(alloc, docket, Form::Html, &RulesPage),
+        Page::Reasons(case, deadline) => {
+            question_reply(alloc, docket, Form::Html, &ReasonsPage { case, deadline })
+        }
+        Page::Kinds => fine_reply(alloc, Form::Html, kinds_page(alloc, Said::Nothing)),
+        Page::Enter(kind, about, fresh) => {
+            fine_reply(alloc, Form::Html, form_text(alloc, kind, fresh, about))
+        }
+    }
 }

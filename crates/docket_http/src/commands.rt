@@ -1,63 +1,48 @@
-//! Commands, and the answers to them.
-ghost use Rattle.std.specs.Prelude.{◌≡◌, ℕ, List, IfOk, IfErr, Ok};
-ghost use Rattle.docket_history.specs.Histories.{History};
-ghost use Rattle.docket_applying.specs.Applying.{Stands};
-ghost use Rattle.http_request.specs.declared.wish.Wish.TheVariants.{Command as CommandWish};
-ghost use Rattle.docket_applying.specs.declared.fault.Fault.TheVariants as fault;
-ghost use Rattle.docket_wire.specs.Reading.{command_in};
-ghost use Rattle.docket_wire.specs.Texts.{fault_text};
-ghost use Rattle.docket_http.specs.Answer.{json};
-ghost use Rattle.docket_http.specs.Asking.{Replies, said_status};
-ghost use Rattle.docket_http.specs.Recorded.{OnlyReplies};
-ghost use Rattle.docket_http.specs.Reply.{IsReply};
+//! Requests that enter a command.
+ghost use Rattle.std.specs.Prelude.{◌≡◌, ℕ, List, Result, IfOk, IfErr, Some};
+ghost use Rattle.docket_command.specs.declared.command.Command.{Command};
+ghost use Rattle.http_request.specs.declared.wish.Wish.{Wish};
+ghost use Rattle.http_request.specs.declared.wish.Wish.TheVariants.{Command as CommandWish, Form as FormWish};
+ghost use Rattle.docket_applying.specs.declared.fault.Fault.TheVariants.{NoMemory};
+ghost use Rattle.docket_wire.specs.Members.{Gives};
+ghost use Rattle.docket_wire.specs.declared.fault.WireFault.{WireFault};
+ghost use Rattle.docket_http.specs.Entering.{entry_of, manner_of};
+ghost use Rattle.docket_http.specs.Recorded.{RepliesTo};
 
-use crate::reply::{Reply, json_reply};
-use docket_command::{Command, Refusal, Reply as Number};
+use crate::reply::Reply;
+use crate::writing::{Writing, fault_reply, said_reply};
+use command_forms::{entered_command, read_pairs};
+use docket_command::Command;
 use docket_store::{Docket, Fault, answer};
-use docket_wire::{WireFault, read_command, reply_text, wire_fault_text};
-use http::StatusCode;
+use docket_wire::{WireFault, read_command};
 use sqlite::Alter;
-use std::alloc::{AllocError, Global};
+use std::alloc::Global;
 
-fn status_of(said: &Result<Number, Refusal>) -> StatusCode
-    ensures { result ≡ said_status said.now }
+/// The answer to what spells a command, or has a fault for which it spells none.
+fn entry_reply<S: Alter>(
+    alloc: Global,
+    docket: &mut Docket<S>,
+    writing: &Writing,
+    read: Result<Command, WireFault>,
+) -> Result<Reply, Fault>
+    ensures { (wish : Wish) (body : List ℕ) → entry_of wish body ≡ Some (record { read = read; manner = manner_of writing.now })
+        → RepliesTo S.Store docket.old docket.new wish body result }
 {
-    match said {
-        Ok(_) => StatusCode::OK,
-        Err(_) => StatusCode::CONFLICT,
+    match read {
+        Ok(command) => {
+            let said = answer(docket, &command)?;
+            said_reply(alloc, writing, &command, &said)
+        }
+        Err(fault) => fault_reply(alloc, writing, fault),
     }
 }
 
-/// The answer to a command.
-fn applied_reply<S: Alter>(
-    alloc: Global,
-    docket: &mut Docket<S>,
-    command: &Command,
-) -> Result<Reply, Fault>
-    ensures replies { (h : History) (len : ℕ) (body : List ℕ) → Stands S.Store docket.old h → command_in body ≡ Ok command.now
-        → Replies S.Store docket.new h (CommandWish len) body result }
-    ensures only { (len : ℕ) (body : List ℕ) → command_in body ≡ Ok command.now
-        → OnlyReplies S.Store docket.old docket.new (CommandWish len) body result }
+/// Returns what was read, but a lack of memory as a fault of the docket's.
+fn kept(read: Result<Command, WireFault>) -> Result<Result<Command, WireFault>, Fault>
+    ensures read { (spelled : Result Command WireFault) → Gives read spelled → IfOk result (λ read. spelled ≡ read) }
+    ensures short { IfErr result (λ e. e ≡ NoMemory) }
 {
-    let said = answer(docket, command)?;
-    let text = reply_text(alloc, &said)?;
-    Ok(json_reply(alloc, status_of(&said), text)?)
-}
-
-/// The answer to a text that spells no command.
-fn fault_reply(alloc: Global, fault: WireFault) -> Result<Reply, AllocError>
-    ensures { IfOk result (λ reply. IsReply reply (json 400 (fault_text fault))) }
-{
-    let text = wire_fault_text(alloc, &fault)?;
-    json_reply(alloc, StatusCode::BAD_REQUEST, text)
-}
-
-/// Returns the command that a text spells, or why it spells none.
-fn reading(alloc: Global, body: &[u8]) -> Result<Result<Command, WireFault>, Fault>
-    ensures read { IfOk result (λ read. command_in body.now ≡ read) }
-    ensures fault { IfErr result (λ e. e ≡ fault.NoMemory) }
-{
-    match read_command(alloc, body) {
+    match read {
         Ok(command) => Ok(Ok(command)),
         Err(WireFault::NoMemory) => Err(Fault::NoMemory),
         Err(fault) => Ok(Err(fault)),
@@ -70,12 +55,23 @@ pub(crate) fn command_reply<S: Alter>(
     docket: &mut Docket<S>,
     body: &[u8],
 ) -> Result<Reply, Fault>
-    ensures replies { (h : History) (len : ℕ) → Stands S.Store docket.old h
-        → Replies S.Store docket.new h (CommandWish len) body.now result }
-    ensures only { (len : ℕ) → OnlyReplies S.Store docket.old docket.new (CommandWish len) body.now result }
+    ensures { (len : ℕ) → RepliesTo S.Store docket.old docket.new (CommandWish len) body.now result }
 {
-    match reading(alloc, body)? {
-        Ok(command) => applied_reply(alloc, docket, &command),
-        Err(fault) => Ok(fault_reply(alloc, fault)?),
-    }
+    let read = kept(read_command(alloc, body))?;
+    entry_reply(alloc, docket, &Writing::Json, read)
+}
+
+/// The answer to a form. The number makes the key of the form that a browser gets again.
+pub(crate) fn form_reply<S: Alter>(
+    alloc: Global,
+    docket: &mut Docket<S>,
+    fresh: u64,
+    body: &[u8],
+) -> Result<Reply, Fault>
+    ensures { (len : ℕ) → RepliesTo S.Store docket.old docket.new (FormWish len fresh) body.now result }
+{
+    let pairs = read_pairs(alloc, body)?;
+    let read = kept(entered_command(alloc, &pairs))?;
+    let writing = Writing::Pages { fresh, pairs };
+    entry_reply(alloc, docket, &writing, read)
 }

@@ -3,10 +3,11 @@ ghost use Rattle.std.specs.Prelude.{◌≡◌, ℕ};
 ghost use Rattle.docket_http.specs.Answer.{head_bytes};
 ghost use Rattle.docket_http.specs.declared.head.Form.TheVariants.{OpenText};
 
+use crate::place::Place;
 use http::StatusCode;
 use std::fmt;
 
-/// The form of a body.
+/// The form of an answer: what its body is.
 #[derive(Clone, Copy)]
 pub(crate) enum Form {
     Json,
@@ -17,28 +18,33 @@ pub(crate) enum Form {
     Html,
     /// A database of SQLite, which a browser saves.
     File,
+    /// Empty: a browser gets that page next.
+    Seen(Place),
 }
 
-/// Writes the value of the field `content-type`.
+/// Writes the line of the field `content-type`, or of `location`.
 impl fmt::Display for Form {
     ghost use Rattle.std.specs.Prelude.{Some};
-    ghost use Rattle.docket_http.specs.Answer.{type_of};
+    ghost use Rattle.docket_http.specs.Answer.{type_line};
 
-    ghost output = { λ form. Some (type_of form) };
+    ghost output = { λ form. Some (type_line form) };
 
     fn fmt<W: fmt::Write>(&self, f: &mut fmt::Formatter<W>) -> fmt::Result {
-        f.write_str(match self {
-            Form::Json => "application/json",
-            Form::Text | Form::OpenText => "text/plain; charset=utf-8",
-            Form::Html => "text/html; charset=utf-8",
-            Form::File => "application/vnd.sqlite3",
-        })
+        match self {
+            Form::Json => f.write_str("content-type: application/json\r\n"),
+            Form::Text | Form::OpenText => f.write_str(
+                "content-type: text/plain; charset=utf-8\r\n",
+            ),
+            Form::Html => f.write_str("content-type: text/html; charset=utf-8\r\n"),
+            Form::File => f.write_str("content-type: application/vnd.sqlite3\r\n"),
+            Form::Seen(place) => write!(f, "location: {place}\r\n"),
+        }
     }
 }
 
 /// The lines of the fields `content-security-policy` and `cache-control`, which a page has. A browser runs no
 /// script for it, loads nothing from elsewhere, shows it in no other page, and stores no copy of it. A file
-/// is saved, under the name in `content-disposition`.
+/// is saved, under the name in `content-disposition`. Nor is it stored where a form has led.
 #[derive(Clone, Copy)]
 struct PolicyLine(Form);
 
@@ -58,6 +64,7 @@ impl fmt::Display for PolicyLine {
                 "content-disposition: attachment; filename=\"docket.db\"\r\n\
                  cache-control: no-store\r\n",
             ),
+            Form::Seen(_) => f.write_str("cache-control: no-store\r\n"),
             Form::Json | Form::Text | Form::OpenText => Ok(()),
         }
     }
@@ -80,7 +87,7 @@ impl fmt::Display for LengthLine {
         let len = self.len;
         match self.form {
             Form::OpenText => Ok(()),
-            Form::Json | Form::Text | Form::Html | Form::File => {
+            Form::Json | Form::Text | Form::Html | Form::File | Form::Seen(_) => {
                 write!(f, "content-length: {len}\r\n")
             }
         }
@@ -109,7 +116,7 @@ impl fmt::Display for Head {
         let length = LengthLine { form, len };
         write!(
             f,
-            "HTTP/1.1 {status}\r\ncontent-type: {form}\r\n{policy}{length}connection: close\r\n\r\n"
+            "HTTP/1.1 {status}\r\n{form}{policy}{length}connection: close\r\n\r\n"
         )
     }
 }

@@ -9,6 +9,6 @@ ghost use Rattle.docket_http.specs.Asking.{history_after};
 
 /// Only a request that the guard lets through changes a docket.
 pub fn commands_are_let_through()
-    ensures { (routes : Routes) (input : List ℕ) (wish : Wish) (body : List ℕ) (court : CourtSettings) (h : History)
-        → IsRequest routes input wish body → ¬ (history_after court h wish body ≡ h) → IsLetThrough routes input }
+    ensures { (routes : Routes) (fresh : ℕ) (input : List ℕ) (wish : Wish) (body : List ℕ) (court : CourtSettings) (h : History)
+        → IsRequest routes fresh input wish body → ¬ (history_after court h wish body ≡ h) → IsLetThrough routes input }
 {}

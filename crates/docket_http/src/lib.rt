@@ -1,5 +1,8 @@
 //! One connection to a docket: one request of HTTP/1.0 or 1.1, one answer.
 //!
+//! A command comes as a line of JSON or in a form of a browser. Both are applied by one function: a program gets
+//! the outcome as JSON, and a browser is led to the page of what has changed (status 303), or gets its form again.
+//!
 //! The bytes written are the answer to the bytes read, in whatever pieces the request came. The docket then
 //! holds the history that the answer reports. A request that is refused by its head asks nothing of the
 //! docket and takes no memory to answer.
@@ -13,10 +16,12 @@ mod copies;
 mod fault;
 mod head;
 mod laws;
+mod place;
 mod problem;
 mod reply;
 mod sending;
 mod serve;
+mod writing;
 
 pub use copies::send_copy;
 pub use docket_store::Docket;

@@ -32,6 +32,7 @@ fn status_of(rejection: Rejection) -> StatusCode
         Rejection::LengthRequired => StatusCode::LENGTH_REQUIRED,
         Rejection::TooLong => StatusCode::PAYLOAD_TOO_LARGE,
         Rejection::Foreign => StatusCode::FORBIDDEN,
+        Rejection::MediaType => StatusCode::UNSUPPORTED_MEDIA_TYPE,
     }
 }
 
@@ -55,6 +56,8 @@ fn rejection_answer(rejection: Rejection) -> &'static [u8]
             b"HTTP/1.1 413 Payload Too Large\r\ncontent-type: application/json\r\ncontent-length: 21\r\nconnection: close\r\n\r\n{\"error\":\"too-long\"}\n",
         Rejection::Foreign =>
             b"HTTP/1.1 403 Forbidden\r\ncontent-type: application/json\r\ncontent-length: 20\r\nconnection: close\r\n\r\n{\"error\":\"foreign\"}\n",
+        Rejection::MediaType =>
+            b"HTTP/1.1 415 Unsupported Media Type\r\ncontent-type: application/json\r\ncontent-length: 23\r\nconnection: close\r\n\r\n{\"error\":\"media-type\"}\n",
     }
 }
 

@@ -1,11 +1,13 @@
 //! Answers, whole.
-ghost use Rattle.std.specs.Prelude.{◌≡◌, IfOk, string_bytes};
+ghost use Rattle.std.specs.Prelude.{◌≡◌, ℕ, List, IfOk, IfErr, string_bytes};
+ghost use Rattle.docket_applying.specs.declared.fault.Fault.TheVariants.{NoMemory};
 ghost use Rattle.docket_http.specs.Answer.{fine, json};
 ghost use Rattle.docket_http.specs.Reply.{IsReply, reply_status};
 ghost use Rattle.docket_http.specs.declared.head.Form.TheVariants.{File};
 
 use crate::head::{Form, Head};
 use crate::problem::Problem;
+use docket_store::Fault;
 use http::StatusCode;
 use std::alloc::{AllocError, Global};
 
@@ -45,8 +47,9 @@ pub(crate) fn built(
     status: StatusCode,
     form: Form,
     body: String,
-) -> Result<Reply, AllocError>
-    ensures { IfOk result (λ reply. IsReply reply (record { status = status; form = form; body = string_bytes body })) }
+) -> Result<Reply, Fault>
+    ensures reply { IfOk result (λ reply. IsReply reply (record { status = status; form = form; body = string_bytes body })) }
+    ensures short { IfErr result (λ e. e ≡ NoMemory) }
 {
     let len = body.len();
     let head = Head { status, form, len };
@@ -59,11 +62,25 @@ pub(crate) fn json_reply(
     alloc: Global,
     status: StatusCode,
     mut text: String,
-) -> Result<Reply, AllocError>
-    ensures { IfOk result (λ reply. IsReply reply (json status (string_bytes text))) }
+) -> Result<Reply, Fault>
+    ensures reply { IfOk result (λ reply. IsReply reply (json status (string_bytes text))) }
+    ensures short { IfErr result (λ e. e ≡ NoMemory) }
 {
     text.push('\n')?;
     built(alloc, status, Form::Json, text)
+}
+
+/// What was asked for, in that form, unless memory ran out for its text.
+pub(crate) fn fine_reply(
+    alloc: Global,
+    form: Form,
+    text: Result<String, AllocError>,
+) -> Result<Reply, Fault>
+    ensures reply { (bytes : List ℕ) → IfOk text (λ text. string_bytes text ≡ bytes) → IfOk result (λ reply. IsReply reply (fine form bytes)) }
+    ensures short { IfErr result (λ e. e ≡ NoMemory) }
+{
+    let text = text?;
+    built(alloc, StatusCode::OK, form, text)
 }
 
 /// An answer that is a file.

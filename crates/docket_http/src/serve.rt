@@ -68,39 +68,41 @@ fn wants_copy<S: Alter>(docket: &Docket<S>, wish: &Wish) -> bool
 
 /// Serves one request of a connection: writes the answer to the request that it reads, and the docket then
 /// holds the history that this answer reports. A closed docket stays as it is, and the answer to a request
-/// that needs it reports that it is closed. Pages are shown if they are among the routes. If the request asks
-/// for a copy of the file in which the docket is kept, it writes nothing and returns `CopyWanted`.
+/// that needs it reports that it is closed. Pages are shown if they are among the routes; `fresh` makes the key of
+/// a form among them, and the caller has another number for each connection. If the request asks for a copy of the
+/// file in which the docket is kept, it writes nothing and returns `CopyWanted`.
 pub fn serve_one<R: Read, W: Write, S: Alter>(
     alloc: Global,
     reader: &mut R,
     writer: &mut W,
     docket: &mut Docket<S>,
     routes: &Routes,
+    fresh: u64,
 ) -> Result<Served, ServeFault>
     ensures court { docket.new.court ≡ docket.old.court }
     ensures clean { doubt (state S.Store docket.old.conn).is_clean ≤ doubt (state S.Store docket.new.conn).is_clean }
     ensures any { WritesAtMostOne S.Store docket.old docket.new }
     ensures closed { docket.old.closed ≡ true → (docket.new ≡ docket.old)
-        × ServesClosed routes.now (R.remaining reader.old) (W.contents writer.old) (W.contents writer.new) result }
+        × ServesClosed routes.now fresh (R.remaining reader.old) (W.contents writer.old) (W.contents writer.new) result }
     ensures served { IfOk result (λ served. (h : History) → Stands S.Store docket.old h
         → HasCleanDisk (state S.Store docket.new.conn)
-        → Serves S.Store routes.now (R.remaining reader.old) docket.old docket.new h
+        → Serves S.Store routes.now fresh (R.remaining reader.old) docket.old docket.new h
         (W.contents writer.old) (W.contents writer.new) served.status) }
     ensures fails { IfErr result (λ e. (h : History) → Stands S.Store docket.old h
         → HasCleanDisk (state S.Store docket.new.conn)
-        → Fails S.Store routes.now (R.remaining reader.old) docket.old docket.new h
+        → Fails S.Store routes.now fresh (R.remaining reader.old) docket.old docket.new h
         (W.contents writer.old) (W.contents writer.new) e) }
     // For any docket, a command whose reply is written has its receipt.
     ensures recorded { HoldsDocketRows S.Store docket.old
-        → ServesBacked S.Store routes.now (R.remaining reader.old) docket.new (W.contents writer.old) (W.contents writer.new) result }
+        → ServesBacked S.Store routes.now fresh (R.remaining reader.old) docket.new (W.contents writer.old) (W.contents writer.new) result }
     // If no request was read, nothing was written and the docket is as it was.
     ensures untouched { IfErr result (λ e. (e ≡ ServeFault.ReadFailed) ⊎ (e ≡ ServeFault.EndedEarly)
         → (docket.new ≡ docket.old) × Keeps (W.contents writer.old) (W.contents writer.new)) }
     // A copy is wanted where a request asks an open docket for one, and nowhere else.
     ensures copy { result ≡ Err ServeFault.CopyWanted
-        → WantsCopy routes.now (R.remaining reader.old) docket.old docket.new × (writer.new ≡ writer.old) }
+        → WantsCopy routes.now fresh (R.remaining reader.old) docket.old docket.new × (writer.new ≡ writer.old) }
 {
-    let request = match read_request(alloc, reader, routes) {
+    let request = match read_request(alloc, reader, routes, fresh) {
         Ok(request) => request,
         Err(InputFault::NoMemory) => return send(writer, &Reply::Fixed(Problem::NoMemory)),
         Err(InputFault::ReadFailed) => return Err(ServeFault::ReadFailed),

@@ -1,2 +1,3 @@
 mod ListLemmas
+mod ReasonLemmas
 pub mod TellLemmas

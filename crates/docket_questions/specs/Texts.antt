@@ -1,5 +1,5 @@
 -- The texts and the pages that answer questions to the docket of a history.
-use Rattle.std.specs.Prelude.{ℕ, ◌+◌, ◌-◌, List, [], ◌++◌, take, drop, max, nat_le, if◌then◌else◌, Option, Some, None}
+use Rattle.std.specs.Prelude.{ℕ, ◌+◌, ◌-◌, List, [], ◌++◌, take, drop, max, nat_le, if◌then◌else◌, codes, Option, Some, None}
 use Rattle.std.specs.List.{flat_map}
 use Rattle.std.specs.Option.{option_map}
 use Rattle.court_days.specs.Calendar.{Entered}
@@ -13,20 +13,23 @@ use Rattle.docket_history.specs.declared.record.CaseRecord.{CaseRecord}
 use Rattle.docket_history.specs.declared.record.DeadlineLine.{DeadlineLine}
 use Rattle.docket_history.specs.declared.record.DueRow.{DueRow}
 use Rattle.docket_history.specs.declared.row.CaseRow.{CaseRow}
+use Rattle.docket_history.specs.declared.row.LocalRuleRow.{LocalRuleRow}
 use Rattle.docket_history.specs.declared.view.DeadlineView.{DeadlineView}
 use Rattle.docket_questions.specs.declared.telling.Telling.{Telling}
 use Rattle.docket_questions.specs.declared.telling.Telling.TheVariants.{Page, Sheet, Text}
 use Rattle.docket_text.specs.CaseTexts.{case_text, deadlines_text}
+use Rattle.docket_text.specs.RuleTexts.{rules_text}
 use Rattle.html_sheets.specs.Pages.{page_foot, page_head}
 use Rattle.html_sheets.specs.Sheets.{case_sheet}
-use Rattle.html_sheets.specs.Sites.{case_page, cases_page, days_page_foot, days_page_head}
+use Rattle.html_sheets.specs.Sites.{case_page, cases_page, days_page_foot, days_page_head, reasons_page, text_page}
 use Rattle.html_sheets.specs.Weeks.{due_row}
 use Rattle.html_sheets.specs.declared.links.Links.TheVariants.{Pages}
+use Rattle.html_sheets.specs.declared.links.Links.TheVariants as links
 use Rattle.reason_lines.specs.Lines.{reasons_text}
 
--- the docket sheet of a case with its deadlines, as a page
+-- the docket sheet of a case with its deadlines, as a page that leads nowhere
 abbrev pub sheet_page : CourtSettings → CaseRecord → List DeadlineLine → List ℕ
-sheet_page court case lines = page_head case.label ++ (case_sheet court case lines ++ page_foot)
+sheet_page court case lines = page_head case.label ++ (case_sheet links.None court case lines ++ page_foot)
 
 -- a case with its deadlines, in this form
 abbrev pub case_told : Telling → CourtSettings → CaseRecord → List DeadlineLine → List ℕ
@@ -61,6 +64,14 @@ reasons_of court calendar deadline = reasons_text court calendar (Some deadline.
 -- the steps for the deadline with this number, from 1, in a case, if there is one
 abbrev pub text_of_reasons : CourtSettings → History → ℕ → ℕ → Option (List ℕ)
 text_of_reasons court h case number = option_map (reasons_of court (calendar h)) (deadline_at (deadlines case h) number)
+
+-- the page of these steps
+abbrev pub page_of_reasons : CourtSettings → History → ℕ → ℕ → Option (List ℕ)
+page_of_reasons court h case number = option_map (reasons_page case number) (text_of_reasons court h case number)
+
+-- the page of the rules by which the deadlines run: those of the table, and the docket's own
+abbrev pub rules_page : List LocalRuleRow → List ℕ
+rules_page rows = text_page (codes "Rules") (rules_text rows)
 
 -- at most a hundred cases from a number on, in the order of their numbers
 abbrev pub cases_from : History → ℕ → List CaseRow

@@ -10,11 +10,13 @@ mod question;
 mod reasons;
 mod sheets;
 mod telling;
+mod why_page;
 
 pub use cases::{CaseText, DeadlinesText};
-pub use court::{CourtCalendarText, RulesText};
+pub use court::{CourtCalendarText, CourtDaysPage, RulesPage, RulesText};
 pub use days::DaysPage;
 pub use lists::CasesPage;
 pub use question::Question;
 pub use reasons::ReasonsText;
 pub use sheets::{CasePage, CaseSheet};
+pub use why_page::ReasonsPage;

@@ -13,7 +13,11 @@ use sqlite::Alter;
 use std::alloc::{AllocError, Global};
 
 /// The text of the steps by which a deadline's standing is found.
-fn text_of_grounds(alloc: Global, court: &Court, grounds: &Grounds) -> Result<String, AllocError>
+pub(crate) fn text_of_grounds(
+    alloc: Global,
+    court: &Court,
+    grounds: &Grounds,
+) -> Result<String, AllocError>
     requires { AreActs (zone_of court.now) grounds.now.deadline.acts }
     ensures { IfOk result (λ text. string_bytes text ≡ reasons_of court.now grounds.now.calendar grounds.now.deadline) }
 {

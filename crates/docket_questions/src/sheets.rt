@@ -7,7 +7,7 @@ use crate::telling::{Telling, tell_case};
 use court_days::Court;
 use docket_history::{CaseRecord, DeadlineLine};
 use docket_store::{Docket, Fault};
-use html_sheets::{case_sheet, page_foot, page_head};
+use html_sheets::{Links, case_sheet, page_foot, page_head};
 use sqlite::Alter;
 use std::alloc::{AllocError, Global};
 
@@ -21,7 +21,7 @@ pub(crate) fn sheet_page(
     ensures { IfOk result (λ text. string_bytes text ≡ sheet_page court.now case.now lines.now) }
 {
     let mut page = page_head(alloc, case.label.as_str())?;
-    let sheet = case_sheet(alloc, court, case, lines)?;
+    let sheet = case_sheet(alloc, Links::None, court, case, lines)?;
     page.push_str(&sheet)?;
     page.push_str(page_foot())?;
     Ok(page)

@@ -2,3 +2,4 @@ mod RunLemmas
 mod StepLemmas
 mod GuardLemmas
 mod WaitingLemmas
+pub mod LedLemmas

@@ -1,5 +1,5 @@
 -- The outcomes of connections, as their source reports them.
-use Rattle.std.specs.Prelude.{◌≡◌, ◌≤◌, ◌<◌, ◌==◌, ℕ, Bool, true, false, List, [], ◌∷◌, ◌++◌, length, Option, Some, None, Result, Ok, Err, ⊤}
+use Rattle.std.specs.Prelude.{◌≡◌, ◌≤◌, ◌<◌, ◌==◌, ◌+◌, ◌%◌, ◌^◌, ℕ, Bool, true, false, List, [], ◌∷◌, ◌++◌, length, Option, Some, None, Result, Ok, Err, ⊤}
 use Rattle.std.specs.List.{AllByRecursion}
 use Rattle.docket_http.specs.declared.fault.ServeFault.{ServeFault}
 use Rattle.docket_http.specs.declared.fault.ServeFault.TheVariants.{CopyWanted, StoreFailed}
@@ -22,6 +22,15 @@ abbrev pub Logs : Option (List Exchange) → Option (List Exchange) → List Exc
 Logs None new more = ⊤
 Logs (Some old) None more = ⊥
 Logs (Some old) (Some new) more = new ≡ old ++ more
+
+-- each connection has a number, one more than that of the one before it, and 0 after the greatest
+abbrev pub next_number : ℕ → ℕ
+next_number n = (n + 1) % 2 ^ 64
+
+-- the number of the connection behind these, of which the first has this number
+abbrev pub number_after : List Exchange → ℕ → ℕ
+number_after [] n = n
+number_after (e ∷ rest) n = number_after rest (next_number n)
 
 -- whether an end reports that the docket failed
 abbrev pub tells_failure : Result Served ServeFault → Bool

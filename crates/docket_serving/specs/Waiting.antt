@@ -2,16 +2,16 @@
 use Rattle.std.specs.Prelude.{◌≡◌, List, [], ◌∷◌, ◌++◌, map, All}
 use Rattle.patient_stream.specs.declared.stream.Stream.{Stream}
 use Rattle.http_request.specs.Request.{EndsEarly}
-use Rattle.http_request.specs.declared.page.Routes.TheVariants.{Docket}
+use Rattle.http_request.specs.declared.page.Routes.{Routes}
 use Rattle.docket_serving.specs.declared.caller.Caller.{Caller}
 
 -- their connections, the oldest first
 abbrev pub streams : List Caller → List Stream
 streams callers = map (λ (c : Caller). c.stream) callers
 
--- what was read of each is no whole request yet
-abbrev pub AreUnready : List Caller → Type 0
-AreUnready callers = All (λ (c : Caller). EndsEarly Docket c.came.items) callers
+-- what was read of each is no whole request yet, where these routes are served
+abbrev pub AreUnready : Routes → List Caller → Type 0
+AreUnready routes callers = All (λ (c : Caller). EndsEarly routes c.came.items) callers
 
 -- one was taken out, and the others stay in their order
 abbrev pub IsTakenOut : {A : Type 0} → A → List A → List A → Type 0

@@ -1,7 +1,6 @@
 //! A connection that waits until its request has come.
 ghost use Rattle.std.specs.Prelude.{◌≡◌, ◌++◌, ℕ, List, [], false};
 ghost use Rattle.http_request.specs.Request.{EndsEarly};
-ghost use Rattle.http_request.specs.declared.page.Routes.TheVariants as routes;
 
 use http_request::{InputFault, Routes, read_request};
 use patient_stream::Stream;
@@ -34,12 +33,13 @@ pub(crate) struct Caller {
     begun: Option<Instant>,
 }
 
-/// Whether the bytes are enough: no more has to come of a request to the docket, or none can.
-fn is_whole(alloc: Global, came: &[u8]) -> bool
-    ensures { result ≡ false → EndsEarly routes.Docket came.now }
+/// Whether the bytes are enough: no more has to come of a request by these routes, or none can. No form is
+/// shown here, so any number serves as its connection's.
+fn is_whole(alloc: Global, came: &[u8], routes: &Routes) -> bool
+    ensures { result ≡ false → EndsEarly routes.now came.now }
 {
     let mut rest = came;
-    match read_request(alloc, &mut rest, &Routes::Docket) {
+    match read_request(alloc, &mut rest, routes, 0) {
         Err(InputFault::EndedEarly) => false,
         _ => true,
     }
@@ -120,13 +120,13 @@ impl Caller {
         self.begun.is_some()
     }
 
-    /// Reads what has come, and returns whether it can be attended to. It can after a whole request, bytes
-    /// that can be no request, the end of the input, or the end of the wait.
-    pub(crate) fn is_ready<C: Clock>(&mut self, alloc: Global, clock: &C) -> bool
+    /// Reads what has come, and returns whether it can be attended to. It can after a whole request by these
+    /// routes, bytes that can be no request, the end of the input, or the end of the wait.
+    pub(crate) fn is_ready<C: Clock>(&mut self, alloc: Global, clock: &C, routes: &Routes) -> bool
         ensures stream { self.new.stream ≡ self.old.stream }
-        ensures waits { result ≡ false → EndsEarly routes.Docket self.new.came.items }
+        ensures waits { result ≡ false → EndsEarly routes.now self.new.came.items }
     {
-        if !self.take_all() || is_whole(alloc, &self.came) {
+        if !self.take_all() || is_whole(alloc, &self.came, routes) {
             return true;
         }
         self.pass_time(clock);

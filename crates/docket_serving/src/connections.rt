@@ -2,7 +2,7 @@
 ghost use Rattle.std.specs.Prelude.{◌≡◌, ◌∷◌, [], List, Option, None, IfOk, OnErr};
 ghost use Rattle.docket_serving.specs.Exchanges.{Exchange, Logs, exchange};
 
-use docket_http::{ServeFault, Served};
+use docket_http::{Routes, ServeFault, Served};
 use std::io;
 use std::io::{Read, Write};
 
@@ -10,6 +10,9 @@ use std::io::{Read, Write};
 pub trait Attendant {
     // What one connection does to the attendant.
     ghost Attends: { Self → Exchange → Self → Type 0 };
+
+    /// The routes by which it reads a request.
+    fn routes(&self) -> &Routes;
 
     /// Attends to one connection: reads its request, and writes the answer.
     fn attend<R: Read, W: Write>(

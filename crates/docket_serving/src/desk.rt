@@ -1,6 +1,6 @@
 //! The desk at which a docket is served.
 ghost use Rattle.std.specs.Prelude.{◌≡◌};
-ghost use Rattle.docket_serving.specs.Exchanges.{wants_copy};
+ghost use Rattle.docket_serving.specs.Exchanges.{next_number, wants_copy};
 
 use crate::connections::Attendant;
 use crate::copying::give_copy;
@@ -11,12 +11,14 @@ use std::alloc::Global;
 use std::io::{Read, Write};
 use std::marker::Model;
 
-/// Keeps a docket in a database, and answers one request of each connection from it. A contract sees the
-/// docket, and which routes are served.
+/// Keeps a docket in a database, and answers one request of each connection from it. Each connection has a
+/// number, one more than that of the one before it, for the forms that it shows. A contract sees the docket,
+/// which routes are served, and the number of the next connection.
 pub struct Desk<'a, S: Alter> {
     alloc: Global,
     docket: Docket<S>,
     routes: Routes,
+    fresh: u64,
     // The files to copy, if the docket is kept in files.
     files: Option<DocketFiles<'a>>,
 }
@@ -28,7 +30,7 @@ impl<'a, S: Alter> Model for Desk<'a, S> {
 
     ghost coded = { desk_code S.code };
 
-    ghost view = { λ desk. record { docket = desk.docket; routes = desk.routes } };
+    ghost view = { λ desk. record { docket = desk.docket; routes = desk.routes; fresh = desk.fresh } };
 }
 
 impl<S: Alter + Drop> Drop for Desk<'_, S> {
@@ -38,26 +40,29 @@ impl<S: Alter + Drop> Drop for Desk<'_, S> {
 }
 
 impl<'a, S: Alter> Desk<'a, S> {
-    /// A desk that serves these routes of the docket, with copies of the files in which it is kept.
+    /// A desk that serves these routes of the docket, with copies of the files in which it is kept. `fresh` is
+    /// the number of the first connection.
     pub fn new(
         alloc: Global,
         docket: Docket<S>,
         routes: Routes,
         files: Option<DocketFiles<'a>>,
+        fresh: u64,
     ) -> Desk<'a, S>
-        ensures { result ≡ record { docket = docket; routes = routes } }
+        ensures { result ≡ record { docket = docket; routes = routes; fresh = fresh } }
     {
         Desk {
             alloc,
             docket,
             routes,
+            fresh,
             files,
         }
     }
 
     /// Serves these routes from now on.
     pub fn show(&mut self, routes: Routes)
-        ensures { self.new ≡ record { docket = self.old.docket; routes = routes } }
+        ensures { self.new ≡ record { docket = self.old.docket; routes = routes; fresh = self.old.fresh } }
     {
         self.routes = routes;
     }
@@ -70,6 +75,7 @@ impl<'a, S: Alter> Desk<'a, S> {
             alloc: _,
             docket,
             routes: _,
+            fresh: _,
             files: _,
         } = self;
         docket
@@ -88,12 +94,27 @@ impl<S: Alter> Attendant for Desk<'_, S> {
 
     ghost Attends = { λ old e new. DeskAttends S.Store old e new };
 
+    fn routes(&self) -> &Routes
+        ensures { result.now ≡ self.now.routes }
+    {
+        &self.routes
+    }
+
     fn attend<R: Read, W: Write>(
         &mut self,
         reader: &mut R,
         writer: &mut W,
     ) -> Result<Served, ServeFault> {
-        let served = serve_one(self.alloc, reader, writer, &mut self.docket, &self.routes);
+        let fresh = self.fresh;
+        self.fresh = fresh.wrapping_add(1);
+        let served = serve_one(
+            self.alloc,
+            reader,
+            writer,
+            &mut self.docket,
+            &self.routes,
+            fresh,
+        );
         if is_copy_wanted(&served) {
             return give_copy(self.alloc, self.files, writer);
         }

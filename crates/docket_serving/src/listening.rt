@@ -6,7 +6,7 @@ use crate::caller::{Caller, PATIENCE};
 use crate::connections::{Attendant, Connections};
 use crate::parting::part;
 use crate::waiting::{MOST, Waiting};
-use docket_http::{ServeFault, Served};
+use docket_http::{Routes, ServeFault, Served};
 use mio::unix::SourceFd;
 use mio::{Events, Interest, Poll, Token};
 use patient_stream::{Listener, PatientReader, PatientWriter, Stream};
@@ -85,11 +85,11 @@ impl<'a> Listening<'a> {
         self.poll.poll(&mut self.events, most)
     }
 
-    /// Returns the next caller to attend to. It looks at all that came before each wait: a wait reports only
-    /// what came since.
-    fn next_caller(&mut self) -> io::Result<Caller> {
+    /// Returns the next caller whose request by these routes can be attended to. It looks at all that came
+    /// before each wait: a wait reports only what came since.
+    fn next_caller(&mut self, routes: &Routes) -> io::Result<Caller> {
         for _ in 0..u64::MAX {
-            if let Some(caller) = self.waiting.take_ready(self.rt) {
+            if let Some(caller) = self.waiting.take_ready(self.rt, routes) {
                 return Ok(caller);
             }
             if !self.admit()? {
@@ -121,7 +121,7 @@ impl Connections for Listening<'_> {
         &mut self,
         attendant: &mut A,
     ) -> io::Result<(Stream, Result<Served, ServeFault>)> {
-        let caller = self.next_caller()?;
+        let caller = self.next_caller(attendant.routes())?;
         caller.stream.set_nonblocking(false)?;
         let served = attend_patiently(self.rt, &caller, attendant);
         part(self.rt, &caller.stream, &served);

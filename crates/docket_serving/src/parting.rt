@@ -12,10 +12,11 @@ const FAREWELL: u64 = 1;
 /// The most pieces that are read and dropped.
 const MAX_PIECES: u32 = 1024;
 
-/// Whether an answer went out that may have come before the whole request was read.
+/// Whether an answer went out that may have come before the whole request was read. An answer of one of
+/// these statuses comes after the whole body; one of any other may answer the head alone.
 fn is_early(served: &Result<Served, ServeFault>) -> bool {
     match served {
-        Ok(served) => served.status != 200 && served.status != 409,
+        Ok(served) => !matches!(served.status, 200 | 303 | 409),
         Err(_) => false,
     }
 }

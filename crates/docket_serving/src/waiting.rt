@@ -3,6 +3,7 @@ ghost use Rattle.std.specs.Prelude.{◌≡◌, ◌<◌, ◌≤◌, [], ◌∷◌
 ghost use Rattle.docket_serving.specs.Waiting.{streams, AreUnready, IsTakenOut, JoinsBehind};
 
 use crate::caller::Caller;
+use docket_http::Routes;
 use std::alloc::{AllocError, Global};
 use std::rt::HostRuntime;
 
@@ -52,14 +53,15 @@ impl Waiting {
         Some(oldest)
     }
 
-    /// Takes the oldest that can be attended to off the list. Returns `None` if nobody's request has come.
-    pub(crate) fn take_ready(&mut self, rt: &HostRuntime) -> Option<Caller>
+    /// Takes the oldest that can be attended to off the list. Returns `None` if nobody's request by these routes
+    /// has come.
+    pub(crate) fn take_ready(&mut self, rt: &HostRuntime, routes: &Routes) -> Option<Caller>
         ensures some { IfSome result (λ ready. IsTakenOut ready.stream (streams self.old.all.items) (streams self.new.all.items)) }
         ensures none { IfNone result (streams self.new.all.items ≡ streams self.old.all.items) }
-        ensures unready { IfNone result (AreUnready self.new.all.items) }
+        ensures unready { IfNone result (AreUnready routes.now self.new.all.items) }
     {
         for at in 0..self.all.len() {
-            if self.all[at].is_ready(rt.alloc(), rt) {
+            if self.all[at].is_ready(rt.alloc(), rt, routes) {
                 return Some(self.all.remove(at));
             }
         }

@@ -11,9 +11,12 @@ ghost use Rattle.docket_tables.specs.Layouts.{Rows};
 ghost use Rattle.docket_tables.specs.Stands.{IsImageIn};
 ghost use Rattle.docket_store.specs.Left.{IsUnharmed, LeavesRows};
 ghost use Rattle.docket_store.specs.Reopening.{HoldDocket, HoldRows};
+ghost use Rattle.docket_applying.specs.Applying.{IsDocket};
 ghost use Rattle.docket_applying.specs.CourtDockets.{CourtDocket as Told};
 ghost use Rattle.file_dockets.specs.Adopting.{IsJudged};
 ghost use Rattle.file_dockets.specs.Keeping.{rows_told};
+ghost use Rattle.file_dockets.specs.Works.{WorksTo};
+ghost use Rattle.file_serving.specs.Left.{LeavesServed};
 ghost use Rattle.file_serving.specs.Serves.{IfUnserved};
 
 use crate::serving::{Serve, ServeEnd, Service};
@@ -34,6 +37,9 @@ pub fn serve_on_file<S: Start, V: Watch + Drop, W: Write, E: Write>(
     w: &mut W,
     e: &mut E,
 ) -> OnFile<S, Result<(), ServeEnd>>
+    // The docket is led by the connections alone, and it ends as they do.
+    ensures serves { (told : Told) → IsDocket told.court told.history → HoldDocket (image_at S.Start) told.court told.history
+        → IfOk result (λ done. IsCleanLeft done.left → WorksTo (LeavesServed (LeavesRows done.left) told service.now) done.outcome) }
     // Where no connection was waited for, the docket stays.
     ensures stays { (told : Told) → HoldDocket (image_at S.Start) told.court told.history
         → IfOk result (λ done. IsCleanLeft done.left → IfUnserved done.outcome (LeavesRows done.left (rows_told told) (rows_told told))) }

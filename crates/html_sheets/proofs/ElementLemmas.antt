@@ -22,16 +22,26 @@ pub case_parts : (link label filed caption : List ℕ)
     ≡ row (head_cell link ++ (cell label ++ (cell filed ++ cell caption)))
 case_parts link label filed caption = simp (append_assoc, element-then) refl
 
--- of a party or an entry
+-- of an entry
 pub three_parts : (number first second : List ℕ)
     → codes "<tr><th scope=\"row\" class=\"number\">" ++ (number ++ (codes "</th><td>" ++ (first ++ (codes "</td><td>" ++ (second ++ codes "</td></tr>\n")))))
     ≡ row (head_cell number ++ (cell first ++ cell second))
 three_parts number first second = simp (append_assoc, element-then) refl
 
-pub deadline_parts : (number party rule standing : List ℕ)
-    → codes "<tr><th scope=\"row\" class=\"number\">" ++ (number ++ (codes "</th><td class=\"number\">" ++ (party ++ (codes "</td><td>" ++ (rule ++ (codes "</td><td class=\"number\">" ++ (standing ++ codes "</td></tr>\n")))))))
-    ≡ row (head_cell number ++ (number_cell party ++ (cell rule ++ number_cell standing)))
-deadline_parts number party rule standing = simp (append_assoc, element-then) refl
+pub party_parts : (number role name serve : List ℕ)
+    → codes "<tr><th scope=\"row\" class=\"number\">" ++ (number ++ (codes "</th><td>" ++ (role ++ (codes "</td><td>" ++ (name ++ (serve ++ codes "</td></tr>\n"))))))
+    ≡ row (head_cell number ++ (cell role ++ cell (name ++ serve)))
+party_parts number role name serve = simp (append_assoc, element-then) refl
+
+pub calendar_parts : (number item name : List ℕ)
+    → codes "<tr><th scope=\"row\" class=\"number\">" ++ (number ++ (codes "</th><td class=\"number\">" ++ (item ++ (codes "</td><td>" ++ (name ++ codes "</td></tr>\n")))))
+    ≡ row (head_cell number ++ (number_cell item ++ cell name))
+calendar_parts number item name = simp (append_assoc, element-then) refl
+
+pub deadline_parts : (number party name rule standing : List ℕ)
+    → codes "<tr><th scope=\"row\" class=\"number\">" ++ (number ++ (codes "</th><td>" ++ (party ++ (codes " " ++ (name ++ (codes "</td><td>" ++ (rule ++ (codes "</td><td class=\"number\">" ++ (standing ++ codes "</td></tr>\n")))))))))
+    ≡ row (head_cell number ++ (cell (party ++ (codes " " ++ name)) ++ (cell rule ++ number_cell standing)))
+deadline_parts number party name rule standing = simp (append_assoc, element-then) refl
 
 -- what is shown of a case
 pub said_parts : (number label caption filed : List ℕ)
@@ -93,6 +103,24 @@ two_more_parts earlier later = simp (append_assoc, element-then) refl
 -- a text to which another is added
 pub added : {old new text more last : List ℕ} → new ≡ old ++ more → old ≡ text → more ≡ last → new ≡ text ++ last
 added is before behind = is ∙ ap₂ (λ (a b : List ℕ). a ++ b) before behind
+
+-- links to forms, and a link back to a case
+pub enter_parts : (links : List ℕ)
+    → codes "<nav aria-label=\"Enter\">\n" ++ (links ++ codes "</nav>\n") ≡ nav (codes "Enter") (codes "\n" ++ links) ++ codes "\n"
+enter_parts links = simp element-then refl
+
+pub back_parts : (link : List ℕ)
+    → codes "<p>Case " ++ (link ++ codes "</p>\n") ≡ element (codes "p") [] (codes "Case " ++ link) ++ codes "\n"
+back_parts link = simp element-then refl
+
+pub three_joined : (old a b c : List ℕ) → ((old ++ a) ++ b) ++ c ≡ old ++ (a ++ (b ++ c))
+three_joined old a b c = simp append_assoc refl
+
+pub five_joined : (a b c d e : List ℕ) → (((a ++ b) ++ c) ++ d) ++ e ≡ a ++ (b ++ (c ++ (d ++ e)))
+five_joined a b c d e = simp append_assoc refl
+
+pub six_joined : (a b c d e f : List ℕ) → ((((a ++ b) ++ c) ++ d) ++ e) ++ f ≡ a ++ (b ++ (c ++ (d ++ (e ++ f))))
+six_joined a b c d e f = simp append_assoc refl
 
 pub four_joined : (a b c d : List ℕ) → ((a ++ b) ++ c) ++ d ≡ a ++ (b ++ (c ++ d))
 four_joined a b c d = simp append_assoc refl

@@ -11,20 +11,30 @@ use Rattle.court_days.specs.declared.filing.End.TheVariants.{LastDay, Moment}
 use Rattle.docket_history.specs.declared.record.CaseRecord.{CaseRecord}
 use Rattle.docket_history.specs.declared.record.DeadlineLine.{DeadlineLine}
 use Rattle.docket_history.specs.declared.record.DueRow.{DueRow}
+use Rattle.docket_command.specs.Names.{command_word}
+use Rattle.docket_command.specs.declared.command_name.CommandName.{CommandName}
+use Rattle.docket_command.specs.declared.command_name.CommandName.TheVariants.{ServeSummons, ServePleading}
+use Rattle.docket_history.specs.declared.row.CalendarRow.{CalendarRow}
 use Rattle.docket_history.specs.declared.row.CaseRow.{CaseRow}
 use Rattle.docket_history.specs.declared.row.EntryRow.{EntryRow}
 use Rattle.docket_history.specs.declared.row.PartyRow.{PartyRow}
-use Rattle.html_sheets.specs.Elements.{element, told, day_told, weekday_told, link, nav, case_link, case_number, cell, number_cell, head_cell, row}
+use Rattle.docket_text.specs.Parties.{party_text}
+use Rattle.html_sheets.specs.Elements.{element, told, day_told, weekday_told, link, nav, case_link, case_number, deadline_number, cell, number_cell, head_cell, row, table_foot}
+use Rattle.html_sheets.specs.Entering.{about_text, enter_link, enter_line, enter_nav, daily_kinds, deadline_kinds, calendar_kinds, serve_links}
 use Rattle.html_sheets.specs.Escapes.{escaped}
 use Rattle.html_sheets.specs.Marks.{is_mark, marks}
-use Rattle.html_sheets.specs.Pages.{style_text, page_head, page_foot, cases_head, case_row, cases_foot}
-use Rattle.html_sheets.specs.Sheets.{said, case_head, parties_head, party_row, parties_table, entries_head, entry_row, entries_table, deadlines_head, deadline_row, deadlines_table, case_sheet}
-use Rattle.html_sheets.specs.Sites.{site_nav, cases_link, more_nav, more_cases, cases_page, case_page, days_page_head}
+use Rattle.html_sheets.specs.Pages.{page_head, page_foot, cases_head, case_row, cases_foot}
+use Rattle.html_sheets.specs.Sheets.{said, case_head, entering, parties_head, party_row, party_told, name_of, party_at, parties_table, entries_head, entry_row, entries_table, deadlines_head, deadline_row, deadlines_table, case_sheet}
+use Rattle.html_sheets.specs.Sites.{site_nav, cases_link, more_nav, more_cases, cases_page, case_page, days_page_head, text_told, text_page, reasons_title, case_back, reasons_page, calendar_told, calendar_row, calendar_head, court_days_page}
+use Rattle.html_sheets.specs.Styles.{style_text}
+use Rattle.html_sheets.specs.Titles.{title_of}
 use Rattle.html_sheets.specs.Weeks.{week_before, week_after, days_link, due_columns, days_told, days_head, week_head, end_cells, end_of_row, due_row}
+use Rattle.html_sheets.specs.declared.about.About.{About}
+use Rattle.html_sheets.specs.declared.about.About.TheVariants.{Nothing, Case, Party, Deadline}
 use Rattle.html_sheets.specs.declared.links.Links.{Links}
 use Rattle.html_sheets.specs.declared.links.Links.TheVariants.{Pages, None}
 use Rattle.html_sheets.proofs.MarkLemmas.{IsBare, decimal_bare, day_bare, close_bare, local_bare, party_bare, role_bare, weekday_bare, standing_bare}
-use Rattle.html_sheets.proofs.TextLemmas.{escaped-marks}
+use Rattle.html_sheets.proofs.TextLemmas.{escaped-marks, lined-marks}
 
 -- the marks are the same
 pub record Same (xs ys : List ℕ) : Type 0 where
@@ -78,6 +88,47 @@ case_numbers : (lead : Links) (a b : ℕ) → Same (case_number lead a) (case_nu
 case_numbers Pages a b = case_links a b
 case_numbers None a b = bare (decimal_bare a) (decimal_bare b)
 
+deadline_numbers : (lead : Links) (c d a b : ℕ) → Same (deadline_number lead c a) (deadline_number lead d b)
+deadline_numbers Pages c d a b =
+    let numbers = bare (decimal_bare a) (decimal_bare b) in
+    links _ _ _ _ (behind (codes "/pages/cases/") _ _ (both (decimal c) (decimal d) _ _ (bare (decimal_bare c) (decimal_bare d)) (behind (codes "/deadlines/") _ _ numbers))) numbers
+deadline_numbers None c d a b = bare (decimal_bare a) (decimal_bare b)
+
+-- links to the same forms, whatever they are filled in with
+cases_about : (c d : ℕ) → Same (about_text (Case c)) (about_text (Case d))
+cases_about c d = behind (codes "?case=") _ _ (bare (decimal_bare c) (decimal_bare d))
+
+parties_about : (c d p q : ℕ) → Same (about_text (Party c p)) (about_text (Party d q))
+parties_about c d p q =
+    behind (codes "?case=") _ _ (both (decimal c) (decimal d) _ _ (bare (decimal_bare c) (decimal_bare d)) (behind (codes "&amp;party=") _ _ (bare (decimal_bare p) (decimal_bare q))))
+
+deadlines_about : (c d p q : ℕ) → Same (about_text (Deadline c p)) (about_text (Deadline d q))
+deadlines_about c d p q =
+    behind (codes "?case=") _ _ (both (decimal c) (decimal d) _ _ (bare (decimal_bare c) (decimal_bare d)) (behind (codes "&amp;deadline=") _ _ (bare (decimal_bare p) (decimal_bare q))))
+
+enter_links : (a b : About) (kind : CommandName) → Same (about_text a) (about_text b) → Same (enter_link a kind) (enter_link b kind)
+enter_links a b kind s = links _ _ (title_of kind) (title_of kind) (behind (codes "/pages/enter/") _ _ (behind (command_word kind) _ _ s)) same
+
+enter_lines : (a b : About) (kinds : List CommandName) → Same (about_text a) (about_text b) → Same (flat_map (enter_line a) kinds) (flat_map (enter_line b) kinds)
+enter_lines a b [] s = same
+enter_lines a b (kind ∷ kinds) s = both (enter_line a kind) (enter_line b kind) _ _ (before _ _ (codes "\n") (enter_links a b kind s)) (enter_lines a b kinds s)
+
+enter_navs : (a b : About) (kinds : List CommandName) → Same (about_text a) (about_text b) → Same (enter_nav a kinds) (enter_nav b kinds)
+unfolding enter_nav
+enter_navs a b kinds s = before _ _ (codes "\n") (navs (codes "Enter") _ _ (behind (codes "\n") _ _ (enter_lines a b kinds s)))
+
+serves : (lead : Links) (c d p q : ℕ) → Same (serve_links lead c p) (serve_links lead d q)
+serves Pages c d p q =
+    let about = parties_about c d p q in
+    behind (codes " ") _ _ (within (codes "span") _ _ _ _ same (
+    both _ _ _ _ (enter_links (Party c p) (Party d q) ServeSummons about)
+    (behind (codes " ") _ _ (enter_links (Party c p) (Party d q) ServePleading about))))
+serves None c d p q = same
+
+enterings : (lead : Links) (c d : ℕ) → Same (entering lead c) (entering lead d)
+enterings Pages c d = enter_navs (Case c) (Case d) daily_kinds (cases_about c d)
+enterings None c d = same
+
 cells : (a b : List ℕ) → Same a b → Same (cell a) (cell b)
 cells a b = within (codes "td") [] [] a b same
 
@@ -107,11 +158,12 @@ page_heads a b =
     (behind (codes "\n</head>\n<body>\n<main>\n") _ _
     (before _ _ (codes "\n") (within (codes "h1") [] [] _ _ same (tolds a b))))))))
 
-pub party_rows : (a b : PartyRow) → Same (party_row a) (party_row b)
+pub party_rows : (lead : Links) (c d : ℕ) (a b : PartyRow) → Same (party_row lead c a) (party_row lead d b)
 unfolding party_row
-party_rows a b = rows _ _ (
+party_rows lead c d a b = rows _ _ (
     both _ _ _ _ (head_cells _ _ (bare (decimal_bare a.number) (decimal_bare b.number)))
-    (both _ _ _ _ (cells _ _ (bare (role_bare a.role) (role_bare b.role))) (cells _ _ (tolds a.name b.name))))
+    (both _ _ _ _ (cells _ _ (bare (role_bare a.role) (role_bare b.role)))
+    (cells _ _ (both _ _ _ _ (tolds a.name b.name) (serves lead c d a.number b.number)))))
 
 pub entry_rows : (a b : EntryRow) → Same (entry_row a) (entry_row b)
 unfolding entry_row
@@ -119,11 +171,16 @@ entry_rows a b = rows _ _ (
     both _ _ _ _ (head_cells _ _ (bare (decimal_bare a.number) (decimal_bare b.number)))
     (both _ _ _ _ (cells _ _ (days a.day b.day)) (cells _ _ (tolds a.text b.text))))
 
-pub deadline_rows : (court place : CourtSettings) (a b : DeadlineLine) → Same (deadline_row court a) (deadline_row place b)
+parties_told : (xs ys : List PartyRow) (a b : ℕ) → Same (party_told xs a) (party_told ys b)
+parties_told xs ys a b =
+    both (party_text a) (party_text b) _ _ (bare (party_bare a) (party_bare b)) (behind (codes " ") _ _ (tolds (name_of (party_at xs a)) (name_of (party_at ys b))))
+
+pub deadline_rows : (lead : Links) (court place : CourtSettings) (case other : CaseRecord) (a b : DeadlineLine)
+    → Same (deadline_row lead court case a) (deadline_row lead place other b)
 unfolding deadline_row
-deadline_rows court place a b = rows _ _ (
-    both _ _ _ _ (head_cells _ _ (bare (decimal_bare a.number) (decimal_bare b.number)))
-    (both _ _ _ _ (number_cells _ _ (bare (party_bare a.party) (party_bare b.party)))
+deadline_rows lead court place case other a b = rows _ _ (
+    both _ _ _ _ (head_cells _ _ (deadline_numbers lead case.number other.number a.number b.number))
+    (both _ _ _ _ (cells _ _ (parties_told case.parties other.parties a.party b.party))
     (both _ _ _ _ (cells _ _ (tolds a.rule b.rule))
     (number_cells _ _ (bare (standing_bare court a.close a.standing) (standing_bare place b.close b.standing))))))
 
@@ -146,26 +203,29 @@ case_heads a b =
     (both _ _ _ _ (saids (codes "Caption") _ _ (tolds a.caption b.caption))
     (before _ _ (codes "</dl>\n") (saids (codes "Filed") _ _ (days a.filed b.filed))))))
 
-party_tables : (xs ys : List PartyRow) → length xs ≡ length ys → Same (parties_table xs) (parties_table ys)
+party_tables : (lead : Links) (case other : CaseRecord) → length case.parties ≡ length other.parties → Same (parties_table lead case) (parties_table lead other)
 unfolding parties_table
-party_tables xs ys e = behind parties_head _ _ (before _ _ _ (all_rows party_row party_row party_rows xs ys e))
+party_tables lead case other e =
+    behind parties_head _ _ (before _ _ _ (all_rows (party_row lead case.number) (party_row lead other.number) (party_rows lead case.number other.number) case.parties other.parties e))
 
 entry_tables : (xs ys : List EntryRow) → length xs ≡ length ys → Same (entries_table xs) (entries_table ys)
 unfolding entries_table
 entry_tables xs ys e = behind entries_head _ _ (before _ _ _ (all_rows entry_row entry_row entry_rows xs ys e))
 
-deadline_tables : (court place : CourtSettings) (xs ys : List DeadlineLine) → length xs ≡ length ys → Same (deadlines_table court xs) (deadlines_table place ys)
+deadline_tables : (lead : Links) (court place : CourtSettings) (case other : CaseRecord) (xs ys : List DeadlineLine) → length xs ≡ length ys
+    → Same (deadlines_table lead court case xs) (deadlines_table lead place other ys)
 unfolding deadlines_table
-deadline_tables court place xs ys e =
-    behind deadlines_head _ _ (before _ _ _ (all_rows (deadline_row court) (deadline_row place) (deadline_rows court place) xs ys e))
+deadline_tables lead court place case other xs ys e =
+    behind deadlines_head _ _ (before _ _ _ (all_rows (deadline_row lead court case) (deadline_row lead place other) (deadline_rows lead court place case other) xs ys e))
 
-pub case_sheets : (court place : CourtSettings) (case other : CaseRecord) (deadlines lines : List DeadlineLine)
+pub case_sheets : (lead : Links) (court place : CourtSettings) (case other : CaseRecord) (deadlines lines : List DeadlineLine)
     → length case.parties ≡ length other.parties → length case.entries ≡ length other.entries → length deadlines ≡ length lines
-    → Same (case_sheet court case deadlines) (case_sheet place other lines)
-case_sheets court place case other deadlines lines parties entries count =
+    → Same (case_sheet lead court case deadlines) (case_sheet lead place other lines)
+case_sheets lead court place case other deadlines lines parties entries count =
     both _ _ _ _ (case_heads case other)
-    (both _ _ _ _ (party_tables case.parties other.parties parties)
-    (both _ _ _ _ (entry_tables case.entries other.entries entries) (deadline_tables court place deadlines lines count)))
+    (both _ _ _ _ (enterings lead case.number other.number)
+    (both _ _ _ _ (party_tables lead case other parties)
+    (both _ _ _ _ (entry_tables case.entries other.entries entries) (deadline_tables lead court place case other deadlines lines count))))
 
 days_links : (a b c d : ℕ) (words : List ℕ) → Same (days_link a b words) (days_link c d words)
 days_links a b c d words =
@@ -210,7 +270,7 @@ pub due_rows : (lead : Links) (court place : CourtSettings) (a b : DueRow) (capt
 due_rows lead court place a b caption name = rows _ _ (
     both _ _ _ _ (ends_same court place a.close b.close a.end b.end)
     (both _ _ _ _ (number_cells _ _ (case_numbers lead a.case b.case))
-    (both _ _ _ _ (number_cells _ _ (bare (decimal_bare a.number) (decimal_bare b.number)))
+    (both _ _ _ _ (number_cells _ _ (deadline_numbers lead a.case b.case a.number b.number))
     (both _ _ _ _ (cells _ _ (tolds a.rule b.rule))
     (both _ _ _ _ (number_cells _ _ (bare (party_bare a.party) (party_bare b.party))) (cells _ _ (tolds caption name)))))))
 
@@ -250,7 +310,38 @@ pub case_pages : (court place : CourtSettings) (case other : CaseRecord) (deadli
     → Same (case_page court case deadlines) (case_page place other lines)
 case_pages court place case other deadlines lines parties entries count =
     both _ _ _ _ (page_heads case.label other.label)
-    (behind site_nav _ _ (before _ _ page_foot (case_sheets court place case other deadlines lines parties entries count)))
+    (behind site_nav _ _ (before _ _ page_foot (case_sheets Pages court place case other deadlines lines parties entries count)))
 
 pub days_pages : (a b c d : ℕ) → Same (days_page_head a b) (days_page_head c d)
 days_pages a b c d = behind (page_head (codes "Deadlines")) _ _ (behind site_nav _ _ (week_heads a b c d))
+
+lines : (a b : List ℕ) → Same (text_told a) (text_told b)
+lines a b = before _ _ (codes "\n") (within (codes "pre") [] [] _ _ same (record { is = lined-marks a ∙ sym (lined-marks b) }))
+
+pub text_pages : (title other text words : List ℕ) → Same (text_page title text) (text_page other words)
+text_pages title other text words = both _ _ _ _ (page_heads title other) (behind site_nav _ _ (before _ _ page_foot (lines text words)))
+
+backs : (a b : ℕ) → Same (case_back a) (case_back b)
+backs a b = before _ _ (codes "\n") (within (codes "p") [] [] _ _ same (behind (codes "Case ") _ _ (case_links a b)))
+
+pub reasons_pages : (case other deadline last : ℕ) (text words : List ℕ) → Same (reasons_page case deadline text) (reasons_page other last words)
+reasons_pages case other deadline last text words =
+    both _ _ _ _ (page_heads (reasons_title case deadline) (reasons_title other last))
+    (behind site_nav _ _
+    (both _ _ _ _ (backs case other)
+    (both _ _ _ _ (enter_navs _ _ deadline_kinds (deadlines_about case other deadline last))
+    (before _ _ page_foot (lines text words)))))
+
+calendar_rows : (court place : CourtSettings) (a b : CalendarRow) → Same (calendar_row court a) (calendar_row place b)
+unfolding calendar_told
+calendar_rows court place a b = rows _ _ (
+    both _ _ _ _ (head_cells _ _ (bare (decimal_bare a.number) (decimal_bare b.number)))
+    (both _ _ _ _ (number_cells _ _ (tolds _ _)) (cells _ _ (tolds a.name b.name))))
+
+pub court_days_pages : (court place : CourtSettings) (xs ys : List CalendarRow) → length xs ≡ length ys → Same (court_days_page court xs) (court_days_page place ys)
+court_days_pages court place xs ys count =
+    behind (page_head (codes "Court days")) _ _
+    (behind site_nav _ _
+    (behind (enter_nav Nothing calendar_kinds) _ _
+    (behind calendar_head _ _
+    (before _ _ (table_foot ++ page_foot) (all_rows (calendar_row court) (calendar_row place) (calendar_rows court place) xs ys count)))))

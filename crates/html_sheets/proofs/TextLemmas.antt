@@ -4,7 +4,7 @@ use Rattle.std.specs.Prelude.{codes, None}
 use Rattle.std.proofs.lemmas.Bool.{cond_both}
 use Rattle.std.proofs.lemmas.Bool.Decides.{nat_tests}
 use Rattle.std.proofs.lemmas.List.Elements.{filter-append}
-use Rattle.html_sheets.specs.Escapes.{is_control, blanked_byte, escaped_byte, escaped}
+use Rattle.html_sheets.specs.Escapes.{is_control, blanked_byte, escaped_byte, escaped, lined_byte, lined}
 use Rattle.html_sheets.specs.Marks.{is_mark, marks}
 use Rattle.html_sheets.specs.Reading.{begins_reference, read_from, read_text}
 
@@ -59,6 +59,15 @@ byte_marks = by_byte (λ byte text. filter is_mark text ≡ []) refl refl refl r
 
 pub escaped-marks : (text : List ℕ) → marks (escaped text) ≡ []
 escaped-marks = kept_none is_mark byte_marks
+
+-- nor has a text of several lines
+line_marks : (byte : ℕ) → filter is_mark (lined_byte byte) ≡ []
+unfolding is_mark lined_byte
+line_marks byte = cond_both (byte == 10) _ _ (λ text. filter is_mark text ≡ []) (λ _. refl) (λ _. byte_marks byte)
+
+pub lined-marks : (text : List ℕ) → marks (lined text) ≡ []
+lined-marks [] = refl
+lined-marks (byte ∷ text) = filter-append is_mark (lined_byte byte) (lined text) ∙ rw (line_marks byte, lined-marks text) refl
 
 byte_controls : (byte : ℕ) → filter is_control (escaped_byte byte) ≡ []
 unfolding is_control

@@ -4,7 +4,7 @@ use Rattle.std.specs.List.{flat_map}
 use Rattle.civil_time.specs.Civil.{weekday}
 use Rattle.civil_time.specs.DayText.{day_text}
 use Rattle.docket_text.specs.HolidayNames.{weekday_word}
-use Rattle.html_sheets.specs.Escapes.{escaped}
+use Rattle.html_sheets.specs.Escapes.{escaped, lined}
 use Rattle.html_sheets.specs.declared.links.Links.{Links}
 use Rattle.html_sheets.specs.declared.links.Links.TheVariants.{Pages, None}
 
@@ -15,6 +15,10 @@ element name attributes content = (60 ∷ name) ++ (attributes ++ (62 ∷ conten
 -- a text of the docket: a mark of direction within it has no effect beyond it
 abbrev pub told : List ℕ → List ℕ
 told text = element (codes "bdi") [] (escaped text)
+
+-- a text of several lines, as it stands
+abbrev pub lines_told : List ℕ → List ℕ
+lines_told text = element (codes "pre") [] (lined text)
 
 -- a day
 abbrev pub day_told : ℕ → List ℕ
@@ -40,6 +44,12 @@ case_link number = link (codes "/pages/cases/" ++ decimal number) (decimal numbe
 abbrev pub case_number : Links → ℕ → List ℕ
 case_number Pages number = case_link number
 case_number None number = decimal number
+
+-- a deadline of a case by its number, which leads to its page where there are pages
+abbrev pub deadline_number : Links → ℕ → ℕ → List ℕ
+deadline_number Pages case number =
+    link (codes "/pages/cases/" ++ (decimal case ++ (codes "/deadlines/" ++ decimal number))) (decimal number)
+deadline_number None case number = decimal number
 
 -- cells of a row, of texts and of numbers and times, and the one that heads the row
 abbrev pub cell : List ℕ → List ℕ

@@ -1,8 +1,11 @@
 pub mod Elements
+pub mod Entering
 pub mod Escapes
 pub mod Marks
 pub mod Pages
 pub mod Reading
 pub mod Sheets
 pub mod Sites
+pub mod Styles
+pub mod Titles
 pub mod Weeks

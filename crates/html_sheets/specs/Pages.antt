@@ -3,16 +3,7 @@ use Rattle.std.specs.Prelude.{ℕ, List, [], ◌∷◌, ◌++◌, codes}
 use Rattle.docket_history.specs.declared.row.CaseRow.{CaseRow}
 use Rattle.html_sheets.specs.Elements.{element, told, day_told, case_link, cell, head_cell, row, table_head, table_foot}
 use Rattle.html_sheets.specs.Escapes.{escaped}
-
--- how the page looks: on a screen, where a long word is broken, and in print, where links are hidden or look like text and no row is broken
-abbrev pub style_text : List ℕ
-style_text =
-    codes "body{font-family:serif;margin:2em}"
-    ++ (codes "table{border-collapse:collapse;margin:1em 0}"
-    ++ (codes "th,td{border:thin solid #888;padding:0.2em 0.6em;text-align:left;vertical-align:top}"
-    ++ (codes ".number,time{font-family:monospace}"
-    ++ (codes "bdi{overflow-wrap:anywhere}"
-    ++ codes "@media print{body{margin:0}nav{display:none}a{color:inherit;text-decoration:none}thead{display:table-header-group}tr{break-inside:avoid}}"))))
+use Rattle.html_sheets.specs.Styles.{style_text}
 
 -- a page from its first byte up to its content
 abbrev pub page_head : List ℕ → List ℕ

@@ -1,5 +1,5 @@
 -- The docket sheet of a case.
-use Rattle.std.specs.Prelude.{ℕ, List, [], ◌∷◌, ◌++◌, codes, decimal}
+use Rattle.std.specs.Prelude.{ℕ, zero, suc, List, [], ◌∷◌, ◌++◌, slice_get, codes, decimal, Option, Some, None}
 use Rattle.std.specs.List.{flat_map}
 use Rattle.court_days.specs.Court.{CourtSettings}
 use Rattle.docket_command.specs.Words.{role_word}
@@ -9,7 +9,11 @@ use Rattle.docket_history.specs.declared.row.EntryRow.{EntryRow}
 use Rattle.docket_history.specs.declared.row.PartyRow.{PartyRow}
 use Rattle.docket_text.specs.CaseTexts.{standing_text}
 use Rattle.docket_text.specs.Parties.{party_text}
-use Rattle.html_sheets.specs.Elements.{element, told, day_told, cell, number_cell, head_cell, row, table_head, table_foot}
+use Rattle.html_sheets.specs.Elements.{element, told, day_told, deadline_number, cell, number_cell, head_cell, row, table_head, table_foot}
+use Rattle.html_sheets.specs.Entering.{enter_nav, daily_kinds, serve_links}
+use Rattle.html_sheets.specs.declared.about.About.TheVariants as about
+use Rattle.html_sheets.specs.declared.links.Links.{Links}
+use Rattle.html_sheets.specs.declared.links.Links.TheVariants as links
 
 -- what is shown of the case itself, a line each under its word
 abbrev pub said : List ℕ → List ℕ → List ℕ
@@ -28,12 +32,20 @@ case_head case =
 abbrev pub section_head : List ℕ → List (List ℕ) → List ℕ
 section_head heading columns = element (codes "h2") [] heading ++ (codes "\n" ++ table_head columns)
 
--- the parties: the number of each, its role and its name
+-- where there are pages, links to the forms in which is entered what happens in the case
+abbrev pub entering : Links → ℕ → List ℕ
+entering links.Pages case = enter_nav (about.Case case) daily_kinds
+entering links.None case = []
+
+-- the parties: the number of each, its role and its name, which leads to the forms in which it is served where there are pages
 unfoldable pub parties_head : List ℕ
 parties_head = section_head (codes "Parties") (codes "Party" ∷ codes "Role" ∷ codes "Name" ∷ [])
 
-unfoldable pub party_row : PartyRow → List ℕ
-party_row party = row (head_cell (decimal party.number) ++ (cell (role_word party.role) ++ cell (told party.name)))
+unfoldable pub party_row : Links → ℕ → PartyRow → List ℕ
+party_row lead case party =
+    row (head_cell (decimal party.number)
+    ++ (cell (role_word party.role)
+    ++ cell (told party.name ++ serve_links lead case party.number)))
 
 -- the entries: the number of each, its day and its text
 unfoldable pub entries_head : List ℕ
@@ -42,31 +54,47 @@ entries_head = section_head (codes "Entries") (codes "Entry" ∷ codes "Day" ∷
 unfoldable pub entry_row : EntryRow → List ℕ
 entry_row entry = row (head_cell (decimal entry.number) ++ (cell (day_told entry.day) ++ cell (told entry.text)))
 
--- the deadlines: the number of each, the party whose time it is, its rule, and where it stands
+-- the party of a number, from 1, among those of a case, in the order of their numbers
+abbrev pub party_at : List PartyRow → ℕ → Option PartyRow
+party_at parties zero = None
+party_at parties (suc n) = slice_get parties n
+
+-- its name; none for every party
+abbrev pub name_of : Option PartyRow → List ℕ
+name_of None = []
+name_of (Some party) = party.name
+
+-- the party whose time it is: its number, and its name
+abbrev pub party_told : List PartyRow → ℕ → List ℕ
+party_told parties party = party_text party ++ (codes " " ++ told (name_of (party_at parties party)))
+
+-- the deadlines: the number of each, which leads to its page where there are pages, the party whose time it is, its rule, and where it
+-- stands
 unfoldable pub deadlines_head : List ℕ
 deadlines_head = section_head (codes "Deadlines") (codes "Deadline" ∷ codes "Party" ∷ codes "Rule" ∷ codes "Standing" ∷ [])
 
-unfoldable pub deadline_row : CourtSettings → DeadlineLine → List ℕ
-deadline_row court deadline =
-    row (head_cell (decimal deadline.number)
-    ++ (number_cell (party_text deadline.party)
+unfoldable pub deadline_row : Links → CourtSettings → CaseRecord → DeadlineLine → List ℕ
+deadline_row lead court case deadline =
+    row (head_cell (deadline_number lead case.number deadline.number)
+    ++ (cell (party_told case.parties deadline.party)
     ++ (cell (told deadline.rule)
     ++ number_cell (standing_text court deadline.close deadline.standing))))
 
 -- each of the tables
-unfoldable pub parties_table : List PartyRow → List ℕ
-parties_table parties = parties_head ++ (flat_map party_row parties ++ table_foot)
+unfoldable pub parties_table : Links → CaseRecord → List ℕ
+parties_table lead case = parties_head ++ (flat_map (party_row lead case.number) case.parties ++ table_foot)
 
 unfoldable pub entries_table : List EntryRow → List ℕ
 entries_table entries = entries_head ++ (flat_map entry_row entries ++ table_foot)
 
-unfoldable pub deadlines_table : CourtSettings → List DeadlineLine → List ℕ
-deadlines_table court deadlines = deadlines_head ++ (flat_map (deadline_row court) deadlines ++ table_foot)
+unfoldable pub deadlines_table : Links → CourtSettings → CaseRecord → List DeadlineLine → List ℕ
+deadlines_table lead court case deadlines = deadlines_head ++ (flat_map (deadline_row lead court case) deadlines ++ table_foot)
 
--- the case, and a table with a row for each party, one for each entry and one for each deadline
-abbrev pub case_sheet : CourtSettings → CaseRecord → List DeadlineLine → List ℕ
-case_sheet court case deadlines =
+-- the case, links to the forms where there are pages, and a table with a row for each party, one for each entry and one for each deadline
+abbrev pub case_sheet : Links → CourtSettings → CaseRecord → List DeadlineLine → List ℕ
+case_sheet lead court case deadlines =
     case_head case
-    ++ (parties_table case.parties
+    ++ (entering lead case.number
+    ++ (parties_table lead case
     ++ (entries_table case.entries
-    ++ deadlines_table court deadlines))
+    ++ deadlines_table lead court case deadlines)))

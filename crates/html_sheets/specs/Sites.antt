@@ -1,14 +1,19 @@
 -- The pages of a docket that is served: each leads to the others.
-use Rattle.std.specs.Prelude.{ℕ, List, [], ◌++◌, codes, decimal, Option, Some, None}
+use Rattle.std.specs.Prelude.{ℕ, List, [], ◌∷◌, ◌++◌, codes, decimal, Option, Some, None}
 use Rattle.std.specs.List.{flat_map}
 use Rattle.court_days.specs.Court.{CourtSettings}
 use Rattle.docket_history.specs.declared.record.CaseRecord.{CaseRecord}
 use Rattle.docket_history.specs.declared.record.DeadlineLine.{DeadlineLine}
 use Rattle.docket_history.specs.declared.row.CaseRow.{CaseRow}
-use Rattle.html_sheets.specs.Elements.{element, link, nav}
+use Rattle.docket_history.specs.declared.row.CalendarRow.{CalendarRow}
+use Rattle.docket_text.specs.CourtCalendar.{item_text}
+use Rattle.html_sheets.specs.Elements.{element, told, lines_told, link, nav, case_link, cell, number_cell, head_cell, row, table_head, table_foot}
+use Rattle.html_sheets.specs.Entering.{enter_nav, deadline_kinds, calendar_kinds}
 use Rattle.html_sheets.specs.Pages.{page_head, page_foot, cases_head, case_row, cases_foot}
 use Rattle.html_sheets.specs.Sheets.{case_sheet}
 use Rattle.html_sheets.specs.Weeks.{week_head, week_foot}
+use Rattle.html_sheets.specs.declared.about.About.TheVariants.{Nothing, Deadline}
+use Rattle.html_sheets.specs.declared.links.Links.TheVariants.{Pages}
 
 -- a form that asks for seven days by the first of them, which is one of the days that have a date here. It needs no script: a browser
 -- asks for the path with `?from=` and the day behind it
@@ -20,9 +25,18 @@ week_form =
     ++ codes "<input type=\"date\" name=\"from\" min=\"1980-01-01\" max=\"3999-12-31\" required>")
     ++ (codes " " ++ element (codes "button") [] (codes "Show")))
 
--- what the content of each page begins with: a link to the list of cases, and that form
+-- a link to a page of the docket by its name
+abbrev pub page_link : List ℕ × List ℕ → List ℕ
+page_link page = link (codes "/pages/" ++ page.0) page.1 ++ codes "\n"
+
+-- what the content of each page begins with: links to the list of cases, the forms, the court's calendar and the rules, and that form
 unfoldable pub site_nav : List ℕ
-site_nav = nav (codes "Docket") (link (codes "/pages/cases") (codes "Cases") ++ (codes "\n" ++ week_form)) ++ codes "\n"
+site_nav =
+    nav (codes "Docket") (
+    flat_map page_link (
+    (codes "cases", codes "Cases") ∷ (codes "enter", codes "Enter") ∷ (codes "court-days", codes "Court days") ∷ (codes "rules", codes "Rules") ∷ [])
+    ++ week_form)
+    ++ codes "\n"
 
 -- a link to the list of cases from a number on
 abbrev pub cases_link : ℕ → List ℕ → List ℕ
@@ -53,7 +67,7 @@ cases_page cases earlier later =
 
 -- the page of a case: its docket sheet under its label
 abbrev pub case_page : CourtSettings → CaseRecord → List DeadlineLine → List ℕ
-case_page court case deadlines = page_head case.label ++ (site_nav ++ (case_sheet court case deadlines ++ page_foot))
+case_page court case deadlines = page_head case.label ++ (site_nav ++ (case_sheet Pages court case deadlines ++ page_foot))
 
 -- the page of what is due from a day to another, up to its rows, and behind them
 abbrev pub days_page_head : ℕ → ℕ → List ℕ
@@ -61,3 +75,48 @@ days_page_head from to = page_head (codes "Deadlines") ++ (site_nav ++ week_head
 
 abbrev pub days_page_foot : List ℕ
 days_page_foot = week_foot ++ page_foot
+
+-- the page of a text of several lines
+abbrev pub text_told : List ℕ → List ℕ
+text_told text = lines_told text ++ codes "\n"
+
+abbrev pub text_page : List ℕ → List ℕ → List ℕ
+text_page title text = page_head title ++ (site_nav ++ (text_told text ++ page_foot))
+
+-- the page of why a deadline stands as it does: the text that says it, and links to its case and to the forms in which is entered what
+-- acts on it
+abbrev pub reasons_title : ℕ → ℕ → List ℕ
+reasons_title case deadline = codes "Why deadline " ++ (decimal deadline ++ (codes " of case " ++ (decimal case ++ codes " stands as it does")))
+
+abbrev pub case_back : ℕ → List ℕ
+case_back case = element (codes "p") [] (codes "Case " ++ case_link case) ++ codes "\n"
+
+abbrev pub reasons_page : ℕ → ℕ → List ℕ → List ℕ
+reasons_page case deadline text =
+    page_head (reasons_title case deadline)
+    ++ (site_nav
+    ++ (case_back case
+    ++ (enter_nav (Deadline case deadline) deadline_kinds
+    ++ (text_told text
+    ++ page_foot))))
+
+-- a row of the court's calendar: its number, by which it is withdrawn, what it enters, and its name
+unfoldable pub calendar_told : CalendarRow → List ℕ → List ℕ
+calendar_told entered item = row (head_cell (decimal entered.number) ++ (number_cell (told item) ++ cell (told entered.name)))
+
+abbrev pub calendar_row : CourtSettings → CalendarRow → List ℕ
+calendar_row court entered = calendar_told entered (item_text court entered.item)
+
+abbrev pub calendar_head : List ℕ
+calendar_head = table_head (codes "Row" ∷ codes "Entered" ∷ codes "Name" ∷ [])
+
+-- the page of the rows that the court entered, and links to the forms that change them
+abbrev pub court_days_page : CourtSettings → List CalendarRow → List ℕ
+court_days_page court rows =
+    page_head (codes "Court days")
+    ++ (site_nav
+    ++ (enter_nav Nothing calendar_kinds
+    ++ (calendar_head
+    ++ (flat_map (calendar_row court) rows
+    ++ (table_foot
+    ++ page_foot)))))

@@ -1,5 +1,5 @@
 -- What is due in a week, or on other days.
-use Rattle.std.specs.Prelude.{ℕ, ◌+◌, ◌-◌, max, min, List, [], ◌∷◌, ◌++◌, codes, decimal}
+use Rattle.std.specs.Prelude.{ℕ, ◌+◌, ◌-◌, max, min, List, [], ◌∷◌, ◌++◌, codes}
 use Rattle.civil_time.specs.DayText.{day_text}
 use Rattle.civil_time.specs.LocalTime.{local_day, local_minute}
 use Rattle.civil_time.specs.MomentText.{clock_text}
@@ -9,7 +9,7 @@ use Rattle.court_days.specs.declared.filing.End.TheVariants.{LastDay, Moment}
 use Rattle.docket_history.specs.declared.record.DueRow.{DueRow}
 use Rattle.docket_text.specs.Parties.{party_text}
 use Rattle.docket_text.specs.Times.{shown, shown_minute}
-use Rattle.html_sheets.specs.Elements.{element, told, weekday_told, link, nav, case_number, cell, number_cell, head_cell, row, table_head, table_foot}
+use Rattle.html_sheets.specs.Elements.{element, told, weekday_told, link, nav, case_number, deadline_number, cell, number_cell, head_cell, row, table_head, table_foot}
 use Rattle.html_sheets.specs.declared.links.Links.{Links}
 
 -- seven days earlier and later, within the days that have a date here: 1980-01-01 to 3999-12-31
@@ -56,13 +56,13 @@ end_of_row court close (LastDay day) = end_cells day (codes "24:00") (clock_text
 end_of_row court close (Moment at) =
     end_cells (local_day (zone_of court) (shown at)) (clock_text (local_minute (zone_of court) (shown at))) (codes "--:--")
 
--- a deadline whose time runs: its end, its case, which leads to its page where there are pages, its number within the case, its
+-- a deadline whose time runs: its end, its case and its number within the case, which lead to their pages where there are pages, its
 -- rule, the party whose time it is, and the caption of the case
 abbrev pub due_row : Links → CourtSettings → DueRow → List ℕ → List ℕ
 due_row links court due caption =
     row (end_of_row court due.close due.end
     ++ (number_cell (case_number links due.case)
-    ++ (number_cell (decimal due.number)
+    ++ (number_cell (deadline_number links due.case due.number)
     ++ (cell (told due.rule)
     ++ (number_cell (party_text due.party)
     ++ cell (told caption))))))

@@ -4,20 +4,23 @@ ghost use Rattle.court_days.specs.Court.{CourtSettings};
 ghost use Rattle.docket_history.specs.declared.record.CaseRecord.{CaseRecord};
 ghost use Rattle.docket_history.specs.declared.record.DeadlineLine.{DeadlineLine};
 ghost use Rattle.docket_history.specs.declared.record.DueRow.{DueRow};
+ghost use Rattle.docket_history.specs.declared.row.CalendarRow.{CalendarRow};
 ghost use Rattle.docket_history.specs.declared.row.CaseRow.{CaseRow};
-ghost use Rattle.html_sheets.specs.Escapes.{is_control, blanked_byte, escaped};
+ghost use Rattle.html_sheets.specs.Escapes.{is_control, blanked_byte, escaped, lined};
 ghost use Rattle.html_sheets.specs.Marks.{marks};
 ghost use Rattle.html_sheets.specs.Pages.{page_head, case_row};
 ghost use Rattle.html_sheets.specs.Sheets.{case_sheet};
-ghost use Rattle.html_sheets.specs.Sites.{cases_page, case_page, days_page_head};
+ghost use Rattle.html_sheets.specs.Sites.{cases_page, case_page, days_page_head, text_page, reasons_page, court_days_page};
 ghost use Rattle.html_sheets.specs.Weeks.{days_head, week_head, due_row};
 ghost use Rattle.html_sheets.specs.Reading.{begins_reference, read_text};
 ghost use Rattle.html_sheets.specs.declared.links.Links.{Links};
 
 /// A text within a page has none of `<`, `>`, `"` and `'` and no control byte, and each `&` in it begins one
-/// of the five references. So it begins and ends no tag and no value of an attribute, whatever it is.
+/// of the five references. So it begins and ends no tag and no value of an attribute, whatever it is. A text
+/// of several lines has none of these characters either.
 pub fn texts_are_no_markup()
     ensures marks { (text : List ℕ) → marks (escaped text) ≡ [] }
+    ensures lines { (text : List ℕ) → marks (lined text) ≡ [] }
     ensures controls { (text : List ℕ) → filter is_control (escaped text) ≡ [] }
     ensures references { (text : List ℕ) (i : ℕ) → slice_index (escaped text) i ≡ 38
         → IsTrue (begins_reference (drop i (escaped text))) }
@@ -31,7 +34,8 @@ pub fn texts_are_read_back()
 /// The marks of a piece are those of its own tags, whatever texts the docket has. Two heads have the same
 /// ones in the same order. So have two rows whose numbers lead to the same, two sheets of as many parties,
 /// entries and deadlines, and their pages. So have two pages of as many cases, if both or none lead to
-/// earlier cases, and both or none to later ones.
+/// earlier cases, and both or none to later ones; two pages of texts, of reasons, and of as many rows of the
+/// court's calendar.
 pub fn tags_are_the_pages_own()
     ensures heads { (title other : List ℕ) → marks (page_head title) ≡ marks (page_head other) }
     ensures cases { (case other : CaseRow) → marks (case_row case) ≡ marks (case_row other) }
@@ -39,10 +43,10 @@ pub fn tags_are_the_pages_own()
     ensures days { (from to day later : ℕ) → marks (days_head from to) ≡ marks (days_head day later) }
     ensures dues { (links : Links) (court place : CourtSettings) (due other : DueRow) (caption name : List ℕ)
         → marks (due_row links court due caption) ≡ marks (due_row links place other name) }
-    ensures sheets { (court place : CourtSettings) (case other : CaseRecord) (deadlines lines : List DeadlineLine)
+    ensures sheets { (links : Links) (court place : CourtSettings) (case other : CaseRecord) (deadlines lines : List DeadlineLine)
         → length case.parties ≡ length other.parties → length case.entries ≡ length other.entries
         → length deadlines ≡ length lines
-        → marks (case_sheet court case deadlines) ≡ marks (case_sheet place other lines) }
+        → marks (case_sheet links court case deadlines) ≡ marks (case_sheet links place other lines) }
     ensures lists { (cases others : List CaseRow) (earlier sooner later after : Option ℕ) → length cases ≡ length others
         → is_some earlier ≡ is_some sooner → is_some later ≡ is_some after
         → marks (cases_page cases earlier later) ≡ marks (cases_page others sooner after) }
@@ -50,5 +54,10 @@ pub fn tags_are_the_pages_own()
         → length case.parties ≡ length other.parties → length case.entries ≡ length other.entries
         → length deadlines ≡ length lines
         → marks (case_page court case deadlines) ≡ marks (case_page place other lines) }
+    ensures texts { (title other text words : List ℕ) → marks (text_page title text) ≡ marks (text_page other words) }
+    ensures reasons { (case other deadline last : ℕ) (text words : List ℕ)
+        → marks (reasons_page case deadline text) ≡ marks (reasons_page other last words) }
+    ensures courts { (court place : CourtSettings) (rows others : List CalendarRow) → length rows ≡ length others
+        → marks (court_days_page court rows) ≡ marks (court_days_page place others) }
     ensures calendars { (from to day later : ℕ) → marks (days_page_head from to) ≡ marks (days_page_head day later) }
 {}

@@ -1,13 +1,17 @@
-//! The docket as pages of HTML: the list of cases, the docket sheet of a case, and what is due in a week or
-//! on other days. They have no script and load nothing from elsewhere, and a text of the docket is within
-//! them by its characters alone, whatever it is.
+//! The docket as pages of HTML: the list of cases, the docket sheet of a case, what is due in a week or on
+//! other days, why a deadline stands as it does, and the rows of the court's calendar. They have no script
+//! and load nothing from elsewhere, and a text of the docket is within them by its characters alone, whatever
+//! it is.
 //!
 //! A page is its head, then the pieces of its content, and its foot. A caller writes them one after another,
 //! so that a long list is never held as one. The pages of a docket that is served lead to one another. Those
 //! of a list of cases and of a case are made whole, and that of some days up to its rows.
 #![tactic(auto)]
 
+mod about;
 mod cases;
+mod court;
+mod entering;
 mod escape;
 mod laws;
 mod links;
@@ -15,12 +19,21 @@ mod page;
 mod piece;
 mod sheet;
 mod site;
+mod style;
+mod text;
+mod title;
 mod week;
 
+pub use about::About;
 pub use cases::{case_row, cases_foot, cases_head};
+pub use court::court_days_page;
+pub use entering::EnterLink;
+pub use escape::Escaped;
 pub use laws::{tags_are_the_pages_own, texts_are_no_markup, texts_are_read_back};
 pub use links::Links;
 pub use page::{page_foot, page_head};
 pub use sheet::case_sheet;
 pub use site::{case_page, cases_page, days_page_foot, days_page_head, site_nav};
+pub use text::{reasons_page, text_page};
+pub use title::title_of;
 pub use week::{due_head, due_row, week_foot, week_head};

@@ -1,10 +1,10 @@
-//! Where the numbers of cases lead.
+//! Where the numbers of cases and of deadlines lead.
 
-/// Where the numbers of cases lead: to the pages of a docket that is served, or nowhere, for a page that
-/// stands alone.
+/// Where the numbers of cases and of deadlines lead: to the pages of a docket that is served, or nowhere, for
+/// a page that stands alone.
 #[derive(Clone, Copy)]
 pub enum Links {
-    /// To the page of each case.
+    /// To the page of each.
     Pages,
     /// Nowhere.
     None,

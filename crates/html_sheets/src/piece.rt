@@ -2,7 +2,7 @@
 ghost use Rattle.std.specs.Prelude.{◌≡◌};
 ghost use Rattle.html_sheets.specs.Elements.{table_foot};
 
-use crate::escape::Escaped;
+use crate::escape::{Escaped, Lined};
 use crate::links::Links;
 use court_days::Day;
 use docket_text::{DayText, weekday_word};
@@ -96,6 +96,51 @@ impl fmt::Display for CaseNumber {
             Links::Pages => CaseLink(number).fmt(f),
             Links::None => write!(f, "{number}"),
         }
+    }
+}
+
+/// A deadline of a case by its number, which leads to its page where there are pages.
+#[derive(Clone, Copy)]
+pub(crate) struct DeadlineNumber {
+    pub(crate) links: Links,
+    pub(crate) case: u32,
+    pub(crate) number: u32,
+}
+
+impl fmt::Display for DeadlineNumber {
+    ghost use Rattle.std.specs.Prelude.{Some};
+    ghost use Rattle.html_sheets.specs.Elements.{deadline_number};
+
+    ghost output = { λ deadline. Some (deadline_number deadline.links deadline.case deadline.number) };
+
+    #[tactic(auto, unfolding(crate::specs::Elements::element))]
+    fn fmt<W: fmt::Write>(&self, f: &mut fmt::Formatter<W>) -> fmt::Result {
+        let case = self.case;
+        let deadline = self.number;
+        match self.links {
+            Links::Pages => write!(
+                f,
+                "<a href=\"/pages/cases/{case}/deadlines/{deadline}\">{deadline}</a>"
+            ),
+            Links::None => write!(f, "{deadline}"),
+        }
+    }
+}
+
+/// A text of several lines, as it stands.
+#[derive(Clone, Copy)]
+pub(crate) struct LinesTold<'a>(pub(crate) &'a str);
+
+impl fmt::Display for LinesTold<'_> {
+    ghost use Rattle.std.specs.Prelude.{Some};
+    ghost use Rattle.html_sheets.specs.Elements.{lines_told};
+
+    ghost output = { λ text. Some (lines_told text.0.now) };
+
+    #[tactic(auto, unfolding(crate::specs::Elements::element))]
+    fn fmt<W: fmt::Write>(&self, f: &mut fmt::Formatter<W>) -> fmt::Result {
+        let text = Lined(self.0);
+        write!(f, "<pre>{text}</pre>")
     }
 }
 

@@ -5,6 +5,7 @@ ghost use Rattle.html_sheets.specs.Pages.{case_row};
 ghost use Rattle.html_sheets.specs.Sites.{site_nav, more_cases, cases_page, case_page, days_page_head, days_page_foot};
 
 use crate::cases::{case_row, cases_foot, cases_head};
+use crate::links::Links;
 use crate::page::{page_foot, page_head};
 use crate::sheet::case_sheet;
 use crate::week::week_head;
@@ -13,13 +14,17 @@ use docket_history::{CaseRecord, CaseRow, DeadlineLine};
 use std::alloc::{AllocError, Global};
 use std::fmt;
 
-/// What the content of each page begins with: a link to the list of cases, and a form that asks for the
-/// deadlines in the seven days from a day. It has no script.
+/// What the content of each page begins with: links to the list of cases, to the forms in which commands are
+/// entered, to the court's calendar and to the rules, and a form that asks for the deadlines in the seven
+/// days from a day. It has no script.
 #[tactic(auto, unfolding(crate::specs::Elements::element, crate::specs::Sites::site_nav))]
 pub fn site_nav() -> &'static str
     ensures { result.now ≡ site_nav }
 {
     "<nav aria-label=\"Docket\"><a href=\"/pages/cases\">Cases</a>\n\
+     <a href=\"/pages/enter\">Enter</a>\n\
+     <a href=\"/pages/court-days\">Court days</a>\n\
+     <a href=\"/pages/rules\">Rules</a>\n\
      <form action=\"/pages/calendar\"><label>Deadlines in the seven days from \
      <input type=\"date\" name=\"from\" min=\"1980-01-01\" max=\"3999-12-31\" required></label> \
      <button>Show</button></form></nav>\n"
@@ -132,7 +137,7 @@ pub fn case_page(
 {
     let mut text = page_head(alloc, case.label.as_str())?;
     text.push_str(site_nav())?;
-    let sheet = case_sheet(alloc, court, case, deadlines)?;
+    let sheet = case_sheet(alloc, Links::Pages, court, case, deadlines)?;
     text.push_str(&sheet)?;
     text.push_str(page_foot())?;
     Ok(text)

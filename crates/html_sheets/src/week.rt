@@ -3,7 +3,7 @@ ghost use Rattle.std.specs.Prelude.{◌≡◌, IfOk, string_bytes};
 ghost use Rattle.html_sheets.specs.Weeks.{week_before, week_after, due_columns, days_head, week_head, due_row, week_foot};
 
 use crate::links::Links;
-use crate::piece::{CaseNumber, Told, WeekdayTold, table_foot};
+use crate::piece::{CaseNumber, DeadlineNumber, Told, WeekdayTold, table_foot};
 use court_days::{Court, Day, End};
 use docket_history::DueRow;
 use docket_text::{ClockText, DayText, PartyText, shown, shown_minute};
@@ -139,8 +139,8 @@ impl fmt::Display for EndCells<'_> {
 }
 
 /// Returns the row of a deadline whose time runs. It has the day, the time and the closing of its end, its
-/// case, its number within the case, its rule, the party whose time it is, and the caption. The case leads to
-/// its page where there are pages.
+/// case, its number within the case, its rule, the party whose time it is, and the caption. The case and the
+/// deadline lead to their pages where there are pages.
 pub fn due_row(
     alloc: Global,
     links: Links,
@@ -159,7 +159,11 @@ pub fn due_row(
         links,
         number: due.case,
     };
-    let number = due.number;
+    let number = DeadlineNumber {
+        links,
+        case: due.case,
+        number: due.number,
+    };
     let rule = Told(due.rule.as_str());
     let party = PartyText(due.party);
     let caption = Told(caption);

@@ -42,11 +42,11 @@ through : (foreign : Bool) (wish other : Wish) → wish ≡ cond foreign (Reject
 through true wish other is asked = absurd (not_refused wish Foreign is asked)
 through false wish other is asked = refl
 
-pub let_through_by : (routes : Routes) (found : HeadSearch) (input : List ℕ) (wish : Wish) (body : List ℕ) → head_of input ≡ found
-    → IsRequestBy routes found input wish body → is_refused wish ≡ false → IsLetThrough routes input
-let_through_by routes (More scan) input wish body e is asked = absurd is
-let_through_by routes TooLong input wish body e is asked = absurd (not_refused wish _ is.0 asked)
-let_through_by routes (Head n) input wish body e (inl read, fits, body_is) asked =
+pub let_through_by : (routes : Routes) (fresh : ℕ) (found : HeadSearch) (input : List ℕ) (wish : Wish) (body : List ℕ) → head_of input ≡ found
+    → IsRequestBy routes fresh found input wish body → is_refused wish ≡ false → IsLetThrough routes input
+let_through_by routes fresh (More scan) input wish body e is asked = absurd is
+let_through_by routes fresh TooLong input wish body e is asked = absurd (not_refused wish _ is.0 asked)
+let_through_by routes fresh (Head n) input wish body e (inl read, fits, body_is) asked =
     record {
       len = n;
       head = read.0;
@@ -54,7 +54,7 @@ let_through_by routes (Head n) input wish body e (inl read, fits, body_is) asked
       reads = read.1;
       through = through (is_foreign routes read.0.method (map name_and_value read.0.fields)) wish _ read.3 asked;
     }
-let_through_by routes (Head n) input wish body e (inr bad, fits, body_is) asked = absurd (not_refused wish _ bad.1 asked)
+let_through_by routes fresh (Head n) input wish body e (inr bad, fits, body_is) asked = absurd (not_refused wish _ bad.1 asked)
 
 same_bytes : (bytes : List ℕ) → pointwise nat_eq bytes bytes ≡ true
 same_bytes [] = refl

@@ -5,10 +5,12 @@ use Rattle.http_request.specs.declared.route.Route.TheVariants.{Commands, Case a
 use Rattle.http_request.specs.declared.page.Routes.{Routes}
 use Rattle.http_request.specs.declared.page.Routes.TheVariants.{Docket, Guarded, WithPages}
 use Rattle.http_request.specs.declared.page.Page.{Page}
-use Rattle.http_request.specs.declared.page.Page.TheVariants.{Cases, Case, Days}
+use Rattle.http_request.specs.declared.page.Page.TheVariants.{Cases, Case, Days, Kinds, Enter, CourtDays, Rules, Reasons}
 use Rattle.http_request.specs.Path.{place_of, behind}
 use Rattle.http_request.specs.Number.{kept_if, number_of}
 use Rattle.http_request.specs.Days.{days_of, week_of}
+use Rattle.http_request.specs.Entries.{entry_page}
+use Rattle.http_request.specs.Deadlines.{deadline_page}
 
 -- what a path has behind "/pages", where pages are served
 abbrev pub pages_rest : Routes → List ℕ → Option (List ℕ)
@@ -47,15 +49,33 @@ page_at Holidays first second = None
 abbrev pub is_list : List ℕ → Bool
 is_list rest = bytes_eq rest [] || bytes_eq rest (codes "/") || bytes_eq rest (codes "/cases")
 
--- the page that the rest of a path asks for, with the query. A value in them may be bad.
-abbrev pub page_of : List ℕ → Option (List ℕ) → Option (Option Page)
-page_of rest query =
+-- the page of a deadline, where the path goes on to one, and else that beside the path's route
+abbrev pub numbered_page : Option (Option Page) → List ℕ → Option (Option Page)
+numbered_page (Some page) rest = Some page
+numbered_page None rest = option_and_then (λ place. page_at place.route place.first place.second) (place_of rest)
+
+-- the form that a word behind "/enter/" names, where the path has one, and else a page with a number or a day in its path
+abbrev pub named_page : ℕ → Option (List ℕ) → List ℕ → Option (List ℕ) → Option (Option Page)
+named_page fresh (Some word) rest query = entry_page fresh word query
+named_page fresh None rest query = numbered_page (deadline_page rest) rest
+
+-- the page that the rest of a path asks for, with the query and a fresh number. A value in them may be bad.
+abbrev pub page_of : ℕ → List ℕ → Option (List ℕ) → Option (Option Page)
+page_of fresh rest query =
     if is_list rest then Some (list_page query)
     else if bytes_eq rest (codes "/calendar") then Some (week_page query)
-    else option_and_then (λ place. page_at place.route place.first place.second) (place_of rest)
+    else if bytes_eq rest (codes "/court-days") then Some (Some CourtDays)
+    else if bytes_eq rest (codes "/rules") then Some (Some Rules)
+    else if bytes_eq rest (codes "/enter") then Some (Some Kinds)
+    else named_page fresh (behind (codes "/enter/") rest) rest query
 
 -- a list of cases begins with the number of one that a docket can have
 abbrev pub IsPageWithinLimits : Page → Type 0
 IsPageWithinLimits (Cases from) = 1 ≤ from × from ≤ 100_000
 IsPageWithinLimits (Case number) = Unit {0}
 IsPageWithinLimits (Days first last) = Unit {0}
+IsPageWithinLimits Kinds = Unit {0}
+IsPageWithinLimits (Enter kind about fresh) = Unit {0}
+IsPageWithinLimits CourtDays = Unit {0}
+IsPageWithinLimits Rules = Unit {0}
+IsPageWithinLimits (Reasons number deadline) = Unit {0}

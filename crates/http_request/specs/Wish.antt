@@ -9,12 +9,13 @@ use Rattle.http_request.specs.Path.{Place, place_of}
 use Rattle.http_request.specs.declared.fields.Rejection.{Rejection}
 use Rattle.http_request.specs.declared.fields.Rejection.TheVariants.{BadHead, NotFound, Method, BadPathValue, Foreign}
 use Rattle.http_request.specs.declared.wish.Wish.{Wish}
-use Rattle.http_request.specs.declared.wish.Wish.TheVariants.{Reject, Command, Case, Deadlines, Calendar, Holidays, Page as PageWish, Copy}
+use Rattle.http_request.specs.declared.wish.Wish.TheVariants.{Reject, Command, Form, Case, Deadlines, Calendar, Holidays, Page as PageWish, Copy}
 use Rattle.http_request.specs.declared.page.Routes.{Routes}
 use Rattle.http_request.specs.declared.page.Page.{Page}
 use Rattle.http_request.specs.Number.{number_of, year_of}
 use Rattle.http_request.specs.Days.{days_of}
 use Rattle.http_request.specs.Fields.{body_length}
+use Rattle.http_request.specs.Forms.{form_length}
 use Rattle.http_request.specs.Guard.{is_foreign}
 use Rattle.http_request.specs.Target.{path_of, query_of}
 use Rattle.http_request.specs.Pages.{pages_rest, page_of, IsPageWithinLimits}
@@ -70,29 +71,38 @@ page_wish method (Some page) = if bytes_eq method (codes "GET") then got_wish pa
 abbrev pub copy_wish : List ℕ → Wish
 copy_wish method = if bytes_eq method (codes "GET") then Copy else Reject Method
 
--- what the rest of a path behind "/pages" asks for, with the query: a copy of the docket's file, or a page
-abbrev pub rest_wish : List ℕ → List ℕ → Option (List ℕ) → Wish
-rest_wish method rest query = if bytes_eq rest (codes "/backup") then copy_wish method else page_wish method (page_of rest query)
+-- a form of a length, with a fresh number
+abbrev pub form_wish : ℕ → Result ℕ Rejection → Wish
+form_wish fresh (Ok n) = Form n fresh
+form_wish fresh (Err rejection) = Reject rejection
+
+-- what the rest of a path behind "/pages" asks for, with the query and a fresh number: a copy of the docket's file, a form that is
+-- entered, or a page
+abbrev pub rest_wish : ℕ → List ℕ → List (List ℕ × List ℕ) → List ℕ → Option (List ℕ) → Wish
+rest_wish fresh method fields rest query =
+    if bytes_eq rest (codes "/backup") then copy_wish method
+    else if bytes_eq rest (codes "/commands") then form_wish fresh (form_length method fields)
+    else page_wish method (page_of fresh rest query)
 
 -- what a path asks for: one of the docket, or what its rest behind "/pages" asks for
-abbrev pub path_wish : List ℕ → List ℕ → List (List ℕ × List ℕ) → Option (List ℕ) → Wish
-path_wish method target fields None = place_wish method fields (place_of (path_of target))
-path_wish method target fields (Some rest) = rest_wish method rest (query_of target)
+abbrev pub path_wish : ℕ → List ℕ → List ℕ → List (List ℕ × List ℕ) → Option (List ℕ) → Wish
+path_wish fresh method target fields None = place_wish method fields (place_of (path_of target))
+path_wish fresh method target fields (Some rest) = rest_wish fresh method fields rest (query_of target)
 
--- what a head of this method, target and fields asks for, where these routes are served; a foreign request asks for nothing, whatever
--- its target
-abbrev pub wish_of : Routes → List ℕ → List ℕ → List (List ℕ × List ℕ) → Wish
-wish_of routes method target fields =
-    if is_foreign routes method fields then Reject Foreign else path_wish method target fields (pages_rest routes (path_of target))
+-- what a head of this method, target and fields asks for, where these routes are served, with a fresh number; a foreign request asks
+-- for nothing, whatever its target
+abbrev pub wish_of : Routes → ℕ → List ℕ → List ℕ → List (List ℕ × List ℕ) → Wish
+wish_of routes fresh method target fields =
+    if is_foreign routes method fields then Reject Foreign else path_wish fresh method target fields (pages_rest routes (path_of target))
 
 -- the bytes are no head of the grammar with at most 64 fields
 abbrev pub HasNoHead : List ℕ → Type 0
 HasNoHead bytes = (h : RequestHead) → ReadsRequest bytes h [] → length h.fields ≤ 64 → ⊥
 
--- what the bytes of a head ask for
-abbrev pub IsHeadWish : Routes → List ℕ → Wish → Type 0
-IsHeadWish routes bytes wish =
-    ((h : RequestHead) × ReadsRequest bytes h [] × (length h.fields ≤ 64) × (wish ≡ wish_of routes h.method h.target (map name_and_value h.fields)))
+-- what the bytes of a head ask for, with a fresh number
+abbrev pub IsHeadWish : Routes → ℕ → List ℕ → Wish → Type 0
+IsHeadWish routes fresh bytes wish =
+    ((h : RequestHead) × ReadsRequest bytes h [] × (length h.fields ≤ 64) × (wish ≡ wish_of routes fresh h.method h.target (map name_and_value h.fields)))
     ⊎ (HasNoHead bytes × (wish ≡ Reject BadHead))
 
 -- a year is one from 2000 to 2099, and a list of cases begins with the number of one that a docket can have
@@ -100,6 +110,7 @@ abbrev pub IsWithinLimits : Wish → Type 0
 IsWithinLimits (Holidays year) = 2000 ≤ year × year ≤ 2099
 IsWithinLimits (Reject rejection) = Unit {0}
 IsWithinLimits (Command len) = Unit {0}
+IsWithinLimits (Form len fresh) = Unit {0}
 IsWithinLimits (Case number) = Unit {0}
 IsWithinLimits (Deadlines number) = Unit {0}
 IsWithinLimits (Calendar from to) = Unit {0}

@@ -1,10 +1,17 @@
-//! Laws of the end of a head, and of the guard, with nothing to run.
-ghost use Rattle.std.specs.Prelude.{◌≡◌, ℕ, ◌≤◌, List, ◌++◌, length, take, codes, false, true, [], ◌∷◌, Option};
+//! Laws of the end of a head, of the guard and of links, with nothing to run.
+ghost use Rattle.std.specs.Prelude.{◌≡◌, ◌≢◌, ℕ, ◌≤◌, List, ◌++◌, length, take, codes, false, true, [], ◌∷◌, Option};
 ghost use Rattle.std.specs.List.{AllByRecursion};
+ghost use Rattle.docket_command.specs.declared.command_name.CommandName.{CommandName};
+ghost use Rattle.docket_command.specs.declared.command_name.CommandName.TheVariants.{ImportCalendar};
+ghost use Rattle.html_sheets.specs.declared.about.About.{About};
 ghost use Rattle.http_request.specs.Head.{head_of};
 ghost use Rattle.http_request.specs.Fields.{values_of};
-ghost use Rattle.http_request.specs.Guard.{lets_through};
+ghost use Rattle.http_request.specs.Guard.{lets_through, is_foreign};
 ghost use Rattle.http_request.specs.Lines.{IsHeadWithin};
+ghost use Rattle.http_request.specs.Links.{form_target, AreShown, HasNumbers};
+ghost use Rattle.http_request.specs.Wish.{wish_of};
+ghost use Rattle.http_request.specs.declared.page.Page.TheVariants.{Enter};
+ghost use Rattle.http_request.specs.declared.wish.Wish.TheVariants.{Page};
 ghost use Rattle.http_request.specs.Origins.{host_at, origins_at, own_names};
 ghost use Rattle.http_request.specs.declared.page.Routes.{Routes};
 ghost use Rattle.http_request.specs.declared.wish.Wish.{Wish};
@@ -22,8 +29,8 @@ pub fn heads_end_with_an_empty_line()
 /// Each request that is not refused was let through by its head. Where there is a guard it was sent to one of the
 /// origins, by a page of that one or by no page, and not across sites. This holds whatever it asks for.
 pub fn what_is_asked_was_let_through()
-    ensures { (routes : Routes) (input : List ℕ) (wish : Wish) (body : List ℕ)
-        → IsRequest routes input wish body → is_refused wish ≡ false → IsLetThrough routes input }
+    ensures { (routes : Routes) (fresh : ℕ) (input : List ℕ) (wish : Wish) (body : List ℕ)
+        → IsRequest routes fresh input wish body → is_refused wish ≡ false → IsLetThrough routes input }
 {}
 
 /// A program that sends no origin and no mark of a browser is let through at a port of this machine under one of its
@@ -32,4 +39,13 @@ pub fn who_sends_no_origin_is_let_through()
     ensures { (port : ℕ) (other : Option (List ℕ)) (method : List ℕ) (fields : List (List ℕ × List ℕ))
         → values_of (codes "origin") fields ≡ [] → values_of (codes "sec-fetch-site") fields ≡ []
         → AllByRecursion (λ name. values_of (codes "host") fields ≡ host_at name port ∷ [] → lets_through (origins_at port other) method fields ≡ true) own_names }
+{}
+
+/// A link to a form leads to it: who gets its target, and is let through, asks for the form of that kind, filled in
+/// with what the link is about. So it is for each kind that a form enters, and for each case, party and deadline.
+pub fn links_lead_to_their_forms()
+    ensures { (routes : Routes) (fields : List (List ℕ × List ℕ)) (kind : CommandName) (about : About) (fresh : ℕ)
+        → AreShown routes → is_foreign routes (codes "GET") fields ≡ false
+        → kind ≢ ImportCalendar → HasNumbers about
+        → wish_of routes fresh (codes "GET") (form_target kind about) fields ≡ Page (Enter kind about fresh) }
 {}

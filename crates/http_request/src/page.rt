@@ -1,14 +1,20 @@
 //! The pages, which are served beside the routes of the docket.
-ghost use Rattle.std.specs.Prelude.{◌≡◌, IfSome, option_copied};
+ghost use Rattle.std.specs.Prelude.{◌≡◌, IfSome, codes, option_copied};
 ghost use Rattle.http_request.specs.Rows.{route_rows};
-ghost use Rattle.http_request.specs.Pages.{pages_rest, from_of, list_page as list_by_query, week_page as week_by_query, days_page as page_of_days, page_at, page_of, IsPageWithinLimits};
+ghost use Rattle.http_request.specs.Path.{behind as behind_word};
+ghost use Rattle.http_request.specs.Deadlines.{deadline_page as deadline_page_of};
+ghost use Rattle.http_request.specs.Pages.{pages_rest, from_of, list_page as list_by_query, week_page as week_by_query, days_page as page_of_days, page_at, numbered_page as numbered_page_of, named_page as named_page_of, page_of, IsPageWithinLimits};
 
 use crate::days::{read_range, read_week};
+use crate::deadline::deadline_page;
+use crate::entry::entry_page;
 use crate::number::read_number;
 use crate::place::{RouteMatch, find};
 use crate::route::Route;
 use crate::target::behind;
 use civil_time::Day;
+use docket_command::CommandName;
+use html_sheets::About;
 use matchit::Router;
 
 /// Which routes are served.
@@ -31,6 +37,16 @@ pub enum Page {
     Case(u32),
     /// What is due on the days from the first to the last.
     Days(Day, Day),
+    /// The list of the kinds of commands.
+    Kinds,
+    /// The form of a kind of command, about a case, a party or a deadline, with the number of this request.
+    Enter(CommandName, About, u64),
+    /// The rows of the court calendar.
+    CourtDays,
+    /// The local rules.
+    Rules,
+    /// The reasons for a deadline: the number of its case, and its own.
+    Reasons(u32, u32),
 }
 
 /// The most cases that a docket has.
@@ -96,15 +112,54 @@ fn found_page(found: RouteMatch<'_>) -> Option<Option<Page>>
     }
 }
 
-/// The page that the rest of a path asks for, with the query. A value in them may be bad.
-pub fn find_page(router: &Router<Route>, rest: &str, query: Option<&str>) -> Option<Option<Page>>
+// The page of a deadline, where the path goes on to one, and else that beside the path's route.
+fn numbered_page(router: &Router<Route>, rest: &str) -> Option<Option<Page>>
     requires { router.now ≡ route_rows }
-    ensures page { result ≡ page_of rest.now (option_copied query.entry) }
+    ensures page { result ≡ numbered_page_of (deadline_page_of rest.now) rest.now }
+    ensures within { IfSome result (λ page. IfSome page IsPageWithinLimits) }
+{
+    match deadline_page(rest) {
+        Some(page) => Some(page),
+        None => found_page(find(router, rest)?),
+    }
+}
+
+// The form that a word behind "/enter/" names, where the path has one, and else a page with a number or a day in
+// its path.
+fn named_page(
+    router: &Router<Route>,
+    rest: &str,
+    query: Option<&str>,
+    fresh: u64,
+) -> Option<Option<Page>>
+    requires { router.now ≡ route_rows }
+    ensures page { result ≡ named_page_of fresh (behind_word (codes "/enter/") rest.now) rest.now (option_copied query.entry) }
+    ensures within { IfSome result (λ page. IfSome page IsPageWithinLimits) }
+{
+    match behind(rest, "/enter/") {
+        Some(word) => entry_page(word, query, fresh),
+        None => numbered_page(router, rest),
+    }
+}
+
+/// The page that the rest of a path asks for, with the query and the number of this request. A value in them may be
+/// bad.
+pub fn find_page(
+    router: &Router<Route>,
+    rest: &str,
+    query: Option<&str>,
+    fresh: u64,
+) -> Option<Option<Page>>
+    requires { router.now ≡ route_rows }
+    ensures page { result ≡ page_of fresh rest.now (option_copied query.entry) }
     ensures within { IfSome result (λ page. IfSome page IsPageWithinLimits) }
 {
     match rest {
         "" | "/" | "/cases" => Some(list_page(query)),
         "/calendar" => Some(week_page(query)),
-        _ => found_page(find(router, rest)?),
+        "/court-days" => Some(Some(Page::CourtDays)),
+        "/rules" => Some(Some(Page::Rules)),
+        "/enter" => Some(Some(Page::Kinds)),
+        _ => named_page(router, rest, query, fresh),
     }
 }

@@ -3,11 +3,13 @@ ghost use Rattle.std.specs.Prelude.{◌≡◌, length, map, All, IfOk, IfErr, Is
 ghost use Rattle.httparse.specs.Spans.{IsHeaderWithin, header_bytes};
 ghost use Rattle.http_request.specs.Rows.{route_rows};
 ghost use Rattle.http_request.specs.Path.{place_of};
+ghost use Rattle.http_request.specs.Forms.{form_length as form_length_by};
 ghost use Rattle.http_request.specs.Pages.{page_of};
-ghost use Rattle.http_request.specs.Wish.{route_wish, place_wish, page_wish as wish_by_page, copy_wish as wish_of_copy, rest_wish as wish_by_rest, wish_of, route_method, is_method, IsHeadWish, IsWithinLimits};
+ghost use Rattle.http_request.specs.Wish.{route_wish, place_wish, page_wish as wish_by_page, copy_wish as wish_of_copy, form_wish as wish_of_form, rest_wish as wish_by_rest, wish_of, route_method, is_method, IsHeadWish, IsWithinLimits};
 
 use crate::days::read_range;
 use crate::fields::{Rejection, body_length};
+use crate::form::form_length;
 use crate::guard::is_foreign;
 use crate::input::InputFault;
 use crate::number::{read_number, read_year};
@@ -32,6 +34,9 @@ pub enum Wish {
     Reject(Rejection),
     /// A command, whose text is the body of so many bytes.
     Command(u32),
+    /// A command by a form, which is the body of so many bytes, with the number of this request. Where pages are
+    /// served.
+    Form(u32, u64),
     Case(u32),
     Deadlines(u32),
     /// The days from the first to the last.
@@ -116,12 +121,18 @@ fn is_get(method: &[u8]) -> bool
 }
 
 // The page that the rest of a path behind "/pages" asks for. The method must be GET.
-fn page_wish(router: &Router<Route>, method: &[u8], rest: &str, query: Option<&str>) -> Wish
+fn page_wish(
+    router: &Router<Route>,
+    method: &[u8],
+    rest: &str,
+    query: Option<&str>,
+    fresh: u64,
+) -> Wish
     requires { router.now ≡ route_rows }
-    ensures asks { result ≡ wish_by_page method.now (page_of rest.now (option_copied query.entry)) }
+    ensures asks { result ≡ wish_by_page method.now (page_of fresh rest.now (option_copied query.entry)) }
     ensures within { IsWithinLimits result }
 {
-    match find_page(router, rest, query) {
+    match find_page(router, rest, query, fresh) {
         None => Wish::Reject(Rejection::NotFound),
         Some(_) if !is_get(method) => Wish::Reject(Rejection::Method),
         Some(None) => Wish::Reject(Rejection::BadPathValue),
@@ -140,15 +151,37 @@ fn copy_wish(method: &[u8]) -> Wish
     }
 }
 
-// What the rest of a path behind "/pages" asks for: a copy, or a page.
-fn rest_wish(router: &Router<Route>, method: &[u8], rest: &str, query: Option<&str>) -> Wish
-    requires { router.now ≡ route_rows }
-    ensures asks { result ≡ wish_by_rest method.now rest.now (option_copied query.entry) }
+// What a request to enter a form asks for.
+fn form_wish(method: &[u8], head: &[u8], headers: &[HeaderSpan], fresh: u64) -> Wish
+    requires { All (IsHeaderWithin (length head.now)) headers.now }
+    ensures asks { result ≡ wish_of_form fresh (form_length_by method.now (map (header_bytes head.now) headers.now)) }
+    ensures within { IsWithinLimits result }
+{
+    match form_length(method, head, headers) {
+        Ok(length) => Wish::Form(length, fresh),
+        Err(rejection) => Wish::Reject(rejection),
+    }
+}
+
+// What the rest of a path behind "/pages" asks for: a copy, a form that is entered, or a page.
+fn rest_wish(
+    router: &Router<Route>,
+    method: &[u8],
+    rest: &str,
+    query: Option<&str>,
+    head: &[u8],
+    headers: &[HeaderSpan],
+    fresh: u64,
+) -> Wish
+    requires routes { router.now ≡ route_rows }
+    requires within { All (IsHeaderWithin (length head.now)) headers.now }
+    ensures asks { result ≡ wish_by_rest fresh method.now (map (header_bytes head.now) headers.now) rest.now (option_copied query.entry) }
     ensures within { IsWithinLimits result }
 {
     match rest {
         "/backup" => copy_wish(method),
-        _ => page_wish(router, method, rest, query),
+        "/commands" => form_wish(method, head, headers, fresh),
+        _ => page_wish(router, method, rest, query, fresh),
     }
 }
 
@@ -160,11 +193,12 @@ fn parts_wish(
     target: &[u8],
     head: &[u8],
     headers: &[HeaderSpan],
+    fresh: u64,
 ) -> Wish
     requires routes { router.now ≡ route_rows }
     requires text { IsUtf8 target.now }
     requires within { All (IsHeaderWithin (length head.now)) headers.now }
-    ensures asks { result ≡ wish_of routes.now method.now target.now (map (header_bytes head.now) headers.now) }
+    ensures asks { result ≡ wish_of routes.now fresh method.now target.now (map (header_bytes head.now) headers.now) }
     ensures within { IsWithinLimits result }
 {
     if is_foreign(routes, method, head, headers) {
@@ -176,13 +210,18 @@ fn parts_wish(
     let path = path_of(target);
     match behind_pages(routes, path) {
         None => docket_wish(router, method, path, head, headers),
-        Some(rest) => rest_wish(router, method, rest, query_of(target)),
+        Some(rest) => rest_wish(router, method, rest, query_of(target), head, headers, fresh),
     }
 }
 
-/// What the bytes of a whole head ask for.
-pub fn head_wish(alloc: Global, head: &[u8], routes: &Routes) -> Result<Wish, InputFault>
-    ensures asks { IfOk result (IsHeadWish routes.now head.now) }
+/// What the bytes of a whole head ask for, with the number of this request.
+pub fn head_wish(
+    alloc: Global,
+    head: &[u8],
+    routes: &Routes,
+    fresh: u64,
+) -> Result<Wish, InputFault>
+    ensures asks { IfOk result (IsHeadWish routes.now fresh head.now) }
     ensures within { IfOk result IsWithinLimits }
     ensures fault { IfErr result (λ e. e ≡ InputFault.NoMemory) }
 {
@@ -195,7 +234,7 @@ pub fn head_wish(alloc: Global, head: &[u8], routes: &Routes) -> Result<Wish, In
             let method = spans.method.of(head);
             let target = spans.path.of(head);
             let headers = &headers[..spans.headers];
-            Ok(parts_wish(routes, &router, method, target, head, headers))
+            Ok(parts_wish(routes, &router, method, target, head, headers, fresh))
         }
         _ => Ok(Wish::Reject(Rejection::BadHead)),
     }

@@ -3,3 +3,4 @@ mod EndLemmas
 mod ImportLemmas
 mod OutLemmas
 mod RunLemmas
+mod ServingLemmas

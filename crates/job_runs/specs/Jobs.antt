@@ -50,6 +50,7 @@ use Rattle.job_runs.specs.Checks.{check_text}
 use Rattle.job_ends.specs.Ends.{TellsNothing}
 use Rattle.job_runs.specs.Tells.{HasListed, HasTold, SaysMissing, TellsIfAny, TellsText, last_line, no_such_case, no_such_deadline}
 use Rattle.job_runs.specs.Imports.{TellsApplied, TellsFault}
+use Rattle.job_runs.specs.Serving.{EndsServing, service_of}
 use Rattle.job_ends.specs.declared.end.JobEnd.{JobEnd}
 use Rattle.job_ends.specs.declared.status.Status.{Status}
 use Rattle.job_ends.specs.declared.status.Status.TheVariants.{Done, SomeBad, BadLine, Failed}
@@ -189,4 +190,8 @@ module _ {D : Type 0} {g : Ghosts D} where
   Does (job.Migrate file) files input before after end =
       ((docket : Docket) → IsDocket docket.court docket.history → MayHold First docket.history → HoldFirst files docket.court docket.history
       → FailsOr end (λ left. Migrates docket left (cow_str_bytes end.text) end.status)) × (after ≡ before)
-  Does (job.Serve file place count pages guard origin) files input before after end = cow_str_bytes end.text ≡ []
+  -- what a connection sends and gets is not known, so no clause says what went out to it
+  Does (job.Serve file place count pages guard origin) files input before after end =
+      OfDocket files (λ docket. FailsOr end (λ left. EndsServing docket (service_of place count pages guard origin) left end.status))
+      × IfUnopened end (after ≡ before)
+      × (cow_str_bytes end.text ≡ [])

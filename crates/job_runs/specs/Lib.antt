@@ -3,6 +3,7 @@ pub mod Checks
 pub mod Imports
 pub mod Jobs
 pub mod Runs
+pub mod Serving
 pub mod Spares
 pub mod Tells
 pub mod Words

@@ -64,7 +64,7 @@ module _ {D : Type 0} {g : Ghosts D} where
     abbrev pub SparesAsked : Type 0
     SparesAsked = FailsOr end (λ left. WereJudged files (RowsStay files left) (FailsBy path end.status before after) left)
 
-    -- where it runs commands, and this holds of what went out if nothing did
+    -- where it runs commands or serves, and this holds of what went out if nothing did
     abbrev pub SparesRun : Type 0 → Type 0
     SparesRun Unwritten = FailsOr end (WereJudged files (Unit {0}) (λ fault. FailsBy path end.status before after fault × Unwritten))
 
@@ -87,7 +87,7 @@ module _ {D : Type 0} {g : Ghosts D} where
   Moves files left _ = ⊥
 
   -- What becomes of the files of a job, which held this, by its input, by what went out and by what the standard error was before and after.
-  -- `Does` covers a new docket; no clause covers one that is served.
+  -- `Does` covers a new docket.
   abbrev pub Spares : Job → Image → Option (List ℕ) → Type 0 → Option (List ℕ) → Option (List ℕ) → JobEnd D g → Type 0
   Spares (job.CourtCalendar file from to) files input unwritten = SparesAsked file.now files
   Spares (job.Rules (Some file)) files input unwritten = SparesAsked file.now files
@@ -100,6 +100,7 @@ module _ {D : Type 0} {g : Ghosts D} where
   Spares (job.Check file) files input unwritten = SparesAsked file.now files
   Spares (job.Backup file to) files input unwritten = SparesAsked file.now files
   Spares (job.Run file) files input unwritten = λ before after end. SparesRun file.now files before after end unwritten
+  Spares (job.Serve file place count pages guard origin) files input unwritten = λ before after end. SparesRun file.now files before after end unwritten
   Spares (job.Import file key) files input unwritten = λ before after end. SparesImport file.now files before after end key.now input
   Spares (job.Migrate file) files input unwritten = λ before after end. FailsOr end (λ left. Moves files left end.status)
   Spares _ files input unwritten = λ before after end. Unit {0}

@@ -1,7 +1,11 @@
 //! The docket in a file, served by HTTP.
-ghost use Rattle.std.specs.Prelude.{◌≡◌, [], if◌then◌else◌, unwrap_or, MatchResult};
+ghost use Rattle.std.specs.Prelude.{◌≡◌, [], unwrap_or, MatchResult};
 ghost use Rattle.std.specs.Cow.{cow_str_bytes};
-ghost use Rattle.file_serving.specs.declared.serving.Shown.TheVariants.{NoPages, Guarded, Pages};
+ghost use Rattle.sqlite_wal.specs.Files.{image_at};
+ghost use Rattle.file_serving.specs.declared.serving.Service.{Service as Asked};
+ghost use Rattle.job_runs.specs.Jobs.{FailsOr, IfUnopened, OfDocket};
+ghost use Rattle.job_runs.specs.Serving.{EndsServing, service_of, shown};
+ghost use Rattle.job_runs.specs.Spares.{SparesRun};
 
 use crate::opening::ready;
 use file_serving::{Place, ServeEnd, Service, Shown, serve_on_file};
@@ -23,7 +27,7 @@ fn limit(count: Option<u32>) -> u64
 
 /// Whether pages are shown, and who is answered.
 fn shown(pages: bool, guard: bool, origin: Option<&str>) -> Shown<'_>
-    ensures { result ≡ (if pages then Pages origin.entry else if guard then Guarded origin.entry else NoPages) }
+    ensures { result ≡ shown pages guard origin.entry }
 {
     if pages {
         return Shown::Pages(origin);
@@ -43,9 +47,7 @@ pub(crate) fn service_of<'a>(
     guard: bool,
     origin: Option<&'a str>,
 ) -> Service<'a>
-    ensures limit { result.count ≡ unwrap_or count 18_446_744_073_709_551_615 }
-    ensures shown { result.shown ≡ (if pages then Pages origin.entry else if guard then Guarded origin.entry else NoPages) }
-    ensures place { result.place ≡ place.entry }
+    ensures { result ≡ service_of place.entry count pages guard origin.entry }
 {
     Service {
         place,
@@ -113,7 +115,9 @@ fn serving_told<E: Write>(
     }
 }
 
-/// Serves the docket in a file to the connections that come to a place of this machine alone.
+/// Serves the docket in a file to the connections that come to a place of this machine alone. The job is done
+/// where as many were served as the service asks for; where its docket or a connection could not be had, it
+/// failed.
 pub(crate) fn serve_docket<S: Start, P: Write + Drop, W: Write, E: Write>(
     rt: &HostRuntime,
     start: S,
@@ -123,7 +127,11 @@ pub(crate) fn serve_docket<S: Start, P: Write + Drop, W: Write, E: Write>(
     w: &mut W,
     e: &mut E,
 ) -> JobEnd<FileFrom<S>>
+    ensures serves { (asked : Asked) → service.now ≡ asked
+        → OfDocket (image_at S.Start) (λ docket. FailsOr result (λ left. EndsServing docket asked left result.status)) }
+    ensures unopened { IfUnopened result (W.contents w.new ≡ W.contents w.old) }
     ensures untold { cow_str_bytes result.text ≡ [] }
+    ensures spared { SparesRun path.now (image_at S.Start) (E.contents e.old) (E.contents e.new) result (W.contents w.new ≡ W.contents w.old) }
 {
     let rows = match ready(rt, path, screen, e) {
         Ok(rows) => rows,

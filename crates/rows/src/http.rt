@@ -20,24 +20,27 @@ fn docket(alloc: Global) -> Result<Docket<MemStore>, Error> {
     }
 }
 
-/// Appends a line with the answer to the request, which comes in pieces of a size, or why there is none.
+/// Appends a line with the answer to the request, which comes in pieces of a size, or why there is none. Its
+/// connection has the number `fresh`.
 fn push_answer(
     alloc: Global,
     docket: &mut Docket<MemStore>,
     routes: &Routes,
+    fresh: u64,
     size: usize,
     request: &[u8],
     to: &mut Vec<u8>,
 ) -> Result<(), Error> {
     let mut reader = Pieces::new(request, size, u32::MAX);
     let mut answer = Vec::new(alloc);
-    let line = match serve_one(alloc, &mut reader, &mut answer, docket, routes) {
+    let line = match serve_one(alloc, &mut reader, &mut answer, docket, routes, fresh) {
         Ok(_) => format!(in alloc; "{}\n", answer.escape_ascii())?,
         Err(fault) => format!(in alloc; "{fault}\n")?,
     };
     Ok(to.extend_from_slice(line.as_bytes())?)
 }
 
+/// Appends the answers to the requests, whose connections have the numbers from 1 on.
 fn push_answers(
     alloc: Global,
     docket: &mut Docket<MemStore>,
@@ -46,9 +49,11 @@ fn push_answers(
     requests: &[u8],
     to: &mut Vec<u8>,
 ) -> Result<(), Error> {
+    let mut fresh = 0u64;
     for line in requests.split_inclusive(|byte| *byte == b'\n') {
+        fresh = fresh.wrapping_add(1);
         let request = json_bytes(alloc, line)?;
-        push_answer(alloc, docket, routes, size, &request, to)?;
+        push_answer(alloc, docket, routes, fresh, size, &request, to)?;
     }
     Ok(())
 }
@@ -85,7 +90,7 @@ fn ends_early(alloc: Global, docket: &mut Docket<MemStore>, request: &[u8]) -> b
     for len in 0..request.len() {
         let mut reader = &request[..len];
         let mut answer = Vec::new(alloc);
-        let served = serve_one(alloc, &mut reader, &mut answer, docket, &Routes::Docket);
+        let served = serve_one(alloc, &mut reader, &mut answer, docket, &Routes::Docket, 0);
         if served != Err(ServeFault::EndedEarly) || !answer.is_empty() {
             return false;
         }
@@ -98,7 +103,7 @@ fn reports_reads(alloc: Global, docket: &mut Docket<MemStore>, request: &[u8]) -
     for good_reads in 0..length(request) {
         let mut reader = Pieces::new(request, 1, good_reads);
         let mut answer = Vec::new(alloc);
-        let served = serve_one(alloc, &mut reader, &mut answer, docket, &Routes::Docket);
+        let served = serve_one(alloc, &mut reader, &mut answer, docket, &Routes::Docket, 0);
         if served != Err(ServeFault::ReadFailed) || !answer.is_empty() {
             return false;
         }
@@ -111,13 +116,13 @@ fn reports_reads(alloc: Global, docket: &mut Docket<MemStore>, request: &[u8]) -
 fn reports_writes(alloc: Global, docket: &mut Docket<MemStore>, request: &[u8]) -> bool {
     let mut reader = request;
     let mut answer = Vec::new(alloc);
-    if serve_one(alloc, &mut reader, &mut answer, docket, &Routes::Docket).is_err() {
+    if serve_one(alloc, &mut reader, &mut answer, docket, &Routes::Docket, 0).is_err() {
         return false;
     }
     for good_writes in 0..length(&answer) {
         let mut reader = request;
         let mut writer = Taker::new(alloc, 1, good_writes, good_writes % 2 == 0);
-        let served = serve_one(alloc, &mut reader, &mut writer, docket, &Routes::Docket);
+        let served = serve_one(alloc, &mut reader, &mut writer, docket, &Routes::Docket, 0);
         let front = answer.iter().take(good_writes as usize);
         if served != Err(ServeFault::WriteFailed) || !writer.taken.iter().eq(front) {
             return false;

@@ -6,9 +6,13 @@ use Rattle.docket_serving.proofs.serving.serve_next.Goals as goal
 pub returns-then-is_failed : goal.returns-then-is_failed
 returns-then-is_failed g c =
     let met = c.in-Ok.ensures.attended in
-    record { routes = met.3.0; next = served_failed g.S.Store c.args.desk.now.routes c.args.desk.now.docket c.next.new.attendant.docket met.0 _ _ met.2 met.3.1 (ap tells_failure met.1 ∙ sym c.is_failed.ensures ∙ c.if-is_failed.true) }
+    let old = c.args.desk.now in
+    let new = c.next.new.attendant in
+    record { routes = met.3.0; next = served_failed g.S.Store old.routes old.fresh new.fresh old.docket new.docket met.0 _ _ met.2 met.3.1 met.3.2 (ap tells_failure met.1 ∙ sym c.is_failed.ensures ∙ c.if-is_failed.true) }
 
 pub returns : goal.returns
 returns g c =
     let met = c.in-Ok.ensures.attended in
-    record { routes = met.3.0; next = served_one g.S.Store c.args.desk.now.routes c.args.desk.now.docket c.next.new.attendant.docket met.0 _ _ met.2 met.3.1 (ap tells_failure met.1 ∙ sym c.is_failed.ensures ∙ c.if-is_failed.false) }
+    let old = c.args.desk.now in
+    let new = c.next.new.attendant in
+    record { routes = met.3.0; next = served_one g.S.Store old.routes old.fresh new.fresh old.docket new.docket met.0 _ _ met.2 met.3.1 met.3.2 (ap tells_failure met.1 ∙ sym c.is_failed.ensures ∙ c.if-is_failed.false) }

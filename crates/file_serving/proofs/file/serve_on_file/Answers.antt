@@ -17,6 +17,7 @@ use Rattle.file_serving.specs.declared.serving.ServeEnd.{ServeEnd}
 use Rattle.file_serving.specs.declared.serving.ServeEnd.TheVariants.{NotAnnounced, NotListening, Stopped}
 use Rattle.file_serving.specs.declared.serving.Service.{Service}
 use Rattle.file_dockets.proofs.AdoptLemmas.{judged_on}
+use Rattle.file_serving.proofs.LeftLemmas.{served_on}
 use Rattle.file_serving.proofs.file.serve_on_file.Goals as goal
 
 unserved : (P Q : Type 0) → (P → Q) → (outcome : Result (Result (Unit {0}) ServeEnd) AdoptFault) → IfUnserved outcome P → IfUnserved outcome Q
@@ -32,6 +33,10 @@ stays_on : {D : Type 0} {g : Ghosts D} (start : Image) (service : Service) (fail
     → IfUnserved outcome (LeavesRows rest rows rows)
 stays_on start service failure outcome rest rows done files clean =
     unserved _ (LeavesRows rest rows rows) (λ holds. done.left rows rows holds clean) outcome (done.comes.stays rows (done.holds Second rows files))
+
+pub returns-clause-serves : goal.returns-clause-serves
+returns-clause-serves g c told is files =
+    IfOk-weaker c.work_on_file.result _ _ (λ ended done. served_on _ c.args.service.now ended.failure ended.outcome ended.left done told is files) c.work_on_file.ensures.done
 
 pub returns-clause-stays : goal.returns-clause-stays
 returns-clause-stays g c told files =

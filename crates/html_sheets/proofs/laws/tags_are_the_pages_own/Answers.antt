@@ -1,4 +1,4 @@
-use Rattle.html_sheets.proofs.TagLemmas.{page_heads, case_rows, days_heads, week_heads, due_rows, case_sheets, cases_pages, case_pages, days_pages}
+use Rattle.html_sheets.proofs.TagLemmas.{page_heads, case_rows, days_heads, week_heads, due_rows, case_sheets, cases_pages, case_pages, days_pages, text_pages, reasons_pages, court_days_pages}
 use Rattle.html_sheets.proofs.laws.tags_are_the_pages_own.Goals as goal
 
 pub returns-clause-heads : goal.returns-clause-heads
@@ -17,7 +17,7 @@ pub returns-clause-dues : goal.returns-clause-dues
 returns-clause-dues c = λ links court place due other caption name. (due_rows links court place due other caption name).is
 
 pub returns-clause-sheets : goal.returns-clause-sheets
-returns-clause-sheets c = λ court place case other deadlines lines parties entries count. (case_sheets court place case other deadlines lines parties entries count).is
+returns-clause-sheets c = λ links court place case other deadlines lines parties entries count. (case_sheets links court place case other deadlines lines parties entries count).is
 
 pub returns-clause-lists : goal.returns-clause-lists
 returns-clause-lists c = λ cases others earlier sooner later after count e l. (cases_pages cases others earlier sooner later after count e l).is
@@ -27,3 +27,12 @@ returns-clause-pages c = λ court place case other deadlines lines parties entri
 
 pub returns-clause-calendars : goal.returns-clause-calendars
 returns-clause-calendars c = λ from to day later. (days_pages from to day later).is
+
+pub returns-clause-texts : goal.returns-clause-texts
+returns-clause-texts c = λ title other text words. (text_pages title other text words).is
+
+pub returns-clause-reasons : goal.returns-clause-reasons
+returns-clause-reasons c = λ case other deadline last text words. (reasons_pages case other deadline last text words).is
+
+pub returns-clause-courts : goal.returns-clause-courts
+returns-clause-courts c = λ court place rows others count. (court_days_pages court place rows others count).is

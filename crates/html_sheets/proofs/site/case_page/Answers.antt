@@ -2,6 +2,7 @@ use Rattle.std.proofs.Common.{◌∙◌, ap}
 use Rattle.html_sheets.specs.Pages.{page_foot, page_head}
 use Rattle.html_sheets.specs.Sheets.{case_sheet}
 use Rattle.html_sheets.specs.Sites.{site_nav}
+use Rattle.html_sheets.specs.declared.links.Links.TheVariants.{Pages}
 use Rattle.html_sheets.proofs.ElementLemmas.{added, four_joined}
 use Rattle.html_sheets.proofs.site.case_page.Goals as goal
 
@@ -11,4 +12,4 @@ returns c =
     let nav = added c.in_ok-push_str.ensures.bytes head c.site_nav.ensures in
     let sheet = added c.in_ok-push_str-2.ensures.bytes nav (c.deref.ensures ∙ c.in_ok-sheet.ensures) in
     added c.in_ok-push_str-3.ensures.bytes sheet c.page_foot.ensures
-    ∙ four_joined (page_head c.args.case.now.label) site_nav (case_sheet c.args.court.now c.args.case.now c.args.deadlines.now) page_foot
+    ∙ four_joined (page_head c.args.case.now.label) site_nav (case_sheet Pages c.args.court.now c.args.case.now c.args.deadlines.now) page_foot

@@ -1,19 +1,8 @@
-use Rattle.std.proofs.Common.{◌≡◌, ◌∙◌, ℕ, List, Some, sym, ap, ap₂, subst}
-use Rattle.std.specs.Option.{option_map}
-use Rattle.court_days.specs.Court.{CourtSettings}
-use Rattle.docket_history.specs.Histories.{History}
-use Rattle.docket_history.specs.Records.{calendar}
+use Rattle.std.proofs.Common.{◌∙◌, subst}
 use Rattle.docket_applying.specs.Grounds.{AreGrounds}
-use Rattle.docket_applying.specs.declared.explaining.Grounds.{Grounds}
-use Rattle.docket_questions.specs.Texts.{reasons_of, text_of_reasons}
+use Rattle.docket_questions.proofs.ReasonLemmas.{told_reasons}
 use Rattle.docket_questions.proofs.TellLemmas.{passed_told, same_told, short_told}
 use Rattle.docket_questions.proofs.reasons.ReasonsTextQuestion.ask.Goals as goal
-
--- the text of what decides the deadline is that of the deadline
-told_reasons : (court now : CourtSettings) (h : History) (case number : ℕ) (grounds : Grounds) (text : List ℕ) → now ≡ court → text ≡ reasons_of now grounds.calendar grounds.deadline
-    → AreGrounds h case number (Some grounds) → Some text ≡ text_of_reasons court h case number
-told_reasons court now h case number grounds text same is are =
-    ap Some (is ∙ ap₂ (λ other entered. reasons_of other entered grounds.deadline) same are.1) ∙ sym (ap (option_map (reasons_of court (calendar h))) are.0)
 
 pub returns-clause-answer : goal.returns-clause-answer
 returns-clause-answer g c h stands =

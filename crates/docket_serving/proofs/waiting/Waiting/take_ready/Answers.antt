@@ -1,7 +1,6 @@
 use Rattle.std.proofs.Common.{◌∙◌, ap, arith, length-set, slice_set}
 use Rattle.std.proofs.Math.Seq.{map-set_same}
 use Rattle.http_request.specs.Request.{EndsEarly}
-use Rattle.http_request.specs.declared.page.Routes.TheVariants.{Docket}
 use Rattle.docket_serving.specs.declared.caller.Caller.{Caller}
 use Rattle.docket_serving.proofs.WaitingLemmas.{one_more, taken_out}
 use Rattle.docket_serving.proofs.waiting.Waiting.take_ready.Goals as goal
@@ -20,7 +19,7 @@ loop-at-preserved c =
       within = omega arith;
       len = c.loop-at.invariant.len;
       streams = map-set_same (λ (x : Caller). x.stream) now c.loop-at.at c.is_ready.new.self c.index_mut.result.now (c.is_ready.ensures.stream ∙ ap (λ (x : Caller). x.stream) c.index_mut.ensures.value) ∙ c.loop-at.invariant.streams;
-      unready = one_more (λ (x : Caller). EndsEarly Docket x.came.items) now c.loop-at.at c.is_ready.new.self (omega arith) c.loop-at.invariant.unready (c.is_ready.ensures.waits c.if-is_ready.false);
+      unready = one_more (λ (x : Caller). EndsEarly c.args.routes.now x.came.items) now c.loop-at.at c.is_ready.new.self (omega arith) c.loop-at.invariant.unready (c.is_ready.ensures.waits c.if-is_ready.false);
     }
 
 pub returns-clause-unready : goal.returns-clause-unready

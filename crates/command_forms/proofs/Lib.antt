@@ -1,0 +1,3 @@
+pub mod ShapeLemmas
+pub mod EnteringLemmas
+mod LineLemmas

@@ -1,0 +1,5 @@
+pub mod Shapes
+pub mod Values
+pub mod Forms
+pub mod Entered
+pub mod Entering

@@ -1,0 +1,22 @@
+//! The pages on which a clerk enters commands: the kinds of commands, and the form of each kind, filled in and
+//! with what was said of it when it was sent before. They have no script, and a text that was entered is within
+//! them by its characters alone.
+//!
+//! A form has exactly the fields of its kind, in the order of the one table. What it sends is read by
+//! `command_forms`.
+#![tactic(auto)]
+
+mod choice;
+mod control;
+mod field;
+mod form;
+mod hint;
+mod kinds;
+mod label;
+mod page;
+mod pair;
+mod said;
+
+pub use page::{entry_page, form_again, kinds_page};
+pub use pair::about_pairs;
+pub use said::Said;

@@ -1,0 +1,69 @@
+-- How a page looks: the style sheet of every page (CSS 2.2; Custom Properties 1; Media Queries 5), a rule a line. System fonts, two
+-- colours beside black and white, the dark ones where the system is dark; wide tables scroll on a narrow screen; in print neither links
+-- nor forms are shown, and no row is broken.
+use Rattle.std.specs.Prelude.{ℕ, List, [], ◌∷◌, ◌++◌, codes}
+use Rattle.std.specs.List.{flat_map}
+
+-- the colours, and those of a system that is dark: each text has a contrast of 4.5 to 1 at least
+abbrev pub colour_rules : List (List ℕ)
+colour_rules =
+    codes ":root { color-scheme: light dark; --ink: #1b1f24; --soft: #57606a; --line: #d0d7de; --paper: #fff; --wash: #f6f8fa; --link: #0b57a4; --late: #a40e26 }"
+    ∷ codes "@media (prefers-color-scheme: dark) { :root { --ink: #e6edf3; --soft: #9198a1; --line: #3d444d; --paper: #0d1117; --wash: #151b23; --link: #79b8ff; --late: #ff8f9a } }"
+    ∷ []
+
+-- the page, its headings, and the links that belong together; those to the pages of the docket stand on top
+abbrev pub page_rules : List (List ℕ)
+page_rules =
+    codes "* { box-sizing: border-box }"
+    ∷ codes "body { margin: 0 auto; max-width: 66rem; padding: 0 1rem 3rem; font: 1rem/1.5 system-ui, sans-serif; color: var(--ink); background: var(--paper) }"
+    ∷ codes "main { display: flex; flex-direction: column }"
+    ∷ codes "a { color: var(--link) }"
+    ∷ codes "bdi { overflow-wrap: anywhere }"
+    ∷ codes "time, .number { white-space: nowrap }"
+    ∷ codes "h1 { font-size: 1.6rem; line-height: 1.25; margin: 1.5rem 0 .5rem }"
+    ∷ codes "h2 { font-size: 1.15rem; margin: 2rem 0 .5rem }"
+    ∷ codes "p { margin: .5rem 0 }"
+    ∷ codes "nav { display: flex; flex-wrap: wrap; align-items: center; gap: .4rem 1.25rem; margin: .5rem 0 }"
+    ∷ codes "nav[aria-label=Docket] { order: -1; margin: 0; padding: .75rem 0; border-bottom: 1px solid var(--line) }"
+    ∷ codes "nav form { margin-left: auto }"
+    ∷ codes ".act a { font-size: .875rem; margin-left: .5rem; white-space: nowrap }"
+    ∷ []
+
+-- lists, tables and texts of lines
+abbrev pub table_rules : List (List ℕ)
+table_rules =
+    codes "dl { display: grid; grid-template-columns: max-content auto; gap: .2rem 1rem; margin: .5rem 0 }"
+    ∷ codes "dt { color: var(--soft) }"
+    ∷ codes "dd { margin: 0 }"
+    ∷ codes "table { border-collapse: collapse; width: 100%; margin: .5rem 0; font-variant-numeric: tabular-nums }"
+    ∷ codes "th, td { text-align: left; vertical-align: top; padding: .4rem .75rem .4rem 0; border-bottom: 1px solid var(--line) }"
+    ∷ codes "thead th { color: var(--soft); font-weight: 600; font-size: .85rem; border-bottom-width: 2px }"
+    ∷ codes "pre { margin: .5rem 0; padding: .75rem 1rem; overflow-x: auto; font: .9rem/1.5 ui-monospace, monospace; background: var(--wash); border: 1px solid var(--line) }"
+    ∷ []
+
+-- forms: what is said of one that was refused, and its fields
+abbrev pub form_rules : List (List ℕ)
+form_rules =
+    codes ".said { border-left: 4px solid var(--late); background: var(--wash); padding: .6rem .9rem; margin: 1rem 0 }"
+    ∷ codes ".entry { max-width: 34rem; margin-top: 1rem }"
+    ∷ codes ".entry p { margin: 0 0 1rem }"
+    ∷ codes ".entry label { display: block; font-weight: 600; margin-bottom: .2rem }"
+    ∷ codes ".entry input, .entry select { width: 100% }"
+    ∷ codes ".hint { display: block; color: var(--soft); font-size: .875rem }"
+    ∷ codes "input, select, button { font: inherit; color: inherit; background: var(--paper); border: 1px solid var(--soft); border-radius: .3rem; padding: .4rem .55rem; max-width: 100% }"
+    ∷ codes "::placeholder { color: var(--soft); opacity: 1 }"
+    ∷ codes "[aria-invalid=true] { border-color: var(--late); border-width: 2px }"
+    ∷ codes "button { color: var(--paper); background: var(--link); border-color: var(--link); padding: .4rem 1.1rem; cursor: pointer }"
+    ∷ codes ":focus-visible { outline: 3px solid var(--link); outline-offset: 2px }"
+    ∷ []
+
+-- a narrow screen, and print
+abbrev pub media_rules : List (List ℕ)
+media_rules =
+    codes "@media (max-width: 40rem) { table { display: block; overflow-x: auto } td bdi { display: inline-block; min-width: 8rem } pre { white-space: pre-wrap } nav form { margin-left: 0 } }"
+    ∷ codes "@media print { nav, form, .act { display: none } main { display: block } body { max-width: none; padding: 0; font-size: 10pt } a { color: inherit; text-decoration: none } thead { display: table-header-group } tr { break-inside: avoid } }"
+    ∷ []
+
+abbrev pub style_text : List ℕ
+style_text =
+    flat_map (λ rule. rule ++ codes "\n") (colour_rules ++ (page_rules ++ (table_rules ++ (form_rules ++ media_rules))))
