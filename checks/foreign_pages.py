@@ -1,4 +1,4 @@
-"""For checks/browser: pages from elsewhere that ask a served docket by a browser, and what the browser sent and was answered."""
+"""For checks/browser and checks/forms: pages from elsewhere that ask a served docket by a browser, and what the browser sent and was answered."""
 import http.server
 import re
 import socket
@@ -24,6 +24,12 @@ form.submit();
   document.title = "done";
 }})();
 </script>"""
+# a form of a docket with a whole command, sent by the page that has it, and by a frame that has no origin
+FORM = """<!doctype html><title>form</title><body>
+<form id=form method=post action="{docket}/pages/commands"><input type=hidden name=do value=open_case><input type=hidden name=key value=elsewhere>
+<input type=hidden name=label value=elsewhere><input type=hidden name=caption value=Roe><input type=hidden name=filed value=2025-06-02></form>
+<script>form.submit()</script>"""
+FRAMED = """<!doctype html><title>framed</title><body><iframe sandbox="allow-scripts allow-forms" src="/form"></iframe>"""
 LINK = """<!doctype html><meta http-equiv=refresh content="0; url={docket}/pages">"""
 
 
@@ -31,11 +37,11 @@ class Elsewhere(http.server.ThreadingHTTPServer):
     """A site of its own, whose pages ask the docket at an address."""
 
     def __init__(self, docket):
-        pages = {"/": PAGE.format(docket=docket), "/link": LINK.format(docket=docket)}
+        pages = {"/": PAGE, "/link": LINK, "/form": FORM, "/framed": FRAMED}
 
         class Handler(http.server.BaseHTTPRequestHandler):
             def do_GET(self):
-                page = pages.get(self.path, "").encode()
+                page = pages.get(self.path, "").format(docket=docket).encode()
                 self.send_response(200 if page else 404)
                 self.send_header("content-type", "text/html")
                 self.end_headers()

@@ -14,23 +14,26 @@ ELEMENTS = {"html", "head", "meta", "title", "style", "body", "main", "h1", "h2"
             "time", "dl", "dt", "dd"}
 ATTRIBUTES = {"lang", "charset", "name", "content", "scope", "class"}
 # what only the pages of a docket that is served have
-SERVED_ELEMENTS = {"nav", "a", "form", "label", "input", "button"}
-SERVED_ATTRIBUTES = {"href", "action", "type", "required", "min", "max", "aria-label"}
+SERVED_ELEMENTS = {"nav", "a", "form", "label", "input", "button", "select", "option", "span", "ul", "li", "pre"}
+SERVED_ATTRIBUTES = {"href", "action", "type", "required", "min", "max", "aria-label", "method", "autocomplete", "id", "for", "value", "inputmode", "pattern",
+                     "placeholder", "selected", "role", "aria-invalid", "aria-describedby"}
 NOT_OF_HTML_4 = re.compile(r"Tag (main|bdi|time|nav) invalid")
 
 
 class Page(HTMLParser):
-    """The texts of the cells of a page and of what is said of a case, where its links lead, and each element, which is closed where it
-    was opened."""
+    """The texts of the cells of a page, without the links to forms beside them, of what is said of a case, and of lines as they stand; where
+    its links lead, the values of its inputs, and each element, which is closed where it was opened."""
 
     def __init__(self):
         super().__init__(convert_charrefs=True)
-        self.open, self.rows, self.said, self.links, self.elements, self.attributes = [], [], [], [], set(), set()
+        self.open, self.rows, self.said, self.links, self.elements, self.attributes, self.lines, self.values = [], [], [], [], set(), set(), "", {}
 
     def handle_starttag(self, tag, attrs):
         self.elements.add(tag)
         self.attributes |= {name for name, _ in attrs}
         self.links += [value for name, value in attrs if name in ("href", "action")]
+        if tag == "input":
+            self.values[dict(attrs).get("name")] = dict(attrs).get("value")
         if tag == "tr":
             self.rows.append([])
         if tag in ("td", "th"):
@@ -45,8 +48,10 @@ class Page(HTMLParser):
             sys.exit(f"</{tag}> closes another element")
 
     def handle_data(self, data):
-        if "td" in self.open or "th" in self.open:
+        if ("td" in self.open or "th" in self.open) and "span" not in self.open:
             self.rows[-1][-1] += data
+        if "pre" in self.open:
+            self.lines += data
         if "dd" in self.open:
             self.said[-1] += data
 

@@ -13,7 +13,7 @@ import time
 JSON = "application/json"
 TEXT = "text/plain; charset=utf-8"
 PHRASES = {200: "OK", 400: "Bad Request", 403: "Forbidden", 404: "Not Found", 405: "Method Not Allowed", 409: "Conflict", 411: "Length Required",
-           413: "Payload Too Large", 431: "Request Header Fields Too Large", 500: "Internal Server Error",
+           413: "Payload Too Large", 415: "Unsupported Media Type", 431: "Request Header Fields Too Large", 500: "Internal Server Error",
            503: "Service Unavailable"}
 PATIENCE = 60  # seconds that a check waits for what should come sooner
 RESET, SILENCE = b"<reset>", b"<no end>"

@@ -1,0 +1,168 @@
+"""For checks/forms: a served docket at which a browser enters commands, and what was entered."""
+import json
+import os
+import re
+import subprocess
+import urllib.parse
+
+from forms_data import COURT, WITHOUT_CASE
+from forms_pages import ALERT, FILL, FORM
+from http_clients import Server, get
+from served_dockets import rows
+
+POLICY = "default-src 'none'; style-src 'unsafe-inline'; form-action 'self'; base-uri 'none'; frame-ancestors 'none'"
+BUTTON = "form[action='/pages/commands'] button"
+counts = {True: 0, False: 0}
+
+
+def check(name, found, wanted):
+    """Counts a check, and prints a line of what is not as wanted."""
+    counts[found == wanted] += 1
+    if found != wanted:
+        print(f"{name}: FAILED: {found!r:.300} and not {wanted!r:.300}", flush=True)
+    return found == wanted
+
+
+def written(value):
+    """A value of a command as a form has it."""
+    return str(value).lower() if isinstance(value, bool) else str(value)
+
+
+def is_number(text):
+    """Whether a link may have it: a number from 1 to 4294967295."""
+    return text.isdigit() and 0 < int(text) < 2**32
+
+
+def written_all(fields):
+    return {name: written(value) for name, value in fields.items()}
+
+
+def path_after(kind, fields, reply):
+    """Where an accepted command leads."""
+    if kind == "open_case":
+        return f"pages/cases/{reply}"
+    if kind in WITHOUT_CASE:
+        return "pages/rules" if kind == "local_rule" else "pages/court-days"
+    return f"pages/cases/{fields['case']}"
+
+
+class Desk:
+    """A docket that is served with pages, a tab of a browser that shows it, and the commands that it accepted, in order."""
+
+    def __init__(self, program, path, before):
+        self.program, self.path, self.entered, self.keys, self.forms, self.copies = program, path, [], set(), 0, 0
+        make(program, path, before)
+        self.server = Server(program, path, None, words=["--pages"])
+        self.host = f"127.0.0.1:{self.server.port}"
+        self.begun = list(before)
+
+    def address(self, path):
+        return f"http://{self.host}/{path.removeprefix('/')}"
+
+    def ask(self, target):
+        """The status and the body of an answer."""
+        head, _, body = self.server.ask(get(target, host=self.host)).partition(b"\r\n\r\n")
+        return int(head[9:12]), body
+
+    def post(self, command):
+        """Enters a command beside the browser, as a program does, and returns the reply."""
+        body = json.dumps(command).encode()
+        head = f"POST /commands HTTP/1.1\r\nHost: {self.host}\r\nContent-Length: {len(body)}\r\n\r\n".encode()
+        reply = json.loads(self.server.ask(head + body).partition(b"\r\n\r\n")[2])
+        if "number" in reply:
+            self.entered.append(command)
+        return reply
+
+    def begun_post(self, body):
+        """A connection on which a form was sent."""
+        head = f"POST /pages/commands HTTP/1.1\r\nHost: {self.host}\r\nOrigin: http://{self.host}\r\nContent-Type: application/x-www-form-urlencoded\r\nContent-Length: {len(body)}\r\n\r\n"
+        return self.server.begun((head + body).encode())
+
+    def state(self):
+        """All rows of the docket, of a copy that the server makes."""
+        status, copy = self.ask("/pages/backup")
+        place = os.path.join(os.path.dirname(self.path), "copies")
+        os.makedirs(place, exist_ok=True)
+        with open(os.path.join(place, "copy.db"), "wb") as file:
+            file.write(copy)
+        return rows(file.name, place) if status == 200 else f"no copy: {status}"
+
+    def open(self, tab, kind, fields=()):
+        """Shows the form of a kind, filled in with the case and the deadline, as the links of a docket sheet do, and takes it."""
+        named = [(name, written(fields[name])) for name in ("case", "deadline") if name in fields and is_number(written(fields[name]))]
+        query = "?" + urllib.parse.urlencode(named) if named and named[0][0] == "case" and kind not in WITHOUT_CASE else ""
+        tab.go(self.address(f"pages/enter/{kind}{query}"))
+        form = tab.value(FORM)
+        if not form:
+            raise RuntimeError(f"{kind}: there is no form at {query}")
+        if query:
+            check(f"{kind}: filled in", {name: form["values"].get(name) for name, _ in named}, dict(named))
+        self.is_fresh(kind, form)
+        return form
+
+    def is_fresh(self, name, form):
+        """No form before had its key."""
+        key = form["values"]["key"]
+        check(f"{name}: a fresh key", (key in self.keys, bool(re.fullmatch(r"[!-~]{1,64}", key))), (False, True))
+        self.keys.add(key)
+
+    def send(self, tab, name, texts, unasked=False, times=1):
+        """Fills the form in and clicks on its button; what was posted, with the status, and where that led."""
+        check(f"{name}: the texts are taken", tab.value(f"({FILL})({json.dumps(texts)}, {json.dumps(unasked)})"), [])
+        return self.sent(tab, name, times)
+
+    def sent(self, tab, name, times=1):
+        """Clicks on the button of the form as it is."""
+        tab.taken()
+        tab.click(BUTTON, times)
+        self.forms += 1
+        came = tab.taken()
+        posts = [one for one in came if one[0] == "POST"]
+        if not posts:
+            raise RuntimeError(f"{name}: nothing was posted: {[one[:3] for one in came]}")
+        return posts[0], came[-1]
+
+    def accept(self, tab, kind, fields, reply=None):
+        """Enters a command by its form: the answer leads to a page that is shown."""
+        form = self.open(tab, kind, fields)
+        post, last = self.send(tab, kind, written_all(fields))
+        return self.is_accepted(kind, fields, form["values"]["key"], post, last, reply)
+
+    def is_accepted(self, kind, fields, key, post, last, reply=None):
+        """The answer to a form that was taken, which is kept with its key."""
+        said = dict(urllib.parse.parse_qsl(post[3], keep_blank_values=True))
+        check(f"{kind}: the command, key and texts are sent", {name: said.get(name) for name in ("do", "key", *fields)}, {"do": kind, "key": key, **written_all(fields)})
+        check(f"{kind}: the form is answered", (post[1], post[2]), ("pages/commands", 303))
+        location = path_after(kind, fields, reply)
+        check(f"{kind}: it leads on", {name: post[4].get(name) for name in ("location", "content-length", "cache-control")},
+              {"location": "/" + location, "content-length": "0", "cache-control": "no-store"})
+        check(f"{kind}: the page is shown", last[:3], ("GET", location, 200))
+        command = {"do": kind, "key": key, **fields}
+        if post[2] == 303 and command not in self.entered:
+            self.entered.append(command)
+        return key
+
+    def is_refused(self, tab, name, status, sent, post, marked, before):
+        """The form again: what is said, every text that was sent, what is marked, a fresh key; and the docket is as it was."""
+        check(f"{name}: the form is answered", (post[1], post[2]), ("pages/commands", status))
+        check(f"{name}: a page that runs nothing and is not kept", [post[4].get(field) for field in ("content-type", "content-security-policy", "cache-control")],
+              ["text/html; charset=utf-8", POLICY, "no-store"])
+        said, form = tab.value(ALERT), tab.value(FORM)
+        check(f"{name}: one sentence is said", (len(said), bool(said and said[0])), (1, True))
+        if check(f"{name}: the form again", form is not None, True):
+            check(f"{name}: the texts stand", {field: form["values"].get(field) for field in sent if field != "key"}, {field: text for field, text in sent.items() if field != "key"})
+            check(f"{name}: what is marked is tied to what is said", form["tied"], True)
+            if marked is not None:
+                check(f"{name}: what is marked", form["marked"], marked)
+            self.is_fresh(name, form)
+        check(f"{name}: the docket is as it was", self.state() == before, True)
+        return said[0] if said else "", form["marked"] if form else []
+
+
+def make(program, path, lines):
+    """Makes a docket, and has it take commands, each of which is accepted."""
+    subprocess.run([program, "create", "--db", path, *COURT], stdout=subprocess.DEVNULL, check=True)
+    text = "".join(json.dumps(line) + "\n" for line in lines)
+    done = subprocess.run([program, "run", "--db", path], input=text.encode(), capture_output=True)
+    if done.returncode != 0:
+        raise RuntimeError(f"{path}: {[line for line in done.stdout.decode().splitlines() if 'number' not in line][:3]} {done.stderr.decode()}")
