@@ -25,6 +25,7 @@ use docket_command::Command;
 use docket_decisions::{DecideFault, Decision, decide};
 use docket_history::{StandingCalendar, Subject, View};
 use docket_tables::ReadFault;
+use docket_wire::command_text;
 use sqlite::{Alter, Connection, Error};
 use std::alloc::Global;
 use std::mem;
@@ -188,4 +189,23 @@ pub(crate) fn judge<S: Alter>(
     let subject = Subject::of(&command.action);
     let mut view = look(conn, alloc, kept, command, subject, body, failure)?;
     decide_by(alloc, court, kept, &mut view, command, subject)
+}
+
+/// Decides a command by the docket of the court in the database, and writes nothing. `kept` is the calendar that
+/// is kept beside the connection; if the database fails, `failure` has its error.
+pub fn decide_on<S: Alter>(
+    conn: &mut Connection<S>,
+    alloc: Global,
+    court: &Court,
+    kept: &mut Option<StandingCalendar>,
+    command: &Command,
+    failure: &mut Option<Error>,
+) -> Result<Decision, Fault>
+    requires { conn.old.in_transaction ≡ false }
+    ensures leaves { LeavesIdle S.Store conn.old conn.new failure.new result }
+    ensures judged { (h : History) → Stands S.Store (serving conn.old court.now kept.old) h
+        → Judges S.Store (serving conn.new court.now kept.new) h command.now result }
+{
+    let body = command_text(alloc, command)?;
+    judge(conn, alloc, court, kept, command, body.as_str(), failure)
 }

@@ -3,7 +3,7 @@
 //! A command is three steps. `view` shows a docket as the command needs it, where `is_sound` tests whether a
 //! history can show that. Then the command is decided. `write` makes the changes of an accepted one, adds its
 //! receipt and updates the stored ends of deadlines in one transaction, all of it or nothing. `apply_to` does
-//! the three. `case_record`, `lines_numbered`, `due_days`, `grounds_of` and `list_days` answer questions
+//! the three, and `decide_on` only decides. `case_record`, `lines_numbered`, `due_days`, `grounds_of` and `list_days` answer questions
 //! about a case, a deadline and the calendar. The tables and their statements are those of `docket_tables`;
 //! `docket_store` keeps the connection, from its opening to its end.
 //!
@@ -33,5 +33,7 @@ pub use cases::case_record;
 pub use due::due_days;
 pub use explaining::{Grounds, grounds_of};
 pub use fault::{Fault, closing_error, read_fault};
+pub use judging::decide_on;
 pub use listing::{CalendarEnd, ListingEnd, breaking_error, list_days};
+pub use sound::{is_sound_calendar, is_sound_case};
 pub use writing::write;

@@ -148,7 +148,7 @@ pub(crate) fn is_sound(court: &Court, view: &View) -> bool
 }
 
 /// Whether these may be the items of a calendar.
-pub(crate) fn is_sound_calendar(items: &[CalendarItem]) -> bool
+pub fn is_sound_calendar(items: &[CalendarItem]) -> bool
     ensures { IsTrue result ↔ IsSoundCalendar items.now }
 {
     if items.len() > MOST_ROWS {
@@ -157,8 +157,8 @@ pub(crate) fn is_sound_calendar(items: &[CalendarItem]) -> bool
     are_entered_items(items)
 }
 
-/// Whether a history can show these deadlines of a case.
-pub(crate) fn is_sound_case(court: &Court, deadlines: &[DeadlineView]) -> bool
+/// Whether a history can show these deadlines of a case: at most 1,000, each with lawful acts.
+pub fn is_sound_case(court: &Court, deadlines: &[DeadlineView]) -> bool
     ensures { IsTrue result ↔ IsSoundCase court.now deadlines.now }
 {
     if deadlines.len() > MOST_DEADLINES {

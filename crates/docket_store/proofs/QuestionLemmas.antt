@@ -1,5 +1,5 @@
 -- From the result of a question to the tables to that of a question to the docket.
-use Rattle.std.proofs.Common.{◌≡◌, ◌∙◌, ◌≤◌, ◌↔◌, true, List, Option, None, Result, Ok, Err, IsErrAnd, refl, sym, ap, subst, arith}
+use Rattle.std.proofs.Common.{◌≡◌, ◌∙◌, ◌≤◌, ◌↔◌, true, List, Option, Some, None, Result, Ok, Err, IsErrAnd, refl, sym, ap, subst, arith}
 use Rattle.std.specs.Prelude.{is_some}
 use Rattle.sqlite.specs.Store.{Ghosts}
 use Rattle.sqlite.specs.State.{HasCleanDisk}
@@ -7,12 +7,14 @@ use Rattle.sqlite.specs.Held.{Held, state}
 use Rattle.sqlite.specs.View.{doubt}
 use Rattle.sqlite.specs.declared.error.Error.{Error}
 use Rattle.court_days.specs.Court.{CourtSettings}
+use Rattle.docket_command.specs.declared.command.Command.{Command}
+use Rattle.docket_decisions.specs.declared.decision.Decision.{Decision}
 use Rattle.docket_history.specs.Histories.{History}
 use Rattle.docket_history.specs.declared.item.CalendarItem.{CalendarItem}
 use Rattle.docket_tables.specs.Layouts.{Rows}
 use Rattle.docket_tables.specs.Readings.{Fails, Gives}
 use Rattle.docket_tables.specs.declared.fault.ReadFault.{ReadFault}
-use Rattle.docket_applying.specs.Applying.{Asks, FailsAs, IsDocket, Keeps, docket_rows}
+use Rattle.docket_applying.specs.Applying.{Asks, FailsAs, IsDocket, Judges, Keeps, docket_rows}
 use Rattle.docket_applying.specs.Dockets.{Docket, serving}
 use Rattle.docket_applying.specs.declared.fault.Fault.{Fault}
 use Rattle.docket_applying.specs.declared.fault.Fault.TheVariants.{StoreFailed}
@@ -50,3 +52,10 @@ module _ {S : Type 0} (g : Ghosts S) (court : CourtSettings) (kept : Option (Lis
       answered conn new P x by result it.0 it.1 it.2 (record { docket = is; serves = refl; rows = gives.0; calendar = keeps }, gives.1)
   question_asks conn new P (Err why) by result is keeps clean gives ok err closes =
       unanswered new P by result is (λ now. keeps (omega (arith, clean, now))) closes.0 (err why (docket_rows court h) (docket_rows court h) refl gives)
+
+  -- what deciding a command returns: a docket is closed exactly if its database failed
+  pub judges_kept : (c : Command) (conn : Held S) (by : Option Error) (result : Result Decision Fault) → (is_some by ≡ true → result ≡ Err StoreFailed)
+      → Judges g (serving conn court kept) h c result → Judges g (left conn by) h c result
+  judges_kept c conn None result failed judges = judges
+  judges_kept c conn (Some e) result failed judges =
+      subst (λ r. Judges g (left conn (Some e)) h c r) (sym (failed refl)) (subst (λ r. Judges g (serving conn court kept) h c r) (failed refl) judges)

@@ -1,5 +1,5 @@
 //! Questions to the docket. A question writes nothing; if the database fails under it, the docket is closed.
-ghost use Rattle.std.specs.Prelude.{◌≡◌, ◌↔◌, ◌≤◌, Option, Some, None, true, false, Ok, Err, IfOk, IfSome, IsErrAnd, is_some};
+ghost use Rattle.std.specs.Prelude.{◌≡◌, ◌↔◌, ◌≤◌, Option, Some, None, true, false, Ok, Err, length, IfOk, IfSome, IsErrAnd, is_some};
 ghost use Rattle.std.specs.Option.{option_map};
 ghost use Rattle.sqlite.specs.Held.{state};
 ghost use Rattle.sqlite.specs.State.{HasCleanDisk, Survives};
@@ -16,7 +16,7 @@ ghost use Rattle.docket_tables.specs.Stands.{HoldsRows};
 ghost use Rattle.docket_tables.specs.declared.fault.ReadFault.{ReadFault as Unread};
 ghost use Rattle.docket_tables.specs.declared.fault.ReadFault.TheVariants.{Store};
 ghost use Rattle.docket_applying.specs.AnyRows.{Preserves, PreservesCalendar, PreservesListing};
-ghost use Rattle.docket_applying.specs.Applying.{Asks, FailsAs, Stands};
+ghost use Rattle.docket_applying.specs.Applying.{Asks, FailsAs, Judges, Stands};
 ghost use Rattle.docket_applying.specs.Causes.{IsClosedForCause};
 ghost use Rattle.docket_applying.specs.Grounds.{AreGrounds};
 ghost use Rattle.docket_applying.specs.Listing.{HasBroken, Lists, ListsCalendar};
@@ -28,13 +28,15 @@ ghost use Rattle.docket_store.specs.Asking.{OnlyAnswers};
 use crate::docket::Docket;
 use court_days::Day;
 use docket_applying::{
-    CalendarEnd, Fault, Grounds, ListingEnd, breaking_error, case_record, closing_error, due_days,
-    grounds_of, lines_numbered, list_days, read_fault,
+    CalendarEnd, Fault, Grounds, ListingEnd, breaking_error, case_record, closing_error, decide_on,
+    due_days, grounds_of, lines_numbered, list_days, read_fault,
 };
+use docket_command::Command;
+use docket_decisions::Decision;
 use docket_history::{
     CalendarRow, CaseRecord, CaseRow, DeadlineLine, DueRow, LocalRuleRow, PartyRow,
 };
-use docket_tables::{ReadFault, calendar, case, case_labelled, local_rules, parties};
+use docket_tables::{ReadFault, calendar, case, case_labelled, cases, local_rules, parties};
 use sqlite::{Alter, Connection, Error};
 use std::io::Write;
 
@@ -127,6 +129,35 @@ impl<S: Alter> Docket<S> {
             return Err(Fault::Closed);
         }
         let found = local_rules(&mut self.conn, self.alloc);
+        told(&mut self.conn, &mut self.closed_by, found)
+    }
+
+    /// What would be done with a command: whether it is accepted, with which changes. Nothing is done.
+    pub fn decision(&mut self, command: &Command) -> Result<Decision, Fault>
+        ensures answer { (h : History) → Stands S.Store self.old h → Judges S.Store self.new h command.now result }
+        ensures only { OnlyAnswers S.Store self.old self.new result }
+    {
+        if self.closed_by.is_some() {
+            return Err(Fault::Closed);
+        }
+        let conn = &mut self.conn;
+        let kept = &mut self.calendar;
+        let mut failure = None;
+        let answer = decide_on(conn, self.alloc, &self.court, kept, command, &mut failure);
+        self.closed_by = closing_error(&answer, failure);
+        answer
+    }
+
+    /// How many cases the docket has. They are numbered from 1.
+    pub fn count_cases(&mut self) -> Result<u32, Fault>
+        ensures answer { (h : History) → Stands S.Store self.old h
+            → Asks S.Store self.new h (λ found. found ≡ length (case_rows h)) result }
+        ensures only { OnlyAnswers S.Store self.old self.new result }
+    {
+        if self.closed_by.is_some() {
+            return Err(Fault::Closed);
+        }
+        let found = cases(&mut self.conn);
         told(&mut self.conn, &mut self.closed_by, found)
     }
 
