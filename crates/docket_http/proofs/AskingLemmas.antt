@@ -105,6 +105,12 @@ module _ {S : Type 0} (g : Ghosts S) where
   built_asks d h P response (Ok reply) is short stands answer = (stands, λ clean. answer clean reply is)
   built_asks d h P response (Err f) is short stands answer = subst (λ (x : Fault). Asks g d h P (Err x)) (sym short) stands
 
+  -- or by what was asked
+  pub written_asks : (d : Docket S) (h : History) (P : Reply → Type 0) (r : Result Reply Fault) → Stands g d h → (HasCleanDisk (state g d.conn) → IfOk r P) → IfErr r (λ f. f ≡ fault.NoMemory)
+      → Asks g d h P r
+  written_asks d h P (Ok reply) stands is short = (stands, is)
+  written_asks d h P (Err f) stands is short = subst (λ (x : Fault). Asks g d h P (Err x)) (sym short) stands
+
   pub built_told : (old d : Docket S) {X : Type 0} (x : X) (r : Result Reply Fault) → IfErr r (λ f. f ≡ fault.NoMemory) → OnlyAnswers g old d (Ok x) → OnlyAnswers g old d r
   built_told old d x (Ok reply) short only = same_told g old d x reply only
   built_told old d x (Err f) short only = short_told g old d x (Err f) short only

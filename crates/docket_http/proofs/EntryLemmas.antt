@@ -3,7 +3,7 @@ use Rattle.std.proofs.Common.{◌≡◌, IsTrue, ℕ, List, Some, refl, subst}
 use Rattle.court_days.specs.Court.{CourtSettings}
 use Rattle.docket_history.specs.Histories.{History}
 use Rattle.http_request.specs.declared.wish.Wish.{Wish}
-use Rattle.http_request.specs.declared.wish.Wish.TheVariants.{Reject, Command as CommandWish, Form as FormWish, Case, Deadlines, Calendar, Holidays, Page as PageWish, Copy}
+use Rattle.http_request.specs.declared.wish.Wish.TheVariants.{Reject, Refuse, Command as CommandWish, Form as FormWish, Preview, Case, Deadlines, Calendar, Holidays, Page as PageWish, Copy}
 use Rattle.docket_http.specs.Answer.{Response}
 use Rattle.docket_http.specs.Asking.{IsClosedAnswer, IsUnlessShort, asks_docket, response_to, takes_memory}
 use Rattle.docket_http.specs.Entering.{Entry, closed_entry, entry_of, entry_response, form_entry, line_entry}
@@ -23,6 +23,8 @@ entering (CommandWish len) body e is =
 entering (FormWish len fresh) body e is =
     entering_as (FormWish len fresh) body (form_entry fresh body) e is (record { response = λ court h. refl; asks = refl; takes = refl; closed = λ response closed. closed })
 entering (Reject r) body e is = absurd (cc)
+entering (Refuse r) body e is = absurd (cc)
+entering (Preview len fresh) body e is = absurd (cc)
 entering (Case number) body e is = absurd (cc)
 entering (Deadlines number) body e is = absurd (cc)
 entering (Calendar from to) body e is = absurd (cc)

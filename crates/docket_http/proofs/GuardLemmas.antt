@@ -6,15 +6,17 @@ use Rattle.http_request.specs.Head.{head_of}
 use Rattle.http_request.specs.Request.{IsRequest, IsLetThrough}
 use Rattle.http_request.specs.declared.page.Routes.{Routes}
 use Rattle.http_request.specs.declared.wish.Wish.{Wish}
-use Rattle.http_request.specs.declared.wish.Wish.TheVariants.{Reject, Command, Form, Case, Deadlines, Calendar, Holidays, Page, Copy}
+use Rattle.http_request.specs.declared.wish.Wish.TheVariants.{Reject, Refuse, Command, Form, Preview, Case, Deadlines, Calendar, Holidays, Page, Copy}
 use Rattle.http_request.proofs.GuardLemmas.{let_through_by}
 use Rattle.docket_http.specs.Asking.{history_after}
 
 pub let_through : (routes : Routes) (fresh : ℕ) (input : List ℕ) (wish : Wish) (body : List ℕ) (court : CourtSettings) (h : History)
     → IsRequest routes fresh input wish body → ¬ (history_after court h wish body ≡ h) → IsLetThrough routes input
 let_through routes fresh input (Reject r) body court h is changes = absurd (changes refl)
+let_through routes fresh input (Refuse r) body court h is changes = absurd (changes refl)
 let_through routes fresh input (Command n) body court h is changes = let_through_by routes fresh (head_of input) input (Command n) body refl is refl
 let_through routes fresh input (Form n k) body court h is changes = let_through_by routes fresh (head_of input) input (Form n k) body refl is refl
+let_through routes fresh input (Preview n k) body court h is changes = absurd (changes refl)
 let_through routes fresh input (Case n) body court h is changes = absurd (changes refl)
 let_through routes fresh input (Deadlines n) body court h is changes = absurd (changes refl)
 let_through routes fresh input (Calendar from to) body court h is changes = absurd (changes refl)

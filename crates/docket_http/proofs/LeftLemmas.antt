@@ -17,10 +17,11 @@ use Rattle.docket_wire.specs.declared.fault.WireFault.{WireFault}
 use Rattle.http_request.specs.declared.fields.Rejection.{Rejection}
 use Rattle.http_request.specs.declared.fields.Rejection.TheVariants as rejection
 use Rattle.http_request.specs.declared.wish.Wish.{Wish}
-use Rattle.http_request.specs.declared.wish.Wish.TheVariants.{Reject, Command as CommandWish, Form as FormWish, Case, Deadlines, Calendar, Holidays, Page as PageWish, Copy}
+use Rattle.http_request.specs.declared.wish.Wish.TheVariants.{Reject, Refuse, Command as CommandWish, Form as FormWish, Preview, Case, Deadlines, Calendar, Holidays, Page as PageWish, Copy}
 use Rattle.docket_http.specs.Answer.{Response, found, rejection_status}
 use Rattle.docket_http.specs.Asking.{IsAnswered, LeftBy, history_after, response_to, text_of_page, told}
 use Rattle.docket_http.specs.Entering.{Manner, in_json, in_pages, command_response, outcome_response, said_response}
+use Rattle.docket_http.specs.Previews.{outcome_previewed, reading_previewed}
 use Rattle.docket_http.specs.declared.head.Form.{Form}
 use Rattle.docket_http.specs.declared.head.Form.TheVariants.{File, Html, Json, OpenText, Seen, Text}
 use Rattle.docket_http.specs.declared.problem.Problem.{Problem}
@@ -55,6 +56,16 @@ command_fine court h manner (Ok c) = outcome_fine manner c (outcome court h c)
 command_fine court h in_json (Err fault) = refl
 command_fine court h (in_pages fresh pairs) (Err fault) = refl
 
+previewed_fine : (court : CourtSettings) (h : History) (fresh : ℕ) (pairs : List (List ℕ × List ℕ)) (c : Command) (a : Answer)
+    → ((outcome_previewed court h fresh pairs c a).status == 503) ≡ false
+previewed_fine court h fresh pairs c (accepted reply) = refl
+previewed_fine court h fresh pairs c (repeated reply) = refl
+previewed_fine court h fresh pairs c (refused r) = refl
+
+preview_fine : (court : CourtSettings) (h : History) (fresh : ℕ) (pairs : List (List ℕ × List ℕ)) (r : Result Command WireFault) → ((reading_previewed court h fresh pairs r).status == 503) ≡ false
+preview_fine court h fresh pairs (Ok c) = previewed_fine court h fresh pairs c (outcome court h c)
+preview_fine court h fresh pairs (Err fault) = refl
+
 found_fine : (form : Form) (found_text : Option (List ℕ)) → ((found form found_text).status == 503) ≡ false
 found_fine Json None = refl
 found_fine Text None = refl
@@ -66,8 +77,10 @@ found_fine form (Some body) = refl
 
 response_fine : (court : CourtSettings) (h : History) (wish : Wish) (body : List ℕ) → ((response_to court h wish body).status == 503) ≡ false
 response_fine court h (Reject r) body = rejected_fine r
+response_fine court h (Refuse r) body = rejected_fine r
 response_fine court h (CommandWish len) body = command_fine court h in_json (command_in body)
 response_fine court h (FormWish len fresh) body = command_fine court h (in_pages fresh (pairs_in body)) (command_in_form body)
+response_fine court h (Preview len fresh) body = preview_fine court h fresh (pairs_in body) (command_in_form body)
 response_fine court h (Case number) body = found_fine Text (text_of_case court h number)
 response_fine court h (Deadlines number) body = found_fine Text (text_of_deadlines court h number)
 response_fine court h (Calendar from to) body = refl

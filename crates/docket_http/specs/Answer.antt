@@ -117,6 +117,22 @@ problem_word Damaged = codes "damaged"
 abbrev pub problem_response : Problem → Response
 problem_response p = json (problem_status p) (codes "{\"error\":\"" ++ problem_word p ++ codes "\"}")
 
+-- what a browser is told of a request that is refused: what to do
+abbrev pub rejection_sentence : Rejection → List ℕ
+rejection_sentence HeadTooLong = codes "The address is too long. Begin at Cases."
+rejection_sentence BadHead = codes "The request could not be read. Begin at Cases."
+rejection_sentence NotFound = codes "There is no such page. Begin at Cases."
+rejection_sentence Method = codes "This address is not opened in this way. Begin at Cases."
+rejection_sentence BadPathValue = codes "A value in the address is not right: a number is 1 or more, a day is YYYY-MM-DD, and a search has 1 to 100 bytes. Correct it, or begin at Cases."
+rejection_sentence LengthRequired = codes "The form came without its length. Open it again in a browser."
+rejection_sentence TooLong = codes "The form is too long. Shorten it, and enter it again."
+rejection_sentence Foreign = codes "The request came from another site. Begin at Cases."
+rejection_sentence MediaType = codes "The form was not sent as a form. Open it again in a browser."
+
+-- the page of a request that is refused
+abbrev pub refusal_page : Rejection → Response
+refusal_page rejection = page (rejection_status rejection) (text_page (codes "Request refused") (rejection_sentence rejection))
+
 -- what a question asks about does not exist: a browser gets a page that says so
 abbrev pub missing : Form → Response
 missing Html = page 404 (text_page (codes "Not found") (codes "There is no such case, or the case has no such deadline."))

@@ -6,26 +6,31 @@ use Rattle.sqlite.specs.State.{HasCleanDisk}
 use Rattle.sqlite.specs.Held.{state}
 use Rattle.court_days.specs.Court.{CourtSettings}
 use Rattle.docket_command.specs.declared.command_name.CommandName.{CommandName}
-use Rattle.docket_history.specs.Histories.{History, local_rule_rows, standing_rows}
+use Rattle.docket_history.specs.Histories.{History, standing_rows}
 use Rattle.docket_tables.specs.Stands.{LastsAsEither}
 use Rattle.docket_applying.specs.Applying.{Stands, docket_rows}
 use Rattle.docket_applying.specs.Dockets.{Docket}
 use Rattle.docket_applying.specs.declared.fault.Fault.{Fault}
 use Rattle.docket_applying.specs.declared.fault.Fault.TheVariants as fault
 use Rattle.docket_calendar.specs.Calendar.{text_of_calendar}
-use Rattle.docket_questions.specs.Texts.{page_of_case, page_of_cases, page_of_days, page_of_reasons, rules_page, text_of_case, text_of_deadlines}
+use Rattle.docket_questions.specs.Searches.{page_of_search}
+use Rattle.docket_questions.specs.Texts.{page_of_case, page_of_cases, page_of_days, page_of_reasons, page_of_rules, text_of_case, text_of_deadlines}
 use Rattle.docket_text.specs.HolidayTexts.{holiday_text}
 use Rattle.entry_pages.specs.Forms.{about_pairs}
 use Rattle.entry_pages.specs.Pages.{entry_page, kinds_page}
-use Rattle.entry_pages.specs.declared.said.Said.TheVariants.{Nothing}
+use Rattle.entry_pages.specs.Saying as saying
 use Rattle.html_sheets.specs.Sites.{court_days_page}
+use Rattle.html_sheets.specs.declared.due_list.DueList.{DueList}
+use Rattle.html_sheets.specs.declared.due_list.DueList.TheVariants as list
 use Rattle.html_sheets.specs.declared.about.About.{About}
 use Rattle.http_request.specs.declared.page.Page.{Page}
 use Rattle.http_request.specs.declared.page.Page.TheVariants as page
 use Rattle.http_request.specs.declared.wish.Wish.{Wish}
-use Rattle.http_request.specs.declared.wish.Wish.TheVariants.{Reject, Command as CommandWish, Form as FormWish, Case, Deadlines, Calendar, Holidays, Page as PageWish, Copy}
-use Rattle.docket_http.specs.Answer.{Response, fine, found, problem_response}
+use Rattle.http_request.specs.declared.wish.Wish.TheVariants.{Reject, Refuse, Command as CommandWish, Form as FormWish, Preview, Case, Deadlines, Calendar, Holidays, Page as PageWish, Copy}
+use Rattle.docket_http.specs.Answer.{Response, fine, found, problem_response, refusal_page}
+use Rattle.docket_http.specs.Due.{due_days, list_of}
 use Rattle.docket_http.specs.Entering.{after_reading, closed_entry, entry_of, entry_response, form_entry, line_entry}
+use Rattle.docket_http.specs.Previews.{preview_response}
 use Rattle.docket_http.specs.Reply.{IsReply}
 use Rattle.docket_http.specs.declared.head.Form.TheVariants.{Text, OpenText, Html}
 use Rattle.docket_http.specs.declared.problem.Problem.{Problem}
@@ -34,24 +39,32 @@ use Rattle.docket_http.specs.declared.reply.Reply.{Reply}
 
 -- the form of that kind, filled in with the numbers of what it is about
 abbrev pub form_about : CommandName → ℕ → About → List ℕ
-form_about kind fresh about = entry_page kind fresh (about_pairs about) Nothing
+form_about kind fresh about = entry_page kind fresh (about_pairs about) saying.nothing
+
+-- what is listed of the deadlines by the day of the request
+abbrev pub page_of_due : DueList → CourtSettings → History → ℕ × ℕ → List ℕ
+page_of_due list court h days = page_of_days list court h days.0 days.1
 
 -- the text of a page, if what it shows exists
 abbrev pub text_of_page : CourtSettings → History → Page → Option (List ℕ)
-text_of_page court h (page.Cases from) = Some (page_of_cases h from)
+text_of_page court h (page.Cases before) = Some (page_of_cases h before)
 text_of_page court h (page.Case number) = page_of_case court h number
-text_of_page court h (page.Days from to) = Some (page_of_days court h from to)
+text_of_page court h (page.Days from to) = Some (page_of_days list.Days court h from to)
+text_of_page court h (page.Due due fresh) = Some (page_of_due (list_of due) court h (due_days court due fresh))
+text_of_page court h (page.Search words) = Some (page_of_search h words)
 text_of_page court h page.CourtDays = Some (court_days_page court (standing_rows h))
-text_of_page court h page.Rules = Some (rules_page (local_rule_rows h))
+text_of_page court h page.Rules = Some (page_of_rules h)
 text_of_page court h (page.Reasons case deadline) = page_of_reasons court h case deadline
-text_of_page court h page.Kinds = Some (kinds_page Nothing)
+text_of_page court h page.Kinds = Some (kinds_page saying.nothing)
 text_of_page court h (page.Enter kind about fresh) = Some (form_about kind fresh about)
 
 -- the answer to a request with this body; a docket has no copy of its own file to send
 abbrev pub response_to : CourtSettings → History → Wish → List ℕ → Response
 response_to court h (Reject rejection) body = problem_response (Rejected rejection)
+response_to court h (Refuse rejection) body = refusal_page rejection
 response_to court h (CommandWish len) body = entry_response court h (line_entry body)
 response_to court h (FormWish len fresh) body = entry_response court h (form_entry fresh body)
+response_to court h (Preview len fresh) body = preview_response court h fresh body
 response_to court h (Case number) body = found Text (text_of_case court h number)
 response_to court h (Deadlines number) body = found Text (text_of_deadlines court h number)
 response_to court h (Calendar from to) body = fine OpenText (text_of_calendar court h from to)
@@ -72,12 +85,13 @@ asks_for_page _ = true
 -- whether the answer needs the docket
 abbrev pub asks_docket : Wish → Bool
 asks_docket (Reject rejection) = false
+asks_docket (Refuse rejection) = false
 asks_docket (Holidays year) = false
 asks_docket Copy = false
 asks_docket (PageWish page) = asks_for_page page
 asks_docket _ = true
 
--- whether the answer needs memory: the answer to a request that is refused by its head is a constant
+-- whether the answer needs memory: that in JSON to a request that is refused by its head is a constant
 abbrev pub takes_memory : Wish → Bool
 takes_memory (Reject rejection) = false
 takes_memory _ = true
@@ -94,8 +108,10 @@ problem_of_fault (fault.Refused r) = Damaged
 abbrev pub IsBuilt : Wish → Type 0
 IsBuilt (Calendar from to) = ⊥
 IsBuilt (Reject rejection) = Unit {0}
+IsBuilt (Refuse rejection) = Unit {0}
 IsBuilt (CommandWish len) = Unit {0}
 IsBuilt (FormWish len fresh) = Unit {0}
+IsBuilt (Preview len fresh) = Unit {0}
 IsBuilt (Case number) = Unit {0}
 IsBuilt (Deadlines number) = Unit {0}
 IsBuilt (Holidays year) = Unit {0}
@@ -138,7 +154,7 @@ abbrev pub IsUnlessShort : Response → Response → Type 0
 IsUnlessShort usual response = (response ≡ usual) ⊎ (response ≡ problem_response NoMemory)
 
 abbrev pub IsClosedPage : Page → Response → Type 0
-IsClosedPage page.Kinds response = IsUnlessShort (fine Html (kinds_page Nothing)) response
+IsClosedPage page.Kinds response = IsUnlessShort (fine Html (kinds_page saying.nothing)) response
 IsClosedPage (page.Enter kind about fresh) response = IsUnlessShort (fine Html (form_about kind fresh about)) response
 IsClosedPage _ response = response ≡ problem_response Closed
 
@@ -146,8 +162,10 @@ IsClosedPage _ response = response ≡ problem_response Closed
 -- while a command is read, or a page or holidays are written
 abbrev pub IsClosedAnswer : Wish → List ℕ → Response → Type 0
 IsClosedAnswer (Reject rejection) body response = response ≡ problem_response (Rejected rejection)
+IsClosedAnswer (Refuse rejection) body response = IsUnlessShort (refusal_page rejection) response
 IsClosedAnswer (CommandWish len) body response = IsUnlessShort (closed_entry (line_entry body)) response
 IsClosedAnswer (FormWish len fresh) body response = IsUnlessShort (closed_entry (form_entry fresh body)) response
+IsClosedAnswer (Preview len fresh) body response = IsUnlessShort (closed_entry (form_entry fresh body)) response
 IsClosedAnswer (Case number) body response = response ≡ problem_response Closed
 IsClosedAnswer (Deadlines number) body response = response ≡ problem_response Closed
 IsClosedAnswer (Calendar from to) body response = response ≡ problem_response Closed

@@ -11,7 +11,7 @@ use Rattle.docket_wire.specs.Reading.{command_in}
 use Rattle.docket_wire.specs.Texts.{reply_text, fault_text}
 use Rattle.docket_wire.specs.declared.fault.WireFault.{WireFault}
 use Rattle.entry_pages.specs.Pages.{form_again}
-use Rattle.entry_pages.specs.declared.said.Said.TheVariants.{Refused, Faulty}
+use Rattle.entry_pages.specs.Saying as saying
 use Rattle.http_request.specs.declared.wish.Wish.{Wish}
 use Rattle.http_request.specs.declared.wish.Wish.TheVariants.{Command as CommandWish, Form as FormWish}
 use Rattle.docket_http.specs.Answer.{Response, json, page, problem_response, seen}
@@ -38,7 +38,7 @@ said_status (Err r) = 409
 -- a browser is led to what an accepted command has changed, and gets the form of a refused one again, with the refusal
 abbrev pub page_said : ℕ → List (List ℕ × List ℕ) → Command → Result Number Refusal → Response
 page_said fresh pairs c (Ok reply) = seen (place_after c reply)
-page_said fresh pairs c (Err r) = page 409 (form_again fresh pairs (Refused r))
+page_said fresh pairs c (Err r) = page 409 (form_again fresh pairs (saying.refused r))
 
 -- the answer to a command, by its reply or its refusal
 abbrev pub said_response : Manner → Command → Result Number Refusal → Response
@@ -48,7 +48,7 @@ said_response (in_pages fresh pairs) c said = page_said fresh pairs c said
 -- the answer where no command is spelled: the fault, or the form again with it
 abbrev pub fault_response : Manner → WireFault → Response
 fault_response in_json fault = json 400 (fault_text fault)
-fault_response (in_pages fresh pairs) fault = page 400 (form_again fresh pairs (Faulty fault))
+fault_response (in_pages fresh pairs) fault = page 400 (form_again fresh pairs (saying.faulty fault))
 
 -- a repeat gets the answer that the command got at first
 abbrev pub outcome_response : Manner → Command → Answer → Response

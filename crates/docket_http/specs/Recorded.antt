@@ -1,11 +1,14 @@
 -- What an answer leaves of any docket, whether or not a history leads to its rows: the reply that is sent to a command is recorded.
-use Rattle.std.specs.Prelude.{◌≡◌, ◌≤◌, ◌⊎◌, true, ℕ, List, Option, IfSome, Result, Ok, Err, IfOk, IfErr}
+use Rattle.std.specs.Prelude.{◌≡◌, ◌≤◌, ◌⊎◌, true, ℕ, List, Option, None, IfSome, Result, Ok, Err, IfOk, IfErr}
 use Rattle.sqlite.specs.Held.{state}
+use Rattle.sqlite.specs.State.{Survives}
 use Rattle.sqlite.specs.Store.{Ghosts}
 use Rattle.sqlite.specs.View.{doubt}
 use Rattle.docket_command.specs.declared.command.Command.{Command}
 use Rattle.docket_command.specs.declared.refusal.Reply.{Reply as Number}
 use Rattle.docket_history.specs.Histories.{History}
+use Rattle.docket_tables.specs.Layouts.{Rows}
+use Rattle.docket_tables.specs.Stands.{HoldsRows, Lasts}
 use Rattle.docket_applying.specs.AnyRows.{HoldsDocketRows, IsRecorded, WritesAtMostOne}
 use Rattle.docket_applying.specs.Applying.{Stands}
 use Rattle.docket_applying.specs.declared.fault.Fault.{Fault}
@@ -65,9 +68,24 @@ module _ {S : Type 0} (g : Ghosts S) where
     pub clean : doubt (state g old.conn).is_clean ≤ doubt (state g new.conn).is_clean
     pub any : WritesAtMostOne g old new
 
+  -- nothing is written: the rows stay, whatever they are, and each database that a power failure may leave was one before
+  pub record WritesNothing (old new : Docket S) : Type 0 where
+    pub stays : (rows : Rows) → HoldsRows g old.conn rows → Lasts g new.conn rows
+    pub survives : Survives (state g old.conn) (state g new.conn) (λ _. ⊥)
+
+  -- a request that enters no command writes nothing: a preview enters none
+  abbrev pub IsStill : Docket S → Docket S → Wish → List ℕ → Type 0
+  IsStill old new wish body = entry_of wish body ≡ None → WritesNothing old new
+
+  -- what a connection leaves, by the request that it brought; without one the docket is as it was
+  abbrev pub ServesStill : Routes → ℕ → Option (List ℕ) → Docket S → Docket S → Type 0
+  ServesStill routes fresh input old new =
+      ((wish : Wish) × (body : List ℕ) × IsAsked routes fresh input wish body × IsStill old new wish body) ⊎ (new ≡ old)
+
   -- what a reply to a request leaves
   pub record OnlyReplies (old new : Docket S) (wish : Wish) (body : List ℕ) (result : Result Reply Fault) : Type 0 where
     pub writes : OnlyWrites old new
+    pub still : IsStill old new wish body
     pub closed : old.closed ≡ true → (new ≡ old) × RepliesClosed wish body result
     pub recorded : HoldsDocketRows g old → IfOk result (RepliesBacked new wish body)
 
@@ -79,6 +97,7 @@ module _ {S : Type 0} (g : Ghosts S) where
   -- what an answer leaves once it went out, or a front of it
   pub record OnlySends (old new : Docket S) (wish : Wish) (body : List ℕ) (before after : Option (List ℕ)) (result : Result Served ServeFault) : Type 0 where
     pub writes : OnlyWrites old new
+    pub still : IsStill old new wish body
     pub closed : old.closed ≡ true → (new ≡ old) × SendsClosed wish body before after result
     pub recorded : HoldsDocketRows g old → SentBacked new wish body before after result
     pub own : IfErr result IsOfWriting

@@ -14,7 +14,9 @@ ghost use Rattle.docket_http.specs.Reply.{IsReply};
 use crate::asking::{page_reply, question_reply};
 use crate::commands::{command_reply, form_reply};
 use crate::head::Form;
+use crate::previews::preview_reply;
 use crate::problem::{Problem, problem_of};
+use crate::refusing::refusal_reply;
 use crate::reply::{Reply, fine_reply};
 use docket_questions::{CaseText, DeadlinesText};
 use docket_store::{Docket, Fault};
@@ -37,8 +39,10 @@ fn reply_to<S: Alter>(
     let body = &request.came[request.start..request.end];
     match request.wish {
         Wish::Reject(rejection) => Ok(Reply::Fixed(Problem::Rejected(rejection))),
+        Wish::Refuse(rejection) => refusal_reply(alloc, rejection),
         Wish::Command(_) => command_reply(alloc, docket, body),
         Wish::Form(_, fresh) => form_reply(alloc, docket, fresh, body),
+        Wish::Preview(_, fresh) => preview_reply(alloc, docket, fresh, body),
         Wish::Case(number) => question_reply(alloc, docket, Form::Text, &CaseText { number }),
         Wish::Deadlines(number) => {
             question_reply(alloc, docket, Form::Text, &DeadlinesText { number })

@@ -3,7 +3,6 @@ ghost use Rattle.std.specs.Prelude.{◌≡◌, ℕ, List, IfErr, IfOk, string_by
 ghost use Rattle.docket_history.specs.Histories.{History};
 ghost use Rattle.docket_applying.specs.Applying.{Asks, Stands};
 ghost use Rattle.docket_store.specs.Asking.{OnlyAnswers};
-ghost use Rattle.http_request.specs.Pages.{IsPageWithinLimits};
 ghost use Rattle.http_request.specs.declared.wish.Wish.TheVariants.{Page as PageWish};
 ghost use Rattle.docket_applying.specs.declared.fault.Fault.TheVariants.{NoMemory};
 ghost use Rattle.docket_http.specs.Answer.{found, missing};
@@ -11,16 +10,17 @@ ghost use Rattle.docket_http.specs.Asking.{form_about};
 ghost use Rattle.docket_http.specs.Recorded.{RepliesTo};
 ghost use Rattle.docket_http.specs.Reply.{IsReply};
 
+use crate::due::{due_days, list_of};
 use crate::head::Form;
 use crate::problem::Problem;
-use crate::reply::{Reply, built, fine_reply};
+use crate::reply::{Reply, built, fine_reply, words_reply};
 use docket_command::CommandName;
 use docket_questions::{
-    CasePage, CasesPage, CourtDaysPage, DaysPage, Question, ReasonsPage, RulesPage,
+    CasePage, CasesPage, CourtDaysPage, DaysPage, Question, ReasonsPage, RulesPage, SearchPage,
 };
 use docket_store::{Docket, Fault};
 use entry_pages::{Said, about_pairs, entry_page, kinds_page};
-use html_sheets::text_page;
+use html_sheets::DueList;
 use http::StatusCode;
 use http_request::{About, Page};
 use sqlite::Alter;
@@ -34,8 +34,7 @@ fn missing_reply(alloc: Global, form: Form) -> Result<Reply, Fault>
     match form {
         Form::Html => {
             let words = "There is no such case, or the case has no such deadline.";
-            let text = text_page(alloc, "Not found", words)?;
-            built(alloc, StatusCode::NOT_FOUND, Form::Html, text)
+            words_reply(alloc, StatusCode::NOT_FOUND, "Not found", words)
         }
         _ => Ok(Reply::Fixed(Problem::NoSuchCase)),
     }
@@ -48,7 +47,6 @@ pub(crate) fn question_reply<S: Alter, Q: Question>(
     form: Form,
     question: &Q,
 ) -> Result<Reply, Fault>
-    requires { Q.MayAsk question.now }
     ensures answer { (h : History) → Stands S.Store docket.old h
         → Asks S.Store docket.new h (λ reply. IsReply reply (found form (Q.Text question.now docket.old.court h))) result }
     ensures only { OnlyAnswers S.Store docket.old docket.new result }
@@ -79,13 +77,24 @@ pub(crate) fn page_reply<S: Alter>(
     docket: &mut Docket<S>,
     page: Page,
 ) -> Result<Reply, Fault>
-    requires { IsPageWithinLimits page }
     ensures { (body : List ℕ) → RepliesTo S.Store docket.old docket.new (PageWish page) body result }
 {
     match page {
-        Page::Cases(from) => question_reply(alloc, docket, Form::Html, &CasesPage { from }),
+        Page::Cases(before) => question_reply(alloc, docket, Form::Html, &CasesPage { before }),
         Page::Case(number) => question_reply(alloc, docket, Form::Html, &CasePage { number }),
-        Page::Days(from, to) => question_reply(alloc, docket, Form::Html, &DaysPage { from, to }),
+        Page::Days(from, to) => {
+            let list = DueList::Days;
+            question_reply(alloc, docket, Form::Html, &DaysPage { list, from, to })
+        }
+        Page::Due(due, fresh) => {
+            let list = list_of(due);
+            let (from, to) = due_days(docket.court(), due, fresh);
+            question_reply(alloc, docket, Form::Html, &DaysPage { list, from, to })
+        }
+        Page::Search(words) => {
+            let words = words.as_str();
+            question_reply(alloc, docket, Form::Html, &SearchPage { words })
+        }
         Page::CourtDays => question_reply(alloc, docket, Form::Html, &CourtDaysPage),
         Page::Rules => question_reply(alloc, docket, Form::Html, &RulesPage),
         Page::Reasons(case, deadline) => {

@@ -1,5 +1,6 @@
 //! Requests that enter a command.
 ghost use Rattle.std.specs.Prelude.{◌≡◌, ℕ, List, Result, IfOk, IfErr, Some};
+ghost use Rattle.command_forms.specs.Forms.{command_in_form, pairs_in, texts_of};
 ghost use Rattle.docket_command.specs.declared.command.Command.{Command};
 ghost use Rattle.http_request.specs.declared.wish.Wish.{Wish};
 ghost use Rattle.http_request.specs.declared.wish.Wish.TheVariants.{Command as CommandWish, Form as FormWish};
@@ -11,7 +12,7 @@ ghost use Rattle.docket_http.specs.Recorded.{RepliesTo};
 
 use crate::reply::Reply;
 use crate::writing::{Writing, fault_reply, said_reply};
-use command_forms::{entered_command, read_pairs};
+use command_forms::{Pair, entered_command, read_pairs};
 use docket_command::Command;
 use docket_store::{Docket, Fault, answer};
 use docket_wire::{WireFault, read_command};
@@ -49,6 +50,20 @@ fn kept(read: Result<Command, WireFault>) -> Result<Result<Command, WireFault>, 
     }
 }
 
+/// The pairs of a form, and the command that they spell, or the fault for which they spell none.
+pub(crate) fn read_form(
+    alloc: Global,
+    body: &[u8],
+) -> Result<(Vec<Pair>, Result<Command, WireFault>), Fault>
+    ensures pairs { IfOk result (λ form. texts_of form.0.items ≡ pairs_in body.now) }
+    ensures read { IfOk result (λ form. form.1 ≡ command_in_form body.now) }
+    ensures short { IfErr result (λ e. e ≡ NoMemory) }
+{
+    let pairs = read_pairs(alloc, body)?;
+    let read = kept(entered_command(alloc, &pairs))?;
+    Ok((pairs, read))
+}
+
 /// The answer to the text of a command.
 pub(crate) fn command_reply<S: Alter>(
     alloc: Global,
@@ -70,8 +85,7 @@ pub(crate) fn form_reply<S: Alter>(
 ) -> Result<Reply, Fault>
     ensures { (len : ℕ) → RepliesTo S.Store docket.old docket.new (FormWish len fresh) body.now result }
 {
-    let pairs = read_pairs(alloc, body)?;
-    let read = kept(entered_command(alloc, &pairs))?;
+    let (pairs, read) = read_form(alloc, body)?;
     let writing = Writing::Pages { fresh, pairs };
     entry_reply(alloc, docket, &writing, read)
 }

@@ -2,10 +2,11 @@
 //!
 //! A command comes as a line of JSON or in a form of a browser. Both are applied by one function: a program gets
 //! the outcome as JSON, and a browser is led to the page of what has changed (status 303), or gets its form again.
+//! A preview gets its form again with what the command would do, and writes nothing.
 //!
 //! The bytes written are the answer to the bytes read, in whatever pieces the request came. The docket then
 //! holds the history that the answer reports. A request that is refused by its head asks nothing of the
-//! docket and takes no memory to answer.
+//! docket. The answer to it takes no memory, except for a page.
 #![tactic(auto)]
 
 mod answering;
@@ -13,11 +14,14 @@ mod asking;
 mod calendar;
 mod commands;
 mod copies;
+mod due;
 mod fault;
 mod head;
 mod laws;
 mod place;
+mod previews;
 mod problem;
+mod refusing;
 mod reply;
 mod sending;
 mod serve;

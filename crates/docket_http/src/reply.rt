@@ -1,13 +1,15 @@
 //! Answers, whole.
 ghost use Rattle.std.specs.Prelude.{◌≡◌, ℕ, List, IfOk, IfErr, string_bytes};
 ghost use Rattle.docket_applying.specs.declared.fault.Fault.TheVariants.{NoMemory};
-ghost use Rattle.docket_http.specs.Answer.{fine, json};
+ghost use Rattle.html_sheets.specs.Sites.{text_page};
+ghost use Rattle.docket_http.specs.Answer.{fine, json, page};
 ghost use Rattle.docket_http.specs.Reply.{IsReply, reply_status};
 ghost use Rattle.docket_http.specs.declared.head.Form.TheVariants.{File};
 
 use crate::head::{Form, Head};
 use crate::problem::Problem;
 use docket_store::Fault;
+use html_sheets::text_page;
 use http::StatusCode;
 use std::alloc::{AllocError, Global};
 
@@ -55,6 +57,20 @@ pub(crate) fn built(
     let head = Head { status, form, len };
     let head = format!(in alloc; "{head}")?;
     Ok(Reply::Built { status, head, body })
+}
+
+/// A page of some words under a title.
+pub(crate) fn words_reply(
+    alloc: Global,
+    status: StatusCode,
+    title: &str,
+    words: &str,
+) -> Result<Reply, Fault>
+    ensures reply { IfOk result (λ reply. IsReply reply (page status (text_page title.now words.now))) }
+    ensures short { IfErr result (λ e. e ≡ NoMemory) }
+{
+    let text = text_page(alloc, title, words)?;
+    built(alloc, status, Form::Html, text)
 }
 
 /// An answer in JSON, which ends with a line feed.

@@ -11,7 +11,7 @@ ghost use Rattle.http_request.specs.Request.{body_of};
 ghost use Rattle.http_request.specs.Wish.{IsWithinLimits};
 ghost use Rattle.http_request.specs.declared.wish.Wish.TheVariants.{Calendar, Copy};
 ghost use Rattle.docket_http.specs.Asking.{IsBuilt};
-ghost use Rattle.docket_http.specs.Recorded.{OnlySends, ServesBacked};
+ghost use Rattle.docket_http.specs.Recorded.{OnlySends, ServesBacked, ServesStill};
 ghost use Rattle.docket_http.specs.Serve.{Delivers, Serves, Fails, ServesClosed, WantsCopy};
 
 use crate::answering::reply_of;
@@ -68,9 +68,10 @@ fn wants_copy<S: Alter>(docket: &Docket<S>, wish: &Wish) -> bool
 
 /// Serves one request of a connection: writes the answer to the request that it reads, and the docket then
 /// holds the history that this answer reports. A closed docket stays as it is, and the answer to a request
-/// that needs it reports that it is closed. Pages are shown if they are among the routes; `fresh` makes the key of
-/// a form among them, and the caller has another number for each connection. If the request asks for a copy of the
-/// file in which the docket is kept, it writes nothing and returns `CopyWanted`.
+/// that needs it reports that it is closed. Pages are shown if they are among the routes. `fresh` makes the key of
+/// a form among them, and gives the day of a list of deadlines: it counts nanoseconds since 1970, and the caller
+/// has another number for each connection. If the request asks for a copy of the file in which the docket is kept,
+/// it writes nothing and returns `CopyWanted`.
 pub fn serve_one<R: Read, W: Write, S: Alter>(
     alloc: Global,
     reader: &mut R,
@@ -82,6 +83,8 @@ pub fn serve_one<R: Read, W: Write, S: Alter>(
     ensures court { docket.new.court ≡ docket.old.court }
     ensures clean { doubt (state S.Store docket.old.conn).is_clean ≤ doubt (state S.Store docket.new.conn).is_clean }
     ensures any { WritesAtMostOne S.Store docket.old docket.new }
+    // A request that enters no command, as a preview, writes nothing, whatever the rows of the docket are.
+    ensures still { ServesStill S.Store routes.now fresh (R.remaining reader.old) docket.old docket.new }
     ensures closed { docket.old.closed ≡ true → (docket.new ≡ docket.old)
         × ServesClosed routes.now fresh (R.remaining reader.old) (W.contents writer.old) (W.contents writer.new) result }
     ensures served { IfOk result (λ served. (h : History) → Stands S.Store docket.old h

@@ -4,6 +4,7 @@ ghost use Rattle.command_forms.specs.Forms.{texts_of};
 ghost use Rattle.docket_applying.specs.declared.fault.Fault.TheVariants.{NoMemory};
 ghost use Rattle.docket_wire.specs.Texts.{reply_text, fault_text};
 ghost use Rattle.entry_pages.specs.Pages.{form_again};
+ghost use Rattle.entry_pages.specs.Saying.{saying_of};
 ghost use Rattle.docket_http.specs.Answer.{json, page};
 ghost use Rattle.docket_http.specs.Entering.{manner_of, said_status, said_response, page_said, fault_response};
 ghost use Rattle.docket_http.specs.Reply.{IsReply};
@@ -36,15 +37,15 @@ fn status_of(said: &Result<Number, Refusal>) -> StatusCode
     }
 }
 
-/// The form again, with why no command was entered.
-fn form_page(
+/// The form again, with what is said of it.
+pub(crate) fn form_page(
     alloc: Global,
     status: StatusCode,
     fresh: u64,
     pairs: &[Pair],
-    said: Said,
+    said: Said<'_>,
 ) -> Result<Reply, Fault>
-    ensures reply { IfOk result (λ reply. IsReply reply (page status (form_again fresh (texts_of pairs.now) said))) }
+    ensures reply { IfOk result (λ reply. IsReply reply (page status (form_again fresh (texts_of pairs.now) (saying_of said.entry)))) }
     ensures short { IfErr result (λ e. e ≡ NoMemory) }
 {
     let text = form_again(alloc, fresh, pairs, said)?;

@@ -300,7 +300,7 @@ fn serve_command<'a>(alloc: Global) -> Result<Command<'a>, AllocError>
     .arg(flag(
         alloc,
         "pages",
-        "Show pages of the docket to a browser as well, under /pages",
+        "Let people look things up and enter commands in a browser, at /pages",
     ))?
     .arg(flag(
         alloc,

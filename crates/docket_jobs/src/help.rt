@@ -227,12 +227,13 @@ request a connection:
   GET /cases/NUMBER/deadlines its deadlines
   GET /calendar/FROM/TO       a calendar, as of `docketctl calendar`
   GET /holidays/YEAR          the holidays of a year, as of `docketctl holidays`
-With --pages a browser is shown pages as well, which change nothing:
-  GET /pages                  the list of cases, and a form for the seven days from a day
-  GET /pages/cases?from=N     the list from the case of that number on
-  GET /pages/cases/NUMBER     the docket sheet of a case
-  GET /pages/calendar?from=DAY  what falls due in the seven days from that day
-  GET /pages/calendar/FROM/TO what falls due, with links to the weeks before and after
+With --pages people look things up and enter commands in a browser, at these pages and their links:
+  GET /pages                  the cases, the newest first
+  GET /pages/cases/NUMBER     the docket sheet of a case, with links to the forms of commands
+  GET /pages/search?find=WORDS  the cases found by a docket number, a caption or a name
+  GET /pages/today            what falls due today, and at /pages/week and /pages/overdue
+  GET /pages/calendar/FROM/TO what falls due on other days
+  GET /pages/enter            the forms of all commands
   GET /pages/backup           the docket in one file, as `docketctl backup` copies it
 A reply to a command goes out when it stands in the file. The first line of the output is written
 when connections are taken; port 0 is one that is free:

@@ -1,3 +1,10 @@
+mod AskedLemmas
+mod FilingLemmas
+mod ForeseenLemmas
 mod ListLemmas
+mod MoveLemmas
+mod NewestLemmas
 mod ReasonLemmas
 pub mod TellLemmas
+mod ToldLemmas
+mod WordLemmas

@@ -1,12 +1,13 @@
 -- What a question leaves whose answer comes from several questions to the docket.
 use Rattle.std.proofs.Common.{◌≡◌, ◌∙◌, ◌≤◌, ℕ, Bool, true, false, Result, Ok, Err, IsErrAnd, refl, sym, ap, subst, arith}
 use Rattle.sqlite.specs.Held.{state}
+use Rattle.sqlite.specs.State.{HasCleanDisk}
 use Rattle.sqlite.specs.Store.{Ghosts}
 use Rattle.docket_history.specs.Histories.{History}
 use Rattle.docket_applying.specs.Applying.{Asks, Stands}
 use Rattle.docket_applying.specs.Dockets.{Docket}
 use Rattle.docket_applying.specs.declared.fault.Fault.{Fault}
-use Rattle.docket_applying.specs.declared.fault.Fault.TheVariants.{Closed, NoMemory, StoreFailed}
+use Rattle.docket_applying.specs.declared.fault.Fault.TheVariants.{Closed, Damaged, NoMemory, Refused, StoreFailed}
 use Rattle.docket_tables.specs.declared.fault.ReadFault.TheVariants.{Store}
 use Rattle.docket_tables.proofs.NothingLemmas.{nothing_called, nothing_then}
 use Rattle.docket_tables.proofs.PassedCauses.{fault_after}
@@ -120,3 +121,12 @@ module _ {S : Type 0} (g : Ghosts S) (d : Docket S) (h : History) where
   -- and when memory ran out
   pub short_asks : {Y : Type 0} (P : Y → Type 0) (r : Result Y Fault) → IsErrAnd r (λ e. e ≡ NoMemory) → Stands g d h → Asks g d h P r
   short_asks P r told stands = passed_asks P NoMemory r told stands
+
+  -- and what follows from an answer
+  pub asks_more : {Y : Type 0} (P Q : Y → Type 0) (r : Result Y Fault) → (HasCleanDisk (state g d.conn) → (y : Y) → P y → Q y) → Asks g d h P r → Asks g d h Q r
+  asks_more P Q (Ok y) so left = (left.0, λ clean. so clean y (left.1 clean))
+  asks_more P Q (Err (Refused refusal)) so left = left
+  asks_more P Q (Err NoMemory) so left = left
+  asks_more P Q (Err StoreFailed) so left = left
+  asks_more P Q (Err Closed) so left = left
+  asks_more P Q (Err Damaged) so left = left

@@ -1,28 +1,30 @@
 -- The texts and the pages that answer questions to the docket of a history.
-use Rattle.std.specs.Prelude.{ℕ, ◌+◌, ◌-◌, List, [], ◌++◌, take, drop, max, nat_le, if◌then◌else◌, codes, Option, Some, None}
+use Rattle.std.specs.Prelude.{ℕ, ◌+◌, ◌-◌, List, [], ◌++◌, length, take, min, nat_le, if◌then◌else◌, codes, Option, Some, None}
 use Rattle.std.specs.List.{flat_map}
 use Rattle.std.specs.Option.{option_map}
 use Rattle.court_days.specs.Calendar.{Entered}
 use Rattle.court_days.specs.Court.{CourtSettings, zone_of}
 use Rattle.court_reasons.specs.Steps.{steps_of}
 use Rattle.docket_calendar.specs.Calendar.{calendar_rows}
-use Rattle.docket_history.specs.Histories.{History, case_rows, deadlines}
+use Rattle.docket_history.specs.Histories.{History, case_rows, deadlines, local_rule_rows}
 use Rattle.docket_history.specs.Records.{calendar, case_at, case_record, deadline_lines}
 use Rattle.docket_history.specs.Views.{deadline_at}
 use Rattle.docket_history.specs.declared.record.CaseRecord.{CaseRecord}
 use Rattle.docket_history.specs.declared.record.DeadlineLine.{DeadlineLine}
 use Rattle.docket_history.specs.declared.record.DueRow.{DueRow}
 use Rattle.docket_history.specs.declared.row.CaseRow.{CaseRow}
-use Rattle.docket_history.specs.declared.row.LocalRuleRow.{LocalRuleRow}
 use Rattle.docket_history.specs.declared.view.DeadlineView.{DeadlineView}
 use Rattle.docket_questions.specs.declared.telling.Telling.{Telling}
 use Rattle.docket_questions.specs.declared.telling.Telling.TheVariants.{Page, Sheet, Text}
+use Rattle.docket_questions.specs.Filings.{filed}
+use Rattle.docket_questions.specs.Searches.{newest_cases}
 use Rattle.docket_text.specs.CaseTexts.{case_text, deadlines_text}
 use Rattle.docket_text.specs.RuleTexts.{rules_text}
 use Rattle.html_sheets.specs.Pages.{page_foot, page_head}
 use Rattle.html_sheets.specs.Sheets.{case_sheet}
 use Rattle.html_sheets.specs.Sites.{case_page, cases_page, days_page_foot, days_page_head, reasons_page, text_page}
 use Rattle.html_sheets.specs.Weeks.{due_row}
+use Rattle.html_sheets.specs.declared.due_list.DueList.{DueList}
 use Rattle.html_sheets.specs.declared.links.Links.TheVariants.{Pages}
 use Rattle.html_sheets.specs.declared.links.Links.TheVariants as links
 use Rattle.reason_lines.specs.Lines.{reasons_text}
@@ -65,38 +67,44 @@ reasons_of court calendar deadline = reasons_text court calendar (Some deadline.
 abbrev pub text_of_reasons : CourtSettings → History → ℕ → ℕ → Option (List ℕ)
 text_of_reasons court h case number = option_map (reasons_of court (calendar h)) (deadline_at (deadlines case h) number)
 
--- the page of these steps
+-- the page of these steps, with whether what the deadline asks for was filed in time
 abbrev pub page_of_reasons : CourtSettings → History → ℕ → ℕ → Option (List ℕ)
-page_of_reasons court h case number = option_map (reasons_page case number) (text_of_reasons court h case number)
+page_of_reasons court h case number =
+    option_map (λ deadline. reasons_page case number (reasons_of court (calendar h) deadline) (filed court (calendar h) deadline.acts))
+    (deadline_at (deadlines case h) number)
 
 -- the page of the rules by which the deadlines run: those of the table, and the docket's own
-abbrev pub rules_page : List LocalRuleRow → List ℕ
-rules_page rows = text_page (codes "Rules") (rules_text rows)
+abbrev pub page_of_rules : History → List ℕ
+page_of_rules h = text_page (codes "Rules") (rules_text (local_rule_rows h))
 
--- at most a hundred cases from a number on, in the order of their numbers
-abbrev pub cases_from : History → ℕ → List CaseRow
-cases_from h from = take 100 (drop (from - 1) (case_rows h))
+-- the number of the newest case of a page: of those before a number, or of all
+abbrev pub last_before : ℕ → Option ℕ → ℕ
+last_before cases None = cases
+last_before cases (Some number) = min (number - 1) cases
 
--- the first of the hundred before them, where there are any
-abbrev pub earlier : ℕ → Option ℕ
-earlier from = if nat_le from 1 then None else Some (max 1 (from - 100))
+-- the number before which the hundred cases are that come after it, where there are any
+abbrev pub newer : ℕ → ℕ → Option ℕ
+newer cases last = if nat_le cases last then None else Some (last + 101)
 
--- the first case behind them, where there is one
-abbrev pub later : History → ℕ → Option ℕ
-later h from = option_map (λ row. row.number) (case_at (case_rows h) (from + 100))
+-- the number of the last of the hundred cases of the page, where there are others before it
+abbrev pub older : ℕ → Option ℕ
+older last = if nat_le last 100 then None else Some (last - 99)
 
--- the page of these cases, with links to the earlier and the later ones
-abbrev pub page_of_cases : History → ℕ → List ℕ
-page_of_cases h from = cases_page (cases_from h from) (earlier from) (later h from)
+-- the page of at most a hundred cases up to a number, the newest first, with links to the newer and the older ones
+abbrev pub page_up_to : History → ℕ → List ℕ
+page_up_to h last = cases_page (take 100 (newest_cases h None last)) (newer (length (case_rows h)) last) (older last)
 
--- the row of a deadline that falls due, with the caption of its case; each such deadline has a case
-abbrev pub caption_of : Option CaseRow → List ℕ
-caption_of None = []
-caption_of (Some case) = case.caption
+abbrev pub page_of_cases : History → Option ℕ → List ℕ
+page_of_cases h before = page_up_to h (last_before (length (case_rows h)) before)
+
+-- the row of a deadline that falls due, with the label and the caption of its case; each such deadline has a case
+abbrev pub row_of : CourtSettings → DueRow → Option CaseRow → List ℕ
+row_of court due None = due_row Pages court due [] []
+row_of court due (Some case) = due_row Pages court due case.label case.caption
 
 abbrev pub due_told : CourtSettings → History → DueRow → List ℕ
-due_told court h due = due_row Pages court due (caption_of (case_at (case_rows h) due.case))
+due_told court h due = row_of court due (case_at (case_rows h) due.case)
 
 -- the page of the deadlines whose time runs to one of the days, in the order of the calendar
-abbrev pub page_of_days : CourtSettings → History → ℕ → ℕ → List ℕ
-page_of_days court h from to = days_page_head from to ++ (flat_map (due_told court h) (calendar_rows court h from to) ++ days_page_foot)
+abbrev pub page_of_days : DueList → CourtSettings → History → ℕ → ℕ → List ℕ
+page_of_days list court h from to = days_page_head list court from to ++ (flat_map (due_told court h) (calendar_rows court h from to) ++ days_page_foot)

@@ -15,8 +15,6 @@ pub struct CaseText {
 impl Question for CaseText {
     ghost use Rattle.docket_questions.specs.Texts.{text_of_case};
 
-    ghost MayAsk = { λ _. Unit {0} };
-
     ghost Text = { λ asked court h. text_of_case court h asked.number };
 
     fn ask<S: Alter>(
@@ -36,8 +34,6 @@ pub struct DeadlinesText {
 
 impl Question for DeadlinesText {
     ghost use Rattle.docket_questions.specs.Texts.{text_of_deadlines};
-
-    ghost MayAsk = { λ _. Unit {0} };
 
     ghost Text = { λ asked court h. text_of_deadlines court h asked.number };
 

@@ -1,15 +1,12 @@
 //! The court's rules and its calendar, as texts and as pages.
-ghost use Rattle.std.specs.Prelude.{◌≡◌, IfOk, string_bytes};
-ghost use Rattle.docket_questions.specs.Texts.{rules_page};
 
 use crate::question::Question;
 use court_days::Day;
-use docket_history::LocalRuleRow;
 use docket_store::{Docket, Fault};
 use docket_text::{court_calendar_text, rules_text};
 use html_sheets::{court_days_page, text_page};
 use sqlite::Alter;
-use std::alloc::{AllocError, Global};
+use std::alloc::Global;
 
 /// The rules by which the deadlines of a docket run: those of the table, and the docket's local rules.
 #[derive(Clone, Copy)]
@@ -19,8 +16,6 @@ impl Question for RulesText {
     ghost use Rattle.std.specs.Prelude.{Some};
     ghost use Rattle.docket_history.specs.Histories.{local_rule_rows};
     ghost use Rattle.docket_text.specs.RuleTexts.{rules_text};
-
-    ghost MayAsk = { λ _. Unit {0} };
 
     ghost Text = { λ _ _ h. Some (rules_text (local_rule_rows h)) };
 
@@ -47,8 +42,6 @@ impl Question for CourtCalendarText {
     ghost use Rattle.docket_history.specs.Histories.{standing_rows};
     ghost use Rattle.docket_text.specs.CourtCalendar.{court_calendar_text};
 
-    ghost MayAsk = { λ _. Unit {0} };
-
     ghost Text = { λ asked court h. Some (court_calendar_text court (standing_rows h) asked.from asked.to) };
 
     fn ask<S: Alter>(
@@ -63,34 +56,25 @@ impl Question for CourtCalendarText {
     }
 }
 
-/// The page of the rules.
-fn rules_page(alloc: Global, rows: &[LocalRuleRow]) -> Result<String, AllocError>
-    ensures { IfOk result (λ page. string_bytes page ≡ rules_page rows.now) }
-{
-    let text = rules_text(alloc, rows)?;
-    text_page(alloc, "Rules", &text)
-}
-
 /// The rules by which the deadlines of a docket run, as a page.
 #[derive(Clone, Copy)]
 pub struct RulesPage;
 
 impl Question for RulesPage {
     ghost use Rattle.std.specs.Prelude.{Some};
-    ghost use Rattle.docket_history.specs.Histories.{local_rule_rows};
-    ghost use Rattle.docket_questions.specs.Texts.{rules_page};
+    ghost use Rattle.docket_questions.specs.Texts.{page_of_rules};
 
-    ghost MayAsk = { λ _. Unit {0} };
-
-    ghost Text = { λ _ _ h. Some (rules_page (local_rule_rows h)) };
+    ghost Text = { λ _ _ h. Some (page_of_rules h) };
 
     fn ask<S: Alter>(
         &self,
         alloc: Global,
         docket: &mut Docket<S>,
     ) -> Result<Option<String>, Fault> {
-        let rows = docket.local_rules()?;
-        let page = rules_page(alloc, rows.as_slice())?;
+        let Some(text) = RulesText.ask(alloc, docket)? else {
+            return Ok(None);
+        };
+        let page = text_page(alloc, "Rules", &text)?;
         Ok(Some(page))
     }
 }
@@ -103,8 +87,6 @@ impl Question for CourtDaysPage {
     ghost use Rattle.std.specs.Prelude.{Some};
     ghost use Rattle.docket_history.specs.Histories.{standing_rows};
     ghost use Rattle.html_sheets.specs.Sites.{court_days_page};
-
-    ghost MayAsk = { λ _. Unit {0} };
 
     ghost Text = { λ _ court h. Some (court_days_page court (standing_rows h)) };
 

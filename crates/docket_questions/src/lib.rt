@@ -2,21 +2,32 @@
 //! history of the docket. One function asks it, and changes nothing.
 #![tactic(auto)]
 
+mod calendar;
 mod cases;
 mod court;
 mod days;
+mod filing;
+mod foreseeing;
 mod lists;
+mod moving;
+mod newest;
+mod prospect;
 mod question;
 mod reasons;
+mod search;
 mod sheets;
 mod telling;
 mod why_page;
+mod words;
 
 pub use cases::{CaseText, DeadlinesText};
 pub use court::{CourtCalendarText, CourtDaysPage, RulesPage, RulesText};
 pub use days::DaysPage;
+pub use foreseeing::foreseen;
 pub use lists::CasesPage;
+pub use prospect::Foreseen;
 pub use question::Question;
 pub use reasons::ReasonsText;
+pub use search::SearchPage;
 pub use sheets::{CasePage, CaseSheet};
 pub use why_page::ReasonsPage;

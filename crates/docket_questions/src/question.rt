@@ -10,18 +10,14 @@ use docket_store::{Docket, Fault};
 use sqlite::Alter;
 use std::alloc::Global;
 
-/// A question to a docket, answered by a text. It changes nothing, except that a docket whose database fails
-/// is closed.
+/// A question to a docket, answered by a text. Every question may be asked. It changes nothing, except that a
+/// docket whose database fails is closed.
 pub trait Question {
-    // The questions that may be asked.
-    ghost MayAsk: { Self → Type 0 };
-
     // The text that answers it, by the docket of a court, if what it names exists.
     ghost Text: { Self → CourtSettings → History → Option (List ℕ) };
 
     /// Asks a docket. Returns no text if what the question names does not exist.
     fn ask<S: Alter>(&self, alloc: Global, docket: &mut Docket<S>) -> Result<Option<String>, Fault>
-        requires { MayAsk self.now }
         ensures answer { (h : History) → Stands S.Store docket.old h
             → Asks S.Store docket.new h (λ text. option_map string_bytes text ≡ Text self.now docket.old.court h) result }
         ensures only { OnlyAnswers S.Store docket.old docket.new result };

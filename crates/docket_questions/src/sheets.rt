@@ -36,8 +36,6 @@ pub struct CaseSheet {
 impl Question for CaseSheet {
     ghost use Rattle.docket_questions.specs.Texts.{page_of_sheet};
 
-    ghost MayAsk = { λ _. Unit {0} };
-
     ghost Text = { λ asked court h. page_of_sheet court h asked.number };
 
     fn ask<S: Alter>(
@@ -57,8 +55,6 @@ pub struct CasePage {
 
 impl Question for CasePage {
     ghost use Rattle.docket_questions.specs.Texts.{page_of_case};
-
-    ghost MayAsk = { λ _. Unit {0} };
 
     ghost Text = { λ asked court h. page_of_case court h asked.number };
 

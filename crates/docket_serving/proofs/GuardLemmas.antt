@@ -9,10 +9,10 @@ use Rattle.docket_http.specs.Asking.{history_after}
 use Rattle.docket_http.specs.Serve.{IsAsked}
 use Rattle.docket_http.proofs.GuardLemmas.{let_through}
 
-pub let_through_to : (routes : Routes) (fresh : ℕ) (court : CourtSettings) (h next : History) (input : Option (List ℕ))
-    → (next ≡ h) ⊎ ((wish : Wish) × (body : List ℕ) × IsAsked routes fresh input wish body × (next ≡ history_after court h wish body))
+pub let_through_to : (routes : Routes) (number : ℕ) (court : CourtSettings) (h next : History) (input : Option (List ℕ))
+    → (next ≡ h) ⊎ ((wish : Wish) × (body : List ℕ) × IsAsked routes number input wish body × (next ≡ history_after court h wish body))
     → ¬ (next ≡ h) → IfSome input (IsLetThrough routes)
-let_through_to routes fresh court h next input (inl same) changes = absurd (changes same)
-let_through_to routes fresh court h next None (inr led) changes = tt
-let_through_to routes fresh court h next (Some bytes) (inr (wish, body, asked, is)) changes =
-    let_through routes fresh bytes wish body court h asked (λ same. changes (is ∙ same))
+let_through_to routes number court h next input (inl same) changes = absurd (changes same)
+let_through_to routes number court h next None (inr led) changes = tt
+let_through_to routes number court h next (Some bytes) (inr (wish, body, asked, is)) changes =
+    let_through routes number bytes wish body court h asked (λ same. changes (is ∙ same))

@@ -29,17 +29,17 @@ by_copy P whole failed (Err serve.NoMemory) sends = absurd sends.sent
 by_copy P whole failed (Err serve.StoreFailed) sends = absurd sends.sent
 by_copy P whole failed (Err serve.CopyWanted) sends = absurd sends.sent
 
-module _ {S : Type 0} (g : Ghosts S) (routes : Routes) (fresh : ℕ) where
+module _ {S : Type 0} (g : Ghosts S) (routes : Routes) where
   -- the docket of a history, or one that fell
   abbrev pub Leaves : History → Exchange → Docket S → Type 0
-  Leaves h e left = ((next : History) × Stays g routes fresh h e left next) ⊎ Fell g routes fresh h e left
+  Leaves h e left = ((next : History) × Stays g routes h e left next) ⊎ Fell g routes h e left
 
   left_same : (old left : Docket S) (h : History) (e : Exchange) → left ≡ old → Stands g old h → tells_failure e.end ≡ false → Leaves h e left
   left_same old left h e same stands told =
       inl (h, record { is = inl refl; stands = subst (λ (d : Docket S). Stands g d h) (sym same) stands; told = told })
 
-  module _ (left : Docket S) (h : History) (e : Exchange) (wish : Wish) (body : List ℕ) (asked : IsAsked routes fresh e.input wish body) where
-    after : IsNext routes fresh left.court h e (history_after left.court h wish body)
+  module _ (left : Docket S) (h : History) (e : Exchange) (wish : Wish) (body : List ℕ) (asked : IsAsked routes e.number e.input wish body) where
+    after : IsNext routes left.court h e (history_after left.court h wish body)
     after = inr (wish, body, asked, refl)
 
     left_after : Stands g left (history_after left.court h wish body) → tells_failure e.end ≡ false → Leaves h e left
@@ -70,10 +70,10 @@ module _ {S : Type 0} (g : Ghosts S) (routes : Routes) (fresh : ℕ) where
   copy_fine (Some bytes) response (inr is) = ap (λ (r : Response). r.status == 503) is
 
   copy_told : (copy : Option (List ℕ)) (before after : Option (List ℕ)) (end : Result Served ServeFault) → SendsCopy copy before after end → tells_failure end ≡ false
-  copy_told copy before after =
+  copy_told copy _ _ =
       by_copy (λ ended. tells_failure ended ≡ false) (λ served sends. ap (λ k. k == 503) sends.sent.1 ∙ copy_fine copy sends.response sends.is) refl
 
-  leaves_of : (old left : Docket S) (h : History) (e : Exchange) (end : Result Served ServeFault) → e.end ≡ end → Stands g old h → AnswersOf g routes fresh old left h e end → Leaves h e left
+  leaves_of : (old left : Docket S) (h : History) (e : Exchange) (end : Result Served ServeFault) → e.end ≡ end → Stands g old h → AnswersOf g routes old left h e end → Leaves h e left
   leaves_of old left h e (Ok served) ended stands (inl is) =
       let now : tells_failure e.end ≡ (is.3.response.status == 503) = ap tells_failure ended ∙ ap (λ n. n == 503) is.3.status_told in
       left_told left h e is.0 is.1 is.2 is.3.response is.3.answered (λ fine. now ∙ fine) (λ failed. inl (now ∙ failed))
@@ -87,6 +87,6 @@ module _ {S : Type 0} (g : Ghosts S) (routes : Routes) (fresh : ℕ) where
   leaves_of old left h e (Err serve.StoreFailed) ended stands is = fell left h e is.0 is.1 is.2 is.3.0.1 is.3.0.2 (inl (ap tells_failure ended))
   leaves_of old left h e (Err serve.CopyWanted) ended stands is = left_same old left h e is.0.same stands (ap tells_failure ended)
 
-  pub leaves : (old left : Docket S) (h : History) (e : Exchange) → Stands g old h → Answers g routes fresh old left h e → Leaves h e left
+  pub leaves : (old left : Docket S) (h : History) (e : Exchange) → Stands g old h → Answers g routes old left h e → Leaves h e left
   leaves old left h e stands (inl answers) = leaves_of old left h e e.end refl stands answers
   leaves old left h e stands (inr copied) = left_same old left h e copied.same stands (copy_told copied.gives.0 e.before e.after e.end copied.gives.2)

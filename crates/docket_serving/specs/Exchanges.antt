@@ -1,5 +1,5 @@
 -- The outcomes of connections, as their source reports them.
-use Rattle.std.specs.Prelude.{◌≡◌, ◌≤◌, ◌<◌, ◌==◌, ◌+◌, ◌%◌, ◌^◌, ℕ, Bool, true, false, List, [], ◌∷◌, ◌++◌, length, Option, Some, None, Result, Ok, Err, ⊤}
+use Rattle.std.specs.Prelude.{◌≡◌, ◌≤◌, ◌<◌, ◌==◌, ◌+◌, ◌^◌, ℕ, Bool, true, false, List, [], ◌∷◌, ◌++◌, length, Option, Some, None, Result, Ok, Err, ⊤}
 use Rattle.std.specs.List.{AllByRecursion}
 use Rattle.docket_http.specs.declared.fault.ServeFault.{ServeFault}
 use Rattle.docket_http.specs.declared.fault.ServeFault.TheVariants.{CopyWanted, StoreFailed}
@@ -7,15 +7,16 @@ use Rattle.docket_http.specs.declared.sending.Served.{Served}
 use Rattle.docket_serving.specs.declared.serving.ServingFault.{ServingFault}
 use Rattle.docket_serving.specs.declared.serving.ServingFault.TheVariants.{AcceptFailed, DocketFailed}
 
--- one connection: what its reader held at first, what its writer held before and after, each if known, and how it ended
+-- one connection: its number; what its reader held at first, what its writer held before and after, each if known; and how it ended
 pub record Exchange : Type 0 where
+  pub number : ℕ
   pub input : Option (List ℕ)
   pub before : Option (List ℕ)
   pub after : Option (List ℕ)
   pub end : Result Served ServeFault
 
-abbrev pub exchange : Option (List ℕ) → Option (List ℕ) → Option (List ℕ) → Result Served ServeFault → Exchange
-exchange input before after end = record { input = input; before = before; after = after; end = end }
+abbrev pub exchange : ℕ → Option (List ℕ) → Option (List ℕ) → Option (List ℕ) → Result Served ServeFault → Exchange
+exchange number input before after end = record { number = number; input = input; before = before; after = after; end = end }
 
 -- known exchanges grow by these
 abbrev pub Logs : Option (List Exchange) → Option (List Exchange) → List Exchange → Type 0
@@ -23,14 +24,14 @@ Logs None new more = ⊤
 Logs (Some old) None more = ⊥
 Logs (Some old) (Some new) more = new ≡ old ++ more
 
--- each connection has a number, one more than that of the one before it, and 0 after the greatest
-abbrev pub next_number : ℕ → ℕ
-next_number n = (n + 1) % 2 ^ 64
+-- a number is greater than the last one, as long as there is a greater one
+abbrev pub IsAbove : ℕ → ℕ → Type 0
+IsAbove last number = last + 1 < 2 ^ 64 → last < number
 
--- the number of the connection behind these, of which the first has this number
-abbrev pub number_after : List Exchange → ℕ → ℕ
-number_after [] n = n
-number_after (e ∷ rest) n = number_after rest (next_number n)
+-- each connection has a number above that of the one before it, so no two share one. The number before these is `last`, and the last of them `new`
+abbrev pub Rise : ℕ → List Exchange → ℕ → Type 0
+Rise last [] new = new ≡ last
+Rise last (e ∷ rest) new = IsAbove last e.number × Rise e.number rest new
 
 -- whether an end reports that the docket failed
 abbrev pub tells_failure : Result Served ServeFault → Bool

@@ -1,6 +1,7 @@
 -- What a docket becomes when connections are served one after the other.
 use Rattle.std.specs.Prelude.{◌≡◌, ◌⊎◌, ◌≤◌, ℕ, true, false, List, [], ◌∷◌, Option, IfSome, Result, Ok, Err, IfErr}
 use Rattle.std.specs.Io.KnownBytes.{Keeps}
+use Rattle.std.specs.List.{AllByRecursion}
 use Rattle.sqlite.specs.Store.{Ghosts}
 use Rattle.sqlite.specs.Held.{state}
 use Rattle.sqlite.specs.State.{HasCleanDisk}
@@ -16,97 +17,97 @@ use Rattle.http_request.specs.declared.page.Routes.{Routes}
 use Rattle.http_request.specs.declared.wish.Wish.{Wish}
 use Rattle.http_request.specs.declared.wish.Wish.TheVariants.{Copy}
 use Rattle.docket_http.specs.Asking.{history_after}
-use Rattle.docket_http.specs.Recorded.{ServesBacked}
+use Rattle.docket_http.specs.Recorded.{ServesBacked, ServesStill}
 use Rattle.docket_http.specs.Serve.{Fails, IsAsked, SendsCopy, Serves, ServesClosed}
 use Rattle.docket_http.specs.declared.fault.ServeFault.{ServeFault}
 use Rattle.docket_http.specs.declared.fault.ServeFault.TheVariants.{EndedEarly, ReadFailed, WriteFailed}
 use Rattle.docket_http.specs.declared.sending.Served.{Served}
-use Rattle.docket_serving.specs.Exchanges.{Ends, Exchange, Logs, next_number, number_after, tells_failure, wants_copy}
+use Rattle.docket_serving.specs.Exchanges.{Ends, Exchange, Logs, Rise, tells_failure, wants_copy}
 use Rattle.docket_serving.specs.declared.serving.ServingFault.{ServingFault}
 
 -- the history is that before a connection, or that after the command that it sent
-abbrev pub IsNext : Routes → ℕ → CourtSettings → History → Exchange → History → Type 0
-IsNext routes fresh court h e next =
-    (next ≡ h) ⊎ ((wish : Wish) × (body : List ℕ) × IsAsked routes fresh e.input wish body × (next ≡ history_after court h wish body))
+abbrev pub IsNext : Routes → CourtSettings → History → Exchange → History → Type 0
+IsNext routes court h e next =
+    (next ≡ h) ⊎ ((wish : Wish) × (body : List ℕ) × IsAsked routes e.number e.input wish body × (next ≡ history_after court h wish body))
 
 -- a closed docket's answer went out, or a front of it
-abbrev pub IsToldClosed : Routes → ℕ → Exchange → Type 0
-IsToldClosed routes fresh e = ServesClosed routes fresh e.input e.before e.after e.end
+abbrev pub IsToldClosed : Routes → Exchange → Type 0
+IsToldClosed routes e = ServesClosed routes e.number e.input e.before e.after e.end
 
--- it did to each of these, of which the first has this number
-abbrev pub AreToldClosed : Routes → ℕ → List Exchange → Type 0
-AreToldClosed routes fresh [] = Unit {0}
-AreToldClosed routes fresh (e ∷ rest) = IsToldClosed routes fresh e × AreToldClosed routes (next_number fresh) rest
+-- it did to each of these
+abbrev pub AreToldClosed : Routes → List Exchange → Type 0
+AreToldClosed routes = AllByRecursion (IsToldClosed routes)
 
 -- the answer to a request for a copy, or a front of it, went out: a file that alone is a sound docket's, or that there is no copy
 abbrev pub GivesCopy : Option (List ℕ) → Option (List ℕ) → Result Served ServeFault → Type 0
 GivesCopy before after end = (copy : Option (List ℕ)) × IfSome copy IsSoundFile × SendsCopy copy before after end
 
 -- a request for a copy of the docket's file was answered; the docket is as it was
-pub record IsCopied {S : Type 0} (routes : Routes) (fresh : ℕ) (old new : Docket S) (e : Exchange) : Type 0 where
+pub record IsCopied {S : Type 0} (routes : Routes) (old new : Docket S) (e : Exchange) : Type 0 where
   pub body : List ℕ
-  pub asked : IsAsked routes fresh e.input Copy body
+  pub asked : IsAsked routes e.number e.input Copy body
   pub same : new ≡ old
   pub gives : GivesCopy e.before e.after e.end
 
 module _ {S : Type 0} (g : Ghosts S) (routes : Routes) where
-  -- what the docket of a history serves to the connection with this number
-  abbrev pub AnswersOf : ℕ → Docket S → Docket S → History → Exchange → Result Served ServeFault → Type 0
-  AnswersOf fresh old new h e (Ok served) = Serves g routes fresh e.input old new h e.before e.after served.status
-  AnswersOf fresh old new h e (Err fault) = Fails g routes fresh e.input old new h e.before e.after fault
+  -- what the docket of a history serves to the connection
+  abbrev pub AnswersOf : Docket S → Docket S → History → Exchange → Result Served ServeFault → Type 0
+  AnswersOf old new h e (Ok served) = Serves g routes e.number e.input old new h e.before e.after served.status
+  AnswersOf old new h e (Err fault) = Fails g routes e.number e.input old new h e.before e.after fault
 
   -- the same, or the answer to a request for a copy
-  abbrev pub Answers : ℕ → Docket S → Docket S → History → Exchange → Type 0
-  Answers fresh old new h e = AnswersOf fresh old new h e e.end ⊎ IsCopied routes fresh old new e
+  abbrev pub Answers : Docket S → Docket S → History → Exchange → Type 0
+  Answers old new h e = AnswersOf old new h e e.end ⊎ IsCopied routes old new e
 
   -- all that is promised of one connection, for any docket
-  pub record IsAttended (fresh : ℕ) (old : Docket S) (e : Exchange) (new : Docket S) : Type 0 where
+  pub record IsAttended (old : Docket S) (e : Exchange) (new : Docket S) : Type 0 where
     pub court : new.court ≡ old.court
     pub clean : doubt (state g old.conn).is_clean ≤ doubt (state g new.conn).is_clean
     pub any : WritesAtMostOne g old new
-    pub closed : old.closed ≡ true → (new ≡ old) × IsToldClosed routes fresh e
+    -- a request that enters no command writes nothing
+    pub still : ServesStill g routes e.number e.input old new
+    pub closed : old.closed ≡ true → (new ≡ old) × IsToldClosed routes e
     -- a request for a copy is answered too
     pub answered : wants_copy e.end ≡ false
-    pub answers : (h : History) → Stands g old h → HasCleanDisk (state g new.conn) → Answers fresh old new h e
-    pub recorded : HoldsDocketRows g old → ServesBacked g routes fresh e.input new e.before e.after e.end
+    pub answers : (h : History) → Stands g old h → HasCleanDisk (state g new.conn) → Answers old new h e
+    pub recorded : HoldsDocketRows g old → ServesBacked g routes e.number e.input new e.before e.after e.end
     pub untouched : IfErr e.end (λ fault. (fault ≡ ReadFailed) ⊎ (fault ≡ EndedEarly) → (new ≡ old) × Keeps e.before e.after)
 
-  -- the connections were served one after the other, each under its number by the docket that the one before it left
-  abbrev pub ServesEach : ℕ → Docket S → List Exchange → Docket S → Type 0
-  ServesEach fresh old [] new = new ≡ old
-  ServesEach fresh old (e ∷ rest) new = (left : Docket S) × IsAttended fresh old e left × ServesEach (next_number fresh) left rest new
+  -- the connections were served one after the other, each by the docket that the one before it left
+  abbrev pub ServesEach : Docket S → List Exchange → Docket S → Type 0
+  ServesEach old [] new = new ≡ old
+  ServesEach old (e ∷ rest) new = (left : Docket S) × IsAttended old e left × ServesEach left rest new
 
   -- the docket is that of the next history, and the answer does not report a failure
-  pub record Stays (fresh : ℕ) (h : History) (e : Exchange) (left : Docket S) (next : History) : Type 0 where
-    pub is : IsNext routes fresh left.court h e next
+  pub record Stays (h : History) (e : Exchange) (left : Docket S) (next : History) : Type 0 where
+    pub is : IsNext routes left.court h e next
     pub stands : Stands g left next
     pub told : tells_failure e.end ≡ false
 
   -- the database failed: a power failure leaves the docket of the history or of the next, and the docket is closed. The answer reports the
   -- failure, unless it could not be written whole
-  pub record Fell (fresh : ℕ) (h : History) (e : Exchange) (left : Docket S) : Type 0 where
+  pub record Fell (h : History) (e : Exchange) (left : Docket S) : Type 0 where
     pub next : History
-    pub is : IsNext routes fresh left.court h e next
+    pub is : IsNext routes left.court h e next
     pub lasts : LastsAsEither g left.conn (docket_rows left.court h) (docket_rows left.court next)
     pub closed : left.closed ≡ true
     pub told : (tells_failure e.end ≡ true) ⊎ (e.end ≡ Err WriteFailed)
 
   -- from the docket of a history: each connection is served by the docket that those before it led to, up to the last or to one where the
   -- database failed
-  abbrev pub Leads : ℕ → Docket S → History → List Exchange → Docket S → Type 0
-  Leads fresh old h [] new = (new ≡ old) × Stands g new h
-  Leads fresh old h (e ∷ rest) new =
-      (left : Docket S) × Answers fresh old left h e
-      × (((next : History) × Stays fresh h e left next × Leads (next_number fresh) left next rest new)
-      ⊎ (Fell fresh h e left × ServesEach (next_number fresh) left rest new))
+  abbrev pub Leads : Docket S → History → List Exchange → Docket S → Type 0
+  Leads old h [] new = (new ≡ old) × Stands g new h
+  Leads old h (e ∷ rest) new =
+      (left : Docket S) × Answers old left h e
+      × (((next : History) × Stays h e left next × Leads left next rest new)
+      ⊎ (Fell h e left × ServesEach left rest new))
 
-  -- connections were taken, up to `count`, and served, as the source's log records. The first has the number `fresh`; `last` is the number of
-  -- the next one
-  pub record ServesRun (fresh last : ℕ) (old new : Docket S) (count : ℕ) (before after : Option (List Exchange)) (result : Result (Unit {0}) ServingFault) : Type 0 where
+  -- connections were taken, up to `count`, and served, as the source's log records. Their numbers rise from `last` to `number`
+  pub record ServesRun (last number : ℕ) (old new : Docket S) (count : ℕ) (before after : Option (List Exchange)) (result : Result (Unit {0}) ServingFault) : Type 0 where
     pub exchanges : List Exchange
     pub logged : Logs before after exchanges
     pub ends : Ends count exchanges result
-    pub counted : last ≡ number_after exchanges fresh
-    pub each : ServesEach fresh old exchanges new
-    pub closed : old.closed ≡ true → (new ≡ old) × AreToldClosed routes fresh exchanges
-    pub leads : (h : History) → Stands g old h → HasCleanDisk (state g new.conn) → Leads fresh old h exchanges new
+    pub rise : Rise last exchanges number
+    pub each : ServesEach old exchanges new
+    pub closed : old.closed ≡ true → (new ≡ old) × AreToldClosed routes exchanges
+    pub leads : (h : History) → Stands g old h → HasCleanDisk (state g new.conn) → Leads old h exchanges new

@@ -1,5 +1,5 @@
 //! Where connections come from, and who attends to them.
-ghost use Rattle.std.specs.Prelude.{◌≡◌, ◌∷◌, [], List, Option, None, IfOk, OnErr};
+ghost use Rattle.std.specs.Prelude.{◌≡◌, ◌∷◌, [], ℕ, List, Option, None, IfOk, OnErr};
 ghost use Rattle.docket_serving.specs.Exchanges.{Exchange, Logs, exchange};
 
 use docket_http::{Routes, ServeFault, Served};
@@ -14,13 +14,13 @@ pub trait Attendant {
     /// The routes by which it reads a request.
     fn routes(&self) -> &Routes;
 
-    /// Attends to one connection: reads its request, and writes the answer.
+    /// Attends to one connection: gives it a number, reads its request, and writes the answer.
     fn attend<R: Read, W: Write>(
         &mut self,
         reader: &mut R,
         writer: &mut W,
     ) -> Result<Served, ServeFault>
-        ensures { Attends self.old (exchange (R.remaining reader.old) (W.contents writer.old) (W.contents writer.new) result) self.new };
+        ensures { (number : ℕ) × Attends self.old (exchange number (R.remaining reader.old) (W.contents writer.old) (W.contents writer.new) result) self.new };
 }
 
 /// A source of connections. It calls the attendant for each one that it takes: nothing else can bring an

@@ -1,24 +1,26 @@
 //! The desk at which a docket is served.
 ghost use Rattle.std.specs.Prelude.{◌≡◌};
-ghost use Rattle.docket_serving.specs.Exchanges.{next_number, wants_copy};
+ghost use Rattle.docket_serving.specs.Exchanges.{wants_copy};
 
 use crate::connections::Attendant;
 use crate::copying::give_copy;
+use crate::number::{nanoseconds_now, number_above};
 use docket_copies::DocketFiles;
 use docket_http::{Docket, Routes, ServeFault, Served, serve_one};
 use sqlite::Alter;
-use std::alloc::Global;
 use std::io::{Read, Write};
 use std::marker::Model;
+use std::rt::HostRuntime;
 
 /// Keeps a docket in a database, and answers one request of each connection from it. Each connection has a
-/// number, one more than that of the one before it, for the forms that it shows. A contract sees the docket,
-/// which routes are served, and the number of the next connection.
+/// number, for the forms that it shows and the days that it asks for: the nanoseconds of the clock since 1970, or
+/// one more than the last number where the clock does not go on. A contract sees the docket, which routes are
+/// served, and the number of the last connection.
 pub struct Desk<'a, S: Alter> {
-    alloc: Global,
+    rt: &'a HostRuntime,
     docket: Docket<S>,
     routes: Routes,
-    fresh: u64,
+    number: u64,
     // The files to copy, if the docket is kept in files.
     files: Option<DocketFiles<'a>>,
 }
@@ -30,7 +32,7 @@ impl<'a, S: Alter> Model for Desk<'a, S> {
 
     ghost coded = { desk_code S.code };
 
-    ghost view = { λ desk. record { docket = desk.docket; routes = desk.routes; fresh = desk.fresh } };
+    ghost view = { λ desk. record { docket = desk.docket; routes = desk.routes; number = desk.number } };
 }
 
 impl<S: Alter + Drop> Drop for Desk<'_, S> {
@@ -40,29 +42,28 @@ impl<S: Alter + Drop> Drop for Desk<'_, S> {
 }
 
 impl<'a, S: Alter> Desk<'a, S> {
-    /// A desk that serves these routes of the docket, with copies of the files in which it is kept. `fresh` is
-    /// the number of the first connection.
+    /// A desk that serves these routes of the docket, with copies of the files in which it is kept. No connection
+    /// was attended to yet.
     pub fn new(
-        alloc: Global,
+        rt: &'a HostRuntime,
         docket: Docket<S>,
         routes: Routes,
         files: Option<DocketFiles<'a>>,
-        fresh: u64,
     ) -> Desk<'a, S>
-        ensures { result ≡ record { docket = docket; routes = routes; fresh = fresh } }
+        ensures { result ≡ record { docket = docket; routes = routes; number = 0 } }
     {
         Desk {
-            alloc,
+            rt,
             docket,
             routes,
-            fresh,
+            number: 0,
             files,
         }
     }
 
     /// Serves these routes from now on.
     pub fn show(&mut self, routes: Routes)
-        ensures { self.new ≡ record { docket = self.old.docket; routes = routes; fresh = self.old.fresh } }
+        ensures { self.new ≡ record { docket = self.old.docket; routes = routes; number = self.old.number } }
     {
         self.routes = routes;
     }
@@ -72,10 +73,10 @@ impl<'a, S: Alter> Desk<'a, S> {
         ensures { result ≡ self.entry.docket }
     {
         let Desk {
-            alloc: _,
+            rt: _,
             docket,
             routes: _,
-            fresh: _,
+            number: _,
             files: _,
         } = self;
         docket
@@ -105,18 +106,17 @@ impl<S: Alter> Attendant for Desk<'_, S> {
         reader: &mut R,
         writer: &mut W,
     ) -> Result<Served, ServeFault> {
-        let fresh = self.fresh;
-        self.fresh = fresh.wrapping_add(1);
+        self.number = number_above(self.number, nanoseconds_now(self.rt));
         let served = serve_one(
-            self.alloc,
+            self.rt.alloc(),
             reader,
             writer,
             &mut self.docket,
             &self.routes,
-            fresh,
+            self.number,
         );
         if is_copy_wanted(&served) {
-            return give_copy(self.alloc, self.files, writer);
+            return give_copy(self.rt.alloc(), self.files, writer);
         }
         served
     }

@@ -1,5 +1,5 @@
 //! What the guard keeps from a docket that is served, with nothing to run.
-ghost use Rattle.std.specs.Prelude.{◌≡◌, ℕ, IfSome};
+ghost use Rattle.std.specs.Prelude.{◌≡◌, IfSome};
 ghost use Rattle.court_days.specs.Court.{CourtSettings};
 ghost use Rattle.docket_history.specs.Histories.{History};
 ghost use Rattle.http_request.specs.Request.{IsLetThrough};
@@ -9,6 +9,6 @@ ghost use Rattle.docket_serving.specs.Serving.{IsNext};
 
 /// A connection leads a docket to another history only where the guard lets its request through.
 pub fn who_changes_a_docket_is_let_through()
-    ensures { (routes : Routes) (fresh : ℕ) (court : CourtSettings) (h next : History) (e : Exchange)
-        → IsNext routes fresh court h e next → ¬ (next ≡ h) → IfSome e.input (IsLetThrough routes) }
+    ensures { (routes : Routes) (court : CourtSettings) (h next : History) (e : Exchange)
+        → IsNext routes court h e next → ¬ (next ≡ h) → IfSome e.input (IsLetThrough routes) }
 {}

@@ -3,7 +3,8 @@
 //! No peer holds the docket: a connection is attended to once its request has come, and the others wait beside
 //! it, at most ten seconds from the first byte on. Writing an answer to a peer may take as long. A fault of one
 //! connection is reported in a line, and the next is served. Where pages are shown, copies of the docket are sent
-//! too. Each connection has a number, and the number of the one by which a form is shown stands in its key.
+//! too. Each connection has a number: the nanoseconds of the clock, or one more than the last number where the
+//! clock does not go on. A page of today takes its day from that, and a form its key.
 #![tactic(auto)]
 
 mod caller;
@@ -12,6 +13,7 @@ mod copying;
 mod desk;
 mod laws;
 mod listening;
+mod number;
 mod parting;
 mod serving;
 mod waiting;

@@ -58,7 +58,7 @@ fn serve_next<C: Connections, S: Alter, E: Write>(
     e: &mut E,
 ) -> Result<(), ServingFault>
     ensures routes { desk.new.routes ≡ desk.old.routes }
-    ensures next { ServesRun S.Store desk.old.routes desk.old.fresh desk.new.fresh desk.old.docket desk.new.docket 1 (C.log connections.old) (C.log connections.new) result }
+    ensures next { ServesRun S.Store desk.old.routes desk.old.number desk.new.number desk.old.docket desk.new.docket 1 (C.log connections.old) (C.log connections.new) result }
 {
     let Ok((_peer, served)) = connections.next(desk) else {
         return Err(ServingFault::AcceptFailed);
@@ -86,7 +86,7 @@ pub fn serve_run<C: Connections, S: Alter, E: Write>(
     ensures court { desk.new.docket.court ≡ desk.old.docket.court }
     ensures clean { doubt (state S.Store desk.old.docket.conn).is_clean ≤ doubt (state S.Store desk.new.docket.conn).is_clean }
     ensures closed { desk.old.docket.closed ≡ true → desk.new.docket ≡ desk.old.docket }
-    ensures served { ServesRun S.Store desk.old.routes desk.old.fresh desk.new.fresh desk.old.docket desk.new.docket count (C.log connections.old) (C.log connections.new) result }
+    ensures served { ServesRun S.Store desk.old.routes desk.old.number desk.new.number desk.old.docket desk.new.docket count (C.log connections.old) (C.log connections.new) result }
 {
     for _ in 0..count {
         serve_next(alloc, connections, desk, e)?;

@@ -24,7 +24,7 @@ export_head Json from to = array_head
 -- the instant of the writing
 abbrev pub export_entry : Form → CourtSettings → ℤ → ℕ → DueRow → CaseRow → List ℕ → List ℕ
 export_entry Calendar court stamp place due case reasons = due_event stamp due case reasons
-export_entry Html court stamp place due case reasons = due_row None court due case.caption
+export_entry Html court stamp place due case reasons = due_row None court due case.label case.caption
 export_entry Csv court stamp place due case reasons = due_record court due case
 export_entry Json court stamp place due case reasons = due_member court place due case
 

@@ -72,6 +72,7 @@ pub fn export_entry(
             Links::None,
             court,
             entry.due,
+            entry.case.label.as_str(),
             entry.case.caption.as_str(),
         ),
         Form::Csv => due_record(alloc, court, entry),

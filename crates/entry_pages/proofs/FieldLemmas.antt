@@ -1,5 +1,5 @@
 -- The fields of a form, as rows of the table, and the choices of a control.
-use Rattle.std.proofs.Common.{◌≡◌, ◌∙◌, ℕ, ◌+◌, ◌<◌, ◌++◌, Bor, codes, ap, ap₂, append_assoc, add-one, arith, drop, get_or, List, length, map, refl, sym, Bool}
+use Rattle.std.proofs.Common.{◌≡◌, ◌∙◌, ℕ, ◌+◌, ◌<◌, ◌++◌, Bor, codes, ap, append_assoc, add-one, arith, drop, get_or, List, length, map, refl, sym, Bool}
 use Rattle.std.proofs.Math.Seq.{drop-cons}
 use Rattle.std.proofs.lemmas.Bool.{cond-false, ne_eqb}
 use Rattle.std.proofs.lemmas.List.{length-map}
@@ -13,13 +13,12 @@ use Rattle.docket_command.specs.Schema.{fields_of}
 use Rattle.command_forms.specs.Entered.{spec_of}
 use Rattle.command_forms.specs.declared.entered.Entered.{Entered}
 use Rattle.entry_pages.specs.Controls.{choices_of, option_told, select_head, control_told, state_told}
-use Rattle.entry_pages.specs.Hints.{hints_told}
+use Rattle.entry_pages.specs.Hints.{hint_of, hint_told, is_hinted}
 use Rattle.entry_pages.specs.Labels.{label_of}
-use Rattle.entry_pages.specs.Saying.{is_marked}
+use Rattle.entry_pages.specs.Saying.{Saying, is_marked}
 use Rattle.entry_pages.specs.Forms.{field_told, field_with, label_told, text_in}
-use Rattle.entry_pages.specs.declared.said.Said.{Said}
 
-pub all_fields : (kind : CommandName) (pairs : List (List ℕ × List ℕ)) (said : Said) (entered : List Entered) → map spec_of entered ≡ fields_of kind
+pub all_fields : (kind : CommandName) (pairs : List (List ℕ × List ℕ)) (said : Saying) (entered : List Entered) → map spec_of entered ≡ fields_of kind
     → flat_map (λ e. field_told kind pairs said (spec_of e)) entered ≡ flat_map (field_told kind pairs said) (fields_of kind)
 all_fields kind pairs said entered is = sym (flat_map-map (field_told kind pairs said) spec_of entered) ∙ ap (flat_map (field_told kind pairs said)) is
 
@@ -53,19 +52,9 @@ four_joined : (old a b c d : List ℕ) → (((old ++ a) ++ b) ++ c) ++ d ≡ old
 four_joined old a b c d = simp append_assoc refl
 
 -- the parts of a field, pushed one behind the other with the values that were computed for them
-pub field_pushed : (kind : CommandName) (pairs : List (List ℕ × List ℕ)) (said : Said) (f : Field) (t : FieldType) (needed : Bool) (name words value state old one two three four : List ℕ)
-    → name ≡ field_name f → words ≡ label_of kind f → value ≡ text_in name pairs → state ≡ state_told needed (is_marked said f)
-    → one ≡ old ++ label_told name words → two ≡ one ++ control_told t name value state → three ≡ two ++ hints_told kind f t needed → four ≡ three ++ codes "</p>\n"
+pub field_pushed : (kind : CommandName) (pairs : List (List ℕ × List ℕ)) (said : Saying) (f : Field) (t : FieldType) (needed marked hinted : Bool) (name words value hint old one two three four : List ℕ)
+    → name ≡ field_name f → words ≡ label_of kind f → value ≡ text_in name pairs → hint ≡ hint_of kind f t needed → marked ≡ is_marked said f → hinted ≡ is_hinted hint
+    → one ≡ old ++ label_told name words → two ≡ one ++ control_told t name value (state_told name needed marked hinted) → three ≡ two ++ hint_told name hint → four ≡ three ++ codes "</p>\n"
     → four ≡ old ++ field_with kind pairs said f t needed
-field_pushed kind pairs said f t needed name words value state old one two three four is_name is_words is_value is_state is_one is_two is_three is_four =
-    let label : label_told name words ≡ label_told (field_name f) (label_of kind f) = ap₂ label_told is_name is_words in
-    let shown : value ≡ text_in (field_name f) pairs = is_value ∙ ap (λ (n : List ℕ). text_in n pairs) is_name in
-    let control : control_told t name value state ≡ control_told t (field_name f) (text_in (field_name f) pairs) (state_told needed (is_marked said f)) =
-    ap (λ (n : List ℕ). control_told t n value state) is_name
-    ∙ ap₂ (λ (v s : List ℕ). control_told t (field_name f) v s) shown is_state in
-    is_four
-    ∙ ap (λ (u : List ℕ). u ++ codes "</p>\n") (is_three
-    ∙ ap (λ (u : List ℕ). u ++ hints_told kind f t needed) (is_two
-    ∙ ap₂ (λ (u v : List ℕ). u ++ v) (is_one ∙ ap (λ (u : List ℕ). old ++ u) label) control))
-    ∙ four_joined old (label_told (field_name f) (label_of kind f)) (control_told t (field_name f) (text_in (field_name f) pairs) (state_told needed (is_marked said f)))
-    (hints_told kind f t needed) (codes "</p>\n")
+field_pushed kind pairs said f t needed marked hinted name words value hint old one two three four is_name is_words is_value is_hint is_marked is_hinted is_one is_two is_three is_four =
+    rw (is_four, is_three, is_two, is_one, is_hinted, is_hint, is_marked, is_words, is_value, is_name) (four_joined old _ _ _ (codes "</p>\n"))

@@ -4,6 +4,7 @@ use Rattle.std.specs.List.{flat_map}
 use Rattle.docket_command.specs.FieldTypes.{FieldType}
 use Rattle.docket_command.specs.FieldTypes as of
 use Rattle.html_sheets.specs.Escapes.{escaped}
+use Rattle.entry_pages.specs.declared.control.State.{State}
 
 -- the values of a type from which one is chosen, each with its words
 abbrev pub choices_of : FieldType → List (List ℕ × List ℕ)
@@ -39,12 +40,25 @@ attributes_of of.Moment = codes " pattern=\"[0-9]{4}-[0-9]{2}-[0-9]{2}T[0-9]{2}:
 attributes_of of.TimeOfDay = codes " type=\"time\""
 attributes_of _ = []
 
--- whether it must be there, and whether what was said is about it
-abbrev pub state_told : Bool → Bool → List ℕ
-state_told true true = codes " required aria-invalid=\"true\" aria-describedby=\"said\""
-state_told true false = codes " required"
-state_told false true = codes " aria-invalid=\"true\" aria-describedby=\"said\""
-state_told false false = []
+-- the attribute of a field that must be there
+abbrev pub required_told : Bool → List ℕ
+required_told true = codes " required"
+required_told false = []
+
+-- the attributes of a field of that name that what was said is about, and that has a hint: a marked one is described by what was said,
+-- then by its hint (WAI-ARIA 1.2, aria-invalid and aria-describedby)
+abbrev pub described_told : List ℕ → Bool → Bool → List ℕ
+described_told name true true = codes " aria-invalid=\"true\" aria-describedby=\"said " ++ (name ++ codes "-hint\"")
+described_told name true false = codes " aria-invalid=\"true\" aria-describedby=\"said\""
+described_told name false true = codes " aria-describedby=\"" ++ (name ++ codes "-hint\"")
+described_told name false false = []
+
+-- whether it must be there, whether what was said is about it, and whether it has a hint
+abbrev pub state_told : List ℕ → Bool → Bool → Bool → List ℕ
+state_told name needed marked hinted = required_told needed ++ described_told name marked hinted
+
+abbrev pub state_of : State → List ℕ
+state_of state = state_told state.name.now state.needed state.marked state.hinted
 
 -- a line
 abbrev pub line_told : List ℕ → List ℕ → List ℕ → List ℕ → List ℕ

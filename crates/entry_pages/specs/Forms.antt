@@ -11,10 +11,9 @@ use Rattle.docket_command.specs.Schema.{FieldSpec, must, may, fields_of}
 use Rattle.html_sheets.specs.declared.about.About.{About}
 use Rattle.html_sheets.specs.declared.about.About.TheVariants as about
 use Rattle.entry_pages.specs.Controls.{control_told, state_told}
-use Rattle.entry_pages.specs.Hints.{hints_told}
+use Rattle.entry_pages.specs.Hints.{hint_of, hint_told, is_hinted}
 use Rattle.entry_pages.specs.Labels.{label_of}
-use Rattle.entry_pages.specs.Saying.{is_marked}
-use Rattle.entry_pages.specs.declared.said.Said.{Said}
+use Rattle.entry_pages.specs.Saying.{Saying, is_marked}
 
 -- the text of the last pair of a name, and that so far where there is none
 abbrev pub text_from : List ℕ → List (List ℕ × List ℕ) → List ℕ → List ℕ
@@ -27,15 +26,15 @@ text_in name pairs = text_from name pairs []
 abbrev pub label_told : List ℕ → List ℕ → List ℕ
 label_told name words = codes "<p><label for=\"" ++ (name ++ (codes "\">" ++ (words ++ codes "</label>")))
 
--- a field: its label, its control, and its hints
-abbrev pub field_with : CommandName → List (List ℕ × List ℕ) → Said → Field → FieldType → Bool → List ℕ
+-- a field: its label, its control, and its hint
+abbrev pub field_with : CommandName → List (List ℕ × List ℕ) → Saying → Field → FieldType → Bool → List ℕ
 field_with kind pairs said f t needed =
     label_told (field_name f) (label_of kind f)
-    ++ (control_told t (field_name f) (text_in (field_name f) pairs) (state_told needed (is_marked said f))
-    ++ (hints_told kind f t needed
+    ++ (control_told t (field_name f) (text_in (field_name f) pairs) (state_told (field_name f) needed (is_marked said f) (is_hinted (hint_of kind f t needed)))
+    ++ (hint_told (field_name f) (hint_of kind f t needed)
     ++ codes "</p>\n"))
 
-abbrev pub field_told : CommandName → List (List ℕ × List ℕ) → Said → FieldSpec → List ℕ
+abbrev pub field_told : CommandName → List (List ℕ × List ℕ) → Saying → FieldSpec → List ℕ
 field_told kind pairs said (must f t) = field_with kind pairs said f t true
 field_told kind pairs said (may f t) = field_with kind pairs said f t false
 
@@ -48,11 +47,14 @@ form_head kind fresh =
     codes "<form class=\"entry\" action=\"/pages/commands\" method=\"post\" autocomplete=\"off\">\n<input type=\"hidden\" name=\"do\" value=\""
     ++ (command_word kind ++ (codes "\"><input type=\"hidden\" name=\"key\" value=\"" ++ (key_of fresh ++ codes "\">\n")))
 
+-- the button that enters the command, which is the first and so the one of the Enter key, and that which shows what it would do
+-- (HTML Living Standard, 4.10.21.2 on implicit submission, 4.10.18.6 on formaction)
 abbrev pub form_foot : List ℕ
-form_foot = codes "<p><button>Enter</button></p>\n</form>\n"
+form_foot =
+    codes "<p><button>Enter</button> <button class=\"other\" formaction=\"/pages/previews\">Show what it would do</button></p>\n</form>\n"
 
 -- each field of the kind, in the order of the one table
-unfoldable pub entry_form : CommandName → ℕ → List (List ℕ × List ℕ) → Said → List ℕ
+unfoldable pub entry_form : CommandName → ℕ → List (List ℕ × List ℕ) → Saying → List ℕ
 entry_form kind fresh pairs said = form_head kind fresh ++ (flat_map (field_told kind pairs said) (fields_of kind) ++ form_foot)
 
 -- ---- the pairs with which a link fills in a form

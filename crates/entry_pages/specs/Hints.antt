@@ -1,5 +1,5 @@
--- What stands below a field where people err.
-use Rattle.std.specs.Prelude.{ℕ, List, [], ◌∷◌, ◌++◌, Bool, true, false, codes}
+-- What stands below a field where people err, and describes it to a screen reader.
+use Rattle.std.specs.Prelude.{ℕ, List, [], ◌∷◌, ◌++◌, Bool, true, false, if◌then◌else◌, codes}
 use Rattle.docket_command.specs.declared.command_name.CommandName.{CommandName}
 use Rattle.docket_command.specs.declared.command_name.CommandName.TheVariants as kind
 use Rattle.docket_command.specs.declared.field.Field.{Field}
@@ -31,21 +31,26 @@ field_hint k field.Days = days_hint k
 field_hint k field.Rule = codes "Its name, which begins with LR."
 field_hint k _ = []
 
--- of a type
-abbrev pub type_hint : FieldType → List ℕ
-type_hint of.Moment = codes "As 2025-11-01T17:00-05:00, with the court's offset on that day."
-type_hint _ = []
+-- of a field of a type: a moment is written in a form that a browser has no control for
+abbrev pub own_hint : CommandName → Field → FieldType → List ℕ
+own_hint k f of.Moment = codes "As 2025-11-01T17:00-05:00, with the court's offset on that day."
+own_hint k f _ = field_hint k f
 
--- of a field that may be absent
-abbrev pub empty_hint : Bool → List ℕ
-empty_hint true = []
-empty_hint false = codes "May be left empty."
+-- with that of a field that may be absent
+abbrev pub hint_words : List ℕ → Bool → List ℕ
+hint_words own true = own
+hint_words [] false = codes "May be left empty."
+hint_words (byte ∷ words) false = (byte ∷ words) ++ codes " May be left empty."
 
--- a hint, if there is one
-abbrev pub hint_told : List ℕ → List ℕ
-hint_told [] = []
-hint_told (byte ∷ words) = codes "<span class=\"hint\">" ++ ((byte ∷ words) ++ codes "</span>")
+abbrev pub hint_of : CommandName → Field → FieldType → Bool → List ℕ
+hint_of k f t needed = hint_words (own_hint k f t) needed
 
--- all hints of a field
-abbrev pub hints_told : CommandName → Field → FieldType → Bool → List ℕ
-hints_told k f t needed = hint_told (field_hint k f) ++ (hint_told (type_hint t) ++ hint_told (empty_hint needed))
+-- whether there is a hint
+abbrev pub is_hinted : List ℕ → Bool
+is_hinted [] = false
+is_hinted (byte ∷ words) = true
+
+-- the hint of a field of that name, if there is one
+abbrev pub hint_told : List ℕ → List ℕ → List ℕ
+hint_told name words =
+    if is_hinted words then codes "<span id=\"" ++ (name ++ (codes "-hint\" class=\"hint\">" ++ (words ++ codes "</span>"))) else []

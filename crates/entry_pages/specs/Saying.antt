@@ -5,10 +5,25 @@ use Rattle.docket_command.specs.declared.field.Field.TheVariants as field
 use Rattle.docket_command.specs.declared.refusal.Refusal.{Refusal}
 use Rattle.docket_command.specs.declared.refusal.Refusal.TheVariants as refusal
 use Rattle.docket_command.specs.Fields.{field_name}
+use Rattle.html_sheets.specs.Elements.{lines_told}
 use Rattle.docket_wire.specs.declared.fault.WireFault.{WireFault}
 use Rattle.docket_wire.specs.declared.fault.WireFault.TheVariants as fault
 use Rattle.entry_pages.specs.declared.said.Said.{Said}
-use Rattle.entry_pages.specs.declared.said.Said.TheVariants.{Nothing, Refused, Faulty}
+use Rattle.entry_pages.specs.declared.said.Said.TheVariants as variant
+
+-- what is said of a form: nothing where it was not sent before, that its command was refused, that it is no command, or what its command
+-- would do
+pub data Saying : Type 0 where
+  nothing : Saying
+  refused : Refusal → Saying
+  faulty : WireFault → Saying
+  foreseen : List ℕ → Saying
+
+abbrev pub saying_of : Said → Saying
+saying_of variant.Nothing = nothing
+saying_of (variant.Refused r) = refused r
+saying_of (variant.Faulty f) = faulty f
+saying_of (variant.Foreseen text) = foreseen text.now
 
 -- ---- sentences
 
@@ -44,21 +59,29 @@ fault_words (fault.WrongField f) = codes "the marked field is not written as it 
 fault_words fault.UnknownField = codes "the form has a field too many. Open it again."
 fault_words fault.NoMemory = codes "there was not enough memory. Enter it again."
 
--- what the title of the page and the sentence begin with
-abbrev pub said_head : Said → List ℕ
-said_head Nothing = []
-said_head (Refused r) = codes "Refused: "
-said_head (Faulty f) = codes "Not entered: "
+-- what the title of the page begins with, and the sentence of a refusal or a fault
+abbrev pub said_head : Saying → List ℕ
+said_head nothing = []
+said_head (refused r) = codes "Refused: "
+said_head (faulty f) = codes "Not entered: "
+said_head (foreseen text) = codes "Preview: "
 
 -- the sentence, which a screen reader reads at once
 abbrev pub alert_told : List ℕ → List ℕ → List ℕ
 alert_told head words =
     codes "<p id=\"said\" class=\"said\" role=\"alert\">" ++ (head ++ (words ++ codes " Nothing was entered.</p>\n"))
 
-abbrev pub said_told : Said → List ℕ
-said_told Nothing = []
-said_told (Refused r) = alert_told (codes "Refused: ") (refusal_words r)
-said_told (Faulty f) = alert_told (codes "Not entered: ") (fault_words f)
+-- what the command would do, line by line
+abbrev pub foreseen_told : List ℕ → List ℕ
+foreseen_told text =
+    codes "<section role=\"status\">\n<h2>What this would do</h2>\n"
+    ++ (lines_told text ++ codes "\n<p>Nothing was entered by showing this. The button Enter enters it.</p>\n</section>\n")
+
+abbrev pub said_told : Saying → List ℕ
+said_told nothing = []
+said_told (refused r) = alert_told (codes "Refused: ") (refusal_words r)
+said_told (faulty f) = alert_told (codes "Not entered: ") (fault_words f)
+said_told (foreseen text) = foreseen_told text
 
 -- ---- the field that it is about, by its name; empty where there is none
 
@@ -76,10 +99,11 @@ faulty_field (fault.MissingField f) = field_name f
 faulty_field (fault.WrongField f) = field_name f
 faulty_field _ = []
 
-abbrev pub marked_field : Said → List ℕ
-marked_field Nothing = []
-marked_field (Refused r) = refused_field r
-marked_field (Faulty f) = faulty_field f
+abbrev pub marked_field : Saying → List ℕ
+marked_field nothing = []
+marked_field (refused r) = refused_field r
+marked_field (faulty f) = faulty_field f
+marked_field (foreseen text) = []
 
-abbrev pub is_marked : Said → Field → Bool
+abbrev pub is_marked : Saying → Field → Bool
 is_marked said f = bytes_eq (field_name f) (marked_field said)

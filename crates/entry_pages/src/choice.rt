@@ -2,8 +2,9 @@
 ghost use Rattle.std.specs.Prelude.{◌≡◌, ◌++◌, codes, map, OnOk, string_bytes};
 ghost use Rattle.std.specs.List.{flat_map};
 ghost use Rattle.command_forms.specs.Entered.{type_of_input};
-ghost use Rattle.entry_pages.specs.Controls.{choices_of, option_told, select_head};
+ghost use Rattle.entry_pages.specs.Controls.{choices_of, option_told, select_head, state_of};
 
+use crate::control::State;
 use command_forms::Input;
 use std::alloc::AllocError;
 use std::fmt;
@@ -121,9 +122,10 @@ fn push_options(text: &mut String, value: &str, choices: &[Choice]) -> Result<()
     Ok(())
 }
 
-fn push_select_head(text: &mut String, name: &str, state: &str) -> Result<(), AllocError>
-    ensures { OnOk result (string_bytes text.new ≡ string_bytes text.old ++ select_head name.now state.now) }
+fn push_select_head(text: &mut String, state: State) -> Result<(), AllocError>
+    ensures { OnOk result (string_bytes text.new ≡ string_bytes text.old ++ select_head state.entry.name.now (state_of state.entry)) }
 {
+    let name = state.name;
     write!(
         text,
         "<select id=\"{name}\" name=\"{name}\"{state}><option value=\"\"></option>"
@@ -134,14 +136,13 @@ fn push_select_head(text: &mut String, name: &str, state: &str) -> Result<(), Al
 pub(crate) fn push_select(
     text: &mut String,
     choices: &[Choice],
-    name: &str,
+    state: State,
     value: &str,
-    state: &str,
 ) -> Result<(), AllocError>
     ensures { OnOk result (string_bytes text.new ≡ string_bytes text.old
-        ++ (select_head name.now state.now ++ (flat_map (λ choice. option_told value.now (choice.0.now, choice.1.now)) choices.now ++ codes "</select>"))) }
+        ++ (select_head state.entry.name.now (state_of state.entry) ++ (flat_map (λ choice. option_told value.now (choice.0.now, choice.1.now)) choices.now ++ codes "</select>"))) }
 {
-    push_select_head(text, name, state)?;
+    push_select_head(text, state)?;
     push_options(text, value, choices)?;
     text.push_str("</select>")
 }

@@ -1,7 +1,7 @@
 //! The control of a field.
 ghost use Rattle.std.specs.Prelude.{◌≡◌, ◌++◌, OnOk, string_bytes};
 ghost use Rattle.command_forms.specs.Entered.{type_of_input};
-ghost use Rattle.entry_pages.specs.Controls.{attributes_of, state_told, line_told, control_told};
+ghost use Rattle.entry_pages.specs.Controls.{attributes_of, state_of, line_told, control_told};
 
 use crate::choice::{choices_of, push_select};
 use command_forms::Input;
@@ -23,15 +23,40 @@ fn attributes_of(input: Input) -> &'static str
     }
 }
 
-/// The attributes of a field that must be there, and of one that what was said is about.
-pub(crate) fn state_told(needed: bool, marked: bool) -> &'static str
-    ensures { result.now ≡ state_told needed marked }
-{
-    match (needed, marked) {
-        (true, true) => " required aria-invalid=\"true\" aria-describedby=\"said\"",
-        (true, false) => " required",
-        (false, true) => " aria-invalid=\"true\" aria-describedby=\"said\"",
-        (false, false) => "",
+/// How a field stands in its form.
+#[derive(Clone, Copy)]
+pub(crate) struct State<'a> {
+    /// Its name.
+    pub(crate) name: &'a str,
+    /// It must be there.
+    pub(crate) needed: bool,
+    /// What was said is about it.
+    pub(crate) marked: bool,
+    /// It has a hint.
+    pub(crate) hinted: bool,
+}
+
+impl fmt::Display for State<'_> {
+    ghost use Rattle.std.specs.Prelude.{Some};
+    ghost use Rattle.entry_pages.specs.Controls.{state_of};
+
+    ghost output = { λ state. Some (state_of state) };
+
+    fn fmt<W: fmt::Write>(&self, f: &mut fmt::Formatter<W>) -> fmt::Result {
+        let name = self.name;
+        let required = if self.needed { " required" } else { "" };
+        match (self.marked, self.hinted) {
+            (true, true) => write!(
+                f,
+                "{required} aria-invalid=\"true\" aria-describedby=\"said {name}-hint\""
+            ),
+            (true, false) => write!(
+                f,
+                "{required} aria-invalid=\"true\" aria-describedby=\"said\""
+            ),
+            (false, true) => write!(f, "{required} aria-describedby=\"{name}-hint\""),
+            (false, false) => f.write_str(required),
+        }
     }
 }
 
@@ -39,22 +64,21 @@ pub(crate) fn state_told(needed: bool, marked: bool) -> &'static str
 #[derive(Clone, Copy)]
 struct Line<'a> {
     attributes: &'a str,
-    name: &'a str,
+    state: State<'a>,
     value: &'a str,
-    state: &'a str,
 }
 
 impl fmt::Display for Line<'_> {
     ghost use Rattle.std.specs.Prelude.{Some};
-    ghost use Rattle.entry_pages.specs.Controls.{line_told};
+    ghost use Rattle.entry_pages.specs.Controls.{line_told, state_of};
 
-    ghost output = { λ line. Some (line_told line.attributes.now line.name.now line.value.now line.state.now) };
+    ghost output = { λ line. Some (line_told line.attributes.now line.state.name.now line.value.now (state_of line.state)) };
 
     fn fmt<W: fmt::Write>(&self, f: &mut fmt::Formatter<W>) -> fmt::Result {
         let attributes = self.attributes;
-        let name = self.name;
-        let value = Escaped(self.value);
         let state = self.state;
+        let name = state.name;
+        let value = Escaped(self.value);
         write!(
             f,
             "<input{attributes} id=\"{name}\" name=\"{name}\" value=\"{value}\"{state}>"
@@ -65,17 +89,15 @@ impl fmt::Display for Line<'_> {
 fn push_line(
     text: &mut String,
     attributes: &str,
-    name: &str,
+    state: State,
     value: &str,
-    state: &str,
 ) -> Result<(), AllocError>
-    ensures { OnOk result (string_bytes text.new ≡ string_bytes text.old ++ line_told attributes.now name.now value.now state.now) }
+    ensures { OnOk result (string_bytes text.new ≡ string_bytes text.old ++ line_told attributes.now state.entry.name.now value.now (state_of state.entry)) }
 {
     let line = Line {
         attributes,
-        name,
-        value,
         state,
+        value,
     };
     write!(text, "{line}")
 }
@@ -84,16 +106,15 @@ fn push_line(
 pub(crate) fn push_control(
     text: &mut String,
     input: Input,
-    name: &str,
+    state: State,
     value: &str,
-    state: &str,
 ) -> Result<(), AllocError>
-    ensures { OnOk result (string_bytes text.new ≡ string_bytes text.old ++ control_told (type_of_input input) name.now value.now state.now) }
+    ensures { OnOk result (string_bytes text.new ≡ string_bytes text.old ++ control_told (type_of_input input) state.entry.name.now value.now (state_of state.entry)) }
 {
     let choices = choices_of(input);
     if choices.len() == 0 {
-        push_line(text, attributes_of(input), name, value, state)
+        push_line(text, attributes_of(input), state, value)
     } else {
-        push_select(text, choices, name, value, state)
+        push_select(text, choices, state, value)
     }
 }

@@ -5,9 +5,10 @@ ghost use Rattle.docket_command.specs.Schema.{fields_of};
 ghost use Rattle.command_forms.specs.Entered.{spec_of, type_of_input};
 ghost use Rattle.command_forms.specs.Forms.{texts_of};
 ghost use Rattle.entry_pages.specs.Forms.{field_told, field_with, label_told};
+ghost use Rattle.entry_pages.specs.Saying.{saying_of};
 
-use crate::control::{push_control, state_told};
-use crate::hint::push_hints;
+use crate::control::{State, push_control};
+use crate::hint::{hint_of, push_hint};
 use crate::label::label_of;
 use crate::pair::text_in;
 use crate::said::{Said, is_marked};
@@ -26,18 +27,24 @@ fn push_with(
     text: &mut String,
     kind: CommandName,
     pairs: &[Pair],
-    said: Said,
+    said: Said<'_>,
     field: Field,
     input: Input,
     needed: bool,
 ) -> Result<(), AllocError>
-    ensures { OnOk result (string_bytes text.new ≡ string_bytes text.old ++ field_with kind (texts_of pairs.now) said field (type_of_input input) needed) }
+    ensures { OnOk result (string_bytes text.new ≡ string_bytes text.old ++ field_with kind (texts_of pairs.now) (saying_of said.entry) field (type_of_input input) needed) }
 {
     let name = field.name();
-    let state = state_told(needed, is_marked(said, field));
+    let hint = hint_of(kind, field, input, needed);
+    let state = State {
+        name,
+        needed,
+        marked: is_marked(said, field),
+        hinted: hint.is_told(),
+    };
     push_label(text, name, label_of(kind, field))?;
-    push_control(text, input, name, text_in(name, pairs), state)?;
-    push_hints(text, kind, field, input, needed)?;
+    push_control(text, input, state, text_in(name, pairs))?;
+    push_hint(text, name, hint)?;
     text.push_str("</p>\n")?;
     Ok(())
 }
@@ -47,10 +54,10 @@ fn push_field(
     text: &mut String,
     kind: CommandName,
     pairs: &[Pair],
-    said: Said,
+    said: Said<'_>,
     entered: Entered,
 ) -> Result<(), AllocError>
-    ensures { OnOk result (string_bytes text.new ≡ string_bytes text.old ++ field_told kind (texts_of pairs.now) said (spec_of entered)) }
+    ensures { OnOk result (string_bytes text.new ≡ string_bytes text.old ++ field_told kind (texts_of pairs.now) (saying_of said.entry) (spec_of entered)) }
 {
     match entered {
         Entered::Must(field, input) => push_with(text, kind, pairs, said, field, input, true),
@@ -62,10 +69,10 @@ fn push_each(
     text: &mut String,
     kind: CommandName,
     pairs: &[Pair],
-    said: Said,
+    said: Said<'_>,
     fields: &[Entered],
 ) -> Result<(), AllocError>
-    ensures { OnOk result (string_bytes text.new ≡ string_bytes text.old ++ flat_map (λ e. field_told kind (texts_of pairs.now) said (spec_of e)) fields.now) }
+    ensures { OnOk result (string_bytes text.new ≡ string_bytes text.old ++ flat_map (λ e. field_told kind (texts_of pairs.now) (saying_of said.entry) (spec_of e)) fields.now) }
 {
     for field in fields {
         push_field(text, kind, pairs, said, *field)?;
@@ -78,9 +85,9 @@ pub(crate) fn push_fields(
     text: &mut String,
     kind: CommandName,
     pairs: &[Pair],
-    said: Said,
+    said: Said<'_>,
 ) -> Result<(), AllocError>
-    ensures { OnOk result (string_bytes text.new ≡ string_bytes text.old ++ flat_map (field_told kind (texts_of pairs.now) said) (fields_of kind)) }
+    ensures { OnOk result (string_bytes text.new ≡ string_bytes text.old ++ flat_map (field_told kind (texts_of pairs.now) (saying_of said.entry)) (fields_of kind)) }
 {
     push_each(text, kind, pairs, said, entered_of(kind))
 }

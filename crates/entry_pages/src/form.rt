@@ -2,6 +2,7 @@
 ghost use Rattle.std.specs.Prelude.{◌≡◌, ◌++◌, OnOk, string_bytes};
 ghost use Rattle.command_forms.specs.Forms.{texts_of};
 ghost use Rattle.entry_pages.specs.Forms.{entry_form, form_head};
+ghost use Rattle.entry_pages.specs.Saying.{saying_of};
 
 use crate::field::push_fields;
 use crate::said::Said;
@@ -28,11 +29,13 @@ pub(crate) fn push_form(
     kind: CommandName,
     fresh: u64,
     pairs: &[Pair],
-    said: Said,
+    said: Said<'_>,
 ) -> Result<(), AllocError>
-    ensures { OnOk result (string_bytes text.new ≡ string_bytes text.old ++ entry_form kind fresh (texts_of pairs.now) said) }
+    ensures { OnOk result (string_bytes text.new ≡ string_bytes text.old ++ entry_form kind fresh (texts_of pairs.now) (saying_of said.entry)) }
 {
     push_head(text, kind, fresh)?;
     push_fields(text, kind, pairs, said)?;
-    text.push_str("<p><button>Enter</button></p>\n</form>\n")
+    text.push_str(
+        "<p><button>Enter</button> <button class=\"other\" formaction=\"/pages/previews\">Show what it would do</button></p>\n</form>\n",
+    )
 }

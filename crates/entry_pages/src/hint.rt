@@ -1,11 +1,12 @@
-//! The hints of a field.
+//! The hint of a field.
 ghost use Rattle.std.specs.Prelude.{◌≡◌, ◌++◌, OnOk, string_bytes};
 ghost use Rattle.command_forms.specs.Entered.{type_of_input};
-ghost use Rattle.entry_pages.specs.Hints.{party_hint, days_hint, field_hint, type_hint, empty_hint, hint_told, hints_told};
+ghost use Rattle.entry_pages.specs.Hints.{party_hint, days_hint, field_hint, own_hint, hint_words, hint_of, is_hinted, hint_told};
 
 use command_forms::Input;
 use docket_command::{CommandName, Field};
 use std::alloc::AllocError;
+use std::fmt;
 
 fn party_hint(kind: CommandName) -> &'static str
     ensures { result.now ≡ party_hint kind }
@@ -46,42 +47,66 @@ fn field_hint(kind: CommandName, field: Field) -> &'static str
     }
 }
 
-fn type_hint(input: Input) -> &'static str
-    ensures { result.now ≡ type_hint (type_of_input input) }
+fn own_hint(kind: CommandName, field: Field, input: Input) -> &'static str
+    ensures { result.now ≡ own_hint kind field (type_of_input input) }
 {
     match input {
         Input::Moment => "As 2025-11-01T17:00-05:00, with the court's offset on that day.",
-        _ => "",
+        _ => field_hint(kind, field),
     }
 }
 
-fn empty_hint(needed: bool) -> &'static str
-    ensures { result.now ≡ empty_hint needed }
-{
-    if needed { "" } else { "May be left empty." }
+/// The hint of a field, which may be empty.
+#[derive(Clone, Copy)]
+pub(crate) struct Hint {
+    /// What is said of the field itself.
+    own: &'static str,
+    /// The field must be there.
+    needed: bool,
 }
 
-/// Adds a hint, if there is one.
-fn push_hint(text: &mut String, words: &str) -> Result<(), AllocError>
-    ensures { OnOk result (string_bytes text.new ≡ string_bytes text.old ++ hint_told words.now) }
+impl fmt::Display for Hint {
+    ghost use Rattle.std.specs.Prelude.{Some};
+    ghost use Rattle.entry_pages.specs.Hints.{hint_words};
+
+    ghost output = { λ hint. Some (hint_words hint.own.now hint.needed) };
+
+    fn fmt<W: fmt::Write>(&self, f: &mut fmt::Formatter<W>) -> fmt::Result {
+        let own = self.own;
+        match (self.needed, own.is_empty()) {
+            (true, _) => f.write_str(own),
+            (false, true) => f.write_str("May be left empty."),
+            (false, false) => write!(f, "{own} May be left empty."),
+        }
+    }
+}
+
+impl Hint {
+    /// Returns whether there is a hint.
+    pub(crate) fn is_told(self) -> bool
+        ensures { result ≡ is_hinted (hint_words self.own.now self.needed) }
+    {
+        !self.needed || !self.own.is_empty()
+    }
+}
+
+/// The hint of a field of a kind.
+pub(crate) fn hint_of(kind: CommandName, field: Field, input: Input, needed: bool) -> Hint
+    ensures { hint_words result.own.now result.needed ≡ hint_of kind field (type_of_input input) needed }
 {
-    if words.is_empty() {
+    let own = own_hint(kind, field, input);
+    Hint { own, needed }
+}
+
+/// Adds the hint of a field of that name, if there is one.
+pub(crate) fn push_hint(text: &mut String, name: &str, hint: Hint) -> Result<(), AllocError>
+    ensures { OnOk result (string_bytes text.new ≡ string_bytes text.old ++ hint_told name.now (hint_words hint.own.now hint.needed)) }
+{
+    if !hint.is_told() {
         return Ok(());
     }
-    write!(text, "<span class=\"hint\">{words}</span>")
-}
-
-/// Adds all hints of a field.
-pub(crate) fn push_hints(
-    text: &mut String,
-    kind: CommandName,
-    field: Field,
-    input: Input,
-    needed: bool,
-) -> Result<(), AllocError>
-    ensures { OnOk result (string_bytes text.new ≡ string_bytes text.old ++ hints_told kind field (type_of_input input) needed) }
-{
-    push_hint(text, field_hint(kind, field))?;
-    push_hint(text, type_hint(input))?;
-    push_hint(text, empty_hint(needed))
+    write!(
+        text,
+        "<span id=\"{name}-hint\" class=\"hint\">{hint}</span>"
+    )
 }

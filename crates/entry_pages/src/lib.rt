@@ -3,7 +3,7 @@
 //! them by its characters alone.
 //!
 //! A form has exactly the fields of its kind, in the order of the one table. What it sends is read by
-//! `command_forms`.
+//! `command_forms`. Its first button enters the command, and its second shows what the command would do.
 #![tactic(auto)]
 
 mod choice;

@@ -2,7 +2,7 @@
 ghost use Rattle.std.specs.Prelude.{◌≡◌, ◌++◌, IfOk, string_bytes};
 ghost use Rattle.command_forms.specs.Forms.{texts_of};
 ghost use Rattle.entry_pages.specs.Pages.{entry_head, kinds_page, entry_page, page_of, form_again};
-ghost use Rattle.entry_pages.specs.Saying.{said_head};
+ghost use Rattle.entry_pages.specs.Saying.{saying_of, said_head};
 
 use crate::form::push_form;
 use crate::kinds::push_kinds;
@@ -13,8 +13,8 @@ use docket_command::{CommandName, from_word};
 use html_sheets::{page_foot, page_head, site_nav, title_of};
 use std::alloc::{AllocError, Global};
 
-fn titled(alloc: Global, title: &str, said: Said) -> Result<String, AllocError>
-    ensures { IfOk result (λ text. string_bytes text ≡ said_head said ++ title.now) }
+fn titled(alloc: Global, title: &str, said: Said<'_>) -> Result<String, AllocError>
+    ensures { IfOk result (λ text. string_bytes text ≡ said_head (saying_of said.entry) ++ title.now) }
 {
     let head = said_head(said);
     format!(in alloc; "{head}{title}")
@@ -22,8 +22,8 @@ fn titled(alloc: Global, title: &str, said: Said) -> Result<String, AllocError>
 
 /// A page up to what is entered.
 #[tactic(auto, unfolding(crate::specs::Pages::entry_head))]
-fn entry_head(alloc: Global, title: &str, said: Said) -> Result<String, AllocError>
-    ensures { IfOk result (λ text. string_bytes text ≡ entry_head title.now said) }
+fn entry_head(alloc: Global, title: &str, said: Said<'_>) -> Result<String, AllocError>
+    ensures { IfOk result (λ text. string_bytes text ≡ entry_head title.now (saying_of said.entry)) }
 {
     let title = titled(alloc, title, said)?;
     let mut text = page_head(alloc, title.as_str())?;
@@ -34,8 +34,8 @@ fn entry_head(alloc: Global, title: &str, said: Said) -> Result<String, AllocErr
 
 /// The page of the kinds of commands that are entered by a form, each a link.
 #[tactic(auto, unfolding(crate::specs::Pages::kinds_page))]
-pub fn kinds_page(alloc: Global, said: Said) -> Result<String, AllocError>
-    ensures { IfOk result (λ text. string_bytes text ≡ kinds_page said) }
+pub fn kinds_page(alloc: Global, said: Said<'_>) -> Result<String, AllocError>
+    ensures { IfOk result (λ text. string_bytes text ≡ kinds_page (saying_of said.entry)) }
 {
     let mut text = entry_head(alloc, "Enter", said)?;
     push_kinds(&mut text)?;
@@ -51,9 +51,9 @@ pub fn entry_page(
     kind: CommandName,
     fresh: u64,
     pairs: &[Pair],
-    said: Said,
+    said: Said<'_>,
 ) -> Result<String, AllocError>
-    ensures { IfOk result (λ text. string_bytes text ≡ entry_page kind fresh (texts_of pairs.now) said) }
+    ensures { IfOk result (λ text. string_bytes text ≡ entry_page kind fresh (texts_of pairs.now) (saying_of said.entry)) }
 {
     let mut text = entry_head(alloc, title_of(kind), said)?;
     push_form(&mut text, kind, fresh, pairs, said)?;
@@ -66,9 +66,9 @@ fn page_of(
     kind: CommandName,
     fresh: u64,
     pairs: &[Pair],
-    said: Said,
+    said: Said<'_>,
 ) -> Result<String, AllocError>
-    ensures { IfOk result (λ text. string_bytes text ≡ page_of kind fresh (texts_of pairs.now) said) }
+    ensures { IfOk result (λ text. string_bytes text ≡ page_of kind fresh (texts_of pairs.now) (saying_of said.entry)) }
 {
     match kind {
         CommandName::ImportCalendar => kinds_page(alloc, said),
@@ -83,9 +83,9 @@ pub fn form_again(
     alloc: Global,
     fresh: u64,
     pairs: &[Pair],
-    said: Said,
+    said: Said<'_>,
 ) -> Result<String, AllocError>
-    ensures { IfOk result (λ text. string_bytes text ≡ form_again fresh (texts_of pairs.now) said) }
+    ensures { IfOk result (λ text. string_bytes text ≡ form_again fresh (texts_of pairs.now) (saying_of said.entry)) }
 {
     match from_word(text_in("do", pairs)) {
         Some(kind) => page_of(alloc, kind, fresh, pairs, said),

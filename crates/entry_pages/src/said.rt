@@ -1,20 +1,23 @@
 //! What a page says of a command that was sent and not entered.
 ghost use Rattle.std.specs.Prelude.{◌≡◌, ◌++◌, OnOk, string_bytes};
-ghost use Rattle.entry_pages.specs.Saying.{refusal_words, fault_words, said_head, alert_told, said_told, refused_field, faulty_field, marked_field, is_marked};
+ghost use Rattle.entry_pages.specs.Saying.{saying_of, refusal_words, fault_words, said_head, alert_told, foreseen_told, said_told, refused_field, faulty_field, marked_field, is_marked};
 
 use docket_command::{Field, Refusal};
 use docket_wire::WireFault;
+use html_sheets::LinesTold;
 use std::alloc::AllocError;
 
 /// What was said of the form that was sent.
 #[derive(Clone, Copy)]
-pub enum Said {
+pub enum Said<'a> {
     /// It was not sent before.
     Nothing,
     /// Its command was refused.
     Refused(Refusal),
     /// It is no command.
     Faulty(WireFault),
+    /// Its command was not entered yet, and would do this, told in lines.
+    Foreseen(&'a str),
 }
 
 /// A refusal in a sentence.
@@ -70,13 +73,14 @@ fn fault_words(fault: WireFault) -> &'static str
 }
 
 /// What the title of the page begins with.
-pub(crate) fn said_head(said: Said) -> &'static str
-    ensures { result.now ≡ said_head said }
+pub(crate) fn said_head(said: Said<'_>) -> &'static str
+    ensures { result.now ≡ said_head (saying_of said.entry) }
 {
     match said {
         Said::Nothing => "",
         Said::Refused(_) => "Refused: ",
         Said::Faulty(_) => "Not entered: ",
+        Said::Foreseen(_) => "Preview: ",
     }
 }
 
@@ -89,14 +93,27 @@ fn push_alert(text: &mut String, head: &str, words: &str) -> Result<(), AllocErr
     )
 }
 
-/// Adds what was said, in a sentence.
-pub(crate) fn push_said(text: &mut String, said: Said) -> Result<(), AllocError>
-    ensures { OnOk result (string_bytes text.new ≡ string_bytes text.old ++ said_told said) }
+/// Adds what a command would do.
+fn push_foreseen(text: &mut String, foreseen: &str) -> Result<(), AllocError>
+    ensures { OnOk result (string_bytes text.new ≡ string_bytes text.old ++ foreseen_told foreseen.now) }
+{
+    let lines = LinesTold(foreseen);
+    write!(
+        text,
+        "<section role=\"status\">\n<h2>What this would do</h2>\n{lines}\n\
+        <p>Nothing was entered by showing this. The button Enter enters it.</p>\n</section>\n"
+    )
+}
+
+/// Adds what was said.
+pub(crate) fn push_said(text: &mut String, said: Said<'_>) -> Result<(), AllocError>
+    ensures { OnOk result (string_bytes text.new ≡ string_bytes text.old ++ said_told (saying_of said.entry)) }
 {
     match said {
         Said::Nothing => Ok(()),
         Said::Refused(refusal) => push_alert(text, "Refused: ", refusal_words(refusal)),
         Said::Faulty(fault) => push_alert(text, "Not entered: ", fault_words(fault)),
+        Said::Foreseen(foreseen) => push_foreseen(text, foreseen),
     }
 }
 
@@ -127,19 +144,20 @@ fn faulty_field(fault: WireFault) -> &'static str
 }
 
 /// The name of the field that is marked, which is empty where there is none.
-fn marked_field(said: Said) -> &'static str
-    ensures { result.now ≡ marked_field said }
+fn marked_field(said: Said<'_>) -> &'static str
+    ensures { result.now ≡ marked_field (saying_of said.entry) }
 {
     match said {
         Said::Nothing => "",
         Said::Refused(refusal) => refused_field(refusal),
         Said::Faulty(fault) => faulty_field(fault),
+        Said::Foreseen(_) => "",
     }
 }
 
 /// Whether what was said is about the field.
-pub(crate) fn is_marked(said: Said, field: Field) -> bool
-    ensures { result ≡ is_marked said field }
+pub(crate) fn is_marked(said: Said<'_>, field: Field) -> bool
+    ensures { result ≡ is_marked (saying_of said.entry) field }
 {
     field.name() == marked_field(said)
 }

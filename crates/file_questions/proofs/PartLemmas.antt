@@ -5,7 +5,7 @@ use Rattle.std.proofs.Math.Seq.{take-append_seam}
 use Rattle.std.proofs.lemmas.Bool.{or_cases, or_left, or_right}
 use Rattle.std.proofs.lemmas.Bool.Decides.{same_from_decides}
 use Rattle.std.proofs.lemmas.Slice.Eq.{bytes_eq-Decides}
-use Rattle.file_questions.specs.CaseLists.{begins, holds}
+use Rattle.docket_questions.specs.Searches.{begins, holds}
 
 module _ (part : List ℕ) where
   begun : (text : List ℕ) → begins part text ≡ true → HasSubslice text part

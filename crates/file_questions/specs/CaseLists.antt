@@ -1,5 +1,5 @@
 -- Which cases of a history a list shows, and how much of the list goes out.
-use Rattle.std.specs.Prelude.{◌≡◌, ℕ, Bool, true, ◌&&◌, ◌||◌, List, [], ◌∷◌, length, take, filter, bytes_eq, Option, Some, None, option_copied, Result, Ok, Err, IfErr}
+use Rattle.std.specs.Prelude.{◌≡◌, ℕ, Bool, true, ◌&&◌, List, length, filter, bytes_eq, Option, Some, None, option_copied, Result, Ok, Err, IfErr}
 use Rattle.std.specs.Io.KnownBytes.{Appends}
 use Rattle.std.specs.List.{flat_map, list_any}
 use Rattle.sqlite.specs.Held.{state}
@@ -12,18 +12,10 @@ use Rattle.docket_applying.specs.Dockets.{Docket}
 use Rattle.docket_applying.specs.declared.fault.Fault.TheVariants.{NoMemory, StoreFailed}
 use Rattle.docket_applying.specs.declared.listing.CalendarEnd.{CalendarEnd}
 use Rattle.docket_applying.specs.declared.listing.CalendarEnd.TheVariants.{Store, WriteFailed}
+use Rattle.docket_questions.specs.Searches.{holds}
 use Rattle.docket_text.specs.CaseLists.{case_list_line}
 use Rattle.file_questions.specs.declared.listing.Wanted.{Wanted}
 use Rattle.line_io.specs.Output.{HasFront}
-
--- the bytes begin with the part
-abbrev pub begins : List ℕ → List ℕ → Bool
-begins part bytes = bytes_eq (take (length part) bytes) part
-
--- the part is somewhere in the bytes
-abbrev pub holds : List ℕ → List ℕ → Bool
-holds part [] = begins part []
-holds part (byte ∷ bytes) = begins part (byte ∷ bytes) || holds part bytes
 
 -- a case of this very label; any case where none is asked for
 abbrev pub has_label : Option (List ℕ) → CaseRow → Bool

@@ -15,4 +15,4 @@ pub use checking::{Judgment, Sound};
 pub use exporting::Export;
 pub use inquiry::{Inquiry, ask_on_file};
 pub use listing::Wanted;
-pub use texts::{TextOf, Unconditional};
+pub use texts::TextOf;

@@ -9,7 +9,8 @@ ghost use Rattle.docket_tables.specs.Layouts.{Rows};
 ghost use Rattle.docket_tables.specs.Stands.{HoldsRows};
 ghost use Rattle.docket_applying.specs.AnyRows.{Preserves, PreservesCalendar};
 ghost use Rattle.docket_applying.specs.Applying.{Asks, Stands};
-ghost use Rattle.file_questions.specs.CaseLists.{GoesOut, IsEarlyWrite, Lists, cases_told, cases_wanted, has_party, holds};
+ghost use Rattle.docket_questions.specs.Searches.{holds};
+ghost use Rattle.file_questions.specs.CaseLists.{GoesOut, IsEarlyWrite, Lists, cases_told, cases_wanted, has_party};
 
 use crate::inquiry::Inquiry;
 use docket_history::{CaseRow, PartyRow};

@@ -38,9 +38,9 @@ module _ (L M : Rows → Rows → Type 0) (more : (rows next : Rows) → L rows 
   led_map result it = record {
     routes = it.routes;
     shown = it.shown;
-    first = it.first;
     exchanges = it.exchanges;
     ends = it.ends;
+    rise = it.rise;
     last = it.last;
     next = it.next;
     is = it.is;
@@ -63,17 +63,17 @@ module _ {S : Type 0} (g : Ghosts S) (conn : Held S) (docket : Docket) (service 
 
   -- connections were taken at a desk
   led_left : (adopted last : Desk S) (result : Result (Unit {0}) ServingFault) → StandsAs g adopted.docket docket → AreServed service last.routes
-      → ServesRun g last.routes adopted.fresh last.fresh adopted.docket last.docket service.count None None result → conn ≡ last.docket.conn → HasCleanDisk (state g conn)
+      → ServesRun g last.routes adopted.number last.number adopted.docket last.docket service.count None None result → conn ≡ last.docket.conn → HasCleanDisk (state g conn)
       → LeavesLed (HoldsBetween g conn) docket service result
   led_left adopted last result stands shown run same clean =
       let was = subst (λ (c : Held S). HasCleanDisk (state g c)) same clean in
-      let found = each_led g last.routes docket.court run.exchanges adopted.fresh adopted.docket last.docket docket.history stands.court run.each stands.stands was in
+      let found = each_led g last.routes docket.court run.exchanges adopted.docket last.docket docket.history stands.court run.each stands.stands was in
       record {
         routes = last.routes;
         shown = shown;
-        first = adopted.fresh;
         exchanges = run.exchanges;
         ends = run.ends;
+        rise = (adopted.number, last.number, run.rise);
         last = found.last;
         next = found.next;
         is = found.docket;

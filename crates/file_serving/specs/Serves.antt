@@ -45,9 +45,9 @@ module _ {S : Type 0} (g : Ghosts S) where
   -- a docket was served to so many connections, whose bytes are not known, by the routes that are served at a place; where none was waited
   -- for it is as it was
   abbrev pub ServesPlace : Desk S → Desk S → Service → Result (Unit {0}) ServeEnd → Type 0
-  ServesPlace old new service (Ok done) = AreServed service new.routes × ServesRun g new.routes old.fresh new.fresh old.docket new.docket service.count None None (Ok done)
+  ServesPlace old new service (Ok done) = AreServed service new.routes × ServesRun g new.routes old.number new.number old.docket new.docket service.count None None (Ok done)
   ServesPlace old new service (Err (Stopped fault)) =
-      AreServed service new.routes × ServesRun g new.routes old.fresh new.fresh old.docket new.docket service.count None None (Err fault)
+      AreServed service new.routes × ServesRun g new.routes old.number new.number old.docket new.docket service.count None None (Err fault)
   ServesPlace old new service (Err _) = new ≡ old
 
   -- the docket of a history was adopted and served at a desk, by the routes that were asked for, and the connection is the one that it was left

@@ -14,7 +14,6 @@ use std::alloc::{AllocError, Global};
 use std::io;
 use std::io::{ErrorKind, Write};
 use std::rt::HostRuntime;
-use std::time::{Clock, SystemTime, UNIX_EPOCH};
 
 /// Whether the pages of a docket are shown, and who is answered.
 #[derive(Clone, Copy)]
@@ -102,21 +101,10 @@ fn listen<S: Alter, W: Write, E: Write>(
     }
 }
 
-/// Returns the nanoseconds since 1970-01-01T00:00Z, or 0 where the clock can't be read.
-fn nanoseconds_now<C: Clock>(clock: &C) -> u64 {
-    let Ok(now) = SystemTime::now(clock) else {
-        return 0;
-    };
-    match now.duration_since(UNIX_EPOCH) {
-        Ok(since) => u64::try_from(since.as_nanos()).unwrap_or(0),
-        Err(_) => 0,
-    }
-}
-
 /// Adopts the docket that a database holds, prints on `w` where connections are taken, and serves so many of
-/// them. Prints on `e` what goes wrong with one. The files at the path are those of the database. The first
-/// connection has the nanoseconds of the machine's clock as its number, so that a later run of the program
-/// begins with a greater one.
+/// them. Prints on `e` what goes wrong with one. The files at the path are those of the database. The connections
+/// are numbered by the machine's clock, so that a later run of the program has greater numbers, unless the clock
+/// was set back.
 #[derive(Drop)]
 pub(crate) struct Serve<'a, V> {
     pub(crate) rt: &'a HostRuntime,
@@ -146,8 +134,7 @@ impl<V: Watch + Drop, W: Write, E: Write> Work<W, E> for Serve<'_, V> {
             Err(returned) => return Worked::from(returned),
         };
         let files = DocketFiles::new(self.rt, self.path);
-        let fresh = nanoseconds_now(self.rt);
-        let mut desk = Desk::new(alloc, docket, Routes::Docket, Some(files), fresh);
+        let mut desk = Desk::new(self.rt, docket, Routes::Docket, Some(files));
         let end = listen(self.rt, self.service, &mut desk, w, e);
         Worked {
             outcome: Ok(end),

@@ -1,9 +1,10 @@
 -- Rows of tables and other pieces, as they are written: what they hold, separated by tags.
-use Rattle.std.proofs.Common.{◌≡◌, ℕ, List, [], ◌∷◌, ◌++◌, append_assoc, refl, sym, ap, ap₂, ◌∙◌}
+use Rattle.std.proofs.Common.{◌≡◌, ℕ, List, [], ◌∷◌, ◌++◌, length, append_assoc, refl, sym, ap, ap₂, ◌∙◌, arith}
 use Rattle.std.specs.Prelude.{codes}
+use Rattle.docket_history.specs.declared.row.CaseRow.{CaseRow}
 use Rattle.html_sheets.specs.Elements.{element, nav, weekday_told, cell, number_cell, head_cell, row}
 use Rattle.html_sheets.specs.Sheets.{said}
-use Rattle.html_sheets.specs.Sites.{more_nav}
+use Rattle.html_sheets.specs.Sites.{more_nav, found_told}
 use Rattle.html_sheets.specs.Weeks.{end_cells}
 
 -- an element and what follows
@@ -45,8 +46,8 @@ deadline_parts number party name rule standing = simp (append_assoc, element-the
 
 -- what is shown of a case
 pub said_parts : (number label caption filed : List ℕ)
-    → codes "<dl>\n<dt>Case</dt><dd>" ++ (number ++ (codes "</dd>\n<dt>Label</dt><dd>" ++ (label ++ (codes "</dd>\n<dt>Caption</dt><dd>" ++ (caption ++ (codes "</dd>\n<dt>Filed</dt><dd>" ++ (filed ++ codes "</dd>\n</dl>\n")))))))
-    ≡ codes "<dl>\n" ++ (said (codes "Case") number ++ (said (codes "Label") label ++ (said (codes "Caption") caption ++ (said (codes "Filed") filed ++ codes "</dl>\n"))))
+    → codes "<dl>\n<dt>Case</dt><dd>" ++ (number ++ (codes "</dd>\n<dt>Docket number</dt><dd>" ++ (label ++ (codes "</dd>\n<dt>Caption</dt><dd>" ++ (caption ++ (codes "</dd>\n<dt>Filed</dt><dd>" ++ (filed ++ codes "</dd>\n</dl>\n")))))))
+    ≡ codes "<dl>\n" ++ (said (codes "Case") number ++ (said (codes "Docket number") label ++ (said (codes "Caption") caption ++ (said (codes "Filed") filed ++ codes "</dl>\n"))))
 said_parts number label caption filed = simp (append_assoc, element-then) refl
 
 end_front : (day time last : List ℕ)
@@ -63,11 +64,11 @@ end_parts day time closing =
     ap front (sym (element-alone (codes "td") (codes " class=\"number\"") closing)) ∙ parted
 
 -- a format takes its first twelve pieces as one
-pub due_parts : (end case number rule party caption : List ℕ)
-    → (codes "<tr>" ++ (end ++ (codes "<td class=\"number\">" ++ (case ++ (codes "</td><td class=\"number\">" ++ (number ++ (codes "</td><td>" ++ (rule ++ (codes "</td><td class=\"number\">" ++ (party ++ (codes "</td><td>" ++ caption)))))))))))
-    ++ codes "</td></tr>\n"
-    ≡ row (end ++ (number_cell case ++ (number_cell number ++ (cell rule ++ (number_cell party ++ cell caption)))))
-due_parts end case number rule party caption = simp (append_assoc, element-then) refl
+pub due_parts : (end case label number rule party caption : List ℕ)
+    → (codes "<tr>" ++ (end ++ (codes "<td class=\"number\">" ++ (case ++ (codes "</td><td class=\"number\">" ++ (label ++ (codes "</td><td class=\"number\">" ++ (number ++ (codes "</td><td>" ++ (rule ++ (codes "</td><td class=\"number\">" ++ party)))))))))))
+    ++ (codes "</td><td>" ++ (caption ++ codes "</td></tr>\n"))
+    ≡ row (end ++ (number_cell case ++ (number_cell label ++ (number_cell number ++ (cell rule ++ (number_cell party ++ cell caption))))))
+due_parts end case label number rule party caption = simp (append_assoc, element-then) refl
 
 pub page_parts : (title style heading : List ℕ)
     → codes "<!DOCTYPE html>\n<html lang=\"en\">\n<head>\n<meta charset=\"utf-8\">\n<meta name=\"viewport\" content=\"width=device-width, initial-scale=1\">\n<title>"
@@ -86,10 +87,10 @@ pub days_parts : (from to head : List ℕ)
     ≡ element (codes "p") [] (from ++ (codes " to " ++ to)) ++ (codes "\n" ++ head)
 days_parts from to head = simp (append_assoc, element-then) refl
 
-pub week_parts : (from to before after head : List ℕ)
-    → codes "<p>" ++ (from ++ (codes " to " ++ (to ++ (codes "</p>\n<nav aria-label=\"Other weeks\">" ++ (before ++ (codes " " ++ (after ++ (codes "</nav>\n" ++ head))))))))
-    ≡ element (codes "p") [] (from ++ (codes " to " ++ to)) ++ (codes "\n" ++ (nav (codes "Other weeks") (before ++ (codes " " ++ after)) ++ (codes "\n" ++ head)))
-week_parts from to before after head = simp (append_assoc, element-then) refl
+pub week_parts : (from to zone before after head : List ℕ)
+    → codes "<p>" ++ (from ++ (codes " to " ++ (to ++ (codes "</p>\n" ++ (zone ++ (codes "\n<nav aria-label=\"Other weeks\">" ++ (before ++ (codes " " ++ (after ++ (codes "</nav>\n" ++ head))))))))))
+    ≡ element (codes "p") [] (from ++ (codes " to " ++ to)) ++ (codes "\n" ++ (zone ++ (codes "\n" ++ (nav (codes "Other weeks") (before ++ (codes " " ++ after)) ++ (codes "\n" ++ head)))))
+week_parts from to zone before after head = simp (append_assoc, element-then) refl
 
 -- the links of a list of cases: one of them, and both
 pub one_more_part : (link : List ℕ)
@@ -103,6 +104,17 @@ two_more_parts earlier later = simp (append_assoc, element-then) refl
 -- a text to which another is added
 pub added : {old new text more last : List ℕ} → new ≡ old ++ more → old ≡ text → more ≡ last → new ≡ text ++ last
 added is before behind = is ∙ ap₂ (λ (a b : List ℕ). a ++ b) before behind
+
+-- the words of a search
+pub words_parts : (words : List ℕ)
+    → codes "<p>Cases found by " ++ (words ++ codes "</p>\n") ≡ element (codes "p") [] (codes "Cases found by " ++ words) ++ codes "\n"
+words_parts words = simp element-then refl
+
+-- a search that found nothing
+pub none_found : (cases : List CaseRow) → length cases ≡ 0 → found_told cases ≡ codes "<p>No docket number, caption or name has these words.</p>\n"
+unfolding element
+none_found [] none = refl
+none_found (case ∷ cases) none = absurd (omega arith)
 
 -- links to forms, and a link back to a case
 pub enter_parts : (links : List ℕ)

@@ -19,6 +19,8 @@ use Rattle.court_days.specs.declared.filing.End.TheVariants.{LastDay, Moment}
 use Rattle.court_days.proofs.CourtLemmas.{zone_of-is_zone}
 use Rattle.court_rules.specs.declared.act.Standing.{Standing}
 use Rattle.court_rules.specs.declared.act.Standing.TheVariants.{Running, Suspended, Awaiting, Done, Vacated}
+use Rattle.court_rules.specs.declared.rule.Rule.{Rule}
+use Rattle.court_rules.specs.declared.rule.Rule.TheVariants as rule
 use Rattle.docket_command.specs.Words.{role_word}
 use Rattle.docket_command.specs.declared.choice.Role.{Role}
 use Rattle.docket_command.specs.declared.choice.Role.TheVariants as role
@@ -27,6 +29,7 @@ use Rattle.docket_text.specs.HolidayNames.{weekday_word}
 use Rattle.docket_text.specs.Parties.{party_text}
 use Rattle.docket_text.specs.Times.{shown, shown_minute}
 use Rattle.html_sheets.specs.Marks.{is_mark, marks}
+use Rattle.html_sheets.specs.RuleWords.{rule_words}
 
 -- it has no mark
 pub record IsBare (bytes : List ℕ) : Type 0 where
@@ -124,6 +127,30 @@ unfolding is_mark
 role_bare role.Plaintiff = record { is = refl }
 role_bare role.Defendant = record { is = refl }
 role_bare role.Other = record { is = refl }
+
+pub rule_bare : (rule : Rule) → IsBare (rule_words rule)
+unfolding is_mark
+rule_bare rule.AnswerToSummons = record { is = refl }
+rule_bare rule.AnswerAfterWaiver = record { is = refl }
+rule_bare rule.AnswerAfterWaiverAbroad = record { is = refl }
+rule_bare rule.AnswerToCounterclaim = record { is = refl }
+rule_bare rule.ReplyToAnswer = record { is = refl }
+rule_bare rule.AnswerByUnitedStates = record { is = refl }
+rule_bare rule.AnswerByOfficer = record { is = refl }
+rule_bare rule.AnswerAfterRuling = record { is = refl }
+rule_bare rule.AnswerAfterStatement = record { is = refl }
+rule_bare rule.MoreDefiniteStatement = record { is = refl }
+rule_bare rule.MotionToStrike = record { is = refl }
+rule_bare rule.MotionAndNotice = record { is = refl }
+rule_bare rule.OpposingAffidavit = record { is = refl }
+rule_bare rule.RenewedMotionForJudgment = record { is = refl }
+rule_bare rule.LosingPartyNewTrial = record { is = refl }
+rule_bare rule.AmendedFindings = record { is = refl }
+rule_bare rule.NewTrial = record { is = refl }
+rule_bare rule.NewTrialByCourt = record { is = refl }
+rule_bare rule.AmendedJudgment = record { is = refl }
+rule_bare rule.ReliefFromJudgment = record { is = refl }
+rule_bare rule.Ordered = record { is = refl }
 
 pub weekday_bare : (day : ℕ) → IsBare (weekday_word day)
 unfolding is_mark

@@ -1,6 +1,6 @@
 -- Pieces whose marks are the same, whatever texts they hold.
 use Rattle.std.proofs.Common.{◌≡◌, ℕ, List, [], ◌∷◌, ◌++◌, length, true≢false, refl, sym, ◌∙◌, arith}
-use Rattle.std.specs.Prelude.{codes, decimal, Option, Some, None as none, is_some}
+use Rattle.std.specs.Prelude.{Bool, codes, decimal, Option, Some, None as none, is_some}
 use Rattle.std.specs.List.{flat_map}
 use Rattle.std.proofs.lemmas.List.Elements.{filter-append}
 use Rattle.civil_time.specs.Civil.{weekday}
@@ -8,6 +8,8 @@ use Rattle.civil_time.specs.DayText.{day_text}
 use Rattle.court_days.specs.Court.{CourtSettings}
 use Rattle.court_days.specs.declared.filing.End.{End}
 use Rattle.court_days.specs.declared.filing.End.TheVariants.{LastDay, Moment}
+use Rattle.court_rules.specs.Rules.{rule_named}
+use Rattle.court_rules.specs.declared.rule.Rule.{Rule}
 use Rattle.docket_history.specs.declared.record.CaseRecord.{CaseRecord}
 use Rattle.docket_history.specs.declared.record.DeadlineLine.{DeadlineLine}
 use Rattle.docket_history.specs.declared.record.DueRow.{DueRow}
@@ -24,16 +26,19 @@ use Rattle.html_sheets.specs.Entering.{about_text, enter_link, enter_line, enter
 use Rattle.html_sheets.specs.Escapes.{escaped}
 use Rattle.html_sheets.specs.Marks.{is_mark, marks}
 use Rattle.html_sheets.specs.Pages.{page_head, page_foot, cases_head, case_row, cases_foot}
+use Rattle.html_sheets.specs.RuleWords.{rule_words, worded, rule_told}
 use Rattle.html_sheets.specs.Sheets.{said, case_head, entering, parties_head, party_row, party_told, name_of, party_at, parties_table, entries_head, entry_row, entries_table, deadlines_head, deadline_row, deadlines_table, case_sheet}
-use Rattle.html_sheets.specs.Sites.{site_nav, cases_link, more_nav, more_cases, cases_page, case_page, days_page_head, text_told, text_page, reasons_title, case_back, reasons_page, calendar_told, calendar_row, calendar_head, court_days_page}
+use Rattle.html_sheets.specs.Sites.{site_nav, cases_link, more_nav, more_cases, cases_page, words_told, found_told, more_told, search_page, case_page, days_page_head, text_told, text_page, reasons_title, case_back, filed_told, reasons_page, calendar_told, calendar_row, calendar_head, court_days_page}
 use Rattle.html_sheets.specs.Styles.{style_text}
 use Rattle.html_sheets.specs.Titles.{title_of}
-use Rattle.html_sheets.specs.Weeks.{week_before, week_after, days_link, due_columns, days_told, days_head, week_head, end_cells, end_of_row, due_row}
+use Rattle.html_sheets.specs.declared.due_list.DueList.{DueList}
+use Rattle.html_sheets.specs.Weeks.{list_title, week_before, week_after, days_link, due_columns, days_told, days_head, zone_told, week_head, end_cells, end_of_row, due_row}
 use Rattle.html_sheets.specs.declared.about.About.{About}
 use Rattle.html_sheets.specs.declared.about.About.TheVariants.{Nothing, Case, Party, Deadline}
+use Rattle.html_sheets.specs.declared.filed.Filed.{Filed}
 use Rattle.html_sheets.specs.declared.links.Links.{Links}
 use Rattle.html_sheets.specs.declared.links.Links.TheVariants.{Pages, None}
-use Rattle.html_sheets.proofs.MarkLemmas.{IsBare, decimal_bare, day_bare, close_bare, local_bare, party_bare, role_bare, weekday_bare, standing_bare}
+use Rattle.html_sheets.proofs.MarkLemmas.{IsBare, decimal_bare, day_bare, close_bare, local_bare, party_bare, role_bare, rule_bare, weekday_bare, standing_bare}
 use Rattle.html_sheets.proofs.TextLemmas.{escaped-marks, lined-marks}
 
 -- the marks are the same
@@ -48,6 +53,10 @@ bare a b = record { is = a.is ∙ sym b.is }
 
 both : (xs ys zs ws : List ℕ) → Same xs ys → Same zs ws → Same (xs ++ zs) (ys ++ ws)
 both xs ys zs ws s t = record { is = filter-append is_mark xs zs ∙ rw (s.is, t.is) (sym (filter-append is_mark ys ws)) }
+
+-- behind a text without marks
+behind_bare : (xs ys : List ℕ) → IsBare xs → Same (xs ++ ys) ys
+behind_bare xs ys s = record { is = filter-append is_mark xs ys ∙ rw (s.is) refl }
 
 -- behind the same bytes, and before them
 behind : (xs zs ws : List ℕ) → Same zs ws → Same (xs ++ zs) (xs ++ ws)
@@ -66,6 +75,15 @@ texts a b = record { is = escaped-marks a ∙ sym (escaped-marks b) }
 
 tolds : (a b : List ℕ) → Same (told a) (told b)
 tolds a b = within (codes "bdi") [] [] _ _ same (texts a b)
+
+-- the words before the name of a rule have no mark
+named : (found : Option Rule) (name : List ℕ) → Same (worded found name) name
+unfolding is_mark
+named none name = same
+named (Some rule) name = record { is = (behind_bare (rule_words rule) (codes ", " ++ name) (rule_bare rule)).is }
+
+rules_told : (a b : List ℕ) → Same (rule_told a) (rule_told b)
+rules_told a b = record { is = (named (rule_named a) (told a)).is ∙ ((tolds a b).is ∙ sym (named (rule_named b) (told b)).is) }
 
 days : (a b : ℕ) → Same (day_told a) (day_told b)
 days a b = within (codes "time") [] [] _ _ same (bare (day_bare a) (day_bare b))
@@ -181,7 +199,7 @@ unfolding deadline_row
 deadline_rows lead court place case other a b = rows _ _ (
     both _ _ _ _ (head_cells _ _ (deadline_numbers lead case.number other.number a.number b.number))
     (both _ _ _ _ (cells _ _ (parties_told case.parties other.parties a.party b.party))
-    (both _ _ _ _ (cells _ _ (tolds a.rule b.rule))
+    (both _ _ _ _ (cells _ _ (rules_told a.rule b.rule))
     (number_cells _ _ (bare (standing_bare court a.close a.standing) (standing_bare place b.close b.standing))))))
 
 -- as many rows on both sides
@@ -199,7 +217,7 @@ unfolding case_head
 case_heads a b =
     behind (codes "<dl>\n") _ _
     (both _ _ _ _ (saids (codes "Case") _ _ (bare (decimal_bare a.number) (decimal_bare b.number)))
-    (both _ _ _ _ (saids (codes "Label") _ _ (tolds a.label b.label))
+    (both _ _ _ _ (saids (codes "Docket number") _ _ (tolds a.label b.label))
     (both _ _ _ _ (saids (codes "Caption") _ _ (tolds a.caption b.caption))
     (before _ _ (codes "</dl>\n") (saids (codes "Filed") _ _ (days a.filed b.filed))))))
 
@@ -239,13 +257,18 @@ days_said a b c d = within (codes "p") [] [] _ _ same (both _ _ _ _ (weekdays a 
 pub days_heads : (a b c d : ℕ) → Same (days_head a b) (days_head c d)
 days_heads a b c d = before _ _ (codes "\n" ++ due_columns) (days_said a b c d)
 
-pub week_heads : (a b c d : ℕ) → Same (week_head a b) (week_head c d)
-week_heads a b c d =
+zones_told : (court place : CourtSettings) → Same (zone_told court) (zone_told place)
+zones_told court place = within (codes "p") [] [] _ _ same (behind (codes "Times are local, in the zone ") _ _ (tolds court.zone_text place.zone_text))
+
+pub week_heads : (court place : CourtSettings) (a b c d : ℕ) → Same (week_head court a b) (week_head place c d)
+week_heads court place a b c d =
     both _ _ _ _ (days_said a b c d)
+    (behind (codes "\n") _ _
+    (both _ _ _ _ (zones_told court place)
     (behind (codes "\n") _ _
     (before _ _ (codes "\n" ++ due_columns) (navs (codes "Other weeks") _ _ (
     both _ _ _ _ (days_links (week_before a) (week_before b) (week_before c) (week_before d) (codes "Week before"))
-    (behind (codes " ") _ _ (days_links (week_after a) (week_after b) (week_after c) (week_after d) (codes "Week after")))))))
+    (behind (codes " ") _ _ (days_links (week_after a) (week_after b) (week_after c) (week_after d) (codes "Week after")))))))))
 
 -- two ends
 ends : (day other : ℕ) (time hour closing close : List ℕ) → Same time hour → Same closing close → Same (end_cells day time closing) (end_cells other hour close)
@@ -266,44 +289,63 @@ ends_same court place close late (LastDay day) (Moment at) = ends _ _ _ _ _ _ (b
 ends_same court place close late (Moment at) (LastDay day) = ends _ _ _ _ _ _ (bare (local_bare _ _) midnight) (bare no_closing (close_bare late))
 ends_same court place close late (Moment at) (Moment other) = ends _ _ _ _ _ _ (bare (local_bare _ _) (local_bare _ _)) (bare no_closing no_closing)
 
-pub due_rows : (lead : Links) (court place : CourtSettings) (a b : DueRow) (caption name : List ℕ) → Same (due_row lead court a caption) (due_row lead place b name)
-due_rows lead court place a b caption name = rows _ _ (
+pub due_rows : (lead : Links) (court place : CourtSettings) (a b : DueRow) (label word caption name : List ℕ)
+    → Same (due_row lead court a label caption) (due_row lead place b word name)
+due_rows lead court place a b label word caption name = rows _ _ (
     both _ _ _ _ (ends_same court place a.close b.close a.end b.end)
     (both _ _ _ _ (number_cells _ _ (case_numbers lead a.case b.case))
+    (both _ _ _ _ (number_cells _ _ (tolds label word))
     (both _ _ _ _ (number_cells _ _ (deadline_numbers lead a.case b.case a.number b.number))
-    (both _ _ _ _ (cells _ _ (tolds a.rule b.rule))
-    (both _ _ _ _ (number_cells _ _ (bare (party_bare a.party) (party_bare b.party))) (cells _ _ (tolds caption name)))))))
+    (both _ _ _ _ (cells _ _ (rules_told a.rule b.rule))
+    (both _ _ _ _ (number_cells _ _ (bare (party_bare a.party) (party_bare b.party))) (cells _ _ (tolds caption name))))))))
 
 cases_links : (a b : ℕ) (words : List ℕ) → Same (cases_link a words) (cases_link b words)
-cases_links a b words = links _ _ words words (behind (codes "/pages/cases?from=") _ _ (bare (decimal_bare a) (decimal_bare b))) same
+cases_links a b words = links _ _ words words (behind (codes "/pages/cases?before=") _ _ (bare (decimal_bare a) (decimal_bare b))) same
 
 more_navs : (a b : List ℕ) → Same a b → Same (more_nav a) (more_nav b)
 more_navs a b s = before _ _ (codes "\n") (navs (codes "More cases") a b s)
 
 -- as many links on both sides
-more_same : (earlier sooner later after : Option ℕ) → is_some earlier ≡ is_some sooner → is_some later ≡ is_some after
-    → Same (more_cases earlier later) (more_cases sooner after)
+more_same : (newer later older earlier : Option ℕ) → is_some newer ≡ is_some later → is_some older ≡ is_some earlier
+    → Same (more_cases newer older) (more_cases later earlier)
 more_same none none none none e l = same
-more_same (Some a) (Some b) none none e l = more_navs _ _ (cases_links a b (codes "Earlier cases"))
-more_same none none (Some a) (Some b) e l = more_navs _ _ (cases_links a b (codes "Later cases"))
+more_same (Some a) (Some b) none none e l = more_navs _ _ (cases_links a b (codes "Newer cases"))
+more_same none none (Some a) (Some b) e l = more_navs _ _ (cases_links a b (codes "Older cases"))
 more_same (Some a) (Some b) (Some c) (Some d) e l =
-    more_navs _ _ (both _ _ _ _ (cases_links a b (codes "Earlier cases")) (behind (codes " ") _ _ (cases_links c d (codes "Later cases"))))
-more_same none (Some b) later after e l = absurd (true≢false (sym e))
-more_same (Some a) none later after e l = absurd (true≢false e)
+    more_navs _ _ (both _ _ _ _ (cases_links a b (codes "Newer cases")) (behind (codes " ") _ _ (cases_links c d (codes "Older cases"))))
+more_same none (Some b) older earlier e l = absurd (true≢false (sym e))
+more_same (Some a) none older earlier e l = absurd (true≢false e)
 more_same none none none (Some d) e l = absurd (true≢false (sym l))
 more_same none none (Some c) none e l = absurd (true≢false l)
 more_same (Some a) (Some b) none (Some d) e l = absurd (true≢false (sym l))
 more_same (Some a) (Some b) (Some c) none e l = absurd (true≢false l)
 
-pub cases_pages : (cases others : List CaseRow) (earlier sooner later after : Option ℕ) → length cases ≡ length others
-    → is_some earlier ≡ is_some sooner → is_some later ≡ is_some after
-    → Same (cases_page cases earlier later) (cases_page others sooner after)
-cases_pages cases others earlier sooner later after count e l =
+pub cases_pages : (cases others : List CaseRow) (newer later older earlier : Option ℕ) → length cases ≡ length others
+    → is_some newer ≡ is_some later → is_some older ≡ is_some earlier
+    → Same (cases_page cases newer older) (cases_page others later earlier)
+cases_pages cases others newer later older earlier count e l =
     behind (page_head (codes "Cases")) _ _
     (behind site_nav _ _
     (behind cases_head _ _
     (both _ _ _ _ (all_rows case_row case_row case_rows cases others count)
-    (behind cases_foot _ _ (before _ _ page_foot (more_same earlier sooner later after e l))))))
+    (behind cases_foot _ _ (before _ _ page_foot (more_same newer later older earlier e l))))))
+
+founds : (cases others : List CaseRow) → length cases ≡ length others → Same (found_told cases) (found_told others)
+founds [] [] count = same
+founds [] (other ∷ others) count = absurd (omega arith)
+founds (case ∷ cases) [] count = absurd (omega arith)
+founds (case ∷ cases) (other ∷ others) count =
+    behind cases_head _ _ (before _ _ cases_foot (all_rows case_row case_row case_rows (case ∷ cases) (other ∷ others) count))
+
+words_same : (words text : List ℕ) → Same (words_told words) (words_told text)
+words_same words text = before _ _ (codes "\n") (within (codes "p") [] [] _ _ same (behind (codes "Cases found by ") _ _ (tolds words text)))
+
+pub search_pages : (words text : List ℕ) (cases others : List CaseRow) (more : Bool) → length cases ≡ length others
+    → Same (search_page words cases more) (search_page text others more)
+search_pages words text cases others more count =
+    behind (page_head (codes "Search")) _ _
+    (behind site_nav _ _
+    (both _ _ _ _ (words_same words text) (before _ _ (more_told more ++ page_foot) (founds cases others count))))
 
 pub case_pages : (court place : CourtSettings) (case other : CaseRecord) (deadlines lines : List DeadlineLine)
     → length case.parties ≡ length other.parties → length case.entries ≡ length other.entries → length deadlines ≡ length lines
@@ -312,8 +354,8 @@ case_pages court place case other deadlines lines parties entries count =
     both _ _ _ _ (page_heads case.label other.label)
     (behind site_nav _ _ (before _ _ page_foot (case_sheets Pages court place case other deadlines lines parties entries count)))
 
-pub days_pages : (a b c d : ℕ) → Same (days_page_head a b) (days_page_head c d)
-days_pages a b c d = behind (page_head (codes "Deadlines")) _ _ (behind site_nav _ _ (week_heads a b c d))
+pub days_pages : (list other : DueList) (court place : CourtSettings) (a b c d : ℕ) → Same (days_page_head list court a b) (days_page_head other place c d)
+days_pages list other court place a b c d = both _ _ _ _ (page_heads (list_title list) (list_title other)) (behind site_nav _ _ (week_heads court place a b c d))
 
 lines : (a b : List ℕ) → Same (text_told a) (text_told b)
 lines a b = before _ _ (codes "\n") (within (codes "pre") [] [] _ _ same (record { is = lined-marks a ∙ sym (lined-marks b) }))
@@ -324,13 +366,15 @@ text_pages title other text words = both _ _ _ _ (page_heads title other) (behin
 backs : (a b : ℕ) → Same (case_back a) (case_back b)
 backs a b = before _ _ (codes "\n") (within (codes "p") [] [] _ _ same (behind (codes "Case ") _ _ (case_links a b)))
 
-pub reasons_pages : (case other deadline last : ℕ) (text words : List ℕ) → Same (reasons_page case deadline text) (reasons_page other last words)
-reasons_pages case other deadline last text words =
+pub reasons_pages : (case other deadline last : ℕ) (text words : List ℕ) (filed : Filed)
+    → Same (reasons_page case deadline text filed) (reasons_page other last words filed)
+reasons_pages case other deadline last text words filed =
     both _ _ _ _ (page_heads (reasons_title case deadline) (reasons_title other last))
     (behind site_nav _ _
     (both _ _ _ _ (backs case other)
+    (behind (filed_told filed) _ _
     (both _ _ _ _ (enter_navs _ _ deadline_kinds (deadlines_about case other deadline last))
-    (before _ _ page_foot (lines text words)))))
+    (before _ _ page_foot (lines text words))))))
 
 calendar_rows : (court place : CourtSettings) (a b : CalendarRow) → Same (calendar_row court a) (calendar_row place b)
 unfolding calendar_told

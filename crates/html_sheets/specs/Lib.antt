@@ -4,6 +4,7 @@ pub mod Escapes
 pub mod Marks
 pub mod Pages
 pub mod Reading
+pub mod RuleWords
 pub mod Sheets
 pub mod Sites
 pub mod Styles

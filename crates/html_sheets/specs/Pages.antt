@@ -23,9 +23,9 @@ page_foot = codes "</main>\n</body>\n</html>\n"
 
 -- the list of cases up to its rows
 abbrev pub cases_head : List ℕ
-cases_head = table_head (codes "Case" ∷ codes "Label" ∷ codes "Filed" ∷ codes "Caption" ∷ [])
+cases_head = table_head (codes "Case" ∷ codes "Docket number" ∷ codes "Filed" ∷ codes "Caption" ∷ [])
 
--- the row of a case: its number, which leads to its page, its label, the day on which it was filed, and its caption
+-- the row of a case: its number, which leads to its page, its docket number, the day on which it was filed, and its caption
 unfoldable pub case_row : CaseRow → List ℕ
 case_row case =
     row (head_cell (case_link case.number)

@@ -11,6 +11,7 @@ use Rattle.docket_text.specs.CaseTexts.{standing_text}
 use Rattle.docket_text.specs.Parties.{party_text}
 use Rattle.html_sheets.specs.Elements.{element, told, day_told, deadline_number, cell, number_cell, head_cell, row, table_head, table_foot}
 use Rattle.html_sheets.specs.Entering.{enter_nav, daily_kinds, serve_links}
+use Rattle.html_sheets.specs.RuleWords.{rule_told}
 use Rattle.html_sheets.specs.declared.about.About.TheVariants as about
 use Rattle.html_sheets.specs.declared.links.Links.{Links}
 use Rattle.html_sheets.specs.declared.links.Links.TheVariants as links
@@ -23,7 +24,7 @@ unfoldable pub case_head : CaseRecord → List ℕ
 case_head case =
     codes "<dl>\n"
     ++ (said (codes "Case") (decimal case.number)
-    ++ (said (codes "Label") (told case.label)
+    ++ (said (codes "Docket number") (told case.label)
     ++ (said (codes "Caption") (told case.caption)
     ++ (said (codes "Filed") (day_told case.filed)
     ++ codes "</dl>\n"))))
@@ -68,8 +69,8 @@ name_of (Some party) = party.name
 abbrev pub party_told : List PartyRow → ℕ → List ℕ
 party_told parties party = party_text party ++ (codes " " ++ told (name_of (party_at parties party)))
 
--- the deadlines: the number of each, which leads to its page where there are pages, the party whose time it is, its rule, and where it
--- stands
+-- the deadlines: the number of each, which leads to its page where there are pages, the party whose time it is, its rule in words and by
+-- its name, and where it stands
 unfoldable pub deadlines_head : List ℕ
 deadlines_head = section_head (codes "Deadlines") (codes "Deadline" ∷ codes "Party" ∷ codes "Rule" ∷ codes "Standing" ∷ [])
 
@@ -77,7 +78,7 @@ unfoldable pub deadline_row : Links → CourtSettings → CaseRecord → Deadlin
 deadline_row lead court case deadline =
     row (head_cell (deadline_number lead case.number deadline.number)
     ++ (cell (party_told case.parties deadline.party)
-    ++ (cell (told deadline.rule)
+    ++ (cell (rule_told deadline.rule)
     ++ number_cell (standing_text court deadline.close deadline.standing))))
 
 -- each of the tables

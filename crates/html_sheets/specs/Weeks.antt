@@ -10,7 +10,17 @@ use Rattle.docket_history.specs.declared.record.DueRow.{DueRow}
 use Rattle.docket_text.specs.Parties.{party_text}
 use Rattle.docket_text.specs.Times.{shown, shown_minute}
 use Rattle.html_sheets.specs.Elements.{element, told, weekday_told, link, nav, case_number, deadline_number, cell, number_cell, head_cell, row, table_head, table_foot}
+use Rattle.html_sheets.specs.RuleWords.{rule_told}
+use Rattle.html_sheets.specs.declared.due_list.DueList.{DueList}
+use Rattle.html_sheets.specs.declared.due_list.DueList.TheVariants as list
 use Rattle.html_sheets.specs.declared.links.Links.{Links}
+
+-- the title of a list of what is due
+abbrev pub list_title : DueList → List ℕ
+list_title list.Days = codes "Deadlines"
+list_title list.Today = codes "Today"
+list_title list.Week = codes "This week"
+list_title list.Overdue = codes "Overdue"
 
 -- seven days earlier and later, within the days that have a date here: 1980-01-01 to 3999-12-31
 unfoldable pub week_before : ℕ → ℕ
@@ -26,7 +36,7 @@ days_link from to content = link (codes "/pages/calendar/" ++ (day_text from ++ 
 -- the table of what is due, up to its rows
 unfoldable pub due_columns : List ℕ
 due_columns =
-    table_head (codes "Day" ∷ codes "Time" ∷ codes "Closing" ∷ codes "Case" ∷ codes "Deadline" ∷ codes "Rule" ∷ codes "Party" ∷ codes "Caption" ∷ [])
+    table_head (codes "Day" ∷ codes "Time" ∷ codes "Closing" ∷ codes "Case" ∷ codes "Docket number" ∷ codes "Deadline" ∷ codes "Rule" ∷ codes "Party" ∷ codes "Caption" ∷ [])
 
 -- the days
 abbrev pub days_told : ℕ → ℕ → List ℕ
@@ -36,15 +46,21 @@ days_told from to = element (codes "p") [] (weekday_told from ++ (codes " to " +
 abbrev pub days_head : ℕ → ℕ → List ℕ
 days_head from to = days_told from to ++ (codes "\n" ++ due_columns)
 
--- the same, with links to the days a week before and a week after between them
-abbrev pub week_head : ℕ → ℕ → List ℕ
-week_head from to =
+-- the zone of the court, in which its times are
+abbrev pub zone_told : CourtSettings → List ℕ
+zone_told court = element (codes "p") [] (codes "Times are local, in the zone " ++ told court.zone_text)
+
+-- the same, with that zone and links to the days a week before and a week after between them
+abbrev pub week_head : CourtSettings → ℕ → ℕ → List ℕ
+week_head court from to =
     days_told from to
+    ++ (codes "\n"
+    ++ (zone_told court
     ++ (codes "\n"
     ++ (nav (codes "Other weeks") (
     days_link (week_before from) (week_before to) (codes "Week before")
     ++ (codes " " ++ days_link (week_after from) (week_after to) (codes "Week after")))
-    ++ (codes "\n" ++ due_columns)))
+    ++ (codes "\n" ++ due_columns)))))
 
 -- the day, the time and the closing of the clerk's office. A last day runs to its midnight for electronic filing, and to the
 -- closing on that day for other filing (Fed. R. Civ. P. 6(a)(4)). The day and the time of an instant are local, and no closing matters
@@ -56,16 +72,17 @@ end_of_row court close (LastDay day) = end_cells day (codes "24:00") (clock_text
 end_of_row court close (Moment at) =
     end_cells (local_day (zone_of court) (shown at)) (clock_text (local_minute (zone_of court) (shown at))) (codes "--:--")
 
--- a deadline whose time runs: its end, its case and its number within the case, which lead to their pages where there are pages, its
--- rule, the party whose time it is, and the caption of the case
-abbrev pub due_row : Links → CourtSettings → DueRow → List ℕ → List ℕ
-due_row links court due caption =
+-- a deadline whose time runs: its end, its case by its number and its docket number, its number within the case, its rule, the party
+-- whose time it is, and the caption of the case. Its case and its number lead to their pages where there are pages
+abbrev pub due_row : Links → CourtSettings → DueRow → List ℕ → List ℕ → List ℕ
+due_row links court due label caption =
     row (end_of_row court due.close due.end
     ++ (number_cell (case_number links due.case)
+    ++ (number_cell (told label)
     ++ (number_cell (deadline_number links due.case due.number)
-    ++ (cell (told due.rule)
+    ++ (cell (rule_told due.rule)
     ++ (number_cell (party_text due.party)
-    ++ cell (told caption))))))
+    ++ cell (told caption)))))))
 
 abbrev pub week_foot : List ℕ
 week_foot = table_foot

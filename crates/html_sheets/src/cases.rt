@@ -8,16 +8,16 @@ use std::alloc::{AllocError, Global};
 
 /// The list of cases up to its rows.
 #[tactic(auto, unfolding(crate::specs::Elements::element))]
-pub fn cases_head() -> &'static str
+pub(crate) fn cases_head() -> &'static str
     ensures { result.now ≡ cases_head }
 {
-    "<table>\n<thead>\n<tr><th scope=\"col\">Case</th><th scope=\"col\">Label</th>\
+    "<table>\n<thead>\n<tr><th scope=\"col\">Case</th><th scope=\"col\">Docket number</th>\
      <th scope=\"col\">Filed</th><th scope=\"col\">Caption</th></tr>\n</thead>\n<tbody>\n"
 }
 
-/// The row of a case: its number, which leads to its page, its label, the day on which it was filed,
+/// The row of a case: its number, which leads to its page, its docket number, the day on which it was filed,
 /// and its caption.
-pub fn case_row(alloc: Global, case: &CaseRow) -> Result<String, AllocError>
+pub(crate) fn case_row(alloc: Global, case: &CaseRow) -> Result<String, AllocError>
     ensures { IfOk result (λ text. string_bytes text ≡ case_row case.now) }
 {
     let label = case.label.as_str();
@@ -32,7 +32,7 @@ pub fn case_row(alloc: Global, case: &CaseRow) -> Result<String, AllocError>
 }
 
 /// What ends the list.
-pub fn cases_foot() -> &'static str
+pub(crate) fn cases_foot() -> &'static str
     ensures { result.now ≡ cases_foot }
 {
     table_foot()

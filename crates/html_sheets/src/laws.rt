@@ -1,5 +1,5 @@
 //! Laws of the functions of specs/, with nothing to run.
-ghost use Rattle.std.specs.Prelude.{◌≡◌, ℕ, List, [], length, filter, map, drop, slice_index, Option, is_some, IsTrue};
+ghost use Rattle.std.specs.Prelude.{◌≡◌, ℕ, Bool, List, [], length, filter, map, drop, slice_index, Option, is_some, IsTrue};
 ghost use Rattle.court_days.specs.Court.{CourtSettings};
 ghost use Rattle.docket_history.specs.declared.record.CaseRecord.{CaseRecord};
 ghost use Rattle.docket_history.specs.declared.record.DeadlineLine.{DeadlineLine};
@@ -10,9 +10,11 @@ ghost use Rattle.html_sheets.specs.Escapes.{is_control, blanked_byte, escaped, l
 ghost use Rattle.html_sheets.specs.Marks.{marks};
 ghost use Rattle.html_sheets.specs.Pages.{page_head, case_row};
 ghost use Rattle.html_sheets.specs.Sheets.{case_sheet};
-ghost use Rattle.html_sheets.specs.Sites.{cases_page, case_page, days_page_head, text_page, reasons_page, court_days_page};
+ghost use Rattle.html_sheets.specs.Sites.{cases_page, search_page, case_page, days_page_head, text_page, reasons_page, court_days_page};
 ghost use Rattle.html_sheets.specs.Weeks.{days_head, week_head, due_row};
 ghost use Rattle.html_sheets.specs.Reading.{begins_reference, read_text};
+ghost use Rattle.html_sheets.specs.declared.due_list.DueList.{DueList};
+ghost use Rattle.html_sheets.specs.declared.filed.Filed.{Filed};
 ghost use Rattle.html_sheets.specs.declared.links.Links.{Links};
 
 /// A text within a page has none of `<`, `>`, `"` and `'` and no control byte, and each `&` in it begins one
@@ -33,31 +35,35 @@ pub fn texts_are_read_back()
 
 /// The marks of a piece are those of its own tags, whatever texts the docket has. Two heads have the same
 /// ones in the same order. So have two rows whose numbers lead to the same, two sheets of as many parties,
-/// entries and deadlines, and their pages. So have two pages of as many cases, if both or none lead to
-/// earlier cases, and both or none to later ones; two pages of texts, of reasons, and of as many rows of the
-/// court's calendar.
+/// entries and deadlines, and their pages. So have two pages of as many cases, if both or none lead to newer
+/// cases, and both or none to older ones; two pages of searches that found as many cases, if there are more
+/// for both or none; two pages of texts, of reasons for deadlines of which the same was filed, and of as many
+/// rows of the court's calendar.
 pub fn tags_are_the_pages_own()
     ensures heads { (title other : List ℕ) → marks (page_head title) ≡ marks (page_head other) }
     ensures cases { (case other : CaseRow) → marks (case_row case) ≡ marks (case_row other) }
-    ensures weeks { (from to day later : ℕ) → marks (week_head from to) ≡ marks (week_head day later) }
+    ensures weeks { (court place : CourtSettings) (from to day later : ℕ) → marks (week_head court from to) ≡ marks (week_head place day later) }
     ensures days { (from to day later : ℕ) → marks (days_head from to) ≡ marks (days_head day later) }
-    ensures dues { (links : Links) (court place : CourtSettings) (due other : DueRow) (caption name : List ℕ)
-        → marks (due_row links court due caption) ≡ marks (due_row links place other name) }
+    ensures dues { (links : Links) (court place : CourtSettings) (due other : DueRow) (label word caption name : List ℕ)
+        → marks (due_row links court due label caption) ≡ marks (due_row links place other word name) }
     ensures sheets { (links : Links) (court place : CourtSettings) (case other : CaseRecord) (deadlines lines : List DeadlineLine)
         → length case.parties ≡ length other.parties → length case.entries ≡ length other.entries
         → length deadlines ≡ length lines
         → marks (case_sheet links court case deadlines) ≡ marks (case_sheet links place other lines) }
-    ensures lists { (cases others : List CaseRow) (earlier sooner later after : Option ℕ) → length cases ≡ length others
-        → is_some earlier ≡ is_some sooner → is_some later ≡ is_some after
-        → marks (cases_page cases earlier later) ≡ marks (cases_page others sooner after) }
+    ensures lists { (cases others : List CaseRow) (newer later older earlier : Option ℕ) → length cases ≡ length others
+        → is_some newer ≡ is_some later → is_some older ≡ is_some earlier
+        → marks (cases_page cases newer older) ≡ marks (cases_page others later earlier) }
+    ensures searches { (words text : List ℕ) (cases others : List CaseRow) (more : Bool) → length cases ≡ length others
+        → marks (search_page words cases more) ≡ marks (search_page text others more) }
     ensures pages { (court place : CourtSettings) (case other : CaseRecord) (deadlines lines : List DeadlineLine)
         → length case.parties ≡ length other.parties → length case.entries ≡ length other.entries
         → length deadlines ≡ length lines
         → marks (case_page court case deadlines) ≡ marks (case_page place other lines) }
     ensures texts { (title other text words : List ℕ) → marks (text_page title text) ≡ marks (text_page other words) }
-    ensures reasons { (case other deadline last : ℕ) (text words : List ℕ)
-        → marks (reasons_page case deadline text) ≡ marks (reasons_page other last words) }
+    ensures reasons { (case other deadline last : ℕ) (text words : List ℕ) (filed : Filed)
+        → marks (reasons_page case deadline text filed) ≡ marks (reasons_page other last words filed) }
     ensures courts { (court place : CourtSettings) (rows others : List CalendarRow) → length rows ≡ length others
         → marks (court_days_page court rows) ≡ marks (court_days_page place others) }
-    ensures calendars { (from to day later : ℕ) → marks (days_page_head from to) ≡ marks (days_page_head day later) }
+    ensures calendars { (list other : DueList) (court place : CourtSettings) (from to day later : ℕ)
+        → marks (days_page_head list court from to) ≡ marks (days_page_head other place day later) }
 {}

@@ -1,7 +1,7 @@
-//! The docket as pages of HTML: the list of cases, the docket sheet of a case, what is due in a week or on
-//! other days, why a deadline stands as it does, and the rows of the court's calendar. They have no script
-//! and load nothing from elsewhere, and a text of the docket is within them by its characters alone, whatever
-//! it is.
+//! The docket as pages of HTML: the list of cases, those that a search found, the docket sheet of a case,
+//! what is due in a week or on other days, why a deadline stands as it does, and the rows of the court's
+//! calendar. They have no script and load nothing from elsewhere, and a text of the docket is within them by
+//! its characters alone, whatever it is.
 //!
 //! A page is its head, then the pieces of its content, and its foot. A caller writes them one after another,
 //! so that a long list is never held as one. The pages of a docket that is served lead to one another. Those
@@ -11,12 +11,16 @@
 mod about;
 mod cases;
 mod court;
+mod due_list;
 mod entering;
 mod escape;
+mod filed;
 mod laws;
 mod links;
 mod page;
 mod piece;
+mod rule_words;
+mod search;
 mod sheet;
 mod site;
 mod style;
@@ -25,15 +29,18 @@ mod title;
 mod week;
 
 pub use about::About;
-pub use cases::{case_row, cases_foot, cases_head};
 pub use court::court_days_page;
+pub use due_list::DueList;
 pub use entering::EnterLink;
 pub use escape::Escaped;
+pub use filed::Filed;
 pub use laws::{tags_are_the_pages_own, texts_are_no_markup, texts_are_read_back};
 pub use links::Links;
 pub use page::{page_foot, page_head};
+pub use piece::LinesTold;
+pub use search::search_page;
 pub use sheet::case_sheet;
 pub use site::{case_page, cases_page, days_page_foot, days_page_head, site_nav};
 pub use text::{reasons_page, text_page};
 pub use title::title_of;
-pub use week::{due_head, due_row, week_foot, week_head};
+pub use week::{due_head, due_row};

@@ -129,7 +129,7 @@ impl fmt::Display for DeadlineNumber {
 
 /// A text of several lines, as it stands.
 #[derive(Clone, Copy)]
-pub(crate) struct LinesTold<'a>(pub(crate) &'a str);
+pub struct LinesTold<'a>(pub &'a str);
 
 impl fmt::Display for LinesTold<'_> {
     ghost use Rattle.std.specs.Prelude.{Some};

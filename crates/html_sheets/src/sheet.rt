@@ -7,13 +7,14 @@ use crate::about::About;
 use crate::entering::{ServeLinks, daily_kinds, push_enter_nav};
 use crate::links::Links;
 use crate::piece::{DayTold, DeadlineNumber, Told, table_foot};
+use crate::rule_words::RuleTold;
 use court_days::Court;
 use docket_command::Word;
 use docket_history::{CaseRecord, DeadlineLine, EntryRow, PartyRow};
 use docket_text::{PartyText, StandingText};
 use std::alloc::{AllocError, Global};
 
-/// Adds the number, label, caption and filing day of the case.
+/// Adds the number, docket number, caption and filing day of the case.
 fn push_case(text: &mut String, case: &CaseRecord) -> Result<(), AllocError>
     ensures { OnOk result (string_bytes text.new ≡ string_bytes text.old ++ case_head case.now) }
 {
@@ -23,7 +24,7 @@ fn push_case(text: &mut String, case: &CaseRecord) -> Result<(), AllocError>
     let filed = DayTold(case.filed);
     write!(
         text,
-        "<dl>\n<dt>Case</dt><dd>{number}</dd>\n<dt>Label</dt><dd>{label}</dd>\n\
+        "<dl>\n<dt>Case</dt><dd>{number}</dd>\n<dt>Docket number</dt><dd>{label}</dd>\n\
          <dt>Caption</dt><dd>{caption}</dd>\n<dt>Filed</dt><dd>{filed}</dd>\n</dl>\n"
     )
 }
@@ -191,7 +192,7 @@ fn push_deadline(
     };
     let party = PartyText(deadline.party);
     let name = Told(party_name(case, deadline.party));
-    let rule = Told(deadline.rule.as_str());
+    let rule = RuleTold(deadline.rule.as_str());
     let standing = StandingText {
         court,
         close: deadline.close,

@@ -5,6 +5,7 @@ ghost use Rattle.html_sheets.specs.Sites.{text_told, text_page, reasons_title, c
 
 use crate::about::About;
 use crate::entering::{deadline_kinds, push_enter_nav};
+use crate::filed::{Filed, filed_told};
 use crate::page::{page_foot, page_head};
 use crate::piece::{CaseLink, LinesTold};
 use crate::site::site_nav;
@@ -53,19 +54,22 @@ fn reasons_head(alloc: Global, case: u32, deadline: u32) -> Result<String, Alloc
     page_head(alloc, &title)
 }
 
-/// Returns the page of a deadline of a case, by its number: the text of why it stands as it does, and links to
-/// its case and to the forms in which is entered what acts on it.
+/// Returns the page of a deadline of a case, by its number: whether what it asks for was done in time, the
+/// text of why it stands as it does, and links to its case and to the forms in which is entered what acts on
+/// it.
 pub fn reasons_page(
     alloc: Global,
     case: u32,
     deadline: u32,
     text: &str,
+    filed: Filed,
 ) -> Result<String, AllocError>
-    ensures { IfOk result (λ page. string_bytes page ≡ reasons_page case deadline text.now) }
+    ensures { IfOk result (λ page. string_bytes page ≡ reasons_page case deadline text.now filed) }
 {
     let mut page = reasons_head(alloc, case, deadline)?;
     page.push_str(site_nav())?;
     push_back(&mut page, case)?;
+    page.push_str(filed_told(filed))?;
     push_enter_nav(&mut page, About::Deadline(case, deadline), deadline_kinds())?;
     push_lines(&mut page, text)?;
     page.push_str(page_foot())?;

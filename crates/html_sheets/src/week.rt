@@ -1,9 +1,10 @@
 //! What is due in a week, or on other days.
 ghost use Rattle.std.specs.Prelude.{◌≡◌, IfOk, string_bytes};
-ghost use Rattle.html_sheets.specs.Weeks.{week_before, week_after, due_columns, days_head, week_head, due_row, week_foot};
+ghost use Rattle.html_sheets.specs.Weeks.{week_before, week_after, due_columns, days_head, zone_told, week_head, due_row};
 
 use crate::links::Links;
-use crate::piece::{CaseNumber, DeadlineNumber, Told, WeekdayTold, table_foot};
+use crate::piece::{CaseNumber, DeadlineNumber, Told, WeekdayTold};
+use crate::rule_words::RuleTold;
 use court_days::{Court, Day, End};
 use docket_history::DueRow;
 use docket_text::{ClockText, DayText, PartyText, shown, shown_minute};
@@ -63,8 +64,9 @@ fn due_columns() -> &'static str
     ensures { result.now ≡ due_columns }
 {
     "<table>\n<thead>\n<tr><th scope=\"col\">Day</th><th scope=\"col\">Time</th>\
-     <th scope=\"col\">Closing</th><th scope=\"col\">Case</th><th scope=\"col\">Deadline</th>\
-     <th scope=\"col\">Rule</th><th scope=\"col\">Party</th><th scope=\"col\">Caption</th></tr>\n\
+     <th scope=\"col\">Closing</th><th scope=\"col\">Case</th>\
+     <th scope=\"col\">Docket number</th><th scope=\"col\">Deadline</th><th scope=\"col\">Rule</th>\
+     <th scope=\"col\">Party</th><th scope=\"col\">Caption</th></tr>\n\
      </thead>\n<tbody>\n"
 }
 
@@ -78,11 +80,34 @@ pub fn due_head(alloc: Global, from: Day, to: Day) -> Result<String, AllocError>
     format!(in alloc; "<p>{from} to {to}</p>\n{columns}")
 }
 
-/// What is due from a day to another, up to its rows: the days, links to those a week before and a week
-/// after, and the head of the table.
-pub fn week_head(alloc: Global, from: Day, to: Day) -> Result<String, AllocError>
-    ensures { IfOk result (λ text. string_bytes text ≡ week_head from to) }
+/// The zone of a court.
+#[derive(Clone, Copy)]
+struct ZoneTold<'a>(&'a Court);
+
+impl fmt::Display for ZoneTold<'_> {
+    ghost use Rattle.std.specs.Prelude.{Some};
+    ghost use Rattle.html_sheets.specs.Weeks.{zone_told};
+
+    ghost output = { λ zone. Some (zone_told zone.0.now) };
+
+    #[tactic(auto, unfolding(crate::specs::Elements::element))]
+    fn fmt<W: fmt::Write>(&self, f: &mut fmt::Formatter<W>) -> fmt::Result {
+        let zone = Told(self.0.zone_text());
+        write!(f, "<p>Times are local, in the zone {zone}</p>")
+    }
+}
+
+/// What is due from a day to another, up to its rows: the days, the zone of the court, links to the days a
+/// week before and a week after, and the head of the table.
+pub(crate) fn week_head(
+    alloc: Global,
+    court: &Court,
+    from: Day,
+    to: Day,
+) -> Result<String, AllocError>
+    ensures { IfOk result (λ text. string_bytes text ≡ week_head court.now from to) }
 {
+    let zone = ZoneTold(court);
     let before = DaysLink {
         from: week_before(from),
         to: week_before(to),
@@ -97,7 +122,7 @@ pub fn week_head(alloc: Global, from: Day, to: Day) -> Result<String, AllocError
     let to = WeekdayTold(to);
     let columns = due_columns();
     format!(in alloc;
-        "<p>{from} to {to}</p>\n<nav aria-label=\"Other weeks\">{before} {after}</nav>\n{columns}"
+        "<p>{from} to {to}</p>\n{zone}\n<nav aria-label=\"Other weeks\">{before} {after}</nav>\n{columns}"
     )
 }
 
@@ -138,17 +163,18 @@ impl fmt::Display for EndCells<'_> {
     }
 }
 
-/// Returns the row of a deadline whose time runs. It has the day, the time and the closing of its end, its
-/// case, its number within the case, its rule, the party whose time it is, and the caption. The case and the
-/// deadline lead to their pages where there are pages.
+/// Returns the row of a deadline whose time runs. It has the day, the time and the closing of its end, the
+/// number of its case and its docket number, its number within the case, its rule, the party whose time it
+/// is, and the caption. The case and the deadline lead to their pages where there are pages.
 pub fn due_row(
     alloc: Global,
     links: Links,
     court: &Court,
     due: &DueRow,
+    label: &str,
     caption: &str,
 ) -> Result<String, AllocError>
-    ensures { IfOk result (λ text. string_bytes text ≡ due_row links court.now due.now caption.now) }
+    ensures { IfOk result (λ text. string_bytes text ≡ due_row links court.now due.now label.now caption.now) }
 {
     let end = EndCells {
         court,
@@ -164,17 +190,11 @@ pub fn due_row(
         case: due.case,
         number: due.number,
     };
-    let rule = Told(due.rule.as_str());
+    let label = Told(label);
+    let rule = RuleTold(due.rule.as_str());
     let party = PartyText(due.party);
     let caption = Told(caption);
     format!(in alloc;
-        "<tr>{end}<td class=\"number\">{case}</td><td class=\"number\">{number}</td><td>{rule}</td><td class=\"number\">{party}</td><td>{caption}</td></tr>\n"
+        "<tr>{end}<td class=\"number\">{case}</td><td class=\"number\">{label}</td><td class=\"number\">{number}</td><td>{rule}</td><td class=\"number\">{party}</td><td>{caption}</td></tr>\n"
     )
-}
-
-/// What ends the table.
-pub fn week_foot() -> &'static str
-    ensures { result.now ≡ week_foot }
-{
-    table_foot()
 }

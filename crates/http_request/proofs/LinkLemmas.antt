@@ -15,13 +15,14 @@ use Rattle.docket_command.specs.declared.command_name.CommandName.TheVariants.{D
 use Rattle.html_sheets.specs.Entering.{about_query}
 use Rattle.html_sheets.specs.declared.about.About.{About}
 use Rattle.html_sheets.specs.declared.about.About.TheVariants.{Nothing, Case, Party, Deadline}
-use Rattle.http_request.specs.declared.page.Page.TheVariants.{Enter}
+use Rattle.http_request.specs.declared.page.Page.TheVariants.{Cases, Enter}
 use Rattle.http_request.specs.declared.page.Routes.{Routes}
 use Rattle.http_request.specs.declared.page.Routes.TheVariants.{Docket, Guarded, WithPages}
+use Rattle.http_request.specs.declared.wish.Wish.{Wish}
 use Rattle.http_request.specs.declared.wish.Wish.TheVariants.{Page as PageWish}
 use Rattle.http_request.specs.Entries.{about_of, about_by, more_about, entered_kind, kind_page}
 use Rattle.http_request.specs.Guard.{is_foreign}
-use Rattle.http_request.specs.Links.{form_target, AreShown, IsNumber, HasNumbers}
+use Rattle.http_request.specs.Links.{form_target, list_target, AreShown, IsNumber, HasNumbers}
 use Rattle.http_request.specs.Number.{are_digits, digits_of, number_of, kept_if}
 use Rattle.http_request.specs.Pages.{page_of, pages_rest}
 use Rattle.http_request.specs.Path.{behind}
@@ -192,8 +193,27 @@ shown Docket path with = absurd with
 shown (Guarded origins) path with = absurd with
 shown (WithPages origins) path with = refl
 
+-- what is asked for by a target that is got, where it is let through
+got : (routes : Routes) (fields : List (List ℕ × List ℕ)) (target : List ℕ) (fresh : ℕ) (wish : Wish) → AreShown routes → is_foreign routes (codes "GET") fields ≡ false
+    → path_wish fresh (codes "GET") target fields (behind (codes "/pages") (path_of target)) ≡ wish → wish_of routes fresh (codes "GET") target fields ≡ wish
+got routes fields target fresh wish with own is = rw own (ap (path_wish fresh (codes "GET") target fields) (shown routes (path_of target) with) ∙ is)
+
 pub leads : (routes : Routes) (fields : List (List ℕ × List ℕ)) (kind : CommandName) (about : About) (fresh : ℕ) → AreShown routes → is_foreign routes (codes "GET") fields ≡ false
     → kind ≢ ImportCalendar → HasNumbers about → wish_of routes fresh (codes "GET") (form_target kind about) fields ≡ PageWish (Enter kind about fresh)
-leads routes fields kind about fresh with own other is =
-    let target : List ℕ = form_target kind about in
-    rw own (ap (path_wish fresh (codes "GET") target fields) (shown routes (path_of target) with) ∙ wish_back fields kind about fresh other is)
+leads routes fields kind about fresh with own other is = got routes fields (form_target kind about) fresh _ with own (wish_back fields kind about fresh other is)
+
+-- ---- the lists of cases
+
+abbrev before_query : ℕ → List ℕ
+before_query number = codes "before=" ++ decimal number
+
+list_back : (fields : List (List ℕ × List ℕ)) (number fresh : ℕ) → IsNumber number
+    → path_wish fresh (codes "GET") (list_target number) fields (behind (codes "/pages") (path_of (list_target number))) ≡ PageWish (Cases (Some number))
+list_back fields number fresh is =
+    ap (λ path. path_wish fresh (codes "GET") (list_target number) fields (behind (codes "/pages") path)) (before_end is_question_mark (codes "/pages/cases") 63 (before_query number) refl refl)
+    ∙ ap (λ query. page_wish (codes "GET") (page_of fresh (codes "/cases") query)) (behind_end is_question_mark (codes "/pages/cases") 63 (before_query number) refl refl)
+    ∙ ap (λ n. page_wish (codes "GET") (Some (option_map (λ k. Cases (Some k)) n))) (number_back number is)
+
+pub list_leads : (routes : Routes) (fields : List (List ℕ × List ℕ)) (number fresh : ℕ) → AreShown routes → is_foreign routes (codes "GET") fields ≡ false
+    → IsNumber number → wish_of routes fresh (codes "GET") (list_target number) fields ≡ PageWish (Cases (Some number))
+list_leads routes fields number fresh with own is = got routes fields (list_target number) fresh _ with own (list_back fields number fresh is)

@@ -1,5 +1,5 @@
--- Links to the forms, as they are asked for.
-use Rattle.std.specs.Prelude.{ℕ, ◌<◌, ◌^◌, List, ◌++◌, codes}
+-- Links to the forms and to the lists of cases, as they are asked for.
+use Rattle.std.specs.Prelude.{ℕ, ◌<◌, ◌^◌, List, ◌++◌, codes, decimal}
 use Rattle.docket_command.specs.Names.{command_word}
 use Rattle.docket_command.specs.declared.command_name.CommandName.{CommandName}
 use Rattle.html_sheets.specs.Entering.{about_query}
@@ -11,6 +11,10 @@ use Rattle.http_request.specs.declared.page.Routes.TheVariants.{Docket, Guarded,
 -- the target of a link to the form of a kind, which is filled in with what the link is about
 abbrev pub form_target : CommandName → About → List ℕ
 form_target kind about = codes "/pages/enter/" ++ (command_word kind ++ about_query about)
+
+-- the target of a link to the cases before the one of a number
+abbrev pub list_target : ℕ → List ℕ
+list_target number = codes "/pages/cases?before=" ++ decimal number
 
 -- the pages are shown
 abbrev pub AreShown : Routes → Type 0

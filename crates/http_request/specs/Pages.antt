@@ -1,16 +1,18 @@
 -- The pages, and what asks for them: what stands behind "/pages" in a path, and the query.
-use Rattle.std.specs.Prelude.{◌≤◌, ℕ, List, [], Option, Some, None, Bool, ◌||◌, nat_le, bytes_eq, if◌then◌else◌, codes, option_map, option_and_then}
+use Rattle.std.specs.Prelude.{ℕ, List, [], Option, Some, None, Bool, ◌||◌, bytes_eq, if◌then◌else◌, codes, option_map, option_and_then}
 use Rattle.http_request.specs.declared.route.Route.{Route}
 use Rattle.http_request.specs.declared.route.Route.TheVariants.{Commands, Case as CaseRoute, Deadlines, Calendar, Holidays}
 use Rattle.http_request.specs.declared.page.Routes.{Routes}
 use Rattle.http_request.specs.declared.page.Routes.TheVariants.{Docket, Guarded, WithPages}
+use Rattle.http_request.specs.declared.due.Due.TheVariants.{Today, Week, Overdue}
 use Rattle.http_request.specs.declared.page.Page.{Page}
-use Rattle.http_request.specs.declared.page.Page.TheVariants.{Cases, Case, Days, Kinds, Enter, CourtDays, Rules, Reasons}
+use Rattle.http_request.specs.declared.page.Page.TheVariants.{Cases, Case, Days, Due, Search, Kinds, CourtDays, Rules}
 use Rattle.http_request.specs.Path.{place_of, behind}
-use Rattle.http_request.specs.Number.{kept_if, number_of}
+use Rattle.http_request.specs.Number.{number_of}
 use Rattle.http_request.specs.Days.{days_of, week_of}
 use Rattle.http_request.specs.Entries.{entry_page}
 use Rattle.http_request.specs.Deadlines.{deadline_page}
+use Rattle.http_request.specs.Search.{words_of}
 
 -- what a path has behind "/pages", where pages are served
 abbrev pub pages_rest : Routes → List ℕ → Option (List ℕ)
@@ -18,25 +20,21 @@ pages_rest Docket path = None
 pages_rest (Guarded origins) path = None
 pages_rest (WithPages origins) path = behind (codes "/pages") path
 
--- what a query has behind "from="
-abbrev pub from_of : Option (List ℕ) → Option (List ℕ)
-from_of query = option_and_then (behind (codes "from=")) query
-
--- the list of cases from the one of a number on, which is 1 to 100,000
-abbrev pub cases_from : Option (List ℕ) → Option Page
-cases_from text = option_map Cases (kept_if (λ n. nat_le n 100_000) (option_and_then number_of text))
-
--- the list of cases: without a query from the first, and else from the one that the query names
+-- the list of cases: without a query the last that there are, and else those before the one that the query names
 abbrev pub list_page : Option (List ℕ) → Option Page
-list_page None = Some (Cases 1)
-list_page (Some query) = cases_from (from_of (Some query))
+list_page None = Some (Cases None)
+list_page (Some query) = option_map (λ n. Cases (Some n)) (option_and_then number_of (behind (codes "before=") query))
+
+-- the cases that the words of the query are found in
+abbrev pub search_page : Option (List ℕ) → Option Page
+search_page query = option_map Search (option_and_then words_of query)
 
 abbrev pub days_page : Option (ℕ × ℕ) → Option Page
 days_page days = option_map (λ d. Days d.0 d.1) days
 
 -- the week from the day that the query names
 abbrev pub week_page : Option (List ℕ) → Option Page
-week_page query = days_page (option_and_then week_of (from_of query))
+week_page query = days_page (option_and_then week_of (option_and_then (behind (codes "from=")) query))
 
 -- the page beside a route, where it has one, with these values. A value may be bad.
 abbrev pub page_at : Route → List ℕ → List ℕ → Option (Option Page)
@@ -63,19 +61,12 @@ named_page fresh None rest query = numbered_page (deadline_page rest) rest
 abbrev pub page_of : ℕ → List ℕ → Option (List ℕ) → Option (Option Page)
 page_of fresh rest query =
     if is_list rest then Some (list_page query)
+    else if bytes_eq rest (codes "/today") then Some (Some (Due Today fresh))
+    else if bytes_eq rest (codes "/week") then Some (Some (Due Week fresh))
+    else if bytes_eq rest (codes "/overdue") then Some (Some (Due Overdue fresh))
+    else if bytes_eq rest (codes "/search") then Some (search_page query)
     else if bytes_eq rest (codes "/calendar") then Some (week_page query)
     else if bytes_eq rest (codes "/court-days") then Some (Some CourtDays)
     else if bytes_eq rest (codes "/rules") then Some (Some Rules)
     else if bytes_eq rest (codes "/enter") then Some (Some Kinds)
     else named_page fresh (behind (codes "/enter/") rest) rest query
-
--- a list of cases begins with the number of one that a docket can have
-abbrev pub IsPageWithinLimits : Page → Type 0
-IsPageWithinLimits (Cases from) = 1 ≤ from × from ≤ 100_000
-IsPageWithinLimits (Case number) = Unit {0}
-IsPageWithinLimits (Days first last) = Unit {0}
-IsPageWithinLimits Kinds = Unit {0}
-IsPageWithinLimits (Enter kind about fresh) = Unit {0}
-IsPageWithinLimits CourtDays = Unit {0}
-IsPageWithinLimits Rules = Unit {0}
-IsPageWithinLimits (Reasons number deadline) = Unit {0}

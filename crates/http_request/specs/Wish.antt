@@ -9,7 +9,7 @@ use Rattle.http_request.specs.Path.{Place, place_of}
 use Rattle.http_request.specs.declared.fields.Rejection.{Rejection}
 use Rattle.http_request.specs.declared.fields.Rejection.TheVariants.{BadHead, NotFound, Method, BadPathValue, Foreign}
 use Rattle.http_request.specs.declared.wish.Wish.{Wish}
-use Rattle.http_request.specs.declared.wish.Wish.TheVariants.{Reject, Command, Form, Case, Deadlines, Calendar, Holidays, Page as PageWish, Copy}
+use Rattle.http_request.specs.declared.wish.Wish.TheVariants.{Reject, Refuse, Command, Form, Preview, Case, Deadlines, Calendar, Holidays, Page as PageWish, Copy}
 use Rattle.http_request.specs.declared.page.Routes.{Routes}
 use Rattle.http_request.specs.declared.page.Page.{Page}
 use Rattle.http_request.specs.Number.{number_of, year_of}
@@ -18,7 +18,7 @@ use Rattle.http_request.specs.Fields.{body_length}
 use Rattle.http_request.specs.Forms.{form_length}
 use Rattle.http_request.specs.Guard.{is_foreign}
 use Rattle.http_request.specs.Target.{path_of, query_of}
-use Rattle.http_request.specs.Pages.{pages_rest, page_of, IsPageWithinLimits}
+use Rattle.http_request.specs.Pages.{pages_rest, page_of}
 
 -- a command is posted, a text is got
 abbrev pub route_method : Route → List ℕ
@@ -59,29 +59,30 @@ place_wish method fields None = Reject NotFound
 place_wish method fields (Some place) = if is_method place.route method then route_wish place.route place.first place.second fields else Reject Method
 
 abbrev pub got_wish : Option Page → Wish
-got_wish None = Reject BadPathValue
+got_wish None = Refuse BadPathValue
 got_wish (Some page) = PageWish page
 
 -- a page is got
 abbrev pub page_wish : List ℕ → Option (Option Page) → Wish
-page_wish method None = Reject NotFound
-page_wish method (Some page) = if bytes_eq method (codes "GET") then got_wish page else Reject Method
+page_wish method None = Refuse NotFound
+page_wish method (Some page) = if bytes_eq method (codes "GET") then got_wish page else Refuse Method
 
 -- a copy is got
 abbrev pub copy_wish : List ℕ → Wish
-copy_wish method = if bytes_eq method (codes "GET") then Copy else Reject Method
+copy_wish method = if bytes_eq method (codes "GET") then Copy else Refuse Method
 
 -- a form of a length, with a fresh number
-abbrev pub form_wish : ℕ → Result ℕ Rejection → Wish
-form_wish fresh (Ok n) = Form n fresh
-form_wish fresh (Err rejection) = Reject rejection
+abbrev pub form_wish : (ℕ → ℕ → Wish) → ℕ → Result ℕ Rejection → Wish
+form_wish wish fresh (Ok n) = wish n fresh
+form_wish wish fresh (Err rejection) = Refuse rejection
 
 -- what the rest of a path behind "/pages" asks for, with the query and a fresh number: a copy of the docket's file, a form that is
--- entered, or a page
+-- entered, what a form would do, or a page. What is refused here is refused with a page.
 abbrev pub rest_wish : ℕ → List ℕ → List (List ℕ × List ℕ) → List ℕ → Option (List ℕ) → Wish
 rest_wish fresh method fields rest query =
     if bytes_eq rest (codes "/backup") then copy_wish method
-    else if bytes_eq rest (codes "/commands") then form_wish fresh (form_length method fields)
+    else if bytes_eq rest (codes "/commands") then form_wish Form fresh (form_length method fields)
+    else if bytes_eq rest (codes "/previews") then form_wish Preview fresh (form_length method fields)
     else page_wish method (page_of fresh rest query)
 
 -- what a path asks for: one of the docket, or what its rest behind "/pages" asks for
@@ -105,14 +106,16 @@ IsHeadWish routes fresh bytes wish =
     ((h : RequestHead) × ReadsRequest bytes h [] × (length h.fields ≤ 64) × (wish ≡ wish_of routes fresh h.method h.target (map name_and_value h.fields)))
     ⊎ (HasNoHead bytes × (wish ≡ Reject BadHead))
 
--- a year is one from 2000 to 2099, and a list of cases begins with the number of one that a docket can have
+-- a year is one from 2000 to 2099
 abbrev pub IsWithinLimits : Wish → Type 0
 IsWithinLimits (Holidays year) = 2000 ≤ year × year ≤ 2099
 IsWithinLimits (Reject rejection) = Unit {0}
+IsWithinLimits (Refuse rejection) = Unit {0}
 IsWithinLimits (Command len) = Unit {0}
 IsWithinLimits (Form len fresh) = Unit {0}
+IsWithinLimits (Preview len fresh) = Unit {0}
 IsWithinLimits (Case number) = Unit {0}
 IsWithinLimits (Deadlines number) = Unit {0}
 IsWithinLimits (Calendar from to) = Unit {0}
+IsWithinLimits (PageWish page) = Unit {0}
 IsWithinLimits Copy = Unit {0}
-IsWithinLimits (PageWish page) = IsPageWithinLimits page

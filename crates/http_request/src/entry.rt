@@ -1,7 +1,6 @@
 //! Links to the forms: which kind of command a form enters, and what the query says that it is about.
-ghost use Rattle.std.specs.Prelude.{◌≡◌, IfSome, option_copied};
+ghost use Rattle.std.specs.Prelude.{◌≡◌, option_copied};
 ghost use Rattle.http_request.specs.Entries.{about_of, case_about as case_about_of, entered_kind as entered_kind_of, entry_page as entry_page_of, kind_page as page_of_kind, more_about as more_about_of};
-ghost use Rattle.http_request.specs.Pages.{IsPageWithinLimits};
 
 use crate::number::read_number;
 use crate::page::Page;
@@ -50,16 +49,14 @@ fn entered_kind(word: &str) -> Option<CommandName>
 }
 
 fn kind_page(kind: CommandName, about: Option<About>, fresh: u64) -> Option<Page>
-    ensures page { result ≡ page_of_kind kind about fresh }
-    ensures within { IfSome result IsPageWithinLimits }
+    ensures { result ≡ page_of_kind kind about fresh }
 {
     Some(Page::Enter(kind, about?, fresh))
 }
 
 /// The form of the kind that a word names, where there is one, about what the query says. The query may be bad.
 pub fn entry_page(word: &str, query: Option<&str>, fresh: u64) -> Option<Option<Page>>
-    ensures page { result ≡ entry_page_of fresh word.now (option_copied query.entry) }
-    ensures within { IfSome result (λ page. IfSome page IsPageWithinLimits) }
+    ensures { result ≡ entry_page_of fresh word.now (option_copied query.entry) }
 {
     let kind = entered_kind(word)?;
     Some(kind_page(kind, read_about(query), fresh))

@@ -1,5 +1,5 @@
 //! Laws of the end of a head, of the guard and of links, with nothing to run.
-ghost use Rattle.std.specs.Prelude.{◌≡◌, ◌≢◌, ℕ, ◌≤◌, List, ◌++◌, length, take, codes, false, true, [], ◌∷◌, Option};
+ghost use Rattle.std.specs.Prelude.{◌≡◌, ◌≢◌, ℕ, ◌≤◌, List, ◌++◌, length, take, codes, false, true, [], ◌∷◌, Option, Some};
 ghost use Rattle.std.specs.List.{AllByRecursion};
 ghost use Rattle.docket_command.specs.declared.command_name.CommandName.{CommandName};
 ghost use Rattle.docket_command.specs.declared.command_name.CommandName.TheVariants.{ImportCalendar};
@@ -8,9 +8,9 @@ ghost use Rattle.http_request.specs.Head.{head_of};
 ghost use Rattle.http_request.specs.Fields.{values_of};
 ghost use Rattle.http_request.specs.Guard.{lets_through, is_foreign};
 ghost use Rattle.http_request.specs.Lines.{IsHeadWithin};
-ghost use Rattle.http_request.specs.Links.{form_target, AreShown, HasNumbers};
+ghost use Rattle.http_request.specs.Links.{form_target, list_target, AreShown, HasNumbers, IsNumber};
 ghost use Rattle.http_request.specs.Wish.{wish_of};
-ghost use Rattle.http_request.specs.declared.page.Page.TheVariants.{Enter};
+ghost use Rattle.http_request.specs.declared.page.Page.TheVariants.{Cases, Enter};
 ghost use Rattle.http_request.specs.declared.wish.Wish.TheVariants.{Page};
 ghost use Rattle.http_request.specs.Origins.{host_at, origins_at, own_names};
 ghost use Rattle.http_request.specs.declared.page.Routes.{Routes};
@@ -48,4 +48,11 @@ pub fn links_lead_to_their_forms()
         → AreShown routes → is_foreign routes (codes "GET") fields ≡ false
         → kind ≢ ImportCalendar → HasNumbers about
         → wish_of routes fresh (codes "GET") (form_target kind about) fields ≡ Page (Enter kind about fresh) }
+{}
+
+/// A link to the cases before one leads to their list, for each number of a case.
+pub fn links_lead_to_their_lists()
+    ensures { (routes : Routes) (fields : List (List ℕ × List ℕ)) (number fresh : ℕ)
+        → AreShown routes → is_foreign routes (codes "GET") fields ≡ false → IsNumber number
+        → wish_of routes fresh (codes "GET") (list_target number) fields ≡ Page (Cases (Some number)) }
 {}

@@ -1,16 +1,18 @@
 //! The pages, which are served beside the routes of the docket.
-ghost use Rattle.std.specs.Prelude.{◌≡◌, IfSome, codes, option_copied};
+ghost use Rattle.std.specs.Prelude.{◌≡◌, codes, option_copied};
 ghost use Rattle.http_request.specs.Rows.{route_rows};
 ghost use Rattle.http_request.specs.Path.{behind as behind_word};
 ghost use Rattle.http_request.specs.Deadlines.{deadline_page as deadline_page_of};
-ghost use Rattle.http_request.specs.Pages.{pages_rest, from_of, list_page as list_by_query, week_page as week_by_query, days_page as page_of_days, page_at, numbered_page as numbered_page_of, named_page as named_page_of, page_of, IsPageWithinLimits};
+ghost use Rattle.http_request.specs.Pages.{pages_rest, list_page as list_by_query, search_page as search_by_query, week_page as week_by_query, days_page as page_of_days, page_at, numbered_page as numbered_page_of, named_page as named_page_of, page_of};
 
 use crate::days::{read_range, read_week};
 use crate::deadline::deadline_page;
+use crate::due::Due;
 use crate::entry::entry_page;
 use crate::number::read_number;
 use crate::place::{RouteMatch, find};
 use crate::route::Route;
+use crate::search::{Words, read_words};
 use crate::target::behind;
 use civil_time::Day;
 use docket_command::CommandName;
@@ -31,12 +33,16 @@ pub enum Routes {
 /// A page of a docket.
 #[derive(Clone, Copy)]
 pub enum Page {
-    /// The list of cases from that number on, 1 to 100,000, the most cases that a docket has.
-    Cases(u32),
+    /// At most a hundred cases, the newest first: those with numbers under the given one, or the last that there are.
+    Cases(Option<u32>),
     /// The docket sheet of the case of a number.
     Case(u32),
     /// What is due on the days from the first to the last.
     Days(Day, Day),
+    /// What is due by the day of the request, with the number of this request.
+    Due(Due, u64),
+    /// The cases that the words are found in.
+    Search(Words),
     /// The list of the kinds of commands.
     Kinds,
     /// The form of a kind of command, about a case, a party or a deadline, with the number of this request.
@@ -49,9 +55,6 @@ pub enum Page {
     Reasons(u32, u32),
 }
 
-/// The most cases that a docket has.
-const MAX_CASES: u32 = 100_000;
-
 /// What a path has behind "/pages", where pages are served.
 pub fn behind_pages<'p>(routes: &Routes, path: &'p str) -> Option<&'p str>
     ensures { option_copied result ≡ pages_rest routes.now path.now }
@@ -62,27 +65,21 @@ pub fn behind_pages<'p>(routes: &Routes, path: &'p str) -> Option<&'p str>
     }
 }
 
-// What a query has behind "from=".
-fn from_value<'q>(query: Option<&'q str>) -> Option<&'q str>
-    ensures { option_copied result ≡ from_of (option_copied query.entry) }
+// The list of cases: without a query the last that there are, and else those before the one that the query names.
+fn list_page(query: Option<&str>) -> Option<Page>
+    ensures { result ≡ list_by_query (option_copied query.entry) }
 {
-    behind(query?, "from=")
+    match query {
+        None => Some(Page::Cases(None)),
+        Some(query) => Some(Page::Cases(Some(read_number(behind(query, "before=")?)?))),
+    }
 }
 
-// The list of cases: without a query from the first, and else from the one that the query names.
-fn list_page(query: Option<&str>) -> Option<Page>
-    ensures page { result ≡ list_by_query (option_copied query.entry) }
-    ensures within { IfSome result IsPageWithinLimits }
+// The cases that the words of the query are found in.
+fn search_page(query: Option<&str>) -> Option<Page>
+    ensures { result ≡ search_by_query (option_copied query.entry) }
 {
-    if query.is_none() {
-        return Some(Page::Cases(1));
-    }
-    let from = read_number(from_value(query)?)?;
-    if from <= MAX_CASES {
-        Some(Page::Cases(from))
-    } else {
-        None
-    }
+    Some(Page::Search(read_words(query?)?))
 }
 
 fn days_page(days: Option<(Day, Day)>) -> Option<Page>
@@ -94,16 +91,14 @@ fn days_page(days: Option<(Day, Day)>) -> Option<Page>
 
 // The week from the day that the query names.
 fn week_page(query: Option<&str>) -> Option<Page>
-    ensures page { result ≡ week_by_query (option_copied query.entry) }
-    ensures within { IfSome result IsPageWithinLimits }
+    ensures { result ≡ week_by_query (option_copied query.entry) }
 {
-    days_page(read_week(from_value(query)?))
+    days_page(read_week(behind(query?, "from=")?))
 }
 
 // The page beside a route, where it has one. Its values may be bad.
 fn found_page(found: RouteMatch<'_>) -> Option<Option<Page>>
-    ensures page { result ≡ page_at found.entry.route found.entry.first.now found.entry.second.now }
-    ensures within { IfSome result (λ page. IfSome page IsPageWithinLimits) }
+    ensures { result ≡ page_at found.entry.route found.entry.first.now found.entry.second.now }
 {
     match found.route {
         Route::Case => Some(read_number(found.first).map(Page::Case)),
@@ -115,8 +110,7 @@ fn found_page(found: RouteMatch<'_>) -> Option<Option<Page>>
 // The page of a deadline, where the path goes on to one, and else that beside the path's route.
 fn numbered_page(router: &Router<Route>, rest: &str) -> Option<Option<Page>>
     requires { router.now ≡ route_rows }
-    ensures page { result ≡ numbered_page_of (deadline_page_of rest.now) rest.now }
-    ensures within { IfSome result (λ page. IfSome page IsPageWithinLimits) }
+    ensures { result ≡ numbered_page_of (deadline_page_of rest.now) rest.now }
 {
     match deadline_page(rest) {
         Some(page) => Some(page),
@@ -133,8 +127,7 @@ fn named_page(
     fresh: u64,
 ) -> Option<Option<Page>>
     requires { router.now ≡ route_rows }
-    ensures page { result ≡ named_page_of fresh (behind_word (codes "/enter/") rest.now) rest.now (option_copied query.entry) }
-    ensures within { IfSome result (λ page. IfSome page IsPageWithinLimits) }
+    ensures { result ≡ named_page_of fresh (behind_word (codes "/enter/") rest.now) rest.now (option_copied query.entry) }
 {
     match behind(rest, "/enter/") {
         Some(word) => entry_page(word, query, fresh),
@@ -151,11 +144,14 @@ pub fn find_page(
     fresh: u64,
 ) -> Option<Option<Page>>
     requires { router.now ≡ route_rows }
-    ensures page { result ≡ page_of fresh rest.now (option_copied query.entry) }
-    ensures within { IfSome result (λ page. IfSome page IsPageWithinLimits) }
+    ensures { result ≡ page_of fresh rest.now (option_copied query.entry) }
 {
     match rest {
         "" | "/" | "/cases" => Some(list_page(query)),
+        "/today" => Some(Some(Page::Due(Due::Today, fresh))),
+        "/week" => Some(Some(Page::Due(Due::Week, fresh))),
+        "/overdue" => Some(Some(Page::Due(Due::Overdue, fresh))),
+        "/search" => Some(search_page(query)),
         "/calendar" => Some(week_page(query)),
         "/court-days" => Some(Some(Page::CourtDays)),
         "/rules" => Some(Some(Page::Rules)),

@@ -3,8 +3,8 @@ ghost use Rattle.std.specs.Prelude.{◌≡◌, length, map, All, IfOk, IfErr, Is
 ghost use Rattle.httparse.specs.Spans.{IsHeaderWithin, header_bytes};
 ghost use Rattle.http_request.specs.Rows.{route_rows};
 ghost use Rattle.http_request.specs.Path.{place_of};
-ghost use Rattle.http_request.specs.Forms.{form_length as form_length_by};
 ghost use Rattle.http_request.specs.Pages.{page_of};
+ghost use Rattle.http_request.specs.declared.wish.Wish.TheVariants.{Form, Preview};
 ghost use Rattle.http_request.specs.Wish.{route_wish, place_wish, page_wish as wish_by_page, copy_wish as wish_of_copy, form_wish as wish_of_form, rest_wish as wish_by_rest, wish_of, route_method, is_method, IsHeadWish, IsWithinLimits};
 
 use crate::days::read_range;
@@ -32,11 +32,15 @@ const MAX_FIELDS: usize = 64;
 #[derive(Clone, Copy)]
 pub enum Wish {
     Reject(Rejection),
+    /// A refused request for what stands behind "/pages", where pages are served: it gets a page that says why.
+    Refuse(Rejection),
     /// A command, whose text is the body of so many bytes.
     Command(u32),
     /// A command by a form, which is the body of so many bytes, with the number of this request. Where pages are
     /// served.
     Form(u32, u64),
+    /// What the command of such a form would do.
+    Preview(u32, u64),
     Case(u32),
     Deadlines(u32),
     /// The days from the first to the last.
@@ -133,9 +137,9 @@ fn page_wish(
     ensures within { IsWithinLimits result }
 {
     match find_page(router, rest, query, fresh) {
-        None => Wish::Reject(Rejection::NotFound),
-        Some(_) if !is_get(method) => Wish::Reject(Rejection::Method),
-        Some(None) => Wish::Reject(Rejection::BadPathValue),
+        None => Wish::Refuse(Rejection::NotFound),
+        Some(_) if !is_get(method) => Wish::Refuse(Rejection::Method),
+        Some(None) => Wish::Refuse(Rejection::BadPathValue),
         Some(Some(page)) => Wish::Page(page),
     }
 }
@@ -147,23 +151,33 @@ fn copy_wish(method: &[u8]) -> Wish
     if is_get(method) {
         Wish::Copy
     } else {
-        Wish::Reject(Rejection::Method)
+        Wish::Refuse(Rejection::Method)
     }
 }
 
-// What a request to enter a form asks for.
-fn form_wish(method: &[u8], head: &[u8], headers: &[HeaderSpan], fresh: u64) -> Wish
-    requires { All (IsHeaderWithin (length head.now)) headers.now }
-    ensures asks { result ≡ wish_of_form fresh (form_length_by method.now (map (header_bytes head.now) headers.now)) }
+// What a request to enter a form of that length asks for.
+fn form_wish(length: Result<u32, Rejection>, fresh: u64) -> Wish
+    ensures asks { result ≡ wish_of_form Form fresh length }
     ensures within { IsWithinLimits result }
 {
-    match form_length(method, head, headers) {
+    match length {
         Ok(length) => Wish::Form(length, fresh),
-        Err(rejection) => Wish::Reject(rejection),
+        Err(rejection) => Wish::Refuse(rejection),
     }
 }
 
-// What the rest of a path behind "/pages" asks for: a copy, a form that is entered, or a page.
+// What a request to show what a form of that length would do asks for.
+fn preview_wish(length: Result<u32, Rejection>, fresh: u64) -> Wish
+    ensures asks { result ≡ wish_of_form Preview fresh length }
+    ensures within { IsWithinLimits result }
+{
+    match length {
+        Ok(length) => Wish::Preview(length, fresh),
+        Err(rejection) => Wish::Refuse(rejection),
+    }
+}
+
+// What the rest of a path behind "/pages" asks for: a copy, a form that is entered, what a form would do, or a page.
 fn rest_wish(
     router: &Router<Route>,
     method: &[u8],
@@ -180,7 +194,8 @@ fn rest_wish(
 {
     match rest {
         "/backup" => copy_wish(method),
-        "/commands" => form_wish(method, head, headers, fresh),
+        "/commands" => form_wish(form_length(method, head, headers), fresh),
+        "/previews" => preview_wish(form_length(method, head, headers), fresh),
         _ => page_wish(router, method, rest, query, fresh),
     }
 }

@@ -9,8 +9,9 @@ ghost use Rattle.job_runs.specs.Jobs.{OfDocket, TellsOf};
 ghost use Rattle.job_runs.specs.Spares.{SparesAsked};
 
 use crate::asking::ask;
+use docket_questions::Question;
 use docket_store::Fault;
-use file_questions::{TextOf, Unconditional};
+use file_questions::TextOf;
 use job_ends::{JobEnd, Status, failed};
 use line_io::write_bytes;
 use sqlite::{FileFrom, Start};
@@ -48,7 +49,7 @@ fn told_if_any<D: Disk + Drop, E: Write>(
 
 /// Returns the text by which the docket in a file answers a question. Where there is none, prints the line
 /// `missing`.
-pub(crate) fn tell_text<S: Start, P: Write + Drop, Q: Unconditional + Copy, E: Write>(
+pub(crate) fn tell_text<S: Start, P: Write + Drop, Q: Question + Copy, E: Write>(
     rt: &HostRuntime,
     start: S,
     screen: Option<P>,

@@ -40,16 +40,17 @@ fn push_answer(
     Ok(to.extend_from_slice(line.as_bytes())?)
 }
 
-/// Appends the answers to the requests, whose connections have the numbers from 1 on.
+/// Appends the answers to the requests, whose connections have the numbers behind `before`.
 fn push_answers(
     alloc: Global,
     docket: &mut Docket<MemStore>,
     routes: &Routes,
+    before: u64,
     size: usize,
     requests: &[u8],
     to: &mut Vec<u8>,
 ) -> Result<(), Error> {
-    let mut fresh = 0u64;
+    let mut fresh = before;
     for line in requests.split_inclusive(|byte| *byte == b'\n') {
         fresh = fresh.wrapping_add(1);
         let request = json_bytes(alloc, line)?;
@@ -59,13 +60,37 @@ fn push_answers(
 }
 
 /// The answers of a new docket to the requests, which come in pieces of a size.
-fn answers(alloc: Global, routes: &Routes, size: usize, requests: &[u8]) -> Result<Vec<u8>, Error> {
+fn answers(
+    alloc: Global,
+    routes: &Routes,
+    before: u64,
+    size: usize,
+    requests: &[u8],
+) -> Result<Vec<u8>, Error> {
     let mut docket = docket(alloc)?;
     let mut written = Vec::new(alloc);
-    let pushed = push_answers(alloc, &mut docket, routes, size, requests, &mut written);
+    let pushed = push_answers(
+        alloc,
+        &mut docket,
+        routes,
+        before,
+        size,
+        requests,
+        &mut written,
+    );
     let _ = docket.close();
     pushed?;
     Ok(written)
+}
+
+/// The number behind which those of the step's connections begin: its third word, or 0.
+fn number_before(step: &Step) -> Result<u64, Error> {
+    match step.word(2) {
+        "" => Ok(0),
+        word => word
+            .parse::<u64>()
+            .map_err(|_| anyhow!("{word} is no number")),
+    }
 }
 
 /// The first difference from the expected answers, in pieces of each size.
@@ -75,8 +100,9 @@ fn in_pieces(
     sizes: &[usize],
     step: &Step,
 ) -> Result<Option<String>, Error> {
+    let before = number_before(step)?;
     for size in sizes {
-        let came = answers(alloc, routes, *size, &step.input)?;
+        let came = answers(alloc, routes, before, *size, &step.input)?;
         let wanted = step.wanted.output.as_slice();
         if let Some(text) = text_difference(alloc, "output", &came, wanted)? {
             return Ok(Some(format!(in alloc; "in pieces of {size}: {text}")?));

@@ -62,7 +62,7 @@ fn visited(
 /// Plays all visits at a place.
 fn play_at(rt: &HostRuntime, place: Place<'_>) -> Result<(), Fail> {
     let docket = new_docket(rt.alloc()).ok_or("no docket")?;
-    let mut desk = Desk::new(rt.alloc(), docket, Routes::Docket, None, 0);
+    let mut desk = Desk::new(rt, docket, Routes::Docket, None);
     let listener = Listener::bind(rt, place)?;
     for (request, wanted, fault) in VISITS {
         let client = client_of(rt, place, &listener)?;

@@ -26,6 +26,7 @@ returns-in-Err g c =
       answered = λ h stands clean. problem_told g.S.Store now h wish body c.in-Err.fault c.problem_of.result c.problem_of.ensures (done.replies h stands) clean;
       only = record {
         writes = done.only.writes;
+        still = done.only.still;
         closed = λ shut.
             let closed = done.only.closed shut in
             (closed.0, subst (λ (p : Problem). IsClosedReply wish body (Fixed p)) (sym c.problem_of.ensures) (problem_response (problem_of_fault c.in-Err.fault), (refl, refl), closed.1));

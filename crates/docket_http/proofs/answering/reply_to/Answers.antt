@@ -2,8 +2,8 @@ use Rattle.std.proofs.Common.{ap, inl, inr, refl, subst, sym}
 use Rattle.std.specs.List.{slice_range}
 use Rattle.docket_text.specs.HolidayTexts.{holiday_text}
 use Rattle.http_request.specs.Request.{body_of}
-use Rattle.http_request.specs.declared.wish.Wish.TheVariants.{Reject, Command, Form, Case, Copy, Deadlines, Holidays, Page}
-use Rattle.docket_http.specs.Answer.{fine}
+use Rattle.http_request.specs.declared.wish.Wish.TheVariants.{Reject, Refuse, Command, Form, Preview, Case, Copy, Deadlines, Holidays, Page}
+use Rattle.docket_http.specs.Answer.{fine, refusal_page}
 use Rattle.docket_http.specs.Asking.{IsBuilt}
 use Rattle.docket_http.specs.declared.head.Form.TheVariants.{Text}
 use Rattle.docket_http.specs.declared.problem.Problem.TheVariants.{NoCopy, Rejected}
@@ -14,6 +14,13 @@ pub returns-in-Reject : goal.returns-in-Reject
 returns-in-Reject g c =
     let rejection = c.in-Reject.rejection in
     at_once g.S.Store c.args.docket.now c.args.request.now.wish (Reject rejection) (body_of c.args.request.now) (Rejected rejection) c.in-Reject.is refl (λ court h. refl) refl
+
+pub returns-in-Refuse : goal.returns-in-Refuse
+returns-in-Refuse g c =
+    let rejection = c.in-Refuse.rejection in
+    let written = c.refusal_reply.ensures in
+    alone g.S.Store c.args.docket.now c.args.request.now.wish (Refuse rejection) (body_of c.args.request.now) (refusal_page rejection) c.refusal_reply.result
+    c.in-Refuse.is refl refl (λ court h. refl) (inl refl) (inr refl) written.reply written.short
 
 pub returns-in-Copy : goal.returns-in-Copy
 returns-in-Copy g c = at_once g.S.Store c.args.docket.now c.args.request.now.wish Copy (body_of c.args.request.now) NoCopy c.in-Copy.is refl (λ court h. refl) refl
@@ -32,6 +39,12 @@ returns-in-Form g c =
     let read = ap (λ xs. slice_range xs c.args.request.now.start c.args.request.now.end) c.deref.ensures.value in
     replies_as g.S.Store c.args.docket.now c.form_reply.new.docket (Form c.in-Form.field-0 c.in-Form.fresh) c.args.request.now.wish _ (body_of c.args.request.now) c.form_reply.result
     (sym c.in-Form.is) read (c.form_reply.ensures c.in-Form.field-0)
+
+pub returns-in-Preview : goal.returns-in-Preview
+returns-in-Preview g c =
+    let read = ap (λ xs. slice_range xs c.args.request.now.start c.args.request.now.end) c.deref.ensures.value in
+    replies_as g.S.Store c.args.docket.now c.preview_reply.new.docket (Preview c.in-Preview.field-0 c.in-Preview.fresh) c.args.request.now.wish _ (body_of c.args.request.now) c.preview_reply.result
+    (sym c.in-Preview.is) read (c.preview_reply.ensures c.in-Preview.field-0)
 
 pub returns-in-Case : goal.returns-in-Case
 returns-in-Case g c =

@@ -28,7 +28,7 @@ returns-in-Ok g c =
           subst (λ (status : ℕ). IsServed g.S.Store now h (Calendar from to) body before after status) (sym c.as_u16.ensures.value)
           (calendar_served g.S.Store now h from to body c.open_head.result.now before after c.in-Ok.field-0 c.open_head.ensures (listed.answer h stands) clean);
       only = λ body.
-          calendar_only g.S.Store c.args.docket.now now from to body before after _ listed.court listed.clean (λ rows holds. lasting g.S.Store now.conn rows (listed.stays rows holds))
+          calendar_only g.S.Store c.args.docket.now now from to body before after _ listed.court listed.clean (λ rows holds. lasting g.S.Store now.conn rows (listed.stays rows holds)) listed.writes_nothing
           (λ shut. no_error _ _ (listed.closed shut).0) tt;
     }
 
@@ -54,7 +54,7 @@ returns-in-Err-NotBegun g c =
           delivered g.S.Store now h (Calendar from to) body (Fixed problem) before after end result told.0 told.1 sent.whole sent.front;
       only = λ body.
           calendar_only g.S.Store c.args.docket.now now from to body before end result listed.court listed.clean
-          (λ rows holds. lasts_at g.S.Store now.conn rows fault (subst (λ (e : ListingEnd). PreservesListing g.S.Store now.conn rows (Err e)) is (listed.stays rows holds)))
+          (λ rows holds. lasts_at g.S.Store now.conn rows fault (subst (λ (e : ListingEnd). PreservesListing g.S.Store now.conn rows (Err e)) is (listed.stays rows holds))) listed.writes_nothing
           (λ shut. let closed = listed.closed shut in
           (closed.1, closed_sent c.in-Err-NotBegun.field-0 fault problem before after end result is named closed.0 (ap g.W.Write.contents closed.2) sent.whole sent.front))
           (of_writing result _ sent.front);
@@ -77,7 +77,7 @@ returns-in-Err-Broken g c =
           c.open_head.ensures (subst (λ (e : ListingEnd). Lists g.S.Store now h from to c.open_head.result.now before after (Err e)) is (listed.answer h stands)) clean);
       only = λ body.
           calendar_only g.S.Store c.args.docket.now now from to body before after _ listed.court listed.clean
-          (λ rows holds. lasts_at g.S.Store now.conn rows fault (subst (λ (e : ListingEnd). PreservesListing g.S.Store now.conn rows (Err e)) is (listed.stays rows holds)))
+          (λ rows holds. lasts_at g.S.Store now.conn rows fault (subst (λ (e : ListingEnd). PreservesListing g.S.Store now.conn rows (Err e)) is (listed.stays rows holds))) listed.writes_nothing
           (λ shut. begun_open c.in-Err-Broken.field-0 fault is (listed.closed shut).0) c.broken.ensures.own;
     }
 
@@ -96,6 +96,6 @@ returns-in-Err-WriteFailed g c =
           (subst (λ (e : ListingEnd). Lists g.S.Store now h from to c.open_head.result.now before after (Err e)) is (listed.answer h stands)) clean;
       only = λ body.
           calendar_only g.S.Store c.args.docket.now now from to body before after _ listed.court listed.clean
-          (λ rows holds. lasting g.S.Store now.conn rows (subst (λ (e : ListingEnd). PreservesListing g.S.Store now.conn rows (Err e)) is (listed.stays rows holds)))
+          (λ rows holds. lasting g.S.Store now.conn rows (subst (λ (e : ListingEnd). PreservesListing g.S.Store now.conn rows (Err e)) is (listed.stays rows holds))) listed.writes_nothing
           (λ shut. cut_open c.in-Err-WriteFailed.field-0 is (listed.closed shut).0) writing_own;
     }

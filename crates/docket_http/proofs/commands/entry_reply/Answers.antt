@@ -6,7 +6,7 @@ use Rattle.docket_http.specs.declared.problem.Problem.TheVariants.{Closed, NoMem
 use Rattle.docket_http.proofs.AskingLemmas.{built_replied, err_closed, fault_left, halted_replied, no_error, passed_on, said_left}
 use Rattle.docket_http.proofs.ClosedLemmas.{closed_built, closed_told}
 use Rattle.docket_http.proofs.EntryLemmas.{entering}
-use Rattle.docket_http.proofs.OnlyLemmas.{unasked}
+use Rattle.docket_http.proofs.OnlyLemmas.{entered_still, unasked}
 use Rattle.docket_http.proofs.RecordedLemmas.{fault_backed, said_backed}
 use Rattle.docket_http.proofs.commands.entry_reply.Goals as goal
 
@@ -28,6 +28,7 @@ returns-in_err-said-in-Ok g c = λ wish body is.
           clean = failed.clean;
           any = λ rows n stored are small holds. answered_one g.S.Store now.conn rows now.court n command c.answer.result (c.answer.ensures.any rows n stored are small holds);
         };
+        still = entered_still g.S.Store c.args.docket.now now wish body _ entered;
         closed = λ shut.
             let closed = failed.closed shut in
             (closed.1, closed_told wish body result (err_closed result fault told closed.0) ((entering wish body _ entered).closed (problem_response Closed) (inl refl)));
@@ -55,6 +56,7 @@ returns-in_ok-said-in-Ok g c = λ wish body is.
           clean = answered.clean;
           any = λ rows n stored are small holds. answered_one g.S.Store now.conn rows now.court n command c.answer.result (c.answer.ensures.any rows n stored are small holds);
         };
+        still = entered_still g.S.Store c.args.docket.now now wish body _ entered;
         closed = λ shut. no_error _ _ (answered.closed shut).0;
         recorded = λ docket.
             said_backed g.S.Store now now.court docket.next_row docket.rows command said manner wish body result

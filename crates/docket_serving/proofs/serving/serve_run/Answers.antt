@@ -5,7 +5,7 @@ use Rattle.docket_serving.proofs.serving.serve_run.Goals as goal
 pub loop-init : goal.loop-init
 loop-init g c =
     let desk = c.args.desk.now in
-    record { within = omega arith; routes = refl; served = served_none g.S.Store desk.routes desk.fresh desk.docket (g.C.Connections.log c.args.connections.now) }
+    record { within = omega arith; routes = refl; served = served_none g.S.Store desk.routes desk.number desk.docket (g.C.Connections.log c.args.connections.now) }
 
 pub returns-in_err-serve_next : goal.returns-in_err-serve_next
 returns-in_err-serve_next g c =
@@ -14,7 +14,7 @@ returns-in_err-serve_next g c =
     let left = c.loop.desk in
     let new = c.serve_next.new.desk in
     let next = by_routes g.S.Store left.routes old.routes kept c.in_err-serve_next.ensures.next in
-    let run = served_stop g.S.Store old.routes old.fresh left.fresh new.fresh old.docket left.docket new.docket c.loop.counter c.args.count _ _ _ c.in_err-serve_next.field-0.0 c.from_residual.result
+    let run = served_stop g.S.Store old.routes old.number left.number new.number old.docket left.docket new.docket c.loop.counter c.args.count _ _ _ c.in_err-serve_next.field-0.0 c.from_residual.result
     (omega arith) c.from_residual.ensures.1 c.loop.invariant.served next in
     record {
       routes = c.in_err-serve_next.ensures.routes ∙ kept;
@@ -34,14 +34,14 @@ loop-preserved g c =
     record {
       within = omega arith;
       routes = c.in_ok-serve_next.ensures.routes ∙ kept;
-      served = served_then g.S.Store old.routes old.fresh left.fresh new.fresh old.docket left.docket new.docket c.loop.counter 1 _ _ _ _ c.loop.invariant.served next;
+      served = served_then g.S.Store old.routes old.number left.number new.number old.docket left.docket new.docket c.loop.counter 1 _ _ _ _ c.loop.invariant.served next;
     }
 
 pub returns : goal.returns
 returns g c =
     let old = c.args.desk.now in
     let left = c.loop.desk in
-    let run = served_all g.S.Store old.routes old.fresh left.fresh old.docket left.docket c.loop.counter c.args.count _ _ _ (omega arith) c.loop.invariant.served in
+    let run = served_all g.S.Store old.routes old.number left.number old.docket left.docket c.loop.counter c.args.count _ _ _ (omega arith) c.loop.invariant.served in
     record {
       routes = c.loop.invariant.routes;
       court = served_court g.S.Store old.routes _ _ _ _ _ _ _ _ run;

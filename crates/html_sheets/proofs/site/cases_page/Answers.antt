@@ -14,4 +14,4 @@ returns c =
     let foot = added c.in_ok-push_str-3.ensures.bytes rows c.cases_foot.ensures in
     let more = added c.in_ok-push_more.ensures foot refl in
     added c.in_ok-push_str-4.ensures.bytes more c.page_foot.ensures
-    ∙ seven_joined (page_head (codes "Cases")) site_nav cases_head (flat_map case_row c.args.cases.now) cases_foot (more_cases c.args.earlier c.args.later) page_foot
+    ∙ seven_joined (page_head (codes "Cases")) site_nav cases_head (flat_map case_row c.args.cases.now) cases_foot (more_cases c.args.newer c.args.older) page_foot

@@ -55,6 +55,7 @@ returns-in_err-push_str g c =
 
 pub returns : goal.returns
 returns g c =
+    let list = c.args.self.now.list in
     let from = c.args.self.now.from in
     let to = c.args.self.now.to in
     let old = c.args.docket.now.court in
@@ -67,11 +68,11 @@ returns g c =
           let told = added.answer h asked.0 in
           let dues = calendar_rows old h from to in (
             told.0,
-            λ clean. ap Some (all_between (due_told court h) c.as_slice.result.now dues (days_page_head from to) days_page_foot
+            λ clean. ap Some (all_between (due_told court h) c.as_slice.result.now dues (days_page_head list court from to) days_page_foot
                 (string_bytes c.in_ok-page.page) (string_bytes c.push_dues.new.page) c.days_page_foot.result.now (string_bytes c.push_str.new.self)
-                c.in_ok-page.ensures (told.1 clean) c.days_page_foot.ensures c.in_ok-push_str.ensures.bytes
+                (c.in_ok-page.ensures ∙ ap (λ (x : CourtSettings). days_page_head list x from to) c.court.ensures) (told.1 clean) c.days_page_foot.ensures c.in_ok-push_str.ensures.bytes
                 (c.as_slice.ensures.value ∙ asked.1 (clean_before _ _ (added.only asked.0.serves).clean clean))
-                ∙ ap (λ (x : CourtSettings). days_page_head from to ++ (flat_map (due_told x h) dues ++ days_page_foot)) first.only.court),
+                ∙ ap (λ (x : CourtSettings). days_page_head list x from to ++ (flat_map (due_told x h) dues ++ days_page_foot)) first.only.court),
           );
       only = then_told g.S.Store _ _ _ _ _ first.only (λ serves. same_told g.S.Store _ _ _ _ (added.only serves));
     }

@@ -1,9 +1,6 @@
 use Rattle.file_questions.proofs.TellLemmas.{asked, kept}
 use Rattle.file_questions.proofs.texts.TextOfInquiryUnit.ask.Goals as goal
 
-pub ask-requires : goal.ask-requires
-ask-requires g c = g.met.Q.Unconditional.unconditional c.args.self.now.question
-
 pub returns-clause-told : goal.returns-clause-told
 returns-clause-told g c h stands held clean = asked g.S.Store c.ask.new.docket h _ c.ask.result (c.ask.ensures.answer h stands) clean
 

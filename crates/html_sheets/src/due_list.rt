@@ -1,0 +1,30 @@
+//! Lists of what is due.
+ghost use Rattle.std.specs.Prelude.{◌≡◌};
+ghost use Rattle.html_sheets.specs.Weeks.{list_title};
+
+/// Which deadlines a page lists.
+#[derive(Clone, Copy)]
+pub enum DueList {
+    /// Those of some days.
+    Days,
+    /// Those of the day of the request.
+    Today,
+    /// Those of the seven days from it.
+    Week,
+    /// Those of the days before it.
+    Overdue,
+}
+
+impl DueList {
+    /// The title of the page.
+    pub(crate) fn title(self) -> &'static str
+        ensures { result.now ≡ list_title self }
+    {
+        match self {
+            DueList::Days => "Deadlines",
+            DueList::Today => "Today",
+            DueList::Week => "This week",
+            DueList::Overdue => "Overdue",
+        }
+    }
+}
