@@ -2,13 +2,13 @@
 definitions (docket_command/specs/Schema.antt, html_sheets/specs/Titles.antt and entry_pages/specs), and the pages are put together here once more."""
 import re
 
-from pages_model import CODES, escaped, kinds, link, literal, literals, page, spec, table, titles
+from pages_model import CODES, escaped, kinds, lines, link, literal, literals, page, spec, table, titles
 
 PAGES = "entry_pages/specs/"
 
 
 def by_name(path, name):
-    return {before[0].rpartition(".")[2]: literals(behind) for before, behind in table(path, name)}
+    return {before[-1].rpartition(".")[2]: literals(behind) for before, behind in table(path, name)}
 
 
 FIELDS = {name: texts[0] for name, texts in by_name("docket_command/specs/Fields.antt", "field_name").items()}
@@ -51,22 +51,32 @@ def control(type_of, name, value, state):
     return f'<select id="{name}" name="{name}"{state}><option value=""></option>{options}</select>'
 
 
-def hints(kind, field, type_of, needed):
-    told = [of_kind(PAGES + "Hints.antt", "field_hint", kind, field), (by_name(PAGES + "Hints.antt", "type_hint").get(type_of) or [""])[0], "" if needed else "May be left empty."]
-    return "".join(f'<span class="hint">{hint}</span>' for hint in told if hint)
+def hint(kind, field, type_of, needed):
+    own = by_name(PAGES + "Hints.antt", "own_hint")["Moment"][0] if type_of == "Moment" else of_kind(PAGES + "Hints.antt", "field_hint", kind, field)
+    return " ".join(words for words in (own, "" if needed else "May be left empty.") if words)
 
 
 def field_of(kind, texts, marked, need, field, type_of):
-    name, label = FIELDS[field], of_kind(PAGES + "Labels.antt", "label_of", kind, field)
-    state = (" required" if need == "must" else "") + (' aria-invalid="true" aria-describedby="said"' if name == marked else "")
-    return f'<p><label for="{name}">{label}</label>{control(type_of, name, texts.get(name, ""), state)}{hints(kind, field, type_of, need == "must")}</p>\n'
+    """A field, which is described by what was said of it and by its hint."""
+    name, label, needed = FIELDS[field], of_kind(PAGES + "Labels.antt", "label_of", kind, field), need == "must"
+    words, is_marked = hint(kind, field, type_of, needed), name == marked
+    described = " ".join(["said"] * is_marked + [f"{name}-hint"] * bool(words))
+    state = " required" * needed + ' aria-invalid="true"' * is_marked + (f' aria-describedby="{described}"' if described else "")
+    below = f'<span id="{name}-hint" class="hint">{words}</span>' if words else ""
+    return f'<p><label for="{name}">{label}</label>{control(type_of, name, texts.get(name, ""), state)}{below}</p>\n'
 
 
 def form(kind, fresh, texts, marked=""):
     fields = "".join(field_of(kind, texts, marked, *row) for row in SCHEMA[kind])
     return ('<form class="entry" action="/pages/commands" method="post" autocomplete="off">\n'
             f'<input type="hidden" name="do" value="{WORDS[kind]}"><input type="hidden" name="key" value="desk-{fresh}">\n'
-            f"{fields}<p><button>Enter</button></p>\n</form>\n")
+            f'{fields}<p><button>Enter</button> <button class="other" formaction="/pages/previews">Show what it would do</button></p>\n</form>\n')
+
+
+def previewed(text):
+    """What stands before a form of which a text says what it would do."""
+    sentence = re.search(r"<p>(.*?)</p>", "\n".join(spec(PAGES + "Saying.antt")))[1]
+    return f'<section role="status">\n<h2>What this would do</h2>\n{lines(text)}<p>{sentence}</p>\n</section>\n'
 
 
 def sentence(words):
@@ -82,11 +92,11 @@ def sentence(words):
 MARKED = {"NoSuchCase": "case", "NoSuchParty": "party", "NoSuchDeadline": "deadline", "NoSuchCalendarRow": "row", "NoSuchLocalRule": "rule"}
 
 
-def entry(kind, fresh, texts, said=""):
-    """The page of a kind, filled in; what was said of it is as `NoSuchCase` or `WrongField case`."""
-    begun, alert = sentence(said) if said else ("", "")
+def entry(kind, fresh, texts, said="", would=""):
+    """The page of a kind, filled in; what was said of it is as `NoSuchCase` or `WrongField case`, or the text of what it would do."""
+    begun, above = ("Preview: ", previewed(would)) if would else sentence(said) if said else ("", "")
     marked = said.partition(" ")[2] or MARKED.get(said, "")
-    return page(begun + TITLES[kind], alert + form(kind, fresh, texts, marked))
+    return page(begun + TITLES[kind], above + form(kind, fresh, texts, marked))
 
 
 def kinds_page(said=""):

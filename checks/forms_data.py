@@ -40,6 +40,7 @@ DAY = [
     ("local_rule", {"name": "LR7.1-opp", "days": 14, "direction": "forward", "three": True, "extendable": True}),
     ("local_period", {"case": 1, "party": 1, "rule": "LR7.1-opp", "start": "2025-11-10", "method": "C"}),  # deadline 18
     ("rule_motion", {"case": 1, "deadline": 2, "kind": "b", "served": "2025-05-01"}),
+    ("declare_day", {"day": "2025-12-01", "kind": "federal", "name": "Mourning"}),  # to which deadlines 4 and 18 ran
 ]
 KINDS = sorted({kind for kind, _ in DAY})
 WITHOUT_CASE = {"open_case", "declare_day", "close_day", "close_span", "short_day", "withdraw_calendar", "local_rule"}
@@ -81,6 +82,8 @@ FAULTS = [
     ("WrongField", "close_span", {"start": "2025-06-23T15:00", "end": "2025-06-23T16:00-04:00"}, "start"),
     ("WrongField", "satisfy", {"case": "1", "deadline": "4", "at": "noon", "way": "office"}, "at"),
 ]
+# what is typed into the search, and the cases that are found, the newest first
+FOUND = [("1:25-cv-00002", ["2"]), ("roe & SONS v.", ["1"]), (" V. ", ["3", "2", "1"]), ("<I>poe</i> \"the", ["1"]), ("doe 1000", ["2"]), ("1:25-cv", []), ("nobody", [])]
 HOSTILE = ("<img src=x onerror=\"document.title='run'\">", "\"><svg onload=document.title='run'>", "'><script>document.title='run'</script>",
            "</title></textarea></select><h1 id=case>Doe</h1>", "\" autofocus onfocus=document.title='run' x=\"", "&lt;b&gt; &amp;amp; &#0; &quot",
            "a=b&do=vacate&key=k;c%3Dd+e", "\u202eeoR\u202c v. \u2028 Ünal 中文 \U0001f409")

@@ -6,12 +6,13 @@ import subprocess
 import urllib.parse
 
 from forms_data import COURT, WITHOUT_CASE
-from forms_pages import ALERT, FILL, FORM
+from forms_pages import ALERT, FILL, FORM, WOULD
 from http_clients import Server, get
 from served_dockets import rows
 
 POLICY = "default-src 'none'; style-src 'unsafe-inline'; form-action 'self'; base-uri 'none'; frame-ancestors 'none'"
 BUTTON = "form[action='/pages/commands'] button"
+SHOW = "button[formaction='/pages/previews']"
 counts = {True: 0, False: 0}
 
 
@@ -106,15 +107,15 @@ class Desk:
         check(f"{name}: a fresh key", (key in self.keys, bool(re.fullmatch(r"[!-~]{1,64}", key))), (False, True))
         self.keys.add(key)
 
-    def send(self, tab, name, texts, unasked=False, times=1):
-        """Fills the form in and clicks on its button; what was posted, with the status, and where that led."""
+    def send(self, tab, name, texts, unasked=False, button=BUTTON):
+        """Fills the form in and clicks on a button of it; what was posted, with the status, and where that led."""
         check(f"{name}: the texts are taken", tab.value(f"({FILL})({json.dumps(texts)}, {json.dumps(unasked)})"), [])
-        return self.sent(tab, name, times)
+        return self.sent(tab, name, button)
 
-    def sent(self, tab, name, times=1):
-        """Clicks on the button of the form as it is."""
+    def sent(self, tab, name, button=BUTTON):
+        """Clicks on a button of the form as it is."""
         tab.taken()
-        tab.click(BUTTON, times)
+        tab.click(button)
         self.forms += 1
         came = tab.taken()
         posts = [one for one in came if one[0] == "POST"]
@@ -127,6 +128,22 @@ class Desk:
         form = self.open(tab, kind, fields)
         post, last = self.send(tab, kind, written_all(fields))
         return self.is_accepted(kind, fields, form["values"]["key"], post, last, reply)
+
+    def accept_shown(self, tab, kind, fields, reply=None):
+        """Shows what a command would do, and enters it by the form that comes with that; what was told that it would do."""
+        would, form = self.preview(tab, kind, fields)
+        post, last = self.sent(tab, kind)
+        self.is_accepted(kind, fields, form["values"]["key"], post, last, reply)
+        return would
+
+    def preview(self, tab, kind, fields):
+        """Shows what a command would do: the form again, and the docket is as it was."""
+        before, texts, name = self.state(), written_all(fields), f"preview of {kind}"
+        self.open(tab, kind, fields)
+        post, _ = self.send(tab, name, texts, button=SHOW)
+        form, would = self.is_again(tab, name, "pages/previews", 200, texts, post, before), tab.value(WOULD)
+        check(f"{name}: what it would do is told", (bool(would), tab.value(ALERT), form["marked"]), (True, [], []))
+        return would, form
 
     def is_accepted(self, kind, fields, key, post, last, reply=None):
         """The answer to a form that was taken, which is kept with its key."""
@@ -142,21 +159,27 @@ class Desk:
             self.entered.append(command)
         return key
 
-    def is_refused(self, tab, name, status, sent, post, marked, before):
-        """The form again: what is said, every text that was sent, what is marked, a fresh key; and the docket is as it was."""
-        check(f"{name}: the form is answered", (post[1], post[2]), ("pages/commands", status))
+    def is_again(self, tab, name, path, status, sent, post, before):
+        """The form again, with every text that was sent and a fresh key; and the docket is as it was."""
+        check(f"{name}: the form is answered", (post[1], post[2]), (path, status))
         check(f"{name}: a page that runs nothing and is not kept", [post[4].get(field) for field in ("content-type", "content-security-policy", "cache-control")],
               ["text/html; charset=utf-8", POLICY, "no-store"])
-        said, form = tab.value(ALERT), tab.value(FORM)
-        check(f"{name}: one sentence is said", (len(said), bool(said and said[0])), (1, True))
-        if check(f"{name}: the form again", form is not None, True):
-            check(f"{name}: the texts stand", {field: form["values"].get(field) for field in sent if field != "key"}, {field: text for field, text in sent.items() if field != "key"})
-            check(f"{name}: what is marked is tied to what is said", form["tied"], True)
-            if marked is not None:
-                check(f"{name}: what is marked", form["marked"], marked)
-            self.is_fresh(name, form)
+        form = tab.value(FORM)
+        if form is None:
+            raise RuntimeError(f"{name}: the form does not come again")
+        check(f"{name}: the texts stand", {field: form["values"].get(field) for field in sent if field != "key"}, {field: text for field, text in sent.items() if field != "key"})
+        self.is_fresh(name, form)
         check(f"{name}: the docket is as it was", self.state() == before, True)
-        return said[0] if said else "", form["marked"] if form else []
+        return form
+
+    def is_refused(self, tab, name, status, sent, post, marked, before, path="pages/commands"):
+        """The form again: what is said, and what is marked."""
+        form, said = self.is_again(tab, name, path, status, sent, post, before), tab.value(ALERT)
+        check(f"{name}: one sentence is said", (len(said), bool(said and said[0])), (1, True))
+        check(f"{name}: what is marked is tied to what is said", form["tied"], True)
+        if marked is not None:
+            check(f"{name}: what is marked", form["marked"], marked)
+        return said[0] if said else "", form["marked"]
 
 
 def make(program, path, lines):

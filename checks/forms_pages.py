@@ -54,12 +54,11 @@ CONTRAST = """(() => {
   return {faults, least: +least.toFixed(2), count};
 })()"""
 
-# the page itself is not wider than what is seen of it
+# neither the page nor a cell of a table is wider than what is seen of it
 NARROW = """(() => {
   const root = document.scrollingElement, most = document.documentElement.clientWidth;
-  if (root.scrollWidth <= most) return [];
-  const wide = [...document.body.querySelectorAll("*")].filter(one => one.getBoundingClientRect().right > most + 1 && !one.closest(".scroll *"));
-  return [`${root.scrollWidth} of ${most} wide: ` + wide.slice(-3).map(one => one.outerHTML.slice(0, 80)).join(" ")];
+  const wide = [...document.body.querySelectorAll("*")].filter(one => one.checkVisibility() && one.getBoundingClientRect().right > most + 1);
+  return root.scrollWidth <= most && !wide.length ? [] : [`${root.scrollWidth} of ${most} wide: ` + wide.slice(-3).map(one => one.outerHTML.slice(0, 80)).join(" ")];
 })()"""
 
 # what is left out on paper
@@ -86,6 +85,11 @@ FILL = """((texts, unasked) => {
   form.noValidate = unasked;
   return Object.entries(texts).filter(([name, text]) => { const one = form.elements[name]; if (!one) return true; one.value = text; return one.value !== text; }).map(([name]) => name);
 })"""
+# what a form would do; why a deadline stands as it does, and whether what was filed was in time; the texts of each row of a table
+WOULD = "document.querySelector('[role=status] pre')?.textContent"
+STEPS = "document.querySelector('main > pre')?.textContent"
+FILED = "[...document.querySelectorAll('main > p')].slice(1).map(one => one.innerText)"
+ROWS = "[...document.querySelectorAll('tbody tr')].map(row => [...row.cells].map(cell => cell.innerText.trim()))"
 ALERT = "[...document.querySelectorAll('[role=alert]')].map(one => one.innerText.trim())"
 FOCUS = """(() => { const one = document.activeElement, style = getComputedStyle(one);
   return {tag: one.tagName, href: one.getAttribute("href"), name: one.name || "", outline: style.outlineStyle !== "none" && parseFloat(style.outlineWidth) > 0}; })()"""

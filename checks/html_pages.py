@@ -14,10 +14,10 @@ ELEMENTS = {"html", "head", "meta", "title", "style", "body", "main", "h1", "h2"
             "time", "dl", "dt", "dd"}
 ATTRIBUTES = {"lang", "charset", "name", "content", "scope", "class"}
 # what only the pages of a docket that is served have
-SERVED_ELEMENTS = {"nav", "a", "form", "label", "input", "button", "select", "option", "span", "ul", "li", "pre"}
-SERVED_ATTRIBUTES = {"href", "action", "type", "required", "min", "max", "aria-label", "method", "autocomplete", "id", "for", "value", "inputmode", "pattern",
+SERVED_ELEMENTS = {"nav", "a", "form", "label", "input", "button", "select", "option", "span", "ul", "li", "pre", "section"}
+SERVED_ATTRIBUTES = {"href", "action", "formaction", "type", "required", "min", "max", "maxlength", "aria-label", "method", "autocomplete", "id", "for", "value", "inputmode", "pattern",
                      "placeholder", "selected", "role", "aria-invalid", "aria-describedby"}
-NOT_OF_HTML_4 = re.compile(r"Tag (main|bdi|time|nav) invalid")
+NOT_OF_HTML_4 = re.compile(r"Tag (main|bdi|time|nav|section) invalid")
 
 
 class Page(HTMLParser):
@@ -31,7 +31,7 @@ class Page(HTMLParser):
     def handle_starttag(self, tag, attrs):
         self.elements.add(tag)
         self.attributes |= {name for name, _ in attrs}
-        self.links += [value for name, value in attrs if name in ("href", "action")]
+        self.links += [value for name, value in attrs if name in ("href", "action", "formaction")]
         if tag == "input":
             self.values[dict(attrs).get("name")] = dict(attrs).get("value")
         if tag == "tr":

@@ -1,93 +1,156 @@
 #!/usr/bin/env python3
 """Writes the gate's stored requests for pages and their whole answers (crates/rows/data/pages.in, pages.out): a docket of two cases
-whose deadlines were worked out by hand, and pages put together here from what they are to show. The style sheet goes into the stored
-exports too (jobs-exports.rows). Usage: checks/pages_data.py"""
+whose deadlines were worked out by hand, and pages put together here from what they are to show. One of the requests is the first of a day,
+by its number, which is written into http-pages.rows. The pages of the stored exports are made here too (jobs-exports.rows).
+Usage: checks/pages_data.py"""
 import os
 import re
+import urllib.parse
 
-from pages_model import case_link, cell, day, deadline_link, entering, error, got, head, link, missing, nav, number, page, posted, reply, rows, served, shown, store, told, weekday, answer, STYLE, TOP
+from pages_model import (TOP, answer, case_link, case_sheet, cases_table, days_page, deadline_page, days_told, due_table, error, got, link, missing, nav, page, posted, refusal, reply, shown,
+                         store, told)
 
+NIGHT = 1_751_947_200_000_000_000  # the nanoseconds from 1970 to July 8, 2025 in New York
 CASES = [(1, "1:25-cv-00001", "2025-06-02", 'Roe & Sons v. <b>"O\'Brien"</b>'), (2, "1:25-cv-00002", "2025-06-03", "Ünal v. Doe")]
-DUE = ("2025-07-07", "24:00", "17:00", 1, 1, "12(a)(1)(A)(i)", "1")
+PARTY, RULE = "</td><script>", "12(a)(1)(A)(i)"
+DUE = ("2025-07-07", "24:00", "17:00", 1, 1, RULE, "1")
 HOURS = ("2025-07-09", "10:30", "--:--", 2, 1, "order", "-")
-COMMANDS = (
+COMMANDS = [
     {"do": "open_case", "key": "k1", "label": CASES[0][1], "caption": CASES[0][3], "filed": CASES[0][2]},
     {"do": "open_case", "key": "k2", "label": CASES[1][1], "caption": CASES[1][3], "filed": CASES[1][2]},
-    {"do": "add_party", "key": "k3", "case": 1, "name": "</td><script>", "role": "defendant"},
+    {"do": "add_party", "key": "k3", "case": 1, "name": PARTY, "role": "defendant"},
     {"do": "file_entry", "key": "k4", "case": 1, "day": "2025-06-02", "text": "Complaint & exhibits"},
     # 21 days from June 13 end on July 4, a Friday and a holiday: the time runs to Monday, July 7
     {"do": "serve_summons", "key": "k5", "case": 1, "party": 1, "basis": "private", "served": "2025-06-13"},
     # 48 hours from 10:30 Eastern daylight time
     {"do": "order_period", "key": "k6", "case": 2, "party": 0, "unit": "hours", "at": "2025-07-07T10:30-04:00", "count": 48, "direction": "forward"},
-)
-NUMBERS = (1, 2, 1, 1, 1, 1)
+]
+# what was filed on the last day, on the day after, and while a motion suspended the time
+LAST = "2025-05-23 Fri  "
+SET = f"{LAST}day set by the court; it stays, whatever day it is\n"
+MOVED = (f"2025-05-02 Fri  summons and complaint served; 21 days after, {RULE}\n{LAST}counted to this day, 6(a)(1)(A), (B)\n{LAST}the period ends, 6(a)(1)(C)\n"
+         "2025-05-20 Tue  motion under 12(b) served; the time is suspended, 12(a)(4)\n")
+FILED = [
+    (2, SET + "2025-05-23T23:59-04:00 Fri  done electronically\ndone\n", "<p>It was done in time.</p>\n"),
+    (3, SET + "2025-05-24T00:00-04:00 Sat  done electronically\ndone\n", '<p class="late">It was done late.</p>\n'),
+    (4, MOVED + "2025-05-26T09:00-04:00 Mon  done at the clerk's office\ndone\n", "<p>It was done; no time was running.</p>\n"),
+]
+FILINGS = [
+    *(({"do": "order_period", "key": f"s{number}", "case": 2, "party": 0, "unit": "fixed", "until": "2025-05-23"}, number) for number in (2, 3)),
+    ({"do": "add_party", "key": "p2", "case": 2, "name": "Doe-Öz", "role": "defendant"}, 1),
+    ({"do": "serve_summons", "key": "s4", "case": 2, "party": 1, "basis": "private", "served": "2025-05-02"}, 4),
+    ({"do": "rule_motion", "key": "m4", "case": 2, "deadline": 4, "kind": "b", "served": "2025-05-20"}, 4),
+    ({"do": "satisfy", "key": "f2", "case": 2, "deadline": 2, "at": "2025-05-23T23:59-04:00", "way": "electronic"}, 1),
+    ({"do": "satisfy", "key": "f3", "case": 2, "deadline": 3, "at": "2025-05-24T00:00-04:00", "way": "electronic"}, 0),
+    ({"do": "satisfy", "key": "f4", "case": 2, "deadline": 4, "at": "2025-05-26T09:00-04:00", "way": "office"}, 1),
+]
 
 
-def cases(begun):
-    listed = [head(case_link(case)) + cell(told(label)) + cell(day(filed)) + cell(told(caption)) for case, label, filed, caption in CASES[begun - 1:]]
-    earlier = nav("More cases", link("cases?from=1", "Earlier cases")) if begun > 1 else ""
-    return shown(page("Cases", rows(("Case", "Label", "Filed", "Caption"), listed) + earlier))
+def cases(listed, newer=None, older=None):
+    links = " ".join(link(f"cases?before={before}", words) for before, words in ((newer, "Newer cases"), (older, "Older cases")) if before)
+    return shown(page("Cases", cases_table(listed) + (nav("More cases", links) if links else "")))
 
 
-def sheet():
-    case, label, filed, caption = CASES[0]
-    said = (f"<dl>\n<dt>Case</dt><dd>{case}</dd>\n<dt>Label</dt><dd>{told(label)}</dd>\n<dt>Caption</dt><dd>{told(caption)}</dd>\n"
-            f"<dt>Filed</dt><dd>{day(filed)}</dd>\n</dl>\n")
-    name = told(COMMANDS[2]["name"])
-    parties = rows(("Party", "Role", "Name"), [head(1) + cell("defendant") + cell(name + served(case, 1))])
-    entries = rows(("Entry", "Day", "Text"), [head(1) + cell(day("2025-06-02")) + cell(told(COMMANDS[3]["text"]))])
-    due = f"due {DUE[0]} {DUE[1]} {DUE[2]}"
-    deadlines = rows(("Deadline", "Party", "Rule", "Standing"), [head(deadline_link(case, 1)) + cell(f"1 {name}") + cell(told(DUE[5])) + number(due)])
-    return shown(page(label, f"{said}{entering({'case': case}, 'daily_kinds')}<h2>Parties</h2>\n{parties}<h2>Entries</h2>\n{entries}<h2>Deadlines</h2>\n{deadlines}"))
+def days(first, last, *listed, title="Deadlines"):
+    return shown(days_page(first, last, listed, CASES, title))
 
 
-def days(first, last, before, after, listed):
-    weeks = link(f"calendar/{before}", "Week before") + " " + link(f"calendar/{after}", "Week after")
-    columns = ("Day", "Time", "Closing", "Case", "Deadline", "Rule", "Party", "Caption")
-    cells = [head(weekday(on)) + number(at) + number(closing) + number(case_link(case)) + number(deadline_link(case, deadline)) + cell(told(rule)) + number(party)
-             + cell(told(CASES[case - 1][3])) for on, at, closing, case, deadline, rule, party in listed]
-    return shown(page("Deadlines", f'<p>{weekday(first)} to {weekday(last)}</p>\n{nav("Other weeks", weeks)}{rows(columns, cells)}'))
+def found(words, *listed):
+    """A search by words, with the cases that it finds."""
+    table = cases_table(listed) if listed else "<p>No docket number, caption or name has these words.</p>\n"
+    return got(f"/pages/search?{urllib.parse.urlencode({'find': words})}"), shown(page("Search", f"<p>Cases found by {told(words)}</p>\n" + table))
 
 
-def exchanges():
-    """Each request with its answer."""
-    yield got("/pages"), shown(page("Cases", rows(("Case", "Label", "Filed", "Caption"), [])))
-    for command, value in zip(COMMANDS, NUMBERS, strict=True):
+def evening():
+    """The requests of July 7, each with its answer."""
+    yield got("/pages"), cases([])
+    for command, value in zip(COMMANDS, (1, 2, 1, 1, 1, 1), strict=True):
         yield posted(command), reply(value)
-    for target in ("/pages", "/pages/", "/pages/cases", "/pages/cases?from=1", "/pages?from=1"):
-        yield got(target), cases(1)
-    yield got("/pages/cases?from=2"), cases(2)
-    yield got("/pages/cases/1"), sheet()
-    week = days("2025-07-07", "2025-07-13", "2025-06-30/2025-07-06", "2025-07-14/2025-07-20", [DUE, HOURS])
-    yield got("/pages/calendar?from=2025-07-07"), week
-    yield got("/pages/calendar/2025-07-07/2025-07-13"), week
-    yield got("/pages/calendar/2025-07-07/2025-07-13?from=2025-07-01"), week
-    yield got("/pages/calendar/2025-07-01/2025-07-06"), days("2025-07-01", "2025-07-06", "2025-06-24/2025-06-29", "2025-07-08/2025-07-13", [])
-    yield got("/pages/calendar?from=1980-01-01"), days("1980-01-01", "1980-01-07", "1980-01-01/1980-01-01", "1980-01-08/1980-01-14", [])
-    yield got("/pages/calendar?from=3999-12-28"), days("3999-12-28", "3999-12-31", "3999-12-21/3999-12-24", "3999-12-31/3999-12-31", [])
-    for target in ("/pages/cases/9", "/pages/cases/4294967295"):
-        yield got(target), missing()
-    for target in ("/pages/x", "/pagesx", "/pages/cases/", "/pages/cases/1/deadlines", "/pages/holidays/2027", "/pages//cases", "/Pages",
-                   "/backup", "/pages/backup/", "/pages/backups"):
-        yield got(target), error(404, "not-found")
-    for target in ("/pages?from=0", "/pages?from=100001", "/pages?", "/pages?from=", "/pages?from=1&x=2", "/pages?x=1", "/pages/cases/0", "/pages/cases/01",
-                   "/pages/calendar", "/pages/calendar?from=2025-7-7", "/pages/calendar?from=1979-12-31", "/pages/calendar/2025-07-02/2025-07-01"):
-        yield got(target), error(400, "bad-path-value")
-    for line in ("POST /pages", "HEAD /pages/cases/1", "PUT /pages/calendar", "POST /pages/backup"):
-        yield f"{line} HTTP/1.1\r\nHost: x\r\n\r\n".encode(), error(405, "method")
+    yield got("/pages/today"), days("2025-07-07", "2025-07-07", DUE, title="Today")
+    yield got("/pages/week"), days("2025-07-07", "2025-07-13", DUE, HOURS, title="This week")
+    yield got("/pages/overdue"), days("1980-01-01", "2025-07-06", title="Overdue")
+
+
+def night():
+    """Those of July 8, of which the first are the first of the day."""
+    yield got("/pages/today"), days("2025-07-08", "2025-07-08", title="Today")
+    yield got("/pages/week?x"), days("2025-07-08", "2025-07-14", HOURS, title="This week")
+    yield got("/pages/overdue"), days("1980-01-01", "2025-07-07", DUE, title="Overdue")
+    for target in ("/pages", "/pages/", "/pages/cases", "/pages/cases?before=3", "/pages?before=4294967295"):
+        yield got(target), cases(CASES[::-1])
+    yield got("/pages/cases?before=2"), cases(CASES[:1], newer=102)
+    yield got("/pages/cases?before=1"), cases([], newer=101)
+    due = f"due {DUE[0]} {DUE[1]} {DUE[2]}"
+    yield got("/pages/cases/1"), shown(page(CASES[0][1], case_sheet(CASES[0], [("defendant", PARTY)], [("2025-06-02", COMMANDS[3]["text"])], [(1, RULE, due)])))
+    for target in ("/pages/calendar?from=2025-07-07", "/pages/calendar/2025-07-07/2025-07-13", "/pages/calendar/2025-07-07/2025-07-13?from=2025-07-01"):
+        yield got(target), days("2025-07-07", "2025-07-13", DUE, HOURS)
+    yield got("/pages/calendar/2025-07-01/2025-07-06"), days("2025-07-01", "2025-07-06")
+    yield got("/pages/calendar?from=1980-01-01"), days("1980-01-01", "1980-01-07")
+    yield got("/pages/calendar?from=3999-12-28"), days("3999-12-28", "3999-12-31")
+    yield from filings()
+    yield from searches()
+    yield from refusals()
     # of a docket in memory there is no file to copy: the caller is told that one is asked for
     yield got("/pages/backup"), b"a copy of the docket is asked for"
-    yield got("/cases/1/deadlines"), answer(200, "text/plain; charset=utf-8", f"deadline 1 party 1 {DUE[5]} due {DUE[0]} {DUE[1]} {DUE[2]}\n".encode())
+    yield got("/cases/1/deadlines"), answer(200, "text/plain; charset=utf-8", f"deadline 1 party 1 {RULE} {due}\n".encode())
 
 
-def store_style():
-    path = os.path.join(TOP, "crates/rows/data/jobs-exports.rows")
+def filings():
+    """What was filed in time, late, and while no time was running."""
+    for command, value in FILINGS:
+        yield posted(command), reply(value)
+    for deadline, steps, filed in FILED:
+        yield got(f"/pages/cases/2/deadlines/{deadline}"), shown(deadline_page(2, deadline, steps, filed))
+
+
+def searches():
+    """By a docket number, by a caption in letters of another case, by a part of a party's name, and what finds nothing: a part of a docket
+    number, a letter beyond ASCII in the other case."""
+    yield found("1:25-cv-00002", CASES[1])
+    yield found("roe & SONS V. <B>", CASES[0])
+    yield found(" v. ", *CASES[::-1])
+    yield found("</TD>", CASES[0])
+    yield found("E-Öz", CASES[1])
+    for words in ("1:25-cv", "e-öz", "  ", "x" * 100):
+        yield found(words)
+
+
+def refusals():
+    """A page says that nothing is there, or why a request is refused; JSON says it of what is no page."""
+    for target in ("/pages/cases/9", "/pages/cases/4294967295", "/pages/cases/2/deadlines/5"):
+        yield got(target), missing()
+    for target in ("/pages/x", "/pagesx", "/pages/cases/", "/pages/cases/1/deadlines", "/pages/holidays/2027", "/pages//cases", "/pages/today/", "/pages/weeks", "/pages/search/", "/pages/backup/"):
+        yield got(target), refusal("not-found")
+    for target in ("/Pages", "/backup", "/today", "/search?find=roe"):
+        yield got(target), error(404, "not-found")
+    for target in ("?before=0", "?before=4294967296", "?", "?before=", "?before=1&x=2", "?x=1", "?from=1", "/cases/0", "/cases/01", "/calendar", "/calendar?from=2025-7-7",
+                   "/calendar?from=1979-12-31", "/calendar/2025-07-02/2025-07-01", "/search", "/search?", "/search?find=", "/search?find=%FF", "/search?find=a&find=b", "/search?x=a",
+                   f"/search?find={'x' * 101}"):
+        yield got("/pages" + target), refusal("bad-path-value")
+    for line in ("POST /pages", "HEAD /pages/cases/1", "PUT /pages/calendar", "POST /pages/backup", "POST /pages/search?find=roe"):
+        yield f"{line} HTTP/1.1\r\nHost: x\r\n\r\n".encode(), refusal("method")
+
+
+def replaced(name, pattern, texts):
+    """Writes texts into a script in the places of what has the pattern, one after the other."""
+    path, texts = os.path.join(TOP, "crates/rows/data", name), iter(texts)
     with open(path, encoding="utf-8") as file:
-        text = file.read()
-    style = "".join(f"> {line}\n" for line in f"<style>{STYLE}</style>".split("\n"))
+        whole = re.sub(pattern, lambda _: next(texts), file.read())
     with open(path, "w", encoding="utf-8") as file:
-        file.write(re.sub(r"> <style>(?:.*?\n)+?(?=> </head>)", lambda _: style, text))
+        file.write(whole)
 
 
-store("pages", exchanges())
-store_style()
+def exports():
+    """The pages that are exported: what is due in a month, the docket sheet of a case, and a day without deadlines."""
+    case = (1, "1:25-cv-00012", "2025-06-02", 'Roe, "Jr." v. <Doe>; & Co.')
+    due = [("2025-07-07", "15:30", "--:--", 1, 2, "order", "-"), DUE]
+    sheet = case_sheet(case, [("defendant", "Doe")], [("2025-06-02", "Complaint")], [(1, RULE, "due 2025-07-07 24:00 17:00"), (0, "order", "due 2025-07-07T15:30-04:00")], False)
+    for title, content in (("Deadlines", days_told("2025-07-01", "2025-07-31") + due_table(due, [case], False)), (case[1], sheet),
+                           ("Deadlines", days_told("1980-01-01", "1980-01-01") + due_table([], [], False))):
+        yield "".join(f"> {line}\n" for line in page(title, content, "").splitlines())
+
+
+before = list(evening())
+store("pages", [*before, *night()], NIGHT - len(before) - 1)
+replaced("http-pages.rows", r"(?<=http pages )\d+", [str(NIGHT - len(before) - 1)])
+replaced("jobs-exports.rows", r"> <!DOCTYPE html>\n(?:> .*\n)+?> </html>\n", exports())

@@ -8,6 +8,7 @@ from datetime import date
 
 TOP = os.path.dirname(os.path.dirname(os.path.realpath(__file__)))
 WEEKDAYS = ("Mon", "Tue", "Wed", "Thu", "Fri", "Sat", "Sun")
+ZONE = "EST5EDT,M3.2.0,M11.1.0"
 POLICY = "default-src 'none'; style-src 'unsafe-inline'; form-action 'self'; base-uri 'none'; frame-ancestors 'none'"
 STATUS = {200: "OK", 303: "See Other", 400: "Bad Request", 403: "Forbidden", 404: "Not Found", 405: "Method Not Allowed", 409: "Conflict", 411: "Length Required",
           413: "Payload Too Large", 415: "Unsupported Media Type"}
@@ -96,11 +97,17 @@ def nav(label, content):
     return f'<nav aria-label="{label}">{content}</nav>\n'
 
 
+def asking(action, words, control, button):
+    """A form that asks for a page."""
+    return f'<form action="/pages/{action}><label>{words} <input {control} required></label> <button>{button}</button></form>'
+
+
 def site():
-    """What each page begins with: links, and the form that asks for a week."""
-    pages = "".join(link(path, words) + "\n" for path, words in (("cases", "Cases"), ("enter", "Enter"), ("court-days", "Court days"), ("rules", "Rules")))
-    return nav("Docket", pages + '<form action="/pages/calendar"><label>Deadlines in the seven days from <input type="date" name="from" min="1980-01-01" '
-               'max="3999-12-31" required></label> <button>Show</button></form>')
+    """What each page begins with: links, and the forms that search and that ask for a week."""
+    pages = (("cases", "Cases"), ("today", "Today"), ("week", "This week"), ("overdue", "Overdue"), ("enter", "Enter"), ("court-days", "Court days"), ("rules", "Rules"))
+    forms = (asking('search" role="search"', "Docket number, caption or name", 'type="search" name="find" maxlength="100"', "Find"),
+             asking('calendar"', "Deadlines in the seven days from", 'type="date" name="from" min="1980-01-01" max="3999-12-31"', "Show"))
+    return nav("Docket", "\n".join((*(link(path, words) for path, words in pages), *forms)))
 
 
 def kinds():
@@ -127,12 +134,77 @@ def served(case, party):
     return f' <span class="act">{links}</span>'
 
 
-def page(title, content):
-    """A page whole, whose title is plain text."""
+def rule_words():
+    """What each rule is about, by its name."""
+    names = dict(re.findall(rf"^line_of (\w+) = line \({CODES}\)", "\n".join(spec("court_rules/specs/Rules.antt")), re.M))
+    return {names[before[0]]: literals(behind)[0] for before, behind in table("html_sheets/specs/RuleWords.antt", "rule_words")}
+
+
+RULE_WORDS = rule_words()
+
+
+def worded(rule, name=""):
+    """A rule in words and by its name, which may be marked up; a local one by its name alone."""
+    return (RULE_WORDS[rule] + ", " if rule in RULE_WORDS else "") + (name or rule)
+
+
+def cases_table(cases):
+    """A row for each case: its number, docket number, day and caption."""
+    return rows(("Case", "Docket number", "Filed", "Caption"), [head(case_link(case)) + cell(told(label)) + cell(day(filed)) + cell(told(caption)) for case, label, filed, caption in cases])
+
+
+def case_sheet(case, parties, entries, deadlines, served_too=True):
+    """The docket sheet: of each party its role and name, of each entry its day and text, of each deadline the number of its party, if it has
+    one, its rule and standing. Where the docket is served, there are links."""
+    number_of, label, filed, caption = case
+    names = [told(name) for _, name in parties]
+    said = (("Case", number_of), ("Docket number", told(label)), ("Caption", told(caption)), ("Filed", day(filed)))
+    tables = (("Parties", ("Party", "Role", "Name"), [cell(role) + cell(told(name) + (served(number_of, at) if served_too else "")) for at, (role, name) in enumerate(parties, 1)]),
+              ("Entries", ("Entry", "Day", "Text"), [cell(day(on)) + cell(told(text)) for on, text in entries]),
+              ("Deadlines", ("Deadline", "Party", "Rule", "Standing"),
+               [cell(f"{party} {names[party - 1]}" if party else f"- {told('')}") + cell(worded(rule, told(rule))) + number(standing) for party, rule, standing in deadlines]))
+    heads = {"Deadlines": lambda at: deadline_link(number_of, at)} if served_too else {}
+    return ("<dl>\n" + "".join(f"<dt>{word}</dt><dd>{content}</dd>\n" for word, content in said) + "</dl>\n" + (entering({"case": number_of}, "daily_kinds") if served_too else "")
+            + "".join(f"<h2>{name}</h2>\n" + rows(columns, [head(heads.get(name, str)(at)) + row for at, row in enumerate(cells, 1)]) for name, columns, cells in tables))
+
+
+def due_table(listed, cases, served_too=True):
+    """What is due: day, time, closing, case, deadline, rule, party; the docket number and the caption are those of the case."""
+    columns = ("Day", "Time", "Closing", "Case", "Docket number", "Deadline", "Rule", "Party", "Caption")
+    links = (case_link, deadline_link) if served_too else (lambda case: case, lambda _, deadline: deadline)
+    return rows(columns, [head(weekday(on)) + number(at) + number(closing) + number(links[0](case)) + number(told(cases[case - 1][1])) + number(links[1](case, deadline)) + cell(worded(rule, told(rule)))
+                          + number(party) + cell(told(cases[case - 1][3])) for on, at, closing, case, deadline, rule, party in listed])
+
+
+def days_told(first, last):
+    return f"<p>{weekday(first)} to {weekday(last)}</p>\n"
+
+
+def days_away(text, count):
+    """A day so many days away, or the first or the last that there is."""
+    away = date.fromisoformat(text).toordinal() + count
+    return str(date.fromordinal(min(max(away, date(1980, 1, 1).toordinal()), date(3999, 12, 31).toordinal())))
+
+
+def days_page(first, last, listed, cases, title="Deadlines"):
+    """What is due on some days, with links to those a week before and after."""
+    weeks = " ".join(link(f"calendar/{days_away(first, by)}/{days_away(last, by)}", words) for by, words in ((-7, "Week before"), (7, "Week after")))
+    zone = f"<p>Times are local, in the zone {told(ZONE)}</p>\n"
+    return page(title, days_told(first, last) + zone + nav("Other weeks", weeks) + due_table(listed, cases))
+
+
+def deadline_page(case, deadline, steps, filed=""):
+    """Why a deadline stands as it does, and whether what was filed was in time."""
+    return page(f"Why deadline {deadline} of case {case} stands as it does",
+                f"<p>Case {case_link(case)}</p>\n{filed}" + entering({"case": case, "deadline": deadline}, "deadline_kinds") + lines(steps))
+
+
+def page(title, content, beginning=None):
+    """A page whole, whose title is plain text; one of a file has no links on top."""
     return ('<!DOCTYPE html>\n<html lang="en">\n<head>\n<meta charset="utf-8">\n'
             '<meta name="viewport" content="width=device-width, initial-scale=1">\n'
             f"<title>{escaped(title)}</title>\n<style>{STYLE}</style>\n</head>\n<body>\n<main>\n<h1>{told(title)}</h1>\n"
-            f"{site()}{content}</main>\n</body>\n</html>\n")
+            f"{site() if beginning is None else beginning}{content}</main>\n</body>\n</html>\n")
 
 
 def lines(text):
@@ -152,6 +224,17 @@ def shown(text, status=200):
 def missing():
     """The answer with the page of a case or a deadline that is not there."""
     return shown(page("Not found", lines("There is no such case, or the case has no such deadline.")), 404)
+
+
+REFUSALS = {"bad-path-value": (400, "BadPathValue"), "not-found": (404, "NotFound"), "method": (405, "Method"), "length-required": (411, "LengthRequired"),
+            "too-long": (413, "TooLong"), "media-type": (415, "MediaType")}
+
+
+def refusal(word):
+    """The answer to a request for a page that is refused: a page that says why."""
+    status, name = REFUSALS[word]
+    sentence = next(literals(behind)[0] for before, behind in table("docket_http/specs/Answer.antt", "rejection_sentence") if before == [name])
+    return shown(page("Request refused", lines(sentence)), status)
 
 
 def error(status, word):
@@ -177,10 +260,11 @@ def escape_ascii(data):
     return "".join(named.get(byte) or (chr(byte) if 32 <= byte < 127 else f"\\x{byte:02x}") for byte in data)
 
 
-def store(name, exchanges):
-    """Writes requests and their answers as a script of the gate reads them: NAME.in and NAME.out."""
+def store(name, exchanges, before=0):
+    """Writes requests and their answers as a script of the gate reads them: NAME.in and NAME.out. An answer may be made of the number of
+    its request, of which the first is the one behind `before`."""
     data = os.path.join(TOP, "crates/rows/data", name)
     with open(data + ".in", "w", encoding="ascii") as requests, open(data + ".out", "w", encoding="ascii") as answers:
-        for request, wanted in exchanges:
+        for fresh, (request, wanted) in enumerate(exchanges, before + 1):
             requests.write(json.dumps(request.decode("latin-1")) + "\n")
-            answers.write(escape_ascii(wanted) + "\n")
+            answers.write(escape_ascii(wanted(fresh) if callable(wanted) else wanted) + "\n")
