@@ -6,7 +6,7 @@ use Rattle.court_days.specs.Court.{CourtSettings}
 use Rattle.docket_calendar.specs.Calendar.{calendar_rows}
 use Rattle.docket_command.specs.declared.command.Command.{Command}
 use Rattle.docket_decisions.specs.EndRows.{calendar_in}
-use Rattle.docket_decisions.specs.Tables.{Tables}
+use Rattle.docket_decisions.specs.Tables.{Tables, rows_of}
 use Rattle.docket_history.specs.CalendarItems.{calendar_of}
 use Rattle.docket_history.specs.Histories.{History, items_of, standing_rows}
 use Rattle.docket_history.specs.Records.{calendar}
@@ -28,19 +28,9 @@ moves_told h c t old mid last other first final listed dues start text kept stil
     ∙ ap (λ (court : CourtSettings). flat_map (move_of court h (calendar (c ∷ h))) (calendar_rows mid h 3652 741_441)) (still ∙ kept)
     ∙ ap (λ (court : CourtSettings). flat_map (move_of old h (calendar (c ∷ h))) (calendar_rows court h 3652 741_441)) kept
 
--- tables with these rows of the calendar
-abbrev pub tables_with : List CalendarRow → Tables
-tables_with rows = record {
-  next_row = 0;
-  calendar = rows;
-  cases = [];
-  parties = [];
-  entries = [];
-  deadlines = [];
-  acts = [];
-  receipts = [];
-  local_rules = [];
-}
+-- the tables of a docket without a command, but with these rows of the calendar
+abbrev pub tables_with : CourtSettings → List CalendarRow → Tables
+tables_with court rows = record (rows_of court []) { calendar = rows }
 
 -- no moves, and some
 pub no_moves : (moves : List ℕ) → length moves ≡ 0 → codes "No deadline would move.\n" ≡ moves_or_none moves

@@ -16,7 +16,7 @@ returns-in_err-other-clause-answer g c h command stands changes =
     let asked = c.in_ok-rows.ensures.answer h stands in
     let before = clean_before _ _ c.in_ok-rows.ensures.only.clean in
     untold_if_clean g.S.Store _ h _ _ _ c.in_err-other.field-0.0 c.from_residual-in_err-other.result c.from_residual-in_err-other.ensures.1
-    (c.in_err-other.ensures.err (tables_with rows) refl) asked.0
+    (c.in_err-other.ensures.err (tables_with old rows) refl) asked.0
     (λ clean. (
       c.in_err-other.ensures.err (rows_of old h) (asked.1 clean),
       calendar_sound old (command ∷ h) _ (changes (before clean)).history (changes (before clean)).leads,
@@ -25,7 +25,7 @@ returns-in_err-other-clause-answer g c h command stands changes =
 pub returns-in_err-other-clause-only : goal.returns-in_err-other-clause-only
 returns-in_err-other-clause-only g c =
     untold_only g.S.Store _ _ _ _ c.in_err-other.field-0.0 c.from_residual-in_err-other.result c.from_residual-in_err-other.ensures.1
-    (c.in_err-other.ensures.err (tables_with c.in_ok-rows.rows.items) refl) c.in_ok-rows.ensures.only
+    (c.in_err-other.ensures.err (tables_with c.args.docket.now.court c.in_ok-rows.rows.items) refl) c.in_ok-rows.ensures.only
 
 pub returns-in_err-dues-clause-only : goal.returns-in_err-dues-clause-only
 returns-in_err-dues-clause-only g c =
