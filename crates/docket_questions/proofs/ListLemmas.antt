@@ -5,9 +5,6 @@ use Rattle.std.proofs.lemmas.Grind.{flat_map-append}
 use Rattle.std.specs.List.{flat_map}
 use Rattle.std.specs.Prelude.{get_or}
 use Rattle.court_days.specs.Court.{CourtSettings}
-use Rattle.docket_history.specs.Histories.{History}
-use Rattle.docket_history.specs.declared.record.DueRow.{DueRow}
-use Rattle.docket_questions.specs.Texts.{due_told}
 
 -- what stands behind the first of some
 module _ {X : Type 0} (f : X → List ℕ) (xs : List X) where
@@ -34,12 +31,12 @@ module _ {X : Type 0} (f : X → List ℕ) (xs : List X) where
       all ∙ ap (λ t. t ++ end) (then ∙ ap (λ t. t ++ flat_map f xs) first ∙ ap (λ (ys : List X). head ++ flat_map f ys) same) ∙ ap (λ t. (head ++ flat_map f found) ++ t) last
       ∙ append_assoc head (flat_map f found) foot
 
--- one more row, by the court that the docket had before
-pub one_added : (h : History) (now was : CourtSettings) (dues : List DueRow) (n : ℕ) (due : DueRow) → n < length dues → due ≡ get_or dues n due
-    → (first before text : List ℕ) → now ≡ was → before ≡ first ++ flat_map (due_told was h) (take n dues) → text ≡ before ++ due_told now h due
-    → text ≡ first ++ flat_map (due_told was h) (take (n + 1) dues)
-one_added h now was dues n due inside is first before text kept so_far next =
+-- one more text, by the court that the docket had before
+pub one_added : {X : Type 0} (f : CourtSettings → X → List ℕ) (now was : CourtSettings) (xs : List X) (n : ℕ) (x : X) → n < length xs → x ≡ get_or xs n x
+    → (first before text : List ℕ) → now ≡ was → before ≡ first ++ flat_map (f was) (take n xs) → text ≡ before ++ f now x
+    → text ≡ first ++ flat_map (f was) (take (n + 1) xs)
+one_added f now was xs n x inside is first before text kept so_far next =
     next
-    ∙ ap (λ (court : CourtSettings). before ++ due_told court h due) kept
-    ∙ ap (λ (rows : List ℕ). rows ++ due_told was h due) so_far
-    ∙ added (due_told was h) dues n due first inside is
+    ∙ ap (λ (court : CourtSettings). before ++ f court x) kept
+    ∙ ap (λ (texts : List ℕ). texts ++ f was x) so_far
+    ∙ added (f was) xs n x first inside is

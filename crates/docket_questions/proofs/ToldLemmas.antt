@@ -1,8 +1,8 @@
 -- What is told of the deadlines of a command's acts is what the docket would tell of them with the command.
-use Rattle.std.proofs.Common.{◌≡◌, ◌∙◌, ◌++◌, ◌+◌, ◌<◌, ◌≤◌, ℕ, List, [], ◌∷◌, length, take, Option, Some, None, refl, sym, ap, ap₂, subst, arith}
+use Rattle.std.proofs.Common.{◌≡◌, ◌∙◌, ◌++◌, ◌≤◌, ℕ, List, [], ◌∷◌, length, Option, Some, None, refl, sym, ap, ap₂, subst, arith}
 use Rattle.std.proofs.lemmas.List.Elements.{All-nil, All-cons}
 use Rattle.std.proofs.lemmas.List.{length-map}
-use Rattle.std.specs.Prelude.{false, get_or, if◌then◌else◌}
+use Rattle.std.specs.Prelude.{false, if◌then◌else◌}
 use Rattle.std.specs.List.{flat_map}
 use Rattle.court_days.specs.Calendar.{Entered}
 use Rattle.court_days.specs.Court.{CourtSettings, zone_of}
@@ -76,15 +76,6 @@ module _ (court : CourtSettings) (h : History) (c : Command) (changes : List Cha
         (is
         ∙ ap (λ (settings : CourtSettings). told_after settings entered row (deadline_after (deadline_found found) changes rows row)) same
         ∙ ap₂ (λ entered deadline. told_after court entered row deadline) (by ∙ sym follows.stays) after_is)
-
--- one more of them is told, by the court that the docket had before
-pub one_told : (h : History) (c : Command) (now was : CourtSettings) (rows : List ActRow) (n : ℕ) (row : ActRow) → n < length rows → row ≡ get_or rows n row → (first before text : List ℕ) → now ≡ was
-    → before ≡ first ++ flat_map (deadline_told was (c ∷ h)) (take n rows) → text ≡ before ++ deadline_told now (c ∷ h) row → text ≡ first ++ flat_map (deadline_told was (c ∷ h)) (take (n + 1) rows)
-one_told h c now was rows n row inside is first before text kept so_far next =
-    next
-    ∙ ap (λ (court : CourtSettings). before ++ deadline_told court (c ∷ h) row) kept
-    ∙ ap (λ (told : List ℕ). told ++ deadline_told was (c ∷ h) row) so_far
-    ∙ added (deadline_told was (c ∷ h)) rows n row first inside is
 
 -- with the court that the docket had before
 pub follows_in : (h : History) (c : Command) (now was : CourtSettings) (changes : List Change) (rows : List ActRow) (entered : Entered) → now ≡ was → FollowsBy was h c entered changes rows → FollowsBy now h c entered changes rows

@@ -38,7 +38,7 @@ dues-preserved g c =
           let found = so_far.told h stands in
           let next = added.answer h found.0 in (
             next.0,
-            λ clean. one_added h before.court old.court c.args.dues.now i due inside c.due-item.is (string_bytes c.args.page.now) (string_bytes c.dues.page)
+            λ clean. one_added (λ court due. due_told court h due) before.court old.court c.args.dues.now i due inside c.due-item.is (string_bytes c.args.page.now) (string_bytes c.dues.page)
                 (string_bytes c.push_due.new.page) (so_far.only stands.serves).court (found.1 (clean_before _ _ added.only.clean clean)) (next.1 clean),
           );
     }

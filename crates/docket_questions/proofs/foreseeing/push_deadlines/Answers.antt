@@ -1,8 +1,8 @@
 use Rattle.std.proofs.Common.{◌≡◌, ◌∙◌, ◌∷◌, ◌<◌, length, arith, string_bytes}
 use Rattle.docket_questions.specs.Foreseeing.{deadline_told}
-use Rattle.docket_questions.proofs.ListLemmas.{whole_added}
+use Rattle.docket_questions.proofs.ListLemmas.{one_added, whole_added}
 use Rattle.docket_questions.proofs.TellLemmas.{clean_before, passed_told, same_told, then_told}
-use Rattle.docket_questions.proofs.ToldLemmas.{follows_in, one_told}
+use Rattle.docket_questions.proofs.ToldLemmas.{follows_in}
 use Rattle.docket_questions.proofs.foreseeing.push_deadlines.Goals as goal
 
 pub returns-in_err-push_deadline-clause-only : goal.returns-in_err-push_deadline-clause-only
@@ -26,7 +26,7 @@ rows-preserved g c =
           let next = added.answer h entered found.0
           (λ clean. follows_in h entered before.court old.court c.args.changes.now c.args.rows.now c.args.calendar.now only.court (follows (clean_before _ _ only.clean clean))) in (
             next.0,
-            λ clean. one_told h entered before.court old.court c.args.rows.now i row inside c.row-item.is (string_bytes c.args.text.now) (string_bytes c.rows.text)
+            λ clean. one_added (λ court row. deadline_told court (entered ∷ h) row) before.court old.court c.args.rows.now i row inside c.row-item.is (string_bytes c.args.text.now) (string_bytes c.rows.text)
                 (string_bytes c.push_deadline.new.text) only.court (found.1 (clean_before _ _ added.only.clean clean)) (next.1 clean),
           );
     }

@@ -1,7 +1,6 @@
-use Rattle.std.proofs.Common.{◌≡◌, ◌∙◌, ◌++◌, ◌<◌, append-nil, ap, length, refl, sym, arith, string_bytes}
-use Rattle.court_days.specs.Court.{CourtSettings}
+use Rattle.std.proofs.Common.{◌≡◌, ◌∙◌, ◌<◌, append-nil, length, refl, sym, arith, string_bytes}
 use Rattle.docket_questions.specs.Moves.{move_of}
-use Rattle.docket_questions.proofs.ListLemmas.{added, whole_added}
+use Rattle.docket_questions.proofs.ListLemmas.{one_added, whole_added}
 use Rattle.docket_questions.proofs.TellLemmas.{clean_before, none_told, passed_asks, passed_told, same_told, then_told}
 use Rattle.docket_questions.proofs.moving.push_moves.Goals as goal
 
@@ -39,11 +38,8 @@ rows-preserved g c =
           let found = so_far.told h stands in
           let told = next.answer h found.0 in (
             told.0,
-            λ clean.
-                told.1 clean
-                ∙ ap (λ (court : CourtSettings). string_bytes c.rows.text ++ move_of court h c.args.other.now row) (so_far.only stands.serves).court
-                ∙ ap (λ t. t ++ move_of old.court h c.args.other.now row) (found.1 (clean_before _ _ next.only.clean clean))
-                ∙ added (move_of old.court h c.args.other.now) c.args.rows.now i row (string_bytes c.args.text.now) inside c.row-item.is,
+            λ clean. one_added (λ court row. move_of court h c.args.other.now row) before.court old.court c.args.rows.now i row inside c.row-item.is (string_bytes c.args.text.now) (string_bytes c.rows.text)
+                (string_bytes c.push_move.new.text) (so_far.only stands.serves).court (found.1 (clean_before _ _ next.only.clean clean)) (told.1 clean),
           );
     }
 
